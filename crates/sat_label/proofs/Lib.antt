@@ -1,0 +1,4 @@
+pub mod Bits
+pub mod First
+pub mod SameNodes
+pub mod Numbers

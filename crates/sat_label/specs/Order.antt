@@ -1,0 +1,65 @@
+-- The order of points and labels, and tests of equality.
+use Rattle.std.specs.Prelude.{ℕ, Bool, false, ◌&&◌, ◌||◌, ◌==◌, nat_lt, if◌then◌else◌}
+use Rattle.sat_label.specs.declared.point.Point.{Point}
+use Rattle.sat_label.specs.declared.label.Kind.{Kind}
+use Rattle.sat_label.specs.declared.label.Kind.TheVariants.{Update, Move, Pulse, Close}
+use Rattle.sat_label.specs.declared.label.Label.{Label}
+use Rattle.sat_label.specs.declared.node.NodeId.{NodeId}
+use Rattle.sat_label.specs.declared.node.NodeId.TheVariants.{Site, Serializer}
+
+abbrev pub point_at : ℕ → ℕ → ℕ → Point
+point_at ts site gear = record { ts = ts; site = site; gear = gear }
+
+-- the highest point of a site at a timestamp
+abbrev pub mark : ℕ → ℕ → Point
+mark ts site = point_at ts site 65535
+
+abbrev pub zero_point : Point
+zero_point = point_at 0 0 0
+
+-- by timestamp, then site, then gear
+abbrev pub point_lt : Point → Point → Bool
+point_lt p q =
+    nat_lt p.ts q.ts || ((p.ts == q.ts) && (nat_lt p.site q.site || ((p.site == q.site) && nat_lt p.gear q.gear)))
+
+abbrev pub point_eq : Point → Point → Bool
+point_eq p q = (p.ts == q.ts) && ((p.site == q.site) && (p.gear == q.gear))
+
+abbrev pub point_le : Point → Point → Bool
+point_le p q = point_lt p q || point_eq p q
+
+abbrev pub greater_point : Point → Point → Point
+greater_point p q = if point_lt p q then q else p
+
+-- a kind's place in the order of kinds, and its number
+abbrev pub kind_rank : Kind → ℕ
+kind_rank (Update x) = 0
+kind_rank (Move j) = 1
+kind_rank Pulse = 2
+kind_rank (Close e) = 3
+
+abbrev pub kind_number : Kind → ℕ
+kind_number (Update x) = x
+kind_number (Move j) = j
+kind_number Pulse = 0
+kind_number (Close e) = e
+
+abbrev pub kind_lt : Kind → Kind → Bool
+kind_lt a b =
+    nat_lt (kind_rank a) (kind_rank b) || ((kind_rank a == kind_rank b) && nat_lt (kind_number a) (kind_number b))
+
+abbrev pub kind_eq : Kind → Kind → Bool
+kind_eq a b = (kind_rank a == kind_rank b) && (kind_number a == kind_number b)
+
+-- by point, then kind
+abbrev pub label_lt : Label → Label → Bool
+label_lt a b = point_lt a.point b.point || (point_eq a.point b.point && kind_lt a.kind b.kind)
+
+abbrev pub label_eq : Label → Label → Bool
+label_eq a b = point_eq a.point b.point && kind_eq a.kind b.kind
+
+abbrev pub node_eq : NodeId → NodeId → Bool
+node_eq (Site i) (Site k) = i == k
+node_eq (Serializer y) (Serializer z) = y == z
+node_eq (Site i) (Serializer z) = false
+node_eq (Serializer y) (Site k) = false

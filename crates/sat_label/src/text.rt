@@ -1,0 +1,132 @@
+//! Names and values, as a script spells them.
+ghost use Rattle.std.specs.Prelude.{◌≡◌, true, false, IfOk, IfSome, IsNone, ◌↔◌};
+ghost use Rattle.std.specs.List.{list_all};
+ghost use Rattle.sat_label.specs.Text.{is_between, is_name, is_name_byte, is_value};
+
+use std::alloc::{AllocError, Global};
+use std::marker::Model;
+
+// A letter, a digit, `_`, `-` or `.`.
+fn fits_name(byte: u8) -> bool
+    ensures { result ≡ is_name_byte byte }
+{
+    byte.is_ascii_alphanumeric() || byte == b'_' || byte == b'-' || byte == b'.'
+}
+
+fn all_fit_name(text: &[u8]) -> bool
+    ensures { result ≡ list_all is_name_byte text.now }
+{
+    text.iter().all(|&byte| fits_name(byte))
+}
+
+fn spells_name(text: &[u8]) -> bool
+    ensures { result ≡ is_name text.now }
+{
+    0 < text.len() && text.len() <= 32 && all_fit_name(text)
+}
+
+fn all_visible(bytes: &[u8]) -> bool
+    ensures { result ≡ list_all (is_between 33 126) bytes.now }
+{
+    bytes.iter().all(|&byte| 33 <= byte && byte <= 126)
+}
+
+fn spells_value(bytes: &[u8]) -> bool
+    ensures { result ≡ is_value bytes.now }
+{
+    0 < bytes.len() && bytes.len() <= 256 && all_visible(bytes)
+}
+
+/// A name of an item or a client: 1 to 32 letters, digits, `_`, `-` or `.`. Contracts see its bytes.
+#[derive(Drop)]
+pub struct Name {
+    bytes: Vec<u8>,
+}
+
+impl Model for Name {
+    ghost use Rattle.std.specs.Prelude.{List, ℕ, ◌≡◌, true};
+    ghost use Rattle.sat_label.specs.Text.{is_name};
+
+    ghost Value = { List ℕ };
+
+    ghost view = { λ a. a.bytes.items };
+
+    ghost invariant = { λ a. is_name a.bytes.items ≡ true };
+}
+
+impl Name {
+    /// The name with these bytes, None where they are no name.
+    pub fn of(alloc: Global, text: &[u8]) -> Result<Option<Name>, AllocError>
+        ensures none { IfOk result (λ o. IsNone o ↔ (is_name text.now ≡ false)) }
+        ensures some { IfOk result (λ o. IfSome o (λ name. name ≡ text.now)) }
+    {
+        if !spells_name(text) {
+            return Ok(None);
+        }
+        let bytes = text.to_vec(alloc)?;
+        Ok(Some(Name { bytes }))
+    }
+
+    /// Its bytes.
+    pub fn bytes(&self) -> &[u8]
+        ensures bytes { result.now ≡ self.now }
+        ensures name { is_name self.now ≡ true }
+    {
+        self.bytes.as_slice()
+    }
+
+    /// The same name again.
+    pub fn copy(&self) -> Result<Name, AllocError>
+        ensures { IfOk result (λ name. name ≡ self.now) }
+    {
+        let bytes = self.bytes.clone()?;
+        Ok(Name { bytes })
+    }
+}
+
+/// A value of an item: 1 to 256 bytes from 33 to 126. Contracts see its bytes.
+#[derive(Drop)]
+pub struct Value {
+    bytes: Vec<u8>,
+}
+
+impl Model for Value {
+    ghost use Rattle.std.specs.Prelude.{List, ℕ, ◌≡◌, true};
+    ghost use Rattle.sat_label.specs.Text.{is_value};
+
+    ghost Value = { List ℕ };
+
+    ghost view = { λ a. a.bytes.items };
+
+    ghost invariant = { λ a. is_value a.bytes.items ≡ true };
+}
+
+impl Value {
+    /// The value with these bytes, None where they are no value.
+    pub fn of(alloc: Global, bytes: &[u8]) -> Result<Option<Value>, AllocError>
+        ensures none { IfOk result (λ o. IsNone o ↔ (is_value bytes.now ≡ false)) }
+        ensures some { IfOk result (λ o. IfSome o (λ value. value ≡ bytes.now)) }
+    {
+        if !spells_value(bytes) {
+            return Ok(None);
+        }
+        let bytes = bytes.to_vec(alloc)?;
+        Ok(Some(Value { bytes }))
+    }
+
+    /// Its bytes.
+    pub fn bytes(&self) -> &[u8]
+        ensures bytes { result.now ≡ self.now }
+        ensures value { is_value self.now ≡ true }
+    {
+        self.bytes.as_slice()
+    }
+
+    /// The same value again.
+    pub fn copy(&self) -> Result<Value, AllocError>
+        ensures { IfOk result (λ value. value ≡ self.now) }
+    {
+        let bytes = self.bytes.clone()?;
+        Ok(Value { bytes })
+    }
+}
