@@ -1,0 +1,7 @@
+pub mod Small
+pub mod Trees
+pub mod Above
+pub mod Rows
+pub mod Ways
+pub mod Everywhere
+pub mod Unique

@@ -1,0 +1,4 @@
+pub mod Shape
+pub mod Cut
+pub mod Flaw
+pub mod Laws
