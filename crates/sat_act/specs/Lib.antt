@@ -1,0 +1,14 @@
+pub mod Deployed
+pub mod Histories
+pub mod Done
+pub mod Parts
+pub mod Answers
+pub mod Settling
+pub mod Runs
+pub mod Causes
+pub mod Goals
+pub mod Headline
+pub mod Limits
+pub mod Ranges
+pub mod Built
+pub mod Flaw

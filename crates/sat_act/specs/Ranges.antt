@@ -1,0 +1,38 @@
+-- Acts whose numbers name what they should.
+use Rattle.std.specs.Prelude.{◌≡◌, ◌<◌, ◌≤◌, ◌^◌, ℕ, true, false, ◌==◌, length, Some, IfSome}
+use Rattle.sat_label.specs.Text.{is_value}
+use Rattle.sat_label.specs.declared.node.NodeId.TheVariants.{Serializer}
+use Rattle.sat_tree.specs.Shape.{TreeShape}
+use Rattle.sat_tree.specs.Cut.{is_edge, IsNode}
+use Rattle.sat_act.specs.declared.act.Act.{Act}
+use Rattle.sat_act.specs.declared.act.Act.TheVariants as act
+use Rattle.sat_act.specs.Deployed.{Deployed}
+use Rattle.sat_act.specs.Parts.{tree_of}
+
+-- two different sites
+abbrev pub ArePair : Deployed → ℕ → ℕ → Type 0
+ArePair d i j = (i < d.sites) × (j < d.sites) × ((i == j) ≡ false)
+
+-- the act has a line under the deployment's header
+abbrev pub IsActOf : Deployed → Act → Type 0
+IsActOf d (act.Tick i g t) = (i < d.sites) × (g < d.gears) × (t ≤ 2 ^ 62)
+IsActOf d act.Clock = Unit {0}
+IsActOf d (act.Write c x value) = (c < length d.clients) × (x < length d.items) × (is_value value ≡ true)
+IsActOf d (act.Read c x) = (c < length d.clients) × (x < length d.items)
+IsActOf d (act.Move c j) = (c < length d.clients) × (j < d.sites)
+IsActOf d (act.Leave c) = c < length d.clients
+IsActOf d (act.Attach c j) = (c < length d.clients) × (j < d.sites)
+IsActOf d (act.Gather i) = i < d.sites
+IsActOf d (act.Emit i) = i < d.sites
+IsActOf d (act.Pulse i) = i < d.sites
+IsActOf d (act.Hop e u z) = (t : TreeShape) × (1 ≤ e) × (tree_of d e ≡ Some t) × IsNode t u × (is_edge t u (Serializer z) ≡ true)
+IsActOf d (act.Turn i) = i < d.sites
+IsActOf d (act.Bulk i g j n) = ArePair d i j × (g < d.gears) × IfSome n (λ k. k < 2 ^ 64)
+IsActOf d (act.Beat i j) = ArePair d i j
+IsActOf d (act.BeatIn i j n) = ArePair d i j × (n < 2 ^ 64)
+IsActOf d (act.Stamp i) = i < d.sites
+IsActOf d (act.Close i) = i < d.sites
+IsActOf d (act.Fall i) = i < d.sites
+IsActOf d (act.Advance i) = i < d.sites
+IsActOf d (act.Kill e z) = (t : TreeShape) × (1 ≤ e) × (tree_of d e ≡ Some t) × (z < length t.parents)
+IsActOf d act.Settle = Unit {0}
