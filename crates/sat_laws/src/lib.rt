@@ -1,0 +1,10 @@
+//! The headline, proved on histories: every history whose entries have the answers of their acts is causal, shows each
+//! update once, is fresh and settled.
+#![tactic(auto)]
+
+ghost use Rattle.sat_laws.specs.Claims.{EveryHistoryIsGood};
+
+/// Every history whose entries have the answers of their acts is causal, shows each update once, is fresh and settled.
+pub fn headline()
+    ensures { EveryHistoryIsGood }
+{}
