@@ -1,0 +1,17 @@
+pub mod Totals
+pub mod HandledOnce
+pub mod Lefts
+pub mod Rounds
+pub mod Settles
+pub mod Bounds
+pub mod SettleEnds
+pub mod Emptying
+pub mod QuietLinks
+pub mod QuietEnd
+pub mod FreshBeats
+pub mod StampEnd
+pub mod Rest
+pub mod Marked
+pub mod SettledScripts
+pub mod Example
+pub mod Headlines
