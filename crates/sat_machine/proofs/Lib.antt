@@ -1,0 +1,16 @@
+pub mod Kept
+pub mod Simple
+pub mod Lists
+pub mod Lanes
+pub mod Gathering
+pub mod Windows
+pub mod Pools
+pub mod Stores
+pub mod Beating
+pub mod Raising
+pub mod Replies
+pub mod SiteSteps
+pub mod Worlds
+pub mod Local
+pub mod Runs
+pub mod Sets

@@ -1,0 +1,228 @@
+-- The store keeps the history's versions, with the values of their writes.
+use Rattle.std.specs.Prelude.{◌≡◌, ℕ, ◌+◌, Bool, true, false, ◌&&◌, ◌||◌, List, [], ◌∷◌, ◌++◌, Option, Some, None, ◌==◌, if◌then◌else◌, refl}
+use Rattle.std.proofs.Common.{sym, subst, ap, ◌∙◌, arith, inl, inr}
+use Rattle.std.proofs.lemmas.Bool.Decides.{nat_tests}
+use Rattle.sat_label.specs.declared.label.Label.{Label}
+use Rattle.sat_label.specs.declared.point.Point.{Point}
+use Rattle.sat_label.specs.declared.label.Kind.{Kind}
+use Rattle.sat_label.specs.declared.label.Kind.TheVariants as kind
+use Rattle.sat_label.specs.Order.{label_eq, label_lt, point_at, point_lt, point_eq, kind_lt, kind_eq}
+use Rattle.sat_label.specs.Words.{has}
+use Rattle.sat_act.specs.declared.act.Act.{Act}
+use Rattle.sat_act.specs.declared.answer.Answer.{Answer}
+use Rattle.sat_act.specs.declared.answer.Answer.TheVariants as ans
+use Rattle.sat_act.specs.declared.entry.Entry.{Entry}
+use Rattle.sat_act.specs.Deployed.{Deployed}
+use Rattle.sat_act.specs.Histories.{listed}
+use Rattle.sat_act.specs.Parts.{is_update_of, shown, shown_entry, greatest_label, version, value_of, waiting}
+use Rattle.sat_act.specs.Answers.{gear_of, base}
+use Rattle.sat_act.specs.Runs.{IsRun}
+use Rattle.sat_act.specs.Goals.{Made, IsValid}
+use Rattle.sat_laws.proofs.Steps.{Step, wrote, showed_turn, showed_stamp}
+use Rattle.sat_laws.proofs.Runs.{step_of, before_of, entry}
+use Rattle.sat_laws.proofs.Labels.{some_is}
+use Rattle.sat_laws.proofs.Members.{In, same-label, has-in, listed-gives}
+use Rattle.sat_laws.proofs.Sinks.{label_lt-trans, label_lt-self, not_true}
+use Rattle.sat_laws.proofs.Shows.{shows-is, next-stamp-waits, candidate-least}
+use Rattle.sat_laws.proofs.Links.{tail_of}
+use Rattle.sat_machine.specs.State.{Payload, SiteState}
+use Rattle.sat_machine.specs.Input.{SiteInput}
+use Rattle.sat_machine.specs.Input as given
+use Rattle.sat_machine.specs.Look.{payload_in}
+use Rattle.sat_machine.specs.Next.{site_next, payload_at, put}
+use Rattle.sat_machine.specs.Replay.{after, handed, site_state, carrying, turn_front}
+use Rattle.sat_machine.proofs.Kept.{kept, at-seat}
+use Rattle.sat_machine.proofs.Lists.{plain}
+use Rattle.sat_machine.proofs.Lanes.{payload_of}
+use Rattle.sat_laws.proofs.Values.{value-new, value-stays}
+use Rattle.sat_machine.proofs.Pools.{waiting-value}
+
+abbrev pub stored : List Entry → Option Label → Option Payload
+stored h o = elim o [ None ↦ None | Some l ↦ Some (payload_of h l) ]
+
+-- ---- the greatest label of a list that grows at its end
+
+abbrev up : Label → Option Label → Option Label
+up y o = elim o [ None ↦ Some y | Some m ↦ if label_lt m y then Some y else Some m ]
+
+or_parts : (a b : Bool) → (a || b) ≡ false → (a ≡ false) × (b ≡ false)
+or_parts true b e = absurd (cc)
+or_parts false b e = (refl, e)
+
+and_true : (a b : Bool) → a ≡ true → (a && b) ≡ false → b ≡ false
+and_true true b e f = f
+and_true false b e f = absurd (cc)
+
+both : (a b : Bool) → a ≡ true → b ≡ true → (a && b) ≡ true
+both true b e f = f
+both false b e f = absurd (cc)
+
+points-connex : (p q : Point) → point_lt p q ≡ false → point_lt q p ≡ false → point_eq p q ≡ true
+points-connex p q a b = grind (arith, nat_tests)
+
+point-sym : (p q : Point) → point_eq p q ≡ true → point_eq q p ≡ true
+point-sym p q a = grind (arith, nat_tests)
+
+kinds-connex : (a b : Kind) → kind_lt a b ≡ false → kind_lt b a ≡ false → kind_eq a b ≡ true
+kinds-connex a b p q = grind (arith, nat_tests)
+
+pub connex : (a b : Label) → label_lt a b ≡ false → label_lt b a ≡ false → a ≡ b
+connex a b p q =
+    let x : (point_lt a.point b.point ≡ false) × ((point_eq a.point b.point && kind_lt a.kind b.kind) ≡ false) = or_parts _ _ p in
+    let y : (point_lt b.point a.point ≡ false) × ((point_eq b.point a.point && kind_lt b.kind a.kind) ≡ false) = or_parts _ _ q in
+    let z : point_eq a.point b.point ≡ true = points-connex a.point b.point x.0 y.0 in
+    same-label a b (both _ _ z (kinds-connex a.kind b.kind (and_true _ _ z x.1) (and_true _ _ (point-sym a.point b.point z) y.1)))
+
+asym : (a b : Label) → label_lt a b ≡ true → label_lt b a ≡ false
+asym a b p = not_true (label_lt b a) (λ q. let w : label_lt a a ≡ true = label_lt-trans a b a p q in let v : label_lt a a ≡ false = label_lt-self a in cc)
+
+two : (y l : Label) → up y (Some l) ≡ up l (Some y)
+two y l = go (label_lt l y) (label_lt y l) refl refl
+  where
+    go : (b c : Bool) → label_lt l y ≡ b → label_lt y l ≡ c → (if b then Some y else Some l) ≡ (if c then Some l else Some y)
+    go true true e f = absurd (let w : label_lt y l ≡ false = asym l y e in cc)
+    go true false e f = refl
+    go false true e f = refl
+    go false false e f = ap (λ (z : Label). Some z) (connex l y e f)
+
+three : (y m l : Label) → up y (up l (Some m)) ≡ up l (up y (Some m))
+three y m l = go (label_lt m l) (label_lt m y) refl refl
+  where
+    side : (b : Bool) (x z : Label) → b ≡ false → (if b then Some x else Some z) ≡ Some z
+    side true x z e = absurd (cc)
+    side false x z e = refl
+
+    front : (b : Bool) (x z : Label) → b ≡ true → (if b then Some x else Some z) ≡ Some x
+    front true x z e = refl
+    front false x z e = absurd (cc)
+
+    go : (b c : Bool) → label_lt m l ≡ b → label_lt m y ≡ c → up y (if b then Some l else Some m) ≡ up l (if c then Some y else Some m)
+    go true true e f = two y l
+    go true false e f = side (label_lt l y) y l (not_true (label_lt l y) (λ k. let w : label_lt m y ≡ true = label_lt-trans m l y e k in cc)) ∙ sym (front (label_lt m l) l m e)
+    go false true e f = front (label_lt m y) y m f ∙ sym (side (label_lt y l) l y (not_true (label_lt y l) (λ k. let w : label_lt m l ≡ true = label_lt-trans m y l f k in cc)))
+    go false false e f = side (label_lt m y) y m f ∙ sym (side (label_lt m l) l m e)
+
+swap : (y l : Label) (o : Option Label) → up y (up l o) ≡ up l (up y o)
+swap y l None = two y l
+swap y l (Some m) = three y m l
+
+greatest-more : (p : Label → Bool) (S : List Label) (l : Label) → greatest_label p (S ++ l ∷ []) ≡ (if p l then up l (greatest_label p S) else greatest_label p S)
+unfolding greatest_label
+greatest-more p [] l = refl
+greatest-more p (y ∷ S) l =
+    ap (λ (o : Option Label). if p y then up y o else o) (greatest-more p S l) ∙ go (p y) (p l)
+  where
+    go : (b c : Bool) → (if b then up y (if c then up l (greatest_label p S) else greatest_label p S) else (if c then up l (greatest_label p S) else greatest_label p S)) ≡
+        (if c then up l (if b then up y (greatest_label p S) else greatest_label p S) else (if b then up y (greatest_label p S) else greatest_label p S))
+    go true true = swap y l (greatest_label p S)
+    go true false = refl
+    go false c = refl
+
+greatest-in : (p : Label → Bool) (S : List Label) (l : Label) → greatest_label p S ≡ Some l → In S l
+unfolding greatest_label
+greatest-in p [] l e = absurd (cc)
+greatest-in p (y ∷ S) l e = go (p y) (greatest_label p S) (λ m. greatest-in p S m) e
+  where
+    last : (b : Bool) (m : Label) → (if b then Some y else Some m) ≡ Some l → (m ≡ l → In S l) → In (y ∷ S) l
+    last true m e f = inl (some_is y l e)
+    last false m e f = inr (f (some_is m l e))
+
+    go : (b : Bool) (o : Option Label) → ((m : Label) → o ≡ Some m → In S m) → (if b then up y o else o) ≡ Some l → In (y ∷ S) l
+    go true None f e = inl (some_is y l e)
+    go true (Some m) f e = last (label_lt m y) m e (λ w. subst (In S) w (f m refl))
+    go false o f e = inr (f l e)
+
+-- ---- the store
+
+put-is : (h : List Entry) (l : Label) (o : Option Label) → put (stored h o) (payload_of h l) ≡ stored h (up l o)
+put-is h l None = refl
+put-is h l (Some m) = go (label_lt m l)
+  where
+    go : (b : Bool) → (if b then Some (payload_of h l) else Some (payload_of h m)) ≡ stored h (if b then Some l else Some m)
+    go true = refl
+    go false = refl
+
+put-if : (h : List Entry) (l : Label) (b c : Bool) (p : Label → Bool) (S : List Label) → p l ≡ c →
+    (if b then (if c then put (stored h (greatest_label p S)) (payload_of h l) else stored h (greatest_label p S)) else stored h (greatest_label p S)) ≡ stored h (greatest_label p (S ++ tail_of (if b then Some l else None)))
+put-if h l true c p S e = sym (ap (stored h) (greatest-more p S l) ∙ go c (p l) e)
+  where
+    go : (c b : Bool) → b ≡ c → stored h (if b then up l (greatest_label p S) else greatest_label p S) ≡ (if c then put (stored h (greatest_label p S)) (payload_of h l) else stored h (greatest_label p S))
+    go true true w = sym (put-is h l (greatest_label p S))
+    go false false w = refl
+    go _ _ w = absurd (cc)
+put-if h l false c p S e = ap (λ (ls : List Label). stored h (greatest_label p ls)) (sym (plain S))
+
+pick : {X : Type 0} (G : Option SiteInput → X) (input : SiteInput) (b : Bool) (y z : X) → G None ≡ z → G (Some input) ≡ y → G (if b then Some input else None) ≡ (if b then y else z)
+pick G input true y z e f = f
+pick G input false y z e f = e
+
+stamp-waits : (d : Deployed) (h : List Entry) (j : ℕ) (l : Label) → Rattle.sat_act.specs.Parts.next_stamp d h j ≡ Some l → In (waiting h j) l
+stamp-waits d h j l e = (candidate-least d h j l (next-stamp-waits d h j l e).0).member
+
+old-value : (h : List Entry) (a : Act) (l m : Label) (n : Bool) → value_of (entry a (ans.Shown l) n ∷ h) m ≡ value_of h m
+unfolding value_of
+old-value h a l m n = refl
+
+store-step : (d : Deployed) (h : List Entry) (j x : ℕ) (s : SiteState) (a : Act) (r : Answer) (n : Bool) → s.store x ≡ stored (entry a r n ∷ h) (version h j x) → Step d h a r →
+    ((l : Label) → In (waiting h j) l → payload_in s.proxy.pool l ≡ value_of h l) →
+    (after d j s (handed d h a j) r).store x ≡ stored (entry a r n ∷ h) (version (entry a r n ∷ h) j x)
+unfolding after handed site_next version shown
+store-step d h j x s a r n k (wrote {c = c} {x = y} {i = t} {value = v} p q w) u =
+    let l : Label = record { point = point_at (base h c t (gear_of d y) + 1) t (gear_of d y); kind = kind.Update y } in
+    let h' : List Entry = entry a r n ∷ h in
+    let S : List Label = listed (shown_entry j) h in
+    at-seat (λ o. (after d j s o r).store x) _ j t (given.Write (carrying h c) y v) _ p
+    (pick (λ o. (after d j s o r).store x) (given.Write (carrying h c) y v) (t == j) (if y == x then put (stored h' (greatest_label (λ l. is_update_of l.kind x) S)) (payload_of h' l) else stored h' (greatest_label (λ l. is_update_of l.kind x) S)) (stored h' (greatest_label (λ l. is_update_of l.kind x) S)) k
+    (ap (λ (o : Option Payload). if y == x then put o (payload_at l v) else o) k ∙ ap (λ (z : List ℕ). if y == x then put (stored h' (greatest_label (λ l. is_update_of l.kind x) S)) (payload_at l z) else stored h' (greatest_label (λ l. is_update_of l.kind x) S)) (sym (value-new h l n c y v)))
+    ∙ put-if h' l (t == j) (y == x) (λ l. is_update_of l.kind x) S refl)
+store-step d h j x s a r n k (showed_turn {j = t} {l = l} p q w y z e) u = go (t == j) refl
+  where
+    S : List Label
+    S = listed (shown_entry j) h
+
+    h' : List Entry
+    h' = entry a (ans.Shown l) n ∷ h
+
+    num : (a b : ℕ) → (a == b) ≡ true → a ≡ b
+    num a b e = grind (arith, nat_tests)
+
+    go : (b : Bool) → (t == j) ≡ b → (after d j s (if b then Some (given.Turn (turn_front d h t)) else None) (ans.Shown l)).store x ≡ stored h' (greatest_label (λ l. is_update_of l.kind x) (S ++ tail_of (if b then Some l else None)))
+    go true w =
+        ap (λ (o : Option Payload). if is_update_of l.kind x then put o (payload_at l (payload_in s.proxy.pool l)) else o) k ∙
+        (ap (λ (v : List ℕ). if is_update_of l.kind x then put (stored h' (greatest_label (λ l. is_update_of l.kind x) S)) (payload_at l v) else stored h' (greatest_label (λ l. is_update_of l.kind x) S)) (u l (has-in (waiting h j) l (subst (λ (i : ℕ). has label_eq (waiting h i) l ≡ true) (num t j w) e)) ∙ sym (old-value h a l l n)) ∙
+        put-if h' l true (is_update_of l.kind x) (λ l. is_update_of l.kind x) S refl)
+    go false w = k ∙ put-if h' l false (is_update_of l.kind x) (λ l. is_update_of l.kind x) S refl
+store-step d h j x s a r n k (showed_stamp {j = t} {l = l} p q) u = go (t == j) refl
+  where
+    S : List Label
+    S = listed (shown_entry j) h
+
+    h' : List Entry
+    h' = entry a (ans.Shown l) n ∷ h
+
+    num : (a b : ℕ) → (a == b) ≡ true → a ≡ b
+    num a b e = grind (arith, nat_tests)
+
+    go : (b : Bool) → (t == j) ≡ b → (after d j s (if b then Some given.Stamp else None) (ans.Shown l)).store x ≡ stored h' (greatest_label (λ l. is_update_of l.kind x) (S ++ tail_of (if b then Some l else None)))
+    go true w =
+        ap (λ (o : Option Payload). if is_update_of l.kind x then put o (payload_at l (payload_in s.proxy.pool l)) else o) k ∙
+        (ap (λ (v : List ℕ). if is_update_of l.kind x then put (stored h' (greatest_label (λ l. is_update_of l.kind x) S)) (payload_at l v) else stored h' (greatest_label (λ l. is_update_of l.kind x) S)) (u l (subst (λ (i : ℕ). In (waiting h i) l) (num t j w) (stamp-waits d h t l q)) ∙ sym (old-value h a l l n)) ∙
+        put-if h' l true (is_update_of l.kind x) (λ l. is_update_of l.kind x) S refl)
+    go false w = k ∙ put-if h' l false (is_update_of l.kind x) (λ l. is_update_of l.kind x) S refl
+store-step d h j x s a r n k _ u =
+    kept (λ s. s.store x) d j s (handed d h a j) r (λ input. refl) ∙ (k ∙ ap (λ (ls : List Label). stored (entry a r n ∷ h) (greatest_label (λ l. is_update_of l.kind x) ls)) (sym (plain (listed (shown_entry j) h))))
+
+stored-stays : (d : Deployed) (h : List Entry) (e : Entry) (o : Option Label) → IsValid d → IsRun d (e ∷ h) → ((l : Label) → o ≡ Some l → Made h l) → stored h o ≡ stored (e ∷ h) o
+stored-stays d h e None v run k = refl
+stored-stays d h e (Some l) v run k = ap (λ (w : List ℕ). Some (payload_at l w)) (sym (value-stays d h e l v run (k l refl)))
+
+version-made : (d : Deployed) (h : List Entry) (j x : ℕ) (l : Label) → IsRun d h → version h j x ≡ Some l → Made h l
+unfolding version shown
+version-made d h j x l run e = (shows-is d h j l run (listed-gives (shown_entry j) h l (greatest-in (λ l. is_update_of l.kind x) (listed (shown_entry j) h) l e))).made
+
+pub store-agrees : (d : Deployed) (h : List Entry) (j x : ℕ) → IsValid d → IsRun d h → (site_state d h j).store x ≡ stored h (version h j x)
+unfolding site_state
+store-agrees d [] j x v run = unfold version shown greatest_label in refl
+store-agrees d (e ∷ h) j x v run =
+    let old : IsRun d h = before_of d h e run in
+    store-step d h j x (site_state d h j) e.act e.answer e.inner (store-agrees d h j x v old ∙ stored-stays d h e (version h j x) v run (λ l w. version-made d h j x l old w)) (step_of d h e run) (λ l m. waiting-value d h j l v old m)

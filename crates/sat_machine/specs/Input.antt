@@ -1,0 +1,24 @@
+-- What a site is handed. `Clock` is the part of the act clock at one site: a tick of each gear to one number.
+use Rattle.std.specs.Prelude.{ℕ, List, Option}
+use Rattle.sat_label.specs.declared.label.Label.{Label}
+use Rattle.sat_act.specs.Parts.{BeatNote}
+use Rattle.sat_machine.specs.State.{Payload, Carried}
+
+pub data SiteInput : Type 0 where
+  Tick : (gear ts : ℕ) → SiteInput
+  Clock : (ts : ℕ) → SiteInput
+  Write : (seen : Carried) (item : ℕ) (value : List ℕ) → SiteInput
+  Read : (seen : Carried) (item : ℕ) → SiteInput
+  Move : (seen : Carried) (to : ℕ) → SiteInput
+  Attach : (seen : Carried) → SiteInput
+  Gather : SiteInput
+  Emit : SiteInput
+  Pulse : SiteInput
+  Turn : (front : Option Label) → SiteInput
+  Bulk : (from gear number : ℕ) (payload : Payload) → SiteInput
+  Beat : (to : ℕ) → SiteInput
+  BeatIn : (from number : ℕ) (note : BeatNote) → SiteInput
+  Stamp : SiteInput
+  Close : SiteInput
+  Fall : SiteInput
+  Advance : SiteInput

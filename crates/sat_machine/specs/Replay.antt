@@ -1,0 +1,73 @@
+-- What each site is handed in a history, and its state: the replay of that.
+use Rattle.std.specs.Prelude.{ℕ, ◌==◌, List, [], ◌∷◌, Option, Some, None, slice_get, if◌then◌else◌}
+use Rattle.sat_label.specs.declared.label.Label.{Label}
+use Rattle.sat_label.specs.declared.node.NodeId.TheVariants.{Site}
+use Rattle.sat_act.specs.declared.act.Act.{Act}
+use Rattle.sat_act.specs.declared.act.Act.TheVariants as act
+use Rattle.sat_act.specs.declared.answer.Answer.{Answer}
+use Rattle.sat_act.specs.declared.entry.Entry.{Entry}
+use Rattle.sat_act.specs.Deployed.{Deployed}
+use Rattle.sat_act.specs.Parts.{tree_of, view, seat_in, link_front, value_of, lane, beats, seat, moving, carried}
+use Rattle.sat_act.specs.Answers.{next_of_lane, greatest_promise}
+use Rattle.sat_machine.specs.State.{Carried, SiteState, fresh_site}
+use Rattle.sat_machine.specs.Input.{SiteInput}
+use Rattle.sat_machine.specs.Input as given
+use Rattle.sat_machine.specs.Next.{site_next}
+
+abbrev pub carrying : List Entry → ℕ → Carried
+carrying h c = record { point = carried h c; moving = moving h c }
+
+-- the front of the link to j in its view's tree
+unfoldable pub turn_front : Deployed → List Entry → ℕ → Option Label
+unfolding tree_of view seat_in link_front
+turn_front d h j =
+    elim (tree_of d (view h j)) [
+      | None ↦ None
+      | Some t ↦ elim (seat_in d (view h j) j) [ None ↦ None | Some z ↦ link_front d h (view h j) t z (Site j) ]
+    ]
+
+abbrev pub given_at : ℕ → ℕ → SiteInput → Option SiteInput
+given_at k i input = if k == i then Some input else None
+
+abbrev pub given_seat : Option ℕ → ℕ → SiteInput → Option SiteInput
+given_seat o i input = elim o [ None ↦ None | Some k ↦ given_at k i input ]
+
+abbrev pub given_bulk : Deployed → List Entry → ℕ → ℕ → ℕ → ℕ → ℕ → Option SiteInput
+given_bulk d h i g j n k =
+    elim (slice_get (lane d h i g j) n) [ None ↦ None | Some l ↦ given_at j k (given.Bulk i g n (record { label = l; value = value_of h l })) ]
+
+abbrev pub given_number : Deployed → List Entry → ℕ → ℕ → ℕ → Option ℕ → ℕ
+given_number d h i g j o = elim o [ None ↦ next_of_lane d h i g j | Some n ↦ n ]
+
+-- what an act hands to site k, None where it is not an act at k, or finds nothing to hand
+unfoldable pub handed : Deployed → List Entry → Act → ℕ → Option SiteInput
+unfolding turn_front lane value_of next_of_lane beats seat carried moving greatest_promise
+handed d h (act.Tick i g t) k = given_at i k (given.Tick g t)
+handed d h act.Clock k = Some (given.Clock (greatest_promise h d.sites d.gears))
+handed d h (act.Write c x value) k = given_seat (seat d h c) k (given.Write (carrying h c) x value)
+handed d h (act.Read c x) k = given_seat (seat d h c) k (given.Read (carrying h c) x)
+handed d h (act.Move c j) k = given_seat (seat d h c) k (given.Move (carrying h c) j)
+handed d h (act.Attach c j) k = elim (seat d h c) [ None ↦ given_at j k (given.Attach (carrying h c)) | Some i ↦ None ]
+handed d h (act.Gather i) k = given_at i k given.Gather
+handed d h (act.Emit i) k = given_at i k given.Emit
+handed d h (act.Pulse i) k = given_at i k given.Pulse
+handed d h (act.Turn j) k = given_at j k (given.Turn (turn_front d h j))
+handed d h (act.Bulk i g j o) k = given_bulk d h i g j (given_number d h i g j o) k
+handed d h (act.Beat i j) k = given_at i k (given.Beat j)
+handed d h (act.BeatIn i j n) k = elim (slice_get (beats d h i j) n) [ None ↦ None | Some note ↦ given_at j k (given.BeatIn i n note) ]
+handed d h (act.Stamp j) k = given_at j k given.Stamp
+handed d h (act.Close i) k = given_at i k given.Close
+handed d h (act.Fall j) k = given_at j k given.Fall
+handed d h (act.Advance j) k = given_at j k given.Advance
+handed d h _ k = None
+
+unfoldable pub after : Deployed → ℕ → SiteState → Option SiteInput → Answer → SiteState
+unfolding site_next
+after d i s None answer = s
+after d i s (Some input) answer = site_next d i s input answer
+
+-- the state of a site: the replay of what it was handed and answered
+unfoldable pub site_state : Deployed → List Entry → ℕ → SiteState
+unfolding after handed
+site_state d [] i = fresh_site i
+site_state d (e ∷ h) i = after d i (site_state d h i) (handed d h e.act i) e.answer

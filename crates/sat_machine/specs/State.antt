@@ -1,0 +1,61 @@
+-- What a site keeps. A table is a function of the number of its row; the code keeps the rows below the deployment's numbers.
+use Rattle.std.specs.Prelude.{ℕ, Bool, false, List, [], Option, None}
+use Rattle.sat_label.specs.declared.point.Point.{Point}
+use Rattle.sat_label.specs.declared.label.Label.{Label}
+use Rattle.sat_label.specs.Order.{point_at}
+use Rattle.sat_act.specs.Parts.{BeatNote}
+
+pub record Payload : Type 0 where
+  pub label : Label
+  pub value : List ℕ
+
+-- a client's point, and the site that it is moving to
+pub record Carried : Type 0 where
+  pub point : Point
+  pub moving : Option ℕ
+
+pub record GearState : Type 0 where
+  pub promise : ℕ
+  pub fresh : List Label
+  pub lanes : ℕ → List Payload
+
+-- by gear: the gathered promise, the gathered labels that were not emitted, and how much of each lane was gathered
+pub record SinkState : Type 0 where
+  pub promises : ℕ → ℕ
+  pub pending : ℕ → List Label
+  pub counts : ℕ → ℕ → ℕ
+  pub last : Point
+  pub pulse : ℕ
+
+-- closes by epoch, and the heard closes by site and epoch
+pub record ViewState : Type 0 where
+  pub view : ℕ
+  pub emission : ℕ
+  pub fallen : Bool
+  pub closes : ℕ → Option Point
+  pub heard : ℕ → ℕ → Bool
+
+-- taken numbers by site and gear, what waits, the taken beats by site with their numbers, and what is known of each site
+pub record ProxyState : Type 0 where
+  pub taken : ℕ → ℕ → List ℕ
+  pub pool : List Payload
+  pub beats : ℕ → List (ℕ × BeatNote)
+  pub last : ℕ → Point
+
+pub record SiteState : Type 0 where
+  pub gears : ℕ → GearState
+  pub sink : SinkState
+  pub views : ViewState
+  pub proxy : ProxyState
+  pub store : ℕ → Option Payload
+  pub made_beats : ℕ → List BeatNote
+
+abbrev pub fresh_site : ℕ → SiteState
+fresh_site i = record {
+  gears = λ g. record { promise = 0; fresh = []; lanes = λ j. [] };
+  sink = record { promises = λ g. 0; pending = λ g. []; counts = λ g j. 0; last = point_at 0 i 0; pulse = 0 };
+  views = record { view = 1; emission = 1; fallen = false; closes = λ e. None; heard = λ k e. false };
+  proxy = record { taken = λ k g. []; pool = []; beats = λ k. []; last = λ k. point_at 0 k 0 };
+  store = λ x. None;
+  made_beats = λ j. [];
+}
