@@ -1,0 +1,13 @@
+pub mod Numbers
+pub mod Forms
+pub mod Choices
+pub mod Digits
+pub mod Names
+pub mod Acts
+pub mod Fits
+pub mod Texts
+pub mod Meaning
+pub mod Pieces
+pub mod Whole
+pub mod Coming
+pub mod Written

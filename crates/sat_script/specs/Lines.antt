@@ -1,0 +1,62 @@
+-- What the calls of a reader of lines do.
+use Rattle.std.specs.Prelude.{ℕ, ◌≡◌, ◌≢◌, ◌≤◌, ◌+◌, ◌*◌, true, List, [], length, Some, None, Ok, Err, MatchResult}
+use Rattle.std.specs.declared.option.Option.{Option}
+use Rattle.std.specs.declared.result.Result.{Result}
+use Rattle.sat_act.specs.Deployed.{Deployed}
+use Rattle.sat_act.specs.Limits.{IsDeployment}
+use Rattle.sat_act.specs.Built.{IsBuilt}
+use Rattle.sat_script.specs.Grammar.{line_at, close_at, after}
+use Rattle.sat_script.specs.Reading.{told_line}
+use Rattle.sat_script.specs.State.{State, Seen, no_header, number_of}
+use Rattle.sat_script.specs.declared.fault.Cause.{Cause}
+use Rattle.sat_script.specs.declared.fault.Cause.TheVariants.{Memory}
+use Rattle.sat_script.specs.declared.fault.ScriptFault.{ScriptFault}
+use Rattle.sat_script.specs.declared.line.Line.{Line}
+use Rattle.sat_script.specs.declared.line.Parsed.{Parsed}
+use Rattle.sat_script.specs.declared.line.Stage.{Stage}
+use Rattle.sat_script.specs.declared.line.Stage.TheVariants as stage
+use Rattle.sat_script.specs.declared.limits.TheConstants.{MOST_ACTS}
+
+-- the call answers this, or want of memory
+abbrev pub Gives : Result Parsed Cause → Result Parsed Cause → Type 0
+Gives (Ok parsed) said = said ≡ Ok parsed
+Gives (Err cause) said = cause ≢ Memory → said ≡ Err cause
+
+-- the reader goes on in this state, or stays in it with this fault
+abbrev pub running : State → Seen
+running s = record { state = s; fault = None }
+
+abbrev pub failed : State → ScriptFault → Seen
+failed s fault = record { state = s; fault = Some fault }
+
+-- the next line has this fault, or memory ran out there
+pub record IsFaultOf (s : State) (bytes : List ℕ) (fault : ScriptFault) : Type 0 where
+  pub line : fault.line ≡ number_of s
+  pub cause : fault.cause ≢ Memory → line_at s bytes ≡ Err fault.cause
+
+-- the next line says this
+pub record IsGoodLine (s : State) (bytes : List ℕ) (line : Line) (new : Seen) : Type 0 where
+  pub says : Parsed
+  pub good : line_at s bytes ≡ Ok says
+  pub told : line ≡ told_line s.header says
+  pub goes : new ≡ running (after s says)
+
+abbrev pub TakesFresh : State → Seen → Result Line ScriptFault → List ℕ → Type 0
+TakesFresh s new result bytes = MatchResult result
+    (λ line. IsGoodLine s bytes line new)
+    (λ fault. IsFaultOf s bytes fault × (new ≡ failed s fault))
+
+-- a call of `line`: a fault that was answered is answered again
+abbrev pub Takes : Option ScriptFault → State → Seen → Result Line ScriptFault → List ℕ → Type 0
+Takes None s new result bytes = TakesFresh s new result bytes
+Takes (Some fault) s new result bytes = (result ≡ Err fault) × (new ≡ failed s fault)
+
+abbrev pub ClosesFresh : State → Seen → Result (Unit {0}) ScriptFault → List ℕ → Type 0
+ClosesFresh s new result rest = MatchResult result
+    (λ _. (close_at s rest ≡ None) × (new ≡ running s))
+    (λ fault. (fault.line ≡ number_of s) × (close_at s rest ≡ Some fault.cause) × (new ≡ failed s fault))
+
+-- a call of `close`
+abbrev pub Closes : Option ScriptFault → State → Seen → Result (Unit {0}) ScriptFault → List ℕ → Type 0
+Closes None s new result rest = ClosesFresh s new result rest
+Closes (Some fault) s new result rest = (result ≡ Err fault) × (new ≡ failed s fault)

@@ -1,0 +1,43 @@
+-- What the lines so far say.
+use Rattle.std.specs.Prelude.{ℕ, ◌+◌, ◌≡◌, ◌≤◌, Bool, List, [], length, None}
+use Rattle.std.specs.declared.option.Option.{Option}
+use Rattle.sat_act.specs.Deployed.{Deployed}
+use Rattle.sat_script.specs.declared.fault.ScriptFault.{ScriptFault}
+use Rattle.sat_script.specs.declared.line.Stage.{Stage}
+use Rattle.sat_script.specs.declared.line.Stage.TheVariants as stage
+
+-- where the next line stands, the header as far as it has come, and how many acts have come
+pub record State : Type 0 where
+  pub live : Bool
+  pub stage : Stage
+  pub header : Deployed
+  pub acts : ℕ
+
+-- and the fault that was told
+pub record Seen : Type 0 where
+  pub state : State
+  pub fault : Option ScriptFault
+
+-- a header of which nothing has come
+abbrev pub no_header : Deployed
+no_header = record { sites = 0; gears = 0; items = []; clients = []; plans = [] }
+
+-- before the first line
+abbrev pub start : Bool → State
+start live = record { live = live; stage = stage.Start; header = no_header; acts = 0 }
+
+-- the number of lines of items, clients and plans
+abbrev pub header_lines : Deployed → ℕ
+header_lines d = length d.items + length d.clients + length d.plans
+
+-- the number of the next line, from 1
+abbrev pub first_of : Stage → ℕ
+first_of stage.Start = 1
+first_of stage.Sites = 2
+first_of stage.Gears = 3
+first_of stage.Header = 4
+first_of stage.Body = 5
+first_of stage.Ended = 6
+
+unfoldable pub number_of : State → ℕ
+number_of s = first_of s.stage + header_lines s.header + s.acts

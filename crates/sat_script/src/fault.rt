@@ -1,0 +1,30 @@
+//! What may be wrong with a line.
+
+/// Why a line is refused.
+#[derive(Clone, Copy, Debug, PartialEq, Eq)]
+pub enum Cause {
+    AfterEnd,
+    LongLine,
+    NoEnd,
+    NotText,
+    BadHeader,
+    BadAct,
+    /// The line has a form that is not built yet.
+    Unbuilt,
+    NotLive,
+    TooMany,
+    SameName,
+    UnknownName,
+    OutOfRange,
+    BadTree,
+    NoEdge,
+    /// Want of memory.
+    Memory,
+}
+
+/// The first bad line, from 1, and its cause.
+#[derive(Clone, Copy, Debug, PartialEq, Eq)]
+pub struct ScriptFault {
+    pub line: u64,
+    pub cause: Cause,
+}

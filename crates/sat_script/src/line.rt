@@ -1,0 +1,46 @@
+//! Lines: what a caller is told of one, and what it says to the reader.
+use sat_act::{Act, ClientLine, Deployment, Item, Plan};
+
+/// What a caller is told of a good line.
+#[derive(Drop)]
+pub enum Line {
+    /// A line of the header before `begin`.
+    Header,
+    /// The line `begin`, with the deployment that the header says.
+    Begin(Deployment),
+    Act(Act),
+    /// The line `end`.
+    End,
+}
+
+/// What a good line says.
+#[derive(Drop)]
+pub enum Parsed {
+    /// `saturn 1`
+    Format,
+    Sites(u16),
+    Gears(u16),
+    Item(Item),
+    Client(ClientLine),
+    Plan(Plan),
+    Begin,
+    Act(Act),
+    End,
+}
+
+/// The part of a script that the next line stands in.
+#[derive(Clone, Copy, Debug, PartialEq, Eq)]
+pub enum Stage {
+    /// At the line `saturn 1`.
+    Start,
+    /// At the line of the sites.
+    Sites,
+    /// At the line of the gears.
+    Gears,
+    /// At an item, a client, a plan, or `begin`.
+    Header,
+    /// At an act, or `end`.
+    Body,
+    /// After `end`.
+    Ended,
+}
