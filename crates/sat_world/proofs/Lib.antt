@@ -1,0 +1,11 @@
+pub mod Waiting
+pub mod Built
+pub mod Rises
+pub mod Links
+pub mod Lifts
+pub mod Sites
+pub mod Standing
+pub mod Clients
+pub mod Steps
+pub mod Deeds
+pub mod Starts
