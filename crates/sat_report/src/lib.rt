@@ -1,0 +1,14 @@
+//! The texts of answers, of what the sites hold in the end, and of a script's fault.
+#![tactic(auto)]
+
+mod answer;
+mod fault;
+mod holdings;
+mod text;
+
+pub use answer::write_answer;
+pub use fault::write_fault;
+pub use holdings::write_holdings;
+
+#[cfg(test)]
+mod tests;

@@ -1,0 +1,6 @@
+pub mod Progress
+pub mod Faults
+pub mod Running
+pub mod Good
+pub mod Refused
+pub mod Ran

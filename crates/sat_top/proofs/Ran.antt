@@ -1,0 +1,36 @@
+-- What a reading and its run come to.
+use Rattle.std.proofs.Common.{◌≡◌, ℕ, Bool, false, List, Option, Some, None, refl, sym, ap, subst, ◌∙◌}
+use Rattle.std.specs.Prelude.{is_none, IfSome, if◌then◌else◌}
+use Rattle.sat_act.specs.Deployed.{Deployed}
+use Rattle.sat_act.specs.Limits.{IsDeployment}
+use Rattle.sat_act.specs.Built.{IsBuilt}
+use Rattle.sat_act.specs.Headline.{IsGood}
+use Rattle.sat_laws.specs.Claims.{EveryHistoryIsGood}
+use Rattle.sat_script.specs.Spelled.{HaveNames}
+use Rattle.sat_script.specs.Reading.{reading, AreBuiltActs}
+use Rattle.sat_script.specs.declared.fault.ScriptFault.{ScriptFault}
+use Rattle.sat_script.specs.declared.stream.Reading.{Reading}
+use Rattle.sat_top.specs.declared.words.Command.TheVariants.{Run}
+use Rattle.sat_top.specs.Good.{IsGoodScript, IsGoodFront, EveryReadingIsGood}
+use Rattle.sat_top.specs.Runs.{history, run_text}
+use Rattle.sat_top.proofs.Good.{good_history}
+use Rattle.sat_top.specs.Whole.{IsTextOf, command_status, command_output}
+
+zero_fault : (fault : Option ScriptFault) (status : ℕ) → status ≡ (if is_none fault then 0 else 1) → status ≡ 0 → fault ≡ None
+zero_fault None status means zero = refl
+zero_fault (Some fault) status means zero = absurd (cc)
+
+-- of an Option that is known
+at_some : (o : Option Deployed) (d : Deployed) (P : Deployed → Type 0) → IfSome o P → o ≡ Some d → P d
+at_some None d P p e = absurd (cc)
+at_some (Some x) d P p e = let same : x ≡ d = cc in subst P same p
+
+front : (text : List ℕ) (found : Reading) → EveryHistoryIsGood → IfSome found.deployment (λ d. IsDeployment d × IsBuilt d × HaveNames d × AreBuiltActs d found.acts) → reading false text ≡ found → IsGoodFront text
+front text found every built same d at =
+    let here = at_some found.deployment d (λ x. IsDeployment x × IsBuilt x × HaveNames x × AreBuiltActs x found.acts) built (sym (ap (λ (r : Reading). r.deployment) same) ∙ at) in
+    subst (λ (r : Reading). IsGood d (history d r.acts)) (sym same) (good_history d found.acts every here.0 here.3)
+
+pub ran : (left : Option (List ℕ)) (found : Reading) (written : List ℕ) (status : ℕ) → EveryReadingIsGood → EveryHistoryIsGood → IfSome found.deployment (λ d. IsDeployment d × IsBuilt d × HaveNames d × AreBuiltActs d found.acts) → ((text : List ℕ) × IsTextOf left text × (reading false text ≡ found)) → written ≡ run_text found → status ≡ (if is_none found.fault then 0 else 1)
+    → (text : List ℕ) × IsTextOf left text × (written ≡ command_output (Some Run) text) × (status ≡ command_status (Some Run) text) × (status ≡ 0 → IsGoodScript text) × (status ≡ 1 → IsGoodFront text)
+ran left found written status law every built from wrote means =
+    (from.0, from.1, rw from.2 wrote, rw from.2 means, λ zero. law from.0 (ap (λ (r : Reading). r.fault) from.2 ∙ zero_fault found.fault status means zero), λ one. front from.0 found every built from.2)

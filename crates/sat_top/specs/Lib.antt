@@ -1,0 +1,5 @@
+pub mod Words
+pub mod Runs
+pub mod Running
+pub mod Good
+pub mod Whole

@@ -1,0 +1,15 @@
+//! What every good script gives.
+ghost use Rattle.sat_top.specs.Good.{EveryReadingIsGood};
+
+use sat_laws::headline;
+use sat_script::one_spelling;
+
+/// A text that is read without a fault spells a deployment and acts, and the report of their history is what `run`
+/// writes. In this history each site shows each update at most once and after every cause that it keeps, no client reads
+/// older than it saw, and where nothing waits or is under way each site holds its items' greatest versions.
+pub fn good_scripts()
+    ensures { EveryReadingIsGood }
+{
+    headline();
+    one_spelling();
+}

@@ -1,0 +1,18 @@
+//! The program: it reads a script, runs it and writes the report.
+#![tactic(auto)]
+
+mod law;
+mod memory;
+mod output;
+mod run;
+mod stream;
+mod top;
+mod words;
+
+pub use law::good_scripts;
+pub use memory::still_in_memory;
+pub use top::{saturn, still};
+pub use words::Command;
+
+#[cfg(test)]
+mod tests;

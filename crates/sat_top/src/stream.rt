@@ -1,0 +1,69 @@
+//! Reading a script from a source, and writing a text to a sink.
+ghost use Rattle.std.specs.Prelude.{◌≡◌, ℕ, ◌≤◌, false, List, length, IfOk, IfSome, OnOk, OnErr, IsErrOf, None};
+ghost use Rattle.std.specs.Io.KnownBytes.{Consumes, IsAtEnd};
+ghost use Rattle.sat_act.specs.Limits.{IsDeployment};
+ghost use Rattle.sat_act.specs.Built.{IsBuilt};
+ghost use Rattle.sat_outside.specs.Causes.{Rose, HasCause};
+ghost use Rattle.sat_outside.specs.Streams.{Takes};
+ghost use Rattle.sat_script.specs.Spelled.{HaveNames};
+ghost use Rattle.sat_script.specs.Reading.{reading, AreBuiltActs};
+ghost use Rattle.sat_top.specs.Whole.{IsTextOf, TakesFront};
+
+use sat_outside::{Failed, Sink, Source};
+use sat_script::{BYTES_END, Cause, MOST_ACTS, Reading, ScriptReader};
+use std::alloc::Global;
+
+const BUFFER_BYTES: usize = 65_536;
+
+/// Why nothing is written.
+#[derive(Clone, Copy, Debug, PartialEq, Eq)]
+pub enum Stop {
+    Source,
+    Memory,
+}
+
+/// Reads a script until the source has no more, or the first bad line is known.
+pub fn read_script<S: Source>(alloc: Global, source: &mut S) -> Result<Reading, Stop>
+    ensures script { IfOk result (λ found. (text : List ℕ) × IsTextOf (S.left source.old) text × (reading false text ≡ found)) }
+    ensures end { IfOk result (λ found. found.fault ≡ None → IsAtEnd (S.left source.new)) }
+    // The bytes taken have a bound, however much the source has.
+    ensures bounded { (taken : List ℕ) × Consumes (S.left source.old) (S.left source.new) taken × (length taken ≤ BYTES_END) }
+    ensures built { IfOk result (λ found. IfSome found.deployment (λ d. IsDeployment d × IsBuilt d × HaveNames d × AreBuiltActs d found.acts)) }
+    ensures few { IfOk result (λ found. length found.acts ≤ MOST_ACTS) }
+    ensures later { S.faults source.old ≤ S.faults source.new }
+    ensures failed { IsErrOf result Stop.Source → Rose (S.faults source.old) (S.faults source.new) }
+{
+    let mut reader = ScriptReader::new(alloc, false);
+    let mut buffer = [0u8; BUFFER_BYTES];
+    let mut taken = 0u64;
+    // A first bad line begins before this byte.
+    while taken < BYTES_END {
+        match source.read(&mut buffer) {
+            Err(_) => return Err(Stop::Source),
+            Ok(0) => return Ok(reader.finish()),
+            Ok(count) => {
+                taken += count as u64;
+                if let Err(fault) = reader.feed(&buffer[..count]) {
+                    if fault.cause == Cause::Memory {
+                        return Err(Stop::Memory);
+                    }
+                    return Ok(reader.finish());
+                }
+            }
+        }
+    }
+    unreachable!()
+}
+
+/// Writes the whole text, or a front of it.
+pub fn write_text<K: Sink>(sink: &mut K, text: &[u8]) -> Result<(), Failed>
+    ensures ok { OnOk result (Takes (K.told sink.old) (K.told sink.new) text.now) }
+    ensures err { OnErr result (TakesFront (K.told sink.old) (K.told sink.new) text.now) }
+    ensures cause { HasCause (K.faults sink.old) (K.faults sink.new) result }
+{
+    let mut at = 0;
+    while at < text.len() {
+        at += sink.write(&text[at..])?;
+    }
+    Ok(())
+}
