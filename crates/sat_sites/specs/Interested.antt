@@ -1,0 +1,53 @@
+-- Which sites keep each item, and which sites a label is for.
+use Rattle.std.specs.Prelude.{ℕ, ◌≡◌, ◌^◌, ◌<◌, ◌≤◌, Bool, true, false, ◌&&◌, not, ◌==◌, nat_lt, List, length, Option, Some, None, slice_get, position}
+use Rattle.sat_label.specs.declared.site_set.SiteSet.{SiteSet}
+use Rattle.sat_label.specs.declared.label.Label.{Label}
+use Rattle.sat_label.specs.declared.label.Kind.{Kind}
+use Rattle.sat_label.specs.declared.label.Kind.TheVariants.{Update, Move, Pulse, Close}
+use Rattle.sat_label.specs.Words.{bit}
+
+-- the number of sites, and the sites that keep each item
+pub record Interested : Type 0 where
+  pub sites : ℕ
+  pub replicas : List SiteSet
+
+abbrev pub all_sites : ℕ → ℕ → Bool
+all_sites sites k = nat_lt k sites
+
+-- some site of those below the number, and none else: the number that the set is, as bits, is at least 1 and below 2 to that power
+abbrev pub is_good_set : ℕ → SiteSet → Bool
+is_good_set sites set = not (set.bits == 0) && nat_lt set.bits (2 ^ sites)
+
+-- the first item whose set of sites is empty, or has a site that is none
+abbrev pub first_bad : ℕ → List SiteSet → Option ℕ
+first_bad sites sets = position (λ set. not (is_good_set sites set)) sets
+
+-- the sites that keep an item
+abbrev pub keeps : Interested → ℕ → ℕ → Bool
+keeps a x k = elim (slice_get a.replicas x) [ None ↦ false | Some set ↦ bit set.bits k ]
+
+-- whether a label is for a site
+unfoldable pub is_for : Interested → Label → ℕ → Bool
+is_for a l k =
+    elim l.kind [
+      | Update x ↦ keeps a x k && not (k == l.point.site)
+      | Move j ↦ k == j
+      | Pulse ↦ nat_lt k a.sites && not (k == l.point.site)
+      | Close e ↦ nat_lt k a.sites && not (k == l.point.site)
+    ]
+
+-- each item is kept somewhere, and at sites below the number alone
+pub record IsInterest (a : Interested) : Type 0 where
+  pub few : a.sites ≤ 64
+  pub kept : (x : ℕ) (set : SiteSet) → slice_get a.replicas x ≡ Some set → (k : ℕ) × (bit set.bits k ≡ true)
+  pub within : (x k : ℕ) (set : SiteSet) → slice_get a.replicas x ≡ Some set → bit set.bits k ≡ true → k < a.sites
+
+-- a label's own site and the site of a Move are below the number of sites, and the item of an Update below that of the items
+abbrev pub IsKindOf : Interested → Kind → Type 0
+IsKindOf a (Update x) = x < length a.replicas
+IsKindOf a (Move j) = j < a.sites
+IsKindOf a _ = Unit {0}
+
+pub record IsLabelOf (a : Interested) (l : Label) : Type 0 where
+  pub own : l.point.site < a.sites
+  pub kind : IsKindOf a l.kind

@@ -1,0 +1,147 @@
+//! Which sites keep each item.
+ghost use Rattle.std.specs.Prelude.{◌≡◌, ◌<◌, ◌≤◌, ℕ, length, Some, slice_get, IfOk, IfSome, IsErrOf, IsOkUnless, MatchOption};
+ghost use Rattle.sat_label.specs.Words.{bit, first_failing};
+ghost use Rattle.sat_sites.specs.Interested.{is_good_set, all_sites, first_bad, is_for, IsLabelOf};
+
+use sat_label::{Kind, Label, SiteSet};
+use std::alloc::{AllocError, Global};
+use std::marker::Model;
+use thiserror::Error;
+
+/// Why no interest was made.
+#[derive(Clone, Copy, Debug, PartialEq, Eq, Drop, Error)]
+pub enum InterestFault {
+    /// The first item that is kept nowhere, or at a site that is none.
+    #[error("item {0} is kept nowhere, or at a site that is none")]
+    BadItem(usize),
+    /// There was no memory for it.
+    #[error("out of memory")]
+    Memory,
+}
+
+impl From<AllocError> for InterestFault {
+    ghost use Rattle.std.specs.Prelude.{◌≡◌};
+    ghost use Rattle.sat_sites.specs.declared.interest.InterestFault.TheVariants.{Memory};
+
+    ghost from_gives = { λ _ fault. fault ≡ Memory };
+
+    fn from(_error: AllocError) -> InterestFault {
+        InterestFault::Memory
+    }
+}
+
+/// For each item the sites that keep it, at least one and all below the number of sites, which is at most 64.
+#[derive(Drop)]
+pub struct Interest {
+    sites: u16,
+    replicas: Vec<SiteSet>,
+}
+
+impl Model for Interest {
+    ghost use Rattle.std.specs.Prelude.{◌≡◌, None, length};
+    ghost use Rattle.sat_sites.specs.Interested.{Interested, IsInterest};
+
+    ghost Value = { Interested };
+
+    ghost view = { λ a. record { sites = a.sites; replicas = a.replicas.items } };
+
+    ghost invariant = { λ a. IsInterest (record { sites = a.sites; replicas = a.replicas.items }) };
+}
+
+// Whether a set has a site, and none that is not below the number.
+#[tactic(auto, using(crate::proofs::Sets::shifted))]
+fn is_good_set(sites: u16, set: SiteSet) -> bool
+    requires { sites ≤ 64 }
+    ensures { result ≡ is_good_set sites set }
+{
+    if set.bits == 0 {
+        return false;
+    }
+    sites == 64 || set.bits >> sites == 0
+}
+
+// The first item whose set is not good.
+fn first_bad(sites: u16, replicas: &[SiteSet]) -> Option<usize>
+    requires { sites ≤ 64 }
+    ensures { result ≡ first_bad sites replicas.now }
+{
+    replicas.iter().position(|set| !is_good_set(sites, *set))
+}
+
+// The set of all sites.
+fn all(sites: u16) -> SiteSet
+    requires { sites ≤ 64 }
+    ensures { (k : ℕ) → bit result.bits k ≡ all_sites sites k }
+{
+    let mut set = SiteSet::none();
+    for k in 0..sites {
+        set = set.with(k);
+    }
+    set
+}
+
+impl Interest {
+    ghost use Rattle.sat_sites.specs.Interested.{IsInterest};
+
+    /// The sites that keep the items 0, 1 and so on. It asks for at most 64 sites.
+    #[tactic(auto, using(crate::proofs::Sets::is_interest))]
+    pub fn new(alloc: Global, sites: u16, replicas: &[SiteSet]) -> Result<Interest, InterestFault>
+        requires { sites ≤ 64 }
+        ensures made { IfOk result (λ a. a ≡ record { sites = sites; replicas = replicas.now }) }
+        ensures fault { MatchOption (first_bad sites replicas.now)
+            (IsOkUnless result InterestFault.Memory)
+            (λ place. IsErrOf result (InterestFault.BadItem place)) }
+    {
+        if let Some(place) = first_bad(sites, replicas) {
+            return Err(InterestFault::BadItem(place));
+        }
+        Ok(Interest::sound(alloc, sites, replicas)?)
+    }
+
+    // The interest of sets of which none is bad.
+    fn sound(alloc: Global, sites: u16, replicas: &[SiteSet]) -> Result<Interest, AllocError>
+        requires { IsInterest (record { sites = sites; replicas = replicas.now }) }
+        ensures { IfOk result (λ a. a ≡ record { sites = sites; replicas = replicas.now }) }
+    {
+        let replicas = replicas.to_vec(alloc)?;
+        Ok(Interest { sites, replicas })
+    }
+
+    /// The sites that keep an item.
+    pub fn replicas(&self, item: u16) -> SiteSet
+        requires { item < length self.now.replicas }
+        ensures replicas { slice_get self.now.replicas item ≡ Some result }
+        ensures limits { IsInterest self.now }
+    {
+        self.replicas[item as usize]
+    }
+
+    /// The sites that a label is for: an Update for its item's sites but its own, a Move for the site that it names,
+    /// a Pulse or a Close for all sites but its own.
+    #[tactic(auto, unfolding(crate::specs::Interested::is_for))]
+    pub fn targets(&self, label: &Label) -> SiteSet
+        requires { IsLabelOf self.now label.now }
+        ensures targets { (k : ℕ) → bit result.bits k ≡ is_for self.now label.now k }
+        ensures limits { IsInterest self.now }
+    {
+        let sites = self.sites;
+        let own = SiteSet::one(label.point.site);
+        match label.kind {
+            Kind::Update(item) => self.replicas[item as usize].minus(&own),
+            Kind::Move(site) => SiteSet::one(site),
+            Kind::Pulse => all(sites).minus(&own),
+            Kind::Close(_) => all(sites).minus(&own),
+        }
+    }
+
+    /// The same again.
+    pub fn copy(&self) -> Result<Interest, AllocError>
+        ensures { IfOk result (λ a. a ≡ self.now) }
+    {
+        let replicas = self.replicas.clone()?;
+        Ok(Interest {
+            sites: self.sites,
+            replicas,
+        })
+    }
+}

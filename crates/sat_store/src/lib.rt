@@ -1,0 +1,9 @@
+//! A store keeps for each item the version with the greatest label.
+#![tactic(auto)]
+
+mod store;
+
+pub use store::{Put, Store, Version};
+
+#[cfg(test)]
+mod tests;

@@ -1,0 +1,91 @@
+//! Versions, and the store of them.
+ghost use Rattle.std.specs.Prelude.{◌≡◌, ◌<◌, ◌↔◌, length, replicate, slice_get, slice_set, Some, None, IfOk, MatchOption};
+ghost use Rattle.sat_store.specs.Stored.{newer, is_kept, version_at};
+
+use sat_label::{Label, Value};
+use std::alloc::{AllocError, Global};
+use std::marker::Model;
+
+/// A version of an item: the label of its update, and the value.
+#[derive(Drop)]
+pub struct Version {
+    pub label: Label,
+    pub value: Value,
+}
+
+impl Version {
+    /// The same version again.
+    pub fn copy(&self) -> Result<Version, AllocError>
+        ensures { IfOk result (λ version. version ≡ self.now) }
+    {
+        let value = self.value.copy()?;
+        Ok(Version {
+            label: self.label,
+            value,
+        })
+    }
+}
+
+/// What a put did.
+#[derive(Clone, Copy, Debug, PartialEq, Eq)]
+pub enum Put {
+    /// The version is kept now.
+    Kept,
+    /// The store has one with an equal or a greater label, and keeps that.
+    Lower,
+}
+
+/// For each of a fixed number of items the version with the greatest label that was put there, if any. All its memory is taken
+/// when it is made.
+#[derive(Drop)]
+pub struct Store {
+    versions: Vec<Option<Version>>,
+}
+
+impl Model for Store {
+    ghost use Rattle.std.specs.Prelude.{List};
+    ghost use Rattle.std.specs.declared.option.Option.{Option};
+    ghost use Rattle.sat_store.specs.declared.store.Version.{Version};
+
+    ghost Value = { List (Option Version) };
+
+    ghost view = { λ a. a.versions.items };
+}
+
+impl Store {
+    /// A store of so many items, with no versions.
+    #[tactic(auto, using(std::proofs::lemmas::List::replicate_more))]
+    pub fn new(alloc: Global, items: u16) -> Result<Store, AllocError>
+        ensures { IfOk result (λ store. store ≡ replicate items None) }
+    {
+        let mut versions = Vec::with_capacity(alloc, items as usize)?;
+        'items: for _ in 0..items {
+            versions.push(None)?;
+        }
+        Ok(Store { versions })
+    }
+
+    /// Puts a version. It is kept exactly where the item had none, or one with a lower label.
+    pub fn put(&mut self, item: u16, label: Label, value: Value) -> Put
+        requires { item < length self.old }
+        ensures new { self.new ≡ slice_set self.old item (newer (version_at self.old item) (record { label = label; value = value })) }
+        ensures kept { result ≡ Put.Kept ↔ is_kept (version_at self.old item) label }
+    {
+        let place = &mut self.versions[item as usize];
+        if let Some(version) = place {
+            if !version.label.is_below(&label) {
+                return Put::Lower;
+            }
+        }
+        *place = Some(Version { label, value });
+        Put::Kept
+    }
+
+    /// The version of an item. None exactly where nothing was put.
+    pub fn get(&self, item: u16) -> Option<&Version>
+        requires { item < length self.now }
+        ensures { MatchOption result (version_at self.now item ≡ None) (λ version. version_at self.now item ≡ Some version.now) }
+    {
+        self.versions[item as usize].as_ref()
+    }
+}
