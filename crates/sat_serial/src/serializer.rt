@@ -1,0 +1,120 @@
+//! Serializers.
+ghost use Rattle.std.specs.Prelude.{◌≡◌, ◌<◌, length, slice_get, true, false, IfOk, IsOk, IsErrOf, IsOkUnless, OnOk, OnErr};
+ghost use Rattle.sat_serial.specs.Routes.{routes, Arrives, IsNeighbour};
+ghost use Rattle.sat_serial.specs.Outboxes.{fresh, handled, outbox, shipped, IsSerializer};
+
+use crate::router::Router;
+use crate::{HandleFault, KillFault, outboxes};
+use sat_label::{Label, NodeId, Nodes};
+use sat_sites::Interest;
+use sat_tree::Tree;
+use std::alloc::{AllocError, Global};
+use std::collections::VecDeque;
+use std::marker::Model;
+
+/// One serializer of a tree. Contracts see the tree, its number there, whether it was killed, and the labels in the outbox of
+/// each neighbour, the oldest first, in the order of the neighbours: sites ascending, then serializers ascending.
+#[derive(Drop)]
+pub struct Serializer {
+    router: Router,
+    killed: bool,
+    outboxes: Vec<VecDeque<Label>>,
+}
+
+impl Model for Serializer {
+    ghost use Rattle.sat_serial.specs.Queues.{labels_in};
+    ghost use Rattle.sat_serial.specs.Outboxes.{SerializerSeen, IsSerializer};
+
+    ghost Value = { SerializerSeen };
+
+    ghost view = { λ a. record { tree = a.router.tree; number = a.router.number; killed = a.killed; outboxes = labels_in a.outboxes.items } };
+
+    ghost invariant = { λ a. IsSerializer (record { tree = a.router.tree; number = a.router.number; killed = a.killed; outboxes = labels_in a.outboxes.items }) };
+}
+
+impl Serializer {
+    /// The serializer with this number of a copy of the tree: alive, and with nothing in its outboxes.
+    pub fn new(alloc: Global, tree: &Tree, number: u16) -> Result<Serializer, AllocError>
+        requires { number < length tree.now.parents }
+        ensures { IfOk result (λ serializer. serializer ≡ fresh tree.now number) }
+    {
+        let tree = tree.copy()?;
+        let router = Router { tree, number };
+        let outboxes = outboxes::empty(alloc, router.neighbours().len())?;
+        Ok(Serializer {
+            router,
+            killed: false,
+            outboxes,
+        })
+    }
+
+    /// Hands a label that came from a neighbour on: puts a copy into the outbox of every other neighbour beyond which a target
+    /// of it lies, and answers these, sites ascending and then serializers ascending. `Dead` says that the serializer was
+    /// killed, `Memory` that there was no room for the copies; then all is as before. It asks for an interest of the
+    /// tree's sites, and for a label of it with a target beyond the edge that it came over.
+    pub fn handle(
+        &mut self,
+        interest: &Interest,
+        from: NodeId,
+        label: Label,
+    ) -> Result<Nodes, HandleFault>
+        requires { Arrives interest.now self.old.tree self.old.number from label }
+        ensures nodes { IfOk result (λ nodes. nodes ≡ routes interest.now self.old.tree self.old.number from label) }
+        ensures ok { OnOk result (self.new ≡ handled self.old interest.now from label) }
+        ensures err { OnErr result (self.new ≡ self.old) }
+        ensures dead { self.old.killed ≡ true → IsErrOf result HandleFault.Dead }
+        ensures alive { self.old.killed ≡ false → IsOkUnless result HandleFault.Memory }
+        ensures limits { IsSerializer self.old }
+    {
+        if self.killed {
+            return Err(HandleFault::Dead);
+        }
+        let nodes = self.route(interest, from, &label)?;
+        outboxes::make_room(&mut self.outboxes)?;
+        outboxes::add_copies(&mut self.outboxes, &self.router, interest, from, &label);
+        Ok(nodes)
+    }
+
+    /// The nodes that `handle` answers while the serializer is alive; `handle` says what it asks for.
+    pub fn route(
+        &self,
+        interest: &Interest,
+        from: NodeId,
+        label: &Label,
+    ) -> Result<Nodes, AllocError>
+        requires { Arrives interest.now self.now.tree self.now.number from label.now }
+        ensures route { IfOk result (λ nodes. nodes ≡ routes interest.now self.now.tree self.now.number from label.now) }
+        ensures limits { IsSerializer self.now }
+    {
+        let alloc = *self.outboxes.allocator();
+        self.router.route(alloc, interest, from, label)
+    }
+
+    /// Takes the oldest label out of the outbox of a neighbour, None where it is empty. It takes no memory, and works after a
+    /// kill too.
+    pub fn ship(&mut self, to: NodeId) -> Option<Label>
+        requires { IsNeighbour self.old.tree self.old.number to }
+        ensures label { result ≡ slice_get (outbox self.old to) 0 }
+        ensures rest { self.new ≡ shipped self.old to }
+        ensures limits { IsSerializer self.old }
+    {
+        let Some(place) = self.router.place(to) else {
+            return None;
+        };
+        outboxes::take_oldest(&mut self.outboxes[place])
+    }
+
+    /// Kills the serializer: it handles nothing from now on. `Already` says that it was killed before. It takes no memory.
+    pub fn kill(&mut self) -> Result<(), KillFault>
+        ensures killed { self.new ≡ record self.old { killed = true } }
+        ensures ok { self.old.killed ≡ false → IsOk result }
+        ensures already { self.old.killed ≡ true → IsErrOf result KillFault.Already }
+        ensures limits { IsSerializer self.old }
+    {
+        if self.killed {
+            return Err(KillFault::Already);
+        }
+        self.killed = true;
+        Ok(())
+    }
+}

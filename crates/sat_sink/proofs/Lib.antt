@@ -1,0 +1,6 @@
+pub mod Labels
+pub mod Leasts
+pub mod Queues
+pub mod Fronts
+pub mod Sinks
+pub mod Deeds

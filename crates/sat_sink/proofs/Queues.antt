@@ -1,0 +1,104 @@
+-- Queues of labels.
+use Rattle.std.specs.Prelude.{◌≡◌, ◌⊎◌, ◌<◌, ℕ, zero, suc, Bool, true, false, not, List, [], ◌∷◌, ◌++◌, length, get_or, set, map, filter, cond, refl}
+use Rattle.std.proofs.Common.{arith, ap, sym, ◌∙◌, inl, inr}
+use Rattle.std.proofs.lemmas.List.{append-nil}
+use Rattle.sat_label.specs.declared.label.Label.{Label}
+use Rattle.sat_label.specs.Order.{point_lt, label_eq}
+use Rattle.sat_bulk.specs.Drains.{In, Rises}
+use Rattle.sat_sink.specs.Pending.{all_of, joined, without}
+
+-- ---- members
+
+pub In-left : (xs ys : List Label) (x : Label) → In xs x → In (xs ++ ys) x
+In-left [] ys x i = absurd i
+In-left (y ∷ xs) ys x (inl e) = inl e
+In-left (y ∷ xs) ys x (inr i) = inr (In-left xs ys x i)
+
+pub In-right : (xs ys : List Label) (x : Label) → In ys x → In (xs ++ ys) x
+In-right [] ys x i = i
+In-right (y ∷ xs) ys x i = inr (In-right xs ys x i)
+
+pub In-parts : (xs ys : List Label) (x : Label) → In (xs ++ ys) x → In xs x ⊎ In ys x
+In-parts [] ys x i = inr i
+In-parts (y ∷ xs) ys x (inl e) = inl (inl e)
+In-parts (y ∷ xs) ys x (inr i) = elim (In-parts xs ys x i) [ inl a ↦ inl (inr a) | inr b ↦ inr b ]
+
+In-cond : (p : Label → Bool) (y x : Label) (ys xs : List Label) (b : Bool) → p y ≡ b → (In ys x → In xs x × (p x ≡ true)) → In (cond b (y ∷ ys) ys) x → In (y ∷ xs) x × (p x ≡ true)
+In-cond p y x ys xs true e rest (inl k) = (inl k, ap p (sym k) ∙ e)
+In-cond p y x ys xs true e rest (inr j) = let w : In xs x × (p x ≡ true) = rest j in (inr w.0, w.1)
+In-cond p y x ys xs false e rest j = let w : In xs x × (p x ≡ true) = rest j in (inr w.0, w.1)
+
+pub In-filter : (p : Label → Bool) (xs : List Label) (x : Label) → In (filter p xs) x → In xs x × (p x ≡ true)
+In-filter p [] x i = absurd i
+In-filter p (y ∷ xs) x i = In-cond p y x (filter p xs) xs (p y) refl (In-filter p xs x) i
+
+-- where each passes, a filter keeps all
+pub filter-all : (p : Label → Bool) (xs : List Label) → ((x : Label) → In xs x → p x ≡ true) → filter p xs ≡ xs
+filter-all p [] f = refl
+filter-all p (x ∷ xs) f = ap (λ (b : Bool). cond b (x ∷ filter p xs) (filter p xs)) (f x (inl refl)) ∙ ap (λ (ys : List Label). x ∷ ys) (filter-all p xs (λ y i. f y (inr i)))
+
+-- one of all queues is in one of them
+pub record Place (queues : List (List Label)) (l : Label) : Type 0 where
+  pub gear : ℕ
+  pub within : gear < length queues
+  pub there : In (get_or queues gear []) l
+
+pub In-all : (queues : List (List Label)) (l : Label) → In (all_of queues) l → Place queues l
+In-all [] l i = absurd i
+In-all (q ∷ queues) l i =
+    elim (In-parts q (all_of queues) l i) [
+      | inl a ↦ record { gear = 0; within = omega arith; there = a }
+      | inr b ↦ (let k : Place queues l = In-all queues l b in record { gear = suc k.gear; within = let w : k.gear < length queues = k.within in omega arith; there = k.there })
+    ]
+
+pub all-In : (queues : List (List Label)) (g : ℕ) (l : Label) → In (get_or queues g []) l → In (all_of queues) l
+all-In [] g l i = absurd i
+all-In (q ∷ queues) zero l i = In-left q (all_of queues) l i
+all-In (q ∷ queues) (suc g) l i = In-right q (all_of queues) l (all-In queues g l i)
+
+-- ---- rising
+
+pub rises-append : (xs ys : List Label) → Rises xs → Rises ys → ((x y : Label) → In xs x → In ys y → point_lt x.point y.point ≡ true) → Rises (xs ++ ys)
+rises-append [] ys r s f = s
+rises-append (x ∷ xs) ys r s f = (λ m i. elim (In-parts xs ys m i) [ inl a ↦ r.0 m a | inr b ↦ f x m (inl refl) b ], rises-append xs ys r.1 s (λ z y i j. f z y (inr i) j))
+
+rises-cond : (p : Label → Bool) (x : Label) (xs : List Label) (b : Bool) → ((m : Label) → In xs m → point_lt x.point m.point ≡ true) → Rises (filter p xs) → Rises (cond b (x ∷ filter p xs) (filter p xs))
+rises-cond p x xs true f r = (λ m i. f m (In-filter p xs m i).0, r)
+rises-cond p x xs false f r = r
+
+pub rises-filter : (p : Label → Bool) (xs : List Label) → Rises xs → Rises (filter p xs)
+rises-filter p [] r = tt
+rises-filter p (x ∷ xs) r = rises-cond p x xs (p x) r.0 (rises-filter p xs r.1)
+
+-- ---- joined queues
+
+pub length-joined : (qs ms : List (List Label)) → length (joined qs ms) ≡ length qs
+length-joined [] ms = refl
+length-joined (q ∷ qs) [] = refl
+length-joined (q ∷ qs) (m ∷ ms) = ap (λ (n : ℕ). suc n) (length-joined qs ms)
+
+pub joined-get : (qs ms : List (List Label)) (g : ℕ) → g < length qs → get_or (joined qs ms) g [] ≡ get_or qs g [] ++ get_or ms g []
+joined-get [] ms g h = absurd (omega arith)
+joined-get (q ∷ qs) [] g h = sym (append-nil (get_or (q ∷ qs) g []))
+joined-get (q ∷ qs) (m ∷ ms) zero h = refl
+joined-get (q ∷ qs) (m ∷ ms) (suc g) h = joined-get qs ms g (omega arith)
+
+pub joined-none : (qs : List (List Label)) → joined qs [] ≡ qs
+joined-none [] = refl
+joined-none (q ∷ qs) = refl
+
+-- one place more
+pub joined-more : (qs ms : List (List Label)) (m : List Label) → length ms < length qs → joined qs (ms ++ m ∷ []) ≡ set (joined qs ms) (length ms) (get_or qs (length ms) [] ++ m)
+joined-more [] ms m h = absurd (omega arith)
+joined-more (q ∷ qs) [] m h = ap (λ (rest : List (List Label)). (q ++ m) ∷ rest) (joined-none qs)
+joined-more (q ∷ qs) (n ∷ ms) m h = ap (λ (rest : List (List Label)). (q ++ n) ∷ rest) (joined-more qs ms m (omega arith))
+
+-- ---- queues without a label
+
+pub get-map : (f : List Label → List Label) → f [] ≡ [] → (qs : List (List Label)) (g : ℕ) → get_or (map f qs) g [] ≡ f (get_or qs g [])
+get-map f e [] g = sym e
+get-map f e (q ∷ qs) zero = refl
+get-map f e (q ∷ qs) (suc g) = get-map f e qs g
+
+pub without-get : (l : Label) (qs : List (List Label)) (g : ℕ) → get_or (without l qs) g [] ≡ filter (λ m. not (label_eq l m)) (get_or qs g [])
+without-get l qs g = get-map (filter (λ m. not (label_eq l m))) refl qs g
