@@ -1,0 +1,5 @@
+pub mod Replay
+pub mod Seen
+pub mod Bodies
+pub mod Links
+pub mod Opened
