@@ -1,6 +1,0 @@
-pub mod Members
-pub mod Bodies
-pub mod Journals
-pub mod Ties
-pub mod Entries
-pub mod Agreements

@@ -1,5 +1,0 @@
-pub mod Replay
-pub mod Seen
-pub mod Bodies
-pub mod Links
-pub mod Opened
