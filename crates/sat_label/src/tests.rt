@@ -79,6 +79,7 @@ fn names_and_values(rt: HostRuntime) -> Result<(), Fail> {
     assert!(rt; Name::of(alloc, b"aaaaaaaaaaaaaaaaaaaaaaaaaaaaaaaaa")?.is_none());
     if let Some(name) = Name::of(alloc, b"cart_7-b.x")? {
         assert_eq!(rt; name.copy()?.bytes(), b"cart_7-b.x".as_slice());
+        assert_eq!(rt; name.as_str(), "cart_7-b.x");
     } else {
         assert!(rt; false);
     }

@@ -40,22 +40,23 @@ fn spells_value(bytes: &[u8]) -> bool
 /// A name of an item or a client: 1 to 32 letters, digits, `_`, `-` or `.`. Contracts see its bytes.
 #[derive(Drop)]
 pub struct Name {
-    bytes: Vec<u8>,
+    text: String,
 }
 
 impl Model for Name {
-    ghost use Rattle.std.specs.Prelude.{List, ℕ, ◌≡◌, true};
+    ghost use Rattle.std.specs.Prelude.{List, ℕ, ◌≡◌, true, string_bytes};
     ghost use Rattle.sat_label.specs.Text.{is_name};
 
     ghost Value = { List ℕ };
 
-    ghost view = { λ a. a.bytes.items };
+    ghost view = { λ a. string_bytes a.text };
 
-    ghost invariant = { λ a. is_name a.bytes.items ≡ true };
+    ghost invariant = { λ a. is_name (string_bytes a.text) ≡ true };
 }
 
 impl Name {
     /// The name with these bytes, None where they are no name.
+    #[tactic(auto, using(crate::proofs::Names::is_text))]
     pub fn of(alloc: Global, text: &[u8]) -> Result<Option<Name>, AllocError>
         ensures none { IfOk result (λ o. IsNone o ↔ (is_name text.now ≡ false)) }
         ensures some { IfOk result (λ o. IfSome o (λ name. name ≡ text.now)) }
@@ -63,8 +64,12 @@ impl Name {
         if !spells_name(text) {
             return Ok(None);
         }
-        let bytes = text.to_vec(alloc)?;
-        Ok(Some(Name { bytes }))
+        // The bytes of a name are ASCII, and so are text.
+        let Ok(text) = std::str::from_utf8(text) else {
+            unreachable!();
+        };
+        let text = String::from_str(alloc, text)?;
+        Ok(Some(Name { text }))
     }
 
     /// Its bytes.
@@ -72,15 +77,23 @@ impl Name {
         ensures bytes { result.now ≡ self.now }
         ensures name { is_name self.now ≡ true }
     {
-        self.bytes.as_slice()
+        self.text.as_bytes()
+    }
+
+    /// It as text.
+    pub fn as_str(&self) -> &str
+        ensures text { result.now ≡ self.now }
+        ensures name { is_name self.now ≡ true }
+    {
+        self.text.as_str()
     }
 
     /// The same name again.
     pub fn copy(&self) -> Result<Name, AllocError>
         ensures { IfOk result (λ name. name ≡ self.now) }
     {
-        let bytes = self.bytes.clone()?;
-        Ok(Name { bytes })
+        let text = self.text.clone()?;
+        Ok(Name { text })
     }
 }
 

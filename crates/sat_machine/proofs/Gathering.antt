@@ -25,7 +25,8 @@ use Rattle.sat_laws.proofs.Labels.{made-new, made-kind, is_made}
 use Rattle.sat_laws.proofs.Members.{In, In-filter, In-parts, In-right, has-in, listed-gives, same-label}
 use Rattle.sat_laws.proofs.Sinks.{from-made, gathered-made, not_true, kept as kept_label}
 use Rattle.sat_laws.proofs.Stamps.{sent-gathered}
-use Rattle.sat_machine.specs.State.{Payload, SiteState}
+use Rattle.sat_bulk.specs.declared.Payload.{Payload}
+use Rattle.sat_machine.specs.State.{SiteState}
 use Rattle.sat_machine.specs.Input.{SiteInput}
 use Rattle.sat_machine.specs.Input as given
 use Rattle.sat_machine.specs.Look.{rows, least_row, stable_of, ready_of, cut_of}

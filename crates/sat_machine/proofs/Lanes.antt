@@ -3,13 +3,11 @@ use Rattle.std.specs.Prelude.{◌≡◌, ℕ, ◌+◌, Bool, true, false, ◌&&�
 use Rattle.std.proofs.Common.{sym, ap, ◌∙◌}
 use Rattle.sat_label.specs.declared.label.Label.{Label}
 use Rattle.sat_label.specs.declared.label.Kind.TheVariants as kind
-use Rattle.sat_label.specs.Order.{label_eq, point_at}
+use Rattle.sat_label.specs.Order.{point_at}
 use Rattle.sat_act.specs.declared.act.Act.{Act}
 use Rattle.sat_act.specs.declared.answer.Answer.{Answer}
-use Rattle.sat_act.specs.declared.answer.Answer.TheVariants as ans
 use Rattle.sat_act.specs.declared.entry.Entry.{Entry}
 use Rattle.sat_act.specs.Deployed.{Deployed}
-use Rattle.sat_act.specs.Done.{made_in}
 use Rattle.sat_act.specs.Histories.{listed}
 use Rattle.sat_act.specs.Parts.{value_of, lane, lane_entry, is_target, is_update}
 use Rattle.sat_act.specs.Answers.{gear_of, base}
@@ -17,12 +15,11 @@ use Rattle.sat_act.specs.Runs.{IsRun}
 use Rattle.sat_act.specs.Goals.{Made, IsValid}
 use Rattle.sat_laws.proofs.Steps.{Step, wrote, moved}
 use Rattle.sat_laws.proofs.Runs.{step_of, before_of, entry}
-use Rattle.sat_laws.proofs.Labels.{made-new}
-use Rattle.sat_laws.proofs.Members.{In, same-label, label-self}
-use Rattle.sat_laws.proofs.Sinks.{not_true}
+use Rattle.sat_laws.proofs.Members.{In}
 use Rattle.sat_laws.proofs.Shows.{in-lane}
 use Rattle.sat_laws.proofs.Values.{value-stays, value-new}
-use Rattle.sat_machine.specs.State.{Payload, SiteState}
+use Rattle.sat_bulk.specs.declared.Payload.{Payload}
+use Rattle.sat_machine.specs.State.{SiteState}
 use Rattle.sat_machine.specs.Input.{SiteInput}
 use Rattle.sat_machine.specs.Input as given
 use Rattle.sat_machine.specs.Next.{site_next, payload_at}

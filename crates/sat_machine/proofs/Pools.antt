@@ -22,7 +22,8 @@ use Rattle.sat_laws.proofs.Members.{In, In-get, In-filter, In-left, same-label, 
 use Rattle.sat_laws.proofs.Sinks.{not_true}
 use Rattle.sat_laws.proofs.Shows.{IsFor, in-lane, Brings, brings-for, for-kept, Showing, showing, by_write, by_turn, by_stamp, waits}
 use Rattle.sat_laws.proofs.Links.{tail_of}
-use Rattle.sat_machine.specs.State.{Payload, SiteState}
+use Rattle.sat_bulk.specs.declared.Payload.{Payload}
+use Rattle.sat_machine.specs.State.{SiteState}
 use Rattle.sat_machine.specs.Input.{SiteInput}
 use Rattle.sat_machine.specs.Input as given
 use Rattle.sat_machine.specs.Look.{payload_in, waiting_of, label_of}

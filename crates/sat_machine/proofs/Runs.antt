@@ -1,5 +1,5 @@
 -- A world without the past gives the answers of the run, and ends as the world that stands for it.
-use Rattle.std.specs.Prelude.{◌≡◌, false, List, ◌∷◌, refl}
+use Rattle.std.specs.Prelude.{◌≡◌, false, List, ◌∷◌}
 use Rattle.sat_act.specs.declared.act.Act.{Act}
 use Rattle.sat_act.specs.declared.entry.Entry.{Entry}
 use Rattle.sat_act.specs.Deployed.{Deployed}

@@ -25,7 +25,8 @@ use Rattle.sat_laws.proofs.Members.{In, same-label, has-in, listed-gives}
 use Rattle.sat_laws.proofs.Sinks.{label_lt-trans, label_lt-self, not_true}
 use Rattle.sat_laws.proofs.Shows.{shows-is, next-stamp-waits, candidate-least}
 use Rattle.sat_laws.proofs.Links.{tail_of}
-use Rattle.sat_machine.specs.State.{Payload, SiteState}
+use Rattle.sat_bulk.specs.declared.Payload.{Payload}
+use Rattle.sat_machine.specs.State.{SiteState}
 use Rattle.sat_machine.specs.Input.{SiteInput}
 use Rattle.sat_machine.specs.Input as given
 use Rattle.sat_machine.specs.Look.{payload_in}

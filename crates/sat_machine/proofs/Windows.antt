@@ -26,7 +26,8 @@ use Rattle.sat_laws.proofs.Members.{In, In-get, same-label, label-self, has-in, 
 use Rattle.sat_laws.proofs.Sinks.{not_true, kept as kept_label}
 use Rattle.sat_laws.proofs.Shows.{in-lane, brings-for}
 use Rattle.sat_laws.proofs.Links.{get-cases, tail_of}
-use Rattle.sat_machine.specs.State.{Payload, SiteState}
+use Rattle.sat_bulk.specs.declared.Payload.{Payload}
+use Rattle.sat_machine.specs.State.{SiteState}
 use Rattle.sat_machine.specs.Input.{SiteInput}
 use Rattle.sat_machine.specs.Input as given
 use Rattle.sat_machine.specs.Look.{top, gap_from, front_in}

@@ -28,7 +28,7 @@ use Rattle.sat_act.specs.Runs.{IsRun}
 use Rattle.sat_act.specs.Goals.{IsValid}
 use Rattle.sat_laws.proofs.Runs.{before_of, entry}
 use Rattle.sat_laws.proofs.Links.{taken-if, tail_of, get-below, taken-below, taking}
-use Rattle.sat_machine.specs.State.{Payload}
+use Rattle.sat_bulk.specs.declared.Payload.{Payload}
 use Rattle.sat_machine.specs.Input.{SiteInput}
 use Rattle.sat_machine.specs.Input as given
 use Rattle.sat_machine.specs.Reply.{site_answer}

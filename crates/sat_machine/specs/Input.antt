@@ -2,7 +2,8 @@
 use Rattle.std.specs.Prelude.{ℕ, List, Option}
 use Rattle.sat_label.specs.declared.label.Label.{Label}
 use Rattle.sat_act.specs.Parts.{BeatNote}
-use Rattle.sat_machine.specs.State.{Payload, Carried}
+use Rattle.sat_label.specs.declared.carried.Carried.{Carried}
+use Rattle.sat_bulk.specs.declared.Payload.{Payload}
 
 pub data SiteInput : Type 0 where
   Tick : (gear ts : ℕ) → SiteInput

@@ -7,7 +7,8 @@ use Rattle.sat_label.specs.Order.{mark, greater_point, label_eq}
 use Rattle.sat_label.specs.Words.{below, has}
 use Rattle.sat_act.specs.Deployed.{Deployed}
 use Rattle.sat_act.specs.Parts.{BeatNote, tree_of, least_label}
-use Rattle.sat_machine.specs.State.{Payload, SiteState}
+use Rattle.sat_bulk.specs.declared.Payload.{Payload}
+use Rattle.sat_machine.specs.State.{SiteState}
 
 -- ---- the sink
 

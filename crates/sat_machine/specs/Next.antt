@@ -8,7 +8,8 @@ use Rattle.sat_act.specs.declared.answer.Answer.{Answer}
 use Rattle.sat_act.specs.declared.answer.Answer.TheVariants as ans
 use Rattle.sat_act.specs.Deployed.{Deployed}
 use Rattle.sat_act.specs.Parts.{BeatNote, is_target, is_update_of, known_by}
-use Rattle.sat_machine.specs.State.{Payload, GearState, SinkState, ViewState, ProxyState, SiteState}
+use Rattle.sat_bulk.specs.declared.Payload.{Payload}
+use Rattle.sat_machine.specs.State.{GearState, SinkState, ViewState, ProxyState, SiteState}
 use Rattle.sat_machine.specs.Input.{SiteInput}
 use Rattle.sat_machine.specs.Input as given
 use Rattle.sat_machine.specs.Look.{cut_of, mode_of, payload_in, best_of}

@@ -9,7 +9,8 @@ use Rattle.sat_act.specs.declared.entry.Entry.{Entry}
 use Rattle.sat_act.specs.Deployed.{Deployed}
 use Rattle.sat_act.specs.Parts.{tree_of, view, seat_in, link_front, value_of, lane, beats, seat, moving, carried}
 use Rattle.sat_act.specs.Answers.{next_of_lane, greatest_promise}
-use Rattle.sat_machine.specs.State.{Carried, SiteState, fresh_site}
+use Rattle.sat_label.specs.declared.carried.Carried.{Carried}
+use Rattle.sat_machine.specs.State.{SiteState, fresh_site}
 use Rattle.sat_machine.specs.Input.{SiteInput}
 use Rattle.sat_machine.specs.Input as given
 use Rattle.sat_machine.specs.Next.{site_next}

@@ -12,7 +12,9 @@ use Rattle.sat_act.specs.declared.answer.Refusal.TheVariants as why
 use Rattle.sat_act.specs.Deployed.{Deployed}
 use Rattle.sat_act.specs.Parts.{BeatNote, replicates, least_label, best_passes, all_others}
 use Rattle.sat_act.specs.Answers.{unless, gear_of, turned}
-use Rattle.sat_machine.specs.State.{Payload, Carried, SiteState}
+use Rattle.sat_label.specs.declared.carried.Carried.{Carried}
+use Rattle.sat_bulk.specs.declared.Payload.{Payload}
+use Rattle.sat_machine.specs.State.{SiteState}
 use Rattle.sat_machine.specs.Input.{SiteInput}
 use Rattle.sat_machine.specs.Input as given
 use Rattle.sat_machine.specs.Look.{rows, least_row, stable_of, ready_of, cut_of, mode_of, waiting_of, best_of, numbers_of}

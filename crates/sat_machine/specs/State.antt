@@ -3,16 +3,8 @@ use Rattle.std.specs.Prelude.{ℕ, Bool, false, List, [], Option, None}
 use Rattle.sat_label.specs.declared.point.Point.{Point}
 use Rattle.sat_label.specs.declared.label.Label.{Label}
 use Rattle.sat_label.specs.Order.{point_at}
+use Rattle.sat_bulk.specs.declared.Payload.{Payload}
 use Rattle.sat_act.specs.Parts.{BeatNote}
-
-pub record Payload : Type 0 where
-  pub label : Label
-  pub value : List ℕ
-
--- a client's point, and the site that it is moving to
-pub record Carried : Type 0 where
-  pub point : Point
-  pub moving : Option ℕ
 
 pub record GearState : Type 0 where
   pub promise : ℕ

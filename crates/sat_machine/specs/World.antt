@@ -18,7 +18,9 @@ use Rattle.sat_act.specs.Deployed.{Deployed}
 use Rattle.sat_act.specs.Done.{is_of, is_kill}
 use Rattle.sat_act.specs.Parts.{BeatNote, Handling, tree_of, seat_in, came_from, goes_beyond, entered, taken, killed, carried, moving, seat, home}
 use Rattle.sat_act.specs.Answers.{unless, at_seat}
-use Rattle.sat_machine.specs.State.{Payload, Carried, SiteState, fresh_site}
+use Rattle.sat_label.specs.declared.carried.Carried.{Carried}
+use Rattle.sat_bulk.specs.declared.Payload.{Payload}
+use Rattle.sat_machine.specs.State.{SiteState, fresh_site}
 use Rattle.sat_machine.specs.Input.{SiteInput}
 use Rattle.sat_machine.specs.Input as given
 use Rattle.sat_machine.specs.Look.{front_of}
