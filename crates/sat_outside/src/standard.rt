@@ -1,7 +1,7 @@
 //! Standard input and output. What they give and take isn't known, only how often they failed.
 ghost use Rattle.std.specs.Prelude.{◌≡◌, ℕ, ◌<◌, ◌≤◌, length, take, [], IfOk, MatchResult};
 ghost use Rattle.std.specs.Io.{ReadsAtMost};
-ghost use Rattle.std.specs.Io.KnownBytes.{ReadConsumes};
+ghost use Rattle.std.specs.Io.KnownBytes.{ReadConsumes, WriteAppends};
 ghost use Rattle.sat_outside.specs.Causes.{CountsFaults, HasCause};
 ghost use Rattle.sat_outside.specs.Streams.{Takes, none_told, none_told-appends};
 
@@ -76,6 +76,7 @@ impl<W: Write + Drop> Sink for StdSink<W> {
         ensures bytes { MatchResult result (λ n. Takes none_told none_told (take n piece.now)) (λ _. Takes none_told none_told []) }
         ensures cause { HasCause self.old.faults self.new.faults result }
         ensures faults { CountsFaults self.old.faults self.new.faults result }
+        ensures written { WriteAppends (W.contents self.old.writer) (W.contents self.new.writer) result piece.now }
     {
         match self.writer.write(piece) {
             Ok(count) if 0 < count => Ok(count),
