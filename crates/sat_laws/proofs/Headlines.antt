@@ -1,5 +1,4 @@
 -- The headline, over every history whose entries have the answers of their acts.
-use Rattle.sat_act.specs.Deployed.{Deployed}
 use Rattle.sat_laws.specs.Claims.{EveryHistoryIsGood}
 use Rattle.sat_laws.proofs.Links.{AllCuttable}
 use Rattle.sat_tree.proofs.Trees.{cuttable}

@@ -4,7 +4,7 @@ use Rattle.std.proofs.Common.{sym, subst, arith, inl, inr, ap, ◌∙◌, length
 use Rattle.std.proofs.lemmas.Bool.Decides.{nat_tests}
 use Rattle.sat_label.specs.declared.label.Label.{Label}
 use Rattle.sat_label.specs.declared.node.NodeId.{NodeId}
-use Rattle.sat_label.specs.declared.node.NodeId.TheVariants.{Site, Serializer}
+use Rattle.sat_label.specs.declared.node.NodeId.TheVariants.{Site}
 use Rattle.sat_label.specs.Order.{node_eq}
 use Rattle.sat_tree.specs.Shape.{TreeShape}
 use Rattle.sat_label.proofs.SameNodes.{same-node, node-self}

@@ -1,7 +1,6 @@
 -- The value of an update stays with its label, and is that of its write.
-use Rattle.std.specs.Prelude.{◌≡◌, ℕ, ◌+◌, Bool, true, false, List, [], ◌∷◌, Option, Some, None, if◌then◌else◌, refl}
+use Rattle.std.specs.Prelude.{◌≡◌, ℕ, ◌+◌, Bool, true, false, List, [], ◌∷◌, Some, None, if◌then◌else◌, refl}
 use Rattle.std.proofs.Common.{sym, subst, inl, inr, ap, ◌∙◌}
-use Rattle.sat_label.specs.declared.label.Kind.{Kind}
 use Rattle.sat_label.specs.declared.label.Label.{Label}
 use Rattle.sat_label.specs.declared.label.Kind.TheVariants as kind
 use Rattle.sat_label.specs.Order.{label_eq, point_at}

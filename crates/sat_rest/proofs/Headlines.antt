@@ -1,11 +1,11 @@
 -- The headline, over the run of every list of acts.
-use Rattle.std.specs.Prelude.{false, ◌-◌, List, [], ◌∷◌, length, refl}
+use Rattle.std.specs.Prelude.{false, List, [], ◌∷◌, refl}
 use Rattle.std.proofs.Common.{inl, inr}
 use Rattle.sat_act.specs.declared.act.Act.{Act}
 use Rattle.sat_act.specs.Deployed.{Deployed}
 use Rattle.sat_act.specs.Answers.{InRange}
 use Rattle.sat_act.specs.Runs.{IsRun}
-use Rattle.sat_act.specs.Settling.{run, answer_of, with_inner, settle, capped}
+use Rattle.sat_act.specs.Settling.{run, answer_of, with_inner}
 use Rattle.sat_rest.proofs.Settles.{settle-after}
 use Rattle.sat_laws.proofs.Runs.{entry}
 use Rattle.sat_act.specs.declared.entry.Entry.{Entry}

@@ -1,5 +1,5 @@
 -- A path leads from each node to each other site, and beyond an edge lie the sites whose path begins with it.
-use Rattle.std.proofs.Common.{◌≡◌, ◌≢◌, ◌⊎◌, inl, inr, ◌<◌, ◌≤◌, ◌+◌, ℕ, zero, suc, max, Bool, true, false, ◌==◌, List, [], ◌∷◌, ◌++◌, length, Some, refl, sym, ap, subst, ◌∙◌, arith}
+use Rattle.std.proofs.Common.{◌≡◌, ◌≢◌, inl, inr, ◌<◌, ◌≤◌, ◌+◌, ℕ, zero, suc, max, false, List, [], ◌∷◌, ◌++◌, length, Some, refl, sym, ap, subst, arith}
 use Rattle.std.proofs.lemmas.Bool.{cases_lt}
 use Rattle.std.proofs.Math.Nat.{eq-or-lt_of_le}
 use Rattle.sat_label.specs.declared.node.NodeId.{NodeId}
@@ -7,7 +7,7 @@ use Rattle.sat_label.specs.declared.node.NodeId.TheVariants.{Site, Serializer}
 use Rattle.sat_label.specs.Order.{node_eq}
 use Rattle.sat_label.specs.Words.{has}
 use Rattle.sat_tree.specs.Shape.{TreeShape}
-use Rattle.sat_tree.specs.Cut.{IsTree, IsNode, parent_of, seat_of, is_edge, beyond}
+use Rattle.sat_tree.specs.Cut.{IsTree, IsNode, parent_of, seat_of}
 use Rattle.sat_tree.specs.Laws.{Path, stays, steps}
 use Rattle.sat_tree.proofs.Ways.{Lower, lower-more, lower-push, lower-free, lower-no-site, has-append, other-number, goes-on, parent-up, parent-down, seat-up, seat-down}
 
