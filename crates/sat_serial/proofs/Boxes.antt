@@ -114,6 +114,15 @@ taken-first v nodes queues k q r left same at here split rest =
     let box : box_of v nodes (labels_in queues) ≡ q.items = (placed v nodes (labels_in queues) k (length-labels queues ∙ same) at).0 ∙ (queue-at queues k q less ∙ sym (ap (λ (p : VecDeque Label _). p.items) here)) in
     first q.items r (split ∙ ap (λ (xs : List Label). option_to_list r ++ xs) rest) ∙ ap (λ (xs : List Label). slice_get xs 0) (sym box)
 
+-- the oldest label of the queue of a node is that of its outbox
+pub oldest-of : {Z : Type 0} (v : NodeId) (nodes : List NodeId) (queues : List (VecDeque Label Z)) (k : ℕ) (q : VecDeque Label Z) (r : Option Label) →
+    length queues ≡ length nodes → position (node_eq v) nodes ≡ Some k → q ≡ get_or queues k q → r ≡ slice_get q.items 0 → r ≡ slice_get (box_of v nodes (labels_in queues)) 0
+unfolding AtPlace
+oldest-of v nodes queues k q r same at here front =
+    let less : k < length queues = subst (λ (n : ℕ). k < n) (sym same) (within v nodes k at) in
+    let box : box_of v nodes (labels_in queues) ≡ q.items = (placed v nodes (labels_in queues) k (length-labels queues ∙ same) at).0 ∙ (queue-at queues k q less ∙ sym (ap (λ (p : VecDeque Label _). p.items) here)) in
+    front ∙ ap (λ (xs : List Label). slice_get xs 0) (sym box)
+
 -- and what is left are the outboxes without it
 pub taken-rest : {Z : Type 0} (v : NodeId) (nodes : List NodeId) (queues : List (VecDeque Label Z)) (k : ℕ) (q p : VecDeque Label Z) →
     length queues ≡ length nodes → position (node_eq v) nodes ≡ Some k → q ≡ get_or queues k q → p.items ≡ drop 1 q.items →

@@ -39,14 +39,14 @@ or-false false = refl
 any-more : (f : ℕ → Bool) (n : ℕ) → list_any f (below (suc n)) ≡ (list_any f (below n) || f n)
 any-more f n = list_any-append f (below n) (n ∷ []) ∙ ap (λ b. list_any f (below n) || b) (or-false (f n))
 
-some-below : (f : ℕ → Bool) (n : ℕ) → list_any f (below n) ≡ true → (k : ℕ) × (k < n) × (f k ≡ true)
+pub some-below : (f : ℕ → Bool) (n : ℕ) → list_any f (below n) ≡ true → (k : ℕ) × (k < n) × (f k ≡ true)
 some-below f zero e = absurd (cc)
 some-below f (suc n) e = elim (or_cases (list_any f (below n)) (f n) (sym (any-more f n) ∙ e)) [
   | inl there ↦ let rest : (k : ℕ) × (k < n) × (f k ≡ true) = some-below f n there in (rest.0, omega arith, rest.2)
   | inr here ↦ (n, omega arith, here)
 ]
 
-below-some : (f : ℕ → Bool) (n k : ℕ) → k < n → f k ≡ true → list_any f (below n) ≡ true
+pub below-some : (f : ℕ → Bool) (n k : ℕ) → k < n → f k ≡ true → list_any f (below n) ≡ true
 below-some f zero k less e = absurd (omega arith)
 below-some f (suc n) k less e = any-more f n ∙ elim (cases_eq k n) [
   | inl same ↦ or-right (list_any f (below n)) (f n) (subst (λ (m : ℕ). f m ≡ true) same e)

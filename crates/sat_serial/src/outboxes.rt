@@ -1,5 +1,5 @@
 //! The outboxes of one serializer: a queue of labels for each neighbour, in the order of the neighbours.
-ghost use Rattle.std.specs.Prelude.{◌≡◌, ◌<◌, ◌++◌, [], ◌∷◌, length, drop, replicate, IfOk, OnOk};
+ghost use Rattle.std.specs.Prelude.{◌≡◌, ◌<◌, ◌++◌, [], ◌∷◌, length, drop, replicate, slice_get, IfOk, OnOk};
 ghost use Rattle.std.specs.List.{All};
 ghost use Rattle.std.specs.Option.{option_to_list};
 ghost use Rattle.sat_tree.specs.Cut.{neighbours};
@@ -57,6 +57,13 @@ pub fn add_copies(
             outboxes[place].push_back_reserved(*label);
         }
     }
+}
+
+/// The oldest label in an outbox, None where it is empty.
+pub fn oldest(outbox: &VecDeque<Label>) -> Option<Label>
+    ensures { result ≡ slice_get outbox.now.items 0 }
+{
+    outbox.front().copied()
 }
 
 /// Takes the oldest label out of an outbox, None where it is empty.

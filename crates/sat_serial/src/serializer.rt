@@ -90,6 +90,18 @@ impl Serializer {
         self.router.route(alloc, interest, from, label)
     }
 
+    /// The oldest label in the outbox of a neighbour, None where it is empty. It stays there.
+    pub fn front(&self, to: NodeId) -> Option<Label>
+        requires { IsNeighbour self.now.tree self.now.number to }
+        ensures label { result ≡ slice_get (outbox self.now to) 0 }
+        ensures limits { IsSerializer self.now }
+    {
+        let Some(place) = self.router.place(to) else {
+            return None;
+        };
+        outboxes::oldest(&self.outboxes[place])
+    }
+
     /// Takes the oldest label out of the outbox of a neighbour, None where it is empty. It takes no memory, and works after a
     /// kill too.
     pub fn ship(&mut self, to: NodeId) -> Option<Label>

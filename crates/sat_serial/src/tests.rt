@@ -83,6 +83,12 @@ impl Root {
         Ok(nodes)
     }
 
+    fn front(&self, to: NodeId) -> Option<Label>
+        requires { IsNeighbour five_sites 0 to }
+    {
+        self.serializer.front(to)
+    }
+
     fn ship(&mut self, to: NodeId) -> Option<Label>
         requires { IsNeighbour five_sites 0 to }
     {
@@ -132,7 +138,9 @@ fn labels_are_shipped_in_order(rt: HostRuntime) -> Result<(), Fail> {
         [NodeId::Serializer(2)].as_slice()
     );
     root.handle(2)?;
+    assert_eq!(rt; root.front(NodeId::Serializer(2)), Some(update_at(1)));
     assert_eq!(rt; root.ship(NodeId::Serializer(2)), Some(update_at(1)));
+    assert_eq!(rt; root.front(NodeId::Serializer(1)), None);
     assert_eq!(rt; root.ship(NodeId::Serializer(1)), None);
     assert_eq!(rt; root.ship(NodeId::Site(0)), None);
     assert_eq!(rt; root.ship(NodeId::Serializer(2)), Some(update_at(2)));

@@ -107,6 +107,14 @@ impl Interest {
         Ok(Interest { sites, replicas })
     }
 
+    /// How many items there are.
+    pub fn items(&self) -> usize
+        ensures items { result ≡ length self.now.replicas }
+        ensures limits { IsInterest self.now }
+    {
+        self.replicas.len()
+    }
+
     /// The sites that keep an item.
     pub fn replicas(&self, item: u16) -> SiteSet
         requires { item < length self.now.replicas }

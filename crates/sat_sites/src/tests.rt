@@ -31,6 +31,7 @@ fn targets_are_those_of_the_kind(rt: HostRuntime) -> Result<(), Fail> {
     }
     .copy()?;
     let interest = shape.interest;
+    assert_eq!(rt; interest.items(), 2);
     assert_eq!(rt; interest.replicas(1), SiteSet::one(1));
     assert_eq!(rt;
         interest.targets(&label(0, Kind::Update(0))),

@@ -1,0 +1,269 @@
+//! Gears.
+ghost use Rattle.std.specs.Prelude.{ℕ, ◌≡◌, ◌≤◌, ◌<◌, ◌↔◌, ◌^◌, length, max, true, false, slice_get, Some, None, IfOk, IfSome, IsErrOf, IsOkUnless, OnErr, MatchOption, OnOk, ◌+◌, ◌/◌, if◌then◌else◌};
+ghost use Rattle.sat_label.specs.declared.label.Kind.TheVariants.{Update, Move};
+ghost use Rattle.sat_store.specs.Stored.{is_kept};
+ghost use Rattle.sat_label.specs.Order.{point_at};
+ghost use Rattle.sat_gear.specs.Gear.{after_drain, base, drained_of, fresh_gear, is_spent, lane_to, made, numbers_of, places, shown, stamped, ticked, version_of, wrote, IsGear, IsItemOf, IsKindHere, IsNext, IsShape};
+
+use crate::lanes::Lanes;
+use crate::{GearFault, Stamped};
+use sat_bulk::{Drained, Payload};
+use sat_label::{Kind, Label, Labels, Point, TS_END, Value};
+use sat_sites::Shape;
+use sat_store::{Put, Store, Version};
+use std::alloc::{AllocError, Global};
+use std::marker::Model;
+
+/// One gear of a site. Contracts see what it was made from; its promise, and what that was at the last drain; the labels that
+/// it made since then; for each site the payloads that it made for it; and the versions of its items.
+#[derive(Drop)]
+pub struct Gear {
+    alloc: Global,
+    shape: Shape,
+    gear: u16,
+    promise: u64,
+    drained: u64,
+    fresh: Vec<Label>,
+    lanes: Lanes,
+    store: Store,
+}
+
+impl Model for Gear {
+    ghost use Rattle.sat_gear.specs.Gear.{GearSeen, IsGear};
+
+    ghost Value = { GearSeen };
+
+    ghost view = { λ a. record { shape = a.shape; gear = a.gear; promise = a.promise; drained = a.drained; fresh = a.fresh.items; lanes = a.lanes; versions = a.store } };
+
+    ghost invariant = { λ a. IsGear (record { shape = a.shape; gear = a.gear; promise = a.promise; drained = a.drained; fresh = a.fresh.items; lanes = a.lanes; versions = a.store }) };
+}
+
+// How many places a store for one of so many gears needs, None where it can't have so many.
+fn places(items: usize, gears: u16) -> Option<u16>
+    requires { 0 < gears }
+    ensures { IfSome result (λ n. n ≡ places items gears) }
+{
+    let most = items / gears as usize;
+    if most >= 65535 {
+        return None;
+    }
+    Some(most as u16 + 1)
+}
+
+impl Gear {
+    /// The gear with this number of a site, which has promised and made nothing. It asks for a shape of at least one gear
+    /// whose site is one of the sites that its interest is for. A store has at most 65,535 places: no memory can be had for more.
+    pub fn new(alloc: Global, shape: &Shape, gear: u16) -> Result<Gear, AllocError>
+        requires shape { IsShape shape.now }
+        requires gear { gear < shape.now.gears }
+        ensures { IfOk result (λ made. made ≡ fresh_gear shape.now gear) }
+    {
+        let shape = shape.copy()?;
+        let lanes = Lanes::new(alloc, shape.sites)?;
+        let Some(places) = places(shape.interest.items(), shape.gears) else {
+            return Err(AllocError);
+        };
+        let store = Store::new(alloc, places)?;
+        Ok(Gear {
+            alloc,
+            shape,
+            gear,
+            promise: 0,
+            drained: 0,
+            fresh: Vec::new(alloc),
+            lanes,
+            store,
+        })
+    }
+
+    /// The timestamp up to which the gear makes no label any more.
+    pub fn promise(&self) -> u64
+        ensures promise { result ≡ self.now.promise }
+        ensures limits { IsGear self.now }
+    {
+        self.promise
+    }
+
+    /// Raises the promise to at least this timestamp, and answers it. It takes no memory.
+    pub fn tick(&mut self, t: u64) -> u64
+        requires { t ≤ 2 ^ 62 }
+        ensures promise { result ≡ max self.old.promise t }
+        ensures new { self.new ≡ ticked self.old t }
+    {
+        self.promise = self.promise.max(t);
+        self.promise
+    }
+
+    // The place of an item among those of this gear.
+    fn place(&self, item: u16) -> u16
+        requires { IsItemOf self.now item }
+        ensures place { result ≡ item / self.now.shape.gears }
+        ensures within { result < length self.now.versions }
+    {
+        item / self.shape.gears
+    }
+
+    // The timestamp of the next label for a client that saw a point, None where no timestamp is left.
+    fn next(&self, seen: Point) -> Option<u64>
+        ensures { result ≡ (if is_spent self.now seen then None else Some (base self.now seen + 1)) }
+    {
+        let base = self.promise.max(seen.ts);
+        if base >= TS_END {
+            return None;
+        }
+        Some(base + 1)
+    }
+
+    /// Stamps an update of an item for a client that saw a point: its timestamp is the one above the gear's promise and the
+    /// client's point, and is the new promise. The update shows here, and joins the lanes of its targets. `Spent` says that no
+    /// timestamp is left; then, and for want of memory, all is as before.
+    pub fn write(&mut self, seen: Point, item: u16, value: Value) -> Result<Stamped, GearFault>
+        requires { IsItemOf self.old item }
+        ensures spent { is_spent self.old seen ≡ true → IsErrOf result GearFault.Spent }
+        ensures ok { is_spent self.old seen ≡ false → IsOkUnless result GearFault.Memory }
+        ensures label { IfOk result (λ s. s.label ≡ stamped self.old seen (Update item)) }
+        ensures numbers { IfOk result (λ s. s.numbers ≡ numbers_of self.old s.label) }
+        ensures new { IfOk result (λ s. self.new ≡ wrote self.old item (record { label = s.label; value = value })) }
+        ensures err { OnErr result (self.new ≡ self.old) }
+    {
+        let Some(ts) = self.next(seen) else {
+            return Err(GearFault::Spent);
+        };
+        let label = self.label(ts, Kind::Update(item));
+        Ok(self.add(label, item, value)?)
+    }
+
+    // A label of this gear.
+    fn label(&self, ts: u64, kind: Kind) -> Label
+        ensures { result ≡ record { point = point_at ts self.now.shape.site self.now.gear; kind = kind } }
+    {
+        Label {
+            point: Point {
+                ts,
+                site: self.shape.site,
+                gear: self.gear,
+            },
+            kind,
+        }
+    }
+
+    // Takes in an update of an item that was just stamped.
+    fn add(&mut self, label: Label, item: u16, value: Value) -> Result<Stamped, AllocError>
+        requires item { IsItemOf self.old item }
+        requires next { IsNext self.old label }
+        requires kind { label.kind ≡ Update item }
+        ensures label { IfOk result (λ s. s.label ≡ label) }
+        ensures numbers { IfOk result (λ s. s.numbers ≡ numbers_of self.old label) }
+        ensures new { OnOk result (self.new ≡ wrote self.old item (record { label = label; value = value })) }
+        ensures err { OnErr result (self.new ≡ self.old) }
+    {
+        let place = self.place(item);
+        let targets = self.shape.interest.targets(&label);
+        let sent = value.copy()?;
+        self.fresh.reserve(1)?;
+        let numbers = self.lanes.add(targets, Payload { label, value: sent })?;
+        self.fresh.push_reserved(label);
+        self.store.put(place, label, value);
+        self.promise = label.point.ts;
+        Ok(Stamped { label, numbers })
+    }
+
+    /// Stamps a move to a site for a client that saw a point, as `write` does. It asks for gear 0, which stamps the moves.
+    pub fn stamp_move(&mut self, seen: Point, to: u16) -> Result<Label, GearFault>
+        requires gear { self.old.gear ≡ 0 }
+        requires site { to < self.old.shape.sites }
+        ensures spent { is_spent self.old seen ≡ true → IsErrOf result GearFault.Spent }
+        ensures ok { is_spent self.old seen ≡ false → IsOkUnless result GearFault.Memory }
+        ensures label { IfOk result (λ l. l ≡ stamped self.old seen (Move to)) }
+        ensures new { IfOk result (λ l. self.new ≡ made self.old l) }
+        ensures err { OnErr result (self.new ≡ self.old) }
+    {
+        let Some(ts) = self.next(seen) else {
+            return Err(GearFault::Spent);
+        };
+        let label = self.label(ts, Kind::Move(to));
+        self.make(label)?;
+        Ok(label)
+    }
+
+    // Takes in a move that was just stamped.
+    fn make(&mut self, label: Label) -> Result<(), AllocError>
+        requires next { IsNext self.old label }
+        requires kind { IsKindHere self.old label.kind }
+        ensures ok { OnOk result (self.new ≡ made self.old label) }
+        ensures err { OnErr result (self.new ≡ self.old) }
+    {
+        self.fresh.push(label)?;
+        self.promise = label.point.ts;
+        Ok(())
+    }
+
+    /// Shows an update of another site: the version with the greater label stays. The promise stays. It takes no memory.
+    pub fn show(&mut self, payload: Payload) -> Put
+        requires { (x : ℕ) × (payload.label.kind ≡ Update x) × IsItemOf self.old x }
+        ensures new { (x : ℕ) → payload.label.kind ≡ Update x → self.new ≡ shown self.old x payload }
+        ensures kept { (x : ℕ) → payload.label.kind ≡ Update x → result ≡ Put.Kept ↔ is_kept (version_of self.old x) payload.label }
+    {
+        let Payload { label, value } = payload;
+        let Kind::Update(item) = label.kind else {
+            unreachable!();
+        };
+        let place = self.place(item);
+        self.store.put(place, label, value)
+    }
+
+    /// The version of an item of this gear, None exactly where it shows none.
+    pub fn read(&self, item: u16) -> Option<&Version>
+        requires { IsItemOf self.now item }
+        ensures { MatchOption result (version_of self.now item ≡ None) (λ version. version_of self.now item ≡ Some version.now) }
+    {
+        let place = self.place(item);
+        self.store.get(place)
+    }
+
+    /// The payload with this number of those made for a site, None exactly where there is none.
+    pub fn payload(&self, to: u16, number: u64) -> Option<&Payload>
+        requires { to < self.now.shape.sites }
+        ensures payload { MatchOption result (slice_get (lane_to self.now to) number ≡ None) (λ payload. slice_get (lane_to self.now to) number ≡ Some payload.now) }
+        ensures limits { IsGear self.now }
+    {
+        self.lanes.at(to, number)
+    }
+
+    /// What `drain` would give. It changes nothing.
+    pub fn undrained(&self) -> Result<Drained, AllocError>
+        ensures drained { IfOk result (λ drained. drained ≡ drained_of self.now) }
+        ensures limits { IsGear self.now }
+    {
+        let mut labels = Labels::new(self.alloc);
+        for label in self.fresh.iter() {
+            labels.push(*label)?;
+        }
+        let counts = self.lanes.counts(self.alloc)?;
+        Ok(Drained {
+            labels,
+            promise: self.promise,
+            counts,
+        })
+    }
+
+    /// Makes the gear as after `drain`. It takes no memory.
+    pub fn drained(&mut self)
+        ensures { self.new ≡ after_drain self.old }
+    {
+        self.drained = self.promise;
+        self.fresh.clear();
+    }
+
+    /// The labels made since the last drain, the promise, and how many payloads were made for each site. For want of memory all
+    /// is as before.
+    pub fn drain(&mut self) -> Result<Drained, AllocError>
+        ensures drained { IfOk result (λ drained. drained ≡ drained_of self.old) }
+        ensures new { IfOk result (λ drained. self.new ≡ after_drain self.old) }
+        ensures err { OnErr result (self.new ≡ self.old) }
+    {
+        let drained = self.undrained()?;
+        self.drained();
+        Ok(drained)
+    }
+}
