@@ -1,0 +1,71 @@
+-- What a site shows is what the machine keeps.
+use Rattle.std.specs.Prelude.{◌≡◌, ◌<◌, ◌%◌, ℕ, true, false, List, length, get_or, Option, Some, None, slice_get, IfSome, MatchOption, refl}
+use Rattle.std.proofs.Common.{Bor, subst, ap, sym, ◌∙◌}
+use Rattle.std.proofs.lemmas.List.{get_or_default}
+use Rattle.sat_bulk.specs.declared.Payload.{Payload}
+use Rattle.sat_sites.specs.declared.shape.Shape.{Shape}
+use Rattle.sat_sites.specs.Interested.{is_for}
+use Rattle.sat_store.specs.declared.store.Version.{Version}
+use Rattle.sat_gear.specs.Gear.{GearSeen, IsGear, IsInLane, lane_to, version_of}
+use Rattle.sat_act.specs.Deployed.{Deployed}
+use Rattle.sat_machine.specs.State.{SiteState}
+use Rattle.sat_machine.specs.Look.{front_in, front_of}
+use Rattle.sat_site.specs.Seen.{SiteSeen, IsSite, IsGearAt, lane_place, taken_of}
+use Rattle.sat_site.specs.Stands.{StandsSite, payload_of}
+use Rattle.sat_site.specs.Changes.{HasGear, gear_at}
+use Rattle.sat_site.specs.Does.{keeps_item}
+use Rattle.sat_site.specs.Gives.{IsOfLane}
+use Rattle.sat_site.proofs.Lanes.{front-below}
+use Rattle.sat_site.proofs.Lists.{same-get}
+use Rattle.sat_site.proofs.Writes.{shows-none, shows-some}
+
+pub front-is : (d : Deployed) (i : ℕ) (x : SiteSeen) (s : SiteState) (from gear n : ℕ) → from < x.shape.sites → gear < x.shape.gears → n ≡ taken_of x from gear → StandsSite d i x s → n ≡ front_of s from gear
+front-is d i x s from gear n lf lg e st =
+    e ∙ sym (ap front_in (st.taken from gear (subst (λ (m : ℕ). from < m) st.sites lf) (subst (λ (m : ℕ). gear < m) st.count lg)) ∙ front-below (taken_of x from gear))
+
+pub absent-version : (d : Deployed) (i : ℕ) (x : SiteSeen) (s : SiteState) (g n : ℕ) (gear : GearSeen) → IsSite x → HasGear x g gear → g ≡ n % x.shape.gears → n < length x.shape.interest.replicas → keeps_item x n ≡ false → StandsSite d i x s → s.store n ≡ None
+absent-version d i x s g n gear k at e item unkept st =
+    let here : HasGear x (gear_at x n) gear = subst (λ (g : ℕ). HasGear x g gear) e at in
+    shows-none d i x s n gear item here ((k.gears (gear_at x n) gear here).absent n refl unkept) st
+
+pub no-version : (d : Deployed) (i : ℕ) (x : SiteSeen) (s : SiteState) (g n : ℕ) (gear : GearSeen) → HasGear x g gear → g ≡ n % x.shape.gears → n < length x.shape.interest.replicas → StandsSite d i x s → version_of gear n ≡ None → s.store n ≡ None
+no-version d i x s g n gear at e item st none = shows-none d i x s n gear item (subst (λ (g : ℕ). HasGear x g gear) e at) none st
+
+pub some-version : (d : Deployed) (i : ℕ) (x : SiteSeen) (s : SiteState) (g n : ℕ) (gear : GearSeen) (v : Version) → HasGear x g gear → g ≡ n % x.shape.gears → n < length x.shape.interest.replicas → StandsSite d i x s → version_of gear n ≡ Some v → s.store n ≡ payload_of (Some v)
+some-version d i x s g n gear v at e item st some = shows-some d i x s n gear v item (subst (λ (g : ℕ). HasGear x g gear) e at) some st
+
+-- the lane of a gear is the machine's
+pub lane-same : (d : Deployed) (i : ℕ) (x : SiteSeen) (s : SiteState) (g to n : ℕ) (gear : GearSeen) (o : Option Payload) → HasGear x g gear → to < x.shape.sites → StandsSite d i x s → slice_get (lane_to gear to) n ≡ o → slice_get ((s.gears g).lanes to) n ≡ o
+lane-same d i x s g to n gear o at lt st e = ap (λ (ps : List Payload). slice_get ps n) (sym ((st.gears g gear at).lanes to (subst (λ (m : ℕ). to < m) st.sites lt))) ∙ e
+
+pub of-lane : (x : SiteSeen) (g to n : ℕ) (gear : GearSeen) (p : Payload) → IsSite x → HasGear x g gear → IsGear gear → slice_get (lane_to gear to) n ≡ Some p → IsOfLane x.shape g to p
+of-lane x g to n gear p k at good e =
+    let q : IsInLane gear to p = good.payloads to n p e in
+    let a : IsGearAt x.shape x.sink g gear = k.gears g gear at in
+    record {
+      made_at = q.site ∙ (λ j. (a.shape j).site);
+      made_by = q.gear ∙ a.number;
+      item = (q.kind.0, q.kind.1, subst (λ (s : Shape). q.kind.0 < length s.interest.replicas) a.shape q.kind.2.item);
+      target = subst (λ (s : Shape). is_for s.interest p.label to ≡ true) a.shape q.target;
+    }
+
+pub version-shown : (d : Deployed) (i : ℕ) (x : SiteSeen) (s : SiteState) (g n : ℕ) (gear : GearSeen) (o : Option (Bor Version)) → HasGear x g gear → g ≡ n % x.shape.gears → n < length x.shape.interest.replicas → StandsSite d i x s → MatchOption o (version_of gear n ≡ None) (λ v. version_of gear n ≡ Some v.now) →
+    MatchOption o (s.store n ≡ None) (λ v. s.store n ≡ payload_of (Some v.now))
+version-shown d i x s g n gear None at e item st h = no-version d i x s g n gear at e item st h
+version-shown d i x s g n gear (Some v) at e item st h = some-version d i x s g n gear v.now at e item st h
+
+pub payload-shown : (d : Deployed) (i : ℕ) (x : SiteSeen) (s : SiteState) (g to n : ℕ) (gear : GearSeen) (o : Option (Bor Payload)) → HasGear x g gear → to < x.shape.sites → StandsSite d i x s → MatchOption o (slice_get (lane_to gear to) n ≡ None) (λ p. slice_get (lane_to gear to) n ≡ Some p.now) →
+    MatchOption o (slice_get ((s.gears g).lanes to) n ≡ None) (λ p. slice_get ((s.gears g).lanes to) n ≡ Some p.now)
+payload-shown d i x s g to n gear None at lt st h = lane-same d i x s g to n gear None at lt st h
+payload-shown d i x s g to n gear (Some p) at lt st h = lane-same d i x s g to n gear (Some p.now) at lt st h
+
+pub payload-lane : (x : SiteSeen) (g to n : ℕ) (gear : GearSeen) (o : Option (Bor Payload)) → IsSite x → HasGear x g gear → IsGear gear → MatchOption o (slice_get (lane_to gear to) n ≡ None) (λ p. slice_get (lane_to gear to) n ≡ Some p.now) → IfSome o (λ p. IsOfLane x.shape g to p.now)
+payload-lane x g to n gear None k at good h = tt
+payload-lane x g to n gear (Some p) k at good h = of-lane x g to n gear p.now k at good h
+
+pub promise-same : (x : SiteSeen) (g n : ℕ) (gear new : GearSeen) → HasGear x g gear → n ≡ gear.promise → HasGear x g new → n ≡ new.promise
+promise-same x g n gear new at e there = e ∙ ap (λ (y : GearSeen). y.promise) (same-get x.gears g gear new at there)
+
+pub taken-same : (w v : SiteSeen) (from gear place n : ℕ) → w ≡ v → place < length v.taken → n ≡ get_or w.taken place n → place ≡ lane_place v from gear → n ≡ taken_of v from gear
+taken-same w v from gear place n same lt e f =
+    e ∙ (ap (λ (x : SiteSeen). get_or x.taken place n) same ∙ (get_or_default v.taken place n 0 lt ∙ ap (λ (m : ℕ). get_or v.taken m 0) f))

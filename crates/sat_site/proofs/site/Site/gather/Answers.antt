@@ -1,0 +1,33 @@
+use Rattle.std.specs.List.{flat_map}
+use Rattle.std.specs.Result.{result_ok}
+use Rattle.sat_sink.specs.Pending.{labels_of}
+use Rattle.std.proofs.Common.{◌≡◌, List, length, map, subst, sym, ap, ◌∙◌, arith}
+use Rattle.std.proofs.lemmas.List.{take_at}
+use Rattle.sat_bulk.specs.declared.Drained.{Drained}
+use Rattle.sat_gear.specs.Gear.{after_drain, drained_of}
+use Rattle.sat_sink.specs.Sink.{IsDrain, gathered}
+use Rattle.sat_site.specs.Changes.{AreGears}
+use Rattle.sat_site.proofs.Sound.{drains}
+use Rattle.sat_site.proofs.Deeds.{gather-site, did-gather, counted}
+use Rattle.sat_site.proofs.site.Site.gather.Goals as goal
+
+pub gather-requires : goal.gather-requires
+gather-requires c =
+    let d : c.deref-3.result.now ≡ map drained_of c.self.inside.gears.items = c.deref-3.ensures.value ∙ (c.in_ok-drained.ensures.drained ∙ ap (map drained_of) c.deref.ensures.value) in
+    subst (IsDrain c.self.inside.sink) (sym d) (drains _ c.self.invariant (subst AreGears c.deref.ensures.value c.in_ok-drained.ensures.limits))
+
+pub invariant_of-self-2 : goal.invariant_of-self-2
+invariant_of-self-2 c =
+    let d : c.deref-3.result.now ≡ map drained_of c.self.inside.gears.items = c.deref-3.ensures.value ∙ (c.in_ok-drained.ensures.drained ∙ ap (map drained_of) c.deref.ensures.value) in
+    gather-site _ _ _ c.self.invariant
+    (◌∙◌ {b = c.drain_all.new.gears} (take_at _ _ _ (omega arith)) (c.drain_all.ensures ∙ ap (map after_drain) c.deref_mut.ensures.value))
+    (c.in_ok-gather.ensures.ok ∙ ap (gathered c.self.inside.sink) d)
+
+pub returns-clause-does : goal.returns-clause-does
+returns-clause-does c =
+    let d : c.deref-3.result.now ≡ map drained_of c.self.inside.gears.items = c.deref-3.ensures.value ∙ (c.in_ok-drained.ensures.drained ∙ ap (map drained_of) c.deref.ensures.value) in
+    did-gather _ _ _ _ _ _ c.self.view_is
+    (◌∙◌ {b = c.drain_all.new.gears} (take_at _ _ _ (omega arith)) (c.drain_all.ensures ∙ ap (map after_drain) c.deref_mut.ensures.value))
+    (c.in_ok-gather.ensures.ok ∙ ap (gathered c.self.inside.sink) d)
+    (counted c.count_labels.result c.in_ok-labels.labels _ c.count_labels.ensures (c.ok_or.ensures.ok_part ∙ ap result_ok c.in_ok-labels.was) ∙ ap (λ (ds : List Drained). length (flat_map labels_of ds)) (c.deref-2.ensures.value ∙ (c.in_ok-drained.ensures.drained ∙ ap (map drained_of) c.deref.ensures.value)))
+    c.stable.ensures

@@ -1,0 +1,72 @@
+-- What the calls of a site make of what it keeps.
+use Rattle.std.specs.Prelude.{ℕ, ◌≡◌, ◌+◌, ◌*◌, ◌%◌, List, [], ◌∷◌, ◌++◌, map, replicate, set, slice_get, Some}
+use Rattle.std.specs.List.{remove}
+use Rattle.sat_label.specs.declared.label.Label.{Label}
+use Rattle.sat_label.specs.Words.{below}
+use Rattle.sat_bulk.specs.declared.Payload.{Payload}
+use Rattle.sat_sites.specs.declared.shape.Shape.{Shape}
+use Rattle.sat_gear.specs.Gear.{GearSeen, IsGear, after_drain, drained_of, fresh_gear, ticked}
+use Rattle.sat_sink.specs.Sink.{emitted, fresh_sink, gathered}
+use Rattle.sat_act.specs.Deployed.{Deployed}
+use Rattle.sat_site.specs.Seen.{SiteSeen, lane_place, taken_of}
+use Rattle.sat_site.specs.Stands.{interest_of}
+
+abbrev pub with_gear : SiteSeen → ℕ → GearSeen → SiteSeen
+with_gear x g gear = record x { gears = set x.gears g gear }
+
+abbrev pub ticked_to : ℕ → GearSeen → GearSeen
+ticked_to t gear = ticked gear t
+
+-- each gear's promise is raised to a timestamp
+abbrev pub clocked : SiteSeen → ℕ → SiteSeen
+clocked x t = record x { gears = map (ticked_to t) x.gears }
+
+abbrev pub fresh_of : GearSeen → List Label
+fresh_of gear = gear.fresh
+
+-- the sink has what the gears made since the last gather
+abbrev pub gathered_all : SiteSeen → SiteSeen
+gathered_all x = record x { gears = map after_drain x.gears; sink = gathered x.sink (map drained_of x.gears) }
+
+abbrev pub sent : SiteSeen → Label → SiteSeen
+sent x l = record x { sink = emitted x.sink l }
+
+-- the n-th waiting payload was handed to gear g
+abbrev pub showed : SiteSeen → ℕ → GearSeen → ℕ → SiteSeen
+showed x g gear n = record x { gears = set x.gears g gear; waiting = remove x.waiting n }
+
+-- one payload more waits, and one more of its lane was taken
+abbrev pub brought : SiteSeen → ℕ → ℕ → Payload → SiteSeen
+brought x from gear p = record x { taken = set x.taken (lane_place x from gear) (taken_of x from gear + 1); waiting = x.waiting ++ p ∷ [] }
+
+-- what is true of each gear of a list
+abbrev pub AreGears : List GearSeen → Type 0
+AreGears gears = (g : ℕ) (gear : GearSeen) → slice_get gears g ≡ Some gear → IsGear gear
+
+-- the gear of an item
+abbrev pub gear_at : SiteSeen → ℕ → ℕ
+gear_at x n = n % x.shape.gears
+
+abbrev pub HasGear : SiteSeen → ℕ → GearSeen → Type 0
+HasGear x g gear = slice_get x.gears g ≡ Some gear
+
+-- a payload with this label, one of a list, and the list without it
+pub record IsTaken (ps : List Payload) (l : Label) (p : Payload) (qs : List Payload) : Type 0 where
+  pub place : ℕ
+  pub at : slice_get ps place ≡ Some p
+  pub label : p.label ≡ l
+  pub rest : qs ≡ remove ps place
+
+-- what the parts of site i of a deployment are made from
+abbrev pub shape_for : Deployed → ℕ → Shape
+shape_for d i = record { sites = d.sites; gears = d.gears; site = i; interest = interest_of d }
+
+-- a site of a shape, at which nothing has happened
+abbrev pub fresh_seen : Shape → SiteSeen
+fresh_seen shape = record {
+  shape = shape;
+  gears = map (fresh_gear shape) (below shape.gears);
+  sink = fresh_sink shape.site shape.gears;
+  taken = replicate (shape.sites * shape.gears) 0;
+  waiting = [];
+}

@@ -1,0 +1,6 @@
+pub mod Seen
+pub mod Changes
+pub mod Inputs
+pub mod Stands
+pub mod Gives
+pub mod Does
