@@ -1,247 +1,359 @@
--- What the code does in an act is the step of the machine, and so the answer and the entry of the history.
-use Rattle.std.specs.Prelude.{◌≡◌, ◌<◌, ℕ, zero, suc, Bool, true, false, ◌==◌, List, [], ◌∷◌, length, set, Option, Some, None, slice_get, map, if◌then◌else◌, refl}
-use Rattle.std.proofs.Common.{sym, subst, ap, ◌∙◌, arith, inl}
+-- What the code does in an act, and what it answers, is what the machine does that stands for the history.
+use Rattle.std.specs.Prelude.{◌≡◌, ◌⊎◌, ◌<◌, ◌≤◌, ◌^◌, ◌+◌, ℕ, Bool, true, false, not, ◌==◌, nat_le, min, max, List, [], ◌∷◌, ◌++◌, length, set, drop, Option, Some, None, slice_get, if◌then◌else◌, refl}
+use Rattle.std.proofs.Common.{sym, subst, ap, ◌∙◌, arith, inl, inr}
+use Rattle.std.proofs.lemmas.Bool.{cases_lt}
+use Rattle.std.proofs.lemmas.Bool.Decides.{nat_tests}
 use Rattle.sat_label.specs.declared.label.Label.{Label}
+use Rattle.sat_label.specs.declared.label.Kind.TheVariants as kind
+use Rattle.sat_label.specs.declared.carried.Carried.{Carried}
+use Rattle.sat_label.specs.declared.point.Point.{Point}
+use Rattle.sat_label.specs.declared.node.NodeId.{NodeId}
 use Rattle.sat_label.specs.declared.node.NodeId.TheVariants.{Site, Serializer}
-use Rattle.sat_label.specs.Order.{label_eq}
-use Rattle.sat_label.specs.Words.{has}
+use Rattle.sat_label.specs.Order.{greater_point, point_at}
+use Rattle.sat_bulk.specs.declared.Payload.{Payload}
+use Rattle.sat_sites.specs.Interested.{Interested}
 use Rattle.sat_tree.specs.Shape.{TreeShape}
-use Rattle.sat_tree.specs.Cut.{is_edge}
+use Rattle.sat_tree.specs.Cut.{seat_of}
 use Rattle.sat_act.specs.declared.act.Act.{Act}
 use Rattle.sat_act.specs.declared.act.Act.TheVariants as act
 use Rattle.sat_act.specs.declared.answer.Answer.{Answer}
 use Rattle.sat_act.specs.declared.answer.Answer.TheVariants as ans
+use Rattle.sat_act.specs.declared.answer.Refusal.{Refusal}
 use Rattle.sat_act.specs.declared.answer.Refusal.TheVariants as why
-use Rattle.sat_act.specs.declared.deployment.Item.{Item}
-use Rattle.sat_act.specs.declared.entry.Entry.{Entry}
 use Rattle.sat_act.specs.Deployed.{Deployed}
-use Rattle.sat_act.specs.Built.{IsBuilt, one_serializer}
-use Rattle.sat_act.specs.Ranges.{IsActOf}
-use Rattle.sat_act.specs.Answers.{answer}
-use Rattle.sat_act.specs.Runs.{IsRun, is_settle}
-use Rattle.sat_act.specs.Headline.{IsGood}
-use Rattle.sat_laws.proofs.Labels.{some_is}
-use Rattle.sat_laws.proofs.Headlines.{good}
-use Rattle.sat_machine.specs.State.{Payload}
-use Rattle.sat_machine.specs.Look.{label_of}
-use Rattle.sat_machine.specs.World.{WorldState, world_answer, world_next, world_step, world_state}
-use Rattle.sat_machine.proofs.Runs.{step-on}
-use Rattle.sat_world.specs.Seen.{SiteSeen, WorldSeen}
-use Rattle.sat_world.specs.Changes.{shown, turned, turned_at, wrote, arrived, left, brought}
-use Rattle.sat_world.specs.Acts.{Acts, spends, writes, reads_none, reads, gathers, idles, emits, hops_none, hops, turns, brings_none, brings, with_site, with_client, raised, other, stamped, HasSite}
+use Rattle.sat_act.specs.Built.{IsBuilt}
+use Rattle.sat_act.specs.Limits.{IsDeployment}
+use Rattle.sat_act.specs.Answers.{unless, at_seat, gear_of}
+use Rattle.sat_act.specs.Parts.{Handling, replicates}
+use Rattle.sat_machine.specs.State.{SiteState}
+use Rattle.sat_machine.specs.Input.{SiteInput}
+use Rattle.sat_machine.specs.Input as given
+use Rattle.sat_machine.specs.Fits.{IsFit}
+use Rattle.sat_machine.specs.Next.{site_next}
+use Rattle.sat_machine.specs.Reply.{site_answer, write_by, read_by}
+use Rattle.sat_machine.specs.Replay.{after, given_at, given_seat}
+use Rattle.sat_machine.specs.World.{ClientState, WorldState, world_given, world_answer, world_next, link_next, handled_by, client_next, dead_next, takes, puts, clock_of, payload_from}
+use Rattle.sat_serial.specs.Routes.{IsNeighbour}
+use Rattle.sat_serial.specs.Outboxes.{SerializerSeen, outbox}
+use Rattle.sat_site.specs.Seen.{SiteSeen}
+use Rattle.sat_site.specs.Stands.{StandsSite}
+use Rattle.sat_world.specs.declared.client.Client.{Client}
+use Rattle.sat_world.specs.Seen.{WorldSeen, HasClient, tree_in}
+use Rattle.sat_world.specs.Clocks.{IsGreatest, AreClocked}
+use Rattle.sat_world.specs.Acts.{StepsAt, seen_by, clients_told}
 use Rattle.sat_world.specs.Orderly.{IsOrderly}
-use Rattle.sat_world.specs.Stands.{IsMadeAt, StandsSite, StandsFor}
-use Rattle.sat_world.proofs.Built.{is-valid, has-trees, in-range, only-epoch, edge-end, is-other, other-below, Targets, has-targets}
-use Rattle.sat_world.proofs.Rises.{made-first, get-within}
-use Rattle.sat_world.proofs.Links.{up, down}
-use Rattle.sat_world.proofs.Standing.{Steps, StandsAs, refused-stands, gather-answer, gather-stands, emit-answer, emit-stands, hop-answer, hop-nodes, hop-stands, turn-answer, update-turn, show-stands}
-use Rattle.sat_world.proofs.Clients.{bulk-none, bulk-some, bring-stands, read-none, read-none-stands, read-some, read-stands, write-spent, write-done, write-stands}
+use Rattle.sat_world.specs.Stands.{StandsClient, Stands}
+use Rattle.sat_world.proofs.Lists.{self_num, set-cases, set-same}
+use Rattle.sat_world.proofs.Fresh.{tree-one}
+use Rattle.sat_world.proofs.Greatest.{greatest-is}
+use Rattle.sat_world.proofs.Kept.{old-site}
 
--- ---- the sites that there are
+-- the answer r and the world v after an act are those of the machine
+pub record Steps (d : Deployed) (s : WorldState) (a : Act) (r : Answer) (v : WorldSeen) : Type 0 where
+  pub answer : r ≡ world_answer d s a
+  pub stands : Stands v (world_next d s a r)
 
-two-long : {X : Type 0} (xs : List X) (k : ℕ) → length xs ≡ 2 → k < 2 → (x : X) × (slice_get xs k ≡ Some x)
-two-long [] k e lt = absurd (omega arith)
-two-long (x ∷ []) k e lt = absurd (omega arith)
-two-long (x ∷ (y ∷ xs)) zero e lt = (x, refl)
-two-long (x ∷ (y ∷ xs)) (suc zero) e lt = (y, refl)
-two-long (x ∷ (y ∷ xs)) (suc (suc k)) e lt = absurd (omega arith)
+-- ---- the links of the first epoch
 
-set-same : {X : Type 0} (xs : List X) (i : ℕ) (x : X) → slice_get xs i ≡ Some x → set xs i x ≡ xs
-set-same [] i x e = absurd (cc)
-set-same {X = X} (y ∷ xs) zero x e = ap (λ (z : X). z ∷ xs) (sym (some_is y x e))
-set-same {X = X} (y ∷ xs) (suc i) x e = ap (λ (zs : List X). y ∷ zs) (set-same xs i x e)
+abbrev pub moves : Deployed → Option Handling → NodeId → NodeId → List Label → List Label
+moves d o u v ls = elim o [ None ↦ ls | Some x ↦ (if takes 1 u v x then drop 1 ls else ls) ++ (if puts d 1 (tree_in d) u v x then x.label ∷ [] else []) ]
 
-pub same-world : (w : WorldSeen) (i : ℕ) (x : SiteSeen) → HasSite w i x → with_site w i x ≡ w
-same-world w i x h = λ k. record w { sites = set-same w.sites i x h k }
+link-one : (d : Deployed) (o : Option Handling) (u v : NodeId) (ls : List Label) → IsBuilt d → link_next d o 1 u v ls ≡ moves d o u v ls
+link-one d o u v ls b =
+    ap (λ (t : Option TreeShape). elim t [ None ↦ [] | Some t ↦ elim o [ None ↦ ls | Some x ↦ (if takes 1 u v x then drop 1 ls else ls) ++ (if puts d 1 t u v x then x.label ∷ [] else []) ] ]) (tree-one d b)
 
--- ---- turn
+-- the label that an act handled
+abbrev pub handling_of : Deployed → WorldState → Act → Answer → Option Handling
+handling_of d s a r = handled_by d (λ i. (s.sites i).views.emission) (λ i. (s.sites i).views.view) a r
 
-abbrev turn_if : SiteSeen → Label → Bool → Answer × SiteSeen
-turn_if y l c = if c then (ans.Shown l, shown y l) else (ans.Refused (why.NoPayload l), y)
-
-module _ (d : Deployed) (w : WorldSeen) (s : WorldState) (j : ℕ) (y : SiteSeen) (b : IsBuilt d) (two : length w.sites ≡ 2) (st : StandsAs w s) (h : HasSite w j y) where
-  turn-none : slice_get y.incoming 0 ≡ None → Steps d s (act.Turn j) (ans.Refused why.Empty) (with_site w j y)
-  turn-none e = record {
-    answer = turn-answer d s j y None b (let q : j < length w.sites = get-within j w.sites y h in omega arith) (st.sites j y h) e;
-    stands = subst (λ (v : WorldSeen). StandsAs v (world_next d s (act.Turn j) (ans.Refused why.Empty))) (sym (same-world w j y h)) (refused-stands d w s (act.Turn j) why.Empty b st);
-  }
-
-  turn-some : (l : Label) → slice_get y.incoming 0 ≡ Some l → (if has label_eq (map label_of y.waiting) l then ans.Shown l else ans.Refused (why.NoPayload l)) ≡ world_answer d s (act.Turn j)
-  turn-some l e =
-      let k : StandsSite j y (s.sites j) (up j (s.links 1)) (down j (s.links 1)) = st.sites j y h in
-      update-turn (map label_of y.waiting) l (made-first (other j) y.incoming l e k.came).update ∙ turn-answer d s j y (Some l) b (let q : j < length w.sites = get-within j w.sites y h in omega arith) k e
-
-  turn-by : (l : Label) (c : Bool) → slice_get y.incoming 0 ≡ Some l → (if c then ans.Shown l else ans.Refused (why.NoPayload l)) ≡ world_answer d s (act.Turn j) →
-      Steps d s (act.Turn j) (turn_if y l c).0 (with_site w j (turn_if y l c).1)
-  turn-by l true e f =
-      let lt : j < 2 = let q : j < length w.sites = get-within j w.sites y h in omega arith in
-      let z : (z : SiteSeen) × HasSite w (other j) z = two-long w.sites (other j) two (other-below j) in
-      record { answer = f; stands = show-stands d w s j y z.0 l b lt st h z.1 (made-first (other j) y.incoming l e (st.sites j y h).came) }
-  turn-by l false e f = record {
-    answer = f;
-    stands = subst (λ (v : WorldSeen). StandsAs v (world_next d s (act.Turn j) (ans.Refused (why.NoPayload l)))) (sym (same-world w j y h)) (refused-stands d w s (act.Turn j) (why.NoPayload l) b st);
-  }
-
-  turn-steps : Steps d s (act.Turn j) (turned y).0 (with_site w j (turned y).1)
-  turn-steps = go (slice_get y.incoming 0) refl
-    where
-      go : (o : Option Label) → slice_get y.incoming 0 ≡ o → Steps d s (act.Turn j) (turned_at y o).0 (with_site w j (turned_at y o).1)
-      go None e = turn-none e
-      go (Some l) e = turn-by l (has label_eq (map label_of y.waiting) l) e (turn-some l e)
-
--- ---- each act
-
--- the one edge from a site: that of epoch 1 to serializer 0
-at-edge : (d : Deployed) (n i z : ℕ) → IsBuilt d → IsActOf d (act.Hop n (Site i) z) → (P : ℕ → ℕ → Type 0) → P 1 0 → P n z
-at-edge d n i z b k P p =
-    let e : (n ≡ 1) × (k.0 ≡ one_serializer) = only-epoch d n k.0 b k.1 k.2 in
-    let lt : i < 2 = subst (λ (t : TreeShape). i < length t.seats) e.1 k.3 in
-    let q : z ≡ 0 = edge-end i z lt (subst (λ (t : TreeShape). is_edge t (Site i) (Serializer z) ≡ true) e.1 k.4) in
-    subst (λ (n : ℕ). P n z) (sym e.0) (subst (P 1) (sym q) p)
-
-pub no-item : (d : Deployed) (x : ℕ) → IsBuilt d → x < length d.items → x ≡ 0
-no-item d x b k = let e : length d.items ≡ 1 = ap (λ (xs : List Item). length xs) b.items in omega arith
-
-within : (w : WorldSeen) (i : ℕ) (x : SiteSeen) → length w.sites ≡ 2 → HasSite w i x → i < 2
-within w i x two h = let q : i < length w.sites = get-within i w.sites x h in omega arith
-
-hop-none : (d : Deployed) (w : WorldSeen) (s : WorldState) (i : ℕ) (x : SiteSeen) → IsBuilt d → StandsAs w s → HasSite w i x → slice_get x.outgoing 0 ≡ None → Steps d s (act.Hop 1 (Site i) 0) (ans.Refused why.Empty) w
-hop-none d w s i x b st h e = record {
-  answer = hop-answer d s i x None b st.alive (st.sites i x h) e;
-  stands = refused-stands d w s (act.Hop 1 (Site i) 0) why.Empty b st;
-}
-
-hop-some : (d : Deployed) (w : WorldSeen) (s : WorldState) (i : ℕ) (x y : SiteSeen) (l : Label) → IsBuilt d → length w.sites ≡ 2 → StandsAs w s → HasSite w i x → HasSite w (other i) y → slice_get x.outgoing 0 ≡ Some l →
-    Steps d s (act.Hop 1 (Site i) 0) (ans.Hopped l (Site (other i) ∷ [])) (with_site (with_site w (other i) (arrived y l)) i (left x))
-hop-some d w s i x y l b two st h g e =
-    let lt : i < 2 = within w i x two h in
-    let m : IsMadeAt i l = made-first i x.outgoing l e (st.sites i x h).sent in
-    let t : Targets d i l = has-targets d i l b lt m in
-    record {
-      answer = hop-nodes d i l lt t ∙ hop-answer d s i x (Some l) b st.alive (st.sites i x h) e;
-      stands = hop-stands d w s i x y l (Site (other i) ∷ []) b lt two st h g m t;
-    }
-
--- the one lane to site j: that of gear 0 of the other site
-at-lane : (d : Deployed) (i g j : ℕ) → IsBuilt d → IsActOf d (act.Bulk i g j None) → (P : ℕ → ℕ → Type 0) → P (other j) 0 → P i g
-at-lane d i g j b k P p =
-    let two : d.sites ≡ 2 = b.sites in
-    let one : d.gears ≡ 1 = b.gears in
-    let l : i < d.sites = k.0.0 in
-    let m : j < d.sites = k.0.1 in
-    let q : g < d.gears = k.1 in
-    let e : i ≡ other j = is-other i j (omega arith) (omega arith) k.0.2 in
-    let f : g ≡ 0 = omega arith in
-    subst (λ (i : ℕ). P i g) (sym e) (subst (P (other j)) (sym f) p)
-
-lane-of : (d : Deployed) (w : WorldSeen) (i j : ℕ) (x y : SiteSeen) → IsBuilt d → length w.sites ≡ 2 → HasSite w j y → HasSite w i x → (i == j) ≡ false → HasSite w (other j) x
-lane-of d w i j x y b two g h ne = subst (λ (n : ℕ). HasSite w n x) (is-other i j (within w i x two h) (within w j y two g) ne) h
-
-bulk-no : (d : Deployed) (w : WorldSeen) (s : WorldState) (j : ℕ) (x y : SiteSeen) → IsBuilt d → length w.sites ≡ 2 → StandsAs w s → HasSite w (other j) x → HasSite w j y → slice_get x.lane y.taken ≡ None → Steps d s (act.Bulk (other j) 0 j None) (ans.Refused why.NoSuch) w
-bulk-no d w s j x y b two st h g e = record {
-  answer = bulk-none d s j x y (within w j y two g) (st.sites j y g) (st.sites (other j) x h) e;
-  stands = refused-stands d w s (act.Bulk (other j) 0 j None) why.NoSuch b st;
-}
-
-bulk-yes : (d : Deployed) (w : WorldSeen) (s : WorldState) (j : ℕ) (x y : SiteSeen) (p : Payload) → IsBuilt d → length w.sites ≡ 2 → StandsAs w s → HasSite w (other j) x → HasSite w j y → slice_get x.lane y.taken ≡ Some p → Steps d s (act.Bulk (other j) 0 j None) (ans.Brought p.label) (with_site w j (brought y p))
-bulk-yes d w s j x y p b two st h g e = record {
-  answer = bulk-some d s j x y p (within w j y two g) (st.sites j y g) (st.sites (other j) x h) e;
-  stands = bring-stands d w s j x y p b (within w j y two g) two st h g e;
-}
-
--- what the code did in an act that has a line is the machine's step
-pub steps : (d : Deployed) (w v : WorldSeen) (s : WorldState) (a : Act) (r : Answer) → IsBuilt d → IsOrderly w → IsActOf d a → StandsAs w s → Acts w a r v → Steps d s a r v
-steps d w v s a r b o k st (spends {c = c} {x = x} {value = value} u y h g e) =
-    subst (λ (x : ℕ). Steps d s (act.Write c x value) (ans.Refused why.Spent) w) (sym (no-item d x b k.1))
-    (record { answer = write-spent d w s c u y value b (o.seated c u h) st h g e; stands = refused-stands d w s (act.Write c 0 value) why.Spent b st })
-steps d w v s a r b o k st (writes {c = c} {x = x} {value = value} u y h g e) =
-    subst (λ (x : ℕ). Steps d s (act.Write c x value) (ans.Wrote (stamped u y x)) (with_client (with_site w u.seat (wrote y (stamped u y x) value)) c (raised u (stamped u y x).point))) (sym (no-item d x b k.1))
-    (record { answer = write-done d w s c u y value b (o.seated c u h) st h g e; stands = write-stands d w s c u y value b (o.seated c u h) st h g })
-steps d w v s a r b o k st (reads_none {c = c} {x = x} u y h g e) =
-    subst (λ (x : ℕ). Steps d s (act.Read c x) ans.ReadNone w) (sym (no-item d x b k.1))
-    (record { answer = read-none d w s c u y b (o.seated c u h) st h g e; stands = read-none-stands d w s c b st })
-steps d w v s a r b o k st (reads {c = c} {x = x} u y n h g e) =
-    subst (λ (x : ℕ). Steps d s (act.Read c x) (ans.ReadSome n.label n.value) (with_client w c (raised u n.label.point))) (sym (no-item d x b k.1))
-    (record { answer = read-some d w s c u y n b (o.seated c u h) st h g e; stands = read-stands d w s c u n b st h })
-steps d w v s a r b o k st (gathers {i = i} y h) = record { answer = gather-answer d w s i y b (st.sites i y h); stands = gather-stands d w s i y b st h }
-steps d w v s a r b o k st (idles {i = i} y h e) = record { answer = emit-answer d s i y None b (st.sites i y h) e; stands = refused-stands d w s (act.Emit i) why.Idle b st }
-steps d w v s a r b o k st (emits {i = i} y l h e) = record { answer = emit-answer d s i y (Some l) b (st.sites i y h) e; stands = emit-stands d w s i y l b (within w i y o.sites h) st h e }
-steps d w v s a r b o k st (hops_none {e = n} {i = i} {z = z} y h e) = at-edge d n i z b k (λ n z. Steps d s (act.Hop n (Site i) z) (ans.Refused why.Empty) w) (hop-none d w s i y b st h e)
-steps d w v s a r b o k st (hops {e = n} {i = i} {z = z} y q l h g e) =
-    at-edge d n i z b k (λ n z. Steps d s (act.Hop n (Site i) z) (ans.Hopped l (Site (other i) ∷ [])) (with_site (with_site w (other i) (arrived q l)) i (left y))) (hop-some d w s i y q l b o.sites st h g e)
-steps d w v s a r b o k st (turns {j = j} y h) = turn-steps d w s j y b o.sites st h
-steps d w v s a r b o k st (brings_none {i = i} {g = n} {j = j} x y h g e) =
-    at-lane d i n j b k (λ i n. Steps d s (act.Bulk i n j None) (ans.Refused why.NoSuch) w) (bulk-no d w s j x y b o.sites st (lane-of d w i j x y b o.sites g h k.0.2) g e)
-steps d w v s a r b o k st (brings {i = i} {g = n} {j = j} x y p h g e) =
-    at-lane d i n j b k (λ i n. Steps d s (act.Bulk i n j None) (ans.Brought p.label) (with_site w j (brought y p))) (bulk-yes d w s j x y p b o.sites st (lane-of d w i j x y b o.sites g h k.0.2) g e)
-
--- ---- the history
-
--- by the machine's law, the answer is the history's, and the world then stands for the history with the entry
-pub record Goes (w v : WorldSeen) (h : List Entry) (a : Act) (r : Answer) : Type 0 where
-  pub answer : r ≡ answer w.deployment h a
-  pub stands : StandsFor v (record { act = a; answer = r; inner = false } ∷ h)
-  pub good : IsGood w.deployment (record { act = a; answer = r; inner = false } ∷ h)
-
--- no act changes the deployment
-pub deployed : (w v : WorldSeen) (a : Act) (r : Answer) → Acts w a r v → v.deployment ≡ w.deployment
-deployed w v a r (spends u y h g e) = refl
-deployed w v a r (writes u y h g e) = refl
-deployed w v a r (reads_none u y h g e) = refl
-deployed w v a r (reads u y n h g e) = refl
-deployed w v a r (gathers y h) = refl
-deployed w v a r (idles y h e) = refl
-deployed w v a r (emits y l h e) = refl
-deployed w v a r (hops_none y h e) = refl
-deployed w v a r (hops y q l h g e) = refl
-deployed w v a r (turns y h) = refl
-deployed w v a r (brings_none x y h g e) = refl
-deployed w v a r (brings x y p h g e) = refl
-
--- no act is a settle
-plain : (w v : WorldSeen) (a : Act) (r : Answer) → Acts w a r v → is_settle a ≡ false
-plain w v a r (spends u y h g e) = refl
-plain w v a r (writes u y h g e) = refl
-plain w v a r (reads_none u y h g e) = refl
-plain w v a r (reads u y n h g e) = refl
-plain w v a r (gathers y h) = refl
-plain w v a r (idles y h e) = refl
-plain w v a r (emits y l h e) = refl
-plain w v a r (hops_none y h e) = refl
-plain w v a r (hops y q l h g e) = refl
-plain w v a r (turns y h) = refl
-plain w v a r (brings_none x y h g e) = refl
-plain w v a r (brings x y p h g e) = refl
-
-abbrev entry_of : Act → Answer → Entry
-entry_of a r = record { act = a; answer = r; inner = false }
-
-step-parts : (d : Deployed) (h : List Entry) (a : Act) → IsBuilt d → IsActOf d a → IsRun d h → is_settle a ≡ false →
-    (world_answer d (world_state d h) a ≡ answer d h a) × (world_next d (world_state d h) a (world_answer d (world_state d h) a) ≡ world_state d (entry_of a (answer d h a) ∷ h))
-unfolding world_step
-step-parts d h a b k run p =
-    let e : world_step d (world_state d h) a ≡ (answer d h a, world_state d (entry_of a (answer d h a) ∷ h)) = step-on d h a (is-valid d b) run (in-range d a k) p in
-    (ap (λ (p : Answer × WorldState). p.0) e, ap (λ (p : Answer × WorldState). p.1) e)
-
-goes-on-run : (d : Deployed) (h : List Entry) (a : Act) (r : Answer) → IsBuilt d → IsActOf d a → IsRun d h → is_settle a ≡ false → r ≡ answer d h a → IsRun d (entry_of a r ∷ h)
-unfolding IsRun
-goes-on-run d h a r b k run p e = (run, in-range d a k, inl (p, e))
-
-pub goes : (w v : WorldSeen) (h : List Entry) (a : Act) (r : Answer) → IsOrderly w → IsActOf w.deployment a → IsRun w.deployment h → StandsFor w h → Acts w a r v → Goes w v h a r
-goes w v h a r o k run st f = record {
-  answer = told;
-  stands = subst (λ (d : Deployed). StandsAs v (world_state d (entry_of a r ∷ h))) (sym (deployed w v a r f)) (subst (StandsAs v) next t.stands);
-  good = good d (entry_of a r ∷ h) (is-valid d o.built) (has-trees d o.built) (goes-on-run d h a r o.built k run (plain w v a r f) told);
+-- a world whose parts are those of the machine after the act
+pub next-stands : (d : Deployed) (t : Interested) (s : WorldState) (a : Act) (r : Answer) (o : Option Handling) (xs : List SiteSeen) (ss : List SerializerSeen) (out : List (List Label)) (cl : List Client) → IsBuilt d →
+    handling_of d s a r ≡ o →
+    ((k : ℕ) (x : SiteSeen) → slice_get xs k ≡ Some x → StandsSite d k x (after d k (s.sites k) (world_given d s a k) r)) →
+    ((i : ℕ) (ls : List Label) → slice_get out i ≡ Some ls → ls ≡ moves d o (Site i) (Serializer (seat_of (tree_in d) i)) (s.links 1 (Site i) (Serializer (seat_of (tree_in d) i)))) →
+    ((z : ℕ) (q : SerializerSeen) (v : NodeId) → slice_get ss z ≡ Some q → IsNeighbour (tree_in d) z v → outbox q v ≡ moves d o (Serializer z) v (s.links 1 (Serializer z) v)) →
+    ((z : ℕ) → dead_next 1 z (s.dead 1 z) a r ≡ false) →
+    ((c : ℕ) (x : Client) → slice_get cl c ≡ Some x → StandsClient x (client_next c (s.clients c) a r)) →
+    Stands (record { deployment = d; interest = t; sites = xs; serializers = ss; outgoing = out; clients = cl }) (world_next d s a r)
+unfolding world_next
+next-stands d t s a r o xs ss out cl b h sites up down dead clients = record {
+  sites = sites;
+  up = λ i ls at. up i ls at ∙ sym (link i (Site i) (Serializer (seat_of (tree_in d) i)));
+  down = λ z q v at nb. down z q v at nb ∙ sym (link z (Serializer z) v);
+  alive = dead;
+  clients = clients;
 }
   where
-    d : Deployed
-    d = w.deployment
+    link : (n : ℕ) (u v : NodeId) → link_next d (handling_of d s a r) 1 u v (s.links 1 u v) ≡ moves d o u v (s.links 1 u v)
+    link n u v = ap (λ (o : Option Handling). link_next d o 1 u v (s.links 1 u v)) h ∙ link-one d o u v (s.links 1 u v) b
 
-    t : Steps d (world_state d h) a r v
-    t = steps d w v (world_state d h) a r o.built o k st f
+-- ---- one site
 
-    told : r ≡ answer d h a
-    told = t.answer ∙ (step-parts d h a o.built k run (plain w v a r f)).0
+after-here : (d : Deployed) (i : ℕ) (s : SiteState) (input : SiteInput) (r : Answer) → site_next d i s input r ≡ after d i s (given_at i i input) r
+unfolding after
+after-here d i s input r = sym (ap (λ (b : Bool). after d i s (if b then Some input else None) r) (self_num i))
 
-    next : world_next d (world_state d h) a r ≡ world_state d (entry_of a r ∷ h)
-    next = ap (world_next d (world_state d h) a) t.answer ∙ ((step-parts d h a o.built k run (plain w v a r f)).1 ∙ ap (λ (x : Answer). world_state d (entry_of a x ∷ h)) (sym told))
+after-there : (d : Deployed) (i k : ℕ) (s : SiteState) (input : SiteInput) (r : Answer) → (i == k) ≡ false → s ≡ after d k s (given_at i k input) r
+unfolding after
+after-there d i k s input r e = sym (ap (λ (b : Bool). after d k s (if b then Some input else None) r) e)
+
+after-none : (d : Deployed) (k : ℕ) (s : SiteState) (r : Answer) → s ≡ after d k s None r
+unfolding after
+after-none d k s r = refl
+
+AllStand : Deployed → List SiteSeen → (ℕ → SiteState) → Type 0
+AllStand d xs S = (k : ℕ) (x : SiteSeen) → slice_get xs k ≡ Some x → StandsSite d k x (S k)
+
+-- the sites after one of them was handed something: what the code handed serves as what the machine is handed
+pub site-next : (d : Deployed) (S : ℕ → SiteState) (i : ℕ) (input known : SiteInput) (gives : ℕ → Option SiteInput) (r : Answer) (o : Option Label) (xs ys : List SiteSeen) → IsDeployment d →
+    ((k : ℕ) (x : SiteSeen) → slice_get xs k ≡ Some x → StandsSite d k x (S k)) → StepsAt xs i input r o ys → IsFit d i (S i) input →
+    site_next d i (S i) input r ≡ site_next d i (S i) known r → ((k : ℕ) → gives k ≡ given_at i k known) →
+    (k : ℕ) (x : SiteSeen) → slice_get ys k ≡ Some x → StandsSite d k x (after d k (S k) (gives k) r)
+site-next d S i input known gives r o xs ys dep st h fit same is k x at =
+    subst (λ (g : Option SiteInput). StandsSite d k x (after d k (S k) g r)) (sym (is k)) (go (set-cases xs i k h.after x (subst (λ (zs : List SiteSeen). slice_get zs k ≡ Some x) h.rest at)))
+  where
+    here : StandsSite d i h.after (after d i (S i) (given_at i i known) r)
+    here = subst (λ (s : SiteState). StandsSite d i h.after s) (same ∙ after-here d i (S i) known r) (h.stands d i (S i) dep (st i h.before h.at) fit)
+
+    go : ((i ≡ k) × (h.after ≡ x)) ⊎ (((i == k) ≡ false) × (slice_get xs k ≡ Some x)) → StandsSite d k x (after d k (S k) (given_at i k known) r)
+    go (inl u) = subst (λ (x : SiteSeen). StandsSite d k x (after d k (S k) (given_at i k known) r)) u.1 (subst (λ (k : ℕ). StandsSite d k h.after (after d k (S k) (given_at i k known) r)) u.0 here)
+    go (inr u) = subst (λ (s : SiteState). StandsSite d k x s) (after-there d i k (S k) known r u.0) (st k x u.1)
+
+pub sites-same : (d : Deployed) (S : ℕ → SiteState) (gives : ℕ → Option SiteInput) (r : Answer) (xs : List SiteSeen) → ((k : ℕ) (x : SiteSeen) → slice_get xs k ≡ Some x → StandsSite d k x (S k)) → ((k : ℕ) → gives k ≡ None) →
+    (k : ℕ) (x : SiteSeen) → slice_get xs k ≡ Some x → StandsSite d k x (after d k (S k) (gives k) r)
+sites-same d S gives r xs st is k x at = subst (λ (g : Option SiteInput). StandsSite d k x (after d k (S k) g r)) (sym (is k)) (subst (λ (s : SiteState). StandsSite d k x s) (after-none d k (S k) r) (st k x at))
+
+pub told-by : (w : WorldSeen) (s : WorldState) (i : ℕ) (input : SiteInput) (r : Answer) (o : Option Label) (ys : List SiteSeen) → IsOrderly w → Stands w s → StepsAt w.sites i input r o ys → IsFit w.deployment i (s.sites i) input →
+    r ≡ site_answer w.deployment i (s.sites i) input
+told-by w s i input r o ys k st h fit = h.answers w.deployment i (s.sites i) k.deployment (st.sites i h.before h.at) fit
+
+-- an act at one site that moves no label
+pub local-steps : (w : WorldSeen) (s : WorldState) (a : Act) (i : ℕ) (input known : SiteInput) (r : Answer) (o : Option Label) (ys : List SiteSeen) (cl : List Client) → IsOrderly w → Stands w s → StepsAt w.sites i input r o ys → IsFit w.deployment i (s.sites i) input →
+    r ≡ world_answer w.deployment s a → site_next w.deployment i (s.sites i) input r ≡ site_next w.deployment i (s.sites i) known r → ((k : ℕ) → world_given w.deployment s a k ≡ given_at i k known) →
+    handling_of w.deployment s a r ≡ None → ((z : ℕ) → dead_next 1 z (s.dead 1 z) a r ≡ s.dead 1 z) → ((c : ℕ) (x : Client) → slice_get cl c ≡ Some x → StandsClient x (client_next c (s.clients c) a r)) →
+    Steps w.deployment s a r (record w { sites = ys; clients = cl })
+local-steps w s a i input known r o ys cl k st h fit answer same is none dead clients = record {
+  answer = answer;
+  stands = next-stands w.deployment w.interest s a r None ys w.serializers w.outgoing cl k.built none
+      (site-next w.deployment s.sites i input known (world_given w.deployment s a) r o w.sites ys k.deployment st.sites h fit same is)
+      st.up st.down (λ z. dead z ∙ st.alive z) clients;
+}
+
+-- an act that changes nothing
+pub quiet-steps : (w : WorldSeen) (s : WorldState) (a : Act) (r : Answer) → IsOrderly w → Stands w s → r ≡ world_answer w.deployment s a → ((k : ℕ) → world_given w.deployment s a k ≡ None) →
+    handling_of w.deployment s a r ≡ None → ((z : ℕ) → dead_next 1 z (s.dead 1 z) a r ≡ s.dead 1 z) → ((c : ℕ) → client_next c (s.clients c) a r ≡ s.clients c) → Steps w.deployment s a r w
+quiet-steps w s a r k st answer is none dead clients = record {
+  answer = answer;
+  stands = next-stands w.deployment w.interest s a r None w.sites w.serializers w.outgoing w.clients k.built none (sites-same w.deployment s.sites (world_given w.deployment s a) r w.sites st.sites is)
+      st.up st.down (λ z. dead z ∙ st.alive z) (λ c x at. subst (StandsClient x) (sym (clients c)) (st.clients c x at));
+}
+
+-- ---- tick and gather
+
+tick-at : (w : WorldSeen) (s : WorldState) (i g t p : ℕ) (o : Option Label) (ys : List SiteSeen) → IsOrderly w → Stands w s → ans.Ticked p ≡ world_answer w.deployment s (act.Tick i g t) → StepsAt w.sites i (given.Tick g t) (ans.Ticked p) o ys →
+    Steps w.deployment s (act.Tick i g t) (ans.Ticked p) (record w { sites = ys })
+unfolding world_given handled_by
+tick-at w s i g t p o ys k st e h = local-steps w s (act.Tick i g t) i (given.Tick g t) (given.Tick g t) (ans.Ticked p) o ys w.clients k st h tt e refl (λ n. refl) refl (λ z. refl) st.clients
+
+tick-told : (d : Deployed) (s : WorldState) (i g t : ℕ) → (p : ℕ) × (site_answer d i (s.sites i) (given.Tick g t) ≡ ans.Ticked p) × (ans.Ticked p ≡ world_answer d s (act.Tick i g t))
+unfolding site_answer world_answer
+tick-told d s i g t = (max ((s.sites i).gears g).promise t, refl, refl)
+
+pub tick-steps : (w : WorldSeen) (s : WorldState) (i g t : ℕ) (r : Answer) (o : Option Label) (ys : List SiteSeen) → IsOrderly w → Stands w s → StepsAt w.sites i (given.Tick g t) r o ys → Steps w.deployment s (act.Tick i g t) r (record w { sites = ys })
+tick-steps w s i g t r o ys k st h =
+    let e : (p : ℕ) × (site_answer w.deployment i (s.sites i) (given.Tick g t) ≡ ans.Ticked p) × (ans.Ticked p ≡ world_answer w.deployment s (act.Tick i g t)) = tick-told w.deployment s i g t in
+    let f : r ≡ ans.Ticked e.0 = told-by w s i (given.Tick g t) r o ys k st h tt ∙ e.1 in
+    subst (λ (q : Answer). StepsAt w.sites i (given.Tick g t) q o ys → Steps w.deployment s (act.Tick i g t) q (record w { sites = ys })) (sym f) (tick-at w s i g t e.0 o ys k st e.2) h
+
+gather-at : (w : WorldSeen) (s : WorldState) (i n t : ℕ) (o : Option Label) (ys : List SiteSeen) → IsOrderly w → Stands w s → ans.Gathered n t ≡ world_answer w.deployment s (act.Gather i) → StepsAt w.sites i given.Gather (ans.Gathered n t) o ys →
+    Steps w.deployment s (act.Gather i) (ans.Gathered n t) (record w { sites = ys })
+unfolding world_given handled_by
+gather-at w s i n t o ys k st e h = local-steps w s (act.Gather i) i given.Gather given.Gather (ans.Gathered n t) o ys w.clients k st h tt e refl (λ m. refl) refl (λ z. refl) st.clients
+
+gather-told : (d : Deployed) (s : WorldState) (i : ℕ) → (n t : ℕ) × (site_answer d i (s.sites i) given.Gather ≡ ans.Gathered n t) × (ans.Gathered n t ≡ world_answer d s (act.Gather i))
+unfolding site_answer world_answer
+gather-told d s i = (_, _, refl, refl)
+
+pub gather-steps : (w : WorldSeen) (s : WorldState) (i : ℕ) (r : Answer) (o : Option Label) (ys : List SiteSeen) → IsOrderly w → Stands w s → StepsAt w.sites i given.Gather r o ys → Steps w.deployment s (act.Gather i) r (record w { sites = ys })
+gather-steps w s i r o ys k st h =
+    let e : (n t : ℕ) × (site_answer w.deployment i (s.sites i) given.Gather ≡ ans.Gathered n t) × (ans.Gathered n t ≡ world_answer w.deployment s (act.Gather i)) = gather-told w.deployment s i in
+    let f : r ≡ ans.Gathered e.0 e.1 = told-by w s i given.Gather r o ys k st h tt ∙ e.2 in
+    subst (λ (q : Answer). StepsAt w.sites i given.Gather q o ys → Steps w.deployment s (act.Gather i) q (record w { sites = ys })) (sym f) (gather-at w s i e.0 e.1 o ys k st e.3) h
+
+-- ---- clock
+
+pub clock-steps : (w : WorldSeen) (s : WorldState) (ts : ℕ) (ys : List SiteSeen) → IsOrderly w → Stands w s → IsGreatest w.sites w.deployment.gears ts → AreClocked ts w.sites ys → Steps w.deployment s act.Clock (ans.Clocked ts) (record w { sites = ys })
+unfolding world_given world_answer handled_by after
+clock-steps w s ts ys k st top c = record {
+  answer = ap (λ (n : ℕ). ans.Clocked n) is;
+  stands = next-stands w.deployment w.interest s act.Clock (ans.Clocked ts) None ys w.serializers w.outgoing w.clients k.built refl sites st.up st.down st.alive st.clients;
+}
+  where
+    is : ts ≡ clock_of w.deployment s
+    is = top w.deployment s.sites st.sites ∙ (greatest-is (λ i g. ((s.sites i).gears g).promise) (length w.sites) w.deployment.gears ∙ ap (λ (m : ℕ). Rattle.sat_machine.specs.World.greatest_row (λ i g. ((s.sites i).gears g).promise) m w.deployment.gears) k.sites)
+
+    sites : (n : ℕ) (y : SiteSeen) → slice_get ys n ≡ Some y → StandsSite w.deployment n y (after w.deployment n (s.sites n) (Some (given.Clock (clock_of w.deployment s))) (ans.Clocked ts))
+    sites n y at =
+        let x : (x : SiteSeen) × (slice_get w.sites n ≡ Some x) = old-site w.sites ys n y c.count at in
+        subst (λ (m : ℕ). StandsSite w.deployment n y (after w.deployment n (s.sites n) (Some (given.Clock m)) (ans.Clocked ts))) is (c.stands n x.0 y x.1 at w.deployment n (s.sites n) k.deployment (st.sites n x.0 x.1) tt)
+
+-- ---- write and read
+
+-- a point that a client is told of
+pub raised-clients : (cl : List Client) (C : ℕ → ClientState) (c : ℕ) (x : Client) (p : Point) → slice_get cl c ≡ Some x → ((n : ℕ) (y : Client) → slice_get cl n ≡ Some y → StandsClient y (C n)) →
+    (n : ℕ) (y : Client) → slice_get (set cl c (record x { carried = greater_point p x.carried })) n ≡ Some y →
+    StandsClient y (record { carried = record { point = if c == n then greater_point p (C n).carried.point else (C n).carried.point; moving = (C n).carried.moving }; seat = (C n).seat })
+raised-clients cl C c x p h st n y at = elim (set-cases cl c n (record x { carried = greater_point p x.carried }) y at) [
+  | inl u ↦ subst (λ (y : Client). StandsClient y (next n)) u.1 (subst (λ (n : ℕ). StandsClient (record x { carried = greater_point p x.carried }) (next n)) u.0 (record {
+    carried = ap (greater_point p) (st c x h).carried ∙ sym (ap (λ (b : Bool). if b then greater_point p (C c).carried.point else (C c).carried.point) (self_num c));
+    seat = (st c x h).seat;
+  }))
+  | inr u ↦ record { carried = (st n y u.1).carried ∙ sym (ap (λ (b : Bool). if b then greater_point p (C n).carried.point else (C n).carried.point) u.0); seat = (st n y u.1).seat }
+]
+  where
+    next : ℕ → ClientState
+    next n = record { carried = record { point = if c == n then greater_point p (C n).carried.point else (C n).carried.point; moving = (C n).carried.moving }; seat = (C n).seat }
+
+same-clients : (cl : List Client) (C : ℕ → ClientState) (c : ℕ) (x : Client) → slice_get cl c ≡ Some x → ((n : ℕ) (y : Client) → slice_get cl n ≡ Some y → StandsClient y (C n)) → (n : ℕ) (y : Client) → slice_get (set cl c x) n ≡ Some y → StandsClient y (C n)
+same-clients cl C c x h st n y at = st n y (subst (λ (xs : List Client). slice_get xs n ≡ Some y) (set-same cl c x h) at)
+
+same-unless : (b : Bool) (y : Refusal) (r q : Answer) → r ≡ q → unless b y r ≡ unless b y q
+same-unless b y r q e = ap (unless b y) e
+
+most : (p t : ℕ) → 2 ^ 62 ≤ t → nat_le (2 ^ 62) (max p t) ≡ true
+most p t e = grind (arith, nat_tests)
+
+least-of : (t b : ℕ) → t < b → min t b ≡ t
+least-of t b e = omega arith
+
+greatest-of : (t b : ℕ) → b ≤ t → min t b ≡ b
+greatest-of t b e = omega arith
+
+-- a timestamp above the last one serves as that one
+pub same-write : (d : Deployed) (i x p t : ℕ) → write_by d i x p (min t (2 ^ 62)) ≡ write_by d i x p t
+same-write d i x p t = elim (cases_lt t (2 ^ 62)) [
+  | inl less ↦ ap (write_by d i x p) (least-of t (2 ^ 62) less)
+  | inr more ↦ ap (write_by d i x p) (greatest-of t (2 ^ 62) more) ∙ same-unless (not (replicates d x i)) why.NotHere _ _ (spent (2 ^ 62) (omega arith) ∙ sym (spent t more))
+]
+  where
+    spent : (t : ℕ) → 2 ^ 62 ≤ t → unless (nat_le (2 ^ 62) (max p t)) why.Spent (ans.Wrote (record { point = point_at (max p t + 1) i (gear_of d x); kind = kind.Update x })) ≡ ans.Refused why.Spent
+    spent t e = ap (λ (b : Bool). unless b why.Spent (ans.Wrote (record { point = point_at (max p t + 1) i (gear_of d x); kind = kind.Update x }))) (most p t e)
+
+-- what a client's site answers is what the machine answers the client
+seat-answer : (d : Deployed) (s : WorldState) (c i : ℕ) (f : ℕ → Answer) → (s.clients c).seat ≡ Some i → f i ≡ at_seat (s.clients c).seat f
+seat-answer d s c i f e = sym (ap (λ (o : Option ℕ). at_seat o f) e)
+
+seat-given : (s : WorldState) (c i k : ℕ) (input : SiteInput) → (s.clients c).seat ≡ Some i → given_seat (s.clients c).seat k input ≡ given_at i k input
+seat-given s c i k input e = ap (λ (o : Option ℕ). given_seat o k input) e
+
+data WriteTold (r : Answer) : Type 0 where
+  refuses : (y : Refusal) → r ≡ ans.Refused y → WriteTold r
+  wrote : (l : Label) → r ≡ ans.Wrote l → WriteTold r
+
+data ReadTold (r : Answer) : Type 0 where
+  hides : (y : Refusal) → r ≡ ans.Refused y → ReadTold r
+  lacks : r ≡ ans.ReadNone → ReadTold r
+  shows : (l : Label) (v : List ℕ) → r ≡ ans.ReadSome l v → ReadTold r
+
+write-forms : (b c : Bool) (l : Label) → WriteTold (unless b why.NotHere (unless c why.Spent (ans.Wrote l)))
+write-forms true c l = refuses why.NotHere refl
+write-forms false true l = refuses why.Spent refl
+write-forms false false l = wrote l refl
+
+read-forms : (b : Bool) (o : Option Payload) → ReadTold (unless b why.NotHere (elim o [ None ↦ ans.ReadNone | Some p ↦ ans.ReadSome p.label p.value ]))
+read-forms true o = hides why.NotHere refl
+read-forms false None = lacks refl
+read-forms false (Some p) = shows p.label p.value refl
+
+write-answers : (d : Deployed) (i : ℕ) (s : SiteState) (seen : Carried) (x : ℕ) (v : List ℕ) → WriteTold (site_answer d i s (given.Write seen x v))
+unfolding site_answer
+write-answers d i s seen x v = write-forms (not (replicates d x i)) (nat_le (2 ^ 62) (max (s.gears (gear_of d x)).promise seen.point.ts)) (record { point = point_at (max (s.gears (gear_of d x)).promise seen.point.ts + 1) i (gear_of d x); kind = kind.Update x })
+
+read-answers : (d : Deployed) (i : ℕ) (s : SiteState) (seen : Carried) (x : ℕ) → ReadTold (site_answer d i s (given.Read seen x))
+unfolding site_answer
+read-answers d i s seen x = read-forms (not (replicates d x i)) (s.store x)
+
+next-write : (d : Deployed) (i : ℕ) (s : SiteState) (seen known : Carried) (x : ℕ) (v : List ℕ) (r : Answer) → site_next d i s (given.Write seen x v) r ≡ site_next d i s (given.Write known x v) r
+unfolding site_next
+next-write d i s seen known x v r = refl
+
+next-read : (d : Deployed) (i : ℕ) (s : SiteState) (seen known : Carried) (x : ℕ) (r : Answer) → site_next d i s (given.Read seen x) r ≡ site_next d i s (given.Read known x) r
+unfolding site_next
+next-read d i s seen known x r = refl
+
+answer-write : (w : WorldSeen) (s : WorldState) (c x : ℕ) (v : List ℕ) (k : Client) → StandsClient k (s.clients c) → site_answer w.deployment k.seat (s.sites k.seat) (given.Write (seen_by k) x v) ≡ world_answer w.deployment s (act.Write c x v)
+unfolding site_answer world_answer
+answer-write w s c x v k st =
+    same-write w.deployment k.seat x ((s.sites k.seat).gears (gear_of w.deployment x)).promise k.carried.ts ∙
+    (ap (λ (p : Point). write_by w.deployment k.seat x ((s.sites k.seat).gears (gear_of w.deployment x)).promise p.ts) st.carried ∙
+    seat-answer w.deployment s c k.seat (λ i. write_by w.deployment i x ((s.sites i).gears (gear_of w.deployment x)).promise (s.clients c).carried.point.ts) st.seat)
+
+answer-read : (w : WorldSeen) (s : WorldState) (c x : ℕ) (k : Client) → StandsClient k (s.clients c) → site_answer w.deployment k.seat (s.sites k.seat) (given.Read (seen_by k) x) ≡ world_answer w.deployment s (act.Read c x)
+unfolding site_answer world_answer
+answer-read w s c x k st = seat-answer w.deployment s c k.seat (λ i. read_by w.deployment i x ((s.sites i).store x)) st.seat
+
+module _ (w : WorldSeen) (s : WorldState) (c x : ℕ) (k : Client) (o : Option Label) (ys : List SiteSeen) (ord : IsOrderly w) (st : Stands w s) (h : HasClient w c k) where
+  abbrev Done : (r : Answer) → Act → Type 0
+  Done r a = Steps w.deployment s a r (record w { sites = ys; clients = clients_told w c k r })
+
+  write-refused : (v : List ℕ) (y : Refusal) → ans.Refused y ≡ world_answer w.deployment s (act.Write c x v) → StepsAt w.sites k.seat (given.Write (seen_by k) x v) (ans.Refused y) o ys → Done (ans.Refused y) (act.Write c x v)
+  unfolding world_given handled_by
+  write-refused v y e g =
+      local-steps w s (act.Write c x v) k.seat (given.Write (seen_by k) x v) (given.Write (s.clients c).carried x v) (ans.Refused y) o ys (clients_told w c k (ans.Refused y)) ord st g tt e
+      (next-write w.deployment k.seat (s.sites k.seat) (seen_by k) (s.clients c).carried x v (ans.Refused y)) (λ n. seat-given s c k.seat n (given.Write (s.clients c).carried x v) (st.clients c k h).seat) refl (λ z. refl)
+      (same-clients w.clients s.clients c k h st.clients)
+
+  write-wrote : (v : List ℕ) (l : Label) → ans.Wrote l ≡ world_answer w.deployment s (act.Write c x v) → StepsAt w.sites k.seat (given.Write (seen_by k) x v) (ans.Wrote l) o ys → Done (ans.Wrote l) (act.Write c x v)
+  unfolding world_given handled_by
+  write-wrote v l e g =
+      local-steps w s (act.Write c x v) k.seat (given.Write (seen_by k) x v) (given.Write (s.clients c).carried x v) (ans.Wrote l) o ys (clients_told w c k (ans.Wrote l)) ord st g tt e
+      (next-write w.deployment k.seat (s.sites k.seat) (seen_by k) (s.clients c).carried x v (ans.Wrote l)) (λ n. seat-given s c k.seat n (given.Write (s.clients c).carried x v) (st.clients c k h).seat) refl (λ z. refl)
+      (raised-clients w.clients s.clients c k l.point h st.clients)
+
+  read-refused : (y : Refusal) → ans.Refused y ≡ world_answer w.deployment s (act.Read c x) → StepsAt w.sites k.seat (given.Read (seen_by k) x) (ans.Refused y) o ys → Done (ans.Refused y) (act.Read c x)
+  unfolding world_given handled_by
+  read-refused y e g =
+      local-steps w s (act.Read c x) k.seat (given.Read (seen_by k) x) (given.Read (s.clients c).carried x) (ans.Refused y) o ys (clients_told w c k (ans.Refused y)) ord st g tt e
+      (next-read w.deployment k.seat (s.sites k.seat) (seen_by k) (s.clients c).carried x (ans.Refused y)) (λ n. seat-given s c k.seat n (given.Read (s.clients c).carried x) (st.clients c k h).seat) refl (λ z. refl)
+      (same-clients w.clients s.clients c k h st.clients)
+
+  read-nothing : ans.ReadNone ≡ world_answer w.deployment s (act.Read c x) → StepsAt w.sites k.seat (given.Read (seen_by k) x) ans.ReadNone o ys → Done ans.ReadNone (act.Read c x)
+  unfolding world_given handled_by
+  read-nothing e g =
+      local-steps w s (act.Read c x) k.seat (given.Read (seen_by k) x) (given.Read (s.clients c).carried x) ans.ReadNone o ys (clients_told w c k ans.ReadNone) ord st g tt e
+      (next-read w.deployment k.seat (s.sites k.seat) (seen_by k) (s.clients c).carried x ans.ReadNone) (λ n. seat-given s c k.seat n (given.Read (s.clients c).carried x) (st.clients c k h).seat) refl (λ z. refl)
+      (same-clients w.clients s.clients c k h st.clients)
+
+  read-something : (l : Label) (v : List ℕ) → ans.ReadSome l v ≡ world_answer w.deployment s (act.Read c x) → StepsAt w.sites k.seat (given.Read (seen_by k) x) (ans.ReadSome l v) o ys → Done (ans.ReadSome l v) (act.Read c x)
+  unfolding world_given handled_by
+  read-something l v e g =
+      local-steps w s (act.Read c x) k.seat (given.Read (seen_by k) x) (given.Read (s.clients c).carried x) (ans.ReadSome l v) o ys (clients_told w c k (ans.ReadSome l v)) ord st g tt e
+      (next-read w.deployment k.seat (s.sites k.seat) (seen_by k) (s.clients c).carried x (ans.ReadSome l v)) (λ n. seat-given s c k.seat n (given.Read (s.clients c).carried x) (st.clients c k h).seat) refl (λ z. refl)
+      (raised-clients w.clients s.clients c k l.point h st.clients)
+
+  pub write-steps : (v : List ℕ) (r : Answer) → StepsAt w.sites k.seat (given.Write (seen_by k) x v) r o ys → Done r (act.Write c x v)
+  write-steps v r g = go (subst (λ (q : Answer). WriteTold q) (sym is) (write-answers w.deployment k.seat (s.sites k.seat) (seen_by k) x v))
+    where
+      is : r ≡ site_answer w.deployment k.seat (s.sites k.seat) (given.Write (seen_by k) x v)
+      is = told-by w s k.seat (given.Write (seen_by k) x v) r o ys ord st g tt
+
+      all : r ≡ world_answer w.deployment s (act.Write c x v)
+      all = is ∙ answer-write w s c x v k (st.clients c k h)
+
+      go : WriteTold r → Done r (act.Write c x v)
+      go (refuses y e) = subst (λ (q : Answer). q ≡ world_answer w.deployment s (act.Write c x v) → StepsAt w.sites k.seat (given.Write (seen_by k) x v) q o ys → Done q (act.Write c x v)) (sym e) (write-refused v y) all g
+      go (wrote l e) = subst (λ (q : Answer). q ≡ world_answer w.deployment s (act.Write c x v) → StepsAt w.sites k.seat (given.Write (seen_by k) x v) q o ys → Done q (act.Write c x v)) (sym e) (write-wrote v l) all g
+
+  pub read-steps : (r : Answer) → StepsAt w.sites k.seat (given.Read (seen_by k) x) r o ys → Done r (act.Read c x)
+  read-steps r g = go (subst (λ (q : Answer). ReadTold q) (sym is) (read-answers w.deployment k.seat (s.sites k.seat) (seen_by k) x))
+    where
+      is : r ≡ site_answer w.deployment k.seat (s.sites k.seat) (given.Read (seen_by k) x)
+      is = told-by w s k.seat (given.Read (seen_by k) x) r o ys ord st g tt
+
+      all : r ≡ world_answer w.deployment s (act.Read c x)
+      all = is ∙ answer-read w s c x k (st.clients c k h)
+
+      go : ReadTold r → Done r (act.Read c x)
+      go (hides y e) = subst (λ (q : Answer). q ≡ world_answer w.deployment s (act.Read c x) → StepsAt w.sites k.seat (given.Read (seen_by k) x) q o ys → Done q (act.Read c x)) (sym e) (read-refused y) all g
+      go (lacks e) = subst (λ (q : Answer). q ≡ world_answer w.deployment s (act.Read c x) → StepsAt w.sites k.seat (given.Read (seen_by k) x) q o ys → Done q (act.Read c x)) (sym e) read-nothing all g
+      go (shows l v e) = subst (λ (q : Answer). q ≡ world_answer w.deployment s (act.Read c x) → StepsAt w.sites k.seat (given.Read (seen_by k) x) q o ys → Done q (act.Read c x)) (sym e) (read-something l v) all g

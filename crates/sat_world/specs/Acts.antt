@@ -1,61 +1,114 @@
 -- What each built act answers and does, by what a world keeps.
-use Rattle.std.specs.Prelude.{◌≡◌, ℕ, ◌+◌, ◌-◌, ◌^◌, true, false, nat_le, max, List, [], ◌∷◌, length, set, Some, None, slice_get}
-use Rattle.sat_label.specs.declared.label.Kind.TheVariants as kind
+use Rattle.std.specs.Prelude.{◌≡◌, ℕ, ◌^◌, ◌++◌, min, List, [], ◌∷◌, set, Option, Some, None, slice_get}
+use Rattle.std.specs.Option.{option_to_list}
 use Rattle.sat_label.specs.declared.label.Label.{Label}
-use Rattle.sat_label.specs.declared.node.NodeId.TheVariants.{Site}
+use Rattle.sat_label.specs.declared.carried.Carried.{Carried}
+use Rattle.sat_label.specs.declared.node.NodeId.{NodeId}
+use Rattle.sat_label.specs.declared.node.NodeId.TheVariants.{Site, Serializer}
 use Rattle.sat_label.specs.declared.point.Point.{Point}
 use Rattle.sat_label.specs.Order.{point_at, greater_point}
+use Rattle.sat_bulk.specs.declared.Payload.{Payload}
+use Rattle.sat_sites.specs.Interested.{Interested}
+use Rattle.sat_tree.specs.Cut.{seat_of}
 use Rattle.sat_act.specs.declared.act.Act.{Act}
 use Rattle.sat_act.specs.declared.act.Act.TheVariants as act
 use Rattle.sat_act.specs.declared.answer.Answer.{Answer}
 use Rattle.sat_act.specs.declared.answer.Answer.TheVariants as ans
 use Rattle.sat_act.specs.declared.answer.Refusal.TheVariants as why
-use Rattle.sat_machine.specs.State.{Payload}
+use Rattle.sat_act.specs.Deployed.{Deployed}
+use Rattle.sat_machine.specs.State.{SiteState}
+use Rattle.sat_machine.specs.Input.{SiteInput}
+use Rattle.sat_machine.specs.Input as given
+use Rattle.sat_machine.specs.Look.{front_of}
+use Rattle.sat_serial.specs.Routes.{routes}
+use Rattle.sat_serial.specs.Outboxes.{SerializerSeen, IsSerializer, outbox, handled, shipped}
+use Rattle.sat_site.specs.Seen.{SiteSeen}
+use Rattle.sat_site.specs.Stands.{StandsSite}
+use Rattle.sat_site.specs.Gives.{AnswersBy, StandsBy, IsSent}
 use Rattle.sat_world.specs.declared.client.Client.{Client}
-use Rattle.sat_world.specs.declared.version.Version.{Version}
-use Rattle.sat_world.specs.Seen.{SiteSeen, WorldSeen}
-use Rattle.sat_world.specs.Changes.{wrote, gathered, ready, emitted, left, arrived, brought, turned}
+use Rattle.sat_world.specs.Seen.{WorldSeen, HasSite, HasSerializer, HasOutgoing, HasClient, tree_in}
+use Rattle.sat_world.specs.Clocks.{IsGreatest, AreClocked}
 
-abbrev pub with_site : WorldSeen → ℕ → SiteSeen → WorldSeen
-with_site w i s = record w { sites = set w.sites i s }
+-- ---- one site
 
--- a client that saw a point
-abbrev pub raised : Client → Point → Client
-raised c p = record c { carried = greater_point p c.carried }
+-- site i is handed something, answers it, sends a label or none, and becomes another site
+pub record StepsAt (xs : List SiteSeen) (i : ℕ) (input : SiteInput) (r : Answer) (o : Option Label) (ys : List SiteSeen) : Type 0 where
+  pub before : SiteSeen
+  pub after : SiteSeen
+  pub at : slice_get xs i ≡ Some before
+  pub answers : AnswersBy before input r
+  pub stands : StandsBy before input r after
+  pub sent : IsSent before.shape r o
+  pub shape : after.shape ≡ before.shape
+  pub rest : ys ≡ set xs i after
 
-abbrev pub with_client : WorldSeen → ℕ → Client → WorldSeen
-with_client w c x = record w { clients = set w.clients c x }
+-- the number of the next payload of a lane to a site
+abbrev pub IsNumber : SiteSeen → ℕ → ℕ → ℕ → Type 0
+IsNumber y from gear n = (d : Deployed) (k : ℕ) (s : SiteState) → StandsSite d k y s → n ≡ front_of s from gear
 
--- the other of the two sites
-abbrev pub other : ℕ → ℕ
-other i = 1 - i
+-- what stands at a place of a lane from a site
+abbrev pub IsInLane : SiteSeen → ℕ → ℕ → ℕ → Option Payload → Type 0
+IsInLane x gear to n o = (d : Deployed) (k : ℕ) (s : SiteState) → StandsSite d k x s → slice_get ((s.gears gear).lanes to) n ≡ o
 
--- above all that the gear stamped and the client carries
-abbrev pub base : Client → SiteSeen → ℕ
-base c s = max s.promise c.carried.ts
+-- ---- one serializer
 
--- the label of a client's write of item x
-abbrev pub stamped : Client → SiteSeen → ℕ → Label
-stamped c s x = record { point = point_at (base c s + 1) c.seat 0; kind = kind.Update x }
+-- serializer z hands a label that came from u on
+pub record HandsAt (ss : List SerializerSeen) (z : ℕ) (a : Interested) (u : NodeId) (l : Label) (nodes : List NodeId) (ts : List SerializerSeen) : Type 0 where
+  pub before : SerializerSeen
+  pub at : slice_get ss z ≡ Some before
+  pub limits : IsSerializer before
+  pub routed : nodes ≡ routes a before.tree before.number u l
+  pub rest : ts ≡ set ss z (handled before a u l)
 
-abbrev pub HasSite : WorldSeen → ℕ → SiteSeen → Type 0
-HasSite w i s = slice_get w.sites i ≡ Some s
+-- the oldest label for v leaves serializer z
+pub record ShipsAt (ss : List SerializerSeen) (z : ℕ) (v : NodeId) (ts : List SerializerSeen) : Type 0 where
+  pub before : SerializerSeen
+  pub at : slice_get ss z ≡ Some before
+  pub rest : ts ≡ set ss z (shipped before v)
 
-abbrev pub HasClient : WorldSeen → ℕ → Client → Type 0
-HasClient w c x = slice_get w.clients c ≡ Some x
+-- it leaves where a site showed it or took it
+abbrev pub TakesAt : Answer → List SerializerSeen → ℕ → NodeId → List SerializerSeen → Type 0
+TakesAt (ans.Shown l) ss z v ts = ShipsAt ss z v ts
+TakesAt (ans.Took l) ss z v ts = ShipsAt ss z v ts
+TakesAt r ss z v ts = ts ≡ ss
+
+-- ---- clients
+
+-- what a client's site is handed of it: a timestamp above the last one serves as that one
+abbrev pub seen_by : Client → Carried
+seen_by x = record { point = point_at (min x.carried.ts (2 ^ 62)) x.carried.site x.carried.gear; moving = None }
+
+-- the point of a client that got an answer
+abbrev pub told : Answer → Point → Point
+told (ans.Wrote l) p = greater_point l.point p
+told (ans.ReadSome l v) p = greater_point l.point p
+told r p = p
+
+abbrev pub clients_told : WorldSeen → ℕ → Client → Answer → List Client
+clients_told w c x r = set w.clients c (record x { carried = told r x.carried })
+
+-- ---- the acts
 
 pub data Acts (w : WorldSeen) : Act → Answer → WorldSeen → Type 0 where
-  spends : {c x : ℕ} {value : List ℕ} (k : Client) (s : SiteSeen) → HasClient w c k → HasSite w k.seat s → nat_le (2 ^ 62) (base k s) ≡ true → Acts w (act.Write c x value) (ans.Refused why.Spent) w
-  writes : {c x : ℕ} {value : List ℕ} (k : Client) (s : SiteSeen) → HasClient w c k → HasSite w k.seat s → nat_le (2 ^ 62) (base k s) ≡ false →
-      Acts w (act.Write c x value) (ans.Wrote (stamped k s x)) (with_client (with_site w k.seat (wrote s (stamped k s x) value)) c (raised k (stamped k s x).point))
-  reads_none : {c x : ℕ} (k : Client) (s : SiteSeen) → HasClient w c k → HasSite w k.seat s → s.version ≡ None → Acts w (act.Read c x) ans.ReadNone w
-  reads : {c x : ℕ} (k : Client) (s : SiteSeen) (v : Version) → HasClient w c k → HasSite w k.seat s → s.version ≡ Some v → Acts w (act.Read c x) (ans.ReadSome v.label v.value) (with_client w c (raised k v.label.point))
-  gathers : {i : ℕ} (s : SiteSeen) → HasSite w i s → Acts w (act.Gather i) (ans.Gathered (length s.fresh) s.promise) (with_site w i (gathered s))
-  idles : {i : ℕ} (s : SiteSeen) → HasSite w i s → ready s ≡ None → Acts w (act.Emit i) (ans.Refused why.Idle) w
-  emits : {i : ℕ} (s : SiteSeen) (l : Label) → HasSite w i s → ready s ≡ Some l → Acts w (act.Emit i) (ans.Emitted l) (with_site w i (emitted s l))
-  hops_none : {e i z : ℕ} (s : SiteSeen) → HasSite w i s → slice_get s.outgoing 0 ≡ None → Acts w (act.Hop e (Site i) z) (ans.Refused why.Empty) w
-  hops : {e i z : ℕ} (s t : SiteSeen) (l : Label) → HasSite w i s → HasSite w (other i) t → slice_get s.outgoing 0 ≡ Some l →
-      Acts w (act.Hop e (Site i) z) (ans.Hopped l (Site (other i) ∷ [])) (with_site (with_site w (other i) (arrived t l)) i (left s))
-  turns : {j : ℕ} (s : SiteSeen) → HasSite w j s → Acts w (act.Turn j) (turned s).0 (with_site w j (turned s).1)
-  brings_none : {i g j : ℕ} (s t : SiteSeen) → HasSite w i s → HasSite w j t → slice_get s.lane t.taken ≡ None → Acts w (act.Bulk i g j None) (ans.Refused why.NoSuch) w
-  brings : {i g j : ℕ} (s t : SiteSeen) (p : Payload) → HasSite w i s → HasSite w j t → slice_get s.lane t.taken ≡ Some p → Acts w (act.Bulk i g j None) (ans.Brought p.label) (with_site w j (brought t p))
+  ticks : {i g t : ℕ} {r : Answer} {o : Option Label} {ys : List SiteSeen} → StepsAt w.sites i (given.Tick g t) r o ys → Acts w (act.Tick i g t) r (record w { sites = ys })
+  clocks : {ts : ℕ} {ys : List SiteSeen} → IsGreatest w.sites w.deployment.gears ts → AreClocked ts w.sites ys → Acts w act.Clock (ans.Clocked ts) (record w { sites = ys })
+  writes : {c x : ℕ} {value : List ℕ} {r : Answer} {o : Option Label} {ys : List SiteSeen} (k : Client) → HasClient w c k → StepsAt w.sites k.seat (given.Write (seen_by k) x value) r o ys →
+      Acts w (act.Write c x value) r (record w { sites = ys; clients = clients_told w c k r })
+  reads : {c x : ℕ} {r : Answer} {o : Option Label} {ys : List SiteSeen} (k : Client) → HasClient w c k → StepsAt w.sites k.seat (given.Read (seen_by k) x) r o ys →
+      Acts w (act.Read c x) r (record w { sites = ys; clients = clients_told w c k r })
+  gathers : {i : ℕ} {r : Answer} {o : Option Label} {ys : List SiteSeen} → StepsAt w.sites i given.Gather r o ys → Acts w (act.Gather i) r (record w { sites = ys })
+  emits : {i : ℕ} {r : Answer} {o : Option Label} {ys : List SiteSeen} (ls : List Label) → HasOutgoing w i ls → StepsAt w.sites i given.Emit r o ys →
+      Acts w (act.Emit i) r (record w { sites = ys; outgoing = set w.outgoing i (ls ++ option_to_list o) })
+  finds_none : {e i z : ℕ} → HasOutgoing w i [] → Acts w (act.Hop e (Site i) z) (ans.Refused why.Empty) w
+  finds_nothing : {e y z : ℕ} (q : SerializerSeen) → HasSerializer w y q → slice_get (outbox q (Serializer z)) 0 ≡ None → Acts w (act.Hop e (Serializer y) z) (ans.Refused why.Empty) w
+  hops_up : {e i z : ℕ} {nodes : List NodeId} {ts : List SerializerSeen} (l : Label) (ls : List Label) → HasOutgoing w i (l ∷ ls) → HandsAt w.serializers z w.interest (Site i) l nodes ts →
+      Acts w (act.Hop e (Site i) z) (ans.Hopped l nodes) (record w { serializers = ts; outgoing = set w.outgoing i ls })
+  hops_on : {e y z : ℕ} {nodes : List NodeId} {ts us : List SerializerSeen} (q : SerializerSeen) (l : Label) → HasSerializer w y q → slice_get (outbox q (Serializer z)) 0 ≡ Some l →
+      HandsAt w.serializers z w.interest (Serializer y) l nodes ts → ShipsAt ts y (Serializer z) us →
+      Acts w (act.Hop e (Serializer y) z) (ans.Hopped l nodes) (record w { serializers = us })
+  turns : {j : ℕ} {r : Answer} {o : Option Label} {ys : List SiteSeen} {ts : List SerializerSeen} (s : SerializerSeen) → HasSerializer w (seat_of (tree_in w.deployment) j) s →
+      StepsAt w.sites j (given.Turn (slice_get (outbox s (Site j)) 0)) r o ys → TakesAt r w.serializers (seat_of (tree_in w.deployment) j) (Site j) ts →
+      Acts w (act.Turn j) r (record w { sites = ys; serializers = ts })
+  brings_none : {i g j : ℕ} (n : ℕ) (x y : SiteSeen) → HasSite w i x → HasSite w j y → IsNumber y i g n → IsInLane x g j n None → Acts w (act.Bulk i g j None) (ans.Refused why.NoSuch) w
+  brings : {i g j : ℕ} {r : Answer} {o : Option Label} {ys : List SiteSeen} (n : ℕ) (p : Payload) (x y : SiteSeen) → HasSite w i x → HasSite w j y → IsNumber y i g n → IsInLane x g j n (Some p) →
+      StepsAt w.sites j (given.Bulk i g n p) r o ys → Acts w (act.Bulk i g j None) r (record w { sites = ys })

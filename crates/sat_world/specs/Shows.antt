@@ -2,7 +2,7 @@
 use Rattle.std.specs.Prelude.{◌≡◌, ℕ, List, Some}
 use Rattle.sat_act.specs.declared.entry.Entry.{Entry}
 use Rattle.sat_act.specs.Parts.{version, value_of}
-use Rattle.sat_world.specs.declared.version.Version.{Version}
+use Rattle.sat_store.specs.declared.store.Version.{Version}
 
 -- item x's version at site i, with the value of the write that made its label
 pub record IsVersion (h : List Entry) (i x : ℕ) (v : Version) : Type 0 where

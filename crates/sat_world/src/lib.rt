@@ -2,11 +2,13 @@
 #![tactic(auto)]
 
 mod client;
-mod site;
+mod clocks;
+mod places;
+mod start;
 #[cfg(test)]
 mod tests;
-mod version;
 mod world;
 
-pub use version::{SiteView, Version};
+pub use sat_site::SiteView;
+pub use sat_store::Version;
 pub use world::World;

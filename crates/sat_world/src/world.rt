@@ -1,4 +1,4 @@
-//! The world of the built acts, over plain lists.
+//! The world of the built acts.
 ghost use Rattle.std.specs.Prelude.{◌≡◌, ◌<◌, ℕ, true, false, List, [], ◌∷◌, length, IfOk, OnErr, IsOk, MatchOption, Some, None};
 ghost use Rattle.sat_act.specs.declared.entry.Entry.{Entry};
 ghost use Rattle.sat_act.specs.Answers.{answer};
@@ -7,41 +7,46 @@ ghost use Rattle.sat_act.specs.Ranges.{IsActOf};
 ghost use Rattle.sat_act.specs.Built.{IsBuilt, is_built_act};
 ghost use Rattle.sat_act.specs.Headline.{IsGood};
 ghost use Rattle.sat_act.specs.Parts.{view, emission, in_stamp_mode, waiting, version, value_of};
-ghost use Rattle.sat_label.specs.declared.node.NodeId.TheVariants.{Site as SiteNode};
-ghost use Rattle.sat_world.specs.Acts.{Acts, other};
+ghost use Rattle.sat_label.specs.declared.node.NodeId.TheVariants.{Site as SiteNode, Serializer as SerializerNode};
+ghost use Rattle.sat_serial.specs.Routes.{IsNeighbour};
+ghost use Rattle.sat_world.specs.Seen.{tree_in};
+ghost use Rattle.sat_world.specs.Acts.{Acts};
 ghost use Rattle.sat_world.specs.Orderly.{IsOrderly};
 ghost use Rattle.sat_world.specs.Shows.{IsVersion};
 ghost use Rattle.sat_world.specs.Stands.{StandsFor};
 
 use crate::client::Client;
-use crate::site::Site;
-use crate::{SiteView, Version};
+use crate::{SiteView, Version, clocks, places, start};
 use sat_act::{Act, Answer, Deployment, Refusal};
-use sat_label::{Kind, Label, NodeId, Nodes, Point, TS_END, Value};
+use sat_label::{Label, NodeId, Value};
+use sat_serial::Serializer;
+use sat_site::{Site, SiteInput};
+use sat_sites::Interest;
 use std::alloc::{AllocError, Global};
+use std::collections::VecDeque;
 use std::marker::Model;
-
-// No act that is built leaves the first epoch.
-const FIRST_EPOCH: u16 = 1;
 
 /// All sites, links and clients of a deployment. It keeps no past.
 #[derive(Drop)]
 pub struct World {
-    alloc: Global,
     deployment: Deployment,
-    sites: [Site; 2],
-    clients: [Client; 2],
+    interest: Interest,
+    sites: Vec<Site>,
+    serializers: Vec<Serializer>,
+    outgoing: Vec<VecDeque<Label>>,
+    clients: Vec<Client>,
 }
 
 impl Model for World {
+    ghost use Rattle.sat_serial.specs.Queues.{labels_in};
     ghost use Rattle.sat_world.specs.Seen.{WorldSeen};
     ghost use Rattle.sat_world.specs.Orderly.{IsOrderly};
 
     ghost Value = { WorldSeen };
 
-    ghost view = { λ w. record { deployment = w.deployment; sites = w.sites; clients = w.clients } };
+    ghost view = { λ w. record { deployment = w.deployment; interest = w.interest; sites = w.sites.items; serializers = w.serializers.items; outgoing = labels_in w.outgoing.items; clients = w.clients.items } };
 
-    ghost invariant = { λ w. IsOrderly (record { deployment = w.deployment; sites = w.sites; clients = w.clients }) };
+    ghost invariant = { λ w. IsOrderly (record { deployment = w.deployment; interest = w.interest; sites = w.sites.items; serializers = w.serializers.items; outgoing = labels_in w.outgoing.items; clients = w.clients.items }) };
 }
 
 impl World {
@@ -51,30 +56,30 @@ impl World {
         ensures deployment { IfOk result (λ w. w.deployment ≡ d) }
         ensures stands { IfOk result (λ w. StandsFor w []) }
     {
+        let interest = start::interest(alloc, &d)?;
+        let sites = start::sites(alloc, &d)?;
+        let serializers = start::serializers(alloc, start::tree(&d))?;
+        let outgoing = start::links(alloc, d.sites())?;
+        let clients = start::clients(alloc, &d)?;
         Ok(World {
-            alloc,
             deployment: d,
-            sites: [Site::new(alloc), Site::new(alloc)],
-            clients: [
-                Client {
-                    carried: Point::zero(),
-                    seat: 0,
-                },
-                Client {
-                    carried: Point::zero(),
-                    seat: 1,
-                },
-            ],
+            interest,
+            sites,
+            serializers,
+            outgoing,
+            clients,
         })
     }
 
-    /// Does an act and answers it. For want of memory the world is as before.
+    /// Does an act and answers it. For want of memory the world is as before; a tick, a clock and a turn take none.
     pub fn apply(&mut self, act: &Act) -> Result<Answer, AllocError>
         requires act { IsActOf self.old.deployment act.now }
         requires built { is_built_act act.now ≡ true }
         ensures answer { IfOk result (λ r. (h : List Entry) → IsRun self.old.deployment h → StandsFor self.old h → r ≡ answer self.old.deployment h act.now) }
         ensures stands { IfOk result (λ r. (h : List Entry) → IsRun self.old.deployment h → StandsFor self.old h → StandsFor self.new (record { act = act.now; answer = r; inner = false } ∷ h)) }
         ensures good { IfOk result (λ r. (h : List Entry) → IsRun self.old.deployment h → StandsFor self.old h → IsGood self.old.deployment (record { act = act.now; answer = r; inner = false } ∷ h)) }
+        ensures tick { (i g t : ℕ) → act.now ≡ Act.Tick i g t → IsOk result }
+        ensures clock { act.now ≡ Act.Clock → IsOk result }
         ensures turn { (j : ℕ) → act.now ≡ Act.Turn j → IsOk result }
         ensures deployment { self.new.deployment ≡ self.old.deployment }
         ensures err { OnErr result (self.new ≡ self.old) }
@@ -99,35 +104,34 @@ impl World {
         ensures waiting { (h : List Entry) → IsRun self.now.deployment h → StandsFor self.now h → result.waiting ≡ length (waiting h i) }
     {
         let site = &self.sites[i as usize];
-        SiteView {
-            view: FIRST_EPOCH,
-            emission: FIRST_EPOCH,
-            stamp: false,
-            waiting: site.waiting(),
-        }
+        site.view()
     }
 
-    /// The version of the item at a site, None where the site shows none. Today there is the one item. It takes no memory.
+    /// The version of an item at a site, None where the site shows none. It takes no memory.
     pub fn version(&self, i: u16, item: u16) -> Option<&Version>
         requires site { i < self.now.deployment.sites }
         requires item { item < length self.now.deployment.items }
         ensures { (h : List Entry) → IsRun self.now.deployment h → StandsFor self.now h → MatchOption result (version h i item ≡ None) (λ v. IsVersion h i item v.now) }
     {
         let site = &self.sites[i as usize];
-        site.version()
+        site.version(item)
     }
 
-    // Does an act on the lists. The calls below do one kind of act each.
+    // Does an act. The calls below do one kind of act each.
     fn step(&mut self, act: &Act) -> Result<Answer, AllocError>
         requires act { IsActOf self.old.deployment act.now }
         requires built { is_built_act act.now ≡ true }
         ensures ok { IfOk result (λ r. Acts self.old act.now r self.new) }
         ensures orderly { IsOrderly self.old }
+        ensures tick { (i g t : ℕ) → act.now ≡ Act.Tick i g t → IsOk result }
+        ensures clock { act.now ≡ Act.Clock → IsOk result }
         ensures turn { (j : ℕ) → act.now ≡ Act.Turn j → IsOk result }
         ensures err { OnErr result (self.new ≡ self.old) }
     {
         let _ = &self.deployment;
         match act {
+            Act::Tick { site, gear, ts } => self.tick(*site, *gear, *ts),
+            Act::Clock => Ok(self.clock()),
             Act::Write {
                 client,
                 item,
@@ -137,10 +141,10 @@ impl World {
             Act::Gather { site } => self.gather(*site),
             Act::Emit { site } => self.emit(*site),
             Act::Hop { epoch, from, to } => match from {
-                NodeId::Site(from) => self.hop(*epoch, *from, *to),
-                NodeId::Serializer(_) => unreachable!(),
+                NodeId::Site(from) => self.hop_up(*epoch, *from, *to),
+                NodeId::Serializer(from) => self.hop_on(*epoch, *from, *to),
             },
-            Act::Turn { site } => Ok(self.turn(*site)),
+            Act::Turn { site } => self.turn(*site),
             Act::Bulk {
                 from,
                 gear,
@@ -154,114 +158,139 @@ impl World {
         }
     }
 
-    // Every client sits at a site that keeps the item, so a write is refused only where no timestamp is left.
+    fn tick(&mut self, site: u16, gear: u16, ts: u64) -> Result<Answer, AllocError>
+        requires { IsActOf self.old.deployment (Act.Tick site gear ts) }
+        ensures ok { IfOk result (λ r. Acts self.old (Act.Tick site gear ts) r self.new) }
+        ensures fine { IsOk result }
+    {
+        let out = places::step_at(&mut self.sites, site, SiteInput::Tick { gear, ts })?;
+        Ok(out.answer)
+    }
+
+    fn clock(&mut self) -> Answer
+        ensures { Acts self.old Act.Clock result self.new }
+    {
+        let gears = self.deployment.gears();
+        let ts = clocks::greatest(&self.sites, gears);
+        clocks::raise(&mut self.sites, ts);
+        Answer::Clocked(ts)
+    }
+
     fn write(&mut self, client: u16, item: u16, value: &Value) -> Result<Answer, AllocError>
-        requires { client < 2 }
+        requires { IsActOf self.old.deployment (Act.Write client item value.now) }
         ensures ok { IfOk result (λ r. Acts self.old (Act.Write client item value.now) r self.new) }
         ensures err { OnErr result (self.new ≡ self.old) }
     {
-        let Client { carried, seat } = self.clients[client as usize];
-        let site = &mut self.sites[seat as usize];
-        let base = site.promise().max(carried.ts);
-        if base >= TS_END {
-            return Ok(Answer::Refused(Refusal::Spent));
-        }
-        let label = Label {
-            point: Point {
-                ts: base + 1,
-                site: seat,
-                gear: 0,
-            },
-            kind: Kind::Update(item),
+        let known = self.clients[client as usize];
+        let input = SiteInput::Write {
+            carried: known.seen(),
+            item,
+            value: value.copy()?,
         };
-        site.write(label, value)?;
-        self.clients[client as usize].carried = label.point.greater(carried);
-        Ok(Answer::Wrote(label))
+        let out = places::step_at(&mut self.sites, known.seat, input)?;
+        self.clients[client as usize].carried = places::told(&out.answer, known.carried);
+        Ok(out.answer)
     }
 
     fn read(&mut self, client: u16, item: u16) -> Result<Answer, AllocError>
-        requires { client < 2 }
+        requires { IsActOf self.old.deployment (Act.Read client item) }
         ensures ok { IfOk result (λ r. Acts self.old (Act.Read client item) r self.new) }
         ensures err { OnErr result (self.new ≡ self.old) }
     {
-        let Client { carried, seat } = self.clients[client as usize];
-        let site = &self.sites[seat as usize];
-        let Some(version) = site.version() else {
-            return Ok(Answer::ReadNone);
+        let known = self.clients[client as usize];
+        let input = SiteInput::Read {
+            carried: known.seen(),
+            item,
         };
-        let label = version.label;
-        let value = version.value.copy()?;
-        self.clients[client as usize].carried = label.point.greater(carried);
-        Ok(Answer::ReadSome { label, value })
+        let out = places::step_at(&mut self.sites, known.seat, input)?;
+        self.clients[client as usize].carried = places::told(&out.answer, known.carried);
+        Ok(out.answer)
     }
 
     fn gather(&mut self, site: u16) -> Result<Answer, AllocError>
-        requires { site < 2 }
+        requires { site < self.old.deployment.sites }
         ensures ok { IfOk result (λ r. Acts self.old (Act.Gather site) r self.new) }
         ensures err { OnErr result (self.new ≡ self.old) }
     {
-        let site = &mut self.sites[site as usize];
-        let answer = site.gather()?;
-        Ok(answer)
+        let out = places::step_at(&mut self.sites, site, SiteInput::Gather)?;
+        Ok(out.answer)
     }
 
     fn emit(&mut self, site: u16) -> Result<Answer, AllocError>
-        requires { site < 2 }
+        requires { site < self.old.deployment.sites }
         ensures ok { IfOk result (λ r. Acts self.old (Act.Emit site) r self.new) }
         ensures err { OnErr result (self.new ≡ self.old) }
     {
-        let site = &mut self.sites[site as usize];
-        let Some(label) = site.ready() else {
-            return Ok(Answer::Refused(Refusal::Idle));
-        };
-        site.emit(label)?;
-        Ok(Answer::Emitted(label))
+        places::make_room(&mut self.outgoing, site)?;
+        let out = places::step_at(&mut self.sites, site, SiteInput::Emit)?;
+        places::send_at(&mut self.outgoing, site, out.sent);
+        Ok(out.answer)
     }
 
-    // A label of a site goes on to the other site alone.
-    fn hop(&mut self, epoch: u16, from: u16, to: u16) -> Result<Answer, AllocError>
-        requires { from < 2 }
+    // A label goes from a site to its serializer.
+    fn hop_up(&mut self, epoch: u16, from: u16, to: u16) -> Result<Answer, AllocError>
+        requires { IsActOf self.old.deployment (Act.Hop epoch (SiteNode from) to) }
         ensures ok { IfOk result (λ r. Acts self.old (Act.Hop epoch (SiteNode from) to) r self.new) }
         ensures err { OnErr result (self.new ≡ self.old) }
     {
-        let sender = &self.sites[from as usize];
-        let Some(label) = sender.outgoing() else {
+        let Some(label) = places::oldest(&self.outgoing, from) else {
             return Ok(Answer::Refused(Refusal::Empty));
         };
-        let receiver = 1 - from;
-        let mut nodes = Nodes::new(self.alloc);
-        nodes.push(NodeId::Site(receiver))?;
-        let site = &mut self.sites[receiver as usize];
-        site.arrive(label)?;
-        let site = &mut self.sites[from as usize];
-        site.leave();
+        let node = NodeId::Site(from);
+        let nodes = places::hand_on(&mut self.serializers, &self.interest, node, label, to)?;
+        places::take_oldest(&mut self.outgoing, from);
         Ok(Answer::Hopped { label, to: nodes })
     }
 
-    fn turn(&mut self, site: u16) -> Answer
-        requires { site < 2 }
-        ensures { Acts self.old (Act.Turn site) result self.new }
+    // A label goes from a serializer to another one.
+    fn hop_on(&mut self, epoch: u16, from: u16, to: u16) -> Result<Answer, AllocError>
+        requires { IsActOf self.old.deployment (Act.Hop epoch (SerializerNode from) to) }
+        ensures ok { IfOk result (λ r. Acts self.old (Act.Hop epoch (SerializerNode from) to) r self.new) }
+        ensures err { OnErr result (self.new ≡ self.old) }
     {
-        let site = &mut self.sites[site as usize];
-        site.turn()
+        let next = NodeId::Serializer(to);
+        let Some(label) = places::front_at(&self.serializers, from, next) else {
+            return Ok(Answer::Refused(Refusal::Empty));
+        };
+        let node = NodeId::Serializer(from);
+        let nodes = places::hand_on(&mut self.serializers, &self.interest, node, label, to)?;
+        places::ship_at(&mut self.serializers, from, next);
+        Ok(Answer::Hopped { label, to: nodes })
+    }
+
+    fn turn(&mut self, site: u16) -> Result<Answer, AllocError>
+        requires { site < self.old.deployment.sites }
+        ensures ok { IfOk result (λ r. Acts self.old (Act.Turn site) r self.new) }
+        ensures fine { IsOk result }
+    {
+        let seat = start::tree(&self.deployment).seat(site);
+        let node = NodeId::Site(site);
+        let front = places::front_at(&self.serializers, seat, node);
+        let out = places::step_at(&mut self.sites, site, SiteInput::Turn { front })?;
+        places::take_at(&mut self.serializers, seat, node, &out.answer);
+        Ok(out.answer)
     }
 
     // Payloads of a lane are taken in their order: the next number is how many were taken.
     fn bulk(&mut self, from: u16, gear: u16, to: u16) -> Result<Answer, AllocError>
-        requires from { from < 2 }
-        requires to { to < 2 }
+        requires { IsActOf self.old.deployment (Act.Bulk from gear to None) }
         ensures ok { IfOk result (λ r. Acts self.old (Act.Bulk from gear to None) r self.new) }
         ensures err { OnErr result (self.new ≡ self.old) }
     {
         let receiver = &self.sites[to as usize];
-        let number = receiver.taken();
+        let number = receiver.front(from, gear);
         let sender = &self.sites[from as usize];
-        let Some(payload) = sender.payload(number)? else {
+        let Some(payload) = sender.payload(gear, to, number) else {
             return Ok(Answer::Refused(Refusal::NoSuch));
         };
-        let label = payload.label();
-        let receiver = &mut self.sites[to as usize];
-        receiver.take(payload)?;
-        Ok(Answer::Brought(label))
+        let payload = payload.copy()?;
+        let input = SiteInput::Bulk {
+            from,
+            gear,
+            number,
+            payload,
+        };
+        let out = places::step_at(&mut self.sites, to, input)?;
+        Ok(out.answer)
     }
 }

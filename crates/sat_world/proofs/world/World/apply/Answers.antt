@@ -1,4 +1,4 @@
-use Rattle.sat_world.proofs.Steps.{goes, deployed}
+use Rattle.sat_world.proofs.Goes.{goes, deployed}
 use Rattle.sat_world.proofs.world.World.apply.Goals as goal
 
 pub returns-clause-answer : goal.returns-clause-answer

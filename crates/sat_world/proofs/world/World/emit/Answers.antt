@@ -1,9 +1,15 @@
-use Rattle.std.proofs.Common.{arith, sym, ◌∙◌}
-use Rattle.sat_world.proofs.Deeds.{did-idle, did-emit}
+use Rattle.std.proofs.Common.{List, ◌++◌, ◌∙◌, [], set, get_or, ap}
+use Rattle.std.specs.Option.{option_to_list}
+use Rattle.sat_label.specs.declared.label.Label.{Label}
+use Rattle.sat_world.proofs.Deeds.{seen-as, stays, did-emit}
 use Rattle.sat_world.proofs.world.World.emit.Goals as goal
 
-pub returns-in_default-clause-ok : goal.returns-in_default-clause-ok
-returns-in_default-clause-ok c = did-idle _ _ _ _ c.self.view_is (omega (arith, c.self.invariant.sites)) (sym c.ready.ensures ∙ c.in_default.is)
+pub invariant_of-self-2 : goal.invariant_of-self-2
+invariant_of-self-2 c =
+    stays _ _ _ _ _ c.self.view_is c.self.invariant c.requires (did-emit _ _ _ _ _ _ _ c.self.view_is c.self.invariant c.requires c.in_ok-out.ensures.ok
+    (c.send_at.ensures ∙ ap (λ (out : List (List Label)). set out c.args.site (get_or out c.args.site [] ++ option_to_list c.in_ok-out.out.sent)) c.make_room.ensures.labels))
 
 pub returns-clause-ok : goal.returns-clause-ok
-returns-clause-ok c = did-emit _ _ _ _ _ _ c.self.view_is (omega (arith, c.self.invariant.sites)) (sym c.ready.ensures ∙ c.in-Some.is) c.in_ok-emit.ensures.ok
+returns-clause-ok c =
+    seen-as _ _ _ _ _ c.self.view_is (did-emit _ _ _ _ _ _ _ c.self.view_is c.self.invariant c.requires c.in_ok-out.ensures.ok
+    (c.send_at.ensures ∙ ap (λ (out : List (List Label)). set out c.args.site (get_or out c.args.site [] ++ option_to_list c.in_ok-out.out.sent)) c.make_room.ensures.labels))

@@ -1,16 +1,15 @@
-use Rattle.sat_world.proofs.Deeds.{seen}
-use Rattle.sat_world.proofs.Starts.{shows-view, shows-emission, shows-mode, shows-waiting}
-use Rattle.std.proofs.Common.{◌∙◌}
+use Rattle.sat_world.proofs.Deeds.{site-at, deployment-of}
+use Rattle.sat_world.proofs.Shown.{shows-view, shows-emission, shows-mode, shows-waiting}
 use Rattle.sat_world.proofs.world.World.site.Goals as goal
 
 pub returns-clause-view : goal.returns-clause-view
-returns-clause-view c = λ h run st. let k = seen _ _ _ c.index-self-i.result c.self.view_is c.self.invariant c.requires in shows-view _ _ _ _ k.built run st k.site
+returns-clause-view c = λ h run st. shows-view _ h _ _ _ run st (site-at _ _ _ _ c.self.view_is c.self.invariant c.requires c.index-site.ensures) c.view.ensures
 
 pub returns-clause-emission : goal.returns-clause-emission
-returns-clause-emission c = λ h run st. let k = seen _ _ _ c.index-self-i.result c.self.view_is c.self.invariant c.requires in shows-emission _ _ _ _ k.built run st k.site
+returns-clause-emission c = λ h run st. shows-emission _ h _ _ _ run st (site-at _ _ _ _ c.self.view_is c.self.invariant c.requires c.index-site.ensures) c.view.ensures
 
 pub returns-clause-stamp : goal.returns-clause-stamp
-returns-clause-stamp c = λ h run st. let k = seen _ _ _ c.index-self-i.result c.self.view_is c.self.invariant c.requires in shows-mode _ _ _ _ k.built run st k.site
+returns-clause-stamp c = λ h run st. shows-mode _ h _ _ _ run st (site-at _ _ _ _ c.self.view_is c.self.invariant c.requires c.index-site.ensures) c.view.ensures
 
 pub returns-clause-waiting : goal.returns-clause-waiting
-returns-clause-waiting c = λ h run st. let k = seen _ _ _ c.index-self-i.result c.self.view_is c.self.invariant c.requires in c.waiting.ensures ∙ shows-waiting _ _ _ _ k.built run st k.site
+returns-clause-waiting c = λ h run st. shows-waiting _ h _ _ _ run st (site-at _ _ _ _ c.self.view_is c.self.invariant c.requires c.index-site.ensures) c.view.ensures (deployment-of _ _ c.self.view_is c.self.invariant)

@@ -1,14 +1,8 @@
-use Rattle.std.proofs.Common.{arith}
-use Rattle.sat_world.proofs.Deeds.{did-spend, did-write, stays-orderly, site-orderly, seat-within}
+use Rattle.sat_world.proofs.Deeds.{seen-as, stays, did-write}
 use Rattle.sat_world.proofs.world.World.write.Goals as goal
 
-pub returns-then-base-ge-TS_END-clause-ok : goal.returns-then-base-ge-TS_END-clause-ok
-returns-then-base-ge-TS_END-clause-ok c =
-    did-spend _ _ _ _ _ _ _ _ _ c.self.view_is (omega (arith, c.self.invariant.clients)) (seat-within _ _ _ c.self.invariant c.requires) c.promise.ensures c.max-base.ensures c.if-base-ge-TS_END.true
-
 pub invariant_of-self-2 : goal.invariant_of-self-2
-invariant_of-self-2 c = stays-orderly _ _ _ _ (omega (arith, c.self.invariant.clients)) (site-orderly _ _ _ c.self.invariant)
+invariant_of-self-2 c = stays _ _ _ _ _ c.self.view_is c.self.invariant c.requires (did-write _ _ _ _ _ _ _ _ _ _ _ _ _ c.self.view_is c.self.invariant c.requires.0 c.index.ensures c.index_mut.ensures.value c.seen.ensures c.in_ok-copy.ensures c.told.ensures c.in_ok-out.ensures.ok)
 
 pub returns-clause-ok : goal.returns-clause-ok
-returns-clause-ok c =
-    did-write _ _ _ _ _ _ _ _ _ _ _ c.self.view_is (omega (arith, c.self.invariant.clients)) (seat-within _ _ _ c.self.invariant c.requires) c.promise.ensures c.max-base.ensures c.if-base-ge-TS_END.false c.in_ok-write.ensures.ok c.greater.ensures
+returns-clause-ok c = seen-as _ _ _ _ _ c.self.view_is (did-write _ _ _ _ _ _ _ _ _ _ _ _ _ c.self.view_is c.self.invariant c.requires.0 c.index.ensures c.index_mut.ensures.value c.seen.ensures c.in_ok-copy.ensures c.told.ensures c.in_ok-out.ensures.ok)

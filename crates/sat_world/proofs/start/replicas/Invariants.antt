@@ -1,0 +1,6 @@
+use Rattle.std.proofs.Common.{◌≡◌, map, take}
+use Rattle.sat_site.specs.Stands.{replicas_of}
+use Rattle.sat_world.proofs.start.replicas.Given as goal
+
+abbrev pub invariant-loop-item : goal.invariant-loop-item
+invariant-loop-item l = l.sets.items ≡ map replicas_of (take l.item-index l.item-items)
