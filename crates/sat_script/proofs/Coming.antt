@@ -1,20 +1,19 @@
 -- What a reader of pieces keeps.
-use Rattle.std.proofs.Common.{◌≡◌, ◌≢◌, ℕ, ◌+◌, ◌-◌, ◌*◌, ◌<◌, ◌≤◌, ◌⊎◌, inl, inr, Bool, List, [], ◌∷◌, ◌++◌, length, Option, Some, None, Result, Ok, Err, sym, ap, ◌∙◌, refl, subst, arith}
+use Rattle.std.proofs.Common.{◌≡◌, ◌≢◌, ℕ, ◌+◌, ◌≤◌, inr, Bool, List, [], ◌∷◌, ◌++◌, length, Option, Some, None, Result, Ok, Err, sym, ap, ◌∙◌, subst, arith}
 use Rattle.std.specs.Option.{IfSome}
-use Rattle.std.specs.Result.{OnOk, OnErr}
 use Rattle.std.proofs.lemmas.List.{append-nil, length-append}
 use Rattle.sat_act.specs.declared.act.Act.{Act}
 use Rattle.sat_act.specs.Deployed.{Deployed}
-use Rattle.sat_script.specs.Grammar.{after, line_at, with_act}
-use Rattle.sat_script.specs.Kept.{IsFit, IsWhole, HasHeader, HasSaid, IsGoing, IsComing}
-use Rattle.sat_script.specs.Lines.{Takes, Closes, IsGoodLine, running, failed}
-use Rattle.sat_script.specs.Reading.{reading, AreBuiltActs, UnlessMemory, with_line, told_line, fault_at}
+use Rattle.sat_script.specs.Grammar.{after, with_act}
+use Rattle.sat_script.specs.Kept.{IsFit, IsWhole, HasHeader, HasSaid, IsComing}
+use Rattle.sat_script.specs.Lines.{Takes, Closes, running, failed}
+use Rattle.sat_script.specs.Reading.{reading, AreBuiltActs, with_line, told_line, fault_at}
 use Rattle.sat_script.specs.Spelled.{Spells}
 use Rattle.sat_script.specs.State.{State, Seen, number_of}
 use Rattle.sat_script.specs.Stream.{Came, will_be, bytes_of, kept, meaning}
-use Rattle.sat_script.specs.declared.fault.Cause.TheVariants.{Unbuilt, Memory}
+use Rattle.sat_script.specs.declared.fault.Cause.TheVariants.{Memory}
 use Rattle.sat_script.specs.declared.fault.ScriptFault.{ScriptFault}
-use Rattle.sat_script.specs.declared.limits.TheConstants.{LONGEST_LINE, MOST_ACTS, LINE_BYTES, MOST_BYTES}
+use Rattle.sat_script.specs.declared.limits.TheConstants.{LONGEST_LINE, MOST_BYTES}
 use Rattle.sat_script.specs.declared.line.Line.{Line}
 use Rattle.sat_script.specs.declared.line.Parsed.{Parsed}
 use Rattle.sat_script.specs.declared.line.Parsed.TheVariants as parsed
@@ -22,7 +21,7 @@ use Rattle.sat_script.specs.declared.line.Stage.{Stage}
 use Rattle.sat_script.specs.declared.line.Stage.TheVariants as stage
 use Rattle.sat_script.specs.declared.stream.Reading.{Reading}
 use Rattle.sat_script.proofs.Fits.{line_is, fit_after}
-use Rattle.sat_script.proofs.Meaning.{IsStuck}
+use Rattle.sat_script.proofs.Meaning.{IsStuck, stuck_cause}
 use Rattle.sat_script.proofs.Pieces.{byte_keeps, byte_stops, stops, settled, line_fails, line_goes, good_of}
 use Rattle.sat_script.proofs.Whole.{IsRead, read_spells, line_counted, lines_counted, said_after, few_after}
 
@@ -67,7 +66,7 @@ pub record Stops (old new : Seen) (result : Result (Unit {0}) ScriptFault) (depl
   pub knows : new.fault ≡ Some told
   pub will : (more : List ℕ) → will_be (came new deployment acts now) more ≡ will_be (came old deployment acts begun) (b ∷ more)
 
-stops_will : (old new : Seen) (deployment : Option Deployed) (acts : List Act) (begun now : List ℕ) (b : ℕ) (told : ScriptFault) → new ≡ failed old.state told → fault_at old.state Unbuilt ≡ told → old.fault ≡ None → now ≡ begun ++ b ∷ [] → b ≢ 10 → IsStuck old.state now
+stops_will : (old new : Seen) (deployment : Option Deployed) (acts : List Act) (begun now : List ℕ) (b : ℕ) (told : ScriptFault) → new ≡ failed old.state told → fault_at old.state (stuck_cause old.state.stage) ≡ told → old.fault ≡ None → now ≡ begun ++ b ∷ [] → b ≢ 10 → IsStuck old.state now
     → (more : List ℕ) → will_be (came new deployment acts now) more ≡ will_be (came old deployment acts begun) (b ∷ more)
 unfolding will_be
 stops_will old new deployment acts begun now b told fails at none is other stuck more = byte_stops old new (kept deployment acts) begun now b told fails at none is other stuck more
@@ -90,17 +89,17 @@ ended_stuck s begun now b e is = inr (e, omega (arith, ap length is, length-appe
 
 -- ---- the end of a line
 
-whole_said : (here : Stage) (d : Deployed) (deployment : Option Deployed) (acts : List Act) → HasHeader here d → HasSaid here d deployment acts → IfSome deployment (λ d. IsWhole d × AreBuiltActs d acts) × (deployment ≡ None → acts ≡ [])
-whole_said stage.Start d deployment acts kept h = (subst (λ (o : Option Deployed). IfSome o (λ d. IsWhole d × AreBuiltActs d acts)) (sym h.0) tt, λ _. h.1)
-whole_said stage.Sites d deployment acts kept h = (subst (λ (o : Option Deployed). IfSome o (λ d. IsWhole d × AreBuiltActs d acts)) (sym h.0) tt, λ _. h.1)
-whole_said stage.Gears d deployment acts kept h = (subst (λ (o : Option Deployed). IfSome o (λ d. IsWhole d × AreBuiltActs d acts)) (sym h.0) tt, λ _. h.1)
-whole_said stage.Header d deployment acts kept h = (subst (λ (o : Option Deployed). IfSome o (λ d. IsWhole d × AreBuiltActs d acts)) (sym h.0) tt, λ _. h.1)
-whole_said stage.Body d deployment acts kept h = (subst (λ (o : Option Deployed). IfSome o (λ d. IsWhole d × AreBuiltActs d acts)) (sym h.0) (kept, h.1), λ e. absurd (let never : Some d ≡ None = sym h.0 ∙ e in cc))
-whole_said stage.Ended d deployment acts kept h = (subst (λ (o : Option Deployed). IfSome o (λ d. IsWhole d × AreBuiltActs d acts)) (sym h.0) (kept, h.1), λ e. absurd (let never : Some d ≡ None = sym h.0 ∙ e in cc))
+whole_said : (live : Bool) (here : Stage) (d : Deployed) (deployment : Option Deployed) (acts : List Act) → HasHeader here d → HasSaid live here d deployment acts → IfSome deployment (λ d. IsWhole d × AreBuiltActs d acts) × (deployment ≡ None → acts ≡ [])
+whole_said live stage.Start d deployment acts kept h = (subst (λ (o : Option Deployed). IfSome o (λ d. IsWhole d × AreBuiltActs d acts)) (sym h.0) tt, λ _. h.1)
+whole_said live stage.Sites d deployment acts kept h = (subst (λ (o : Option Deployed). IfSome o (λ d. IsWhole d × AreBuiltActs d acts)) (sym h.0) tt, λ _. h.1)
+whole_said live stage.Gears d deployment acts kept h = (subst (λ (o : Option Deployed). IfSome o (λ d. IsWhole d × AreBuiltActs d acts)) (sym h.0) tt, λ _. h.1)
+whole_said live stage.Header d deployment acts kept h = (subst (λ (o : Option Deployed). IfSome o (λ d. IsWhole d × AreBuiltActs d acts)) (sym h.0) tt, λ _. h.1)
+whole_said live stage.Body d deployment acts kept h = (subst (λ (o : Option Deployed). IfSome o (λ d. IsWhole d × AreBuiltActs d acts)) (sym h.0) (kept, h.1), λ e. absurd (let never : Some d ≡ None = sym h.0 ∙ e in cc))
+whole_said live stage.Ended d deployment acts kept h = (subst (λ (o : Option Deployed). IfSome o (λ d. IsWhole d × AreBuiltActs d acts)) (sym h.0) (kept, h.1), λ e. absurd (let never : Some d ≡ None = sym h.0 ∙ e in cc))
 
-going_coming : (s : State) (deployment : Option Deployed) (acts : List Act) (begun : List ℕ) → IsFit s → HasSaid s.stage s.header deployment acts → length acts ≤ s.acts → length begun ≤ LONGEST_LINE → IsComing (running s) deployment acts begun
+going_coming : (s : State) (deployment : Option Deployed) (acts : List Act) (begun : List ℕ) → IsFit s → HasSaid s.live s.stage s.header deployment acts → length acts ≤ s.acts → length begun ≤ LONGEST_LINE → IsComing (running s) deployment acts begun
 going_coming s deployment acts begun fit said few short =
-    let w = whole_said s.stage s.header deployment acts fit.header said in
+    let w = whole_said s.live s.stage s.header deployment acts fit.header said in
     record { fit = fit; whole = w.0; none = w.1; few = few; short = omega arith; going = λ _. record { said = said; short = short } }
 
 pub line_coming : (old new : Seen) (deployment now_deployment : Option Deployed) (acts now_acts : List Act) (begun now : List ℕ) (line : Line) → IsComing old deployment acts begun → Takes old.fault old.state new (Ok line) begun → old.fault ≡ None
@@ -110,9 +109,9 @@ line_coming old new deployment now_deployment acts now_acts begun now line comin
     let is = line_is old.state begun good.says coming.fit good.good in
     let r : Reading = kept deployment acts in
     let same : kept now_deployment now_acts ≡ with_line r (told_line old.state.header good.says) = keeps ∙ ap (with_line r) good.told in
-    let said = said_after old.state.stage old.state.header old.state.acts good.says r is.stands (coming.going none).said in
+    let said = said_after old.state.stage old.state good.says r is.stands (coming.going none).said in
     let few = few_after old.state.header old.state.acts good.says r coming.few in
-    let now_said = subst (λ (r : Reading). HasSaid (after old.state good.says).stage (after old.state good.says).header r.deployment r.acts) (sym same) said in
+    let now_said = subst (λ (r : Reading). HasSaid old.state.live (after old.state good.says).stage (after old.state good.says).header r.deployment r.acts) (sym same) said in
     let now_few = subst (λ (r : Reading). length r.acts ≤ (after old.state good.says).acts) (sym same) few in
     subst (λ (seen : Seen). IsComing seen now_deployment now_acts now) (sym good.goes)
     (going_coming (after old.state good.says) now_deployment now_acts now (fit_after old.state begun good.says coming.fit good.good) now_said now_few (omega (arith, ap length empty)))
@@ -181,8 +180,8 @@ read_fault old new live bytes told begins goes known =
 pub read_whole : (old new : Came) (live : Bool) (bytes : List ℕ) (found : Reading) → ((text : List ℕ) → will_be old text ≡ reading live text) → ((more : List ℕ) → will_be new more ≡ will_be old (bytes ++ more)) → found ≡ will_be new [] → reading live bytes ≡ found
 read_whole old new live bytes found begins goes is = sym (begins bytes) ∙ ap (will_be old) (sym (append-nil bytes)) ∙ sym (goes []) ∙ sym is
 
-no_fault : (live : Bool) (bytes : List ℕ) (found : Reading) → reading live bytes ≡ found → found.fault ≡ None → IsRead found bytes
-no_fault live bytes found is none = subst (λ (r : Reading). IsRead r bytes) is (read_spells live bytes (ap (λ (r : Reading). r.fault) is ∙ none))
+no_fault : (live : Bool) (bytes : List ℕ) (found : Reading) → reading live bytes ≡ found → found.fault ≡ None → IsRead live found bytes
+no_fault live bytes found is none = subst (λ (r : Reading). IsRead live r bytes) is (read_spells live bytes (ap (λ (r : Reading). r.fault) is ∙ none))
 
 -- no fault, and so a deployment
 pub some_deployment : (live : Bool) (bytes : List ℕ) (found : Reading) → reading live bytes ≡ found → found.fault ≡ None → found.deployment ≡ None → ⊥

@@ -1,5 +1,5 @@
 -- Numbers and their digits.
-use Rattle.std.proofs.Common.{◌≡◌, ℕ, zero, suc, ◌+◌, ◌<◌, ◌≤◌, ◌^◌, Bool, true, false, not, ◌&&◌, ◌||◌, cond, eqb, ltb, leb, List, [], ◌∷◌, length, get_or, Option, Some, None, sym, ap, ◌∙◌, refl, arith}
+use Rattle.std.proofs.Common.{◌≡◌, ℕ, zero, suc, ◌<◌, ◌≤◌, ◌^◌, Bool, true, false, not, ◌&&◌, ◌||◌, cond, eqb, ltb, leb, List, [], ◌∷◌, length, get_or, Some, None, sym, ap, ◌∙◌, refl, arith}
 use Rattle.std.specs.List.{list_all}
 use Rattle.std.specs.Str.{all_ascii_digits}
 use Rattle.std.specs.Str.Parse.{digits_value}
@@ -10,7 +10,7 @@ use Rattle.std.proofs.lemmas.Bool.Decides.{nat_tests}
 use Rattle.std.proofs.lemmas.Fmt.{decimal-digits_value, digits_decimal, digits_value-decimal, decimal_nonempty, first_decimal, decimal_digit, length-decimal-le}
 use Rattle.std.proofs.lemmas.Str.Parse.{IsNumeralModel, numerals_by_value, tells_all_ascii_digits}
 use Rattle.sat_label.specs.Text.{is_between}
-use Rattle.sat_script.specs.Words.{is_number, value_of, number_below, number_to, site_node}
+use Rattle.sat_script.specs.Words.{is_number, value_of, number_below, number_to, number_up_to}
 use Rattle.sat_script.proofs.Choices.{both, both_true}
 
 own : IsNumeralModel (λ ds. all_ascii_digits ds ≡ true) (digits_value 10)
@@ -19,7 +19,7 @@ own = numerals_by_value _ tells_all_ascii_digits
 no_zero : (text : List ℕ) → (eqb (length text) 1 || not (eqb (get_or text 0 0) 48)) ≡ true → get_or text 0 0 ≡ 48 → length text ≡ 1
 no_zero text h z = grind (arith, nat_tests)
 
-number_is : (text : List ℕ) → is_number text ≡ true → value_of text < 2 ^ 64 → text ≡ decimal (value_of text)
+pub number_is : (text : List ℕ) → is_number text ≡ true → value_of text < 2 ^ 64 → text ≡ decimal (value_of text)
 number_is text h small =
     let some = both (ltb 0 (length text)) (all_ascii_digits text && (eqb (length text) 1 || not (eqb (get_or text 0 0) 48))) h in
     let digits = both (all_ascii_digits text) (eqb (length text) 1 || not (eqb (get_or text 0 0) 48)) some.1 in
@@ -29,13 +29,13 @@ decimal_first : (n : ℕ) → n < 2 ^ 64 → (eqb (length (decimal n)) 1 || not 
 decimal_first zero small = rw (decimal_digit 0 (omega arith)) refl
 decimal_first (suc n) small = let first = first_decimal (suc n) (omega arith) small in grind (arith, nat_tests)
 
-decimal_number : (n : ℕ) → n < 2 ^ 64 → is_number (decimal n) ≡ true
+pub decimal_number : (n : ℕ) → n < 2 ^ 64 → is_number (decimal n) ≡ true
 decimal_number n small =
     let some = decimal_nonempty n small in
     both_true (ltb 0 (length (decimal n))) (all_ascii_digits (decimal n) && (eqb (length (decimal n)) 1 || not (eqb (get_or (decimal n) 0 0) 48))) (grind (arith, nat_tests))
     (both_true (all_ascii_digits (decimal n)) (eqb (length (decimal n)) 1 || not (eqb (get_or (decimal n) 0 0) 48)) (digits_decimal own n small) (decimal_first n small))
 
-decimal_value : (n : ℕ) → n < 2 ^ 64 → value_of (decimal n) ≡ n
+pub decimal_value : (n : ℕ) → n < 2 ^ 64 → value_of (decimal n) ≡ n
 decimal_value n small = digits_value-decimal own n small
 
 all_between : (xs : List ℕ) → all_ascii_digits xs ≡ true → list_all (is_between 48 57) xs ≡ true
@@ -51,9 +51,12 @@ decimal_between n small = all_between (decimal n) (digits_decimal own n small)
 pub decimal_length : (n : ℕ) → n < 2 ^ 16 → length (decimal n) ≤ 5
 decimal_length n small = length-decimal-le 5 n (omega arith) (omega arith) (omega arith)
 
+pub decimal_short : (n : ℕ) → n < 2 ^ 64 → length (decimal n) ≤ 20
+decimal_short n small = length-decimal-le 20 n (omega arith) (omega arith) (omega arith)
+
 -- ---- numbers below a limit
 
-tested : (b : Bool) (n m : ℕ) → cond b (Some n) None ≡ Some m → (b ≡ true) × (n ≡ m)
+pub tested : (b : Bool) (n m : ℕ) → cond b (Some n) None ≡ Some m → (b ≡ true) × (n ≡ m)
 tested true n m h = (refl, cc)
 tested false n m h = cc
 
@@ -94,19 +97,19 @@ to_reads limit n some less few =
     let test : leb n limit ≡ true = grind (arith, nat_tests) in
     rw (number, value, above, test) refl
 
-chosen : (b : Bool) (o : Option ℕ) (n : ℕ) → cond b o None ≡ Some n → (b ≡ true) × (o ≡ Some n)
-chosen true o n h = (refl, h)
-chosen false o n h = cc
+pub up_to_is : (limit : ℕ) (word : List ℕ) (n : ℕ) → limit < 2 ^ 64 → number_up_to limit word ≡ Some n → (n ≤ limit) × (word ≡ decimal n)
+unfolding number_up_to
+up_to_is limit word n few h =
+    let t = tested (is_number word && leb (value_of word) limit) (value_of word) n h in
+    let b = both (is_number word) (leb (value_of word) limit) t.0 in
+    let less = leb-true (value_of word) limit b.1 in
+    let same = t.1 in
+    (omega arith, number_is word b.0 (omega arith) ∙ ap decimal same)
 
-pub site_is : (sites : ℕ) (word : List ℕ) (i : ℕ) → sites ≤ 2 ^ 16 → site_node sites word ≡ Some i → (i < sites) × (word ≡ 115 ∷ decimal i)
-unfolding site_node
-site_is sites [] i few h = cc
-site_is sites (byte ∷ number) i few h =
-    let t = chosen (eqb byte 115) (number_below sites number) i h in
-    let b = below_is sites number i few t.1 in
-    let same : byte ≡ 115 = grind (arith, nat_tests) in
-    (b.0, ap (λ s. s ∷ number) same ∙ ap (λ n. 115 ∷ n) b.1)
-
-pub site_reads : (sites i : ℕ) → i < sites → sites ≤ 2 ^ 16 → site_node sites (115 ∷ decimal i) ≡ Some i
-unfolding site_node
-site_reads sites i less few = below_reads sites i less few
+pub up_to_reads : (limit n : ℕ) → n ≤ limit → limit < 2 ^ 64 → number_up_to limit (decimal n) ≡ Some n
+unfolding number_up_to
+up_to_reads limit n less few =
+    let number = decimal_number n (omega arith) in
+    let value = decimal_value n (omega arith) in
+    let test : leb n limit ≡ true = grind (arith, nat_tests) in
+    rw (number, value, test) refl

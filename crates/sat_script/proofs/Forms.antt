@@ -1,26 +1,32 @@
 -- Lines with a number of words that no form has.
-use Rattle.std.proofs.Common.{◌≡◌, ◌≢◌, ◌⊎◌, inl, inr, ◌<◌, ◌≤◌, ℕ, List, [], ◌∷◌, length, map, Option, Err, refl, Bor, arith}
-use Rattle.sat_act.specs.Deployed.{Deployed}
-use Rattle.sat_script.specs.Grammar.{act_form, header_form}
-use Rattle.sat_script.specs.declared.fault.Cause.TheVariants.{Unbuilt}
-use Rattle.sat_script.specs.declared.keyword.Keyword.{Keyword}
+use Rattle.std.proofs.Common.{◌≡◌, ◌⊎◌, inl, inr, ◌<◌, ◌≤◌, ℕ, List, [], ◌∷◌, length, map, Option, Err, refl, Bor, arith}
+use Rattle.sat_script.specs.Grammar.{act_form, header_form, gears_line}
+use Rattle.sat_script.specs.State.{State}
+use Rattle.sat_script.specs.declared.fault.Cause.TheVariants.{BadAct, BadHeader}
+use Rattle.sat_script.specs.declared.form.Form.{Form}
 
-pub act_form-other : (d : Deployed) (keyword : Option Keyword) (words : List (Bor (List ℕ))) → (length words < 1) ⊎ (4 ≤ length words) → act_form d keyword (map (λ word. word.now) words) ≡ Err Unbuilt
+pub act_form-other : (s : State) (f : Option Form) (words : List (Bor (List ℕ))) → 5 ≤ length words → act_form s f (map (λ word. word.now) words) ≡ Err BadAct
 unfolding act_form
-act_form-other d keyword [] other = refl
-act_form-other d keyword (a ∷ []) (inl few) = absurd (omega arith)
-act_form-other d keyword (a ∷ []) (inr many) = absurd (omega arith)
-act_form-other d keyword (a ∷ b ∷ []) (inl few) = absurd (omega arith)
-act_form-other d keyword (a ∷ b ∷ []) (inr many) = absurd (omega arith)
-act_form-other d keyword (a ∷ b ∷ c ∷ []) (inl few) = absurd (omega arith)
-act_form-other d keyword (a ∷ b ∷ c ∷ []) (inr many) = absurd (omega arith)
-act_form-other d keyword (a ∷ b ∷ c ∷ e ∷ words) other = refl
+act_form-other s f [] many = absurd (omega arith)
+act_form-other s f (a ∷ []) many = absurd (omega arith)
+act_form-other s f (a ∷ b ∷ []) many = absurd (omega arith)
+act_form-other s f (a ∷ b ∷ c ∷ []) many = absurd (omega arith)
+act_form-other s f (a ∷ b ∷ c ∷ e ∷ []) many = absurd (omega arith)
+act_form-other s f (a ∷ b ∷ c ∷ e ∷ g ∷ words) many = refl
 
-pub header_form-other : (d : Deployed) (word : List ℕ) (words : List (Bor (List ℕ))) → (length words ≡ 1) ⊎ (3 ≤ length words) → header_form d word (map (λ word. word.now) words) ≡ Err Unbuilt
+pub header_form-other : (s : State) (word : List ℕ) (words : List (Bor (List ℕ))) → (length words ≡ 1) ⊎ (3 ≤ length words) → header_form s word (map (λ word. word.now) words) ≡ Err BadHeader
 unfolding header_form
-header_form-other d word [] (inl one) = absurd (omega arith)
-header_form-other d word [] (inr many) = absurd (omega arith)
-header_form-other d word (a ∷ []) other = refl
-header_form-other d word (a ∷ b ∷ []) (inl one) = absurd (omega arith)
-header_form-other d word (a ∷ b ∷ []) (inr many) = absurd (omega arith)
-header_form-other d word (a ∷ b ∷ c ∷ words) other = refl
+header_form-other s word [] (inl one) = absurd (omega arith)
+header_form-other s word [] (inr many) = absurd (omega arith)
+header_form-other s word (a ∷ []) other = refl
+header_form-other s word (a ∷ b ∷ []) (inl one) = absurd (omega arith)
+header_form-other s word (a ∷ b ∷ []) (inr many) = absurd (omega arith)
+header_form-other s word (a ∷ b ∷ c ∷ words) other = refl
+
+pub gears_line-other : (words : List (Bor (List ℕ))) → (length words < 2) ⊎ (3 ≤ length words) → gears_line (map (λ word. word.now) words) ≡ Err BadHeader
+unfolding gears_line
+gears_line-other [] other = refl
+gears_line-other (a ∷ []) other = refl
+gears_line-other (a ∷ b ∷ []) (inl few) = absurd (omega arith)
+gears_line-other (a ∷ b ∷ []) (inr many) = absurd (omega arith)
+gears_line-other (a ∷ b ∷ c ∷ words) other = refl

@@ -1,21 +1,21 @@
 -- What one more byte does to a script of which only a front has come.
-use Rattle.std.proofs.Common.{◌≡◌, ◌≢◌, ◌⊎◌, inl, inr, ℕ, ◌+◌, ◌<◌, Bool, true, false, cond, ltb, List, [], ◌∷◌, ◌++◌, length, Some, None, Err, sym, ap, ◌∙◌, refl, subst, arith}
+use Rattle.std.proofs.Common.{◌≡◌, ◌≢◌, ◌⊎◌, inl, inr, ℕ, ◌<◌, Bool, true, false, ltb, List, [], ◌∷◌, ◌++◌, length, Some, Result, Err, sym, ap, ◌∙◌, refl, arith}
 use Rattle.std.specs.List.{slice_split, onto_first}
 use Rattle.std.proofs.lemmas.List.{append-nil, append_assoc, length-append}
 use Rattle.std.proofs.lemmas.List.Splits.{slice_split-cons_no, length-slice_split}
 use Rattle.std.proofs.lemmas.Bool.Decides.{nat_tests}
-use Rattle.sat_script.specs.Grammar.{line_at, close_at, close_in, words_line}
+use Rattle.sat_script.specs.Grammar.{refused, is_ended, line_at, close_at, close_in}
 use Rattle.sat_script.specs.Reading.{script_from, reading, nothing, after_line, bad, closed}
 use Rattle.sat_script.specs.State.{State, start}
 use Rattle.sat_script.specs.Stream.{onto_front, goes_on}
-use Rattle.sat_script.specs.Words.{is_newline, is_text, words_of}
+use Rattle.sat_script.specs.Words.{is_newline}
 use Rattle.sat_script.specs.declared.fault.Cause.{Cause}
-use Rattle.sat_script.specs.declared.fault.Cause.TheVariants.{Unbuilt}
-use Rattle.sat_script.specs.declared.limits.TheConstants.{LONGEST_LINE, MOST_ACTS}
+use Rattle.sat_script.specs.declared.fault.Cause.TheVariants.{AfterEnd, LongLine}
+use Rattle.sat_script.specs.declared.line.Parsed.{Parsed}
+use Rattle.sat_script.specs.declared.limits.TheConstants.{LONGEST_LINE}
 use Rattle.sat_script.specs.declared.line.Stage.{Stage}
 use Rattle.sat_script.specs.declared.line.Stage.TheVariants as stage
 use Rattle.sat_script.specs.declared.stream.Reading.{Reading}
-use Rattle.sat_act.specs.Deployed.{Deployed}
 
 -- a split has a first part
 first_part : (bs : List ℕ) → (part : List ℕ) × (parts : List (List ℕ)) × (slice_split is_newline bs ≡ part ∷ parts)
@@ -67,34 +67,49 @@ more_stuck : (s : State) (begun part : List ℕ) → IsStuck s begun → IsStuck
 more_stuck s begun part (inl long) = inl (omega (arith, length-append begun part))
 more_stuck s begun part (inr (e, some)) = inr (e, omega (arith, length-append begun part))
 
-behind : (here : Stage) (d : Deployed) (acts : ℕ) (words : List (List ℕ)) → here ≡ stage.Ended → words_line here d acts words ≡ Err Unbuilt
-unfolding words_line
-behind here d acts words e = rw e refl
+-- why it is refused
+abbrev pub stuck_cause : Stage → Cause
+stuck_cause stage.Ended = AfterEnd
+stuck_cause _ = LongLine
 
-same_either : (b : Bool) (x : Rattle.std.proofs.Common.Result Rattle.sat_script.specs.declared.line.Parsed.Parsed Cause) → cond b x x ≡ x
-same_either true x = refl
-same_either false x = refl
+line_refused : (here : Stage) (line : List ℕ) (r : Result Parsed Cause) → (LONGEST_LINE < length line) ⊎ ((here ≡ stage.Ended) × (0 < length line))
+    → refused AfterEnd (is_ended here) (refused LongLine (ltb LONGEST_LINE (length line)) r) ≡ Err (stuck_cause here)
+line_refused stage.Ended line r stuck = refl
+line_refused stage.Start line r (inl long) = let test : ltb LONGEST_LINE (length line) ≡ true = grind (arith, nat_tests) in rw test refl
+line_refused stage.Sites line r (inl long) = let test : ltb LONGEST_LINE (length line) ≡ true = grind (arith, nat_tests) in rw test refl
+line_refused stage.Gears line r (inl long) = let test : ltb LONGEST_LINE (length line) ≡ true = grind (arith, nat_tests) in rw test refl
+line_refused stage.Header line r (inl long) = let test : ltb LONGEST_LINE (length line) ≡ true = grind (arith, nat_tests) in rw test refl
+line_refused stage.Body line r (inl long) = let test : ltb LONGEST_LINE (length line) ≡ true = grind (arith, nat_tests) in rw test refl
+line_refused stage.Start line r (inr e) = absurd (let never = e.0 in cc)
+line_refused stage.Sites line r (inr e) = absurd (let never = e.0 in cc)
+line_refused stage.Gears line r (inr e) = absurd (let never = e.0 in cc)
+line_refused stage.Header line r (inr e) = absurd (let never = e.0 in cc)
+line_refused stage.Body line r (inr e) = absurd (let never = e.0 in cc)
 
-stuck_line : (s : State) (line : List ℕ) → IsStuck s line → line_at s line ≡ Err Unbuilt
+stuck_line : (s : State) (line : List ℕ) → IsStuck s line → line_at s line ≡ Err (stuck_cause s.stage)
 unfolding line_at
-stuck_line s line (inl long) = let test : ltb LONGEST_LINE (length line) ≡ true = grind (arith, nat_tests) in rw test refl
-stuck_line s line (inr (e, some)) = rw (behind s.stage s.header s.acts (words_of line) e, same_either (is_text line) (Err Unbuilt), same_either (ltb LONGEST_LINE (length line)) (Err Unbuilt)) refl
+stuck_line s line stuck = line_refused s.stage line _ stuck
 
-not_empty : (here : Stage) (rest : List ℕ) → 0 < length rest → close_in here rest ≡ Some Unbuilt
+end_refused : (here : Stage) (rest : List ℕ) → (LONGEST_LINE < length rest) ⊎ ((here ≡ stage.Ended) × (0 < length rest)) → close_in here rest ≡ Some (stuck_cause here)
 unfolding close_in
-not_empty here [] some = absurd (omega arith)
-not_empty stage.Start (b ∷ rest) some = refl
-not_empty stage.Sites (b ∷ rest) some = refl
-not_empty stage.Gears (b ∷ rest) some = refl
-not_empty stage.Header (b ∷ rest) some = refl
-not_empty stage.Body (b ∷ rest) some = refl
-not_empty stage.Ended (b ∷ rest) some = refl
+end_refused stage.Ended [] (inl long) = absurd (omega arith)
+end_refused stage.Ended [] (inr e) = absurd (omega (arith, e.1))
+end_refused stage.Ended (b ∷ rest) stuck = refl
+end_refused stage.Start rest (inl long) = let test : ltb LONGEST_LINE (length rest) ≡ true = grind (arith, nat_tests) in rw test refl
+end_refused stage.Sites rest (inl long) = let test : ltb LONGEST_LINE (length rest) ≡ true = grind (arith, nat_tests) in rw test refl
+end_refused stage.Gears rest (inl long) = let test : ltb LONGEST_LINE (length rest) ≡ true = grind (arith, nat_tests) in rw test refl
+end_refused stage.Header rest (inl long) = let test : ltb LONGEST_LINE (length rest) ≡ true = grind (arith, nat_tests) in rw test refl
+end_refused stage.Body rest (inl long) = let test : ltb LONGEST_LINE (length rest) ≡ true = grind (arith, nat_tests) in rw test refl
+end_refused stage.Start rest (inr e) = absurd (let never = e.0 in cc)
+end_refused stage.Sites rest (inr e) = absurd (let never = e.0 in cc)
+end_refused stage.Gears rest (inr e) = absurd (let never = e.0 in cc)
+end_refused stage.Header rest (inr e) = absurd (let never = e.0 in cc)
+end_refused stage.Body rest (inr e) = absurd (let never = e.0 in cc)
 
-pub stuck_end : (s : State) (rest : List ℕ) → IsStuck s rest → close_at s rest ≡ Some Unbuilt
-stuck_end s rest (inl long) = not_empty s.stage rest (omega arith)
-stuck_end s rest (inr (e, some)) = not_empty s.stage rest some
+pub stuck_end : (s : State) (rest : List ℕ) → IsStuck s rest → close_at s rest ≡ Some (stuck_cause s.stage)
+stuck_end s rest stuck = end_refused s.stage rest stuck
 
-stuck_parts : (s : State) (r : Reading) (begun : List ℕ) (parts : List (List ℕ)) → IsStuck s begun → script_from s r (onto_front begun parts) ≡ bad s r Unbuilt
+stuck_parts : (s : State) (r : Reading) (begun : List ℕ) (parts : List (List ℕ)) → IsStuck s begun → script_from s r (onto_front begun parts) ≡ bad s r (stuck_cause s.stage)
 unfolding script_from
 stuck_parts s r begun [] stuck = ap (closed s r) (stuck_end s begun stuck)
 stuck_parts s r begun (part ∷ []) stuck = ap (closed s r) (stuck_end s (begun ++ part) (more_stuck s begun part stuck))
@@ -102,6 +117,6 @@ stuck_parts s r begun (part ∷ other ∷ parts) stuck =
     ap (after_line s r (λ later kept. script_from later kept (other ∷ parts))) (stuck_line s (begun ++ part) (more_stuck s begun part stuck))
 
 -- it is refused however the text goes on
-pub goes_on-stuck : (s : State) (r : Reading) (begun more : List ℕ) → IsStuck s begun → goes_on s r begun more ≡ bad s r Unbuilt
+pub goes_on-stuck : (s : State) (r : Reading) (begun more : List ℕ) → IsStuck s begun → goes_on s r begun more ≡ bad s r (stuck_cause s.stage)
 unfolding goes_on
 goes_on-stuck s r begun more stuck = stuck_parts s r begun (slice_split is_newline more) stuck

@@ -1,19 +1,17 @@
 -- What the calls of a reader of lines do to what a script will be.
-use Rattle.std.proofs.Common.{◌≡◌, ◌≢◌, ℕ, ◌<◌, ◌⊎◌, inl, inr, List, [], ◌∷◌, ◌++◌, length, Option, Some, None, Result, Ok, Err, sym, ap, ◌∙◌, refl, subst, arith}
-use Rattle.std.proofs.lemmas.List.{length-append}
+use Rattle.std.proofs.Common.{◌≡◌, ◌≢◌, ℕ, List, [], ◌∷◌, ◌++◌, Option, Some, None, Result, Ok, Err, sym, ap, ◌∙◌, refl, subst}
 use Rattle.sat_act.specs.declared.act.Act.{Act}
 use Rattle.sat_act.specs.Deployed.{Deployed}
-use Rattle.sat_script.specs.Grammar.{close_at, after}
-use Rattle.sat_script.specs.Lines.{Takes, TakesFresh, Closes, ClosesFresh, IsGoodLine, IsFaultOf, running, failed}
-use Rattle.sat_script.specs.Reading.{after_line, bad, stopped, closed, fault_at, told_line, with_line, UnlessMemory}
+use Rattle.sat_script.specs.Grammar.{after}
+use Rattle.sat_script.specs.Lines.{Takes, TakesFresh, Closes, ClosesFresh, IsGoodLine, failed}
+use Rattle.sat_script.specs.Reading.{after_line, bad, stopped, closed, fault_at, told_line, with_line}
 use Rattle.sat_script.specs.State.{State, Seen, number_of}
 use Rattle.sat_script.specs.Stream.{goes_on, meaning}
-use Rattle.sat_script.specs.declared.fault.Cause.{Cause}
-use Rattle.sat_script.specs.declared.fault.Cause.TheVariants.{Unbuilt, Memory}
+use Rattle.sat_script.specs.declared.fault.Cause.TheVariants.{Memory}
 use Rattle.sat_script.specs.declared.fault.ScriptFault.{ScriptFault}
 use Rattle.sat_script.specs.declared.line.Line.{Line}
 use Rattle.sat_script.specs.declared.stream.Reading.{Reading}
-use Rattle.sat_script.proofs.Meaning.{goes_on-byte, goes_on-line, goes_on-end, goes_on-stuck, stuck_end, IsStuck}
+use Rattle.sat_script.proofs.Meaning.{goes_on-byte, goes_on-line, goes_on-end, goes_on-stuck, stuck_end, stuck_cause, IsStuck}
 
 abbrev means : Seen → Reading → List ℕ → List ℕ → Reading
 means seen r begun more = meaning seen.fault seen.state r begun more
@@ -44,16 +42,16 @@ closes_fresh f s new result rest e h = subst (λ (f : Option ScriptFault). Close
 
 -- a line that can't go on is refused
 pub stops : (old new : Seen) (result : Result (Unit {0}) ScriptFault) (now : List ℕ) → Closes old.fault old.state new result now → old.fault ≡ None → IsStuck old.state now
-    → (told : ScriptFault) × (result ≡ Err told) × (new ≡ failed old.state told) × (fault_at old.state Unbuilt ≡ told)
+    → (told : ScriptFault) × (result ≡ Err told) × (new ≡ failed old.state told) × (fault_at old.state (stuck_cause old.state.stage) ≡ told)
 stops old new (Ok x) now closes none stuck =
     let c = closes_fresh old.fault old.state new (Ok x) now none closes in
-    let never : None ≡ Some Unbuilt = sym c.0 ∙ stuck_end old.state now stuck in absurd (cc)
+    let never : None ≡ Some (stuck_cause old.state.stage) = sym c.0 ∙ stuck_end old.state now stuck in absurd (cc)
 stops old new (Err told) now closes none stuck =
     let c = closes_fresh old.fault old.state new (Err told) now none closes in
-    let same : told.cause ≡ Unbuilt = (let e : Some told.cause ≡ Some Unbuilt = sym c.1 ∙ stuck_end old.state now stuck in cc) in
+    let same : told.cause ≡ stuck_cause old.state.stage = (let e : Some told.cause ≡ Some (stuck_cause old.state.stage) = sym c.1 ∙ stuck_end old.state now stuck in cc) in
     (told, refl, c.2, ap (fault_at old.state) (sym same) ∙ fault_is old.state told c.0)
 
-pub byte_stops : (old new : Seen) (r : Reading) (begun now : List ℕ) (b : ℕ) (told : ScriptFault) → new ≡ failed old.state told → fault_at old.state Unbuilt ≡ told → old.fault ≡ None → now ≡ begun ++ b ∷ [] → b ≢ 10 → IsStuck old.state now
+pub byte_stops : (old new : Seen) (r : Reading) (begun now : List ℕ) (b : ℕ) (told : ScriptFault) → new ≡ failed old.state told → fault_at old.state (stuck_cause old.state.stage) ≡ told → old.fault ≡ None → now ≡ begun ++ b ∷ [] → b ≢ 10 → IsStuck old.state now
     → (more : List ℕ) → means new r now more ≡ means old r begun (b ∷ more)
 byte_stops old new r begun now b told fails at none is other stuck more =
     ap (λ (seen : Seen). means seen r now more) fails

@@ -1,5 +1,5 @@
 -- Lists of words that grow by one.
-use Rattle.std.proofs.Common.{◌≡◌, ℕ, zero, suc, ◌+◌, ◌<◌, ◌≤◌, ◌^◌, Bool, true, false, cond, eqb, List, [], ◌∷◌, ◌++◌, length, map, filter, take, Option, Some, Result, Ok, Err, sym, ap, ◌∙◌, refl, subst, arith, add-one}
+use Rattle.std.proofs.Common.{◌≡◌, ℕ, zero, suc, ◌+◌, ◌<◌, ◌^◌, Bool, true, false, cond, List, [], ◌∷◌, ◌++◌, length, map, filter, take, Some, Result, Ok, Err, sym, ap, ◌∙◌, refl, subst, arith, add-one}
 use Rattle.std.specs.List.{slice_get, join_with_byte, AllByRecursion}
 use Rattle.std.specs.Fmt.{decimal}
 use Rattle.std.proofs.lemmas.List.{append-nil, append_assoc, length-append}
@@ -12,7 +12,7 @@ use Rattle.sat_label.specs.Text.{AppendsFront}
 use Rattle.sat_act.specs.Deployed.{Deployed}
 use Rattle.sat_act.specs.declared.act.Act.{Act}
 use Rattle.sat_script.specs.Spelled.{spaced, sites_text, line_text, with_comma, acts_text, ended, header_text, spelling}
-use Rattle.sat_script.proofs.Whole.{all_more}
+use Rattle.sat_script.proofs.Lists.{all_more}
 
 spaced_suc : {X : Type 0} (f : X → List ℕ) (xs : List X) (n : ℕ) (x : X) → slice_get xs n ≡ Some x → spaced (map f (take (suc n) xs)) ≡ spaced (map f (take n xs)) ++ 32 ∷ f x
 spaced_suc f [] n x h = absurd (cc)

@@ -1,31 +1,103 @@
--- The lines of a script, each by what the lines before it say. A form has one definition, and it stands for one cause after another.
-use Rattle.std.specs.Prelude.{ℕ, ◌+◌, List, [], ◌∷◌, ◌++◌, Bool, true, false, ◌&&◌, ◌||◌, ◌==◌, nat_lt, length, Some, None, Ok, Err, if◌then◌else◌, codes, position}
+-- The lines of a script, each by what the lines before it say. A form has one definition, and its causes stand in it in their order:
+-- first what may keep a line from having the form, then the causes that the form alone decides, and then those of its words.
+use Rattle.std.specs.Prelude.{ℕ, ◌≡◌, ◌+◌, ◌-◌, ◌^◌, List, [], ◌∷◌, ◌++◌, Bool, true, false, not, ◌&&◌, ◌==◌, nat_lt, length, map, take, drop, is_none, Some, None, Ok, Err, if◌then◌else◌, codes, position}
 use Rattle.std.specs.declared.option.Option.{Option}
 use Rattle.std.specs.declared.result.Result.{Result}
-use Rattle.std.specs.List.{list_any}
+use Rattle.std.specs.List.{list_any, list_all}
 use Rattle.std.specs.Str.{bytes_eq}
 use Rattle.sat_label.specs.Text.{is_name, is_value}
-use Rattle.sat_label.specs.declared.node.NodeId.TheVariants.{Site}
-use Rattle.sat_act.specs.Built.{one_serializer}
+use Rattle.sat_label.specs.declared.node.NodeId.TheVariants.{Serializer}
+use Rattle.sat_tree.specs.Cut.{is_edge}
+use Rattle.sat_tree.specs.Flaw.{tree_flaw}
+use Rattle.sat_tree.specs.Shape.{TreeShape}
 use Rattle.sat_act.specs.Deployed.{Deployed}
+use Rattle.sat_act.specs.Parts.{tree_of}
+use Rattle.sat_act.specs.declared.act.Act.{Act}
 use Rattle.sat_act.specs.declared.act.Act.TheVariants as act
 use Rattle.sat_act.specs.declared.deployment.Plan.TheVariants as plan
-use Rattle.sat_script.specs.State.{State}
-use Rattle.sat_script.specs.Words.{is_text, words_of, number_below, number_to, site_node, keyword_of}
+use Rattle.sat_script.specs.State.{State, most_sites, most_clients, most_acts}
+use Rattle.sat_script.specs.Words.{is_text, is_token, is_number, is_list, are_rising, is_node, is_serializer, words_of, value_of, number_below, number_to, number_up_to, sites_in, sites_among, node_in, serializer_in, keyword_of}
 use Rattle.sat_script.specs.declared.fault.Cause.{Cause}
-use Rattle.sat_script.specs.declared.fault.Cause.TheVariants.{Unbuilt}
-use Rattle.sat_script.specs.declared.keyword.Keyword.{Keyword}
-use Rattle.sat_script.specs.declared.keyword.Keyword.TheVariants as keyword
+use Rattle.sat_script.specs.declared.fault.Cause.TheVariants.{AfterEnd, LongLine, NoEnd, NotText, BadHeader, BadAct, Unbuilt, NotLive, TooMany, SameName, UnknownName, OutOfRange, BadTree, NoEdge}
+use Rattle.sat_script.specs.declared.form.Form.{Form}
+use Rattle.sat_script.specs.declared.form.Form.TheVariants as form
 use Rattle.sat_script.specs.declared.line.Parsed.{Parsed}
 use Rattle.sat_script.specs.declared.line.Parsed.TheVariants as parsed
 use Rattle.sat_script.specs.declared.line.Stage.{Stage}
 use Rattle.sat_script.specs.declared.line.Stage.TheVariants as stage
-use Rattle.sat_script.specs.declared.limits.TheConstants.{LONGEST_LINE, MOST_ACTS}
+use Rattle.sat_script.specs.declared.limits.TheConstants.{LONGEST_LINE, MOST_GEARS, MOST_ITEMS, MOST_PLANS, MOST_SETTLES}
+
+-- goes on where the test is passed, and stops with the cause where it isn't
+abbrev pub needs : {Y : Type 0} → Cause → Bool → Result Y Cause → Result Y Cause
+needs cause test next = if test then next else Err cause
+
+-- stops with the cause where the test is passed
+abbrev pub refused : {Y : Type 0} → Cause → Bool → Result Y Cause → Result Y Cause
+refused cause test next = if test then Err cause else next
+
+-- stops with the cause where there is one
+abbrev pub barred : {Y : Type 0} → Option Cause → Result Y Cause → Result Y Cause
+barred None next = next
+barred (Some cause) next = Err cause
 
 -- goes on with the value, or stops with the cause where there is none
-abbrev pub given : {X : Type 0} → Cause → Option X → (X → Result Parsed Cause) → Result Parsed Cause
+abbrev pub given : {X Y : Type 0} → Cause → Option X → (X → Result Y Cause) → Result Y Cause
 given cause None next = Err cause
 given cause (Some x) next = next x
+
+-- ---- what the form alone decides
+
+-- the forms that are built: one plan, with a tree, and no more acts than these
+unfoldable pub is_built : Deployed → Form → Bool
+is_built d form.Item = true
+is_built d form.Client = true
+is_built d form.PlanTree = length d.plans == 0
+is_built d form.Tick = true
+is_built d form.Clock = true
+is_built d form.Write = true
+is_built d form.Read = true
+is_built d form.Gather = true
+is_built d form.Emit = true
+is_built d form.Hop = true
+is_built d form.Turn = true
+is_built d form.Bulk = true
+is_built d _ = false
+
+-- the forms of a script for nodes on threads
+unfoldable pub is_live : Form → Bool
+is_live form.Item = true
+is_live form.Client = true
+is_live form.PlanStamp = true
+is_live form.PlanTree = true
+is_live form.Write = true
+is_live form.Read = true
+is_live form.Move = true
+is_live form.Leave = true
+is_live form.Attach = true
+is_live form.Close = true
+is_live form.Fall = true
+is_live form.Kill = true
+is_live _ = false
+
+-- whether one more line of the form is within the limits
+unfoldable pub has_room : State → Form → Bool
+has_room s form.Item = nat_lt (length s.header.items) MOST_ITEMS
+has_room s form.Client = nat_lt (length s.header.clients) (most_clients s.live)
+has_room s form.PlanStamp = nat_lt (length s.header.plans) MOST_PLANS
+has_room s form.PlanTree = nat_lt (length s.header.plans) MOST_PLANS
+has_room s form.Settle = nat_lt s.acts (most_acts s.live) && nat_lt s.settles MOST_SETTLES
+has_room s _ = nat_lt s.acts (most_acts s.live)
+
+-- why a line of the form may not stand here whatever its words say
+unfoldable pub bar : State → Form → Option Cause
+unfolding is_built is_live has_room
+bar s f =
+    if not (is_built s.header f) then Some Unbuilt else
+    if s.live && not (is_live f) then Some NotLive else
+    if not (has_room s f) then Some TooMany else
+    None
+
+-- ---- names of the header
 
 -- the number of the client or the item of this name
 unfoldable pub client_of : Deployed → List ℕ → Option ℕ
@@ -34,175 +106,390 @@ client_of d name = position (λ line. bytes_eq line.name name) d.clients
 unfoldable pub item_of : Deployed → List ℕ → Option ℕ
 item_of d name = position (λ item. bytes_eq item.name name) d.items
 
+-- whether an earlier line has the name
+unfoldable pub has_client : Deployed → List ℕ → Bool
+has_client d name = list_any (λ line. bytes_eq line.name name) d.clients
+
+unfoldable pub has_item : Deployed → List ℕ → Bool
+has_item d name = list_any (λ item. bytes_eq item.name name) d.items
+
 -- ---- the header
 
+-- `saturn 1`
 unfoldable pub format_line : List (List ℕ) → Result Parsed Cause
-format_line (word ∷ number ∷ []) = if bytes_eq word (codes "saturn") && bytes_eq number (codes "1") then Ok parsed.Format else Err Unbuilt
-format_line _ = Err Unbuilt
+format_line (word ∷ number ∷ []) = needs BadHeader (bytes_eq word (codes "saturn") && bytes_eq number (codes "1")) (Ok parsed.Format)
+format_line _ = Err BadHeader
 
-unfoldable pub sites_line : List (List ℕ) → Result Parsed Cause
-sites_line (word ∷ number ∷ []) = if bytes_eq word (codes "sites") && bytes_eq number (codes "2") then Ok (parsed.Sites 2) else Err Unbuilt
-sites_line _ = Err Unbuilt
+-- a word and a number from 1 to a limit
+unfoldable pub counted : List ℕ → ℕ → List ℕ → List ℕ → Result ℕ Cause
+unfolding number_to
+counted keyword limit word number =
+    needs BadHeader (bytes_eq word keyword && is_number number)
+    (given OutOfRange (number_to limit number) Ok)
 
+-- what such a line says
+abbrev pub of_count : (ℕ → Parsed) → Result ℕ Cause → Result Parsed Cause
+of_count says (Ok n) = Ok (says n)
+of_count says (Err cause) = Err cause
+
+-- `sites N`
+unfoldable pub sites_line : Bool → List (List ℕ) → Result Parsed Cause
+unfolding counted
+sites_line live (word ∷ number ∷ []) = of_count parsed.Sites (counted (codes "sites") (most_sites live) word number)
+sites_line live _ = Err BadHeader
+
+-- `gears N`
 unfoldable pub gears_line : List (List ℕ) → Result Parsed Cause
-gears_line (word ∷ number ∷ []) = if bytes_eq word (codes "gears") && bytes_eq number (codes "1") then Ok (parsed.Gears 1) else Err Unbuilt
-gears_line _ = Err Unbuilt
+unfolding counted
+gears_line (word ∷ number ∷ []) = of_count parsed.Gears (counted (codes "gears") MOST_GEARS word number)
+gears_line _ = Err BadHeader
 
--- an item that both sites keep, the first line of its part
-unfoldable pub item_line : Deployed → List ℕ → List ℕ → Result Parsed Cause
-item_line d name sites =
-    if (length d.items == 0) && ((length d.clients == 0) && (length d.plans == 0))
-    then (if is_name name then (if bytes_eq sites (codes "0,1") then Ok (parsed.Item (record { name = name; replicas = record { bits = 3 } })) else Err Unbuilt) else Err Unbuilt)
-    else Err Unbuilt
+-- `item NAME LIST`, before the first client and the first plan
+unfoldable pub item_line : State → List ℕ → List ℕ → Result Parsed Cause
+unfolding bar has_item are_rising sites_among
+item_line s name sites =
+    needs BadHeader ((length s.header.clients == 0) && (length s.header.plans == 0))
+    (needs BadHeader (is_name name && is_list sites)
+    (barred (bar s form.Item)
+    (refused SameName (has_item s.header name)
+    (given OutOfRange (sites_in s.header.sites sites) (λ set. Ok (parsed.Item (record { name = name; replicas = set })))))))
 
--- the first client at site 0, or the second at site 1
-unfoldable pub client_line : Deployed → List ℕ → List ℕ → Result Parsed Cause
-unfolding number_below
-client_line d name site =
-    if (length d.items == 1) && (nat_lt (length d.clients) 2 && (length d.plans == 0))
-    then (
-    if is_name name
-    then (
-    if list_any (λ line. bytes_eq line.name name) d.clients
-    then Err Unbuilt
-    else given Unbuilt (number_below d.sites site) (λ home. if home == length d.clients then Ok (parsed.Client (record { name = name; site = home })) else Err Unbuilt))
-    else Err Unbuilt)
-    else Err Unbuilt
+-- `client NAME SITE`, before the first plan
+unfoldable pub client_line : State → List ℕ → List ℕ → Result Parsed Cause
+unfolding bar has_client number_below
+client_line s name site =
+    needs BadHeader (length s.header.plans == 0)
+    (needs BadHeader (is_name name && is_number site)
+    (barred (bar s form.Client)
+    (refused SameName (has_client s.header name)
+    (given OutOfRange (number_below s.header.sites site) (λ home. Ok (parsed.Client (record { name = name; site = home })))))))
 
--- the words after `plan` of one serializer with both sites
-abbrev pub is_one_serializer : List (List ℕ) → Bool
-is_one_serializer (tree ∷ root ∷ slash ∷ first ∷ second ∷ []) =
-    bytes_eq tree (codes "tree") && (bytes_eq root (codes "-") && (bytes_eq slash (codes "/") && (bytes_eq first (codes "0") && bytes_eq second (codes "0"))))
-is_one_serializer _ = false
-
-unfoldable pub plan_line : Deployed → List (List ℕ) → Result Parsed Cause
-plan_line d words =
-    if (length d.clients == 2) && (length d.plans == 0)
-    then (if is_one_serializer words then Ok (parsed.Plan (plan.Tree one_serializer)) else Err Unbuilt)
-    else Err Unbuilt
-
+-- `begin`, after a plan
 unfoldable pub begin_line : Deployed → Result Parsed Cause
-begin_line d = if length d.plans == 0 then Err Unbuilt else Ok parsed.Begin
+begin_line d = refused BadHeader (length d.plans == 0) (Ok parsed.Begin)
 
--- an item or a client, by the word after its name
-unfoldable pub named_line : Deployed → List ℕ → List ℕ → List ℕ → Result Parsed Cause
+-- `-` for serializer 0, and then numbers
+unfoldable pub are_parents : List (List ℕ) → Bool
+are_parents [] = true
+are_parents (root ∷ words) = bytes_eq root (codes "-") && list_all is_number words
+
+abbrev pub parent_number : List ℕ → Option ℕ
+parent_number word = Some (value_of word)
+
+-- the tree of serializer 0, those that hang on others, and the seats
+abbrev pub tree_on : List (List ℕ) → List (List ℕ) → TreeShape
+tree_on words seats = record { parents = None ∷ map parent_number words; seats = map value_of seats }
+
+-- the tree that such words and the words of the seats name
+unfoldable pub tree_in : List (List ℕ) → List (List ℕ) → TreeShape
+tree_in [] seats = record { parents = []; seats = map value_of seats }
+tree_in (root ∷ words) seats = tree_on words seats
+
+-- 1 to 15 serializers, each but the first hanging on an earlier one, and a serializer for each site
+unfoldable pub is_tree : ℕ → TreeShape → Bool
+unfolding tree_flaw
+is_tree sites t = is_none (tree_flaw t) && (length t.seats == sites)
+
+-- `plan tree PARENTS / SEATS`, by the words before and after the `/`
+unfoldable pub tree_line : State → List (List ℕ) → List (List ℕ) → Result Parsed Cause
+unfolding bar are_parents tree_in is_tree
+tree_line s parents seats =
+    needs BadHeader (are_parents parents && list_all is_number seats)
+    (barred (bar s form.PlanTree)
+    (needs BadTree (is_tree s.header.sites (tree_in parents seats)) (Ok (parsed.Plan (plan.Tree (tree_in parents seats))))))
+
+abbrev pub is_slash : List ℕ → Bool
+is_slash word = bytes_eq word (codes "/")
+
+-- the words of a tree, parted at the first `/`
+unfoldable pub parted_line : State → List (List ℕ) → Option ℕ → Result Parsed Cause
+unfolding tree_line
+parted_line s words None = Err BadHeader
+parted_line s words (Some slash) = tree_line s (take slash words) (drop (slash + 1) words)
+
+-- `plan stamp`
+unfoldable pub stamp_line : State → Result Parsed Cause
+unfolding bar
+stamp_line s = barred (bar s form.PlanStamp) (Ok (parsed.Plan plan.Stamp))
+
+-- the words after `plan`
+unfoldable pub plan_line : State → List (List ℕ) → Result Parsed Cause
+unfolding stamp_line parted_line
+plan_line s [] = Err BadHeader
+plan_line s (word ∷ words) =
+    if bytes_eq word (codes "tree") then parted_line s words (position is_slash words) else
+    needs BadHeader (bytes_eq word (codes "stamp") && (length words == 0)) (stamp_line s)
+
+-- an item or a client, by the word before its name
+unfoldable pub named_line : State → List ℕ → List ℕ → List ℕ → Result Parsed Cause
 unfolding item_line client_line
-named_line d word name place =
-    if bytes_eq word (codes "item") then item_line d name place else (if bytes_eq word (codes "client") then client_line d name place else Err Unbuilt)
+named_line s word name place =
+    if bytes_eq word (codes "item") then item_line s name place else
+    if bytes_eq word (codes "client") then client_line s name place else
+    Err BadHeader
 
--- an item, a client, a plan, or `begin`, by its first word and those after it
-unfoldable pub header_form : Deployed → List ℕ → List (List ℕ) → Result Parsed Cause
+-- an item, a client or `begin`, by its first word and those after it
+unfoldable pub header_form : State → List ℕ → List (List ℕ) → Result Parsed Cause
 unfolding begin_line named_line
-header_form d word [] = if bytes_eq word (codes "begin") then begin_line d else Err Unbuilt
-header_form d word (name ∷ place ∷ []) = named_line d word name place
-header_form d word _ = Err Unbuilt
+header_form s word [] = needs BadHeader (bytes_eq word (codes "begin")) (begin_line s.header)
+header_form s word (name ∷ place ∷ []) = named_line s word name place
+header_form s word _ = Err BadHeader
 
-unfoldable pub header_line : Deployed → List (List ℕ) → Result Parsed Cause
+-- an item, a client, a plan or `begin`
+unfoldable pub header_line : State → List (List ℕ) → Result Parsed Cause
 unfolding header_form plan_line
-header_line d [] = Err Unbuilt
-header_line d (word ∷ words) = if bytes_eq word (codes "plan") then plan_line d words else header_form d word words
+header_line s [] = Err BadHeader
+header_line s (word ∷ words) = if bytes_eq word (codes "plan") then plan_line s words else header_form s word words
 
 -- ---- acts, by the words after the first
 
-unfoldable pub write_line : Deployed → List ℕ → List ℕ → List ℕ → Result Parsed Cause
-unfolding client_of item_of
-write_line d client item value =
-    given Unbuilt (client_of d client) (λ c. given Unbuilt (item_of d item) (λ x. if is_value value then Ok (parsed.Act (act.Write c x value)) else Err Unbuilt))
+abbrev pub said_act : Act → Result Parsed Cause
+said_act a = Ok (parsed.Act a)
 
-unfoldable pub read_line : Deployed → List ℕ → List ℕ → Result Parsed Cause
-unfolding client_of item_of
-read_line d client item = given Unbuilt (client_of d client) (λ c. given Unbuilt (item_of d item) (λ x. Ok (parsed.Act (act.Read c x))))
+-- `clock`, `settle`
+unfoldable pub bare_line : State → Form → Act → Result Parsed Cause
+unfolding bar
+bare_line s f a = barred (bar s f) (said_act a)
 
-unfoldable pub gather_line : Deployed → List ℕ → Result Parsed Cause
-unfolding number_below
-gather_line d site = given Unbuilt (number_below d.sites site) (λ i. Ok (parsed.Act (act.Gather i)))
+-- the site of `gather I` and the like
+unfoldable pub site_in : State → Form → List ℕ → Result ℕ Cause
+unfolding bar number_below
+site_in s f site =
+    needs BadAct (is_number site)
+    (barred (bar s f)
+    (given OutOfRange (number_below s.header.sites site) Ok))
 
-unfoldable pub emit_line : Deployed → List ℕ → Result Parsed Cause
-unfolding number_below
-emit_line d site = given Unbuilt (number_below d.sites site) (λ i. Ok (parsed.Act (act.Emit i)))
+-- the act of a site
+abbrev pub of_site : (ℕ → Act) → Result ℕ Cause → Result Parsed Cause
+of_site made (Ok i) = said_act (made i)
+of_site made (Err cause) = Err cause
 
-unfoldable pub turn_line : Deployed → List ℕ → Result Parsed Cause
-unfolding number_below
-turn_line d site = given Unbuilt (number_below d.sites site) (λ i. Ok (parsed.Act (act.Turn i)))
+abbrev pub site_line : State → Form → (ℕ → Act) → List ℕ → Result Parsed Cause
+site_line s f made site = of_site made (site_in s f site)
 
--- from a site to the one serializer
-unfoldable pub hop_line : Deployed → List ℕ → List ℕ → List ℕ → Result Parsed Cause
-unfolding number_to site_node
-hop_line d epoch from to =
-    given Unbuilt (number_to (length d.plans) epoch)
-    (λ e. given Unbuilt (site_node d.sites from) (λ i. if bytes_eq to (codes "z0") then Ok (parsed.Act (act.Hop e (Site i) 0)) else Err Unbuilt))
+-- `leave C`
+unfoldable pub leave_line : State → List ℕ → Result Parsed Cause
+unfolding bar client_of
+leave_line s client =
+    needs BadAct (is_name client)
+    (barred (bar s form.Leave)
+    (given UnknownName (client_of s.header client) (λ c. said_act (act.Leave c))))
 
--- without a number: the next payload of the lane
-unfoldable pub bulk_line : Deployed → List ℕ → List ℕ → List ℕ → Result Parsed Cause
-unfolding number_below
-bulk_line d from gear to =
-    given Unbuilt (number_below d.sites from)
-    (λ i. given Unbuilt (number_below d.gears gear)
-    (λ g. given Unbuilt (number_below d.sites to) (λ j. if i == j then Err Unbuilt else Ok (parsed.Act (act.Bulk i g j None)))))
+-- `read C X`
+unfoldable pub read_line : State → List ℕ → List ℕ → Result Parsed Cause
+unfolding bar client_of item_of
+read_line s client item =
+    needs BadAct (is_name client && is_name item)
+    (barred (bar s form.Read)
+    (given UnknownName (client_of s.header client) (λ c.
+    given UnknownName (item_of s.header item) (λ x. said_act (act.Read c x)))))
 
--- acts of one word more, of two, and of three
-unfoldable pub act_of_one : Deployed → Option Keyword → List ℕ → Result Parsed Cause
-unfolding gather_line emit_line turn_line
-act_of_one d (Some keyword.Gather) a = gather_line d a
-act_of_one d (Some keyword.Emit) a = emit_line d a
-act_of_one d (Some keyword.Turn) a = turn_line d a
-act_of_one d _ a = Err Unbuilt
+-- the client and the site of `move C J` and `attach C J`
+unfoldable pub client_site_in : State → Form → List ℕ → List ℕ → Result (ℕ × ℕ) Cause
+unfolding bar client_of number_below
+client_site_in s f client site =
+    needs BadAct (is_name client && is_number site)
+    (barred (bar s f)
+    (given UnknownName (client_of s.header client) (λ c.
+    given OutOfRange (number_below s.header.sites site) (λ j. Ok (c, j)))))
 
-unfoldable pub act_of_two : Deployed → Option Keyword → List ℕ → List ℕ → Result Parsed Cause
-unfolding read_line
-act_of_two d (Some keyword.Read) a b = read_line d a b
-act_of_two d _ a b = Err Unbuilt
+-- the act of a client and a site
+abbrev pub of_client_site : (ℕ → ℕ → Act) → Result (ℕ × ℕ) Cause → Result Parsed Cause
+of_client_site made (Ok (c, j)) = said_act (made c j)
+of_client_site made (Err cause) = Err cause
 
-unfoldable pub act_of_three : Deployed → Option Keyword → List ℕ → List ℕ → List ℕ → Result Parsed Cause
-unfolding write_line hop_line bulk_line
-act_of_three d (Some keyword.Write) a b c = write_line d a b c
-act_of_three d (Some keyword.Hop) a b c = hop_line d a b c
-act_of_three d (Some keyword.Bulk) a b c = bulk_line d a b c
-act_of_three d _ a b c = Err Unbuilt
+abbrev pub client_site_line : State → Form → (ℕ → ℕ → Act) → List ℕ → List ℕ → Result Parsed Cause
+client_site_line s f made client site = of_client_site made (client_site_in s f client site)
 
--- an act by its keyword and the words after it
-unfoldable pub act_form : Deployed → Option Keyword → List (List ℕ) → Result Parsed Cause
-unfolding act_of_one act_of_two act_of_three
-act_form d keyword (a ∷ []) = act_of_one d keyword a
-act_form d keyword (a ∷ b ∷ []) = act_of_two d keyword a b
-act_form d keyword (a ∷ b ∷ c ∷ []) = act_of_three d keyword a b c
-act_form d keyword _ = Err Unbuilt
+-- `beat I J`
+unfoldable pub beat_line : State → List ℕ → List ℕ → Result Parsed Cause
+unfolding bar number_below
+beat_line s from to =
+    needs BadAct (is_number from && is_number to)
+    (barred (bar s form.Beat)
+    (given OutOfRange (number_below s.header.sites from) (λ i.
+    given OutOfRange (number_below s.header.sites to) (λ j.
+    refused OutOfRange (i == j) (said_act (act.Beat i j))))))
 
-unfoldable pub act_line : Deployed → List (List ℕ) → Result Parsed Cause
+-- a serializer of an epoch's tree, where the epoch has one
+unfoldable pub kill_in : Option TreeShape → ℕ → List ℕ → Result Parsed Cause
+unfolding serializer_in
+kill_in None epoch z = Err NoEdge
+kill_in (Some t) epoch z = given OutOfRange (serializer_in t z) (λ serializer. said_act (act.Kill epoch serializer))
+
+-- `kill E Z`
+unfoldable pub kill_line : State → List ℕ → List ℕ → Result Parsed Cause
+unfolding bar number_to kill_in tree_of
+kill_line s epoch z =
+    needs BadAct (is_number epoch && is_serializer z)
+    (barred (bar s form.Kill)
+    (given OutOfRange (number_to (length s.header.plans) epoch) (λ e. kill_in (tree_of s.header e) e z)))
+
+-- `write C X V`
+unfoldable pub write_line : State → List ℕ → List ℕ → List ℕ → Result Parsed Cause
+unfolding bar client_of item_of
+write_line s client item value =
+    needs BadAct (is_name client && (is_name item && is_token value))
+    (barred (bar s form.Write)
+    (given UnknownName (client_of s.header client) (λ c.
+    given UnknownName (item_of s.header item) (λ x.
+    needs OutOfRange (is_value value) (said_act (act.Write c x value))))))
+
+-- `tick I G T`
+unfoldable pub tick_line : State → List ℕ → List ℕ → List ℕ → Result Parsed Cause
+unfolding bar number_below number_up_to
+tick_line s site gear ts =
+    needs BadAct (is_number site && (is_number gear && is_number ts))
+    (barred (bar s form.Tick)
+    (given OutOfRange (number_below s.header.sites site) (λ i.
+    given OutOfRange (number_below s.header.gears gear) (λ g.
+    given OutOfRange (number_up_to (2 ^ 62) ts) (λ t. said_act (act.Tick i g t))))))
+
+-- two nodes of an epoch's tree, where the epoch has one
+unfoldable pub hop_in : Option TreeShape → ℕ → List ℕ → List ℕ → Result Parsed Cause
+unfolding node_in serializer_in is_edge
+hop_in None epoch from to = Err NoEdge
+hop_in (Some t) epoch from to =
+    given OutOfRange (node_in t from) (λ u.
+    given OutOfRange (serializer_in t to) (λ z.
+    needs NoEdge (is_edge t u (Serializer z)) (said_act (act.Hop epoch u z))))
+
+-- `hop E U Z`
+unfoldable pub hop_line : State → List ℕ → List ℕ → List ℕ → Result Parsed Cause
+unfolding bar number_to hop_in tree_of
+hop_line s epoch from to =
+    needs BadAct (is_number epoch && (is_node from && is_serializer to))
+    (barred (bar s form.Hop)
+    (given OutOfRange (number_to (length s.header.plans) epoch) (λ e. hop_in (tree_of s.header e) e from to)))
+
+-- `bulk I G J`
+unfoldable pub bulk_line : State → List ℕ → List ℕ → List ℕ → Result Parsed Cause
+unfolding bar number_below
+bulk_line s from gear to =
+    needs BadAct (is_number from && (is_number gear && is_number to))
+    (barred (bar s form.Bulk)
+    (given OutOfRange (number_below s.header.sites from) (λ i.
+    given OutOfRange (number_below s.header.gears gear) (λ g.
+    given OutOfRange (number_below s.header.sites to) (λ j.
+    refused OutOfRange (i == j) (said_act (act.Bulk i g j None)))))))
+
+-- `beatin I J N`
+unfoldable pub beat_in_line : State → List ℕ → List ℕ → List ℕ → Result Parsed Cause
+unfolding bar number_below number_up_to
+beat_in_line s from to number =
+    needs BadAct (is_number from && (is_number to && is_number number))
+    (barred (bar s form.BeatIn)
+    (given OutOfRange (number_below s.header.sites from) (λ i.
+    given OutOfRange (number_below s.header.sites to) (λ j.
+    given OutOfRange (number_up_to (2 ^ 64 - 1) number) (λ n.
+    refused OutOfRange (i == j) (said_act (act.BeatIn i j n)))))))
+
+-- `bulk I G J N`
+unfoldable pub numbered_bulk_line : State → List ℕ → List ℕ → List ℕ → List ℕ → Result Parsed Cause
+unfolding bar number_below number_up_to
+numbered_bulk_line s from gear to number =
+    needs BadAct ((is_number from && is_number gear) && (is_number to && is_number number))
+    (barred (bar s form.NumberedBulk)
+    (given OutOfRange (number_below s.header.sites from) (λ i.
+    given OutOfRange (number_below s.header.gears gear) (λ g.
+    given OutOfRange (number_below s.header.sites to) (λ j.
+    given OutOfRange (number_up_to (2 ^ 64 - 1) number) (λ n.
+    refused OutOfRange (i == j) (said_act (act.Bulk i g j (Some n)))))))))
+
+-- acts of one word, of two, and so on, by the form that begins with the first word
+unfoldable pub act_of_none : State → Option Form → Result Parsed Cause
+unfolding bare_line
+act_of_none s (Some form.Clock) = bare_line s form.Clock act.Clock
+act_of_none s (Some form.Settle) = bare_line s form.Settle act.Settle
+act_of_none s _ = Err BadAct
+
+unfoldable pub act_of_one : State → Option Form → List ℕ → Result Parsed Cause
+unfolding leave_line site_in
+act_of_one s (Some form.Leave) a = leave_line s a
+act_of_one s (Some form.Gather) a = site_line s form.Gather act.Gather a
+act_of_one s (Some form.Emit) a = site_line s form.Emit act.Emit a
+act_of_one s (Some form.Pulse) a = site_line s form.Pulse act.Pulse a
+act_of_one s (Some form.Turn) a = site_line s form.Turn act.Turn a
+act_of_one s (Some form.Stamp) a = site_line s form.Stamp act.Stamp a
+act_of_one s (Some form.Close) a = site_line s form.Close act.Close a
+act_of_one s (Some form.Fall) a = site_line s form.Fall act.Fall a
+act_of_one s (Some form.Advance) a = site_line s form.Advance act.Advance a
+act_of_one s _ a = Err BadAct
+
+unfoldable pub act_of_two : State → Option Form → List ℕ → List ℕ → Result Parsed Cause
+unfolding read_line client_site_in beat_line kill_line
+act_of_two s (Some form.Read) a b = read_line s a b
+act_of_two s (Some form.Move) a b = client_site_line s form.Move act.Move a b
+act_of_two s (Some form.Attach) a b = client_site_line s form.Attach act.Attach a b
+act_of_two s (Some form.Beat) a b = beat_line s a b
+act_of_two s (Some form.Kill) a b = kill_line s a b
+act_of_two s _ a b = Err BadAct
+
+unfoldable pub act_of_three : State → Option Form → List ℕ → List ℕ → List ℕ → Result Parsed Cause
+unfolding write_line tick_line hop_line bulk_line beat_in_line
+act_of_three s (Some form.Write) a b c = write_line s a b c
+act_of_three s (Some form.Tick) a b c = tick_line s a b c
+act_of_three s (Some form.Hop) a b c = hop_line s a b c
+act_of_three s (Some form.Bulk) a b c = bulk_line s a b c
+act_of_three s (Some form.BeatIn) a b c = beat_in_line s a b c
+act_of_three s _ a b c = Err BadAct
+
+unfoldable pub act_of_four : State → Option Form → List ℕ → List ℕ → List ℕ → List ℕ → Result Parsed Cause
+unfolding numbered_bulk_line
+act_of_four s (Some form.Bulk) a b c e = numbered_bulk_line s a b c e
+act_of_four s _ a b c e = Err BadAct
+
+unfoldable pub act_form : State → Option Form → List (List ℕ) → Result Parsed Cause
+unfolding act_of_none act_of_one act_of_two act_of_three act_of_four
+act_form s form [] = act_of_none s form
+act_form s form (a ∷ []) = act_of_one s form a
+act_form s form (a ∷ b ∷ []) = act_of_two s form a b
+act_form s form (a ∷ b ∷ c ∷ []) = act_of_three s form a b c
+act_form s form (a ∷ b ∷ c ∷ e ∷ []) = act_of_four s form a b c e
+act_form s form _ = Err BadAct
+
+unfoldable pub act_line : State → List (List ℕ) → Result Parsed Cause
 unfolding keyword_of act_form
-act_line d [] = Err Unbuilt
-act_line d (word ∷ words) = act_form d (keyword_of word) words
+act_line s [] = Err BadAct
+act_line s (word ∷ words) = act_form s (keyword_of word) words
 
 abbrev pub is_end : List (List ℕ) → Bool
 is_end (word ∷ []) = bytes_eq word (codes "end")
 is_end _ = false
 
--- an act, after so many acts, or `end`
-unfoldable pub body_line : Deployed → ℕ → List (List ℕ) → Result Parsed Cause
+-- an act or `end`
+unfoldable pub body_line : State → List (List ℕ) → Result Parsed Cause
 unfolding act_line
-body_line d acts words = if is_end words then Ok parsed.End else (if nat_lt acts MOST_ACTS then act_line d words else Err Unbuilt)
+body_line s words = if is_end words then Ok parsed.End else act_line s words
 
 -- ---- a line, by its place
 
-unfoldable pub words_line : Stage → Deployed → ℕ → List (List ℕ) → Result Parsed Cause
+unfoldable pub words_line : Stage → State → List (List ℕ) → Result Parsed Cause
 unfolding format_line sites_line gears_line header_line body_line
-words_line stage.Start d acts words = format_line words
-words_line stage.Sites d acts words = sites_line words
-words_line stage.Gears d acts words = gears_line words
-words_line stage.Header d acts words = header_line d words
-words_line stage.Body d acts words = body_line d acts words
-words_line stage.Ended d acts words = Err Unbuilt
+words_line stage.Start s words = format_line words
+words_line stage.Sites s words = sites_line s.live words
+words_line stage.Gears s words = gears_line words
+words_line stage.Header s words = header_line s words
+words_line stage.Body s words = body_line s words
+words_line stage.Ended s words = Err AfterEnd
+
+abbrev pub is_ended : Stage → Bool
+is_ended stage.Ended = true
+is_ended _ = false
 
 -- what a line says that ends in byte 10, without it, or why it is refused
 unfoldable pub line_at : State → List ℕ → Result Parsed Cause
 unfolding words_line
 line_at s line =
-    if nat_lt LONGEST_LINE (length line) then Err Unbuilt else (if is_text line then words_line s.stage s.header s.acts (words_of line) else Err Unbuilt)
+    refused AfterEnd (is_ended s.stage)
+    (refused LongLine (nat_lt LONGEST_LINE (length line))
+    (needs NotText (is_text line) (words_line s.stage s (words_of line))))
 
 -- why the text may not end here, where this stands after its last byte 10
 unfoldable pub close_in : Stage → List ℕ → Option Cause
 close_in stage.Ended [] = None
-close_in _ rest = Some Unbuilt
+close_in stage.Ended (byte ∷ rest) = Some AfterEnd
+close_in _ rest = if nat_lt LONGEST_LINE (length rest) then Some LongLine else Some NoEnd
 
 abbrev pub close_at : State → List ℕ → Option Cause
 close_at s rest = close_in s.stage rest
@@ -235,6 +522,17 @@ abbrev pub with_act : ℕ → Parsed → ℕ
 with_act acts (parsed.Act a) = acts + 1
 with_act acts _ = acts
 
+abbrev pub with_settle : ℕ → Parsed → ℕ
+with_settle settles (parsed.Act act.Settle) = settles + 1
+with_settle settles _ = settles
+
 -- the state at the next line
 abbrev pub after : State → Parsed → State
-after s p = record { live = s.live; stage = next_stage s.stage p; header = with_parsed s.header p; acts = with_act s.acts p }
+after s p =
+    record { live = s.live; stage = next_stage s.stage p; header = with_parsed s.header p; acts = with_act s.acts p; settles = with_settle s.settles p }
+
+-- what a good line says has a name of its own
+abbrev pub IsNew : Deployed → Parsed → Type 0
+IsNew d (parsed.Item item) = has_item d item.name ≡ false
+IsNew d (parsed.Client line) = has_client d line.name ≡ false
+IsNew d _ = Unit {0}

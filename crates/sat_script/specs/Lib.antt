@@ -1,4 +1,5 @@
 pub mod Words
+pub mod Names
 pub mod State
 pub mod Grammar
 pub mod Reading

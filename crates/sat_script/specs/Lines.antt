@@ -1,26 +1,26 @@
 -- What the calls of a reader of lines do.
-use Rattle.std.specs.Prelude.{ℕ, ◌≡◌, ◌≢◌, ◌≤◌, ◌+◌, ◌*◌, true, List, [], length, Some, None, Ok, Err, MatchResult}
+use Rattle.std.specs.Prelude.{ℕ, ◌≡◌, ◌≢◌, true, false, List, Some, None, Ok, Err, MatchResult}
 use Rattle.std.specs.declared.option.Option.{Option}
 use Rattle.std.specs.declared.result.Result.{Result}
-use Rattle.sat_act.specs.Deployed.{Deployed}
-use Rattle.sat_act.specs.Limits.{IsDeployment}
-use Rattle.sat_act.specs.Built.{IsBuilt}
-use Rattle.sat_script.specs.Grammar.{line_at, close_at, after}
+use Rattle.sat_tree.specs.Shape.{TreeShape}
+use Rattle.sat_script.specs.Grammar.{is_tree, line_at, close_at, after}
 use Rattle.sat_script.specs.Reading.{told_line}
-use Rattle.sat_script.specs.State.{State, Seen, no_header, number_of}
+use Rattle.sat_script.specs.State.{State, Seen, number_of}
 use Rattle.sat_script.specs.declared.fault.Cause.{Cause}
 use Rattle.sat_script.specs.declared.fault.Cause.TheVariants.{Memory}
 use Rattle.sat_script.specs.declared.fault.ScriptFault.{ScriptFault}
 use Rattle.sat_script.specs.declared.line.Line.{Line}
 use Rattle.sat_script.specs.declared.line.Parsed.{Parsed}
-use Rattle.sat_script.specs.declared.line.Stage.{Stage}
-use Rattle.sat_script.specs.declared.line.Stage.TheVariants as stage
-use Rattle.sat_script.specs.declared.limits.TheConstants.{MOST_ACTS}
 
 -- the call answers this, or want of memory
 abbrev pub Gives : Result Parsed Cause → Result Parsed Cause → Type 0
 Gives (Ok parsed) said = said ≡ Ok parsed
 Gives (Err cause) said = cause ≢ Memory → said ≡ Err cause
+
+-- a tree of so many sites, or none where it isn't one
+abbrev pub IsTreeOf : ℕ → TreeShape → Option TreeShape → Type 0
+IsTreeOf sites t None = is_tree sites t ≡ false
+IsTreeOf sites t (Some made) = (made ≡ t) × (is_tree sites t ≡ true)
 
 -- the reader goes on in this state, or stays in it with this fault
 abbrev pub running : State → Seen

@@ -1,9 +1,10 @@
 -- What a text is: the deployment and the acts of the lines before the first bad line, and that line with its cause.
-use Rattle.std.specs.Prelude.{ℕ, ◌≡◌, ◌≢◌, true, Bool, List, [], ◌∷◌, ◌++◌, Some, None, Ok, Err}
+use Rattle.std.specs.Prelude.{ℕ, ◌≡◌, ◌≢◌, ◌≤◌, true, false, Bool, not, ◌||◌, List, [], ◌∷◌, ◌++◌, length, Some, None, Ok, Err}
 use Rattle.std.specs.declared.option.Option.{Option}
 use Rattle.std.specs.declared.result.Result.{Result}
 use Rattle.std.specs.List.{AllByRecursion, slice_split}
 use Rattle.sat_act.specs.declared.act.Act.{Act}
+use Rattle.sat_act.specs.declared.act.Act.TheVariants as act
 use Rattle.sat_act.specs.Deployed.{Deployed}
 use Rattle.sat_act.specs.Ranges.{IsActOf}
 use Rattle.sat_act.specs.Built.{is_built_act}
@@ -13,6 +14,7 @@ use Rattle.sat_script.specs.Words.{is_newline}
 use Rattle.sat_script.specs.declared.fault.Cause.{Cause}
 use Rattle.sat_script.specs.declared.fault.Cause.TheVariants.{Memory}
 use Rattle.sat_script.specs.declared.fault.ScriptFault.{ScriptFault}
+use Rattle.sat_script.specs.declared.limits.TheConstants.{LIVE_SITES, LIVE_CLIENTS, LIVE_ACTS}
 use Rattle.sat_script.specs.declared.line.Line.{Line}
 use Rattle.sat_script.specs.declared.line.Line.TheVariants as line
 use Rattle.sat_script.specs.declared.line.Parsed.{Parsed}
@@ -77,6 +79,33 @@ good d acts = record { deployment = Some d; acts = acts; fault = None }
 -- acts of a deployment that are built
 abbrev pub AreBuiltActs : Deployed → List Act → Type 0
 AreBuiltActs d acts = AllByRecursion (λ a. IsActOf d a × (is_built_act a ≡ true)) acts
+
+-- the acts of a script for nodes on threads
+abbrev pub is_live_act : Act → Bool
+is_live_act (act.Write c x value) = true
+is_live_act (act.Read c x) = true
+is_live_act (act.Move c j) = true
+is_live_act (act.Leave c) = true
+is_live_act (act.Attach c j) = true
+is_live_act (act.Close i) = true
+is_live_act (act.Fall j) = true
+is_live_act (act.Kill e z) = true
+is_live_act _ = false
+
+abbrev pub AreAllowed : Bool → List Act → Type 0
+AreAllowed live acts = AllByRecursion (λ a. (not live || is_live_act a) ≡ true) acts
+
+-- within the limits of a script for nodes on threads
+pub record IsForNodes (d : Deployed) (acts : List Act) : Type 0 where
+  pub sites : d.sites ≤ LIVE_SITES
+  pub clients : length d.clients ≤ LIVE_CLIENTS
+  pub few : length acts ≤ LIVE_ACTS
+  pub each : AreAllowed true acts
+
+-- the same where the script is for nodes on threads, and else nothing
+abbrev pub IsAllowed : Bool → Deployed → List Act → Type 0
+IsAllowed false d acts = Unit {0}
+IsAllowed true d acts = IsForNodes d acts
 
 -- want of memory is told, or this holds
 abbrev pub UnlessMemory : {T : Type 0} → Result T ScriptFault → Type 0 → Type 0

@@ -1,18 +1,26 @@
--- The words of a line: its bytes, numbers and keywords.
-use Rattle.std.specs.Prelude.{ℕ, List, [], ◌∷◌, Bool, not, ◌&&◌, ◌||◌, ◌==◌, nat_lt, nat_le, length, slice_index, Some, None, if◌then◌else◌, codes}
+-- The words of a line: its bytes, numbers, lists of sites, nodes and keywords.
+use Rattle.std.specs.Prelude.{ℕ, ◌^◌, List, [], ◌∷◌, Bool, true, false, not, ◌&&◌, ◌||◌, ◌==◌, nat_lt, nat_le, length, map, slice_index, bit_or, Some, None, if◌then◌else◌, codes}
 use Rattle.std.specs.declared.option.Option.{Option}
+use Rattle.std.specs.Option.{option_map}
 use Rattle.std.specs.List.{slice_split, list_all}
 use Rattle.std.specs.Str.{bytes_eq, all_ascii_digits}
 use Rattle.std.specs.Str.Parse.{digits_value}
 use Rattle.sat_label.specs.Text.{is_between}
-use Rattle.sat_script.specs.declared.keyword.Keyword.{Keyword}
-use Rattle.sat_script.specs.declared.keyword.Keyword.TheVariants as keyword
+use Rattle.sat_label.specs.declared.node.NodeId.{NodeId}
+use Rattle.sat_label.specs.declared.node.NodeId.TheVariants.{Site, Serializer}
+use Rattle.sat_label.specs.declared.site_set.SiteSet.{SiteSet}
+use Rattle.sat_tree.specs.Shape.{TreeShape}
+use Rattle.sat_script.specs.declared.form.Form.{Form}
+use Rattle.sat_script.specs.declared.form.Form.TheVariants as form
 
 abbrev pub is_newline : ℕ → Bool
 is_newline byte = byte == 10
 
 abbrev pub is_blank : ℕ → Bool
 is_blank byte = byte == 32
+
+abbrev pub is_comma : ℕ → Bool
+is_comma byte = byte == 44
 
 -- bytes that may stand in a line
 abbrev pub is_text : List ℕ → Bool
@@ -21,6 +29,12 @@ is_text line = list_all (is_between 32 126) line
 -- the parts of a line between its blanks
 abbrev pub words_of : List ℕ → List (List ℕ)
 words_of line = slice_split is_blank line
+
+-- a word of bytes that can be seen
+abbrev pub is_token : List ℕ → Bool
+is_token word = nat_lt 0 (length word) && list_all (is_between 33 126) word
+
+-- ---- numbers of any length
 
 -- `0`, or digits that don't begin with `0`
 abbrev pub is_number : List ℕ → Bool
@@ -38,18 +52,95 @@ number_below limit word = if is_number word && nat_lt (value_of word) limit then
 unfoldable pub number_to : ℕ → List ℕ → Option ℕ
 number_to limit word = if is_number word && (nat_lt 0 (value_of word) && nat_le (value_of word) limit) then Some (value_of word) else None
 
--- `s` and the number of a site
-unfoldable pub site_node : ℕ → List ℕ → Option ℕ
-unfolding number_below
-site_node sites [] = None
-site_node sites (byte ∷ number) = if byte == 115 then number_below sites number else None
+-- a number from 0 to a limit
+unfoldable pub number_up_to : ℕ → List ℕ → Option ℕ
+number_up_to limit word = if is_number word && nat_le (value_of word) limit then Some (value_of word) else None
 
-unfoldable pub keyword_of : List ℕ → Option Keyword
+-- ---- lists of sites
+
+-- the words between a list's commas
+abbrev pub parts_of : List ℕ → List (List ℕ)
+parts_of list = slice_split is_comma list
+
+-- each number is above the one before it
+abbrev pub is_rising : List ℕ → Bool
+is_rising [] = true
+is_rising (a ∷ []) = true
+is_rising (a ∷ b ∷ more) = nat_lt a b && is_rising (b ∷ more)
+
+-- words that are numbers, strictly ascending
+unfoldable pub are_rising : List (List ℕ) → Bool
+are_rising parts = if list_all is_number parts then is_rising (map value_of parts) else false
+
+-- numbers with commas between them, strictly ascending
+abbrev pub is_list : List ℕ → Bool
+is_list list = are_rising (parts_of list)
+
+-- the set of these sites, as bits
+abbrev pub set_of : List ℕ → ℕ
+set_of [] = 0
+set_of (site ∷ sites) = bit_or (2 ^ site) (set_of sites)
+
+-- whether the numbers that words stand for are all below a limit
+abbrev pub are_below : ℕ → List (List ℕ) → Bool
+are_below limit words = list_all (λ word. nat_lt (value_of word) limit) words
+
+-- the set of sites that words name, where all are below a limit
+unfoldable pub sites_among : ℕ → List (List ℕ) → Option SiteSet
+sites_among limit parts = if are_below limit parts then Some (record { bits = set_of (map value_of parts) }) else None
+
+-- the set of sites that a list names
+abbrev pub sites_in : ℕ → List ℕ → Option SiteSet
+sites_in limit list = sites_among limit (parts_of list)
+
+-- ---- nodes
+
+-- `s` and a number, or `z` and a number
+unfoldable pub is_node : List ℕ → Bool
+is_node [] = false
+is_node (byte ∷ number) = (byte == 115 || byte == 122) && is_number number
+
+-- `z` and a number
+unfoldable pub is_serializer : List ℕ → Bool
+is_serializer [] = false
+is_serializer (byte ∷ number) = (byte == 122) && is_number number
+
+-- the serializer of a tree that such a word names
+unfoldable pub serializer_in : TreeShape → List ℕ → Option ℕ
+unfolding number_below
+serializer_in t [] = None
+serializer_in t (byte ∷ number) = number_below (length t.parents) number
+
+-- the node of a tree that such a word names
+unfoldable pub node_in : TreeShape → List ℕ → Option NodeId
+unfolding number_below
+node_in t [] = None
+node_in t (byte ∷ number) =
+    if byte == 115 then option_map Site (number_below (length t.seats) number) else option_map Serializer (number_below (length t.parents) number)
+
+-- ---- keywords
+
+-- the form of the acts that begin with this word; of `bulk` the one without a number
+unfoldable pub keyword_of : List ℕ → Option Form
 keyword_of word =
-    if bytes_eq word (codes "write") then Some keyword.Write else (
-    if bytes_eq word (codes "read") then Some keyword.Read else (
-    if bytes_eq word (codes "gather") then Some keyword.Gather else (
-    if bytes_eq word (codes "emit") then Some keyword.Emit else (
-    if bytes_eq word (codes "hop") then Some keyword.Hop else (
-    if bytes_eq word (codes "turn") then Some keyword.Turn else (
-    if bytes_eq word (codes "bulk") then Some keyword.Bulk else None))))))
+    if bytes_eq word (codes "write") then Some form.Write else (
+    if bytes_eq word (codes "read") then Some form.Read else (
+    if bytes_eq word (codes "hop") then Some form.Hop else (
+    if bytes_eq word (codes "bulk") then Some form.Bulk else (
+    if bytes_eq word (codes "turn") then Some form.Turn else (
+    if bytes_eq word (codes "gather") then Some form.Gather else (
+    if bytes_eq word (codes "emit") then Some form.Emit else (
+    if bytes_eq word (codes "tick") then Some form.Tick else (
+    if bytes_eq word (codes "pulse") then Some form.Pulse else (
+    if bytes_eq word (codes "beat") then Some form.Beat else (
+    if bytes_eq word (codes "beatin") then Some form.BeatIn else (
+    if bytes_eq word (codes "stamp") then Some form.Stamp else (
+    if bytes_eq word (codes "move") then Some form.Move else (
+    if bytes_eq word (codes "leave") then Some form.Leave else (
+    if bytes_eq word (codes "attach") then Some form.Attach else (
+    if bytes_eq word (codes "clock") then Some form.Clock else (
+    if bytes_eq word (codes "close") then Some form.Close else (
+    if bytes_eq word (codes "fall") then Some form.Fall else (
+    if bytes_eq word (codes "advance") then Some form.Advance else (
+    if bytes_eq word (codes "kill") then Some form.Kill else (
+    if bytes_eq word (codes "settle") then Some form.Settle else None))))))))))))))))))))

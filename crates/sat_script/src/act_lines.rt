@@ -1,34 +1,179 @@
 //! The lines after `begin`, by their words.
-ghost use Rattle.std.specs.Prelude.{◌≡◌, map};
-ghost use Rattle.sat_script.specs.Grammar.{write_line, read_line, gather_line, emit_line, turn_line, hop_line, bulk_line, act_of_one, act_of_two, act_of_three, act_form, act_line, is_end, body_line};
+ghost use Rattle.std.specs.Prelude.{◌≡◌, ◌≤◌, length, map, option_copied};
+ghost use Rattle.sat_act.specs.Parts.{tree_of};
+ghost use Rattle.sat_script.specs.Grammar.{site_in, leave_line, read_line, client_site_in, beat_line, kill_in, kill_line, write_line, tick_line, hop_in, hop_line, bulk_line, beat_in_line, numbered_bulk_line, bare_line, act_of_none, act_of_one, act_of_two, act_of_three, act_of_four, act_form, act_line, is_end, body_line};
 ghost use Rattle.sat_script.specs.Lines.{Gives};
 
 use crate::Cause;
-use crate::header::Header;
-use crate::keyword::{Keyword, keyword_of};
-use crate::limits::MOST_ACTS;
+use crate::form::{Form, keyword_of};
 use crate::line::Parsed;
-use crate::number::{number_below, number_to};
-use crate::words::site_node;
-use sat_act::Act;
-use sat_label::{NodeId, Value};
+use crate::nodes::{node_in, serializer_in};
+use crate::number::{is_number, number_below, number_to, number_up_to};
+use crate::place::Place;
+use crate::words::{is_name, is_node, is_serializer, is_token};
+use sat_act::{Act, Plan};
+use sat_label::{NodeId, TS_END, Value};
+use sat_tree::Tree;
 use std::alloc::Global;
+
+// The site of an act of one.
+#[tactic(auto, unfolding(crate::specs::Grammar::site_in))]
+fn site_in(place: &Place, form: Form, site: &[u8]) -> Result<u16, Cause>
+    ensures { result ≡ site_in place.now form site.now }
+{
+    if !is_number(site) {
+        return Err(Cause::BadAct);
+    }
+    if let Some(cause) = place.bar(form) {
+        return Err(cause);
+    }
+    number_below(place.header().sites(), site).ok_or(Cause::OutOfRange)
+}
+
+#[tactic(auto, unfolding(crate::specs::Grammar::leave_line))]
+fn leave_line(place: &Place, client: &[u8]) -> Result<Parsed, Cause>
+    ensures { Gives result (leave_line place.now client.now) }
+{
+    if !is_name(client) {
+        return Err(Cause::BadAct);
+    }
+    if let Some(cause) = place.bar(Form::Leave) {
+        return Err(cause);
+    }
+    let Some(client) = place.header().client_of(client) else {
+        return Err(Cause::UnknownName);
+    };
+    Ok(Parsed::Act(Act::Leave { client }))
+}
+
+#[tactic(auto, unfolding(crate::specs::Grammar::read_line))]
+fn read_line(place: &Place, client: &[u8], item: &[u8]) -> Result<Parsed, Cause>
+    ensures { Gives result (read_line place.now client.now item.now) }
+{
+    if !(is_name(client) && is_name(item)) {
+        return Err(Cause::BadAct);
+    }
+    if let Some(cause) = place.bar(Form::Read) {
+        return Err(cause);
+    }
+    let Some(client) = place.header().client_of(client) else {
+        return Err(Cause::UnknownName);
+    };
+    let Some(item) = place.header().item_of(item) else {
+        return Err(Cause::UnknownName);
+    };
+    Ok(Parsed::Act(Act::Read { client, item }))
+}
+
+// The client and the site of an act of both.
+#[tactic(auto, unfolding(crate::specs::Grammar::client_site_in))]
+fn client_site_in(
+    place: &Place,
+    form: Form,
+    client: &[u8],
+    site: &[u8],
+) -> Result<(u16, u16), Cause>
+    ensures { result ≡ client_site_in place.now form client.now site.now }
+{
+    if !(is_name(client) && is_number(site)) {
+        return Err(Cause::BadAct);
+    }
+    if let Some(cause) = place.bar(form) {
+        return Err(cause);
+    }
+    let Some(client) = place.header().client_of(client) else {
+        return Err(Cause::UnknownName);
+    };
+    let Some(site) = number_below(place.header().sites(), site) else {
+        return Err(Cause::OutOfRange);
+    };
+    Ok((client, site))
+}
+
+#[tactic(auto, unfolding(crate::specs::Grammar::beat_line))]
+fn beat_line(place: &Place, from: &[u8], to: &[u8]) -> Result<Parsed, Cause>
+    ensures { Gives result (beat_line place.now from.now to.now) }
+{
+    if !(is_number(from) && is_number(to)) {
+        return Err(Cause::BadAct);
+    }
+    if let Some(cause) = place.bar(Form::Beat) {
+        return Err(cause);
+    }
+    let Some(from) = number_below(place.header().sites(), from) else {
+        return Err(Cause::OutOfRange);
+    };
+    let Some(to) = number_below(place.header().sites(), to) else {
+        return Err(Cause::OutOfRange);
+    };
+    if from == to {
+        return Err(Cause::OutOfRange);
+    }
+    Ok(Parsed::Act(Act::Beat { from, to }))
+}
+
+// The tree of an epoch, where it has one.
+#[tactic(auto, unfolding(sat_act::specs::Parts::tree_of))]
+fn tree_at(place: &Place, epoch: u16) -> Option<&Tree>
+    requires { (1 ≤ epoch) × (epoch ≤ length place.now.header.plans) }
+    ensures { option_copied result ≡ tree_of place.now.header epoch }
+{
+    match place.header().plan(epoch) {
+        Plan::Stamp => None,
+        Plan::Tree(tree) => Some(tree),
+    }
+}
+
+#[tactic(auto, unfolding(crate::specs::Grammar::kill_in))]
+fn kill_in(tree: Option<&Tree>, epoch: u16, serializer: &[u8]) -> Result<Parsed, Cause>
+    ensures { Gives result (kill_in (option_copied tree.entry) epoch serializer.now) }
+{
+    let Some(tree) = tree else {
+        return Err(Cause::NoEdge);
+    };
+    let Some(serializer) = serializer_in(tree, serializer) else {
+        return Err(Cause::OutOfRange);
+    };
+    Ok(Parsed::Act(Act::Kill { epoch, serializer }))
+}
+
+#[tactic(auto, unfolding(crate::specs::Grammar::kill_line))]
+fn kill_line(place: &Place, epoch: &[u8], serializer: &[u8]) -> Result<Parsed, Cause>
+    ensures { Gives result (kill_line place.now epoch.now serializer.now) }
+{
+    if !(is_number(epoch) && is_serializer(serializer)) {
+        return Err(Cause::BadAct);
+    }
+    if let Some(cause) = place.bar(Form::Kill) {
+        return Err(cause);
+    }
+    let Some(epoch) = number_to(place.header().plans(), epoch) else {
+        return Err(Cause::OutOfRange);
+    };
+    kill_in(tree_at(place, epoch), epoch, serializer)
+}
 
 #[tactic(auto, unfolding(crate::specs::Grammar::write_line))]
 fn write_line(
     alloc: Global,
-    header: &Header,
+    place: &Place,
     client: &[u8],
     item: &[u8],
     value: &[u8],
 ) -> Result<Parsed, Cause>
-    ensures { Gives result (write_line header.now client.now item.now value.now) }
+    ensures { Gives result (write_line place.now client.now item.now value.now) }
 {
-    let Some(client) = header.client_of(client) else {
-        return Err(Cause::Unbuilt);
+    if !(is_name(client) && is_name(item) && is_token(value)) {
+        return Err(Cause::BadAct);
+    }
+    if let Some(cause) = place.bar(Form::Write) {
+        return Err(cause);
+    }
+    let Some(client) = place.header().client_of(client) else {
+        return Err(Cause::UnknownName);
     };
-    let Some(item) = header.item_of(item) else {
-        return Err(Cause::Unbuilt);
+    let Some(item) = place.header().item_of(item) else {
+        return Err(Cause::UnknownName);
     };
     match Value::of(alloc, value) {
         Ok(Some(value)) => Ok(Parsed::Act(Act::Write {
@@ -36,89 +181,89 @@ fn write_line(
             item,
             value,
         })),
-        Ok(None) => Err(Cause::Unbuilt),
+        Ok(None) => Err(Cause::OutOfRange),
         Err(_) => Err(Cause::Memory),
     }
 }
 
-#[tactic(auto, unfolding(crate::specs::Grammar::read_line))]
-fn read_line(header: &Header, client: &[u8], item: &[u8]) -> Result<Parsed, Cause>
-    ensures { Gives result (read_line header.now client.now item.now) }
+#[tactic(auto, unfolding(crate::specs::Grammar::tick_line))]
+fn tick_line(place: &Place, site: &[u8], gear: &[u8], ts: &[u8]) -> Result<Parsed, Cause>
+    ensures { Gives result (tick_line place.now site.now gear.now ts.now) }
 {
-    let Some(client) = header.client_of(client) else {
-        return Err(Cause::Unbuilt);
+    if !(is_number(site) && is_number(gear) && is_number(ts)) {
+        return Err(Cause::BadAct);
+    }
+    if let Some(cause) = place.bar(Form::Tick) {
+        return Err(cause);
+    }
+    let Some(site) = number_below(place.header().sites(), site) else {
+        return Err(Cause::OutOfRange);
     };
-    let Some(item) = header.item_of(item) else {
-        return Err(Cause::Unbuilt);
+    let Some(gear) = number_below(place.header().gears(), gear) else {
+        return Err(Cause::OutOfRange);
     };
-    Ok(Parsed::Act(Act::Read { client, item }))
+    let Some(ts) = number_up_to(TS_END, ts) else {
+        return Err(Cause::OutOfRange);
+    };
+    Ok(Parsed::Act(Act::Tick { site, gear, ts }))
 }
 
-#[tactic(auto, unfolding(crate::specs::Grammar::gather_line))]
-fn gather_line(header: &Header, site: &[u8]) -> Result<Parsed, Cause>
-    ensures { Gives result (gather_line header.now site.now) }
+#[tactic(auto, unfolding(crate::specs::Grammar::hop_in))]
+fn hop_in(tree: Option<&Tree>, epoch: u16, from: &[u8], to: &[u8]) -> Result<Parsed, Cause>
+    ensures { Gives result (hop_in (option_copied tree.entry) epoch from.now to.now) }
 {
-    let Some(site) = number_below(header.sites(), site) else {
-        return Err(Cause::Unbuilt);
+    let Some(tree) = tree else {
+        return Err(Cause::NoEdge);
     };
-    Ok(Parsed::Act(Act::Gather { site }))
-}
-
-#[tactic(auto, unfolding(crate::specs::Grammar::emit_line))]
-fn emit_line(header: &Header, site: &[u8]) -> Result<Parsed, Cause>
-    ensures { Gives result (emit_line header.now site.now) }
-{
-    let Some(site) = number_below(header.sites(), site) else {
-        return Err(Cause::Unbuilt);
+    let Some(from) = node_in(tree, from) else {
+        return Err(Cause::OutOfRange);
     };
-    Ok(Parsed::Act(Act::Emit { site }))
-}
-
-#[tactic(auto, unfolding(crate::specs::Grammar::turn_line))]
-fn turn_line(header: &Header, site: &[u8]) -> Result<Parsed, Cause>
-    ensures { Gives result (turn_line header.now site.now) }
-{
-    let Some(site) = number_below(header.sites(), site) else {
-        return Err(Cause::Unbuilt);
+    let Some(to) = serializer_in(tree, to) else {
+        return Err(Cause::OutOfRange);
     };
-    Ok(Parsed::Act(Act::Turn { site }))
+    if !tree.is_edge(from, NodeId::Serializer(to)) {
+        return Err(Cause::NoEdge);
+    }
+    Ok(Parsed::Act(Act::Hop { epoch, from, to }))
 }
 
 #[tactic(auto, unfolding(crate::specs::Grammar::hop_line))]
-fn hop_line(header: &Header, epoch: &[u8], from: &[u8], to: &[u8]) -> Result<Parsed, Cause>
-    ensures { Gives result (hop_line header.now epoch.now from.now to.now) }
+fn hop_line(place: &Place, epoch: &[u8], from: &[u8], to: &[u8]) -> Result<Parsed, Cause>
+    ensures { Gives result (hop_line place.now epoch.now from.now to.now) }
 {
-    let Some(epoch) = number_to(header.plans(), epoch) else {
-        return Err(Cause::Unbuilt);
-    };
-    let Some(site) = site_node(header.sites(), from) else {
-        return Err(Cause::Unbuilt);
-    };
-    if to != b"z0".as_slice() {
-        return Err(Cause::Unbuilt);
+    if !(is_number(epoch) && is_node(from) && is_serializer(to)) {
+        return Err(Cause::BadAct);
     }
-    Ok(Parsed::Act(Act::Hop {
-        epoch,
-        from: NodeId::Site(site),
-        to: 0,
-    }))
+    if let Some(cause) = place.bar(Form::Hop) {
+        return Err(cause);
+    }
+    let Some(epoch) = number_to(place.header().plans(), epoch) else {
+        return Err(Cause::OutOfRange);
+    };
+    hop_in(tree_at(place, epoch), epoch, from, to)
 }
 
 #[tactic(auto, unfolding(crate::specs::Grammar::bulk_line))]
-fn bulk_line(header: &Header, from: &[u8], gear: &[u8], to: &[u8]) -> Result<Parsed, Cause>
-    ensures { Gives result (bulk_line header.now from.now gear.now to.now) }
+fn bulk_line(place: &Place, from: &[u8], gear: &[u8], to: &[u8]) -> Result<Parsed, Cause>
+    ensures { Gives result (bulk_line place.now from.now gear.now to.now) }
 {
-    let Some(from) = number_below(header.sites(), from) else {
-        return Err(Cause::Unbuilt);
+    if !(is_number(from) && is_number(gear) && is_number(to)) {
+        return Err(Cause::BadAct);
+    }
+    if let Some(cause) = place.bar(Form::Bulk) {
+        return Err(cause);
+    }
+    let Some(from) = number_below(place.header().sites(), from) else {
+        return Err(Cause::OutOfRange);
     };
-    let Some(gear) = number_below(header.gears(), gear) else {
-        return Err(Cause::Unbuilt);
+    let Some(gear) = number_below(place.header().gears(), gear) else {
+        return Err(Cause::OutOfRange);
     };
-    let Some(to) = number_below(header.sites(), to) else {
-        return Err(Cause::Unbuilt);
+    let Some(to) = number_below(place.header().sites(), to) else {
+        return Err(Cause::OutOfRange);
     };
     if from == to {
-        return Err(Cause::Unbuilt);
+        return Err(Cause::OutOfRange);
     }
     Ok(Parsed::Act(Act::Bulk {
         from,
@@ -128,76 +273,210 @@ fn bulk_line(header: &Header, from: &[u8], gear: &[u8], to: &[u8]) -> Result<Par
     }))
 }
 
-#[tactic(auto, unfolding(crate::specs::Grammar::act_of_one))]
-fn act_of_one(header: &Header, keyword: Option<Keyword>, a: &[u8]) -> Result<Parsed, Cause>
-    ensures { Gives result (act_of_one header.now keyword a.now) }
+#[tactic(auto, unfolding(crate::specs::Grammar::beat_in_line))]
+fn beat_in_line(place: &Place, from: &[u8], to: &[u8], number: &[u8]) -> Result<Parsed, Cause>
+    ensures { Gives result (beat_in_line place.now from.now to.now number.now) }
 {
-    match keyword {
-        Some(Keyword::Gather) => gather_line(header, a),
-        Some(Keyword::Emit) => emit_line(header, a),
-        Some(Keyword::Turn) => turn_line(header, a),
-        _ => Err(Cause::Unbuilt),
+    if !(is_number(from) && is_number(to) && is_number(number)) {
+        return Err(Cause::BadAct);
+    }
+    if let Some(cause) = place.bar(Form::BeatIn) {
+        return Err(cause);
+    }
+    let Some(from) = number_below(place.header().sites(), from) else {
+        return Err(Cause::OutOfRange);
+    };
+    let Some(to) = number_below(place.header().sites(), to) else {
+        return Err(Cause::OutOfRange);
+    };
+    let Some(number) = number_up_to(u64::MAX, number) else {
+        return Err(Cause::OutOfRange);
+    };
+    if from == to {
+        return Err(Cause::OutOfRange);
+    }
+    Ok(Parsed::Act(Act::BeatIn { from, to, number }))
+}
+
+#[tactic(auto, unfolding(crate::specs::Grammar::numbered_bulk_line))]
+fn numbered_bulk_line(
+    place: &Place,
+    from: &[u8],
+    gear: &[u8],
+    to: &[u8],
+    number: &[u8],
+) -> Result<Parsed, Cause>
+    ensures { Gives result (numbered_bulk_line place.now from.now gear.now to.now number.now) }
+{
+    if !((is_number(from) && is_number(gear)) && (is_number(to) && is_number(number))) {
+        return Err(Cause::BadAct);
+    }
+    if let Some(cause) = place.bar(Form::NumberedBulk) {
+        return Err(cause);
+    }
+    let Some(from) = number_below(place.header().sites(), from) else {
+        return Err(Cause::OutOfRange);
+    };
+    let Some(gear) = number_below(place.header().gears(), gear) else {
+        return Err(Cause::OutOfRange);
+    };
+    let Some(to) = number_below(place.header().sites(), to) else {
+        return Err(Cause::OutOfRange);
+    };
+    let Some(number) = number_up_to(u64::MAX, number) else {
+        return Err(Cause::OutOfRange);
+    };
+    if from == to {
+        return Err(Cause::OutOfRange);
+    }
+    Ok(Parsed::Act(Act::Bulk {
+        from,
+        gear,
+        to,
+        number: Some(number),
+    }))
+}
+
+// An act that its first word says.
+#[tactic(auto, unfolding(crate::specs::Grammar::bare_line))]
+fn bare_line(place: &Place, form: Form, act: Act) -> Result<Parsed, Cause>
+    ensures { Gives result (bare_line place.now form act) }
+{
+    if let Some(cause) = place.bar(form) {
+        return Err(cause);
+    }
+    Ok(Parsed::Act(act))
+}
+
+#[tactic(auto, unfolding(crate::specs::Grammar::act_of_none))]
+fn act_of_none(place: &Place, form: Option<Form>) -> Result<Parsed, Cause>
+    ensures { Gives result (act_of_none place.now form) }
+{
+    match form {
+        Some(Form::Clock) => bare_line(place, Form::Clock, Act::Clock),
+        Some(Form::Settle) => bare_line(place, Form::Settle, Act::Settle),
+        _ => Err(Cause::BadAct),
+    }
+}
+
+#[tactic(auto, unfolding(crate::specs::Grammar::act_of_one))]
+fn act_of_one(place: &Place, form: Option<Form>, a: &[u8]) -> Result<Parsed, Cause>
+    ensures { Gives result (act_of_one place.now form a.now) }
+{
+    match form {
+        Some(Form::Leave) => leave_line(place, a),
+        Some(Form::Gather) => Ok(Parsed::Act(Act::Gather {
+            site: site_in(place, Form::Gather, a)?,
+        })),
+        Some(Form::Emit) => Ok(Parsed::Act(Act::Emit {
+            site: site_in(place, Form::Emit, a)?,
+        })),
+        Some(Form::Pulse) => Ok(Parsed::Act(Act::Pulse {
+            site: site_in(place, Form::Pulse, a)?,
+        })),
+        Some(Form::Turn) => Ok(Parsed::Act(Act::Turn {
+            site: site_in(place, Form::Turn, a)?,
+        })),
+        Some(Form::Stamp) => Ok(Parsed::Act(Act::Stamp {
+            site: site_in(place, Form::Stamp, a)?,
+        })),
+        Some(Form::Close) => Ok(Parsed::Act(Act::Close {
+            site: site_in(place, Form::Close, a)?,
+        })),
+        Some(Form::Fall) => Ok(Parsed::Act(Act::Fall {
+            site: site_in(place, Form::Fall, a)?,
+        })),
+        Some(Form::Advance) => Ok(Parsed::Act(Act::Advance {
+            site: site_in(place, Form::Advance, a)?,
+        })),
+        _ => Err(Cause::BadAct),
     }
 }
 
 #[tactic(auto, unfolding(crate::specs::Grammar::act_of_two))]
-fn act_of_two(
-    header: &Header,
-    keyword: Option<Keyword>,
-    a: &[u8],
-    b: &[u8],
-) -> Result<Parsed, Cause>
-    ensures { Gives result (act_of_two header.now keyword a.now b.now) }
+fn act_of_two(place: &Place, form: Option<Form>, a: &[u8], b: &[u8]) -> Result<Parsed, Cause>
+    ensures { Gives result (act_of_two place.now form a.now b.now) }
 {
-    match keyword {
-        Some(Keyword::Read) => read_line(header, a, b),
-        _ => Err(Cause::Unbuilt),
+    match form {
+        Some(Form::Read) => read_line(place, a, b),
+        Some(Form::Move) => {
+            let (client, site) = client_site_in(place, Form::Move, a, b)?;
+            Ok(Parsed::Act(Act::Move { client, site }))
+        }
+        Some(Form::Attach) => {
+            let (client, site) = client_site_in(place, Form::Attach, a, b)?;
+            Ok(Parsed::Act(Act::Attach { client, site }))
+        }
+        Some(Form::Beat) => beat_line(place, a, b),
+        Some(Form::Kill) => kill_line(place, a, b),
+        _ => Err(Cause::BadAct),
     }
 }
 
 #[tactic(auto, unfolding(crate::specs::Grammar::act_of_three))]
 fn act_of_three(
     alloc: Global,
-    header: &Header,
-    keyword: Option<Keyword>,
+    place: &Place,
+    form: Option<Form>,
     a: &[u8],
     b: &[u8],
     c: &[u8],
 ) -> Result<Parsed, Cause>
-    ensures { Gives result (act_of_three header.now keyword a.now b.now c.now) }
+    ensures { Gives result (act_of_three place.now form a.now b.now c.now) }
 {
-    match keyword {
-        Some(Keyword::Write) => write_line(alloc, header, a, b, c),
-        Some(Keyword::Hop) => hop_line(header, a, b, c),
-        Some(Keyword::Bulk) => bulk_line(header, a, b, c),
-        _ => Err(Cause::Unbuilt),
+    match form {
+        Some(Form::Write) => write_line(alloc, place, a, b, c),
+        Some(Form::Tick) => tick_line(place, a, b, c),
+        Some(Form::Hop) => hop_line(place, a, b, c),
+        Some(Form::Bulk) => bulk_line(place, a, b, c),
+        Some(Form::BeatIn) => beat_in_line(place, a, b, c),
+        _ => Err(Cause::BadAct),
+    }
+}
+
+#[tactic(auto, unfolding(crate::specs::Grammar::act_of_four))]
+fn act_of_four(
+    place: &Place,
+    form: Option<Form>,
+    a: &[u8],
+    b: &[u8],
+    c: &[u8],
+    d: &[u8],
+) -> Result<Parsed, Cause>
+    ensures { Gives result (act_of_four place.now form a.now b.now c.now d.now) }
+{
+    match form {
+        Some(Form::Bulk) => numbered_bulk_line(place, a, b, c, d),
+        _ => Err(Cause::BadAct),
     }
 }
 
 #[tactic(auto, unfolding(crate::specs::Grammar::act_form))]
 fn act_form(
     alloc: Global,
-    header: &Header,
-    keyword: Option<Keyword>,
+    place: &Place,
+    form: Option<Form>,
     words: &[&[u8]],
 ) -> Result<Parsed, Cause>
-    ensures { Gives result (act_form header.now keyword (map (λ word. word.now) words.now)) }
+    ensures { Gives result (act_form place.now form (map (λ word. word.now) words.now)) }
 {
     match words {
-        [a] => act_of_one(header, keyword, a),
-        [a, b] => act_of_two(header, keyword, a, b),
-        [a, b, c] => act_of_three(alloc, header, keyword, a, b, c),
-        _ => Err(Cause::Unbuilt),
+        [] => act_of_none(place, form),
+        [a] => act_of_one(place, form, a),
+        [a, b] => act_of_two(place, form, a, b),
+        [a, b, c] => act_of_three(alloc, place, form, a, b, c),
+        [a, b, c, d] => act_of_four(place, form, a, b, c, d),
+        _ => Err(Cause::BadAct),
     }
 }
 
 #[tactic(auto, unfolding(crate::specs::Grammar::act_line))]
-fn act_line(alloc: Global, header: &Header, words: &[&[u8]]) -> Result<Parsed, Cause>
-    ensures { Gives result (act_line header.now (map (λ word. word.now) words.now)) }
+fn act_line(alloc: Global, place: &Place, words: &[&[u8]]) -> Result<Parsed, Cause>
+    ensures { Gives result (act_line place.now (map (λ word. word.now) words.now)) }
 {
     match words {
-        [] => Err(Cause::Unbuilt),
-        [word, words @ ..] => act_form(alloc, header, keyword_of(word), words),
+        [] => Err(Cause::BadAct),
+        [word, words @ ..] => act_form(alloc, place, keyword_of(word), words),
     }
 }
 
@@ -210,21 +489,13 @@ fn is_end(words: &[&[u8]]) -> bool
     }
 }
 
-/// An act, after so many acts, or `end`.
+/// An act, or `end`.
 #[tactic(auto, unfolding(crate::specs::Grammar::body_line))]
-pub fn body_line(
-    alloc: Global,
-    header: &Header,
-    acts: u32,
-    words: &[&[u8]],
-) -> Result<Parsed, Cause>
-    ensures { Gives result (body_line header.now acts (map (λ word. word.now) words.now)) }
+pub fn body_line(alloc: Global, place: &Place, words: &[&[u8]]) -> Result<Parsed, Cause>
+    ensures { Gives result (body_line place.now (map (λ word. word.now) words.now)) }
 {
     if is_end(words) {
         return Ok(Parsed::End);
     }
-    if acts >= MOST_ACTS {
-        return Err(Cause::Unbuilt);
-    }
-    act_line(alloc, header, words)
+    act_line(alloc, place, words)
 }

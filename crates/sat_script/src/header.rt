@@ -1,11 +1,11 @@
 //! A header as far as it has come.
-ghost use Rattle.std.specs.Prelude.{◌≡◌, ◌≤◌, ◌<◌, ◌++◌, [], ◌∷◌, length, IfOk, IfSome, OnOk, OnErr, position, None};
-ghost use Rattle.std.specs.List.{list_any};
-ghost use Rattle.std.specs.Str.{bytes_eq};
+ghost use Rattle.std.specs.Prelude.{◌≡◌, ◌≤◌, ◌<◌, ◌++◌, [], ◌∷◌, false, length, slice_get, Some, ◌-◌, IfOk, IfSome, OnOk, OnErr, None};
 ghost use Rattle.sat_act.specs.Flaw.{flaw};
 ghost use Rattle.sat_script.specs.State.{no_header, header_lines};
-ghost use Rattle.sat_script.specs.Grammar.{client_of, item_of};
+ghost use Rattle.sat_script.specs.Grammar.{client_of, item_of, has_client, has_item};
 
+use crate::limits::{MOST_CLIENTS, MOST_ITEMS, MOST_PLANS};
+use crate::names::Names;
 use sat_act::{ClientLine, Deployment, DeploymentFault, Item, Plan};
 use std::alloc::{AllocError, Global};
 use std::marker::Model;
@@ -18,17 +18,21 @@ pub struct Header {
     items: Vec<Item>,
     clients: Vec<ClientLine>,
     plans: Vec<Plan>,
+    // The names of the items and of the clients, for looking them up.
+    item_names: Names,
+    client_names: Names,
 }
 
 impl Model for Header {
     ghost use Rattle.std.specs.Prelude.{◌≤◌, length};
     ghost use Rattle.sat_act.specs.Deployed.{Deployed};
+    ghost use Rattle.sat_script.specs.Names.{AreNamed};
 
     ghost Value = { Deployed };
 
     ghost view = { λ h. record { sites = h.sites; gears = h.gears; items = h.items.items; clients = h.clients.items; plans = h.plans.items } };
 
-    ghost invariant = { λ h. (length h.items.items ≤ 4096) × (length h.clients.items ≤ 1024) × (length h.plans.items ≤ 16) };
+    ghost invariant = { λ h. AreNamed h.items.items h.clients.items h.plans.items h.item_names h.client_names };
 }
 
 // The same items again.
@@ -64,20 +68,6 @@ fn copy_plans(alloc: Global, plans: &[Plan]) -> Result<Vec<Plan>, AllocError>
     Ok(copies)
 }
 
-fn place_of_client(clients: &[ClientLine], name: &[u8]) -> Option<usize>
-    ensures place { result ≡ position (λ line. bytes_eq line.name name.now) clients.now }
-    ensures inside { IfSome result (λ place. place < length clients.now) }
-{
-    clients.iter().position(|line| line.name.bytes() == name)
-}
-
-fn place_of_item(items: &[Item], name: &[u8]) -> Option<usize>
-    ensures place { result ≡ position (λ item. bytes_eq item.name name.now) items.now }
-    ensures inside { IfSome result (λ place. place < length items.now) }
-{
-    items.iter().position(|item| item.name.bytes() == name)
-}
-
 impl Header {
     /// A header of which nothing has come.
     pub fn new(alloc: Global) -> Header
@@ -89,6 +79,8 @@ impl Header {
             items: Vec::new(alloc),
             clients: Vec::new(alloc),
             plans: Vec::new(alloc),
+            item_names: Names::new(alloc),
+            client_names: Names::new(alloc),
         }
     }
 
@@ -135,12 +127,20 @@ impl Header {
         self.items.len() as u64 + self.clients.len() as u64 + self.plans.len() as u64
     }
 
+    /// The plan of an epoch, from 1.
+    pub fn plan(&self, epoch: u16) -> &Plan
+        requires { (1 ≤ epoch) × (epoch ≤ length self.now.plans) }
+        ensures { Some result.now ≡ slice_get self.now.plans (epoch - 1) }
+    {
+        &self.plans[epoch as usize - 1]
+    }
+
     /// The number of the client with a name.
     #[tactic(auto, unfolding(crate::specs::Grammar::client_of))]
     pub fn client_of(&self, name: &[u8]) -> Option<u16>
         ensures { result ≡ client_of self.now name.now }
     {
-        match place_of_client(self.clients.as_slice(), name) {
+        match self.client_names.place_of(name) {
             Some(place) => Some(place as u16),
             None => None,
         }
@@ -151,17 +151,26 @@ impl Header {
     pub fn item_of(&self, name: &[u8]) -> Option<u16>
         ensures { result ≡ item_of self.now name.now }
     {
-        match place_of_item(self.items.as_slice(), name) {
+        match self.item_names.place_of(name) {
             Some(place) => Some(place as u16),
             None => None,
         }
     }
 
     /// Whether a client has this name.
+    #[tactic(auto, unfolding(crate::specs::Grammar::has_client))]
     pub fn has_client(&self, name: &[u8]) -> bool
-        ensures { result ≡ list_any (λ line. bytes_eq line.name name.now) self.now.clients }
+        ensures { result ≡ has_client self.now name.now }
     {
-        self.clients.iter().any(|line| line.name.bytes() == name)
+        self.client_names.has(name)
+    }
+
+    /// Whether an item has this name.
+    #[tactic(auto, unfolding(crate::specs::Grammar::has_item))]
+    pub fn has_item(&self, name: &[u8]) -> bool
+        ensures { result ≡ has_item self.now name.now }
+    {
+        self.item_names.has(name)
     }
 
     /// Takes the line of the sites.
@@ -178,29 +187,35 @@ impl Header {
         self.gears = gears;
     }
 
-    /// Takes an item. For want of memory the header is as before.
-    pub fn add_item(&mut self, item: Item) -> Result<(), AllocError>
-        requires { length self.old.items < 4096 }
+    /// Takes an item with a name of its own. For want of memory the header is as before.
+    pub fn add_item(&mut self, alloc: Global, item: Item) -> Result<(), AllocError>
+        requires few { length self.old.items < MOST_ITEMS }
+        requires new { has_item self.old item.name ≡ false }
         ensures ok { OnOk result (self.new ≡ record self.old { items = self.old.items ++ item ∷ [] }) }
         ensures err { OnErr result (self.new ≡ self.old) }
     {
+        self.items.reserve(1)?;
+        self.item_names.add(alloc, item.name.bytes())?;
         self.items.push(item)?;
         Ok(())
     }
 
-    /// Takes a client. For want of memory the header is as before.
-    pub fn add_client(&mut self, line: ClientLine) -> Result<(), AllocError>
-        requires { length self.old.clients < 1024 }
+    /// Takes a client with a name of its own. For want of memory the header is as before.
+    pub fn add_client(&mut self, alloc: Global, line: ClientLine) -> Result<(), AllocError>
+        requires few { length self.old.clients < MOST_CLIENTS }
+        requires new { has_client self.old line.name ≡ false }
         ensures ok { OnOk result (self.new ≡ record self.old { clients = self.old.clients ++ line ∷ [] }) }
         ensures err { OnErr result (self.new ≡ self.old) }
     {
+        self.clients.reserve(1)?;
+        self.client_names.add(alloc, line.name.bytes())?;
         self.clients.push(line)?;
         Ok(())
     }
 
     /// Takes a plan. For want of memory the header is as before.
     pub fn add_plan(&mut self, plan: Plan) -> Result<(), AllocError>
-        requires { length self.old.plans < 16 }
+        requires { length self.old.plans < MOST_PLANS }
         ensures ok { OnOk result (self.new ≡ record self.old { plans = self.old.plans ++ plan ∷ [] }) }
         ensures err { OnErr result (self.new ≡ self.old) }
     {

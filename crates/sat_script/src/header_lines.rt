@@ -1,17 +1,25 @@
 //! The lines of the header, by their words.
-ghost use Rattle.std.specs.Prelude.{◌≡◌, map};
-ghost use Rattle.sat_script.specs.Grammar.{format_line, sites_line, gears_line, item_line, client_line, plan_line, is_one_serializer, begin_line, named_line, header_form, header_line};
-ghost use Rattle.sat_script.specs.Lines.{Gives};
+ghost use Rattle.std.specs.Prelude.{◌≡◌, ◌<◌, ◌≤◌, ◌∷◌, map, true, None, Some, length, position, IfOk, IfSome};
+ghost use Rattle.std.specs.List.{list_all};
+ghost use Rattle.sat_script.specs.Words.{are_rising, is_number, sites_among};
+ghost use Rattle.sat_script.specs.Grammar.{format_line, counted, sites_line, gears_line, item_line, client_line, begin_line, is_slash, are_parents, tree_on, tree_in, tree_line, parted_line, stamp_line, plan_line, named_line, header_form, header_line};
+ghost use Rattle.sat_script.specs.Lines.{Gives, IsTreeOf};
 
 use crate::Cause;
+use crate::form::Form;
 use crate::header::Header;
+use crate::limits::MOST_GEARS;
 use crate::line::Parsed;
-use crate::number::number_below;
+use crate::list::{is_rising, numbers_below, parts_of, set_of};
+use crate::number::{is_number, number_below, number_to};
+use crate::place::Place;
+use crate::words::{are_numbers, is_name};
 use sat_act::{ClientLine, Item, Plan};
 use sat_label::{Name, SiteSet};
-use sat_tree::Tree;
-use std::alloc::Global;
+use sat_tree::{Tree, TreeFault};
+use std::alloc::{AllocError, Global};
 
+/// `saturn 1`
 #[tactic(auto, unfolding(crate::specs::Grammar::format_line))]
 pub fn format_line(words: &[&[u8]]) -> Result<Parsed, Cause>
     ensures { Gives result (format_line (map (λ word. word.now) words.now)) }
@@ -21,127 +29,136 @@ pub fn format_line(words: &[&[u8]]) -> Result<Parsed, Cause>
             if *word == b"saturn".as_slice() && *number == b"1".as_slice() {
                 Ok(Parsed::Format)
             } else {
-                Err(Cause::Unbuilt)
+                Err(Cause::BadHeader)
             }
         }
-        _ => Err(Cause::Unbuilt),
+        _ => Err(Cause::BadHeader),
     }
 }
 
+// The number, from 1 to a limit, after a keyword.
+#[tactic(auto, unfolding(crate::specs::Grammar::counted))]
+fn counted(keyword: &[u8], limit: u16, word: &[u8], number: &[u8]) -> Result<u16, Cause>
+    ensures { result ≡ counted keyword.now limit word.now number.now }
+{
+    if !(word == keyword && is_number(number)) {
+        return Err(Cause::BadHeader);
+    }
+    match number_to(limit, number) {
+        Some(number) => Ok(number),
+        None => Err(Cause::OutOfRange),
+    }
+}
+
+/// `sites N`
 #[tactic(auto, unfolding(crate::specs::Grammar::sites_line))]
-pub fn sites_line(words: &[&[u8]]) -> Result<Parsed, Cause>
-    ensures { Gives result (sites_line (map (λ word. word.now) words.now)) }
+pub fn sites_line(place: &Place, words: &[&[u8]]) -> Result<Parsed, Cause>
+    ensures { Gives result (sites_line place.now.live (map (λ word. word.now) words.now)) }
 {
     match words {
         [word, number] => {
-            if *word == b"sites".as_slice() && *number == b"2".as_slice() {
-                Ok(Parsed::Sites(2))
-            } else {
-                Err(Cause::Unbuilt)
-            }
+            let sites = counted(b"sites", place.most_sites(), word, number)?;
+            Ok(Parsed::Sites(sites))
         }
-        _ => Err(Cause::Unbuilt),
+        _ => Err(Cause::BadHeader),
     }
 }
 
+/// `gears N`
 #[tactic(auto, unfolding(crate::specs::Grammar::gears_line))]
 pub fn gears_line(words: &[&[u8]]) -> Result<Parsed, Cause>
     ensures { Gives result (gears_line (map (λ word. word.now) words.now)) }
 {
     match words {
         [word, number] => {
-            if *word == b"gears".as_slice() && *number == b"1".as_slice() {
-                Ok(Parsed::Gears(1))
-            } else {
-                Err(Cause::Unbuilt)
-            }
+            let gears = counted(b"gears", MOST_GEARS, word, number)?;
+            Ok(Parsed::Gears(gears))
         }
-        _ => Err(Cause::Unbuilt),
+        _ => Err(Cause::BadHeader),
+    }
+}
+
+// Whether the words between commas are numbers, each above the one before it.
+#[tactic(auto, unfolding(crate::specs::Words::are_rising))]
+fn is_list(parts: &[&[u8]]) -> bool
+    ensures { result ≡ are_rising (map (λ part. part.now) parts.now) }
+{
+    if !are_numbers(parts) {
+        return false;
+    }
+    is_rising(parts)
+}
+
+// The set of sites that the words of a list name, where all are below a limit.
+#[tactic(auto, unfolding(crate::specs::Words::sites_among))]
+fn sites_in(alloc: Global, limit: u16, parts: &[&[u8]]) -> Result<Option<SiteSet>, AllocError>
+    requires numbers { list_all is_number (map (λ part. part.now) parts.now) ≡ true }
+    requires few { limit ≤ 16 }
+    ensures { IfOk result (λ found. found ≡ sites_among limit (map (λ part. part.now) parts.now)) }
+{
+    match numbers_below(alloc, limit, parts)? {
+        Some(sites) => Ok(Some(set_of(sites.as_slice()))),
+        None => Ok(None),
     }
 }
 
 #[tactic(auto, unfolding(crate::specs::Grammar::item_line))]
-fn item_line(alloc: Global, header: &Header, name: &[u8], sites: &[u8]) -> Result<Parsed, Cause>
-    ensures { Gives result (item_line header.now name.now sites.now) }
+fn item_line(alloc: Global, place: &Place, name: &[u8], sites: &[u8]) -> Result<Parsed, Cause>
+    ensures { Gives result (item_line place.now name.now sites.now) }
 {
-    if header.items() != 0 || header.clients() != 0 || header.plans() != 0 {
-        return Err(Cause::Unbuilt);
+    let header = place.header();
+    if header.clients() != 0 || header.plans() != 0 {
+        return Err(Cause::BadHeader);
     }
-    let name = match Name::of(alloc, name) {
-        Ok(Some(name)) => name,
-        Ok(None) => return Err(Cause::Unbuilt),
+    let Ok(parts) = parts_of(alloc, sites) else {
+        return Err(Cause::Memory);
+    };
+    if !(is_name(name) && is_list(parts.as_slice())) {
+        return Err(Cause::BadHeader);
+    }
+    if let Some(cause) = place.bar(Form::Item) {
+        return Err(cause);
+    }
+    if header.has_item(name) {
+        return Err(Cause::SameName);
+    }
+    let replicas = match sites_in(alloc, place.sites(), parts.as_slice()) {
+        Ok(Some(set)) => set,
+        Ok(None) => return Err(Cause::OutOfRange),
         Err(_) => return Err(Cause::Memory),
     };
-    if sites != b"0,1".as_slice() {
-        return Err(Cause::Unbuilt);
-    }
-    Ok(Parsed::Item(Item {
-        name,
-        replicas: SiteSet { bits: 3 },
-    }))
-}
-
-#[tactic(auto, unfolding(crate::specs::Grammar::client_line))]
-fn client_line(alloc: Global, header: &Header, name: &[u8], site: &[u8]) -> Result<Parsed, Cause>
-    ensures { Gives result (client_line header.now name.now site.now) }
-{
-    if header.items() != 1 || header.clients() >= 2 || header.plans() != 0 {
-        return Err(Cause::Unbuilt);
-    }
-    if header.has_client(name) {
-        return Err(Cause::Unbuilt);
-    }
-    let Some(site) = number_below(header.sites(), site) else {
-        return Err(Cause::Unbuilt);
-    };
-    if site != header.clients() {
-        return Err(Cause::Unbuilt);
-    }
     match Name::of(alloc, name) {
-        Ok(Some(name)) => Ok(Parsed::Client(ClientLine { name, site })),
-        Ok(None) => Err(Cause::Unbuilt),
+        Ok(Some(name)) => Ok(Parsed::Item(Item { name, replicas })),
+        Ok(None) => unreachable!(),
         Err(_) => Err(Cause::Memory),
     }
 }
 
-fn is_one_serializer(words: &[&[u8]]) -> bool
-    ensures { result ≡ is_one_serializer (map (λ word. word.now) words.now) }
+#[tactic(auto, unfolding(crate::specs::Grammar::client_line))]
+fn client_line(alloc: Global, place: &Place, name: &[u8], site: &[u8]) -> Result<Parsed, Cause>
+    ensures { Gives result (client_line place.now name.now site.now) }
 {
-    match words {
-        [tree, root, slash, first, second] => {
-            if *tree != b"tree".as_slice() {
-                return false;
-            }
-            if *root != b"-".as_slice() {
-                return false;
-            }
-            if *slash != b"/".as_slice() {
-                return false;
-            }
-            if *first != b"0".as_slice() {
-                return false;
-            }
-            *second == b"0".as_slice()
-        }
-        _ => false,
+    let header = place.header();
+    if header.plans() != 0 {
+        return Err(Cause::BadHeader);
     }
-}
-
-#[tactic(auto, unfolding(crate::specs::Grammar::plan_line))]
-fn plan_line(alloc: Global, header: &Header, words: &[&[u8]]) -> Result<Parsed, Cause>
-    ensures { Gives result (plan_line header.now (map (λ word. word.now) words.now)) }
-{
-    if header.clients() != 2 || header.plans() != 0 {
-        return Err(Cause::Unbuilt);
+    if !(is_name(name) && is_number(site)) {
+        return Err(Cause::BadHeader);
     }
-    if !is_one_serializer(words) {
-        return Err(Cause::Unbuilt);
+    if let Some(cause) = place.bar(Form::Client) {
+        return Err(cause);
     }
-    // This tree has no flaw, so nothing but memory can be missing.
-    let Ok(tree) = Tree::new(alloc, &[None], &[0, 0]) else {
-        return Err(Cause::Memory);
+    if header.has_client(name) {
+        return Err(Cause::SameName);
+    }
+    let Some(site) = number_below(header.sites(), site) else {
+        return Err(Cause::OutOfRange);
     };
-    Ok(Parsed::Plan(Plan::Tree(tree)))
+    match Name::of(alloc, name) {
+        Ok(Some(name)) => Ok(Parsed::Client(ClientLine { name, site })),
+        Ok(None) => unreachable!(),
+        Err(_) => Err(Cause::Memory),
+    }
 }
 
 #[tactic(auto, unfolding(crate::specs::Grammar::begin_line))]
@@ -149,65 +166,220 @@ fn begin_line(header: &Header) -> Result<Parsed, Cause>
     ensures { Gives result (begin_line header.now) }
 {
     if header.plans() == 0 {
-        Err(Cause::Unbuilt)
+        Err(Cause::BadHeader)
     } else {
         Ok(Parsed::Begin)
+    }
+}
+
+// `-`, and then numbers.
+#[tactic(auto, unfolding(crate::specs::Grammar::are_parents))]
+fn are_parents(words: &[&[u8]]) -> bool
+    ensures { result ≡ are_parents (map (λ word. word.now) words.now) }
+{
+    match words {
+        [] => true,
+        [root, words @ ..] => *root == b"-".as_slice() && are_numbers(words),
+    }
+}
+
+// The root, and then the serializers that the others hang on.
+fn with_root(alloc: Global, numbers: &[u16]) -> Result<Vec<Option<u16>>, AllocError>
+    ensures { IfOk result (λ parents. parents.items ≡ None ∷ map Some numbers.now) }
+{
+    let mut parents = Vec::new(alloc);
+    parents.push(None)?;
+    for number in numbers {
+        parents.push(Some(*number))?;
+    }
+    Ok(parents)
+}
+
+// The tree of these parents and seats, where it is one for so many sites.
+fn new_tree(
+    alloc: Global,
+    sites: u16,
+    parents: &[Option<u16>],
+    seats: &[u16],
+) -> Result<Option<Tree>, AllocError>
+    requires { sites ≤ 16 }
+    ensures { IfOk result (λ found. IsTreeOf sites (record { parents = parents.now; seats = seats.now }) found) }
+{
+    if seats.len() != usize::from(sites) {
+        return Ok(None);
+    }
+    match Tree::new(alloc, parents, seats) {
+        Ok(tree) => Ok(Some(tree)),
+        Err(TreeFault::Memory) => Err(AllocError),
+        Err(_) => Ok(None),
+    }
+}
+
+// The tree of serializer 0, those that hang on others, and the seats, where it is one for so many sites. Its numbers are below the
+// number of its serializers.
+fn tree_on(
+    alloc: Global,
+    sites: u16,
+    words: &[&[u8]],
+    seats: &[&[u8]],
+) -> Result<Option<Tree>, AllocError>
+    requires words { list_all is_number (map (λ word. word.now) words.now) ≡ true }
+    requires seats { list_all is_number (map (λ word. word.now) seats.now) ≡ true }
+    requires few { sites ≤ 16 }
+    requires short { length words.now < 15 }
+    ensures { IfOk result (λ found. IsTreeOf sites (tree_on (map (λ word. word.now) words.now) (map (λ word. word.now) seats.now)) found) }
+{
+    let serializers = words.len() as u16 + 1;
+    let Some(numbers) = numbers_below(alloc, serializers, words)? else {
+        return Ok(None);
+    };
+    let Some(seats) = numbers_below(alloc, serializers, seats)? else {
+        return Ok(None);
+    };
+    let parents = with_root(alloc, numbers.as_slice())?;
+    let tree = new_tree(alloc, sites, parents.as_slice(), seats.as_slice())?;
+    Ok(tree)
+}
+
+// The tree that the words of a plan name, where it is one for so many sites.
+#[tactic(auto, unfolding(crate::specs::Grammar::tree_in))]
+fn tree_in(
+    alloc: Global,
+    sites: u16,
+    parents: &[&[u8]],
+    seats: &[&[u8]],
+) -> Result<Option<Tree>, AllocError>
+    requires parents { are_parents (map (λ word. word.now) parents.now) ≡ true }
+    requires seats { list_all is_number (map (λ word. word.now) seats.now) ≡ true }
+    requires few { sites ≤ 16 }
+    ensures { IfOk result (λ found. IsTreeOf sites (tree_in (map (λ word. word.now) parents.now) (map (λ word. word.now) seats.now)) found) }
+{
+    if parents.len() > 15 {
+        return Ok(None);
+    }
+    match parents.split_first() {
+        Some((_, words)) => tree_on(alloc, sites, words, seats),
+        None => Ok(None),
+    }
+}
+
+#[tactic(auto, unfolding(crate::specs::Grammar::tree_line))]
+fn tree_line(
+    alloc: Global,
+    place: &Place,
+    parents: &[&[u8]],
+    seats: &[&[u8]],
+) -> Result<Parsed, Cause>
+    ensures { Gives result (tree_line place.now (map (λ word. word.now) parents.now) (map (λ word. word.now) seats.now)) }
+{
+    if !(are_parents(parents) && are_numbers(seats)) {
+        return Err(Cause::BadHeader);
+    }
+    if let Some(cause) = place.bar(Form::PlanTree) {
+        return Err(cause);
+    }
+    match tree_in(alloc, place.sites(), parents, seats) {
+        Ok(Some(tree)) => Ok(Parsed::Plan(Plan::Tree(tree))),
+        Ok(None) => Err(Cause::BadTree),
+        Err(_) => Err(Cause::Memory),
+    }
+}
+
+// The place of the first `/`.
+fn slash_of(words: &[&[u8]]) -> Option<usize>
+    ensures place { result ≡ position (λ word. is_slash word.now) words.now }
+    ensures inside { IfSome result (λ place. place < length words.now) }
+{
+    words.iter().position(|word| *word == b"/".as_slice())
+}
+
+// The words of a tree, parted at the first `/`.
+#[tactic(auto, unfolding(crate::specs::Grammar::parted_line))]
+fn parted_line(alloc: Global, place: &Place, words: &[&[u8]]) -> Result<Parsed, Cause>
+    ensures { Gives result (parted_line place.now (map (λ word. word.now) words.now) (position is_slash (map (λ word. word.now) words.now))) }
+{
+    match slash_of(words) {
+        Some(slash) => tree_line(alloc, place, &words[..slash], &words[slash + 1..]),
+        None => Err(Cause::BadHeader),
+    }
+}
+
+#[tactic(auto, unfolding(crate::specs::Grammar::stamp_line))]
+fn stamp_line(place: &Place) -> Result<Parsed, Cause>
+    ensures { Gives result (stamp_line place.now) }
+{
+    if let Some(cause) = place.bar(Form::PlanStamp) {
+        return Err(cause);
+    }
+    Ok(Parsed::Plan(Plan::Stamp))
+}
+
+#[tactic(auto, unfolding(crate::specs::Grammar::plan_line))]
+fn plan_line(alloc: Global, place: &Place, words: &[&[u8]]) -> Result<Parsed, Cause>
+    ensures { Gives result (plan_line place.now (map (λ word. word.now) words.now)) }
+{
+    match words {
+        [] => Err(Cause::BadHeader),
+        [word, words @ ..] => {
+            if *word == b"tree".as_slice() {
+                parted_line(alloc, place, words)
+            } else if *word == b"stamp".as_slice() && words.is_empty() {
+                stamp_line(place)
+            } else {
+                Err(Cause::BadHeader)
+            }
+        }
     }
 }
 
 #[tactic(auto, unfolding(crate::specs::Grammar::named_line))]
 fn named_line(
     alloc: Global,
-    header: &Header,
+    place: &Place,
     word: &[u8],
     name: &[u8],
-    place: &[u8],
+    rest: &[u8],
 ) -> Result<Parsed, Cause>
-    ensures { Gives result (named_line header.now word.now name.now place.now) }
+    ensures { Gives result (named_line place.now word.now name.now rest.now) }
 {
     if word == b"item".as_slice() {
-        return item_line(alloc, header, name, place);
+        return item_line(alloc, place, name, rest);
     }
     if word == b"client".as_slice() {
-        return client_line(alloc, header, name, place);
+        return client_line(alloc, place, name, rest);
     }
-    Err(Cause::Unbuilt)
+    Err(Cause::BadHeader)
 }
 
 #[tactic(auto, unfolding(crate::specs::Grammar::header_form))]
-fn header_form(
-    alloc: Global,
-    header: &Header,
-    word: &[u8],
-    words: &[&[u8]],
-) -> Result<Parsed, Cause>
-    ensures { Gives result (header_form header.now word.now (map (λ word. word.now) words.now)) }
+fn header_form(alloc: Global, place: &Place, word: &[u8], words: &[&[u8]]) -> Result<Parsed, Cause>
+    ensures { Gives result (header_form place.now word.now (map (λ word. word.now) words.now)) }
 {
     match words {
         [] => {
             if word == b"begin".as_slice() {
-                begin_line(header)
+                begin_line(place.header())
             } else {
-                Err(Cause::Unbuilt)
+                Err(Cause::BadHeader)
             }
         }
-        [name, place] => named_line(alloc, header, word, name, place),
-        _ => Err(Cause::Unbuilt),
+        [name, rest] => named_line(alloc, place, word, name, rest),
+        _ => Err(Cause::BadHeader),
     }
 }
 
 /// An item, a client, a plan, or `begin`.
 #[tactic(auto, unfolding(crate::specs::Grammar::header_line))]
-pub fn header_line(alloc: Global, header: &Header, words: &[&[u8]]) -> Result<Parsed, Cause>
-    ensures { Gives result (header_line header.now (map (λ word. word.now) words.now)) }
+pub fn header_line(alloc: Global, place: &Place, words: &[&[u8]]) -> Result<Parsed, Cause>
+    ensures { Gives result (header_line place.now (map (λ word. word.now) words.now)) }
 {
     match words {
-        [] => Err(Cause::Unbuilt),
+        [] => Err(Cause::BadHeader),
         [word, words @ ..] => {
             if *word == b"plan".as_slice() {
-                plan_line(alloc, header, words)
+                plan_line(alloc, place, words)
             } else {
-                header_form(alloc, header, word, words)
+                header_form(alloc, place, word, words)
             }
         }
     }

@@ -3,12 +3,16 @@
 
 mod act_lines;
 mod fault;
+mod form;
 mod header;
 mod header_lines;
-mod keyword;
 mod limits;
 mod line;
+mod list;
+mod names;
+mod nodes;
 mod number;
+mod place;
 mod reader;
 mod script;
 mod stream;
@@ -17,12 +21,17 @@ mod write;
 mod write_lines;
 
 pub use fault::{Cause, ScriptFault};
-pub use limits::{BYTES_END, LONGEST_LINE, MOST_ACTS, MOST_BYTES};
+pub use limits::{
+    BYTES_END, LIVE_ACTS, LIVE_CLIENTS, LIVE_SITES, LONGEST_LINE, MOST_ACTS, MOST_BYTES,
+    MOST_CLIENTS, MOST_GEARS, MOST_ITEMS, MOST_PLANS, MOST_SETTLES, MOST_SITES,
+};
 pub use line::Line;
 pub use reader::Reader;
 pub use script::{Script, one_spelling, read_script};
 pub use stream::{Reading, ScriptReader};
 pub use write::write_script;
 
+#[cfg(test)]
+mod fault_tests;
 #[cfg(test)]
 mod tests;

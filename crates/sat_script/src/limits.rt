@@ -3,8 +3,35 @@
 /// The most bytes of a line, before its byte 10.
 pub const LONGEST_LINE: usize = 4096;
 
-/// The most acts of a script.
+/// The most sites.
+pub const MOST_SITES: u16 = 16;
+
+/// The most gears of a site.
+pub const MOST_GEARS: u16 = 8;
+
+/// The most items.
+pub const MOST_ITEMS: usize = 4096;
+
+/// The most clients.
+pub const MOST_CLIENTS: usize = 1024;
+
+/// The most plans, one for each epoch.
+pub const MOST_PLANS: usize = 16;
+
+/// The most acts of a script, `settle` among them.
 pub const MOST_ACTS: u32 = 200_000;
+
+/// The most `settle` of a script.
+pub const MOST_SETTLES: u32 = 64;
+
+/// The most sites of a script for nodes on threads.
+pub const LIVE_SITES: u16 = 8;
+
+/// The most clients of a script for nodes on threads.
+pub const LIVE_CLIENTS: usize = 16;
+
+/// The most acts of a script for nodes on threads.
+pub const LIVE_ACTS: u32 = 4000;
 
 // No good line has more bytes than this, with its byte 10.
 pub(crate) const LINE_BYTES: u64 = 600;

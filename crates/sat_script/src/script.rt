@@ -4,7 +4,7 @@ ghost use Rattle.sat_act.specs.declared.act.Act.{Act};
 ghost use Rattle.sat_act.specs.Deployed.{Deployed};
 ghost use Rattle.sat_act.specs.Limits.{IsDeployment};
 ghost use Rattle.sat_act.specs.Built.{IsBuilt};
-ghost use Rattle.sat_script.specs.Reading.{reading, good, AreBuiltActs};
+ghost use Rattle.sat_script.specs.Reading.{reading, good, AreBuiltActs, IsAllowed};
 ghost use Rattle.sat_script.specs.Spelled.{spelling, Spells, HaveNames};
 
 use crate::{Cause, MOST_ACTS, Reading, ScriptFault, ScriptReader};
@@ -22,7 +22,9 @@ pub struct Script {
 pub fn one_spelling()
     ensures read { (live : Bool) (text : List ℕ) → (reading live text).fault ≡ None
         → (d : Deployed) × ((reading live text).deployment ≡ Some d) × Spells text d (reading live text).acts }
-    ensures found { (live : Bool) (text : List ℕ) (d : Deployed) (acts : List Act) → Spells text d acts → reading live text ≡ good d acts }
+    // A script that is read for nodes on threads is within their limits.
+    ensures allowed { (live : Bool) (text : List ℕ) (d : Deployed) → (reading live text).fault ≡ None → (reading live text).deployment ≡ Some d → IsAllowed live d (reading live text).acts }
+    ensures found { (live : Bool) (text : List ℕ) (d : Deployed) (acts : List Act) → Spells text d acts → IsAllowed live d acts → reading live text ≡ good d acts }
     ensures each { (d : Deployed) (acts : List Act) → IsDeployment d → IsBuilt d → HaveNames d → AreBuiltActs d acts → length acts ≤ MOST_ACTS → Spells (spelling d acts) d acts }
 {}
 

@@ -1,16 +1,22 @@
-//! Scripts read and written, each public call on its happy path.
-use crate::{Cause, Line, Reader, Reading, ScriptFault, ScriptReader, read_script, write_script};
+//! Scripts read and written, each public call on its happy path. What is expected was worked out by hand from the table of causes.
+use crate::{
+    Cause, Line, Reader, Reading, Script, ScriptFault, ScriptReader, one_spelling, read_script,
+    write_script,
+};
 use sat_act::{Act, ClientLine, Deployment, Item, Plan};
 use sat_label::{Name, NodeId, SiteSet, Value};
 use sat_tree::Tree;
 use std::alloc::{AllocError, Global};
 use std::test::Fail;
 
-const HEADER: &str =
+pub(crate) const HEADER: &str =
     "saturn 1\nsites 2\ngears 1\nitem x 0,1\nclient a 0\nclient b 1\nplan tree - / 0 0\nbegin\n";
 
 const PLAIN: &str =
     "saturn 1\nsites 2\ngears 1\nitem x 0,1\nclient a 0\nclient b 1\nplan tree - / 0 0\nbegin\nwrite a x hello\ngather 0\nemit 0\nhop 1 s0 z0\nbulk 0 0 1\nturn 1\nread b x\nend\n";
+
+const WIDE: &str =
+    "saturn 1\nsites 16\ngears 8\nitem p 0,2,15\nitem q-1.z 1\nitem r 0,1,2,3,4,5,6,7,8,9,10,11,12,13,14,15\nclient C 2\nclient d_ 15\nplan tree - 0 0 2 / 0 0 1 1 2 2 3 3 0 0 1 1 2 2 3 3\nbegin\ntick 15 7 4611686018427387904\nclock\nwrite C q-1.z ->\nread d_ p\ngather 15\nemit 0\nhop 1 s15 z3\nhop 1 z3 z2\nturn 9\nbulk 15 7 0\nend\n";
 
 // A text that begins with the header above.
 fn under_header(alloc: Global, lines: &str) -> Result<Vec<u8>, AllocError> {
@@ -19,8 +25,16 @@ fn under_header(alloc: Global, lines: &str) -> Result<Vec<u8>, AllocError> {
     Ok(text)
 }
 
+// The fault of a text.
+pub(crate) fn fault_of(alloc: Global, text: &[u8], live: bool) -> Option<ScriptFault> {
+    match read_script(alloc, text, live) {
+        Ok(_) => None,
+        Err(fault) => Some(fault),
+    }
+}
+
 // The fault of a text, which comes the same whatever the size of its pieces.
-fn fault_in_pieces(alloc: Global, text: &[u8], size: usize) -> Option<ScriptFault> {
+pub(crate) fn fault_in_pieces(alloc: Global, text: &[u8], size: usize) -> Option<ScriptFault> {
     let mut reader = ScriptReader::new(alloc, false);
     for piece in text.chunks(size.max(1)) {
         if let Err(fault) = reader.feed(piece) {
@@ -31,32 +45,39 @@ fn fault_in_pieces(alloc: Global, text: &[u8], size: usize) -> Option<ScriptFaul
     fault
 }
 
+// The text that a script is written as, where it is read.
+fn written(alloc: Global, text: &[u8], live: bool) -> Result<Option<Vec<u8>>, AllocError> {
+    match read_script(alloc, text, live) {
+        Ok(Script { deployment, acts }) => {
+            let mut out = Vec::new(alloc);
+            write_script(&deployment, acts.as_slice(), &mut out)?;
+            Ok(Some(out))
+        }
+        Err(_) => Ok(None),
+    }
+}
+
 #[test]
 fn plain_path_is_read(rt: HostRuntime) -> Result<(), Fail> {
     let alloc = rt.alloc();
+    one_spelling();
     let Ok(script) = read_script(alloc, PLAIN.as_bytes(), false) else {
         assert!(rt; false, "the plain path is refused");
         return Ok(());
     };
     let d = &script.deployment;
     assert_eq!(rt; d.sites(), 2);
-    assert_eq!(rt; d.gears(), 1);
     assert_eq!(rt; d.items().len(), 1);
+    assert_eq!(rt; d.clients().len(), 2);
     assert_eq!(rt; d.items()[0].name.bytes(), b"x".as_slice());
     assert!(rt; d.items()[0].replicas.has(0) && d.items()[0].replicas.has(1));
-    assert_eq!(rt; d.clients().len(), 2);
-    assert_eq!(rt; d.clients()[0].name.bytes(), b"a".as_slice());
-    assert_eq!(rt; d.clients()[0].site, 0);
     assert_eq!(rt; d.clients()[1].name.bytes(), b"b".as_slice());
     assert_eq!(rt; d.clients()[1].site, 1);
-    assert_eq!(rt; d.plans().len(), 1);
     let acts = script.acts.as_slice();
     assert_eq!(rt; acts.len(), 7);
     assert!(rt;
         matches!(&acts[0], Act::Write { client: 0, item: 0, value } if value.bytes() == b"hello".as_slice())
     );
-    assert!(rt; matches!(&acts[1], Act::Gather { site: 0 }));
-    assert!(rt; matches!(&acts[2], Act::Emit { site: 0 }));
     assert!(rt;
         matches!(
             &acts[3],
@@ -67,99 +88,60 @@ fn plain_path_is_read(rt: HostRuntime) -> Result<(), Fail> {
             }
         )
     );
-    assert!(rt;
-        matches!(
-            &acts[4],
-            Act::Bulk {
-                from: 0,
-                gear: 0,
-                to: 1,
-                number: None
-            }
-        )
-    );
-    assert!(rt; matches!(&acts[5], Act::Turn { site: 1 }));
     assert!(rt; matches!(&acts[6], Act::Read { client: 1, item: 0 }));
     Ok(())
 }
 
 #[test]
-fn plain_path_is_written_back(rt: HostRuntime) -> Result<(), Fail> {
+fn good_texts_are_written_back(rt: HostRuntime) -> Result<(), Fail> {
     let alloc = rt.alloc();
-    let Ok(script) = read_script(alloc, PLAIN.as_bytes(), true) else {
-        assert!(rt; false, "the plain path is refused");
-        return Ok(());
-    };
-    let mut out = Vec::new(alloc);
-    write_script(&script.deployment, script.acts.as_slice(), &mut out)?;
-    assert_eq!(rt; out.as_slice(), PLAIN.as_bytes());
+    for text in [
+        PLAIN,
+        WIDE,
+        "saturn 1\nsites 1\ngears 1\nplan tree - / 0\nbegin\nend\n",
+    ] {
+        let out = written(alloc, text.as_bytes(), false)?;
+        assert!(rt;
+            matches!(&out, Some(out) if out.as_slice() == text.as_bytes()),
+            "of {text}"
+        );
+    }
+    let live =
+        "saturn 1\nsites 8\ngears 2\nitem x 7\nclient a 0\nplan tree - / 0 0 0 0 0 0 0 0\nbegin\nwrite a x v\nread a x\nend\n";
+    let out = written(alloc, live.as_bytes(), true)?;
+    assert!(rt; matches!(&out, Some(out) if out.as_slice() == live.as_bytes()));
     Ok(())
 }
 
 #[test]
-fn pieces_of_any_size_are_the_same(rt: HostRuntime) -> Result<(), Fail> {
+fn nodes_on_threads_have_their_own_limits(rt: HostRuntime) -> Result<(), Fail> {
     let alloc = rt.alloc();
-    for size in [1, 2, 7, 64, 1000] {
-        assert_eq!(rt;
-            fault_in_pieces(alloc, PLAIN.as_bytes(), size),
-            None,
-            "pieces of {size}"
-        );
-    }
-    let bad = under_header(alloc, "gather 0\nsettle\nend\n")?;
-    for size in [1, 3, 100, 1000] {
-        let want = ScriptFault {
-            line: 10,
-            cause: Cause::Unbuilt,
-        };
-        assert_eq!(rt;
-            fault_in_pieces(alloc, &bad, size),
-            Some(want),
-            "pieces of {size}"
-        );
-    }
-    Ok(())
-}
-
-#[test]
-fn other_headers_are_unbuilt(rt: HostRuntime) -> Result<(), Fail> {
-    let alloc = rt.alloc();
-    for (text, line) in [
-        ("", 1),
-        ("saturn 1", 1),
-        ("saturn 2\n", 1),
-        ("sites 2\n", 1),
-        ("saturn 1\nsites 02\n", 2),
-        ("saturn 1\nsites 2\ngears 2\n", 3),
-        ("saturn 1\nsites 2\ngears 1\n\n", 4),
-        ("saturn 1\nsites 2\ngears 1\nitem x 0\n", 4),
-        ("saturn 1\nsites 2\ngears 1\nclient a 0\n", 4),
-        ("saturn 1\nsites 2\ngears 1\nitem x 0,1\nitem y 0,1\n", 5),
-        ("saturn 1\nsites 2\ngears 1\nitem x 0,1\nclient a 1\n", 5),
+    for (text, line, cause) in [
+        ("saturn 1\nsites 9\n", 2, Cause::OutOfRange),
         (
-            "saturn 1\nsites 2\ngears 1\nitem x 0,1\nclient a 0\nclient a 1\n",
-            6,
+            "saturn 1\nsites 2\ngears 1\nitem x 0,1\nclient a 0\nclient b 1\nplan tree - / 0 0\nbegin\ngather 0\n",
+            9,
+            Cause::NotLive,
         ),
         (
-            "saturn 1\nsites 2\ngears 1\nitem x 0,1\nclient a 0\nplan tree - / 0 0\n",
-            6,
+            "saturn 1\nsites 2\ngears 1\nitem x 0,1\nclient a 0\nclient b 1\nplan tree - / 0 0\nbegin\ntick 9 9 9\n",
+            9,
+            Cause::NotLive,
         ),
         (
-            "saturn 1\nsites 2\ngears 1\nitem x 0,1\nclient a 0\nclient b 1\nplan stamp\n",
-            7,
+            "saturn 1\nsites 2\ngears 1\nitem x 0,1\nclient a 0\nclient b 1\nplan tree - / 0 0\nbegin\nsettle\n",
+            9,
+            Cause::Unbuilt,
         ),
         (
-            "saturn 1\nsites 2\ngears 1\nitem x 0,1\nclient a 0\nclient b 1\nbegin\n",
-            7,
+            "saturn 1\nsites 2\ngears 1\nclient a 0\nclient b 0\nclient c 0\nclient d 0\nclient e 0\nclient f 0\nclient g 0\nclient h 0\nclient i 0\nclient j 0\nclient k 0\nclient l 0\nclient m 0\nclient n 0\nclient o 0\nclient p 0\nclient a 9\n",
+            20,
+            Cause::TooMany,
         ),
     ] {
-        let want = ScriptFault {
-            line,
-            cause: Cause::Unbuilt,
-        };
         assert_eq!(rt;
-            fault_in_pieces(alloc, text.as_bytes(), 9),
-            Some(want),
+            fault_of(alloc, text.as_bytes(), true),
+            Some(ScriptFault { line, cause }),
             "of {text}"
         );
     }
@@ -167,45 +149,25 @@ fn other_headers_are_unbuilt(rt: HostRuntime) -> Result<(), Fail> {
 }
 
 #[test]
-fn other_lines_are_unbuilt(rt: HostRuntime) -> Result<(), Fail> {
+fn a_cut_script_ends_too_early(rt: HostRuntime) -> Result<(), Fail> {
     let alloc = rt.alloc();
-    for (lines, line) in [
-        ("settle\n", 9),
-        ("", 9),
-        ("end", 9),
-        ("end\nx", 10),
-        ("end\n\n", 10),
-        ("gather 0\n", 10),
-        ("gather 0\ngather 01\n", 10),
-        ("gather 2\n", 9),
-        ("gather 99999999999999999999999\n", 9),
-        ("write a  x v\n", 9),
-        ("write d x v\n", 9),
-        ("write a y v\n", 9),
-        ("write a x \n", 9),
-        ("read a\n", 9),
-        ("hop 1 z0 z0\n", 9),
-        ("hop 1 s2 z0\n", 9),
-        ("hop 2 s0 z0\n", 9),
-        ("hop 1 s0 z1\n", 9),
-        ("bulk 0 0 0\n", 9),
-        ("bulk 0 1 1\n", 9),
-        ("bulk 0 0 1 0\n", 9),
-        ("gather 0\r\n", 9),
-        (" gather 0\n", 9),
-    ] {
-        let text = under_header(alloc, lines)?;
-        let want = ScriptFault {
+    let text = PLAIN.as_bytes();
+    let mut line = 1u64;
+    for at in 0..text.len() {
+        let want = Some(ScriptFault {
             line,
-            cause: Cause::Unbuilt,
-        };
-        assert_eq!(rt; fault_in_pieces(alloc, &text, 5), Some(want), "of {lines}");
+            cause: Cause::NoEnd,
+        });
+        assert_eq!(rt; fault_of(alloc, &text[..at], false), want, "cut at {at}");
+        if text[at] == b'\n' {
+            line = line.wrapping_add(1);
+        }
     }
     Ok(())
 }
 
 // A script of so many acts.
-fn many(alloc: Global, count: u32) -> Result<Vec<u8>, AllocError> {
+fn many_acts(alloc: Global, count: u32) -> Result<Vec<u8>, AllocError> {
     let mut text = HEADER.as_bytes().to_vec(alloc)?;
     for _ in 0..count {
         text.extend_from_slice(b"gather 0\n")?;
@@ -214,9 +176,34 @@ fn many(alloc: Global, count: u32) -> Result<Vec<u8>, AllocError> {
     Ok(text)
 }
 
+// A header of so many items or clients with names of their own, and then a line.
+fn many_names(alloc: Global, word: &[u8], count: u32, last: &[u8]) -> Result<Vec<u8>, AllocError> {
+    let mut text = b"saturn 1\nsites 2\ngears 1\n".as_slice().to_vec(alloc)?;
+    for number in 0..count {
+        text.extend_from_slice(word)?;
+        let digits = number.to_string(alloc)?;
+        text.extend_from_slice(digits.as_bytes())?;
+        text.extend_from_slice(b" 0\n")?;
+    }
+    text.extend_from_slice(last)?;
+    Ok(text)
+}
+
+// A text of one long line.
+fn long_line(alloc: Global, length: usize, last: &[u8]) -> Result<Vec<u8>, AllocError> {
+    let mut text = Vec::new(alloc);
+    for _ in 0..length {
+        text.push(b'a')?;
+    }
+    text.extend_from_slice(last)?;
+    Ok(text)
+}
+
 // A script that writes one value of this length.
-fn long_value(alloc: Global, length: usize) -> Result<Vec<u8>, AllocError> {
-    let mut text = under_header(alloc, "write a x ")?;
+fn long_value(alloc: Global, client: &str, length: usize) -> Result<Vec<u8>, AllocError> {
+    let mut text = under_header(alloc, "write ")?;
+    text.extend_from_slice(client.as_bytes())?;
+    text.extend_from_slice(b" x ")?;
     for _ in 0..length {
         text.push(b'v')?;
     }
@@ -224,26 +211,67 @@ fn long_value(alloc: Global, length: usize) -> Result<Vec<u8>, AllocError> {
     Ok(text)
 }
 
+fn at(line: u64, cause: Cause) -> Option<ScriptFault> {
+    Some(ScriptFault { line, cause })
+}
+
 #[test]
 fn limits_are_exact(rt: HostRuntime) -> Result<(), Fail> {
     let alloc = rt.alloc();
-    assert_eq!(rt; fault_in_pieces(alloc, &many(alloc, 200000)?, 65536), None);
-    let want = ScriptFault {
-        line: 200009,
-        cause: Cause::Unbuilt,
-    };
+    let good = b"plan tree - / 0 0\nbegin\nend\n".as_slice();
+    assert_eq!(rt; fault_of(alloc, &many_acts(alloc, 200000)?, false), None);
     assert_eq!(rt;
-        fault_in_pieces(alloc, &many(alloc, 200001)?, 65536),
-        Some(want)
+        fault_of(alloc, &many_acts(alloc, 200001)?, false),
+        at(200009, Cause::TooMany)
     );
-    assert_eq!(rt; fault_in_pieces(alloc, &long_value(alloc, 256)?, 50), None);
-    let want = ScriptFault {
-        line: 9,
-        cause: Cause::Unbuilt,
-    };
     assert_eq!(rt;
-        fault_in_pieces(alloc, &long_value(alloc, 257)?, 50),
-        Some(want)
+        fault_of(alloc, &many_names(alloc, b"item x", 4096, good)?, false),
+        None
+    );
+    assert_eq!(rt;
+        fault_of(alloc, &many_names(alloc, b"item x", 4097, b"")?, false),
+        at(4100, Cause::TooMany)
+    );
+    assert_eq!(rt;
+        fault_of(alloc, &many_names(alloc, b"client x", 1024, good)?, false),
+        None
+    );
+    assert_eq!(rt;
+        fault_of(
+            alloc,
+            &many_names(alloc, b"client x", 1024, b"client x0 9\n")?,
+            false
+        ),
+        at(1028, Cause::TooMany)
+    );
+    assert_eq!(rt;
+        fault_of(alloc, &long_line(alloc, 4096, b"\n")?, false),
+        at(1, Cause::BadHeader)
+    );
+    assert_eq!(rt;
+        fault_of(alloc, &long_line(alloc, 4097, b"\n")?, false),
+        at(1, Cause::LongLine)
+    );
+    assert_eq!(rt;
+        fault_of(alloc, &long_line(alloc, 4096, b"")?, false),
+        at(1, Cause::NoEnd)
+    );
+    assert_eq!(rt;
+        fault_of(alloc, &long_line(alloc, 4097, b"")?, false),
+        at(1, Cause::LongLine)
+    );
+    assert_eq!(rt;
+        fault_of(alloc, &long_line(alloc, 4097, b"\t\n")?, false),
+        at(1, Cause::LongLine)
+    );
+    assert_eq!(rt; fault_of(alloc, &long_value(alloc, "a", 256)?, false), None);
+    assert_eq!(rt;
+        fault_of(alloc, &long_value(alloc, "a", 257)?, false),
+        at(9, Cause::OutOfRange)
+    );
+    assert_eq!(rt;
+        fault_of(alloc, &long_value(alloc, "d", 257)?, false),
+        at(9, Cause::UnknownName)
     );
     Ok(())
 }
@@ -280,11 +308,11 @@ fn lines_are_told(rt: HostRuntime) -> Result<(), Fail> {
     assert_eq!(rt; reader.fault(), None);
     let fault = ScriptFault {
         line: 11,
-        cause: Cause::Unbuilt,
+        cause: Cause::AfterEnd,
     };
-    assert_eq!(rt; reader.close(b"x".as_slice()), Err(fault));
+    assert!(rt; matches!(reader.line(b"end".as_slice()), Err(first) if first == fault));
     assert_eq!(rt; reader.close(b"".as_slice()), Err(fault));
-    assert!(rt; matches!(reader.line(b"end".as_slice()), Err(again) if again == fault));
+    assert!(rt; matches!(reader.line(b"turn 0".as_slice()), Err(again) if again == fault));
     assert_eq!(rt; reader.fault(), Some(fault));
     Ok(())
 }

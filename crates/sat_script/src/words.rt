@@ -1,8 +1,10 @@
 //! The words of a line.
 ghost use Rattle.std.specs.Prelude.{◌≡◌, IfOk, map};
-ghost use Rattle.sat_script.specs.Words.{is_text, words_of, site_node};
+ghost use Rattle.sat_label.specs.Text.{is_name, is_name_byte, is_between};
+ghost use Rattle.std.specs.List.{list_all};
+ghost use Rattle.sat_script.specs.Words.{is_text, is_token, is_number, is_node, is_serializer, words_of};
 
-use crate::number::number_below;
+use crate::number::is_number;
 use std::alloc::{AllocError, Global};
 
 /// The parts of a line between its blanks.
@@ -19,19 +21,69 @@ pub fn is_text(line: &[u8]) -> bool
     line.iter().all(|byte| 32 <= *byte && *byte <= 126)
 }
 
-/// The site that a node's word names.
-#[tactic(auto, unfolding(crate::specs::Words::site_node))]
-pub fn site_node(sites: u16, word: &[u8]) -> Option<u16>
-    ensures { result ≡ site_node sites word.now }
+fn all_visible(word: &[u8]) -> bool
+    ensures { result ≡ list_all (is_between 33 126) word.now }
+{
+    word.iter().all(|byte| 33 <= *byte && *byte <= 126)
+}
+
+/// Whether a word has bytes from 33 to 126 only, and at least one.
+pub fn is_token(word: &[u8]) -> bool
+    ensures { result ≡ is_token word.now }
+{
+    0 < word.len() && all_visible(word)
+}
+
+// A letter, a digit, `_`, `-` or `.`.
+fn fits_name(byte: u8) -> bool
+    ensures { result ≡ is_name_byte byte }
+{
+    byte.is_ascii_alphanumeric() || byte == b'_' || byte == b'-' || byte == b'.'
+}
+
+fn all_fit_name(word: &[u8]) -> bool
+    ensures { result ≡ list_all is_name_byte word.now }
+{
+    word.iter().all(|&byte| fits_name(byte))
+}
+
+/// Whether a word is a name: 1 to 32 letters, digits, `_`, `-` or `.`.
+pub fn is_name(word: &[u8]) -> bool
+    ensures { result ≡ is_name word.now }
+{
+    0 < word.len() && word.len() <= 32 && all_fit_name(word)
+}
+
+/// Whether all words are numbers.
+pub fn are_numbers(words: &[&[u8]]) -> bool
+    ensures { result ≡ list_all is_number (map (λ word. word.now) words.now) }
+{
+    for word in words {
+        if !is_number(word) {
+            return false;
+        }
+    }
+    true
+}
+
+/// Whether a word is `s` and a number, or `z` and a number.
+#[tactic(auto, unfolding(crate::specs::Words::is_node))]
+pub fn is_node(word: &[u8]) -> bool
+    ensures { result ≡ is_node word.now }
 {
     match word {
-        [] => None,
-        [byte, number @ ..] => {
-            if *byte == b's' {
-                number_below(sites, number)
-            } else {
-                None
-            }
-        }
+        [] => false,
+        [byte, number @ ..] => (*byte == b's' || *byte == b'z') && is_number(number),
+    }
+}
+
+/// Whether a word is `z` and a number.
+#[tactic(auto, unfolding(crate::specs::Words::is_serializer))]
+pub fn is_serializer(word: &[u8]) -> bool
+    ensures { result ≡ is_serializer word.now }
+{
+    match word {
+        [] => false,
+        [byte, number @ ..] => *byte == b'z' && is_number(number),
     }
 }

@@ -6,6 +6,6 @@ use Rattle.sat_script.proofs.header_lines.header_form.Goals.{in_default-via-then
 
 pub returns-in_default : goal.returns-in_default
 returns-in_default c = elim c.in_default.branch [
-  | in_default-via-then-words-lt2 w ↦ λ _. header_form-other c.args.header.now c.args.word.now c.args.words.now (inl (grind (arith, nat_tests)))
-  | in_default-via-else-words-lt2+else-words-lt3 w ↦ λ _. header_form-other c.args.header.now c.args.word.now c.args.words.now (inr (grind (arith, nat_tests)))
+  | in_default-via-then-words-lt2 w ↦ λ _. header_form-other c.args.place.now c.args.word.now c.args.words.now (inl (grind (arith, nat_tests)))
+  | in_default-via-else-words-lt2+else-words-lt3 w ↦ λ _. header_form-other c.args.place.now c.args.word.now c.args.words.now (inr (grind (arith, nat_tests)))
 ]

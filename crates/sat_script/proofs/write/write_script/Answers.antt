@@ -1,6 +1,6 @@
 use Rattle.std.proofs.Common.{rules, arith, ◌≡◌, ◌++◌, ◌∷◌, [], ap, ◌∙◌, drop, List}
 use Rattle.std.specs.Prelude.{codes}
-use Rattle.std.proofs.lemmas.List.{append_assoc, drop_all}
+use Rattle.std.proofs.lemmas.List.{drop_all}
 use Rattle.sat_act.specs.declared.act.Act.{Act}
 use Rattle.sat_script.specs.Spelled.{acts_text, ended, header_text}
 use Rattle.sat_script.proofs.Written.{spelled_front, on_err, front_written, all_written}

@@ -1,4 +1,4 @@
-use Rattle.std.proofs.Common.{rules, sym, ap, ◌∙◌, ◌++◌, ◌≡◌, ◌∷◌, map, take}
+use Rattle.std.proofs.Common.{rules, sym, ◌∙◌, ◌++◌, ◌≡◌, ◌∷◌, map}
 use Rattle.std.specs.Fmt.{decimal}
 use Rattle.std.specs.Prelude.{codes}
 use Rattle.sat_script.specs.Spelled.{spaced, parent_text}

@@ -1,5 +1,5 @@
 use Rattle.std.proofs.Common.{rules, arith, inl, ◌≡◌, ◌++◌, [], ◌∷◌}
-use Rattle.sat_script.proofs.Coming.{came, after_fault, byte_coming, byte_will, byte_counted, byte_closes, ended_stuck}
+use Rattle.sat_script.proofs.Coming.{came, after_fault, byte_will, byte_counted, byte_closes, ended_stuck}
 use Rattle.sat_script.proofs.stream.ScriptReader.byte.Goals as goal
 
 pub returns-then-is_err-clause-settled : goal.returns-then-is_err-clause-settled

@@ -1,7 +1,7 @@
-use Rattle.std.proofs.Common.{rules, arith, ◌≡◌}
+use Rattle.std.proofs.Common.{rules, ◌≡◌}
 use Rattle.sat_script.specs.Stream.{kept}
 use Rattle.sat_script.specs.Reading.{with_line}
-use Rattle.sat_script.proofs.Coming.{came, after_fault, bad_coming, bad_will, unkept_coming, line_coming, line_will, line_adds}
+use Rattle.sat_script.proofs.Coming.{came, after_fault, bad_will, unkept_coming, line_coming, line_will, line_adds}
 use Rattle.sat_script.proofs.stream.ScriptReader.end_of_line.Goals as goal
 
 pub returns-in-Err-clause-script : goal.returns-in-Err-clause-script

@@ -1,4 +1,3 @@
-use Rattle.std.proofs.Common.{rules}
 use Rattle.sat_script.specs.Stream.{will_be}
 use Rattle.sat_script.proofs.Pieces.{finish_gives}
 use Rattle.sat_script.proofs.stream.ScriptReader.finish.Goals as goal

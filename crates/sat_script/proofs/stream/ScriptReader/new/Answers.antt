@@ -1,4 +1,4 @@
-use Rattle.std.proofs.Common.{rules, arith}
+use Rattle.std.proofs.Common.{arith}
 use Rattle.sat_script.specs.State.{number_of}
 use Rattle.sat_script.specs.Stream.{will_be, bytes_of}
 use Rattle.sat_script.proofs.Meaning.{goes_on-none}

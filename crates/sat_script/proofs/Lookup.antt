@@ -1,0 +1,133 @@
+-- Clients and items by their names.
+use Rattle.std.proofs.Common.{◌≡◌, ℕ, suc, ◌+◌, ◌<◌, ◌≤◌, Bool, true, false, not, ◌&&◌, ◌||◌, cond, ltb, leb, List, [], ◌∷◌, ◌++◌, length, map, get_or, Some, sym, ap, ◌∙◌, refl, subst, arith}
+use Rattle.std.specs.List.{position, position_or_len, list_all, list_any}
+use Rattle.std.specs.Global.{Vec}
+use Rattle.sat_script.specs.Names.{texts_of, item_name_of, client_name_of}
+use Rattle.std.specs.Str.{bytes_eq}
+use Rattle.std.proofs.lemmas.Bool.{leb-true}
+use Rattle.std.proofs.lemmas.Bool.Decides.{nat_tests}
+use Rattle.std.proofs.lemmas.List.Quantifiers.{position-Some}
+use Rattle.std.proofs.lemmas.List.Sums.{position_or_len_is}
+use Rattle.std.proofs.lemmas.Option.{slice_get-get_or}
+use Rattle.sat_label.specs.Text.{is_name, is_name_byte}
+use Rattle.sat_act.specs.declared.deployment.Item.{Item}
+use Rattle.sat_act.specs.declared.deployment.ClientLine.{ClientLine}
+use Rattle.sat_act.specs.Deployed.{Deployed}
+use Rattle.sat_act.specs.Limits.{IsDeployment}
+use Rattle.sat_script.specs.Grammar.{client_of, item_of}
+use Rattle.sat_script.specs.Spelled.{client_name, item_name}
+use Rattle.sat_script.proofs.Choices.{both, word_is, word_same}
+
+pub name_parts : (name : List ℕ) → is_name name ≡ true → (list_all is_name_byte name ≡ true) × (length name ≤ 32)
+name_parts name h =
+    let some = both (ltb 0 (length name)) (leb (length name) 32 && list_all is_name_byte name) h in
+    let short = both (leb (length name) 32) (list_all is_name_byte name) some.1 in
+    (short.1, leb-true (length name) 32 short.0)
+
+no_client : ClientLine
+no_client = record { name = []; site = 0 }
+
+no_item : Item
+no_item = record { name = []; replicas = record { bits = 0 } }
+
+client_at : (d : Deployed) (c : ℕ) → c < length d.clients → client_name d c ≡ (get_or d.clients c no_client).name
+client_at d c inside = rw (slice_get-get_or d.clients c no_client inside, client_name) refl
+
+item_at : (d : Deployed) (x : ℕ) → x < length d.items → item_name d x ≡ (get_or d.items x no_item).name
+item_at d x inside = rw (slice_get-get_or d.items x no_item inside, item_name) refl
+
+pub client_is : (d : Deployed) (name : List ℕ) (c : ℕ) → client_of d name ≡ Some c → (c < length d.clients) × (client_name d c ≡ name)
+unfolding client_of
+client_is d name c h =
+    let p = position-Some (λ (line : ClientLine). bytes_eq line.name name) d.clients c no_client h in
+    (p.0, client_at d c p.0 ∙ word_is (get_or d.clients c no_client).name name p.1)
+
+pub item_is : (d : Deployed) (name : List ℕ) (x : ℕ) → item_of d name ≡ Some x → (x < length d.items) × (item_name d x ≡ name)
+unfolding item_of
+item_is d name x h =
+    let p = position-Some (λ (item : Item). bytes_eq item.name name) d.items x no_item h in
+    (p.0, item_at d x p.0 ∙ word_is (get_or d.items x no_item).name name p.1)
+
+-- the first place of a test that only one place passes
+first_is : {X : Type 0} (p : X → Bool) (xs : List X) (i : ℕ) (none : X) → i < length xs → p (get_or xs i none) ≡ true → ((k : ℕ) → k < i → p (get_or xs k none) ≡ false) → position p xs ≡ Some i
+first_is p xs i none inside here before =
+    let place = position_or_len_is p xs i none (omega arith) before (λ _. here) in
+    let test : ltb i (length xs) ≡ true = grind (arith, nat_tests) in
+    rw (place, test) refl
+
+pub fails_or : (b : Bool) → (b ≡ true → ⊥) → b ≡ false
+fails_or true never = absurd (never refl)
+fails_or false never = refl
+
+pub client_reads : (d : Deployed) (c : ℕ) → IsDeployment d → c < length d.clients → client_of d (client_name d c) ≡ Some c
+unfolding client_of
+client_reads d c is inside =
+    rw (client_at d c inside)
+    (first_is (λ (line : ClientLine). bytes_eq line.name (get_or d.clients c no_client).name) d.clients c no_client inside (word_same (get_or d.clients c no_client).name)
+    (λ k less. fails_or _ (λ same.
+    let within : k < length d.clients = omega arith in
+    let here = is.client_names k c _ _ (slice_get-get_or d.clients k no_client within) (slice_get-get_or d.clients c no_client inside) (word_is _ _ same) in
+    absurd (omega arith))))
+
+pub item_reads : (d : Deployed) (x : ℕ) → IsDeployment d → x < length d.items → item_of d (item_name d x) ≡ Some x
+unfolding item_of
+item_reads d x is inside =
+    rw (item_at d x inside)
+    (first_is (λ (item : Item). bytes_eq item.name (get_or d.items x no_item).name) d.items x no_item inside (word_same (get_or d.items x no_item).name)
+    (λ k less. fails_or _ (λ same.
+    let within : k < length d.items = omega arith in
+    let here = is.item_names k x _ _ (slice_get-get_or d.items k no_item within) (slice_get-get_or d.items x no_item inside) (word_is _ _ same) in
+    absurd (omega arith))))
+
+-- ---- names beside what they name
+
+place_by : {X Y : Type 0} (f : X → Y) (p : X → Bool) (q : Y → Bool) → ((x : X) → p x ≡ q (f x)) → (xs : List X) → position_or_len p xs ≡ position_or_len q (map f xs)
+place_by f p q same [] = refl
+place_by f p q same (x ∷ xs) = ap (λ b. cond (not b) (1 + position_or_len p xs) 0) (same x) ∙ ap (λ n. cond (not (q (f x))) (1 + n) 0) (place_by f p q same xs)
+
+pub length_by : {X Y : Type 0} (f : X → Y) (xs : List X) → length xs ≡ length (map f xs)
+length_by f [] = refl
+length_by f (x ∷ xs) = ap suc (length_by f xs)
+
+pub position_by : {X Y : Type 0} (f : X → Y) (p : X → Bool) (q : Y → Bool) → ((x : X) → p x ≡ q (f x)) → (xs : List X) → position p xs ≡ position q (map f xs)
+position_by f p q same xs = rw (place_by f p q same xs, length_by f xs) refl
+
+pub any_by : {X Y : Type 0} (f : X → Y) (p : X → Bool) (q : Y → Bool) → ((x : X) → p x ≡ q (f x)) → (xs : List X) → list_any p xs ≡ list_any q (map f xs)
+any_by f p q same [] = refl
+any_by f p q same (x ∷ xs) = ap (λ b. b || list_any p xs) (same x) ∙ ap (λ b. q (f x) || b) (any_by f p q same xs)
+
+pub map_push : {X Y : Type 0} (f : X → Y) (xs : List X) (x : X) → map f (xs ++ x ∷ []) ≡ map f xs ++ f x ∷ []
+map_push f [] x = refl
+map_push f (y ∷ xs) x = ap (λ ys. f y ∷ ys) (map_push f xs x)
+
+same_tests : (b c : Bool) → (b ≡ true → c ≡ true) → (c ≡ true → b ≡ true) → b ≡ c
+same_tests true c f g = sym (f refl)
+same_tests false true f g = g refl
+same_tests false false f g = refl
+
+pub bytes_turned : (a b : List ℕ) → bytes_eq a b ≡ bytes_eq b a
+bytes_turned a b = same_tests (bytes_eq a b) (bytes_eq b a) (λ h. let e = word_is a b h in subst (λ c. bytes_eq b c ≡ true) (sym e) (word_same b)) (λ h. let e = word_is b a h in subst (λ c. bytes_eq a c ≡ true) (sym e) (word_same a))
+
+pub key_place : (keys : List (Vec ℕ)) (name : List ℕ) → position (λ key. bytes_eq name key.items) keys ≡ position (λ other. bytes_eq other name) (texts_of keys)
+key_place keys name = position_by (λ key. key.items) (λ key. bytes_eq name key.items) (λ other. bytes_eq other name) (λ key. bytes_turned name key.items) keys
+
+pub key_any : (keys : List (Vec ℕ)) (name : List ℕ) → list_any (λ key. bytes_eq name key.items) keys ≡ list_any (λ other. bytes_eq other name) (texts_of keys)
+key_any keys name = any_by (λ key. key.items) (λ key. bytes_eq name key.items) (λ other. bytes_eq other name) (λ key. bytes_turned name key.items) keys
+
+-- a new key goes last
+pub key_pushed : (keys now : List (Vec ℕ)) (key : Vec ℕ) (name : List ℕ) → key.items ≡ name → list_any (λ other. bytes_eq other name) (texts_of keys) ≡ false → now ≡ cond (list_any (λ other. bytes_eq key.items other.items) keys) keys (keys ++ key ∷ []) → texts_of now ≡ texts_of keys ++ name ∷ []
+key_pushed keys now key name is new e =
+    let none : list_any (λ other. bytes_eq key.items other.items) keys ≡ false = ap (λ n. list_any (λ other. bytes_eq n other.items) keys) is ∙ key_any keys name ∙ new in
+    ap texts_of (e ∙ ap (λ b. cond b keys (keys ++ key ∷ [])) none) ∙ map_push (λ key. key.items) keys key ∙ ap (λ n. texts_of keys ++ n ∷ []) is
+
+pub client_place : (clients : List ClientLine) (names : List (List ℕ)) (name : List ℕ) → names ≡ map client_name_of clients → position (λ other. bytes_eq other name) names ≡ position (λ line. bytes_eq line.name name) clients
+client_place clients names name e = ap (position (λ other. bytes_eq other name)) e ∙ sym (position_by client_name_of (λ line. bytes_eq line.name name) (λ other. bytes_eq other name) (λ line. refl) clients)
+
+pub item_place : (items : List Item) (names : List (List ℕ)) (name : List ℕ) → names ≡ map item_name_of items → position (λ other. bytes_eq other name) names ≡ position (λ item. bytes_eq item.name name) items
+item_place items names name e = ap (position (λ other. bytes_eq other name)) e ∙ sym (position_by item_name_of (λ item. bytes_eq item.name name) (λ other. bytes_eq other name) (λ item. refl) items)
+
+pub client_any : (clients : List ClientLine) (names : List (List ℕ)) (name : List ℕ) → names ≡ map client_name_of clients → list_any (λ other. bytes_eq other name) names ≡ list_any (λ line. bytes_eq line.name name) clients
+client_any clients names name e = ap (list_any (λ other. bytes_eq other name)) e ∙ sym (any_by client_name_of (λ line. bytes_eq line.name name) (λ other. bytes_eq other name) (λ line. refl) clients)
+
+pub item_any : (items : List Item) (names : List (List ℕ)) (name : List ℕ) → names ≡ map item_name_of items → list_any (λ other. bytes_eq other name) names ≡ list_any (λ item. bytes_eq item.name name) items
+item_any items names name e = ap (list_any (λ other. bytes_eq other name)) e ∙ sym (any_by item_name_of (λ item. bytes_eq item.name name) (λ other. bytes_eq other name) (λ item. refl) items)

@@ -1,0 +1,81 @@
+-- What a good line says, where it may stand.
+use Rattle.std.proofs.Common.{◌≡◌, ℕ, ◌<◌, ◌≤◌, true, false, not, ◌||◌, List, [], ◌∷◌, length}
+use Rattle.std.specs.Prelude.{codes}
+use Rattle.std.specs.Fmt.{decimal}
+use Rattle.sat_label.specs.Text.{is_name}
+use Rattle.sat_tree.specs.Shape.{TreeShape}
+use Rattle.sat_act.specs.Built.{is_built_act}
+use Rattle.sat_act.specs.Deployed.{Deployed}
+use Rattle.sat_act.specs.Flaw.{are_sites}
+use Rattle.sat_act.specs.Ranges.{IsActOf}
+use Rattle.sat_act.specs.declared.act.Act.{Act}
+use Rattle.sat_act.specs.declared.deployment.Item.{Item}
+use Rattle.sat_act.specs.declared.deployment.ClientLine.{ClientLine}
+use Rattle.sat_act.specs.declared.deployment.Plan.{Plan}
+use Rattle.sat_act.specs.declared.deployment.Plan.TheVariants as plan
+use Rattle.sat_script.specs.Grammar.{has_client, has_item, is_tree}
+use Rattle.sat_script.specs.Reading.{is_live_act}
+use Rattle.sat_script.specs.Spelled.{item_words, client_words, plan_words, act_words}
+use Rattle.sat_script.specs.State.{State, most_sites, most_clients, most_acts}
+use Rattle.sat_script.specs.declared.limits.TheConstants.{MOST_GEARS, MOST_ITEMS}
+use Rattle.sat_script.specs.declared.line.Parsed.{Parsed}
+use Rattle.sat_script.specs.declared.line.Parsed.TheVariants as parsed
+use Rattle.sat_script.specs.declared.line.Stage.{Stage}
+use Rattle.sat_script.specs.declared.line.Stage.TheVariants as stage
+
+-- the words of what a line says
+abbrev pub parsed_words : Deployed → Parsed → List (List ℕ)
+parsed_words d parsed.Format = codes "saturn" ∷ codes "1" ∷ []
+parsed_words d (parsed.Sites n) = codes "sites" ∷ decimal n ∷ []
+parsed_words d (parsed.Gears n) = codes "gears" ∷ decimal n ∷ []
+parsed_words d (parsed.Item item) = item_words item
+parsed_words d (parsed.Client line) = client_words line
+parsed_words d (parsed.Plan p) = plan_words p
+parsed_words d parsed.Begin = codes "begin" ∷ []
+parsed_words d (parsed.Act a) = act_words d a
+parsed_words d parsed.End = codes "end" ∷ []
+
+pub record ItemStands (s : State) (item : Item) : Type 0 where
+  pub name : is_name item.name ≡ true
+  pub sites : are_sites s.header.sites item.replicas.bits ≡ true
+  pub clients : s.header.clients ≡ []
+  pub plans : s.header.plans ≡ []
+  pub room : length s.header.items < MOST_ITEMS
+  pub new : has_item s.header item.name ≡ false
+
+pub record ClientStands (s : State) (line : ClientLine) : Type 0 where
+  pub name : is_name line.name ≡ true
+  pub home : line.site < s.header.sites
+  pub plans : s.header.plans ≡ []
+  pub room : length s.header.clients < most_clients s.live
+  pub new : has_client s.header line.name ≡ false
+
+pub record PlanStands (s : State) (p : Plan) : Type 0 where
+  pub tree : TreeShape
+  pub is : p ≡ plan.Tree tree
+  pub small : is_tree s.header.sites tree ≡ true
+  pub first : s.header.plans ≡ []
+
+pub record ActStands (s : State) (a : Act) : Type 0 where
+  pub fits : IsActOf s.header a
+  pub built : is_built_act a ≡ true
+  pub live : (not s.live || is_live_act a) ≡ true
+  pub room : s.acts < most_acts s.live
+
+-- where it stands, and after what
+abbrev pub Stands : Stage → State → Parsed → Type 0
+Stands stage.Start s parsed.Format = Unit {0}
+Stands stage.Sites s (parsed.Sites n) = (1 ≤ n) × (n ≤ most_sites s.live)
+Stands stage.Gears s (parsed.Gears n) = (1 ≤ n) × (n ≤ MOST_GEARS)
+Stands stage.Header s (parsed.Item item) = ItemStands s item
+Stands stage.Header s (parsed.Client line) = ClientStands s line
+Stands stage.Header s (parsed.Plan p) = PlanStands s p
+Stands stage.Header s parsed.Begin = 0 < length s.header.plans
+Stands stage.Body s (parsed.Act a) = ActStands s a
+Stands stage.Body s parsed.End = Unit {0}
+Stands _ s _ = ⊥
+
+-- the words spell what the line says, which may stand here
+pub record IsGood (here : Stage) (s : State) (words : List (List ℕ)) (p : Parsed) : Type 0 where
+  pub spelled : words ≡ parsed_words s.header p
+  pub stands : Stands here s p

@@ -1,0 +1,223 @@
+//! What the lines so far say: where the next line stands, and what may stand there.
+ghost use Rattle.std.specs.Prelude.{◌≡◌, ◌≤◌, ◌↔◌, IsTrue, IfOk, OnErr, length};
+ghost use Rattle.sat_script.specs.State.{start, number_of, most_sites, most_clients, most_acts};
+ghost use Rattle.sat_script.specs.Grammar.{is_built, has_room, bar, after, IsNew};
+ghost use Rattle.sat_script.specs.Reading.{told_line};
+ghost use Rattle.sat_script.specs.Kept.{IsFit};
+
+use crate::Cause;
+use crate::form::{Form, is_live};
+use crate::header::Header;
+use crate::limits::{
+    LIVE_ACTS, LIVE_CLIENTS, LIVE_SITES, MOST_ACTS, MOST_CLIENTS, MOST_ITEMS, MOST_PLANS,
+    MOST_SETTLES, MOST_SITES,
+};
+use crate::line::{Line, Parsed, Stage};
+use sat_act::Act;
+use std::alloc::{AllocError, Global};
+use std::marker::Model;
+
+fn most_sites(live: bool) -> u16
+    ensures { result ≡ most_sites live }
+{
+    if live { LIVE_SITES } else { MOST_SITES }
+}
+
+fn most_clients(live: bool) -> usize
+    ensures { result ≡ most_clients live }
+{
+    if live { LIVE_CLIENTS } else { MOST_CLIENTS }
+}
+
+fn most_acts(live: bool) -> u32
+    ensures { result ≡ most_acts live }
+{
+    if live { LIVE_ACTS } else { MOST_ACTS }
+}
+
+/// What the lines so far say.
+#[derive(Drop)]
+pub struct Place {
+    live: bool,
+    stage: Stage,
+    header: Header,
+    acts: u32,
+    settles: u32,
+}
+
+impl Model for Place {
+    ghost use Rattle.sat_script.specs.State.{State};
+    ghost use Rattle.sat_script.specs.Kept.{IsFit};
+
+    ghost Value = { State };
+
+    ghost view = { λ a. record { live = a.live; stage = a.stage; header = a.header; acts = a.acts; settles = a.settles } };
+
+    ghost invariant = { λ a. IsFit (record { live = a.live; stage = a.stage; header = a.header; acts = a.acts; settles = a.settles }) };
+}
+
+impl Place {
+    /// Before the first line.
+    pub fn new(alloc: Global, live: bool) -> Place
+        ensures { result ≡ start live }
+    {
+        Place {
+            live,
+            stage: Stage::Start,
+            header: Header::new(alloc),
+            acts: 0,
+            settles: 0,
+        }
+    }
+
+    /// The part of the script that the next line stands in.
+    pub fn stage(&self) -> Stage
+        ensures { result ≡ self.now.stage }
+    {
+        self.stage
+    }
+
+    /// The header as far as it has come.
+    pub fn header(&self) -> &Header
+        ensures { result.now ≡ self.now.header }
+    {
+        &self.header
+    }
+
+    /// The number of sites.
+    pub fn sites(&self) -> u16
+        ensures sites { result ≡ self.now.header.sites }
+        ensures few { result ≤ 16 }
+    {
+        self.header.sites()
+    }
+
+    /// The most sites.
+    pub fn most_sites(&self) -> u16
+        ensures { result ≡ most_sites self.now.live }
+    {
+        most_sites(self.live)
+    }
+
+    /// The number of the next line, from 1.
+    #[tactic(auto, unfolding(crate::specs::State::number_of))]
+    pub fn number(&self) -> u64
+        ensures { result ≡ number_of self.now }
+    {
+        let first = match self.stage {
+            Stage::Start => 1,
+            Stage::Sites => 2,
+            Stage::Gears => 3,
+            Stage::Header => 4,
+            Stage::Body => 5,
+            Stage::Ended => 6,
+        };
+        first + self.header.lines() + u64::from(self.acts)
+    }
+
+    #[tactic(auto, unfolding(crate::specs::Grammar::is_built))]
+    fn is_built(&self, form: Form) -> bool
+        ensures { result ≡ is_built self.now.header form }
+    {
+        match form {
+            Form::Item => true,
+            Form::Client => true,
+            Form::PlanTree => self.header.plans() == 0,
+            Form::Tick => true,
+            Form::Clock => true,
+            Form::Write => true,
+            Form::Read => true,
+            Form::Gather => true,
+            Form::Emit => true,
+            Form::Hop => true,
+            Form::Turn => true,
+            Form::Bulk => true,
+            _ => false,
+        }
+    }
+
+    #[tactic(auto, unfolding(crate::specs::Grammar::has_room))]
+    fn has_room(&self, form: Form) -> bool
+        ensures { result ≡ has_room self.now form }
+    {
+        match form {
+            Form::Item => self.header.items() < MOST_ITEMS,
+            Form::Client => usize::from(self.header.clients()) < most_clients(self.live),
+            Form::PlanStamp => usize::from(self.header.plans()) < MOST_PLANS,
+            Form::PlanTree => usize::from(self.header.plans()) < MOST_PLANS,
+            Form::Settle => self.acts < most_acts(self.live) && self.settles < MOST_SETTLES,
+            _ => self.acts < most_acts(self.live),
+        }
+    }
+
+    /// Why a line of a form may not stand here, whatever its words say.
+    #[tactic(auto, unfolding(crate::specs::Grammar::bar))]
+    pub fn bar(&self, form: Form) -> Option<Cause>
+        ensures { result ≡ bar self.now form }
+    {
+        if !self.is_built(form) {
+            return Some(Cause::Unbuilt);
+        }
+        if self.live && !is_live(form) {
+            return Some(Cause::NotLive);
+        }
+        if !self.has_room(form) {
+            return Some(Cause::TooMany);
+        }
+        None
+    }
+
+    /// Takes what a good line says. For want of memory all is as before.
+    pub fn keep(&mut self, alloc: Global, parsed: Parsed) -> Result<Line, AllocError>
+        requires fits { IsFit (after self.old parsed) }
+        requires new { IsNew self.old.header parsed }
+        ensures ok { IfOk result (λ line. (line ≡ told_line self.old.header parsed) × (self.new ≡ after self.old parsed)) }
+        ensures err { OnErr result (self.new ≡ self.old) }
+        ensures fit { IsFit self.new }
+    {
+        match parsed {
+            Parsed::Format => {
+                self.stage = Stage::Sites;
+                Ok(Line::Header)
+            }
+            Parsed::Sites(sites) => {
+                self.header.set_sites(sites);
+                self.stage = Stage::Gears;
+                Ok(Line::Header)
+            }
+            Parsed::Gears(gears) => {
+                self.header.set_gears(gears);
+                self.stage = Stage::Header;
+                Ok(Line::Header)
+            }
+            Parsed::Item(item) => {
+                self.header.add_item(alloc, item)?;
+                Ok(Line::Header)
+            }
+            Parsed::Client(client) => {
+                self.header.add_client(alloc, client)?;
+                Ok(Line::Header)
+            }
+            Parsed::Plan(plan) => {
+                self.header.add_plan(plan)?;
+                Ok(Line::Header)
+            }
+            Parsed::Begin => {
+                let deployment = self.header.deployment(alloc)?;
+                self.stage = Stage::Body;
+                Ok(Line::Begin(deployment))
+            }
+            Parsed::Act(act) => {
+                if matches!(act, Act::Settle) {
+                    self.settles += 1;
+                }
+                self.acts += 1;
+                Ok(Line::Act(act))
+            }
+            Parsed::End => {
+                self.stage = Stage::Ended;
+                Ok(Line::End)
+            }
+        }
+    }
+}
