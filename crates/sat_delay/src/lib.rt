@@ -1,0 +1,19 @@
+//! Tables of delays between sites and places, from which a tree of serializers is built (Saturn; Bravo, Rodrigues and
+//! Van Roy, EuroSys 2017), read from JSON with every fault named by its place.
+#![tactic(auto)]
+
+mod delays;
+mod fault;
+mod matrix;
+mod number;
+mod read;
+mod rows;
+mod text;
+
+pub use delays::Delays;
+pub use fault::{DelayFault, Place};
+pub use read::{MOST_BYTES, read_delays};
+pub use text::write_delay_fault;
+
+#[cfg(test)]
+mod tests;

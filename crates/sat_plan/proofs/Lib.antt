@@ -1,0 +1,15 @@
+pub mod Turns
+pub mod SumLemmas
+pub mod Lists
+pub mod Sound
+pub mod Short
+pub mod Texts
+pub mod Legs
+pub mod Grown
+pub mod Measured
+pub mod Growth
+pub mod Chosen
+pub mod Tuned
+pub mod Passes
+pub mod Plans
+pub mod OnWay

@@ -1,0 +1,8 @@
+use Rattle.sat_plan.specs.Drafts.{draft_config, IsSettling}
+use Rattle.sat_plan.proofs.tune.settle.Given as goal
+
+abbrev pub invariant-settling : goal.invariant-settling
+invariant-settling l = IsSettling l.d (draft_config l.fn.draft) (draft_config l.draft) l.routes l.cost
+
+abbrev pub decreases-settling : goal.decreases-settling
+decreases-settling l = l.cost
