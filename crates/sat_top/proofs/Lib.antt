@@ -4,3 +4,5 @@ pub mod Running
 pub mod Good
 pub mod Refused
 pub mod Ran
+pub mod Plans
+pub mod Done

@@ -14,11 +14,11 @@ pub record HasRead (before now : Option (List ℕ)) (meaning : List ℕ → Read
   pub means : (more : List ℕ) → meaning more ≡ reading false (taken ++ more)
   pub counted : length taken ≡ count
 
-consumes_none : (left : Option (List ℕ)) → Consumes left left []
+pub consumes_none : (left : Option (List ℕ)) → Consumes left left []
 consumes_none None = tt
 consumes_none (Some xs) = refl
 
-consumes_more : (a b c : Option (List ℕ)) (xs ys : List ℕ) → Consumes a b xs → Consumes b c ys → Consumes a c (xs ++ ys)
+pub consumes_more : (a b c : Option (List ℕ)) (xs ys : List ℕ) → Consumes a b xs → Consumes b c ys → Consumes a c (xs ++ ys)
 consumes_more None b c xs ys h k = tt
 consumes_more (Some ws) None c xs ys h k = absurd h
 consumes_more (Some ws) (Some bs) None xs ys h k = absurd k
@@ -39,7 +39,7 @@ pub read_bounded : (a b c : Option (List ℕ)) (meaning : List ℕ → Reading) 
 read_bounded a b c meaning piece n most had took few =
     (had.taken ++ piece, consumes_more a b c had.taken piece had.consumed took, omega (arith, length-append had.taken piece, had.counted))
 
-at_end : (a b : Option (List ℕ)) (taken : List ℕ) → Consumes a b taken → IsAtEnd b → IsTextOf a taken
+pub at_end : (a b : Option (List ℕ)) (taken : List ℕ) → Consumes a b taken → IsAtEnd b → IsTextOf a taken
 at_end None b taken h e = tt
 at_end (Some ws) None taken h e = absurd h
 at_end (Some ws) (Some bs) taken h e = h ∙ ap (λ zs. taken ++ zs) e ∙ append-nil taken
@@ -48,7 +48,7 @@ pub read_whole : (a b : Option (List ℕ)) (meaning : List ℕ → Reading) (fou
 read_whole a b meaning found n had ends is =
     (had.taken, at_end a b had.taken had.consumed ends, ap (reading false) (sym (append-nil had.taken)) ∙ sym (had.means []) ∙ sym is)
 
-rest_of : (a b : Option (List ℕ)) (taken : List ℕ) → Consumes a b taken → (rest : List ℕ) × IsTextOf a (taken ++ rest)
+pub rest_of : (a b : Option (List ℕ)) (taken : List ℕ) → Consumes a b taken → (rest : List ℕ) × IsTextOf a (taken ++ rest)
 rest_of None b taken h = ([], tt)
 rest_of (Some ws) None taken h = absurd h
 rest_of (Some ws) (Some bs) taken h = (bs, h)

@@ -1,6 +1,6 @@
 -- What a reading and its run come to.
 use Rattle.std.proofs.Common.{◌≡◌, ℕ, Bool, false, List, Option, Some, None, refl, sym, ap, subst, ◌∙◌}
-use Rattle.std.specs.Prelude.{is_none, IfSome, if◌then◌else◌}
+use Rattle.std.specs.Prelude.{IfSome}
 use Rattle.sat_act.specs.Deployed.{Deployed}
 use Rattle.sat_act.specs.Limits.{IsDeployment}
 use Rattle.sat_act.specs.Built.{IsBuilt}
@@ -11,12 +11,12 @@ use Rattle.sat_script.specs.Reading.{reading, AreBuiltActs}
 use Rattle.sat_script.specs.declared.fault.ScriptFault.{ScriptFault}
 use Rattle.sat_script.specs.declared.stream.Reading.{Reading}
 use Rattle.sat_top.specs.declared.words.Command.TheVariants.{Run}
-use Rattle.sat_top.specs.Good.{IsGoodScript, IsGoodFront, EveryReadingIsGood}
+use Rattle.sat_top.specs.Good.{IsGoodFront, EveryReadingIsGood}
 use Rattle.sat_top.specs.Runs.{history, run_text}
 use Rattle.sat_top.proofs.Good.{good_history}
-use Rattle.sat_top.specs.Whole.{IsTextOf, command_status, command_output}
+use Rattle.sat_top.specs.Whole.{IsTextOf, IsOutput, run_status}
 
-zero_fault : (fault : Option ScriptFault) (status : ℕ) → status ≡ (if is_none fault then 0 else 1) → status ≡ 0 → fault ≡ None
+zero_fault : (fault : Option ScriptFault) (status : ℕ) → status ≡ run_status fault → status ≡ 0 → fault ≡ None
 zero_fault None status means zero = refl
 zero_fault (Some fault) status means zero = absurd (cc)
 
@@ -30,7 +30,12 @@ front text found every built same d at =
     let here = at_some found.deployment d (λ x. IsDeployment x × IsBuilt x × HaveNames x × AreBuiltActs x found.acts) built (sym (ap (λ (r : Reading). r.deployment) same) ∙ at) in
     subst (λ (r : Reading). IsGood d (history d r.acts)) (sym same) (good_history d found.acts every here.0 here.3)
 
-pub ran : (left : Option (List ℕ)) (found : Reading) (written : List ℕ) (status : ℕ) → EveryReadingIsGood → EveryHistoryIsGood → IfSome found.deployment (λ d. IsDeployment d × IsBuilt d × HaveNames d × AreBuiltActs d found.acts) → ((text : List ℕ) × IsTextOf left text × (reading false text ≡ found)) → written ≡ run_text found → status ≡ (if is_none found.fault then 0 else 1)
-    → (text : List ℕ) × IsTextOf left text × (written ≡ command_output (Some Run) text) × (status ≡ command_status (Some Run) text) × (status ≡ 0 → IsGoodScript text) × (status ≡ 1 → IsGoodFront text)
-ran left found written status law every built from wrote means =
-    (from.0, from.1, rw from.2 wrote, rw from.2 means, λ zero. law from.0 (ap (λ (r : Reading). r.fault) from.2 ∙ zero_fault found.fault status means zero), λ one. front from.0 found every built from.2)
+pub ran : (left : Option (List ℕ)) (found : Reading) (written : List ℕ) (status : ℕ) → EveryReadingIsGood → EveryHistoryIsGood → IfSome found.deployment (λ d. IsDeployment d × IsBuilt d × HaveNames d × AreBuiltActs d found.acts) → ((text : List ℕ) × IsTextOf left text × (reading false text ≡ found)) → written ≡ run_text found → status ≡ run_status found.fault
+    → IsOutput (Some Run) left written status
+ran left found written status law every built from wrote means = record {
+  input = from.0;
+  whole = from.1;
+  output = rw from.2 wrote;
+  status_is = rw from.2 means;
+  proves = (λ zero. law from.0 (ap (λ (r : Reading). r.fault) from.2 ∙ zero_fault found.fault status means zero), λ one. front from.0 found every built from.2);
+}

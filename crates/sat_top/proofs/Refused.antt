@@ -1,12 +1,15 @@
--- What words that are no command give.
-use Rattle.std.proofs.Common.{◌≡◌, ℕ, List, Option, None, ◌∙◌}
-use Rattle.sat_top.specs.Good.{IsGoodScript, IsGoodFront}
-use Rattle.sat_top.specs.Words.{command_of}
-use Rattle.sat_top.specs.Whole.{IsTextOf, refusal, status_of, output_of}
+-- What words give that ask for no input.
+use Rattle.std.proofs.Common.{◌≡◌, ℕ, List, Option, Some, None}
+use Rattle.sat_top.specs.declared.words.Command.{Command}
+use Rattle.sat_top.specs.declared.words.Command.TheVariants.{Help, Version}
+use Rattle.sat_top.specs.Whole.{IsOutput, help, refusal, version}
 use Rattle.sat_top.proofs.Progress.{some_text}
 
-pub refused_output : (words : List (List ℕ)) (left : Option (List ℕ)) (text : List ℕ) (status : ℕ) → command_of words ≡ None → text ≡ refusal → status ≡ 2
-    → (t : List ℕ) × IsTextOf left t × (text ≡ output_of words t) × (status ≡ status_of words t) × (status ≡ 0 → IsGoodScript t) × (status ≡ 1 → IsGoodFront t)
-refused_output words left text status none is two =
-    let some = some_text left in
-    (some.0, some.1, rw none is, rw none two, λ zero. absurd (cc), λ one. absurd (cc))
+pub refused_output : (c : Option Command) (left : Option (List ℕ)) (text : List ℕ) (status : ℕ) → c ≡ None → text ≡ refusal → status ≡ 2 → IsOutput c left text status
+refused_output c left text status none is two = rw none (record { input = (some_text left).0; whole = (some_text left).1; output = is; status_is = two; proves = tt })
+
+pub help_output : (c : Option Command) (left : Option (List ℕ)) (text : List ℕ) (status : ℕ) → c ≡ Some Help → text ≡ help → status ≡ 0 → IsOutput c left text status
+help_output c left text status some is zero = rw some (record { input = (some_text left).0; whole = (some_text left).1; output = is; status_is = zero; proves = tt })
+
+pub version_output : (c : Option Command) (left : Option (List ℕ)) (text : List ℕ) (status : ℕ) → c ≡ Some Version → text ≡ version → status ≡ 0 → IsOutput c left text status
+version_output c left text status some is zero = rw some (record { input = (some_text left).0; whole = (some_text left).1; output = is; status_is = zero; proves = tt })

@@ -1,11 +1,16 @@
 -- What a good script gives.
-use Rattle.std.specs.Prelude.{ℕ, ◌≡◌, false, List, Option, Some, None}
+use Rattle.std.specs.Prelude.{ℕ, ◌≡◌, ◌≤◌, false, List, Option, Some, None, Ok}
 use Rattle.sat_act.specs.declared.act.Act.{Act}
 use Rattle.sat_act.specs.Deployed.{Deployed}
 use Rattle.sat_act.specs.Headline.{IsGood}
 use Rattle.sat_script.specs.Reading.{reading}
 use Rattle.sat_script.specs.Spelled.{Spells}
 use Rattle.sat_report.specs.Holdings.{report}
+use Rattle.sat_delay.specs.Table.{DelayTable}
+use Rattle.sat_delay.specs.Reading.{reading as delays_in}
+use Rattle.sat_plan.specs.Config.{delayed}
+use Rattle.sat_plan.specs.Mismatch.{mismatch}
+use Rattle.sat_plan.specs.Steps.{built}
 use Rattle.sat_top.specs.Runs.{history, run_text}
 
 -- the text spells a deployment and acts, what `run` makes of it is the report of their one history, and this history is good
@@ -23,3 +28,7 @@ IsGoodFront text = (d : Deployed) → (reading false text).deployment ≡ Some d
 -- a text that is read without a fault is a good script
 abbrev pub EveryReadingIsGood : Type 0
 EveryReadingIsGood = (text : List ℕ) → (reading false text).fault ≡ None → IsGoodScript text
+
+-- where the text is a table of delays, no other delay of one edge of the tree that is built from it gives a lower mismatch
+abbrev pub IsBestPlan : List ℕ → Type 0
+IsBestPlan text = (d : DelayTable) → delays_in text ≡ Ok d → (e delay : ℕ) → mismatch d (built d) ≤ mismatch d (delayed (built d) e delay)

@@ -1,17 +1,26 @@
 -- What a command makes of the whole text of a source, and what it leaves.
-use Rattle.std.specs.Prelude.{ℕ, ◌≡◌, false, List, [], ◌∷◌, ◌++◌, Option, Some, None, IfSome, IsSome, is_none, if◌then◌else◌, codes, take}
+use Rattle.std.specs.Prelude.{ℕ, ◌≡◌, ◌≤◌, Bool, true, false, List, [], ◌∷◌, ◌++◌, Option, Some, None, IfSome, IsSome, Result, Ok, Err, codes, take}
 use Rattle.sat_outside.specs.Streams.{Told, Takes}
 use Rattle.sat_act.specs.declared.act.Act.{Act}
 use Rattle.sat_act.specs.Deployed.{Deployed}
 use Rattle.sat_act.specs.Headline.{IsGood}
 use Rattle.sat_script.specs.Reading.{reading}
+use Rattle.sat_script.specs.declared.fault.ScriptFault.{ScriptFault}
 use Rattle.sat_script.specs.Spelled.{Spells}
 use Rattle.sat_report.specs.Holdings.{report}
+use Rattle.sat_delay.specs.declared.fault.DelayFault.{DelayFault}
+use Rattle.sat_delay.specs.Table.{DelayTable}
+use Rattle.sat_delay.specs.Reading.{reading as delays_in}
+use Rattle.sat_delay.specs.Texts.{fault_text as delay_fault_text}
+use Rattle.sat_plan.specs.Config.{delayed}
+use Rattle.sat_plan.specs.Mismatch.{mismatch}
+use Rattle.sat_plan.specs.Steps.{built}
+use Rattle.sat_plan.specs.Texts.{config_text, plan_text}
 use Rattle.sat_top.specs.declared.words.Command.{Command}
-use Rattle.sat_top.specs.declared.words.Command.TheVariants.{Run}
+use Rattle.sat_top.specs.declared.words.Command.TheVariants.{Run, Plan, Help, Version}
 use Rattle.sat_top.specs.Words.{command_of}
 use Rattle.sat_top.specs.Runs.{history, run_text}
-use Rattle.sat_top.specs.Good.{IsGoodFront}
+use Rattle.sat_top.specs.Good.{IsGoodScript, IsGoodFront, IsBestPlan}
 
 -- this is the whole text of the source, where the source tells it
 abbrev pub IsTextOf : Option (List ℕ) → List ℕ → Type 0
@@ -21,15 +30,42 @@ IsTextOf left text = IfSome left (λ all. all ≡ text)
 abbrev pub refusal : List ℕ
 refusal = codes "words refused" ++ 10 ∷ []
 
+-- what the program says of itself
+abbrev pub help : List ℕ
+help = codes "saturn: causal order between sites that keep some items each\n\nusage: saturn COMMAND < INPUT\n\n  run        reads a script, and writes the report of its run\n  plan       reads a table of delays as JSON, and writes a tree of serializers\n  --help     writes this text\n  --version  writes the version\n"
+
+abbrev pub version : List ℕ
+version = codes "saturn 0.1.0\n"
+
+-- whether the words ask for the source to be read
+abbrev pub reads : Option Command → Bool
+reads (Some Run) = true
+reads (Some Plan) = true
+reads _ = false
+
+abbrev pub run_status : Option ScriptFault → ℕ
+run_status None = 0
+run_status (Some fault) = 1
+
+abbrev pub plan_status : Result DelayTable DelayFault → ℕ
+plan_status (Ok table) = 0
+plan_status (Err fault) = 1
+
 -- the status of a command over a text, where nothing fails
 abbrev pub command_status : Option Command → List ℕ → ℕ
 command_status None text = 2
-command_status (Some Run) text = if is_none (reading false text).fault then 0 else 1
+command_status (Some Run) text = run_status (reading false text).fault
+command_status (Some Plan) text = plan_status (delays_in text)
+command_status (Some Help) text = 0
+command_status (Some Version) text = 0
 
 -- and what it writes
 abbrev pub command_output : Option Command → List ℕ → List ℕ
 command_output None text = refusal
 command_output (Some Run) text = run_text (reading false text)
+command_output (Some Plan) text = plan_text text
+command_output (Some Help) text = help
+command_output (Some Version) text = version
 
 abbrev pub status_of : List (List ℕ) → List ℕ → ℕ
 status_of words text = command_status (command_of words) text
@@ -61,3 +97,55 @@ pub record HasFault (left : Option (List ℕ)) (old new : Told) : Type 0 where
   pub bad : IsSome (reading false text).fault
   pub written : Takes old new (run_text (reading false text))
   pub good : IsGoodFront text
+
+-- The source's text is a table of delays. The sink took the text of the tree that is built from it, with its places, delays and
+-- mismatch; no other delay of one edge, however great, gives a lower mismatch.
+pub record HasPlan (left : Option (List ℕ)) (old new : Told) : Type 0 where
+  pub text : List ℕ
+  pub whole : IsTextOf left text
+  pub table : DelayTable
+  pub read : delays_in text ≡ Ok table
+  pub written : Takes old new (config_text (built table) (mismatch table (built table)))
+  pub best : (e delay : ℕ) → mismatch table (built table) ≤ mismatch table (delayed (built table) e delay)
+
+-- The source's text is no table of delays. The sink took the line of its first fault.
+pub record HasDelayFault (left : Option (List ℕ)) (old new : Told) : Type 0 where
+  pub text : List ℕ
+  pub whole : IsTextOf left text
+  pub fault : DelayFault
+  pub bad : delays_in text ≡ Err fault
+  pub written : Takes old new (delay_fault_text fault)
+
+-- what was done with status 0
+abbrev pub IsDone : Option Command → Option (List ℕ) → Told → Told → Type 0
+IsDone (Some Run) left old new = HasRun left old new
+IsDone (Some Plan) left old new = HasPlan left old new
+IsDone (Some Help) left old new = Takes old new help
+IsDone (Some Version) left old new = Takes old new version
+IsDone None left old new = ⊥
+
+-- which input was refused with status 1
+abbrev pub IsRefused : Option Command → Option (List ℕ) → Told → Told → Type 0
+IsRefused (Some Run) left old new = HasFault left old new
+IsRefused (Some Plan) left old new = HasDelayFault left old new
+IsRefused _ left old new = ⊥
+
+-- what a status says of the text beside the output
+abbrev pub Proves : Option Command → ℕ → List ℕ → Type 0
+Proves (Some Run) status text = (status ≡ 0 → IsGoodScript text) × (status ≡ 1 → IsGoodFront text)
+Proves (Some Plan) status text = status ≡ 0 → IsBestPlan text
+Proves _ status text = Unit {0}
+
+-- what is to be written, and the status, are those of a command over the source's text
+pub record IsOutput (c : Option Command) (left : Option (List ℕ)) (text : List ℕ) (status : ℕ) : Type 0 where
+  pub input : List ℕ
+  pub whole : IsTextOf left input
+  pub output : text ≡ command_output c input
+  pub status_is : status ≡ command_status c input
+  pub proves : Proves c status input
+
+-- the output of a plan over a text
+pub record IsPlanned (input text : List ℕ) (status : ℕ) : Type 0 where
+  pub output : text ≡ plan_text input
+  pub status_is : status ≡ command_status (Some Plan) input
+  pub best : IsBestPlan input

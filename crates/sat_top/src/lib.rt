@@ -1,9 +1,10 @@
-//! The program: it reads a script, runs it and writes the report.
+//! The program: it reads a script, runs it and writes the report, or builds a tree of serializers from a table of delays.
 #![tactic(auto)]
 
 mod law;
 mod memory;
 mod output;
+mod planning;
 mod run;
 mod stream;
 mod top;

@@ -1,15 +1,15 @@
 //! What a command makes in memory, before anything is written.
-ghost use Rattle.std.specs.Prelude.{◌≡◌, ◌≤◌, ℕ, List, IfOk, IsErrOf, IsSome, Some, None, is_none, if◌then◌else◌, length, map, string_bytes};
+ghost use Rattle.std.specs.Prelude.{◌≡◌, ◌≤◌, ℕ, List, IfOk, IsErrOf, Some, true, false, length, map, string_bytes};
 ghost use Rattle.std.specs.Io.KnownBytes.{Consumes, IsAtEnd};
 ghost use Rattle.sat_outside.specs.Causes.{Rose};
 ghost use Rattle.sat_top.specs.declared.stream.Stop.TheVariants.{Memory};
-ghost use Rattle.sat_top.specs.Good.{IsGoodScript, IsGoodFront};
 ghost use Rattle.sat_top.specs.Words.{command_of};
-ghost use Rattle.sat_top.specs.Whole.{IsTextOf, refusal, command_status, command_output, status_of, output_of};
+ghost use Rattle.sat_top.specs.Whole.{refusal, reads, run_status, IsOutput};
 
 use crate::law::good_scripts;
+use crate::planning::plan_of;
 use crate::run::run_text;
-use crate::stream::{Stop, read_script};
+use crate::stream::{Stop, read_delay_text, read_script};
 use crate::words::{Command, command_of};
 use sat_laws::headline;
 use sat_outside::Source;
@@ -23,6 +23,12 @@ impl From<AllocError> for Stop {
         Stop::Memory
     }
 }
+
+// What the program says of itself.
+const HELP: &str =
+    "saturn: causal order between sites that keep some items each\n\nusage: saturn COMMAND < INPUT\n\n  run        reads a script, and writes the report of its run\n  plan       reads a table of delays as JSON, and writes a tree of serializers\n  --help     writes this text\n  --version  writes the version\n";
+
+const VERSION: &str = "saturn 0.1.0\n";
 
 /// What is to be written, and the status that says so.
 #[derive(Drop)]
@@ -40,16 +46,26 @@ fn refusal(alloc: Global) -> Result<Output, AllocError>
 }
 
 fn run_status(reading: &Reading) -> u8
-    ensures { result ≡ (if is_none reading.now.fault then 0 else 1) }
+    ensures { result ≡ run_status reading.now.fault }
 {
-    if reading.fault.is_none() { 0 } else { 1 }
+    match reading.fault {
+        None => 0,
+        Some(_) => 1,
+    }
+}
+
+// A text of the program's own, with status 0.
+fn told(alloc: Global, text: &str) -> Result<Output, AllocError>
+    ensures text { IfOk result (λ out. out.text.items ≡ text.now) }
+    ensures status { IfOk result (λ out. out.status ≡ 0) }
+{
+    let text = text.as_bytes().to_vec(alloc)?;
+    Ok(Output { text, status: 0 })
 }
 
 // Reads a script, runs it and makes its report.
 fn run<S: Source>(alloc: Global, source: &mut S) -> Result<Output, Stop>
-    ensures output { IfOk result (λ out. (text : List ℕ) × IsTextOf (S.left source.old) text
-        × (out.text.items ≡ command_output (Some Command.Run) text) × (out.status ≡ command_status (Some Command.Run) text)
-        × (out.status ≡ 0 → IsGoodScript text) × (out.status ≡ 1 → IsGoodFront text)) }
+    ensures output { IfOk result (λ out. IsOutput (Some Command.Run) (S.left source.old) out.text.items out.status) }
     ensures end { IfOk result (λ out. out.status ≡ 0 → IsAtEnd (S.left source.new)) }
     ensures bounded { (taken : List ℕ) × Consumes (S.left source.old) (S.left source.new) taken × (length taken ≤ BYTES_END) }
     ensures later { S.faults source.old ≤ S.faults source.new }
@@ -63,24 +79,44 @@ fn run<S: Source>(alloc: Global, source: &mut S) -> Result<Output, Stop>
     Ok(Output { text, status })
 }
 
+// Reads a table of delays, and makes the text of its tree.
+fn plan<S: Source>(alloc: Global, source: &mut S) -> Result<Output, Stop>
+    ensures output { IfOk result (λ out. IsOutput (Some Command.Plan) (S.left source.old) out.text.items out.status) }
+    ensures end { IfOk result (λ out. out.status ≡ 0 → IsAtEnd (S.left source.new)) }
+    ensures bounded { (taken : List ℕ) × Consumes (S.left source.old) (S.left source.new) taken × (length taken ≤ BYTES_END) }
+    ensures later { S.faults source.old ≤ S.faults source.new }
+    ensures failed { IsErrOf result Stop.Source → Rose (S.faults source.old) (S.faults source.new) }
+{
+    let text = read_delay_text(alloc, source)?;
+    let output = plan_of(alloc, &text)?;
+    Ok(output)
+}
+
 /// Does the command that the words say, and makes what is to be written.
 pub(crate) fn make_output<S: Source>(
     alloc: Global,
     words: &[String],
     source: &mut S,
 ) -> Result<Output, Stop>
-    ensures output { IfOk result (λ out. (text : List ℕ) × IsTextOf (S.left source.old) text
-        × (out.text.items ≡ output_of (map string_bytes words.now) text) × (out.status ≡ status_of (map string_bytes words.now) text)
-        × (out.status ≡ 0 → IsGoodScript text) × (out.status ≡ 1 → IsGoodFront text)) }
-    ensures end { IfOk result (λ out. out.status ≡ 0 → IsAtEnd (S.left source.new)) }
+    ensures output { IfOk result (λ out. IsOutput (command_of (map string_bytes words.now)) (S.left source.old) out.text.items out.status) }
+    ensures end { IfOk result (λ out. reads (command_of (map string_bytes words.now)) ≡ true → out.status ≡ 0 → IsAtEnd (S.left source.new)) }
     ensures bounded { (taken : List ℕ) × Consumes (S.left source.old) (S.left source.new) taken × (length taken ≤ BYTES_END) }
     ensures later { S.faults source.old ≤ S.faults source.new }
     ensures failed { IsErrOf result Stop.Source → Rose (S.faults source.old) (S.faults source.new) }
-    ensures unasked { command_of (map string_bytes words.now) ≡ None → source.new ≡ source.old }
-    ensures asked { IsErrOf result Stop.Source → IsSome (command_of (map string_bytes words.now)) }
+    ensures unasked { reads (command_of (map string_bytes words.now)) ≡ false → source.new ≡ source.old }
+    ensures asked { IsErrOf result Stop.Source → reads (command_of (map string_bytes words.now)) ≡ true }
 {
     match command_of(words) {
         Some(Command::Run) => run(alloc, source),
+        Some(Command::Plan) => plan(alloc, source),
+        Some(Command::Help) => {
+            let output = told(alloc, HELP)?;
+            Ok(output)
+        }
+        Some(Command::Version) => {
+            let output = told(alloc, VERSION)?;
+            Ok(output)
+        }
         None => {
             let output = refusal(alloc)?;
             Ok(output)

@@ -7,8 +7,10 @@ ghost use Rattle.sat_outside.specs.Causes.{Rose, HasCause};
 ghost use Rattle.sat_outside.specs.Streams.{Takes};
 ghost use Rattle.sat_script.specs.Spelled.{HaveNames};
 ghost use Rattle.sat_script.specs.Reading.{reading, AreBuiltActs};
+ghost use Rattle.sat_delay.specs.Reading.{reading as delays_in};
 ghost use Rattle.sat_top.specs.Whole.{IsTextOf, TakesFront};
 
+use sat_delay::MOST_BYTES;
 use sat_outside::{Failed, Sink, Source};
 use sat_script::{BYTES_END, Cause, MOST_ACTS, Reading, ScriptReader};
 use std::alloc::Global;
@@ -53,6 +55,26 @@ pub fn read_script<S: Source>(alloc: Global, source: &mut S) -> Result<Reading, 
         }
     }
     unreachable!()
+}
+
+/// Reads a text of delays: all that the source has, or more than such a text may have.
+pub fn read_delay_text<S: Source>(alloc: Global, source: &mut S) -> Result<Vec<u8>, Stop>
+    ensures text { IfOk result (λ found. (text : List ℕ) × IsTextOf (S.left source.old) text × (delays_in text ≡ delays_in found.items)) }
+    ensures end { IfOk result (λ found. length found.items ≤ MOST_BYTES → IsAtEnd (S.left source.new)) }
+    ensures bounded { (taken : List ℕ) × Consumes (S.left source.old) (S.left source.new) taken × (length taken ≤ BYTES_END) }
+    ensures later { S.faults source.old ≤ S.faults source.new }
+    ensures failed { IsErrOf result Stop.Source → Rose (S.faults source.old) (S.faults source.new) }
+{
+    let mut text = Vec::new(alloc);
+    let mut buffer = [0u8; BUFFER_BYTES];
+    while text.len() <= MOST_BYTES {
+        match source.read(&mut buffer) {
+            Err(_) => return Err(Stop::Source),
+            Ok(0) => return Ok(text),
+            Ok(count) => text.extend_from_slice(&buffer[..count])?,
+        }
+    }
+    Ok(text)
 }
 
 /// Writes the whole text, or a front of it.

@@ -1,8 +1,12 @@
 use Rattle.sat_top.proofs.Faults.{has_fault}
 use Rattle.std.proofs.Common.{rules, arith, take, ◌+◌}
 use Rattle.sat_script.specs.Stream.{will_be}
-use Rattle.sat_top.proofs.Progress.{read_more, read_bounded, read_enough}
+use Rattle.sat_top.proofs.Progress.{read_start, read_more, read_bounded, read_enough}
 use Rattle.sat_top.proofs.stream.read_script.Goals as goal
+
+pub loop-taken-init : goal.loop-taken-init
+loop-taken-init g c =
+    (c.new-reader.ensures.fresh, omega arith, read_start (g.S.Source.left c.args.source.now) (will_be c.new-reader.result) c.new-reader.ensures.script, omega arith, omega (arith, c.new-reader.ensures.counted))
 
 pub loop-taken-preserved : goal.loop-taken-preserved
 loop-taken-preserved g c =

@@ -1,0 +1,89 @@
+-- What the statuses of the commands say, once the output is written.
+use Rattle.std.proofs.Common.{◌≡◌, ℕ, zero, suc, false, List, Option, Some, None, Result, Ok, Err, IsSome, refl, sym, ap, subst, ◌∙◌}
+use Rattle.sat_outside.specs.Streams.{Told, Takes}
+use Rattle.sat_script.specs.Reading.{reading}
+use Rattle.sat_script.specs.declared.fault.ScriptFault.{ScriptFault}
+use Rattle.sat_delay.specs.declared.fault.DelayFault.{DelayFault}
+use Rattle.sat_delay.specs.Table.{DelayTable}
+use Rattle.sat_delay.specs.Reading.{reading as delays_in}
+use Rattle.sat_plan.specs.Texts.{plan_text, result_text}
+use Rattle.sat_top.specs.declared.words.Command.{Command}
+use Rattle.sat_top.specs.declared.words.Command.TheVariants.{Run, Plan, Help, Version}
+use Rattle.sat_top.specs.Good.{IsGoodScript}
+use Rattle.sat_top.specs.Whole.{IsDone, IsRefused, IsOutput, HasRun, HasFault, HasPlan, HasDelayFault, command_output, plan_status, run_status}
+
+written : (c : Option Command) (left : Option (List ℕ)) (text : List ℕ) (status : ℕ) (old new : Told) (o : IsOutput c left text status) → Takes old new text → Takes old new (command_output c o.input)
+written c left text status old new o took = subst (λ (bytes : List ℕ). Takes old new bytes) o.output took
+
+never : zero ≡ suc zero → ⊥
+never e = cc
+
+plan-text : (input : List ℕ) (r : Result DelayTable DelayFault) → delays_in input ≡ r → plan_text input ≡ result_text r
+unfolding plan_text
+plan-text input r is = ap result_text is
+
+run-done : (left : Option (List ℕ)) (text : List ℕ) (old new : Told) (o : IsOutput (Some Run) left text 0) → Takes old new text → HasRun left old new
+run-done left text old new o took =
+    let good : IsGoodScript o.input = o.proves.0 refl in record {
+      text = o.input;
+      whole = o.whole;
+      deployment = good.deployment;
+      acts = good.acts;
+      spelled = good.spelled;
+      written = subst (λ (bytes : List ℕ). Takes old new bytes) (o.output ∙ good.written) took;
+      good = good.good;
+    }
+
+plan-done : (left : Option (List ℕ)) (text : List ℕ) (old new : Told) (o : IsOutput (Some Plan) left text 0) → Takes old new text → HasPlan left old new
+plan-done left text old new o took = go (delays_in o.input) refl
+  where
+    go : (r : Result DelayTable DelayFault) → delays_in o.input ≡ r → HasPlan left old new
+    go (Ok d) is = record {
+      text = o.input;
+      whole = o.whole;
+      table = d;
+      read = is;
+      written = subst (λ (bytes : List ℕ). Takes old new bytes) (o.output ∙ plan-text o.input (Ok d) is) took;
+      best = o.proves refl d is;
+    }
+    go (Err fault) is = absurd (never (o.status_is ∙ ap plan_status is))
+
+run-refused : (left : Option (List ℕ)) (text : List ℕ) (old new : Told) (o : IsOutput (Some Run) left text 1) → Takes old new text → HasFault left old new
+run-refused left text old new o took = record {
+  text = o.input;
+  whole = o.whole;
+  bad = go (reading false o.input).fault o.status_is;
+  written = written (Some Run) left text 1 old new o took;
+  good = o.proves.1 refl;
+}
+  where
+    go : (fault : Option ScriptFault) → 1 ≡ run_status fault → IsSome fault
+    go None e = absurd (never (sym e))
+    go (Some fault) e = refl
+
+plan-refused : (left : Option (List ℕ)) (text : List ℕ) (old new : Told) (o : IsOutput (Some Plan) left text 1) → Takes old new text → HasDelayFault left old new
+plan-refused left text old new o took = go (delays_in o.input) refl
+  where
+    go : (r : Result DelayTable DelayFault) → delays_in o.input ≡ r → HasDelayFault left old new
+    go (Err fault) is = record {
+      text = o.input;
+      whole = o.whole;
+      fault = fault;
+      bad = is;
+      written = subst (λ (bytes : List ℕ). Takes old new bytes) (o.output ∙ plan-text o.input (Err fault) is) took;
+    }
+    go (Ok d) is = absurd (never (sym (o.status_is ∙ ap plan_status is)))
+
+pub is_done : (c : Option Command) (left : Option (List ℕ)) (text : List ℕ) (status : ℕ) (old new : Told) → IsOutput c left text status → Takes old new text → status ≡ 0 → IsDone c left old new
+is_done (Some Run) left text status old new o took is-zero = run-done left text old new (subst (λ (n : ℕ). IsOutput (Some Run) left text n) is-zero o) took
+is_done (Some Plan) left text status old new o took is-zero = plan-done left text old new (subst (λ (n : ℕ). IsOutput (Some Plan) left text n) is-zero o) took
+is_done (Some Help) left text status old new o took is-zero = written (Some Help) left text status old new o took
+is_done (Some Version) left text status old new o took is-zero = written (Some Version) left text status old new o took
+is_done None left text status old new o took is-zero = absurd (let e : status ≡ 2 = o.status_is in cc)
+
+pub is_refused : (c : Option Command) (left : Option (List ℕ)) (text : List ℕ) (status : ℕ) (old new : Told) → IsOutput c left text status → Takes old new text → status ≡ 1 → IsRefused c left old new
+is_refused (Some Run) left text status old new o took is-one = run-refused left text old new (subst (λ (n : ℕ). IsOutput (Some Run) left text n) is-one o) took
+is_refused (Some Plan) left text status old new o took is-one = plan-refused left text old new (subst (λ (n : ℕ). IsOutput (Some Plan) left text n) is-one o) took
+is_refused (Some Help) left text status old new o took is-one = absurd (let e : status ≡ 0 = o.status_is in cc)
+is_refused (Some Version) left text status old new o took is-one = absurd (let e : status ≡ 0 = o.status_is in cc)
+is_refused None left text status old new o took is-one = absurd (let e : status ≡ 2 = o.status_is in cc)
