@@ -1,0 +1,3 @@
+pub mod Rises
+pub mod Tells
+pub mod WorkedCuts
