@@ -3,20 +3,11 @@ use Rattle.std.specs.Prelude.{◌≡◌, ◌<◌, ◌+◌, ℕ, zero, suc, Bool,
 use Rattle.std.proofs.Common.{arith, ap, subst, sym, ◌∙◌, inl, inr, zero-add, ◌⊎◌}
 use Rattle.std.proofs.Math.Nat.{eq-or-lt_of_le}
 use Rattle.std.proofs.lemmas.Option.{slice_get-get_or}
-use Rattle.std.proofs.lemmas.List.{take_more, map-append, map-set, set-get_or, get_or-set_same, get_or-set_other, length-map, length-set, append-nil, append_assoc, same_lists, get_or_default, length-append}
+use Rattle.std.proofs.lemmas.List.{take_more, map-append, map-set, set-get_or, get_or-map, get_or-set_same, get_or-set_other, length-map, length-set, append-nil, append_assoc, same_lists, get_or_default, length-append}
 use Rattle.std.specs.List.{AllWithin}
 use Rattle.std.specs.Option.{option_to_list}
+use Rattle.sat_label.proofs.Numbers.{get-front}
 use Rattle.sat_gear.specs.Lanes.{Laid, places_in, count_of, lanes_where, numbers_where, picked, AllBelow, HasRoom, Spread}
-
-pub places-get : (qs : List Laid) (n : ℕ) (d : Laid) → n < length qs → (get_or qs n d).places ≡ get_or (map places_in qs) n []
-places-get [] n d w = absurd (omega arith)
-places-get (x ∷ qs) zero d w = refl
-places-get (x ∷ qs) (suc n) d w = places-get qs n d (omega arith)
-
--- a lane that keeps its places
-pub same-places : (lanes : List Laid) (i : ℕ) (q r : Laid) → i < length lanes → r.places ≡ (get_or lanes i q).places → map places_in (set lanes i r) ≡ map places_in lanes
-same-places lanes i q r h k =
-    map-set places_in lanes i r ∙ (ap (λ (ns : List ℕ). set (map places_in lanes) i ns) (k ∙ places-get lanes i q h) ∙ set-get_or (map places_in lanes) i [])
 
 -- ---- a place put into the lanes of some sites
 
@@ -39,7 +30,7 @@ spread-set test place i old now lane h s e = record {
 pub spread-more : (test : ℕ → Bool) (place i : ℕ) (old : List (List ℕ)) (lanes : List Laid) (q r : Laid) → i < length lanes → Spread test place i old (map places_in lanes) →
     test i ≡ true → r.places ≡ (get_or lanes i q).places ++ place ∷ [] → Spread test place (i + 1) old (map places_in (set lanes i r))
 spread-more test place i old lanes q r h s passes e =
-    let was : (get_or lanes i q).places ≡ get_or old i [] = places-get lanes i q h ∙ s.after i (λ low. absurd (omega arith)) in
+    let was : (get_or lanes i q).places ≡ get_or old i [] = sym (get_or-map places_in lanes i q [] h) ∙ s.after i (λ low. absurd (omega arith)) in
     subst (λ (now : List (List ℕ)). Spread test place (i + 1) old now) (sym (map-set places_in lanes i r))
     (spread-set test place i old (map places_in lanes) r.places (subst (λ (n : ℕ). i < n) (sym (length-map lanes places_in)) h) s
     (e ∙ (ap (λ (ns : List ℕ). ns ++ place ∷ []) was ∙ sym (ap (λ (b : Bool). if b then get_or old i [] ++ place ∷ [] else get_or old i []) passes))))
@@ -117,11 +108,6 @@ room-left lanes i room k d low high = room k d (omega arith) high
 
 -- ---- members by their places
 
-pub slice-left : {X : Type 0} (xs ys : List X) (n : ℕ) → n < length xs → slice_get (xs ++ ys) n ≡ slice_get xs n
-slice-left [] ys n h = absurd (omega arith)
-slice-left (x ∷ xs) ys zero h = refl
-slice-left (x ∷ xs) ys (suc n) h = slice-left xs ys n (omega arith)
-
 pub slice-end : {X : Type 0} (xs : List X) (x : X) → slice_get (xs ++ x ∷ []) (length xs) ≡ Some x
 slice-end [] x = refl
 slice-end (y ∷ xs) x = slice-end xs x
@@ -151,7 +137,7 @@ pub picked-within : {X : Type 0} (made : List X) (x : X) (ns : List ℕ) → Are
 picked-within made x [] within = refl
 picked-within {X} made x (n ∷ ns) within =
     let low : n < length made = within 0 n refl in
-    ap (λ (o : Option X). option_to_list o ++ picked (made ++ x ∷ []) ns) (slice-left made (x ∷ []) n low)
+    ap (λ (o : Option X). option_to_list o ++ picked (made ++ x ∷ []) ns) (get-front made (x ∷ []) n low)
     ∙ ap (λ (xs : List X). option_to_list (slice_get made n) ++ xs) (picked-within made x ns (λ k place at. within (suc k) place at))
 
 picked-append : {X : Type 0} (made : List X) (ms ns : List ℕ) → picked made (ms ++ ns) ≡ picked made ms ++ picked made ns
@@ -333,7 +319,7 @@ at-none {X} made places view j i is below none =
 
 -- the places of the lane at a place
 pub laid-at : (lanes : List Laid) (j i : ℕ) (q : Laid) → j < length lanes → q ≡ get_or lanes j q → slice_get (get_or (map places_in lanes) j []) i ≡ slice_get q.places i
-laid-at lanes j i q low is = ap (λ (ns : List ℕ). slice_get ns i) (sym (places-get lanes j q low)) ∙ ap (λ (l : Laid). slice_get l.places i) (sym is)
+laid-at lanes j i q low is = ap (λ (ns : List ℕ). slice_get ns i) (get_or-map places_in lanes j q [] low) ∙ ap (λ (l : Laid). slice_get l.places i) (sym is)
 
 pub member : {X : Type 0} (made : List X) (place : ℕ) (x : X) → place < length made → x ≡ get_or made place x → slice_get made place ≡ Some x
 member {X} made place x low is = slice_get-get_or made place x low ∙ ap (λ (y : X). Some y) (sym is)

@@ -5,6 +5,7 @@ use Rattle.std.proofs.lemmas.List.{append-nil}
 use Rattle.sat_label.specs.declared.label.Label.{Label}
 use Rattle.sat_label.specs.Order.{point_lt, label_eq}
 use Rattle.sat_bulk.specs.Drains.{In, Rises}
+use Rattle.sat_bulk.proofs.Members.{in-parts}
 use Rattle.sat_sink.specs.Pending.{all_of, joined, without}
 
 -- ---- members
@@ -17,11 +18,6 @@ In-left (y ∷ xs) ys x (inr i) = inr (In-left xs ys x i)
 pub In-right : (xs ys : List Label) (x : Label) → In ys x → In (xs ++ ys) x
 In-right [] ys x i = i
 In-right (y ∷ xs) ys x i = inr (In-right xs ys x i)
-
-pub In-parts : (xs ys : List Label) (x : Label) → In (xs ++ ys) x → In xs x ⊎ In ys x
-In-parts [] ys x i = inr i
-In-parts (y ∷ xs) ys x (inl e) = inl (inl e)
-In-parts (y ∷ xs) ys x (inr i) = elim (In-parts xs ys x i) [ inl a ↦ inl (inr a) | inr b ↦ inr b ]
 
 In-cond : (p : Label → Bool) (y x : Label) (ys xs : List Label) (b : Bool) → p y ≡ b → (In ys x → In xs x × (p x ≡ true)) → In (cond b (y ∷ ys) ys) x → In (y ∷ xs) x × (p x ≡ true)
 In-cond p y x ys xs true e rest (inl k) = (inl k, ap p (sym k) ∙ e)
@@ -46,7 +42,7 @@ pub record Place (queues : List (List Label)) (l : Label) : Type 0 where
 pub In-all : (queues : List (List Label)) (l : Label) → In (all_of queues) l → Place queues l
 In-all [] l i = absurd i
 In-all (q ∷ queues) l i =
-    elim (In-parts q (all_of queues) l i) [
+    elim (in-parts q (all_of queues) l i) [
       | inl a ↦ record { gear = 0; within = omega arith; there = a }
       | inr b ↦ (let k : Place queues l = In-all queues l b in record { gear = suc k.gear; within = let w : k.gear < length queues = k.within in omega arith; there = k.there })
     ]
@@ -57,10 +53,6 @@ all-In (q ∷ queues) zero l i = In-left q (all_of queues) l i
 all-In (q ∷ queues) (suc g) l i = In-right q (all_of queues) l (all-In queues g l i)
 
 -- ---- rising
-
-pub rises-append : (xs ys : List Label) → Rises xs → Rises ys → ((x y : Label) → In xs x → In ys y → point_lt x.point y.point ≡ true) → Rises (xs ++ ys)
-rises-append [] ys r s f = s
-rises-append (x ∷ xs) ys r s f = (λ m i. elim (In-parts xs ys m i) [ inl a ↦ r.0 m a | inr b ↦ f x m (inl refl) b ], rises-append xs ys r.1 s (λ z y i j. f z y (inr i) j))
 
 rises-cond : (p : Label → Bool) (x : Label) (xs : List Label) (b : Bool) → ((m : Label) → In xs m → point_lt x.point m.point ≡ true) → Rises (filter p xs) → Rises (cond b (x ∷ filter p xs) (filter p xs))
 rises-cond p x xs true f r = (λ m i. f m (In-filter p xs m i).0, r)

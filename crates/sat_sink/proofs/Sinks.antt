@@ -9,11 +9,12 @@ use Rattle.sat_label.specs.declared.label.Label.{Label}
 use Rattle.sat_label.specs.Order.{point_at, point_lt, point_le, mark, greater_point, label_lt, label_eq}
 use Rattle.sat_bulk.specs.declared.Drained.{Drained}
 use Rattle.sat_bulk.specs.Drains.{In, IsNew, Rises}
+use Rattle.sat_bulk.proofs.Members.{in-parts, rises-both}
 use Rattle.sat_sink.specs.Pending.{least, is_up_to, all_of, without, joined, labels_of, promise_of}
 use Rattle.sat_sink.specs.Sink.{Sink, stable_of, ready_of, cut_of, gathered, emitted, pulsed, closed, IsDrainOf, IsDrain, IsPending, IsQueue, IsSink, AllAbove}
 use Rattle.sat_sink.proofs.Labels.{point_lt-le, point_le-self, point_le-trans, point_le_lt-trans, ts-lt, lt-ts, le-mark, marks-le, mark-lt, apart, lt-not_eq, gears-not_eq, le-greater_left, le-greater_right, of-greater, labels-lt, points-not_lt, labels-differ, label_eq-self}
 use Rattle.sat_sink.proofs.Leasts.{IsLeast, least-is, none-passes, least-each, least-above}
-use Rattle.sat_sink.proofs.Queues.{In-parts, In-filter, filter-all, Place, In-all, all-In, rises-append, rises-filter, length-joined, joined-get, without-get}
+use Rattle.sat_sink.proofs.Queues.{In-filter, filter-all, Place, In-all, all-In, rises-filter, length-joined, joined-get, without-get}
 
 -- ---- tests
 
@@ -318,8 +319,8 @@ gathered-is s ds k r =
         let f : IsFresh s g (get_or (map promise_of ds) g 0) (get_or (map labels_of ds) g []) = fresh-is s ds r g h in
         let q : IsQueue s g (get_or s.pending g []) = k.queues g h in
         subst (IsQueue (gathered s ds) g) (sym (joined-get s.pending (map labels_of ds) g (omega (arith, k.rows)))) (record {
-          rises = rises-append (get_or s.pending g []) (get_or (map labels_of ds) g []) q.rises f.rises (λ x y i j. ts-lt x.point y.point (omega (arith, (q.labels x i).new.upto, (f.labels y j).above)));
-          labels = λ l i. elim (In-parts (get_or s.pending g []) (get_or (map labels_of ds) g []) l i) [
+          rises = rises-both (get_or s.pending g []) (get_or (map labels_of ds) g []) q.rises f.rises (λ x y i j. ts-lt x.point y.point (omega (arith, (q.labels x i).new.upto, (f.labels y j).above)));
+          labels = λ l i. elim (in-parts (get_or s.pending g []) (get_or (map labels_of ds) g []) l i) [
             | inl a ↦ old g h l (q.labels l a)
             | inr b ↦ new g h l (f.labels l b)
           ];
@@ -330,7 +331,7 @@ after-gather : (s : Sink) (ds : List Drained) → IsSink s → IsDrain s ds → 
 after-gather s ds k r m i =
     let at : Place (joined s.pending (map labels_of ds)) m = In-all (joined s.pending (map labels_of ds)) m i in
     let h : at.gear < length s.promises = omega (arith, at.within, length-joined s.pending (map labels_of ds), k.rows) in
-    elim (In-parts (get_or s.pending at.gear []) (get_or (map labels_of ds) at.gear []) m (subst (λ (ls : List Label). In ls m) (joined-get s.pending (map labels_of ds) at.gear (omega (arith, k.rows))) at.there)) [
+    elim (in-parts (get_or s.pending at.gear []) (get_or (map labels_of ds) at.gear []) m (subst (λ (ls : List Label). In ls m) (joined-get s.pending (map labels_of ds) at.gear (omega (arith, k.rows))) at.there)) [
       | inl a ↦ inl (all-In s.pending at.gear m a)
       | inr b ↦ inr (omega (arith, ((fresh-is s ds r at.gear h).labels m b).above, least-each s.promises at.gear h))
     ]

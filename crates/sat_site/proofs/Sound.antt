@@ -12,6 +12,7 @@ use Rattle.sat_label.specs.Order.{label_eq}
 use Rattle.sat_bulk.specs.declared.Drained.{Drained}
 use Rattle.sat_bulk.specs.declared.Payload.{Payload}
 use Rattle.sat_bulk.specs.Drains.{In, IsNew}
+use Rattle.sat_bulk.proofs.Members.{in-parts}
 use Rattle.sat_sites.specs.declared.shape.Shape.{Shape}
 use Rattle.sat_sites.specs.Interested.{IsLabelOf, IsKindOf, keeps}
 use Rattle.sat_store.specs.declared.store.Version.{Version}
@@ -20,7 +21,7 @@ use Rattle.sat_gear.specs.Gear.{GearSeen, IsGear, ticked, wrote, shown, stamped,
 use Rattle.sat_sink.specs.Pending.{labels_of, promise_of, is_up_to, all_of}
 use Rattle.sat_sink.specs.Sink.{Sink, IsDrain, IsDrainOf, gathered, ready_of, stable_of}
 use Rattle.sat_sink.proofs.Leasts.{IsLeast, least-is}
-use Rattle.sat_sink.proofs.Queues.{In-parts, In-filter, In-all, Place, joined-get, length-joined, without-get}
+use Rattle.sat_sink.proofs.Queues.{In-filter, In-all, Place, joined-get, length-joined, without-get}
 use Rattle.sat_site.specs.Seen.{SiteSeen, IsSite, IsGearAt, IsGuest, IsUpdateHere, lane_place}
 use Rattle.sat_site.specs.Changes.{with_gear, gathered_all, sent, showed, brought, clocked, ticked_to, AreGears, HasGear}
 use Rattle.sat_site.proofs.Lists.{set-cases, map-cases, Mapped, get-within}
@@ -85,7 +86,7 @@ wrote-gear shape sink g n gear seen value good a item e here = record {
   shape = a.shape;
   number = a.number;
   gathered = a.gathered;
-  fresh = λ l i. elim (In-parts gear.fresh (stamped gear seen (Update n) ∷ []) l i) [
+  fresh = λ l i. elim (in-parts gear.fresh (stamped gear seen (Update n) ∷ []) l i) [
     | inl old ↦ a.fresh l old
     | inr new ↦ elim new [
       | inl w ↦ subst (IsUpdateHere shape) w (record { site = (λ j. (a.shape j).site); item = (n, refl, item) })
@@ -159,7 +160,7 @@ gathered-site x k = record {
         number = a.number;
         gathered = promise-at x.gears g w.old w.at;
         fresh = λ l i. absurd i;
-        pending = λ l i. elim (In-parts (get_or x.sink.pending g []) (get_or (map labels_of (map drained_of x.gears)) g []) l (subst (λ (ls : List Label). In ls l) (joined-get x.sink.pending (map labels_of (map drained_of x.gears)) g lt) i)) [
+        pending = λ l i. elim (in-parts (get_or x.sink.pending g []) (get_or (map labels_of (map drained_of x.gears)) g []) l (subst (λ (ls : List Label). In ls l) (joined-get x.sink.pending (map labels_of (map drained_of x.gears)) g lt) i)) [
           | inl old ↦ a.pending l old
           | inr new ↦ a.fresh l (subst (λ (ls : List Label). In ls l) (labels-at x.gears g w.old w.at) new)
         ];
