@@ -81,6 +81,21 @@ fn a_thousand_through_two_threads(rt: HostRuntime) -> Result<(), Fail> {
 }
 
 #[test]
+fn acknowledged(rt: HostRuntime) -> Result<(), Fail> {
+    let (mut input, mut output) = link::<u32>(rt.alloc(), 2)?;
+    assert_eq!(rt; input.push(&rt, 1), Ok(()));
+    assert_eq!(rt; input.push(&rt, 2), Ok(()));
+    assert_eq!(rt; input.push(&rt, 3), Err(3));
+    assert_eq!(rt; output.pop(&rt), Some(1));
+    input.read(output.acknowledge());
+    assert_eq!(rt; input.push(&rt, 3), Ok(()));
+    assert_eq!(rt; output.pop(&rt), Some(2));
+    assert_eq!(rt; output.pop(&rt), Some(3));
+    assert_eq!(rt; output.pop(&rt), None);
+    Ok(())
+}
+
+#[test]
 fn notes(rt: HostRuntime) -> Result<(), Fail> {
     let (mut input, mut output) = link::<u32>(rt.alloc(), 2)?;
     assert_eq!(rt; output.pop(&rt), None);
