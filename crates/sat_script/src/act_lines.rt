@@ -24,9 +24,7 @@ fn site_in(place: &Place, form: Form, site: &[u8]) -> Result<u16, Cause>
     if !is_number(site) {
         return Err(Cause::BadAct);
     }
-    if let Some(cause) = place.bar(form) {
-        return Err(cause);
-    }
+    place.admit(form)?;
     number_below(place.header().sites(), site).ok_or(Cause::OutOfRange)
 }
 
@@ -37,12 +35,8 @@ fn leave_line(place: &Place, client: &[u8]) -> Result<Parsed, Cause>
     if !is_name(client) {
         return Err(Cause::BadAct);
     }
-    if let Some(cause) = place.bar(Form::Leave) {
-        return Err(cause);
-    }
-    let Some(client) = place.header().client_of(client) else {
-        return Err(Cause::UnknownName);
-    };
+    place.admit(Form::Leave)?;
+    let client = place.header().client_of(client).ok_or(Cause::UnknownName)?;
     Ok(Parsed::Act(Act::Leave { client }))
 }
 
@@ -53,15 +47,9 @@ fn read_line(place: &Place, client: &[u8], item: &[u8]) -> Result<Parsed, Cause>
     if !(is_name(client) && is_name(item)) {
         return Err(Cause::BadAct);
     }
-    if let Some(cause) = place.bar(Form::Read) {
-        return Err(cause);
-    }
-    let Some(client) = place.header().client_of(client) else {
-        return Err(Cause::UnknownName);
-    };
-    let Some(item) = place.header().item_of(item) else {
-        return Err(Cause::UnknownName);
-    };
+    place.admit(Form::Read)?;
+    let client = place.header().client_of(client).ok_or(Cause::UnknownName)?;
+    let item = place.header().item_of(item).ok_or(Cause::UnknownName)?;
     Ok(Parsed::Act(Act::Read { client, item }))
 }
 
@@ -78,15 +66,9 @@ fn client_site_in(
     if !(is_name(client) && is_number(site)) {
         return Err(Cause::BadAct);
     }
-    if let Some(cause) = place.bar(form) {
-        return Err(cause);
-    }
-    let Some(client) = place.header().client_of(client) else {
-        return Err(Cause::UnknownName);
-    };
-    let Some(site) = number_below(place.header().sites(), site) else {
-        return Err(Cause::OutOfRange);
-    };
+    place.admit(form)?;
+    let client = place.header().client_of(client).ok_or(Cause::UnknownName)?;
+    let site = number_below(place.header().sites(), site).ok_or(Cause::OutOfRange)?;
     Ok((client, site))
 }
 
@@ -97,15 +79,9 @@ fn beat_line(place: &Place, from: &[u8], to: &[u8]) -> Result<Parsed, Cause>
     if !(is_number(from) && is_number(to)) {
         return Err(Cause::BadAct);
     }
-    if let Some(cause) = place.bar(Form::Beat) {
-        return Err(cause);
-    }
-    let Some(from) = number_below(place.header().sites(), from) else {
-        return Err(Cause::OutOfRange);
-    };
-    let Some(to) = number_below(place.header().sites(), to) else {
-        return Err(Cause::OutOfRange);
-    };
+    place.admit(Form::Beat)?;
+    let from = number_below(place.header().sites(), from).ok_or(Cause::OutOfRange)?;
+    let to = number_below(place.header().sites(), to).ok_or(Cause::OutOfRange)?;
     if from == to {
         return Err(Cause::OutOfRange);
     }
@@ -128,12 +104,8 @@ fn tree_at(place: &Place, epoch: u16) -> Option<&Tree>
 fn kill_in(tree: Option<&Tree>, epoch: u16, serializer: &[u8]) -> Result<Parsed, Cause>
     ensures { Gives result (kill_in (option_copied tree.entry) epoch serializer.now) }
 {
-    let Some(tree) = tree else {
-        return Err(Cause::NoEdge);
-    };
-    let Some(serializer) = serializer_in(tree, serializer) else {
-        return Err(Cause::OutOfRange);
-    };
+    let tree = tree.ok_or(Cause::NoEdge)?;
+    let serializer = serializer_in(tree, serializer).ok_or(Cause::OutOfRange)?;
     Ok(Parsed::Act(Act::Kill { epoch, serializer }))
 }
 
@@ -144,12 +116,8 @@ fn kill_line(place: &Place, epoch: &[u8], serializer: &[u8]) -> Result<Parsed, C
     if !(is_number(epoch) && is_serializer(serializer)) {
         return Err(Cause::BadAct);
     }
-    if let Some(cause) = place.bar(Form::Kill) {
-        return Err(cause);
-    }
-    let Some(epoch) = number_to(place.header().plans(), epoch) else {
-        return Err(Cause::OutOfRange);
-    };
+    place.admit(Form::Kill)?;
+    let epoch = number_to(place.header().plans(), epoch).ok_or(Cause::OutOfRange)?;
     kill_in(tree_at(place, epoch), epoch, serializer)
 }
 
@@ -166,15 +134,9 @@ fn write_line(
     if !(is_name(client) && is_name(item) && is_token(value)) {
         return Err(Cause::BadAct);
     }
-    if let Some(cause) = place.bar(Form::Write) {
-        return Err(cause);
-    }
-    let Some(client) = place.header().client_of(client) else {
-        return Err(Cause::UnknownName);
-    };
-    let Some(item) = place.header().item_of(item) else {
-        return Err(Cause::UnknownName);
-    };
+    place.admit(Form::Write)?;
+    let client = place.header().client_of(client).ok_or(Cause::UnknownName)?;
+    let item = place.header().item_of(item).ok_or(Cause::UnknownName)?;
     match Value::of(alloc, value) {
         Ok(Some(value)) => Ok(Parsed::Act(Act::Write {
             client,
@@ -193,18 +155,10 @@ fn tick_line(place: &Place, site: &[u8], gear: &[u8], ts: &[u8]) -> Result<Parse
     if !(is_number(site) && is_number(gear) && is_number(ts)) {
         return Err(Cause::BadAct);
     }
-    if let Some(cause) = place.bar(Form::Tick) {
-        return Err(cause);
-    }
-    let Some(site) = number_below(place.header().sites(), site) else {
-        return Err(Cause::OutOfRange);
-    };
-    let Some(gear) = number_below(place.header().gears(), gear) else {
-        return Err(Cause::OutOfRange);
-    };
-    let Some(ts) = number_up_to(TS_END, ts) else {
-        return Err(Cause::OutOfRange);
-    };
+    place.admit(Form::Tick)?;
+    let site = number_below(place.header().sites(), site).ok_or(Cause::OutOfRange)?;
+    let gear = number_below(place.header().gears(), gear).ok_or(Cause::OutOfRange)?;
+    let ts = number_up_to(TS_END, ts).ok_or(Cause::OutOfRange)?;
     Ok(Parsed::Act(Act::Tick { site, gear, ts }))
 }
 
@@ -212,15 +166,9 @@ fn tick_line(place: &Place, site: &[u8], gear: &[u8], ts: &[u8]) -> Result<Parse
 fn hop_in(tree: Option<&Tree>, epoch: u16, from: &[u8], to: &[u8]) -> Result<Parsed, Cause>
     ensures { Gives result (hop_in (option_copied tree.entry) epoch from.now to.now) }
 {
-    let Some(tree) = tree else {
-        return Err(Cause::NoEdge);
-    };
-    let Some(from) = node_in(tree, from) else {
-        return Err(Cause::OutOfRange);
-    };
-    let Some(to) = serializer_in(tree, to) else {
-        return Err(Cause::OutOfRange);
-    };
+    let tree = tree.ok_or(Cause::NoEdge)?;
+    let from = node_in(tree, from).ok_or(Cause::OutOfRange)?;
+    let to = serializer_in(tree, to).ok_or(Cause::OutOfRange)?;
     if !tree.is_edge(from, NodeId::Serializer(to)) {
         return Err(Cause::NoEdge);
     }
@@ -234,12 +182,8 @@ fn hop_line(place: &Place, epoch: &[u8], from: &[u8], to: &[u8]) -> Result<Parse
     if !(is_number(epoch) && is_node(from) && is_serializer(to)) {
         return Err(Cause::BadAct);
     }
-    if let Some(cause) = place.bar(Form::Hop) {
-        return Err(cause);
-    }
-    let Some(epoch) = number_to(place.header().plans(), epoch) else {
-        return Err(Cause::OutOfRange);
-    };
+    place.admit(Form::Hop)?;
+    let epoch = number_to(place.header().plans(), epoch).ok_or(Cause::OutOfRange)?;
     hop_in(tree_at(place, epoch), epoch, from, to)
 }
 
@@ -250,18 +194,10 @@ fn bulk_line(place: &Place, from: &[u8], gear: &[u8], to: &[u8]) -> Result<Parse
     if !(is_number(from) && is_number(gear) && is_number(to)) {
         return Err(Cause::BadAct);
     }
-    if let Some(cause) = place.bar(Form::Bulk) {
-        return Err(cause);
-    }
-    let Some(from) = number_below(place.header().sites(), from) else {
-        return Err(Cause::OutOfRange);
-    };
-    let Some(gear) = number_below(place.header().gears(), gear) else {
-        return Err(Cause::OutOfRange);
-    };
-    let Some(to) = number_below(place.header().sites(), to) else {
-        return Err(Cause::OutOfRange);
-    };
+    place.admit(Form::Bulk)?;
+    let from = number_below(place.header().sites(), from).ok_or(Cause::OutOfRange)?;
+    let gear = number_below(place.header().gears(), gear).ok_or(Cause::OutOfRange)?;
+    let to = number_below(place.header().sites(), to).ok_or(Cause::OutOfRange)?;
     if from == to {
         return Err(Cause::OutOfRange);
     }
@@ -280,18 +216,10 @@ fn beat_in_line(place: &Place, from: &[u8], to: &[u8], number: &[u8]) -> Result<
     if !(is_number(from) && is_number(to) && is_number(number)) {
         return Err(Cause::BadAct);
     }
-    if let Some(cause) = place.bar(Form::BeatIn) {
-        return Err(cause);
-    }
-    let Some(from) = number_below(place.header().sites(), from) else {
-        return Err(Cause::OutOfRange);
-    };
-    let Some(to) = number_below(place.header().sites(), to) else {
-        return Err(Cause::OutOfRange);
-    };
-    let Some(number) = number_up_to(u64::MAX, number) else {
-        return Err(Cause::OutOfRange);
-    };
+    place.admit(Form::BeatIn)?;
+    let from = number_below(place.header().sites(), from).ok_or(Cause::OutOfRange)?;
+    let to = number_below(place.header().sites(), to).ok_or(Cause::OutOfRange)?;
+    let number = number_up_to(u64::MAX, number).ok_or(Cause::OutOfRange)?;
     if from == to {
         return Err(Cause::OutOfRange);
     }
@@ -311,21 +239,11 @@ fn numbered_bulk_line(
     if !((is_number(from) && is_number(gear)) && (is_number(to) && is_number(number))) {
         return Err(Cause::BadAct);
     }
-    if let Some(cause) = place.bar(Form::NumberedBulk) {
-        return Err(cause);
-    }
-    let Some(from) = number_below(place.header().sites(), from) else {
-        return Err(Cause::OutOfRange);
-    };
-    let Some(gear) = number_below(place.header().gears(), gear) else {
-        return Err(Cause::OutOfRange);
-    };
-    let Some(to) = number_below(place.header().sites(), to) else {
-        return Err(Cause::OutOfRange);
-    };
-    let Some(number) = number_up_to(u64::MAX, number) else {
-        return Err(Cause::OutOfRange);
-    };
+    place.admit(Form::NumberedBulk)?;
+    let from = number_below(place.header().sites(), from).ok_or(Cause::OutOfRange)?;
+    let gear = number_below(place.header().gears(), gear).ok_or(Cause::OutOfRange)?;
+    let to = number_below(place.header().sites(), to).ok_or(Cause::OutOfRange)?;
+    let number = number_up_to(u64::MAX, number).ok_or(Cause::OutOfRange)?;
     if from == to {
         return Err(Cause::OutOfRange);
     }
@@ -342,9 +260,7 @@ fn numbered_bulk_line(
 fn bare_line(place: &Place, form: Form, act: Act) -> Result<Parsed, Cause>
     ensures { Gives result (bare_line place.now form act) }
 {
-    if let Some(cause) = place.bar(form) {
-        return Err(cause);
-    }
+    place.admit(form)?;
     Ok(Parsed::Act(act))
 }
 

@@ -116,9 +116,7 @@ fn item_line(alloc: Global, place: &Place, name: &[u8], sites: &[u8]) -> Result<
     if !(is_name(name) && is_list(parts.as_slice())) {
         return Err(Cause::BadHeader);
     }
-    if let Some(cause) = place.bar(Form::Item) {
-        return Err(cause);
-    }
+    place.admit(Form::Item)?;
     if header.has_item(name) {
         return Err(Cause::SameName);
     }
@@ -145,15 +143,11 @@ fn client_line(alloc: Global, place: &Place, name: &[u8], site: &[u8]) -> Result
     if !(is_name(name) && is_number(site)) {
         return Err(Cause::BadHeader);
     }
-    if let Some(cause) = place.bar(Form::Client) {
-        return Err(cause);
-    }
+    place.admit(Form::Client)?;
     if header.has_client(name) {
         return Err(Cause::SameName);
     }
-    let Some(site) = number_below(header.sites(), site) else {
-        return Err(Cause::OutOfRange);
-    };
+    let site = number_below(header.sites(), site).ok_or(Cause::OutOfRange)?;
     match Name::of(alloc, name) {
         Ok(Some(name)) => Ok(Parsed::Client(ClientLine { name, site })),
         Ok(None) => unreachable!(),
@@ -275,9 +269,7 @@ fn tree_line(
     if !(are_parents(parents) && are_numbers(seats)) {
         return Err(Cause::BadHeader);
     }
-    if let Some(cause) = place.bar(Form::PlanTree) {
-        return Err(cause);
-    }
+    place.admit(Form::PlanTree)?;
     match tree_in(alloc, place.sites(), parents, seats) {
         Ok(Some(tree)) => Ok(Parsed::Plan(Plan::Tree(tree))),
         Ok(None) => Err(Cause::BadTree),
@@ -308,9 +300,7 @@ fn parted_line(alloc: Global, place: &Place, words: &[&[u8]]) -> Result<Parsed, 
 fn stamp_line(place: &Place) -> Result<Parsed, Cause>
     ensures { Gives result (stamp_line place.now) }
 {
-    if let Some(cause) = place.bar(Form::PlanStamp) {
-        return Err(cause);
-    }
+    place.admit(Form::PlanStamp)?;
     Ok(Parsed::Plan(Plan::Stamp))
 }
 

@@ -1,5 +1,5 @@
 //! What the lines so far say: where the next line stands, and what may stand there.
-ghost use Rattle.std.specs.Prelude.{◌≡◌, ◌≤◌, ◌↔◌, IsTrue, IfOk, OnErr, length};
+ghost use Rattle.std.specs.Prelude.{◌≡◌, ◌≤◌, ◌↔◌, IsTrue, IfOk, OnErr, MatchResult, Some, None, length};
 ghost use Rattle.sat_script.specs.State.{start, number_of, most_sites, most_clients, most_acts};
 ghost use Rattle.sat_script.specs.Grammar.{is_built, has_room, bar, after, IsNew};
 ghost use Rattle.sat_script.specs.Reading.{told_line};
@@ -150,21 +150,21 @@ impl Place {
         }
     }
 
-    /// Why a line of a form may not stand here, whatever its words say.
+    /// Whether a line of a form may stand here, whatever its words say, and if not, why.
     #[tactic(auto, unfolding(crate::specs::Grammar::bar))]
-    pub fn bar(&self, form: Form) -> Option<Cause>
-        ensures { result ≡ bar self.now form }
+    pub fn admit(&self, form: Form) -> Result<(), Cause>
+        ensures { MatchResult result (λ _. bar self.now form ≡ None) (λ cause. bar self.now form ≡ Some cause) }
     {
         if !self.is_built(form) {
-            return Some(Cause::Unbuilt);
+            return Err(Cause::Unbuilt);
         }
         if self.live && !is_live(form) {
-            return Some(Cause::NotLive);
+            return Err(Cause::NotLive);
         }
         if !self.has_room(form) {
-            return Some(Cause::TooMany);
+            return Err(Cause::TooMany);
         }
-        None
+        Ok(())
     }
 
     /// Takes what a good line says. For want of memory all is as before.
