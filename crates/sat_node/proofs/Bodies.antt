@@ -129,10 +129,10 @@ handed_made all sent handed received made came p n h at =
     made_by all (λ number. number ≤ c.1.lamport) (λ number. number < h.lamport) c.1.body h.body c.3 (λ number most. (let less = c.4 in omega arith)) (made c.0 c.1 sent_at)
 
 -- the same where the link was finished
-pub settled_bulk : {X : Type 0} (done : Option X) (all : List Making) (sent handed received : List Envelope) → AllMade all sent → AllCame handed received
+pub finished_bulk : {X : Type 0} (done : Option X) (all : List Making) (sent handed received : List Envelope) → AllMade all sent → AllCame handed received
     → IfSome done (λ rest. IsPrefix received sent) → IfSome done (λ rest. AllHanded handed all)
-settled_bulk None all sent handed received made came p = p
-settled_bulk (Some x) all sent handed received made came p = handed_made all sent handed received made came p
+finished_bulk None all sent handed received made came p = p
+finished_bulk (Some x) all sent handed received made came p = handed_made all sent handed received made came p
 
 -- what the first entry made
 pub made_first : {I A E : Type 0} (r : Result A E) (of : A → List Made) (old new : List (Kept I A)) (n : ℕ) (input : I) (given : A) (m : Made) → false ≡ is_err r → old ≡ []

@@ -26,11 +26,11 @@ handed_bodies took put h =
     (bodies h.1, ap (λ l. l ++ bodies h.1) (same_bodies took h.0 h.3) ∙ (sym (map-append (λ (e : Envelope). e.body) h.0 h.1) ∙ ap bodies (sym h.2)))
 
 -- the same where the link was finished
-pub settled : {X : Type 0} (done : Option X) (o : OutSeen) (i : InSeen) (took put : List Envelope) → all_of o ≡ put → Took took i
+pub finished : {X : Type 0} (done : Option X) (o : OutSeen) (i : InSeen) (took put : List Envelope) → all_of o ≡ put → Took took i
     → IfSome done (λ rest. IsPrefix i.received o.sent) → IfSome done (λ rest. Handed took put)
-settled None o i took put all t p = p
-settled (Some x) o i took put all t p = handed_on o i took put all t p
+finished None o i took put all t p = p
+finished (Some x) o i took put all t p = handed_on o i took put all t p
 
-pub settled_bodies : {X : Type 0} (done : Option X) (took put : List Envelope) → IfSome done (λ rest. Handed took put) → IfSome done (λ rest. IsPrefix (bodies took) (bodies put))
-settled_bodies None took put h = h
-settled_bodies (Some x) took put h = handed_bodies took put h
+pub finished_bodies : {X : Type 0} (done : Option X) (took put : List Envelope) → IfSome done (λ rest. Handed took put) → IfSome done (λ rest. IsPrefix (bodies took) (bodies put))
+finished_bodies None took put h = h
+finished_bodies (Some x) took put h = handed_bodies took put h

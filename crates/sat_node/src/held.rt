@@ -474,7 +474,7 @@ fn put_one<N: Names>(out: &mut Out<N>, number: u64, label: Option<Label>)
 /// The link between two nodes that were taken out of their locks is finished. `None` exactly where an end is missing, or the two have
 /// different places. What the receiver's entries took is a prefix of what the sender's entries put there, each taken under a greater
 /// number. What is left is what was sent and not received, in order.
-pub fn settle<M: Machine + Drop, K: Machine + Drop, N: Names>(
+pub fn finish_labels<M: Machine + Drop, K: Machine + Drop, N: Names>(
     sender: Held<M, N>,
     out: usize,
     receiver: Held<K, N>,
@@ -510,7 +510,7 @@ pub fn settle<M: Machine + Drop, K: Machine + Drop, N: Names>(
 
 /// The same of a link for payloads and beats: what the receiver's entries were handed is what the sender's entries made, each the one of
 /// its number, and handed on under a greater number.
-pub fn settle_bulk<M: Machine + Drop, K: Machine + Drop, N: Names>(
+pub fn finish_bulk<M: Machine + Drop, K: Machine + Drop, N: Names>(
     sender: Held<M, N>,
     out: usize,
     receiver: Held<K, N>,

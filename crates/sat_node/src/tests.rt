@@ -308,7 +308,7 @@ fn apart<N: Names, R: Wait>(
     if take_one(rt, &mut receiver, 100) != Some(true) || receiver.node().lamport() != 102 {
         return false;
     }
-    ended(rt, settle(sender, 0, receiver, 0))
+    ended(rt, finish_labels(sender, 0, receiver, 0))
 }
 
 #[test]
@@ -570,7 +570,7 @@ fn one_parcel<N: Names, R: Wait>(
     agree_two(&mut sender, &mut receiver);
     let number = receiver.node().lamport();
     let (sender, receiver) = all_agree(alloc, sender, receiver)?;
-    let left = ended(rt, settle_bulk(sender, 0, receiver, 0));
+    let left = ended(rt, finish_bulk(sender, 0, receiver, 0));
     Ok((sent && told && acked && received == Some(5) && left).then_some(number))
 }
 
