@@ -16,6 +16,7 @@ SiteLearned h a (ans.Shown b) j l = (is_at a j ≡ true) × ((b ≡ l) ⊎ Cause
 SiteLearned h a ans.Attached j l = (c : ℕ) × (a ≡ act.Attach c j) × Past h c l
 SiteLearned h a _ j l = ⊥
 
+-- site j knows a label: it showed it, or what it showed, or a client that came to it, had it in its past
 unfoldable pub SiteKnows : List Entry → ℕ → Label → Type 0
 SiteKnows [] j l = ⊥
 SiteKnows (x ∷ h) j l = SiteKnows h j l ⊎ SiteLearned h x.act x.answer j l
