@@ -1,3 +1,4 @@
+pub mod Plans
 pub mod Sets
 pub mod Sound
 pub mod Valid

@@ -1,13 +1,14 @@
 -- A deployment without a flaw.
-use Rattle.std.proofs.Common.{ℕ, zero, suc, ◌≡◌, ◌<◌, ◌≤◌, ◌+◌, ◌-◌, ◌==◌, ◌&&◌, ◌||◌, ◌⊎◌, inl, inr, Bool, true, false, not, nat_lt, nat_le, List, [], ◌∷◌, length, take, Option, Some, None, slice_get, refl, sym, ap, ◌∙◌, arith}
+use Rattle.std.proofs.Common.{ℕ, zero, suc, ◌≡◌, ◌<◌, ◌≤◌, ◌+◌, ◌-◌, ◌==◌, ◌⊎◌, inl, inr, Bool, true, false, not, nat_le, List, [], ◌∷◌, length, take, Option, Some, None, slice_get, refl, sym, ap, ◌∙◌, arith}
 use Rattle.std.specs.List.{list_any}
 use Rattle.std.specs.Option.{option_or, option_map}
 use Rattle.std.specs.Str.{bytes_eq}
 use Rattle.std.proofs.Math.Nat.{eq-or-lt_of_le}
 use Rattle.std.proofs.lemmas.Bool.Decides.{nat_tests}
-use Rattle.std.proofs.lemmas.Bool.{cases_lt}
+use Rattle.std.proofs.lemmas.Bool.{and_parts, cases_lt, eqb-true, ltb-true, not-true}
 use Rattle.std.proofs.lemmas.Option.{slice_get_within}
 use Rattle.std.proofs.lemmas.Slice.Eq.{bytes_eq-Decides}
+use Rattle.sat_label.proofs.Truth.{or-true}
 use Rattle.sat_label.specs.Words.{first_failing, bit}
 use Rattle.std.proofs.Math.Pow.{pow-lt}
 use Rattle.sat_label.proofs.First.{first_none}
@@ -21,6 +22,7 @@ use Rattle.sat_act.specs.declared.deployment.Plan.TheVariants as plan
 use Rattle.sat_act.specs.Deployed.{Deployed}
 use Rattle.sat_act.specs.Parts.{tree_of}
 use Rattle.sat_act.specs.Limits.{IsDeployment, HaveTrees}
+use Rattle.sat_act.proofs.Plans.{tree_in_plans}
 use Rattle.sat_act.specs.Flaw.{flaw, wrong_size, is_within, are_sites, item_fits, client_fits, plan_fits}
 
 -- ---- trees among plans
@@ -97,10 +99,6 @@ no-flaw d none =
 
 -- ---- names
 
-or-true : (b : Bool) → (b || true) ≡ true
-or-true true = refl
-or-true false = refl
-
 any-earlier : {X : Type 0} (p : X → Bool) (xs : List X) (x y : ℕ) (one : X) → slice_get xs x ≡ Some one → x < y → p one ≡ true → list_any p (take y xs) ≡ true
 any-earlier p [] x y one at less is = absurd (let f = slice_get_within [] x _ at in omega arith)
 any-earlier p (z ∷ zs) x zero one at less is = absurd (omega arith)
@@ -121,58 +119,37 @@ same-bytes one other same = (bytes_eq-Decides one other).1 same
 
 -- ---- items, clients and plans
 
-both-true : (a b : Bool) → (a && b) ≡ true → (a ≡ true) × (b ≡ true)
-both-true true true e = (refl, refl)
-both-true true false e = absurd (cc)
-both-true false b e = absurd (cc)
-
-not-true : (b : Bool) → not b ≡ true → b ≡ false
-not-true false e = refl
-not-true true e = absurd (cc)
-
-lt-true : (a b : ℕ) → nat_lt a b ≡ true → a < b
-lt-true a b e = grind (arith, nat_tests)
-
-eq-true : (a b : ℕ) → (a == b) ≡ true → a ≡ b
-eq-true a b e = grind (arith, nat_tests)
-
 item-at : (sites : ℕ) (items : List Item) (x : ℕ) (item : Item) → item_fits sites items x ≡ true → slice_get items x ≡ Some item → (are_sites sites item.replicas.bits ≡ true) × (list_any (λ (earlier : Item). bytes_eq earlier.name item.name) (take x items) ≡ false)
 unfolding item_fits
 item-at sites items x item fits at =
-    let both = both-true _ _ (rw (at, item_fits) at fits) in
+    let both = and_parts _ _ (rw (at, item_fits) at fits) in
     (both.0, not-true _ both.1)
 
 client-at : (sites : ℕ) (clients : List ClientLine) (c : ℕ) (line : ClientLine) → client_fits sites clients c ≡ true → slice_get clients c ≡ Some line → (line.site < sites) × (list_any (λ (earlier : ClientLine). bytes_eq earlier.name line.name) (take c clients) ≡ false)
 unfolding client_fits
 client-at sites clients c line fits at =
-    let both = both-true _ _ (rw (at, client_fits) at fits) in
-    (lt-true _ _ both.0, not-true _ both.1)
+    let both = and_parts _ _ (rw (at, client_fits) at fits) in
+    (ltb-true _ _ both.0, not-true _ both.1)
 
 plan-at : (sites : ℕ) (plans : List Plan) (e : ℕ) (t : TreeShape) → plan_fits sites plans e ≡ true → slice_get plans e ≡ Some (plan.Tree t) → length t.seats ≡ sites
 unfolding plan_fits
-plan-at sites plans e t fits at = let same = rw (at, plan_fits) at fits in eq-true _ _ same
+plan-at sites plans e t fits at = let same = rw (at, plan_fits) at fits in eqb-true _ _ same
 
 tree-at : (d : Deployed) (e : ℕ) (t : TreeShape) → tree_of d e ≡ Some t → slice_get d.plans (e - 1) ≡ Some (plan.Tree t)
-unfolding tree_of
-tree-at d e t is = go (slice_get d.plans (e - 1)) refl
-  where
-    go : (o : Option Plan) → slice_get d.plans (e - 1) ≡ o → slice_get d.plans (e - 1) ≡ Some (plan.Tree t)
-    go (Some (plan.Tree u)) at = let f : tree_of d e ≡ Some u = rw (at, tree_of) refl in let same : u ≡ t = cc in rw (at, same) refl
-    go (Some plan.Stamp) at = absurd (let f : tree_of d e ≡ None = rw (at, tree_of) refl in cc)
-    go None at = absurd (let f : tree_of d e ≡ None = rw (at, tree_of) refl in cc)
+tree-at d e t is = (tree_in_plans d e t is).1
 
 positive : (n : ℕ) → not (n == 0) ≡ true → 0 < n
 positive n e = grind (arith, nat_tests)
 
 sites-some : (sites bits : ℕ) → are_sites sites bits ≡ true → sites ≤ 16 → (k : ℕ) × (bit bits k ≡ true)
 sites-some sites bits are few =
-    let both = both-true _ _ are in
+    let both = and_parts _ _ are in
     let some : 0 < bits = positive _ both.0 in
-    let fits = lt-true _ _ both.1 in
+    let fits = ltb-true _ _ both.1 in
     bit-some bits some (omega (arith, pow-lt {i = sites} {j = 64} (omega arith)))
 
 sites-below : (sites bits k : ℕ) → are_sites sites bits ≡ true → bit bits k ≡ true → k < sites
-sites-below sites bits k are has = bit-within bits sites k (lt-true _ _ ((both-true _ _ are).1)) has
+sites-below sites bits k are has = bit-within bits sites k (ltb-true _ _ ((and_parts _ _ are).1)) has
 
 pub sound : (d : Deployed) → flaw d ≡ None → HaveTrees d.plans → IsDeployment d
 sound d none trees =

@@ -6,20 +6,20 @@ use Rattle.sat_act.specs.declared.deployment.Plan.TheVariants as plan
 use Rattle.sat_tree.specs.Shape.{TreeShape}
 use Rattle.sat_act.specs.Deployed.{Deployed}
 
--- any sites, gears, items and clients, and one epoch, with a tree
+-- the deployments that may be used today: any sites, gears, items and clients, and one epoch, with a tree
 pub record IsBuilt (d : Deployed) : Type 0 where
   pub tree : TreeShape
   pub plans : d.plans ≡ plan.Tree tree ∷ []
 
--- the forms of acts that are built
+-- the forms of acts that may be used today
 abbrev pub is_built_act : Act → Bool
-is_built_act (act.Tick i g t) = true
+is_built_act (act.Tick i g ts) = true
 is_built_act act.Clock = true
 is_built_act (act.Write c x value) = true
 is_built_act (act.Read c x) = true
 is_built_act (act.Gather i) = true
 is_built_act (act.Emit i) = true
-is_built_act (act.Hop e u z) = true
+is_built_act (act.Hop epoch u z) = true
 is_built_act (act.Turn j) = true
 is_built_act (act.Bulk i g j None) = true
 is_built_act _ = false

@@ -17,14 +17,15 @@ LearnedBy (ans.Wrote b) a knew = b ≡ a
 LearnedBy (ans.ReadSome l v) a knew = (l ≡ a) ⊎ knew (Maker l)
 LearnedBy _ a knew = ⊥
 
+-- what an entry teaches: its client by its answer, and the label that it made all that its client knew before
 abbrev pub Learned : Entry → Who → Label → (Who → Type 0) → Type 0
-Learned e (Client c) a knew = (of_client e.act ≡ Some c) × LearnedBy e.answer a knew
-Learned e (Maker b) a knew = (made_in e.answer ≡ Some b) × ((c : ℕ) × (of_client e.act ≡ Some c) × knew (Client c))
+Learned entry (Client c) a knew = (of_client entry.act ≡ Some c) × LearnedBy entry.answer a knew
+Learned entry (Maker b) a knew = (made_in entry.answer ≡ Some b) × ((c : ℕ) × (of_client entry.act ≡ Some c) × knew (Client c))
 
--- whether a is known
+-- a client or a label's maker knows update a
 unfoldable pub Knows : List Entry → Who → Label → Type 0
 Knows [] who a = ⊥
-Knows (e ∷ before) who a = Knows before who a ⊎ Learned e who a (λ w. Knows before w a)
+Knows (entry ∷ before) who a = Knows before who a ⊎ Learned entry who a (λ w. Knows before w a)
 
 -- a is in the past of client c
 abbrev pub Past : List Entry → ℕ → Label → Type 0

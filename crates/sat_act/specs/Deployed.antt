@@ -1,9 +1,10 @@
+-- Deployments, as contracts see them.
 use Rattle.std.specs.Prelude.{ℕ, List}
 use Rattle.sat_act.specs.declared.deployment.Item.{Item}
 use Rattle.sat_act.specs.declared.deployment.ClientLine.{ClientLine}
 use Rattle.sat_act.specs.declared.deployment.Plan.{Plan}
 
--- what a script's header says
+-- what a script's header says: the numbers of sites and of gears of each site, the items, the clients, and a plan for each epoch
 pub record Deployed : Type 0 where
   pub sites : ℕ
   pub gears : ℕ

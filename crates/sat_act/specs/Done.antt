@@ -17,16 +17,10 @@ made_in _ = None
 abbrev pub sent_in : Answer → Option Label
 sent_in (ans.Emitted l) = Some l
 sent_in (ans.Pulsed l) = Some l
-sent_in (ans.Closed e p) = Some (record { point = p; kind = Close e })
+sent_in (ans.Closed epoch p) = Some (record { point = p; kind = Close epoch })
 sent_in _ = None
 
--- the label that a turn took
-abbrev pub took_in : Answer → Option Label
-took_in (ans.Shown l) = Some l
-took_in (ans.Took l) = Some l
-took_in _ = None
-
--- the site that an act is at, for the acts of one site's operator
+-- the site that an act of a site is at. A bulk, and a beat that comes in, is at the site that takes it
 abbrev pub at_site : Act → Option ℕ
 at_site (act.Gather i) = Some i
 at_site (act.Emit i) = Some i
@@ -40,9 +34,11 @@ at_site (act.Bulk i g j n) = Some j
 at_site (act.BeatIn i j n) = Some j
 at_site _ = None
 
+-- an act at site j
 abbrev pub is_at : Act → ℕ → Bool
 is_at a j = elim (at_site a) [ None ↦ false | Some i ↦ i == j ]
 
+-- the client of an act of a client
 abbrev pub of_client : Act → Option ℕ
 of_client (act.Write c x v) = Some c
 of_client (act.Read c x) = Some c
@@ -51,26 +47,31 @@ of_client (act.Leave c) = Some c
 of_client (act.Attach c j) = Some c
 of_client _ = None
 
+-- an act of client c
 abbrev pub is_of : Act → ℕ → Bool
 is_of a c = elim (of_client a) [ None ↦ false | Some b ↦ b == c ]
 
+-- a tick of gear g of site i
 abbrev pub is_tick : Act → ℕ → ℕ → Bool
-is_tick (act.Tick s k t) i g = (s == i) && (k == g)
+is_tick (act.Tick site gear ts) i g = (site == i) && (gear == g)
 is_tick _ i g = false
 
+-- a gather of site i
 abbrev pub is_gather : Act → ℕ → Bool
-is_gather (act.Gather s) i = s == i
+is_gather (act.Gather site) i = site == i
 is_gather _ i = false
 
+-- a beat that i makes for j
 abbrev pub is_beat : Act → ℕ → ℕ → Bool
-is_beat (act.Beat s t) i j = (s == i) && (t == j)
+is_beat (act.Beat from to) i j = (from == i) && (to == j)
 is_beat _ i j = false
 
 -- the number of a beat of i that came in at j
 abbrev pub beat_in : Act → ℕ → ℕ → Option ℕ
-beat_in (act.BeatIn s t n) i j = if (s == i) && (t == j) then Some n else None
+beat_in (act.BeatIn from to n) i j = if (from == i) && (to == j) then Some n else None
 beat_in _ i j = None
 
+-- the kill of serializer z of an epoch's tree
 abbrev pub is_kill : Act → ℕ → ℕ → Bool
-is_kill (act.Kill s y) e z = (s == e) && (y == z)
-is_kill _ e z = false
+is_kill (act.Kill killed y) epoch z = (killed == epoch) && (y == z)
+is_kill _ epoch z = false

@@ -7,6 +7,7 @@ use Rattle.std.specs.BTreeSet.{BTreeSet, contains_by}
 use Rattle.std.specs.Cmp.Lexicographic.{slice_cmp}
 use Rattle.std.specs.Ordering.{nat_cmp}
 use Rattle.std.specs.Borrow.{Bor}
+use Rattle.sat_label.specs.declared.limits.TheConstants.{MOST_CLIENTS, MOST_EPOCHS, MOST_GEARS, MOST_ITEMS, MOST_SITES}
 use Rattle.sat_label.specs.Words.{first_failing}
 use Rattle.sat_act.specs.declared.deployment.Item.{Item}
 use Rattle.sat_act.specs.declared.deployment.ClientLine.{ClientLine}
@@ -16,21 +17,22 @@ use Rattle.sat_act.specs.declared.fault.DeploymentFault.{DeploymentFault}
 use Rattle.sat_act.specs.declared.fault.DeploymentFault.TheVariants.{Size, BadItem, BadClient, BadPlan}
 use Rattle.sat_act.specs.Deployed.{Deployed}
 
--- whether a set of names has one
+-- whether a set of names has this one
 abbrev pub has_name : BTreeSet (Bor (List ℕ)) → List ℕ → Bool
 has_name names name = contains_by (λ k. slice_cmp nat_cmp name k.now) names
 
+-- a number from low to high
 abbrev pub is_within : ℕ → ℕ → ℕ → Bool
 is_within low high n = nat_le low n && nat_le n high
 
 -- the first part of a wrong size: 0 for the sites, 1 for the gears, 2 for the items, 3 for the clients, 4 for the plans
 unfoldable pub wrong_size : Deployed → Option ℕ
 wrong_size d =
-    if not (is_within 1 16 d.sites) then Some 0 else
-    if not (is_within 1 8 d.gears) then Some 1 else
-    if not (nat_le (length d.items) 4096) then Some 2 else
-    if not (nat_le (length d.clients) 1024) then Some 3 else
-    if not (is_within 1 16 (length d.plans)) then Some 4 else
+    if not (is_within 1 MOST_SITES d.sites) then Some 0 else
+    if not (is_within 1 MOST_GEARS d.gears) then Some 1 else
+    if not (nat_le (length d.items) MOST_ITEMS) then Some 2 else
+    if not (nat_le (length d.clients) MOST_CLIENTS) then Some 3 else
+    if not (is_within 1 MOST_EPOCHS (length d.plans)) then Some 4 else
     None
 
 -- a set with a member, all of whose members are sites
@@ -56,7 +58,8 @@ client_fits sites clients c =
 
 -- a tree has a seat for each site
 unfoldable pub plan_fits : ℕ → List Plan → ℕ → Bool
-plan_fits sites plans e = elim (slice_get plans e) [ None ↦ true | Some p ↦ elim p [ plan.Stamp ↦ true | plan.Tree t ↦ length t.seats == sites ] ]
+plan_fits sites plans n =
+    elim (slice_get plans n) [ None ↦ true | Some p ↦ elim p [ plan.Stamp ↦ true | plan.Tree tree ↦ length tree.seats == sites ] ]
 
 -- the first fault: of the sizes, then of an item, of a client, of a plan
 unfoldable pub flaw : Deployed → Option DeploymentFault

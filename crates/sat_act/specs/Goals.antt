@@ -1,4 +1,4 @@
--- What holds of each run.
+-- What holds of each run, law by law.
 use Rattle.std.specs.Prelude.{◌≡◌, ◌⊎◌, ◌<◌, ◌≤◌, ℕ, true, false, List, [], ◌∷◌, Option, Some, None, slice_get}
 use Rattle.sat_label.specs.declared.label.Label.{Label}
 use Rattle.sat_label.specs.Order.{label_lt, label_eq}
@@ -16,11 +16,11 @@ use Rattle.sat_act.specs.Causes.{Past, Cause}
 -- some entry gave x
 unfoldable pub Gives : {X : Type 0} → (List Entry → Entry → Option X) → List Entry → X → Type 0
 Gives f [] x = ⊥
-Gives f (e ∷ before) x = Gives f before x ⊎ (f before e ≡ Some x)
+Gives f (entry ∷ before) x = Gives f before x ⊎ (f before entry ≡ Some x)
 
 -- l was made
 abbrev pub Made : List Entry → Label → Type 0
-Made h l = Gives (λ before e. made_in e.answer) h l
+Made h l = Gives (λ before entry. made_in entry.answer) h l
 
 -- site k showed l
 abbrev pub Shows : List Entry → ℕ → Label → Type 0
@@ -30,43 +30,57 @@ Shows h k l = Gives (shown_entry k) h l
 abbrev pub IsKeptAt : Deployed → ℕ → Label → Type 0
 IsKeptAt d k l = (x : ℕ) × (l.kind ≡ kind.Update x) × (replicates d x k ≡ true)
 
+-- whatever an entry shows at a site, each cause of it that the site keeps was shown there before
+abbrev pub ShowsCausesFirst : Deployed → List Entry → Entry → Type 0
+ShowsCausesFirst d before entry =
+    (k : ℕ) (b a : Label) → shown_entry k before entry ≡ Some b → Cause (entry ∷ before) b a → IsKeptAt d k a → Shows before k a
+
 -- each update was shown at each site after each cause that the site keeps
 unfoldable pub Causal : Deployed → List Entry → Type 0
 Causal d [] = Unit {0}
-Causal d (e ∷ before) =
-    Causal d before × ((k : ℕ) (b a : Label) → shown_entry k before e ≡ Some b → Cause (e ∷ before) b a → IsKeptAt d k a → Shows before k a)
+Causal d (entry ∷ before) = Causal d before × ShowsCausesFirst d before entry
 
 -- an entry is a write of this item with this value, and made the label
 abbrev pub WritesNow : Entry → ℕ → List ℕ → Label → Type 0
-WritesNow e x value l = (c : ℕ) × (e.act ≡ act.Write c x value) × (e.answer ≡ ans.Wrote l)
+WritesNow entry x value l = (c : ℕ) × (entry.act ≡ act.Write c x value) × (entry.answer ≡ ans.Wrote l)
 
 -- a write of this item with this value made the label
 unfoldable pub Writes : List Entry → ℕ → List ℕ → Label → Type 0
 Writes [] x value l = ⊥
-Writes (e ∷ before) x value l = Writes before x value l ⊎ WritesNow e x value l
+Writes (entry ∷ before) x value l = Writes before x value l ⊎ WritesNow entry x value l
 
 -- a label is the update that a write of this item made, with the value that the history has for it
 pub record IsWriteOf (h : List Entry) (x : ℕ) (l : Label) : Type 0 where
   pub update : l.kind ≡ kind.Update x
   pub written : Writes h x (value_of h l) l
 
+-- a label is one that a write of an item made that the site keeps
+abbrev pub IsWriteKeptAt : Deployed → List Entry → ℕ → Label → Type 0
+IsWriteKeptAt d h k b = (x : ℕ) × IsWriteOf h x b × (replicates d x k ≡ true)
+
+-- whatever an entry shows at a site was not shown there before, and a write of an item that the site keeps made it
+abbrev pub ShowsNew : Deployed → List Entry → Entry → Type 0
+ShowsNew d before entry =
+    (k : ℕ) (b : Label) → shown_entry k before entry ≡ Some b → (Shows before k b → ⊥) × IsWriteKeptAt d (entry ∷ before) k b
+
 -- no site shows a label twice, and each was made by a write of an item that the site keeps
 unfoldable pub Once : Deployed → List Entry → Type 0
 Once d [] = Unit {0}
-Once d (e ∷ before) =
-    Once d before × ((k : ℕ) (b : Label) → shown_entry k before e ≡ Some b → (Shows before k b → ⊥) × ((x : ℕ) × IsWriteOf (e ∷ before) x b × (replicates d x k ≡ true)))
+Once d (entry ∷ before) = Once d before × ShowsNew d before entry
 
--- what a client reads is not below any update of the item in its past
+-- what a client reads is not below any update of the item in its past, and it reads none only where its past has none
 abbrev pub IsFresh : Answer → ℕ → List Entry → ℕ → Type 0
 IsFresh (ans.ReadSome l v) c before x = (a : Label) → Past before c a → a.kind ≡ kind.Update x → label_lt l a ≡ false
 IsFresh ans.ReadNone c before x = (a : Label) → Past before c a → a.kind ≡ kind.Update x → ⊥
 IsFresh _ c before x = Unit {0}
 
+-- each read is fresh
 unfoldable pub Fresh : List Entry → Type 0
 Fresh [] = Unit {0}
-Fresh (e ∷ before) = Fresh before × ((c x : ℕ) → e.act ≡ act.Read c x → IsFresh e.answer c before x)
+Fresh (entry ∷ before) = Fresh before × ((c x : ℕ) → entry.act ≡ act.Read c x → IsFresh entry.answer c before x)
 
--- a deployment whose numbers fit one another
+-- a deployment whose numbers fit one another, as far as the laws of histories need it. Of the grades of a deployment this asks
+-- least: `IsDeployment` (Limits), which all that `Deployment::new` makes meets, asks for more
 pub record IsValid (d : Deployed) : Type 0 where
   pub some_gear : 0 < d.gears
   pub few_gears : d.gears ≤ 8
@@ -77,8 +91,10 @@ abbrev pub IsGreatestMade : List Entry → ℕ → Option Label → Type 0
 IsGreatestMade h x None = (m : Label) → Made h m → m.kind ≡ kind.Update x → ⊥
 IsGreatestMade h x (Some l) = IsWriteOf h x l × ((m : Label) → Made h m → m.kind ≡ kind.Update x → label_lt l m ≡ false)
 
+-- all that was made for a site was brought to it
+abbrev pub AllBrought : Deployed → List Entry → ℕ → Type 0
+AllBrought d h k = (i g n : ℕ) (l : Label) → slice_get (lane d h i g k) n ≡ Some l → has label_eq (brought h k) l ≡ true
+
 -- where all that was made for a site was brought and shown, the site holds its items' greatest versions
 abbrev pub Settled : Deployed → List Entry → Type 0
-Settled d h =
-    (k x : ℕ) → ((i g n : ℕ) (l : Label) → slice_get (lane d h i g k) n ≡ Some l → has label_eq (brought h k) l ≡ true) → waiting h k ≡ [] → replicates d x k ≡ true →
-    IsGreatestMade h x (version h k x)
+Settled d h = (k x : ℕ) → AllBrought d h k → waiting h k ≡ [] → replicates d x k ≡ true → IsGreatestMade h x (version h k x)

@@ -1,5 +1,6 @@
 -- Deployments within their limits.
 use Rattle.std.specs.Prelude.{◌≡◌, ◌<◌, ◌≤◌, ℕ, true, Some, length, slice_get, List}
+use Rattle.sat_label.specs.declared.limits.TheConstants.{MOST_CLIENTS, MOST_EPOCHS, MOST_GEARS, MOST_ITEMS, MOST_SERIALIZERS, MOST_SITES}
 use Rattle.sat_label.specs.Words.{bit}
 use Rattle.sat_tree.specs.Shape.{TreeShape}
 use Rattle.sat_tree.specs.Cut.{IsTree}
@@ -11,25 +12,26 @@ use Rattle.sat_act.specs.declared.deployment.ClientLine.{ClientLine}
 use Rattle.sat_act.specs.Deployed.{Deployed}
 use Rattle.sat_act.specs.Parts.{tree_of}
 
--- what `Deployment::new` makes sure of
+-- what `Deployment::new` makes sure of: the limits of the numbers, each item kept somewhere and only at sites, no name twice among
+-- the items or the clients, each client's site a site, and each epoch's tree, if any, a tree that seats every site
 pub record IsDeployment (d : Deployed) : Type 0 where
   pub some_site : 0 < d.sites
-  pub few_sites : d.sites ≤ 16
+  pub few_sites : d.sites ≤ MOST_SITES
   pub some_gear : 0 < d.gears
-  pub few_gears : d.gears ≤ 8
-  pub few_items : length d.items ≤ 4096
-  pub few_clients : length d.clients ≤ 1024
+  pub few_gears : d.gears ≤ MOST_GEARS
+  pub few_items : length d.items ≤ MOST_ITEMS
+  pub few_clients : length d.clients ≤ MOST_CLIENTS
   pub some_plan : 0 < length d.plans
-  pub few_plans : length d.plans ≤ 16
+  pub few_plans : length d.plans ≤ MOST_EPOCHS
   pub kept : (x : ℕ) (item : Item) → slice_get d.items x ≡ Some item → (k : ℕ) × (bit item.replicas.bits k ≡ true)
   pub replicas : (x k : ℕ) (item : Item) → slice_get d.items x ≡ Some item → bit item.replicas.bits k ≡ true → k < d.sites
   pub item_names : (x y : ℕ) (one other : Item) → slice_get d.items x ≡ Some one → slice_get d.items y ≡ Some other → one.name ≡ other.name → x ≡ y
   pub homes : (c : ℕ) (line : ClientLine) → slice_get d.clients c ≡ Some line → line.site < d.sites
   pub client_names : (b c : ℕ) (one other : ClientLine) → slice_get d.clients b ≡ Some one → slice_get d.clients c ≡ Some other → one.name ≡ other.name → b ≡ c
-  pub trees : (e : ℕ) (t : TreeShape) → tree_of d e ≡ Some t → IsTree t
-  pub few_serializers : (e : ℕ) (t : TreeShape) → tree_of d e ≡ Some t → length t.parents ≤ 15
-  pub all_seated : (e : ℕ) (t : TreeShape) → tree_of d e ≡ Some t → length t.seats ≡ d.sites
+  pub trees : (epoch : ℕ) (tree : TreeShape) → tree_of d epoch ≡ Some tree → IsTree tree
+  pub few_serializers : (epoch : ℕ) (tree : TreeShape) → tree_of d epoch ≡ Some tree → length tree.parents ≤ MOST_SERIALIZERS
+  pub all_seated : (epoch : ℕ) (tree : TreeShape) → tree_of d epoch ≡ Some tree → length tree.seats ≡ d.sites
 
 -- each tree among some plans is one, with few serializers
 abbrev pub HaveTrees : List Plan → Type 0
-HaveTrees plans = (e : ℕ) (t : TreeShape) → slice_get plans e ≡ Some (plan.Tree t) → IsSmallTree t
+HaveTrees plans = (n : ℕ) (tree : TreeShape) → slice_get plans n ≡ Some (plan.Tree tree) → IsSmallTree tree

@@ -1,5 +1,6 @@
 -- Acts whose numbers name what they should.
 use Rattle.std.specs.Prelude.{◌≡◌, ◌<◌, ◌≤◌, ◌^◌, ℕ, true, false, ◌==◌, length, Some, IfSome}
+use Rattle.sat_label.specs.declared.limits.TheConstants.{TS_END}
 use Rattle.sat_label.specs.Text.{is_value}
 use Rattle.sat_label.specs.declared.node.NodeId.TheVariants.{Serializer}
 use Rattle.sat_tree.specs.Shape.{TreeShape}
@@ -13,9 +14,11 @@ use Rattle.sat_act.specs.Parts.{tree_of}
 abbrev pub ArePair : Deployed → ℕ → ℕ → Type 0
 ArePair d i j = (i < d.sites) × (j < d.sites) × ((i == j) ≡ false)
 
--- the act has a line under the deployment's header
+-- the act has a line under the deployment's header: each number, name and value in it is one of the deployment's or within its
+-- limits. A run asks for less, `InRange` (Answers), as the laws of histories need nothing of clients, items, values and kills:
+-- with one table they would be proved of fewer histories
 abbrev pub IsActOf : Deployed → Act → Type 0
-IsActOf d (act.Tick i g t) = (i < d.sites) × (g < d.gears) × (t ≤ 2 ^ 62)
+IsActOf d (act.Tick i g ts) = (i < d.sites) × (g < d.gears) × (ts ≤ TS_END)
 IsActOf d act.Clock = Unit {0}
 IsActOf d (act.Write c x value) = (c < length d.clients) × (x < length d.items) × (is_value value ≡ true)
 IsActOf d (act.Read c x) = (c < length d.clients) × (x < length d.items)
@@ -25,7 +28,8 @@ IsActOf d (act.Attach c j) = (c < length d.clients) × (j < d.sites)
 IsActOf d (act.Gather i) = i < d.sites
 IsActOf d (act.Emit i) = i < d.sites
 IsActOf d (act.Pulse i) = i < d.sites
-IsActOf d (act.Hop e u z) = (t : TreeShape) × (1 ≤ e) × (tree_of d e ≡ Some t) × IsNode t u × (is_edge t u (Serializer z) ≡ true)
+IsActOf d (act.Hop epoch u z) =
+    (tree : TreeShape) × (1 ≤ epoch) × (tree_of d epoch ≡ Some tree) × IsNode tree u × (is_edge tree u (Serializer z) ≡ true)
 IsActOf d (act.Turn i) = i < d.sites
 IsActOf d (act.Bulk i g j n) = ArePair d i j × (g < d.gears) × IfSome n (λ k. k < 2 ^ 64)
 IsActOf d (act.Beat i j) = ArePair d i j
@@ -34,5 +38,5 @@ IsActOf d (act.Stamp i) = i < d.sites
 IsActOf d (act.Close i) = i < d.sites
 IsActOf d (act.Fall i) = i < d.sites
 IsActOf d (act.Advance i) = i < d.sites
-IsActOf d (act.Kill e z) = (t : TreeShape) × (1 ≤ e) × (tree_of d e ≡ Some t) × (z < length t.parents)
+IsActOf d (act.Kill epoch z) = (tree : TreeShape) × (1 ≤ epoch) × (tree_of d epoch ≡ Some tree) × (z < length tree.parents)
 IsActOf d act.Settle = Unit {0}

@@ -28,6 +28,7 @@ is_done ans.Again = false
 is_done ans.Old = false
 is_done _ = true
 
+-- the entry that a settle leaves of an act
 abbrev pub inner_entry : Deployed → List Entry → Act → Entry
 inner_entry d h a = record { act = a; answer = answer d h a; inner = true }
 
@@ -54,13 +55,15 @@ joined f (x ∷ xs) = f x ++ joined f xs
 
 -- ---- the opening
 
+-- a gather at site i
 abbrev pub gather_at : Deployed → ℕ → List Entry → List Entry
 gather_at d i h = tried d (act.Gather i) h
 
--- each emit lowers the number of pending labels
+-- emits at site i until there is nothing stable: each lowers the number of pending labels
 abbrev pub emit_all : Deployed → ℕ → List Entry → List Entry
 emit_all d i h = repeated d (act.Emit i) (length (pending d h i)) h
 
+-- a pulse at site i
 abbrev pub pulse_at : Deployed → ℕ → List Entry → List Entry
 pulse_at d i h = tried d (act.Pulse i) h
 
@@ -72,6 +75,7 @@ beat_over d p h = tried d (act.BeatIn p.0 p.1 (length (beats d h p.0 p.1))) (tri
 abbrev pub pairs : Deployed → List (ℕ × ℕ)
 pairs d = joined (λ i. joined (λ j. if i == j then [] else (i, j) ∷ []) (below d.sites)) (below d.sites)
 
+-- a clock, a gather at each site, and all emits: each sink has sent what was made
 unfoldable pub emptied : Deployed → List Entry → List Entry
 unfolding for_each tried repeated pending
 emptied d h =
@@ -79,6 +83,7 @@ emptied d h =
     for_each (gather_at d) (below d.sites) (
     tried d act.Clock h))
 
+-- the opening of a settle: the sinks emptied, a pulse at each site, and a beat from each site to each other
 unfoldable pub opening : Deployed → List Entry → List Entry
 unfolding for_each tried emptied beats
 opening d h =
@@ -88,13 +93,15 @@ opening d h =
 
 -- ---- what is left to do
 
+-- the sum of f over a list
 unfoldable pub total : {X : Type 0} → (X → ℕ) → List X → ℕ
 total f [] = 0
 total f (x ∷ xs) = f x + total f xs
 
+-- the update that an entry made for site j
 abbrev pub payload_entry : Deployed → ℕ → List Entry → Entry → Option Label
-payload_entry d j before e =
-    elim (made_in e.answer) [ None ↦ None | Some l ↦ if is_update l.kind && is_target d l j then Some l else None ]
+payload_entry d j before entry =
+    elim (made_in entry.answer) [ None ↦ None | Some l ↦ if is_update l.kind && is_target d l j then Some l else None ]
 
 -- the updates that were made for site j
 unfoldable pub payloads : Deployed → List Entry → ℕ → List Label
@@ -105,20 +112,22 @@ payloads d h j = listed (payload_entry d j) h
 abbrev pub payload_left : List Label → List Label → Label → ℕ
 payload_left brought shown l = if has label_eq brought l then (if has label_eq shown l then 0 else 1) else 2
 
+-- what is left to do of the updates for site j
 unfoldable pub payloads_left : Deployed → List Entry → ℕ → ℕ
 unfolding total payloads brought shown
 payloads_left d h j = total (payload_left (brought h j) (shown h j)) (payloads d h j)
 
--- what nodes handled
+-- all that nodes handled, in order
 unfoldable pub handlings : Deployed → List Entry → List Handling
 unfolding listed handling
 handlings d h = listed (handling d) h
 
+-- what an entry handled that came from no other node
 abbrev pub sending_entry : Deployed → List Entry → Entry → Option Handling
-sending_entry d before e =
-    elim (handling d before e) [ None ↦ None | Some x ↦ elim x.from [ None ↦ Some x | Some u ↦ None ] ]
+sending_entry d before entry =
+    elim (handling d before entry) [ None ↦ None | Some x ↦ elim x.from [ None ↦ Some x | Some u ↦ None ] ]
 
--- what sites sent
+-- what sites sent, in order
 unfoldable pub sendings : Deployed → List Entry → List Handling
 unfolding listed handling
 sendings d h = listed (sending_entry d) h
@@ -126,17 +135,19 @@ sendings d h = listed (sending_entry d) h
 -- the nodes of the tree of an epoch
 unfoldable pub nodes_of : Deployed → ℕ → List NodeId
 unfolding tree_of
-nodes_of d e =
-    elim (tree_of d e) [ None ↦ [] | Some t ↦ map Site (below d.sites) ++ map Serializer (below (length t.parents)) ]
+nodes_of d epoch =
+    elim (tree_of d epoch) [ None ↦ [] | Some tree ↦ map Site (below d.sites) ++ map Serializer (below (length tree.parents)) ]
 
+-- a node has handled a label in an epoch
 abbrev pub was_handled : List Handling → ℕ → Label → NodeId → Bool
-was_handled handled e l v = list_any (λ x. (x.epoch == e) && (node_eq x.node v && label_eq x.label l)) handled
+was_handled handled epoch l v = list_any (λ x. (x.epoch == epoch) && (node_eq x.node v && label_eq x.label l)) handled
 
--- the nodes that have not handled a label that was sent
+-- how many nodes have not handled a label that was sent
 unfoldable pub sending_left : Deployed → List Handling → Handling → ℕ
 unfolding nodes_of
 sending_left d handled s = length (filter (λ v. not (was_handled handled s.epoch s.label v)) (nodes_of d s.epoch))
 
+-- how many epochs site j has before it
 abbrev pub epochs_left : Deployed → List Entry → ℕ → ℕ
 epochs_left d h j = length d.plans - view h j
 
@@ -150,21 +161,26 @@ left d h =
 
 -- ---- rounds
 
+-- the bulk of each lane's next payload
 abbrev pub bulks : Deployed → List Act
 bulks d =
     joined (λ i. joined (λ g. joined (λ j. if i == j then [] else act.Bulk i g j None ∷ []) (below d.sites)) (below d.gears)) (below d.sites)
 
+-- a hop of each serializer of an epoch's tree from each of its neighbours
 unfoldable pub hops_of : ℕ → Option TreeShape → List Act
 unfolding neighbours
-hops_of e None = []
-hops_of e (Some t) = joined (λ z. map (λ u. act.Hop e u z) (neighbours t z)) (below (length t.parents))
+hops_of epoch None = []
+hops_of epoch (Some tree) = joined (λ z. map (λ u. act.Hop epoch u z) (neighbours tree z)) (below (length tree.parents))
 
+-- the hops of each epoch, the first epoch first
 abbrev pub hops : Deployed → List Act
 hops d = joined (λ n. hops_of (n + 1) (tree_of d (n + 1))) (below (length d.plans))
 
+-- of each site a turn, a stamp and an advance
 abbrev pub turns : Deployed → List Act
 turns d = joined (λ j. act.Turn j ∷ act.Stamp j ∷ act.Advance j ∷ []) (below d.sites)
 
+-- the acts of a round, in order
 unfoldable pub round_acts : Deployed → List Act
 unfolding hops_of tree_of
 round_acts d = bulks d ++ (hops d ++ turns d)
@@ -174,6 +190,7 @@ unfoldable pub until_refused : Deployed → Act → List Entry → List Entry
 unfolding repeated left
 until_refused d a h = repeated d a (left d h) h
 
+-- a round: each of its acts until it is refused
 unfoldable pub round : Deployed → List Entry → List Entry
 unfolding for_each until_refused round_acts
 round d h = for_each (until_refused d) (round_acts d) h
@@ -193,10 +210,11 @@ settle d h = let start = opening d h in rounds d (left d start) start
 
 -- ---- runs
 
+-- a count as an answer has it: at most 2^64 - 1
 abbrev pub capped : ℕ → ℕ
 capped n = min n (2 ^ 64 - 1)
 
--- the answer of an act after a history
+-- the answer of an act after a history. A settle answers in how many rounds an act was done, and how many acts were done
 unfoldable pub answer_of : Deployed → List Entry → Act → Answer
 unfolding answer settle
 answer_of d h act.Settle = ans.Settled (capped (settle d h).0) (capped (length (settle d h).1 - length h))

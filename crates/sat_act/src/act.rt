@@ -5,83 +5,111 @@ use sat_label::{NodeId, Value};
 use std::alloc::{AllocError, Global};
 use std::marker::Model;
 
-/// One event of a script. Sites, gears, items, clients, epochs and serializers go by number.
+/// One event of a script. Sites, gears, items, clients and serializers go by number, from 0; epochs count from 1.
 #[derive(Drop)]
 pub enum Act {
+    /// The clock of a gear moves on: its promise rises to `ts` at least.
     Tick {
         site: u16,
         gear: u16,
+        /// At most 2^62.
         ts: u64,
     },
+    /// Every gear of every site is ticked to the greatest promise of all.
     Clock,
+    /// A client writes an item at the site where it is seated.
     Write {
         client: u16,
         item: u16,
         value: Value,
     },
+    /// A client reads an item at the site where it is seated.
     Read {
         client: u16,
         item: u16,
     },
+    /// A client gives up its seat to go to another site, which a label tells of it.
     Move {
         client: u16,
+        /// The site that it goes to.
         site: u16,
     },
+    /// A client gives up its seat and goes nowhere.
     Leave {
         client: u16,
     },
+    /// A client without a seat asks for one.
     Attach {
         client: u16,
+        /// The site that it asks.
         site: u16,
     },
+    /// The sink of a site takes what its gears made since the last gather, with their promises.
     Gather {
         site: u16,
     },
+    /// The sink of a site sends its least label that is stable.
     Emit {
         site: u16,
     },
+    /// The sink of a site has nothing to send, and sends word of how far it is.
     Pulse {
         site: u16,
     },
+    /// A serializer of an epoch's tree handles the first label on the link from a neighbour.
     Hop {
         epoch: u16,
+        /// The neighbour, a site or a serializer.
         from: NodeId,
+        /// The serializer.
         to: u16,
     },
+    /// A site takes the first label on the link from its serializer, in the tree of its view.
     Turn {
         site: u16,
     },
+    /// A payload of a lane comes to the site that it is for.
     Bulk {
         from: u16,
         gear: u16,
         to: u16,
+        /// Its number in the lane, from 0. None for the first that has not come.
         number: Option<u64>,
     },
+    /// A site makes a beat for another: how far its sink is, what it closed, and how much of each lane was gathered.
     Beat {
         from: u16,
         to: u16,
     },
+    /// A beat comes to the site that it is for.
     BeatIn {
         from: u16,
         to: u16,
+        /// Its number among the beats from that site for this one, from 0.
         number: u64,
     },
+    /// A site shows its next update in timestamp order.
     Stamp {
         site: u16,
     },
+    /// A site closes the epoch in which it sends, at the cut of its sink.
     Close {
         site: u16,
     },
+    /// A site that closed its view goes on in it by timestamp order, without the tree.
     Fall {
         site: u16,
     },
+    /// A site goes on to the next view.
     Advance {
         site: u16,
     },
+    /// A serializer of an epoch's tree stops for good.
     Kill {
         epoch: u16,
         serializer: u16,
     },
+    /// Everything that can still move moves, until nothing does.
     Settle,
 }
 

@@ -6,13 +6,14 @@ ghost use Rattle.sat_act.specs.declared.deployment.Plan.TheVariants as plan;
 ghost use Rattle.std.specs.List.{list_any};
 ghost use Rattle.std.specs.Str.{bytes_eq};
 ghost use Rattle.sat_label.specs.Words.{first_failing};
+ghost use Rattle.sat_label.specs.declared.limits.TheConstants.{MOST_CLIENTS, MOST_EPOCHS, MOST_ITEMS, MOST_SITES};
 ghost use Rattle.sat_act.specs.declared.deployment.Item.{Item};
 ghost use Rattle.sat_act.specs.declared.deployment.ClientLine.{ClientLine};
 ghost use Rattle.sat_act.specs.Flaw.{are_sites, has_name, HaveItemNames, HaveClientLineNames, client_fits, flaw, item_fits, plan_fits, wrong_size};
 ghost use Rattle.sat_act.specs.Limits.{HaveTrees};
 
 use crate::{ClientLine, DeploymentFault, Item, Plan};
-use sat_label::SiteSet;
+use sat_label::{MOST_CLIENTS, MOST_EPOCHS, MOST_GEARS, MOST_ITEMS, MOST_SITES, SiteSet};
 use std::alloc::{AllocError, Global};
 use std::collections::BTreeSet;
 
@@ -40,7 +41,7 @@ fn has_client(clients: &[ClientLine], name: &[u8]) -> bool
 // Whether a set has a member, and only sites of the deployment.
 #[tactic(auto, using(crate::proofs::Sets::few_bits))]
 fn are_sites(sites: u16, set: &SiteSet) -> bool
-    requires { sites ≤ 16 }
+    requires { sites ≤ MOST_SITES }
     ensures { result ≡ are_sites sites set.now.bits }
 {
     let bits = set.bits;
@@ -50,7 +51,7 @@ fn are_sites(sites: u16, set: &SiteSet) -> bool
 #[tactic(auto, unfolding(crate::specs::Flaw::item_fits))]
 fn scan_item(sites: u16, items: &[Item], x: u16) -> bool
     requires place { x < length items.now }
-    requires few { sites ≤ 16 }
+    requires few { sites ≤ MOST_SITES }
     ensures { result ≡ item_fits sites items.now x }
 {
     let item = &items[x as usize];
@@ -80,8 +81,8 @@ fn plan_fits(sites: u16, plans: &[Plan], e: u16) -> bool
 
 #[tactic(auto, using(sat_label::proofs::First::first_start, sat_label::proofs::First::first_more, sat_label::proofs::First::first_here))]
 fn scan_items(sites: u16, items: &[Item]) -> Option<u16>
-    requires few { length items.now ≤ 4096 }
-    requires few_sites { sites ≤ 16 }
+    requires few { length items.now ≤ MOST_ITEMS }
+    requires few_sites { sites ≤ MOST_SITES }
     ensures { result ≡ first_failing (item_fits sites items.now) (length items.now) }
 {
     for x in 0..items.len() as u16 {
@@ -94,7 +95,7 @@ fn scan_items(sites: u16, items: &[Item]) -> Option<u16>
 
 #[tactic(auto, using(sat_label::proofs::First::first_start, sat_label::proofs::First::first_more, sat_label::proofs::First::first_here))]
 fn scan_clients(sites: u16, clients: &[ClientLine]) -> Option<u16>
-    requires { length clients.now ≤ 1024 }
+    requires { length clients.now ≤ MOST_CLIENTS }
     ensures { result ≡ first_failing (client_fits sites clients.now) (length clients.now) }
 {
     for c in 0..clients.len() as u16 {
@@ -114,7 +115,7 @@ fn take_item<'a>(
     x: u16,
 ) -> Result<bool, AllocError>
     requires place { x < length items.now }
-    requires few_sites { sites ≤ 16 }
+    requires few_sites { sites ≤ MOST_SITES }
     requires names { HaveItemNames names.old (take x items.now) }
     ensures fits { IfOk result (λ fits. fits ≡ item_fits sites items.now x) }
     ensures names { IfOk result (λ fits. fits ≡ true → HaveItemNames names.new (take (x + 1) items.now)) }
@@ -129,8 +130,8 @@ fn take_item<'a>(
 
 #[tactic(auto, using(sat_label::proofs::First::first_start, sat_label::proofs::First::first_more, sat_label::proofs::First::first_here))]
 fn find_wrong_item(alloc: Global, sites: u16, items: &[Item]) -> Result<Option<u16>, AllocError>
-    requires few { length items.now ≤ 4096 }
-    requires few_sites { sites ≤ 16 }
+    requires few { length items.now ≤ MOST_ITEMS }
+    requires few_sites { sites ≤ MOST_SITES }
     ensures { IfOk result (λ place. place ≡ first_failing (item_fits sites items.now) (length items.now)) }
 {
     let mut names: BTreeSet<&[u8]> = BTreeSet::new(alloc);
@@ -169,7 +170,7 @@ fn find_wrong_client(
     sites: u16,
     clients: &[ClientLine],
 ) -> Result<Option<u16>, AllocError>
-    requires few { length clients.now ≤ 1024 }
+    requires few { length clients.now ≤ MOST_CLIENTS }
     ensures { IfOk result (λ place. place ≡ first_failing (client_fits sites clients.now) (length clients.now)) }
 {
     let mut names: BTreeSet<&[u8]> = BTreeSet::new(alloc);
@@ -183,8 +184,8 @@ fn find_wrong_client(
 
 // The first item that doesn't fit. For want of memory the names are compared pair by pair, which takes none.
 fn first_wrong_item(alloc: Global, sites: u16, items: &[Item]) -> Option<u16>
-    requires few { length items.now ≤ 4096 }
-    requires few_sites { sites ≤ 16 }
+    requires few { length items.now ≤ MOST_ITEMS }
+    requires few_sites { sites ≤ MOST_SITES }
     ensures { result ≡ first_failing (item_fits sites items.now) (length items.now) }
 {
     match find_wrong_item(alloc, sites, items) {
@@ -195,7 +196,7 @@ fn first_wrong_item(alloc: Global, sites: u16, items: &[Item]) -> Option<u16>
 
 // The first client that doesn't fit. For want of memory the names are compared pair by pair, which takes none.
 fn first_wrong_client(alloc: Global, sites: u16, clients: &[ClientLine]) -> Option<u16>
-    requires { length clients.now ≤ 1024 }
+    requires { length clients.now ≤ MOST_CLIENTS }
     ensures { result ≡ first_failing (client_fits sites clients.now) (length clients.now) }
 {
     match find_wrong_client(alloc, sites, clients) {
@@ -206,7 +207,7 @@ fn first_wrong_client(alloc: Global, sites: u16, clients: &[ClientLine]) -> Opti
 
 #[tactic(auto, using(sat_label::proofs::First::first_start, sat_label::proofs::First::first_more, sat_label::proofs::First::first_here))]
 fn first_wrong_plan(sites: u16, plans: &[Plan]) -> Option<u16>
-    requires { length plans.now ≤ 16 }
+    requires { length plans.now ≤ MOST_EPOCHS }
     ensures first { result ≡ first_failing (plan_fits sites plans.now) (length plans.now) }
     ensures trees { result ≡ None → HaveTrees plans.now }
 {
@@ -228,19 +229,19 @@ fn wrong_size(
 ) -> Option<u16>
     ensures { result ≡ wrong_size (record { sites = sites; gears = gears; items = items.now; clients = clients.now; plans = plans.now }) }
 {
-    if sites < 1 || 16 < sites {
+    if sites < 1 || MOST_SITES < sites {
         return Some(0);
     }
-    if gears < 1 || 8 < gears {
+    if gears < 1 || MOST_GEARS < gears {
         return Some(1);
     }
-    if 4096 < items.len() {
+    if MOST_ITEMS < items.len() {
         return Some(2);
     }
-    if 1024 < clients.len() {
+    if MOST_CLIENTS < clients.len() {
         return Some(3);
     }
-    if plans.is_empty() || 16 < plans.len() {
+    if plans.is_empty() || MOST_EPOCHS < plans.len() {
         return Some(4);
     }
     None

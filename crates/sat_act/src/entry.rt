@@ -5,11 +5,14 @@ use crate::{Act, Answer};
 use std::alloc::{AllocError, Global};
 use std::marker::Model;
 
-/// An act and its answer. An inner entry is one that a settle made.
+/// One line of a history: an act and its answer.
 #[derive(Drop)]
 pub struct Entry {
+    /// What was asked.
     pub act: Act,
+    /// What came of it.
     pub answer: Answer,
+    /// Whether a settle made the entry.
     pub inner: bool,
 }
 

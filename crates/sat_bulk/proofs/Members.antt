@@ -1,16 +1,12 @@
--- Labels in a list, and lists whose labels rise.
+-- Lists whose labels rise.
 use Rattle.std.proofs.Common.{◌⊎◌, ◌≡◌, List, [], ◌∷◌, ◌++◌, true, inl, inr, refl}
 use Rattle.sat_label.specs.declared.label.Label.{Label}
 use Rattle.sat_label.specs.Order.{point_lt}
-use Rattle.sat_bulk.specs.Drains.{In, Rises}
-
--- a label of two lists is one of either
-pub in-parts : (xs ys : List Label) (x : Label) → In (xs ++ ys) x → In xs x ⊎ In ys x
-in-parts [] ys x i = inr i
-in-parts (y ∷ xs) ys x (inl e) = inl (inl e)
-in-parts (y ∷ xs) ys x (inr i) = elim (in-parts xs ys x i) [ inl a ↦ inl (inr a) | inr b ↦ inr b ]
+use Rattle.sat_label.specs.Members.{In}
+use Rattle.sat_label.proofs.Members.{In-parts}
+use Rattle.sat_bulk.specs.Drains.{Rises}
 
 -- a list goes on rising where each label of the second is above each of the first
 pub rises-both : (xs ys : List Label) → Rises xs → Rises ys → ((x y : Label) → In xs x → In ys y → point_lt x.point y.point ≡ true) → Rises (xs ++ ys)
 rises-both [] ys r s f = s
-rises-both (x ∷ xs) ys r s f = (λ m i. elim (in-parts xs ys m i) [ inl a ↦ r.0 m a | inr b ↦ f x m (inl refl) b ], rises-both xs ys r.1 s (λ z y i j. f z y (inr i) j))
+rises-both (x ∷ xs) ys r s f = (λ m i. elim (In-parts xs ys m i) [ inl a ↦ r.0 m a | inr b ↦ f x m (inl refl) b ], rises-both xs ys r.1 s (λ z y i j. f z y (inr i) j))

@@ -3,8 +3,11 @@
 
 ghost use Rattle.std.specs.Prelude.{◌≡◌, IfOk};
 
+mod window;
+
 use sat_label::{Counts, Label, Labels, Value};
 use std::alloc::AllocError;
+pub use window::{Take, Window};
 
 /// The bulk part of an update: its label, and the value that travels apart from the label.
 #[derive(Drop)]

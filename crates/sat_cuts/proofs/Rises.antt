@@ -1,13 +1,13 @@
 -- A cut never falls.
-use Rattle.std.specs.Prelude.{◌≡◌, ◌⊎◌, ◌<◌, ◌≤◌, ℕ, ◌-◌, Bool, true, false, List, [], ◌∷◌, ◌++◌, Option, Some, None, refl, nat_lt, if◌then◌else◌}
-use Rattle.std.proofs.Common.{sym, subst, arith, inl, inr, ap, ◌∙◌, lit≤}
+use Rattle.std.specs.Prelude.{◌≡◌, ◌⊎◌, ◌<◌, ◌≤◌, ℕ, ◌-◌, Bool, true, false, List, [], ◌∷◌, ◌++◌, Option, Some, None, refl, nat_lt}
+use Rattle.std.proofs.Common.{sym, subst, arith, inl, inr, ◌∙◌, lit≤}
 use Rattle.std.proofs.lemmas.Bool.Decides.{nat_tests}
 use Rattle.std.proofs.Math.Nat.{le_refl}
 use Rattle.sat_label.specs.declared.point.Point.{Point}
 use Rattle.sat_label.specs.declared.label.Kind.{Kind}
 use Rattle.sat_label.specs.declared.label.Kind.TheVariants as kind
 use Rattle.sat_label.specs.declared.label.Label.{Label}
-use Rattle.sat_label.specs.Order.{point_at, mark, point_lt, point_le, greater_point, label_eq}
+use Rattle.sat_label.specs.Order.{point_at, mark, point_lt, point_le, label_eq}
 use Rattle.sat_label.specs.Words.{has}
 use Rattle.sat_act.specs.declared.entry.Entry.{Entry}
 use Rattle.sat_act.specs.Deployed.{Deployed}
@@ -17,11 +17,15 @@ use Rattle.sat_act.specs.Done.{made_in}
 use Rattle.sat_act.specs.Goals.{Gives, Made, IsValid}
 use Rattle.sat_laws.proofs.Runs.{step_of, before_of}
 use Rattle.sat_laws.proofs.Labels.{IsPlaced, made-placed, made-positive}
-use Rattle.sat_laws.proofs.Orders.{point_lt-total, point_le-trans, point_le-mark}
-use Rattle.sat_laws.proofs.Knowledge.{point_le-self, point_le-greater_left, point_le-greater_right}
-use Rattle.sat_laws.proofs.Sinks.{Sent, IsLeast, pending-is, stable-rises, gathered-made, new-unstable, join_left}
-use Rattle.sat_laws.proofs.Cuts.{Sending, by_emit, by_pulse, by_close, sending, ready-is, not_sent, none-sent, precedes-sent, lower-sent, last-new, last-old, cut-none, cut-ts, sent-order, sent-ts, sent-site, ts-lt}
-use Rattle.sat_cuts.specs.CutLaws.{CutNeverFalls, CutNeverFallsLater, CutIsStable}
+use Rattle.sat_laws.proofs.Orders.{point_le-mark}
+use Rattle.sat_laws.proofs.Knowledge.{point_le-greater_left, point_le-greater_right}
+use Rattle.sat_laws.proofs.Sinks.{Sent, pending-is, stable-rises, gathered-made, new-unstable}
+use Rattle.sat_laws.proofs.Cuts.{cut-some, stable-ts, Sending, by_emit, by_pulse, by_close, sending, ready-is, not_sent, none-sent, precedes-sent, lower-sent, last-new, last-old, cut-none, cut-ts, sent-order, sent-ts, sent-site}
+use Rattle.sat_cuts.specs.Laws.{CutNeverFalls, CutNeverFallsLater, CutIsStable}
+use Rattle.sat_laws.proofs.Knowledge.{point_le-below}
+use Rattle.sat_label.proofs.Orders.{marks-le, of-greater, point_lt-total, point_le-trans, point_le-self, ts-lt}
+use Rattle.sat_label.proofs.Least.{IsLeast}
+use Rattle.std.proofs.lemmas.Bool.{or_left}
 
 -- ---- over plain points
 
@@ -29,26 +33,12 @@ use Rattle.sat_cuts.specs.CutLaws.{CutNeverFalls, CutNeverFallsLater, CutIsStabl
 below_mark : (p : Point) (i t : ℕ) → p.site ≡ i → p.gear ≤ 65535 → p.ts ≤ t → point_le p (mark t i) ≡ true
 below_mark p i t s g w = subst (λ (k : ℕ). point_le p (mark t k) ≡ true) s (point_le-mark p t g w)
 
-mark_up : (t u i : ℕ) → t ≤ u → point_le (mark t i) (mark u i) ≡ true
-mark_up t u i w = point_le-mark (mark t i) u (lit≤ tt) w
-
 lt_or_le : (a b : ℕ) → (a < b) ⊎ (b ≤ a)
 lt_or_le a b = go (nat_lt a b) refl
   where
     go : (c : Bool) → nat_lt a b ≡ c → (a < b) ⊎ (b ≤ a)
     go true e = inl (grind (arith, nat_tests))
     go false e = inr (grind (arith, nat_tests))
-
-less : (p q : Point) → p.ts < q.ts → point_le p q ≡ true
-less p q w = join_left (point_lt p q) _ (ts-lt p q w)
-
--- what holds of both holds of the greater
-of_greater : (P : Point → Type 0) (p q : Point) → P p → P q → P (greater_point p q)
-of_greater P p q a b = go (point_lt p q)
-  where
-    go : (c : Bool) → P (if c then q else p)
-    go true = b
-    go false = a
 
 -- what a label makes known is not below it
 known-above : (l : Label) → l.point.gear ≤ 65535 → point_le l.point (known_by l) ≡ true
@@ -71,19 +61,12 @@ last-all P (e ∷ h) i each zero = go (sent_entry i h e) refl (last-all P h i (�
     go None w old = subst P (sym (last-old h e i w)) old
     go (Some s) w old = subst P (sym (last-new h e i s w)) (each s (inr w))
 
-abbrev fold_cut : Option Label → Point → Point → ℕ → Point
-fold_cut o p q i = elim o [ None ↦ p | Some least ↦ greater_point q (mark (least.point.ts - 1) i) ]
-
-cut-some : (d : Deployed) (h : List Entry) (i : ℕ) (m : Label) → ready d h i ≡ Some m → cut d h i ≡ greater_point (last_sent h i) (mark (m.point.ts - 1) i)
-unfolding cut
-cut-some d h i m e = ap (λ (o : Option Label). fold_cut o (mark (stable d h i) i) (last_sent h i) i) e
-
 cut-all : (P : Point → Type 0) (d : Deployed) (h : List Entry) (i : ℕ) → ((s : Label) → Sent h i s → P s.point) → P (point_at 0 i 0) → ((t : ℕ) → P (mark t i)) → P (cut d h i)
 cut-all P d h i each zero marks = go (ready d h i) refl
   where
     go : (o : Option Label) → ready d h i ≡ o → P (cut d h i)
     go None r = subst P (sym (cut-none d h i r)) (marks (stable d h i))
-    go (Some m) r = subst P (sym (cut-some d h i m r)) (of_greater P (last_sent h i) (mark (m.point.ts - 1) i) (last-all P h i each zero) (marks (m.point.ts - 1)))
+    go (Some m) r = subst P (sym (cut-some d h i m r)) (of-greater P (last_sent h i) (mark (m.point.ts - 1) i) (last-all P h i each zero) (marks (m.point.ts - 1)))
 
 few-gears : (d : Deployed) (h : List Entry) (l : Label) → IsValid d → IsRun d h → Made h l → l.point.gear ≤ 65535
 few-gears d h l v run m =
@@ -129,10 +112,6 @@ ready-waits d h i l r =
     let k : IsLeast (is_stable d h i) (pending d h i) l = ready-is d h i l r in
     let q : Made (gathered h i) l × (l.point.site ≡ i) × (has label_eq (sent h i) l ≡ false) = pending-is d h i l k.member in
     record { made = gathered-made h i l q.0; site = q.1; unsent = not_sent h i l q.2 }
-
-stable-ts : (d : Deployed) (h : List Entry) (i : ℕ) (l : Label) → is_stable d h i l ≡ true → l.point.ts ≤ stable d h i
-unfolding is_stable
-stable-ts d h i l e = grind (arith, nat_tests)
 
 ready-ts : (d : Deployed) (h : List Entry) (i : ℕ) (l : Label) → ready d h i ≡ Some l → l.point.ts ≤ stable d h i
 ready-ts d h i l r = let k : IsLeast (is_stable d h i) (pending d h i) l = ready-is d h i l r in stable-ts d h i l k.passes
@@ -183,7 +162,7 @@ sent-below d h i s m v run x r a =
     elim (point_lt-total s.point m.point) [
       | inl b ↦ b
       | inr b ↦
-          let c : point_le m.point (known_by s) ≡ true = point_le-trans m.point s.point (known_by s) (join_left (point_lt m.point s.point) _ b) (known-above s (sent-gear d h i s v run a)) in
+          let c : point_le m.point (known_by s) ≡ true = point_le-trans m.point s.point (known_by s) (or_left (point_lt m.point s.point) _ b) (known-above s (sent-gear d h i s v run a)) in
           absurd (k.unsent (known-sent d h i s m v run x a k.made k.site c))
     ]
 
@@ -193,9 +172,9 @@ ready-above d h i m v run x r =
     let k : IsWaiting h i m = ready-waits d h i m r in
     let t : 1 ≤ m.point.ts = made-positive d h m v run k.made in
     subst (λ (p : Point). point_le p m.point ≡ true) (sym (cut-some d h i m r))
-    (of_greater (λ p. point_le p m.point ≡ true) (last_sent h i) (mark (m.point.ts - 1) i)
-    (last-all (λ p. point_le p m.point ≡ true) h i (λ s. sent-below d h i s m v run x r) (less (point_at 0 i 0) m.point (omega arith)))
-    (less (mark (m.point.ts - 1) i) m.point (omega arith)))
+    (of-greater (λ p. point_le p m.point ≡ true) (last_sent h i) (mark (m.point.ts - 1) i)
+    (last-all (λ p. point_le p m.point ≡ true) h i (λ s. sent-below d h i s m v run x r) (point_le-below (point_at 0 i 0) m.point (omega arith)))
+    (point_le-below (mark (m.point.ts - 1) i) m.point (omega arith)))
 
 last-below : (d : Deployed) (h : List Entry) (i : ℕ) (l : Label) → ready d h i ≡ Some l → point_le (last_sent h i) (cut d h i) ≡ true
 last-below d h i l r = subst (λ (p : Point). point_le (last_sent h i) p ≡ true) (sym (cut-some d h i l r)) (point_le-greater_right (mark (l.point.ts - 1) i) (last_sent h i))
@@ -203,7 +182,7 @@ last-below d h i l r = subst (λ (p : Point). point_le (last_sent h i) p ≡ tru
 mark-below : (d : Deployed) (h : List Entry) (i t : ℕ) (l : Label) → ready d h i ≡ Some l → t ≤ l.point.ts - 1 → point_le (mark t i) (cut d h i) ≡ true
 mark-below d h i t l r w =
     subst (λ (p : Point). point_le (mark t i) p ≡ true) (sym (cut-some d h i l r))
-    (point_le-trans (mark t i) (mark (l.point.ts - 1) i) _ (mark_up t (l.point.ts - 1) i w) (point_le-greater_left (mark (l.point.ts - 1) i) (last_sent h i)))
+    (point_le-trans (mark t i) (mark (l.point.ts - 1) i) _ (marks-le t (l.point.ts - 1) i w) (point_le-greater_left (mark (l.point.ts - 1) i) (last_sent h i)))
 
 -- ---- the cut before an entry, and after it
 
@@ -232,7 +211,7 @@ some-twice d h e i m l v run x r q = go (sent_entry i h e) refl
     go None w =
         let t : m.point.ts ≤ l.point.ts = past-ready d h e i l m v run (ready-waits d (e ∷ h) i l q) r in
         subst (λ (p : Point). point_le p (cut d (e ∷ h) i) ≡ true) (sym (cut-some d h i m r))
-        (of_greater (λ p. point_le p (cut d (e ∷ h) i) ≡ true) (last_sent h i) (mark (m.point.ts - 1) i)
+        (of-greater (λ p. point_le p (cut d (e ∷ h) i) ≡ true) (last_sent h i) (mark (m.point.ts - 1) i)
         (subst (λ (p : Point). point_le p (cut d (e ∷ h) i) ≡ true) (last-old h e i w) (last-below d (e ∷ h) i l q))
         (mark-below d (e ∷ h) i (m.point.ts - 1) l q (omega arith)))
     go (Some s) w =

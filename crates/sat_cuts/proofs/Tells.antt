@@ -11,14 +11,17 @@ use Rattle.sat_act.specs.Parts.{sent, sent_entry, known_by}
 use Rattle.sat_act.specs.Runs.{IsRun}
 use Rattle.sat_act.specs.Goals.{IsValid}
 use Rattle.sat_laws.proofs.Runs.{step_of, before_of}
-use Rattle.sat_laws.proofs.Labels.{is_made, made-kind, made-known}
-use Rattle.sat_laws.proofs.Members.{In-get, has-in, in-has, listed-gives, gives-listed}
+use Rattle.sat_laws.proofs.Labels.{made-kind, made-known}
+use Rattle.sat_laws.proofs.Members.{listed-gives, gives-listed}
 use Rattle.sat_laws.proofs.Links.{get-cases, get-below}
-use Rattle.sat_laws.proofs.Orders.{point_lt-total}
-use Rattle.sat_laws.proofs.Sinks.{Sent, join_left}
+use Rattle.sat_laws.proofs.Sinks.{Sent}
 use Rattle.sat_laws.proofs.Cuts.{Sending, by_emit, by_pulse, by_close, sending, sent-order, cut-sent, sent-cut, sent-site}
 use Rattle.sat_cuts.proofs.Rises.{IsWaiting, ready-waits, known-sent}
-use Rattle.sat_cuts.specs.CutLaws.{CutIsWhatWasSent, SentInLabelOrder, SentBySite}
+use Rattle.sat_cuts.specs.Laws.{CutIsWhatWasSent, SentInLabelOrder, SentBySite}
+use Rattle.sat_label.specs.Members.{is_made}
+use Rattle.sat_label.proofs.Members.{In-get, has-in, in-has}
+use Rattle.sat_label.proofs.Orders.{point_lt-total}
+use Rattle.std.proofs.lemmas.Bool.{or_left}
 
 has-sent : (h : List Entry) (i : ℕ) (l : Label) → has label_eq (sent h i) l ≡ true → Sent h i l
 unfolding sent
@@ -55,7 +58,7 @@ sending-after d h i a b v run x m k made (by_emit r) =
     let w : IsWaiting h i b = ready-waits d h i b r in
     elim (point_lt-total b.point a.point) [
       | inl c ↦ absurd (w.unsent (known-sent d h i a b v run x m w.made w.site (subst (λ (p : Point). point_le b.point p ≡ true) (sym k) c)))
-      | inr c ↦ join_left (point_lt a.point b.point) _ c
+      | inr c ↦ or_left (point_lt a.point b.point) _ c
     ]
 sending-after d h i a b v run x m k made (by_pulse r p w) = absurd (subst (λ (l : Label). is_made l.kind ≡ true → ⊥) w (λ e. cc) made)
 sending-after d h i a b v run x m k made (by_close w) = absurd (subst (λ (l : Label). is_made l.kind ≡ true → ⊥) w (λ e. cc) made)

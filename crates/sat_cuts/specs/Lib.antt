@@ -1,1 +1,1 @@
-pub mod CutLaws
+pub mod Laws

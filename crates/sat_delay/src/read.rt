@@ -8,15 +8,14 @@ use crate::DelayFault;
 use crate::delays::Delays;
 use crate::matrix::{Form, keyed};
 use crate::number::size_of;
+use sat_label::MOST_SITES;
 use serde_json::Value;
 use std::alloc::Global;
 
 /// The most bytes that a text of delays may have.
 pub const MOST_BYTES: usize = 1_048_576;
 
-// The greatest numbers of sites, places, milliseconds and weights.
-const MOST_SITES: u16 = 16;
-
+// The greatest numbers of places, milliseconds and weights.
 const MOST_PLACES: u16 = 32;
 
 const MOST_MILLISECONDS: u64 = 100_000;

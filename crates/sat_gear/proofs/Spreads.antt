@@ -1,18 +1,17 @@
 -- Lanes of places, and of payloads.
-use Rattle.std.specs.Prelude.{◌≡◌, ◌<◌, ◌+◌, ℕ, zero, suc, Bool, true, false, List, [], ◌∷◌, ◌++◌, length, get_or, take, set, map, replicate, slice_get, Option, Some, None, if◌then◌else◌, refl}
+use Rattle.std.specs.Prelude.{◌≡◌, ◌<◌, ◌+◌, ◌==◌, ℕ, zero, suc, Bool, true, false, List, [], ◌∷◌, ◌++◌, length, get_or, take, set, map, replicate, slice_get, Option, Some, None, if◌then◌else◌, refl}
 use Rattle.std.proofs.Common.{arith, ap, subst, sym, ◌∙◌, inl, inr, zero-add, ◌⊎◌}
 use Rattle.std.proofs.Math.Nat.{eq-or-lt_of_le}
+use Rattle.std.proofs.lemmas.Bool.{eqb-true}
 use Rattle.std.proofs.lemmas.Option.{slice_get-get_or}
 use Rattle.std.proofs.lemmas.List.{take_more, map-append, map-set, set-get_or, get_or-map, get_or-set_same, get_or-set_other, length-map, length-set, append-nil, append_assoc, same_lists, get_or_default, length-append}
 use Rattle.std.specs.List.{AllWithin}
 use Rattle.std.specs.Option.{option_to_list}
 use Rattle.sat_label.proofs.Numbers.{get-front}
-use Rattle.sat_gear.specs.Lanes.{Laid, places_in, count_of, lanes_where, numbers_where, picked, AllBelow, HasRoom, Spread}
+use Rattle.sat_queue.specs.Queued.{Queued, members_of, HasRoom}
+use Rattle.sat_gear.specs.Lanes.{count_of, lanes_where, numbers_where, picked, AllBelow, Spread}
 
 -- ---- a place put into the lanes of some sites
-
-pub spread-none : (test : ℕ → Bool) (place : ℕ) (old : List (List ℕ)) → Spread test place 0 old old
-spread-none test place old = record { count = refl; before = λ k low. absurd (omega arith); after = λ k high. refl }
 
 -- the lane at place i became this one
 spread-set : (test : ℕ → Bool) (place i : ℕ) (old now : List (List ℕ)) (lane : List ℕ) → i < length now → Spread test place i old now →
@@ -27,26 +26,23 @@ spread-set test place i old now lane h s e = record {
     at k (inl same) = subst (λ (n : ℕ). get_or (set now i lane) n [] ≡ (if test n then get_or old n [] ++ place ∷ [] else get_or old n [])) (sym same) (get_or-set_same now i lane [] h ∙ e)
     at k (inr low) = get_or-set_other now i k lane [] (λ same. absurd (let e : k ≡ i = same in omega arith)) ∙ s.before k low
 
-pub spread-more : (test : ℕ → Bool) (place i : ℕ) (old : List (List ℕ)) (lanes : List Laid) (q r : Laid) → i < length lanes → Spread test place i old (map places_in lanes) →
-    test i ≡ true → r.places ≡ (get_or lanes i q).places ++ place ∷ [] → Spread test place (i + 1) old (map places_in (set lanes i r))
+pub spread-more : (test : ℕ → Bool) (place i : ℕ) (old : List (List ℕ)) (lanes : List (Queued ℕ)) (q r : Queued ℕ) → i < length lanes → Spread test place i old (map members_of lanes) →
+    test i ≡ true → r.members ≡ (get_or lanes i q).members ++ place ∷ [] → Spread test place (i + 1) old (map members_of (set lanes i r))
 spread-more test place i old lanes q r h s passes e =
-    let was : (get_or lanes i q).places ≡ get_or old i [] = sym (get_or-map places_in lanes i q [] h) ∙ s.after i (λ low. absurd (omega arith)) in
-    subst (λ (now : List (List ℕ)). Spread test place (i + 1) old now) (sym (map-set places_in lanes i r))
-    (spread-set test place i old (map places_in lanes) r.places (subst (λ (n : ℕ). i < n) (sym (length-map lanes places_in)) h) s
+    let was : (get_or lanes i q).members ≡ get_or old i [] = sym (get_or-map members_of lanes i q [] h) ∙ s.after i (λ low. absurd (omega arith)) in
+    subst (λ (now : List (List ℕ)). Spread test place (i + 1) old now) (sym (map-set members_of lanes i r))
+    (spread-set test place i old (map members_of lanes) r.members (subst (λ (n : ℕ). i < n) (sym (length-map lanes members_of)) h) s
     (e ∙ (ap (λ (ns : List ℕ). ns ++ place ∷ []) was ∙ sym (ap (λ (b : Bool). if b then get_or old i [] ++ place ∷ [] else get_or old i []) passes))))
 
-pub spread-left : (test : ℕ → Bool) (place i : ℕ) (old : List (List ℕ)) (lanes : List Laid) → i < length lanes → Spread test place i old (map places_in lanes) →
-    test i ≡ false → Spread test place (i + 1) old (map places_in lanes)
+pub spread-left : (test : ℕ → Bool) (place i : ℕ) (old : List (List ℕ)) (lanes : List (Queued ℕ)) → i < length lanes → Spread test place i old (map members_of lanes) →
+    test i ≡ false → Spread test place (i + 1) old (map members_of lanes)
 spread-left test place i old lanes h s fails =
-    let here : get_or (map places_in lanes) i [] ≡ get_or old i [] = s.after i (λ low. absurd (omega arith)) in
-    subst (λ (now : List (List ℕ)). Spread test place (i + 1) old now) (set-get_or (map places_in lanes) i [])
-    (spread-set test place i old (map places_in lanes) (get_or (map places_in lanes) i []) (subst (λ (n : ℕ). i < n) (sym (length-map lanes places_in)) h) s
+    let here : get_or (map members_of lanes) i [] ≡ get_or old i [] = s.after i (λ low. absurd (omega arith)) in
+    subst (λ (now : List (List ℕ)). Spread test place (i + 1) old now) (set-get_or (map members_of lanes) i [])
+    (spread-set test place i old (map members_of lanes) (get_or (map members_of lanes) i []) (subst (λ (n : ℕ). i < n) (sym (length-map lanes members_of)) h) s
     (here ∙ sym (ap (λ (b : Bool). if b then get_or old i [] ++ place ∷ [] else get_or old i []) fails)))
 
 -- ---- how much the lanes hold
-
-numbers-end : (test : ℕ → Bool) (k : ℕ) (lane : List ℕ) → numbers_where test k (lane ∷ []) ≡ (if test k then length lane ∷ [] else [])
-numbers-end test k lane = refl
 
 numbers-append : (test : ℕ → Bool) (k : ℕ) (lanes : List (List ℕ)) (lane : List ℕ) →
     numbers_where test k (lanes ++ lane ∷ []) ≡ numbers_where test k lanes ++ (if test (k + length lanes) then length lane ∷ [] else [])
@@ -62,48 +58,41 @@ numbers-append test k (l ∷ lanes) lane =
     go true rest = ap (λ (ns : List ℕ). length l ∷ ns) rest
     go false rest = rest
 
-places-take : (lanes : List Laid) (i : ℕ) (d : Laid) → i < length lanes → map places_in (take (i + 1) lanes) ≡ map places_in (take i lanes) ++ (get_or lanes i d).places ∷ []
-places-take lanes i d h = ap (λ (ls : List Laid). map places_in ls) (take_more lanes i d h) ∙ map-append places_in (take i lanes) (get_or lanes i d ∷ [])
+places-take : (lanes : List (Queued ℕ)) (i : ℕ) (d : Queued ℕ) → i < length lanes → map members_of (take (i + 1) lanes) ≡ map members_of (take i lanes) ++ (get_or lanes i d).members ∷ []
+places-take lanes i d h = ap (λ (ls : List (Queued ℕ)). map members_of ls) (take_more lanes i d h) ∙ map-append members_of (take i lanes) (get_or lanes i d ∷ [])
 
-length-taken : (lanes : List Laid) (i : ℕ) → i < length lanes → length (map places_in (take i lanes)) ≡ i
+length-taken : (lanes : List (Queued ℕ)) (i : ℕ) → i < length lanes → length (map members_of (take i lanes)) ≡ i
 length-taken [] i h = absurd (omega arith)
 length-taken (l ∷ lanes) zero h = refl
 length-taken (l ∷ lanes) (suc i) h = ap suc (length-taken lanes i (omega arith))
 
-numbers-more : (test : ℕ → Bool) (lanes : List Laid) (i : ℕ) (d : Laid) → i < length lanes →
-    numbers_where test 0 (map places_in (take (i + 1) lanes)) ≡ numbers_where test 0 (map places_in (take i lanes)) ++ (if test i then length (get_or lanes i d).places ∷ [] else [])
+numbers-more : (test : ℕ → Bool) (lanes : List (Queued ℕ)) (i : ℕ) (d : Queued ℕ) → i < length lanes →
+    numbers_where test 0 (map members_of (take (i + 1) lanes)) ≡ numbers_where test 0 (map members_of (take i lanes)) ++ (if test i then length (get_or lanes i d).members ∷ [] else [])
 numbers-more test lanes i d h =
     ap (λ (ls : List (List ℕ)). numbers_where test 0 ls) (places-take lanes i d h)
-    ∙ (numbers-append test 0 (map places_in (take i lanes)) (get_or lanes i d).places
-    ∙ ap (λ (n : ℕ). numbers_where test 0 (map places_in (take i lanes)) ++ (if test n then length (get_or lanes i d).places ∷ [] else [])) (let e : 0 + length (map places_in (take i lanes)) ≡ i = zero-add (length (map places_in (take i lanes))) ∙ length-taken lanes i h in e))
+    ∙ (numbers-append test 0 (map members_of (take i lanes)) (get_or lanes i d).members
+    ∙ ap (λ (n : ℕ). numbers_where test 0 (map members_of (take i lanes)) ++ (if test n then length (get_or lanes i d).members ∷ [] else [])) (let e : 0 + length (map members_of (take i lanes)) ≡ i = zero-add (length (map members_of (take i lanes))) ∙ length-taken lanes i h in e))
 
-pub numbers-passed : (test : ℕ → Bool) (lanes : List Laid) (i : ℕ) (q : Laid) (ns : List ℕ) → i < length lanes → q ≡ get_or lanes i q → test i ≡ true →
-    ns ≡ numbers_where test 0 (map places_in (take i lanes)) → ns ++ length q.places ∷ [] ≡ numbers_where test 0 (map places_in (take (i + 1) lanes))
+pub numbers-passed : (test : ℕ → Bool) (lanes : List (Queued ℕ)) (i : ℕ) (q : Queued ℕ) (ns : List ℕ) → i < length lanes → q ≡ get_or lanes i q → test i ≡ true →
+    ns ≡ numbers_where test 0 (map members_of (take i lanes)) → ns ++ length q.members ∷ [] ≡ numbers_where test 0 (map members_of (take (i + 1) lanes))
 numbers-passed test lanes i q ns h e passes is =
-    ap (λ (ms : List ℕ). ms ++ length q.places ∷ []) is
-    ∙ (ap (λ (l : Laid). numbers_where test 0 (map places_in (take i lanes)) ++ length l.places ∷ []) e
-    ∙ sym (numbers-more test lanes i q h ∙ ap (λ (b : Bool). numbers_where test 0 (map places_in (take i lanes)) ++ (if b then length (get_or lanes i q).places ∷ [] else [])) passes))
+    ap (λ (ms : List ℕ). ms ++ length q.members ∷ []) is
+    ∙ (ap (λ (l : Queued ℕ). numbers_where test 0 (map members_of (take i lanes)) ++ length l.members ∷ []) e
+    ∙ sym (numbers-more test lanes i q h ∙ ap (λ (b : Bool). numbers_where test 0 (map members_of (take i lanes)) ++ (if b then length (get_or lanes i q).members ∷ [] else [])) passes))
 
-pub numbers-failed : (test : ℕ → Bool) (lanes : List Laid) (i : ℕ) (q : Laid) (ns : List ℕ) → i < length lanes → test i ≡ false →
-    ns ≡ numbers_where test 0 (map places_in (take i lanes)) → ns ≡ numbers_where test 0 (map places_in (take (i + 1) lanes))
+pub numbers-failed : (test : ℕ → Bool) (lanes : List (Queued ℕ)) (i : ℕ) (q : Queued ℕ) (ns : List ℕ) → i < length lanes → test i ≡ false →
+    ns ≡ numbers_where test 0 (map members_of (take i lanes)) → ns ≡ numbers_where test 0 (map members_of (take (i + 1) lanes))
 numbers-failed test lanes i q ns h fails is =
-    is ∙ sym (numbers-more test lanes i q h ∙ (ap (λ (b : Bool). numbers_where test 0 (map places_in (take i lanes)) ++ (if b then length (get_or lanes i q).places ∷ [] else [])) fails ∙ append-nil _))
-
-pub counts_more : (lanes : List Laid) (i : ℕ) (q : Laid) (ns : List ℕ) → i < length lanes → q ≡ get_or lanes i q → ns ≡ map count_of (map places_in (take i lanes)) →
-    ns ++ length q.places ∷ [] ≡ map count_of (map places_in (take (i + 1) lanes))
-counts_more lanes i q ns h e is =
-    ap (λ (ms : List ℕ). ms ++ length q.places ∷ []) is
-    ∙ (ap (λ (l : Laid). map count_of (map places_in (take i lanes)) ++ length l.places ∷ []) e
-    ∙ sym (ap (λ (ls : List (List ℕ)). map count_of ls) (places-take lanes i q h) ∙ map-append count_of (map places_in (take i lanes)) ((get_or lanes i q).places ∷ [])))
+    is ∙ sym (numbers-more test lanes i q h ∙ (ap (λ (b : Bool). numbers_where test 0 (map members_of (take i lanes)) ++ (if b then length (get_or lanes i q).members ∷ [] else [])) fails ∙ append-nil _))
 
 -- ---- room
 
-pub room-after : (lanes : List Laid) (i : ℕ) (r : Laid) → AllWithin HasRoom lanes i (length lanes) → AllWithin HasRoom (set lanes i r) (i + 1) (length (set lanes i r))
+pub room-after : (lanes : List (Queued ℕ)) (i : ℕ) (r : Queued ℕ) → AllWithin HasRoom lanes i (length lanes) → AllWithin HasRoom (set lanes i r) (i + 1) (length (set lanes i r))
 room-after lanes i r room k d low high =
-    subst (λ (l : Laid). HasRoom l) (sym (get_or-set_other lanes i k r d (λ same. absurd (let e : k ≡ i = same in omega arith))))
+    subst (λ (l : Queued ℕ). HasRoom l) (sym (get_or-set_other lanes i k r d (λ same. absurd (let e : k ≡ i = same in omega arith))))
     (room k d (omega arith) (subst (λ (n : ℕ). k < n) (length-set lanes i r) high))
 
-pub room-left : (lanes : List Laid) (i : ℕ) → AllWithin HasRoom lanes i (length lanes) → AllWithin HasRoom lanes (i + 1) (length lanes)
+pub room-left : (lanes : List (Queued ℕ)) (i : ℕ) → AllWithin HasRoom lanes i (length lanes) → AllWithin HasRoom lanes (i + 1) (length lanes)
 room-left lanes i room k d low high = room k d (omega arith) high
 
 -- ---- members by their places
@@ -206,9 +195,6 @@ less-or-not (suc k) (suc n) = elim (less-or-not k n) [
   | inr high ↦ inr (λ h. high (omega arith))
 ]
 
-pub below-lane : (count : ℕ) (lanes : List (List ℕ)) (k : ℕ) → AllBelow count lanes → AreBelow count (get_or lanes k [])
-below-lane count lanes k within = within k
-
 pub lanes-get : {X : Type 0} (test : ℕ → Bool) (x : X) (k : ℕ) (lanes : List (List X)) (j : ℕ) → j < length lanes →
     get_or (lanes_where test x k lanes) j [] ≡ (if test (k + j) then get_or lanes j [] ++ x ∷ [] else get_or lanes j [])
 lanes-get test x k [] j h = absurd (omega arith)
@@ -230,6 +216,21 @@ numbers_picked {X} made test k (lane ∷ lanes) within =
     let here : length (picked made lane) ≡ length lane = picked-length made lane (λ n place at. within 0 n place at) in
     ap (λ (n : ℕ). if test k then n ∷ numbers_where test (k + 1) (map (picked made) lanes) else numbers_where test (k + 1) (map (picked made) lanes)) here
     ∙ ap (λ (ns : List ℕ). if test k then length lane ∷ ns else ns) rest
+
+pub no-members : {X : Type 0} (xs : List X) → (length xs == 0) ≡ true → xs ≡ []
+no-members [] e = refl
+no-members (x ∷ xs) e = let none : suc (length xs) ≡ 0 = eqb-true _ _ e in absurd (omega arith)
+
+-- where no lane passes, each stays
+pub none_spread : {X : Type 0} (test : ℕ → Bool) (x : X) (k : ℕ) (lanes : List (List X)) → numbers_where test k lanes ≡ [] → lanes ≡ lanes_where test x k lanes
+none_spread test x k [] none = refl
+none_spread {X} test x k (lane ∷ lanes) none = go (test k) refl none (none_spread test x (k + 1) lanes)
+  where
+    go : (b : Bool) → test k ≡ b → (if b then length lane ∷ numbers_where test (k + 1) lanes else numbers_where test (k + 1) lanes) ≡ [] →
+        (numbers_where test (k + 1) lanes ≡ [] → lanes ≡ lanes_where test x (k + 1) lanes) →
+        lane ∷ lanes ≡ (if test k then lane ++ x ∷ [] else lane) ∷ lanes_where test x (k + 1) lanes
+    go true passes e rest = absurd (cc)
+    go false fails e rest = rw fails (ap (λ (ls : List (List X)). lane ∷ ls) (rest e))
 
 pub counts_picked : {X : Type 0} (made : List X) (lanes : List (List ℕ)) → AllBelow (length made) lanes → map count_of (map (picked made) lanes) ≡ map count_of lanes
 counts_picked made [] within = refl
@@ -318,14 +319,14 @@ at-none {X} made places view j i is below none =
     ∙ (ap (λ (xs : List X). slice_get xs i) (map-get made places j) ∙ picked-none made (get_or places j []) i (below j) none)
 
 -- the places of the lane at a place
-pub laid-at : (lanes : List Laid) (j i : ℕ) (q : Laid) → j < length lanes → q ≡ get_or lanes j q → slice_get (get_or (map places_in lanes) j []) i ≡ slice_get q.places i
-laid-at lanes j i q low is = ap (λ (ns : List ℕ). slice_get ns i) (get_or-map places_in lanes j q [] low) ∙ ap (λ (l : Laid). slice_get l.places i) (sym is)
+pub laid-at : (lanes : List (Queued ℕ)) (j i : ℕ) (q : Queued ℕ) → j < length lanes → q ≡ get_or lanes j q → slice_get (get_or (map members_of lanes) j []) i ≡ slice_get q.members i
+laid-at lanes j i q low is = ap (λ (ns : List ℕ). slice_get ns i) (get_or-map members_of lanes j q [] low) ∙ ap (λ (l : Queued ℕ). slice_get l.members i) (sym is)
 
 pub member : {X : Type 0} (made : List X) (place : ℕ) (x : X) → place < length made → x ≡ get_or made place x → slice_get made place ≡ Some x
 member {X} made place x low is = slice_get-get_or made place x low ∙ ap (λ (y : X). Some y) (sym is)
 
-pub lane-count : {X : Type 0} (made : List X) (lanes : List Laid) (view : List (List X)) → map (picked made) (map places_in lanes) ≡ view → length lanes ≡ length view
-lane-count made lanes view is = sym (length-map lanes places_in) ∙ (sym (length-map (map places_in lanes) (picked made)) ∙ ap length is)
+pub lane-count : {X : Type 0} (made : List X) (lanes : List (Queued ℕ)) (view : List (List X)) → map (picked made) (map members_of lanes) ≡ view → length lanes ≡ length view
+lane-count made lanes view is = sym (length-map lanes members_of) ∙ (sym (length-map (map members_of lanes) (picked made)) ∙ ap length is)
 
 picked-empty : {X : Type 0} (n : ℕ) → map (picked {X = X} []) (replicate n []) ≡ replicate n []
 picked-empty zero = refl

@@ -1,5 +1,6 @@
 -- A gear: what it keeps, what is read off it, what its calls make of it, and what is true of each.
 use Rattle.std.specs.Prelude.{ℕ, ◌≡◌, ◌≤◌, ◌<◌, ◌+◌, ◌/◌, ◌%◌, ◌^◌, Bool, true, nat_le, max, List, [], ◌∷◌, ◌++◌, length, map, replicate, get_or, slice_get, slice_set, Option, None, Some, if◌then◌else◌}
+use Rattle.std.specs.Int.{div_ceil}
 use Rattle.sat_label.specs.declared.point.Point.{Point}
 use Rattle.sat_label.specs.declared.label.Kind.{Kind}
 use Rattle.sat_label.specs.declared.label.Kind.TheVariants.{Update, Move}
@@ -7,7 +8,8 @@ use Rattle.sat_label.specs.declared.label.Label.{Label}
 use Rattle.sat_label.specs.Order.{point_at}
 use Rattle.sat_bulk.specs.declared.Drained.{Drained}
 use Rattle.sat_bulk.specs.declared.Payload.{Payload}
-use Rattle.sat_bulk.specs.Drains.{In, Rises, IsNew}
+use Rattle.sat_label.specs.Members.{In}
+use Rattle.sat_bulk.specs.Drains.{Rises, IsNew}
 use Rattle.sat_sites.specs.Interested.{Interested, IsInterest, is_for, keeps}
 use Rattle.sat_sites.specs.declared.shape.Shape.{Shape}
 use Rattle.sat_store.specs.declared.store.Version.{Version}
@@ -20,21 +22,21 @@ pub record GearSeen : Type 0 where
   pub shape : Shape
   pub gear : ℕ
   pub promise : ℕ
-  pub drained : ℕ
+  pub drained_promise : ℕ
   pub fresh : List Label
   pub lanes : List (List Payload)
   pub versions : List (Option Version)
 
 -- how many of so many items one of so many gears may have
 abbrev pub places : ℕ → ℕ → ℕ
-places items gears = items / gears + 1
+places items gears = div_ceil items gears
 
 abbrev pub fresh_gear : Shape → ℕ → GearSeen
 fresh_gear shape gear = record {
   shape = shape;
   gear = gear;
   promise = 0;
-  drained = 0;
+  drained_promise = 0;
   fresh = [];
   lanes = replicate shape.sites [];
   versions = replicate (places (length shape.interest.replicas) shape.gears) None;
@@ -49,24 +51,24 @@ abbrev pub version_of : GearSeen → ℕ → Option Version
 version_of s x = version_at s.versions (x / s.shape.gears)
 
 -- above all that the gear stamped, and all that the client saw
-abbrev pub base : GearSeen → Point → ℕ
-base s seen = max s.promise seen.ts
+abbrev pub stamp_base : GearSeen → Point → ℕ
+stamp_base s seen = max s.promise seen.ts
 
 -- the label that the gear stamps next for a client that saw a point
 abbrev pub stamped : GearSeen → Point → Kind → Label
-stamped s seen kind = record { point = point_at (base s seen + 1) s.shape.site s.gear; kind = kind }
+stamped s seen kind = record { point = point_at (stamp_base s seen + 1) s.shape.site s.gear; kind = kind }
 
 -- no timestamp is left
 abbrev pub is_spent : GearSeen → Point → Bool
-is_spent s seen = nat_le (2 ^ 62) (base s seen)
+is_spent s seen = nat_le (2 ^ 62) (stamp_base s seen)
 
 -- of the lanes from that of site k on, those of a label's targets: how many payloads each holds
 abbrev pub numbers_from : Interested → Label → ℕ → List (List Payload) → List ℕ
 numbers_from a l k lanes = numbers_where (is_for a l) k lanes
 
 -- the number that a label's payload gets in the lane of each target, the targets ascending
-abbrev pub numbers_of : GearSeen → Label → List ℕ
-numbers_of s l = numbers_from s.shape.interest l 0 s.lanes
+abbrev pub lane_numbers : GearSeen → Label → List ℕ
+lane_numbers s l = numbers_from s.shape.interest l 0 s.lanes
 
 -- what a gather takes
 abbrev pub drained_of : GearSeen → Drained
@@ -78,20 +80,20 @@ drained_of s = record { labels = s.fresh; promise = s.promise; counts = map coun
 abbrev pub lanes_from : Interested → Payload → ℕ → List (List Payload) → List (List Payload)
 lanes_from a p k lanes = lanes_where (is_for a p.label) p k lanes
 
-abbrev pub ticked : GearSeen → ℕ → GearSeen
-ticked s t = record s { promise = max s.promise t }
+abbrev pub after_tick : GearSeen → ℕ → GearSeen
+after_tick s t = record s { promise = max s.promise t }
 
 -- a label of the gear's, and its timestamp as the new promise
-abbrev pub made : GearSeen → Label → GearSeen
-made s l = record s { promise = l.point.ts; fresh = s.fresh ++ l ∷ [] }
+abbrev pub after_move : GearSeen → Label → GearSeen
+after_move s l = record s { promise = l.point.ts; fresh = s.fresh ++ l ∷ [] }
 
 -- a version of item x: the greater one stays
-abbrev pub shown : GearSeen → ℕ → Payload → GearSeen
-shown s x p = record s { versions = slice_set s.versions (x / s.shape.gears) (newer (version_of s x) (record { label = p.label; value = p.value })) }
+abbrev pub after_show : GearSeen → ℕ → Payload → GearSeen
+after_show s x p = record s { versions = slice_set s.versions (x / s.shape.gears) (newer (version_of s x) (record { label = p.label; value = p.value })) }
 
 -- an update of item x: it is made, joins the lanes of its targets, and shows here
-abbrev pub wrote : GearSeen → ℕ → Payload → GearSeen
-wrote s x p = record s {
+abbrev pub after_write : GearSeen → ℕ → Payload → GearSeen
+after_write s x p = record s {
   promise = p.label.point.ts;
   fresh = s.fresh ++ p.label ∷ [];
   lanes = lanes_from s.shape.interest p 0 s.lanes;
@@ -99,16 +101,18 @@ wrote s x p = record s {
 }
 
 abbrev pub after_drain : GearSeen → GearSeen
-after_drain s = record s { drained = s.promise; fresh = [] }
+after_drain s = record s { drained_promise = s.promise; fresh = [] }
 
 -- ---- what it asks for
 
--- a shape of at least one gear, whose interest is one of its sites, and whose site is among them
+-- a shape of at least one gear, whose interest is one of its sites and of so many items as 16 bits number, and whose site is
+-- among these sites
 pub record IsShape (shape : Shape) : Type 0 where
   pub interest : IsInterest shape.interest
   pub sites : shape.interest.sites ≡ shape.sites
   pub site : shape.site < shape.sites
   pub gears : 0 < shape.gears
+  pub items : length shape.interest.replicas < 2 ^ 16
 
 -- an item of this gear that its site keeps
 pub record IsItemOf (s : GearSeen) (x : ℕ) : Type 0 where
@@ -117,7 +121,7 @@ pub record IsItemOf (s : GearSeen) (x : ℕ) : Type 0 where
   pub kept : keeps s.shape.interest x s.shape.site ≡ true
 
 -- the next label that the gear stamps for some client
-pub record IsNext (s : GearSeen) (l : Label) : Type 0 where
+pub record IsNextStamp (s : GearSeen) (l : Label) : Type 0 where
   pub site : l.point.site ≡ s.shape.site
   pub gear : l.point.gear ≡ s.gear
   pub above : s.promise < l.point.ts
@@ -132,8 +136,8 @@ IsKindHere s (Move j) = (j < s.shape.sites) × (s.gear ≡ 0)
 IsKindHere s _ = ⊥
 
 -- a label of the gear's that was not drained
-pub record IsFresh (s : GearSeen) (l : Label) : Type 0 where
-  pub new : IsNew s.shape.site s.gear s.drained s.promise l
+pub record IsUndrained (s : GearSeen) (l : Label) : Type 0 where
+  pub new : IsNew s.shape.site s.gear s.drained_promise s.promise l
   pub kind : IsKindHere s l.kind
 
 -- a payload of the lane to site j: an update of the gear's, for that site
@@ -148,9 +152,9 @@ pub record IsGear (s : GearSeen) : Type 0 where
   pub shape : IsShape s.shape
   pub gear : s.gear < s.shape.gears
   pub promise : s.promise ≤ 2 ^ 62
-  pub drained : s.drained ≤ s.promise
+  pub drained_promise : s.drained_promise ≤ s.promise
   pub rises : Rises s.fresh
-  pub fresh : (l : Label) → In s.fresh l → IsFresh s l
+  pub fresh : (l : Label) → In s.fresh l → IsUndrained s l
   pub lanes : length s.lanes ≡ s.shape.sites
   pub payloads : (j n : ℕ) (p : Payload) → slice_get (lane_to s j) n ≡ Some p → IsInLane s j p
   pub versions : length s.versions ≡ places (length s.shape.interest.replicas) s.shape.gears

@@ -1,16 +1,8 @@
 -- Lanes, one for each site, as lists: of payloads, or of the places of these among all that were made.
-use Rattle.std.specs.Prelude.{ℕ, ◌≡◌, ◌<◌, ◌+◌, Bool, List, [], ◌∷◌, ◌++◌, length, map, get_or, slice_get, if◌then◌else◌}
-use Rattle.std.specs.List.{All}
+use Rattle.std.specs.Prelude.{ℕ, ◌≡◌, ◌<◌, ◌+◌, Bool, List, [], ◌∷◌, ◌++◌, length, get_or, slice_get, if◌then◌else◌}
 use Rattle.std.specs.Option.{option_to_list}
 
--- the places in a lane, and for how many it has room
-pub record Laid : Type 0 where
-  pub places : List ℕ
-  pub room : ℕ
-
-abbrev pub places_in : Laid → List ℕ
-places_in lane = lane.places
-
+-- how many there are
 abbrev pub count_of : {X : Type 0} → List X → ℕ
 count_of lane = length lane
 
@@ -32,9 +24,6 @@ picked made (n ∷ ns) = option_to_list (slice_get made n) ++ picked made ns
 -- there is something at each place
 abbrev pub AllBelow : ℕ → List (List ℕ) → Type 0
 AllBelow count lanes = (k n : ℕ) (place : ℕ) → slice_get (get_or lanes k []) n ≡ Rattle.std.specs.Prelude.Some place → place < count
-
-abbrev pub HasRoom : Laid → Type 0
-HasRoom lane = length lane.places < lane.room
 
 -- the first n lanes have x behind those of the sites that pass, and the others are as before
 pub record Spread {X : Type 0} (test : ℕ → Bool) (x : X) (n : ℕ) (old new : List (List X)) : Type 0 where

@@ -3,7 +3,7 @@ ghost use Rattle.std.specs.Prelude.{ℕ, ◌≡◌, ◌≤◌, ◌<◌, ◌↔�
 ghost use Rattle.sat_label.specs.declared.label.Kind.TheVariants.{Update, Move};
 ghost use Rattle.sat_store.specs.Stored.{is_kept};
 ghost use Rattle.sat_label.specs.Order.{point_at};
-ghost use Rattle.sat_gear.specs.Gear.{after_drain, base, drained_of, fresh_gear, is_spent, lane_to, made, numbers_of, places, shown, stamped, ticked, version_of, wrote, IsGear, IsItemOf, IsKindHere, IsNext, IsShape};
+ghost use Rattle.sat_gear.specs.Gear.{after_drain, stamp_base, drained_of, fresh_gear, is_spent, lane_to, after_move, lane_numbers, places, after_show, stamped, after_tick, version_of, after_write, IsGear, IsItemOf, IsKindHere, IsNextStamp, IsShape};
 
 use crate::lanes::Lanes;
 use crate::{GearFault, Stamped};
@@ -22,7 +22,7 @@ pub struct Gear {
     shape: Shape,
     gear: u16,
     promise: u64,
-    drained: u64,
+    drained_promise: u64,
     fresh: Vec<Label>,
     lanes: Lanes,
     store: Store,
@@ -33,26 +33,24 @@ impl Model for Gear {
 
     ghost Value = { GearSeen };
 
-    ghost view = { λ a. record { shape = a.shape; gear = a.gear; promise = a.promise; drained = a.drained; fresh = a.fresh.items; lanes = a.lanes; versions = a.store } };
+    ghost view = { λ a. record { shape = a.shape; gear = a.gear; promise = a.promise; drained_promise = a.drained_promise; fresh = a.fresh.items; lanes = a.lanes; versions = a.store } };
 
-    ghost invariant = { λ a. IsGear (record { shape = a.shape; gear = a.gear; promise = a.promise; drained = a.drained; fresh = a.fresh.items; lanes = a.lanes; versions = a.store }) };
+    ghost invariant = { λ a. IsGear (record { shape = a.shape; gear = a.gear; promise = a.promise; drained_promise = a.drained_promise; fresh = a.fresh.items; lanes = a.lanes; versions = a.store }) };
 }
 
-// How many places a store for one of so many gears needs, None where it can't have so many.
-fn places(items: usize, gears: u16) -> Option<u16>
-    requires { 0 < gears }
-    ensures { IfSome result (λ n. n ≡ places items gears) }
+// How many of so many items one of so many gears may have.
+#[tactic(auto, using(crate::proofs::Places::places_fit))]
+fn places(items: usize, gears: u16) -> u16
+    requires items { items < 2 ^ 16 }
+    requires gears { 0 < gears }
+    ensures { result ≡ places items gears }
 {
-    let most = items / gears as usize;
-    if most >= 65535 {
-        return None;
-    }
-    Some(most as u16 + 1)
+    items.div_ceil(gears as usize) as u16
 }
 
 impl Gear {
     /// The gear with this number of a site, which has promised and made nothing. It asks for a shape of at least one gear
-    /// whose site is one of the sites that its interest is for. A store has at most 65,535 places: no memory can be had for more.
+    /// whose site is one of the sites that its interest is for, and for less than 65,536 items.
     pub fn new(alloc: Global, shape: &Shape, gear: u16) -> Result<Gear, AllocError>
         requires shape { IsShape shape.now }
         requires gear { gear < shape.now.gears }
@@ -60,16 +58,14 @@ impl Gear {
     {
         let shape = shape.copy()?;
         let lanes = Lanes::new(alloc, shape.sites)?;
-        let Some(places) = places(shape.interest.items(), shape.gears) else {
-            return Err(AllocError);
-        };
+        let places = places(shape.interest.items(), shape.gears);
         let store = Store::new(alloc, places)?;
         Ok(Gear {
             alloc,
             shape,
             gear,
             promise: 0,
-            drained: 0,
+            drained_promise: 0,
             fresh: Vec::new(alloc),
             lanes,
             store,
@@ -88,13 +84,14 @@ impl Gear {
     pub fn tick(&mut self, t: u64) -> u64
         requires { t ≤ 2 ^ 62 }
         ensures promise { result ≡ max self.old.promise t }
-        ensures new { self.new ≡ ticked self.old t }
+        ensures new { self.new ≡ after_tick self.old t }
     {
         self.promise = self.promise.max(t);
         self.promise
     }
 
     // The place of an item among those of this gear.
+    #[tactic(auto, using(crate::proofs::Places::within_places))]
     fn place(&self, item: u16) -> u16
         requires { IsItemOf self.now item }
         ensures place { result ≡ item / self.now.shape.gears }
@@ -105,7 +102,7 @@ impl Gear {
 
     // The timestamp of the next label for a client that saw a point, None where no timestamp is left.
     fn next(&self, seen: Point) -> Option<u64>
-        ensures { result ≡ (if is_spent self.now seen then None else Some (base self.now seen + 1)) }
+        ensures { result ≡ (if is_spent self.now seen then None else Some (stamp_base self.now seen + 1)) }
     {
         let base = self.promise.max(seen.ts);
         if base >= TS_END {
@@ -122,15 +119,15 @@ impl Gear {
         ensures spent { is_spent self.old seen ≡ true → IsErrOf result GearFault.Spent }
         ensures ok { is_spent self.old seen ≡ false → IsOkUnless result GearFault.Memory }
         ensures label { IfOk result (λ s. s.label ≡ stamped self.old seen (Update item)) }
-        ensures numbers { IfOk result (λ s. s.numbers ≡ numbers_of self.old s.label) }
-        ensures new { IfOk result (λ s. self.new ≡ wrote self.old item (record { label = s.label; value = value })) }
+        ensures numbers { IfOk result (λ s. s.numbers ≡ lane_numbers self.old s.label) }
+        ensures new { IfOk result (λ s. self.new ≡ after_write self.old item (record { label = s.label; value = value })) }
         ensures err { OnErr result (self.new ≡ self.old) }
     {
         let Some(ts) = self.next(seen) else {
             return Err(GearFault::Spent);
         };
         let label = self.label(ts, Kind::Update(item));
-        Ok(self.add(label, item, value)?)
+        Ok(self.take_update(label, item, value)?)
     }
 
     // A label of this gear.
@@ -148,20 +145,19 @@ impl Gear {
     }
 
     // Takes in an update of an item that was just stamped.
-    fn add(&mut self, label: Label, item: u16, value: Value) -> Result<Stamped, AllocError>
+    fn take_update(&mut self, label: Label, item: u16, value: Value) -> Result<Stamped, AllocError>
         requires item { IsItemOf self.old item }
-        requires next { IsNext self.old label }
+        requires next { IsNextStamp self.old label }
         requires kind { label.kind ≡ Update item }
         ensures label { IfOk result (λ s. s.label ≡ label) }
-        ensures numbers { IfOk result (λ s. s.numbers ≡ numbers_of self.old label) }
-        ensures new { OnOk result (self.new ≡ wrote self.old item (record { label = label; value = value })) }
+        ensures numbers { IfOk result (λ s. s.numbers ≡ lane_numbers self.old label) }
+        ensures new { OnOk result (self.new ≡ after_write self.old item (record { label = label; value = value })) }
         ensures err { OnErr result (self.new ≡ self.old) }
     {
         let place = self.place(item);
         let targets = self.shape.interest.targets(&label);
-        let sent = value.copy()?;
         self.fresh.reserve(1)?;
-        let numbers = self.lanes.add(targets, Payload { label, value: sent })?;
+        let numbers = self.lanes.add(targets, label, &value)?;
         self.fresh.push_reserved(label);
         self.store.put(place, label, value);
         self.promise = label.point.ts;
@@ -175,22 +171,22 @@ impl Gear {
         ensures spent { is_spent self.old seen ≡ true → IsErrOf result GearFault.Spent }
         ensures ok { is_spent self.old seen ≡ false → IsOkUnless result GearFault.Memory }
         ensures label { IfOk result (λ l. l ≡ stamped self.old seen (Move to)) }
-        ensures new { IfOk result (λ l. self.new ≡ made self.old l) }
+        ensures new { IfOk result (λ l. self.new ≡ after_move self.old l) }
         ensures err { OnErr result (self.new ≡ self.old) }
     {
         let Some(ts) = self.next(seen) else {
             return Err(GearFault::Spent);
         };
         let label = self.label(ts, Kind::Move(to));
-        self.make(label)?;
+        self.take_move(label)?;
         Ok(label)
     }
 
     // Takes in a move that was just stamped.
-    fn make(&mut self, label: Label) -> Result<(), AllocError>
-        requires next { IsNext self.old label }
+    fn take_move(&mut self, label: Label) -> Result<(), AllocError>
+        requires next { IsNextStamp self.old label }
         requires kind { IsKindHere self.old label.kind }
-        ensures ok { OnOk result (self.new ≡ made self.old label) }
+        ensures ok { OnOk result (self.new ≡ after_move self.old label) }
         ensures err { OnErr result (self.new ≡ self.old) }
     {
         self.fresh.push(label)?;
@@ -201,7 +197,7 @@ impl Gear {
     /// Shows an update of another site: the version with the greater label stays. The promise stays. It takes no memory.
     pub fn show(&mut self, payload: Payload) -> Put
         requires { (x : ℕ) × (payload.label.kind ≡ Update x) × IsItemOf self.old x }
-        ensures new { (x : ℕ) → payload.label.kind ≡ Update x → self.new ≡ shown self.old x payload }
+        ensures new { (x : ℕ) → payload.label.kind ≡ Update x → self.new ≡ after_show self.old x payload }
         ensures kept { (x : ℕ) → payload.label.kind ≡ Update x → result ≡ Put.Kept ↔ is_kept (version_of self.old x) payload.label }
     {
         let Payload { label, value } = payload;
@@ -251,7 +247,7 @@ impl Gear {
     pub fn drained(&mut self)
         ensures { self.new ≡ after_drain self.old }
     {
-        self.drained = self.promise;
+        self.drained_promise = self.promise;
         self.fresh.clear();
     }
 

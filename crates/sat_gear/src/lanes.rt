@@ -1,31 +1,36 @@
 //! The payloads that a gear made, each once, and for each site which of them were made for it.
 ghost use Rattle.std.specs.Prelude.{◌≡◌, ◌≤◌, ◌<◌, [], get_or, length, map, replicate, slice_get, Some, None, IfOk, OnOk, OnErr, MatchOption};
 ghost use Rattle.sat_label.specs.Words.{bit};
-ghost use Rattle.sat_gear.specs.Lanes.{count_of, lanes_where, numbers_where, places_in};
+ghost use Rattle.sat_queue.specs.Queued.{members_of};
+ghost use Rattle.sat_gear.specs.Lanes.{count_of, lanes_where, numbers_where};
 
-use crate::lane::{Lane, counts, empty_lanes, numbers, reserve_all, spread};
+use crate::lane::{counts, numbers, spread};
 use sat_bulk::Payload;
-use sat_label::{Counts, SiteSet};
+use sat_label::{Counts, Label, SiteSet, Value};
+use sat_queue::{Queue, empty_queues, reserve_each};
 use std::alloc::{AllocError, Global};
 use std::marker::Model;
 
 // Contracts see for each site the payloads that were made for it.
 #[derive(Drop)]
 pub struct Lanes {
+    // The payloads that were made for some site.
     made: Vec<Payload>,
-    lanes: Vec<Lane>,
+    // For each site the places, among these, of those that were made for it.
+    lanes: Vec<Queue<usize>>,
 }
 
 impl Model for Lanes {
     ghost use Rattle.std.specs.Prelude.{List, map, length};
     ghost use Rattle.sat_bulk.specs.declared.Payload.{Payload};
-    ghost use Rattle.sat_gear.specs.Lanes.{picked, places_in, AllBelow};
+    ghost use Rattle.sat_queue.specs.Queued.{members_of};
+    ghost use Rattle.sat_gear.specs.Lanes.{picked, AllBelow};
 
     ghost Value = { List (List Payload) };
 
-    ghost view = { λ a. map (picked a.made.items) (map places_in a.lanes.items) };
+    ghost view = { λ a. map (picked a.made.items) (map members_of a.lanes.items) };
 
-    ghost invariant = { λ a. AllBelow (length a.made.items) (map places_in a.lanes.items) };
+    ghost invariant = { λ a. AllBelow (length a.made.items) (map members_of a.lanes.items) };
 }
 
 impl Lanes {
@@ -34,29 +39,57 @@ impl Lanes {
     pub fn new(alloc: Global, sites: u16) -> Result<Lanes, AllocError>
         ensures { IfOk result (λ lanes. lanes ≡ replicate sites []) }
     {
-        let lanes = empty_lanes(alloc, sites)?;
+        let lanes = empty_queues(alloc, sites as usize)?;
         Ok(Lanes {
             made: Vec::new(alloc),
             lanes,
         })
     }
 
-    /// Puts a payload at the end of the lane of each site of a set, and answers the numbers that it gets there, the sites
-    /// ascending. For want of memory the lanes are as before.
-    pub fn add(&mut self, targets: SiteSet, payload: Payload) -> Result<Counts, AllocError>
+    /// Puts the payload of a label and a value at the end of the lane of each site of a set, and answers the numbers that it
+    /// gets there, the sites ascending. Where it gets none, the value is not copied. For want of memory the lanes are as before.
+    pub fn add(
+        &mut self,
+        targets: SiteSet,
+        label: Label,
+        value: &Value,
+    ) -> Result<Counts, AllocError>
         requires { length self.old ≤ 64 }
         ensures numbers { IfOk result (λ counts. counts ≡ numbers_where (bit targets.bits) 0 self.old) }
+        ensures ok { OnOk result
+            (self.new ≡ lanes_where (bit targets.bits) (record { label = label; value = value.now }) 0 self.old) }
+        ensures err { OnErr result (self.new ≡ self.old) }
+    {
+        let numbers = self.numbers(targets)?;
+        if numbers.as_slice().is_empty() {
+            return Ok(numbers);
+        }
+        let value = value.copy()?;
+        self.push(targets, Payload { label, value })?;
+        Ok(numbers)
+    }
+
+    // How many payloads the lane of each site of a set holds.
+    fn numbers(&self, targets: SiteSet) -> Result<Counts, AllocError>
+        requires { length self.now ≤ 64 }
+        ensures { IfOk result (λ counts. counts ≡ numbers_where (bit targets.bits) 0 self.now) }
+    {
+        let numbers = numbers(*self.made.allocator(), &self.lanes, targets)?;
+        Ok(numbers)
+    }
+
+    // Puts a payload at the end of the lane of each site of a set. For want of memory the lanes are as before.
+    fn push(&mut self, targets: SiteSet, payload: Payload) -> Result<(), AllocError>
+        requires { length self.old ≤ 64 }
         ensures ok { OnOk result (self.new ≡ lanes_where (bit targets.bits) payload 0 self.old) }
         ensures err { OnErr result (self.new ≡ self.old) }
     {
-        let alloc = *self.made.allocator();
-        let numbers = numbers(alloc, &self.lanes, targets)?;
         self.made.reserve(1)?;
-        reserve_all(&mut self.lanes)?;
+        reserve_each(&mut self.lanes)?;
         let place = self.made.len();
         spread(&mut self.lanes, targets, place);
         self.made.push_reserved(payload);
-        Ok(numbers)
+        Ok(())
     }
 
     /// The payload with this number of the lane of a site, None where there is none.
@@ -64,7 +97,7 @@ impl Lanes {
         requires { site < length self.now }
         ensures { MatchOption result (slice_get (get_or self.now site []) number ≡ None) (λ payload. slice_get (get_or self.now site []) number ≡ Some payload.now) }
     {
-        let place = self.lanes[site as usize].at(number)?;
+        let place = self.lanes[site as usize].get(number as usize)?;
         Some(&self.made[place])
     }
 

@@ -3,3 +3,7 @@ pub mod First
 pub mod SameNodes
 pub mod Numbers
 pub mod Names
+pub mod Truth
+pub mod Orders
+pub mod Members
+pub mod Least

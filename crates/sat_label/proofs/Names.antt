@@ -8,12 +8,13 @@ use Rattle.std.proofs.lemmas.Str.Ascii.{IsAscii-from_all}
 use Rattle.std.specs.List.{list_all}
 use Rattle.std.specs.Str.{IsUtf8}
 use Rattle.sat_label.specs.Text.{is_name, is_name_byte}
+use Rattle.sat_label.specs.declared.limits.TheConstants.{NAME_BYTES}
 
 is_ascii : (byte : ℕ) → is_name_byte byte ≡ true → byte < 128
 is_ascii byte fits = grind (arith, nat_tests)
 
 all_fit : (text : List ℕ) → is_name text ≡ true → list_all is_name_byte text ≡ true
-all_fit text name = go (nat_lt 0 (length text)) (nat_le (length text) 32) (list_all is_name_byte text) name
+all_fit text name = go (nat_lt 0 (length text)) (nat_le (length text) NAME_BYTES) (list_all is_name_byte text) name
   where
     go : (a b c : Bool) → (a && (b && c)) ≡ true → c ≡ true
     go true true true is = refl

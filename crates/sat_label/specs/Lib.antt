@@ -1,3 +1,5 @@
 pub mod Order
 pub mod Words
 pub mod Text
+pub mod Members
+pub mod Least

@@ -6,6 +6,8 @@ use Rattle.sat_label.specs.declared.label.Kind.TheVariants.{Update, Move, Pulse,
 use Rattle.sat_label.specs.declared.label.Label.{Label}
 use Rattle.sat_label.specs.declared.node.NodeId.{NodeId}
 use Rattle.sat_label.specs.declared.node.NodeId.TheVariants.{Site, Serializer}
+use Rattle.sat_label.specs.declared.node.NodeName.{NodeName}
+use Rattle.sat_label.specs.declared.node.NodeName.TheVariants as named
 
 abbrev pub point_at : ℕ → ℕ → ℕ → Point
 point_at ts site gear = record { ts = ts; site = site; gear = gear }
@@ -63,3 +65,9 @@ node_eq (Site i) (Site k) = i == k
 node_eq (Serializer y) (Serializer z) = y == z
 node_eq (Site i) (Serializer z) = false
 node_eq (Serializer y) (Site k) = false
+
+abbrev pub name_eq : NodeName → NodeName → Bool
+name_eq (named.Site i) (named.Site k) = i == k
+name_eq (named.Serializer e y) (named.Serializer f z) = (e == f) && (y == z)
+name_eq (named.Site i) (named.Serializer e z) = false
+name_eq (named.Serializer e y) (named.Site k) = false

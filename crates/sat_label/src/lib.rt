@@ -5,6 +5,7 @@
 
 mod carried;
 mod label;
+mod limits;
 mod lists;
 mod node;
 mod point;
@@ -13,11 +14,15 @@ mod text;
 
 pub use carried::Carried;
 pub use label::{Kind, Label};
-pub use lists::{Counts, Labels, Nodes, Points};
+pub use limits::{
+    MARK_GEAR, MOST_ACTS, MOST_CLIENTS, MOST_EPOCHS, MOST_GEARS, MOST_ITEMS, MOST_SERIALIZERS,
+    MOST_SETTLES, MOST_SITES, NAME_BYTES, PULSE_GEAR, TS_END, VALUE_BYTES,
+};
+pub use lists::{Counts, Labels, List, Nodes, Points};
 pub use node::{NodeId, NodeName};
-pub use point::{Point, TS_END, write_point};
+pub use point::{Point, write_point};
 pub use site_set::SiteSet;
-pub use text::{Name, Value};
+pub use text::{Name, Value, spells_name, spells_value};
 
 #[cfg(test)]
 mod tests;

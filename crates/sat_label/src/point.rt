@@ -3,19 +3,14 @@ ghost use Rattle.std.specs.Prelude.{◌≡◌, ℕ, ◌+◌, ◌++◌, OnOk, OnE
 ghost use Rattle.sat_label.specs.Order.{greater_point, mark, point_eq, point_lt, zero_point};
 ghost use Rattle.sat_label.specs.Text.{point_text, AppendsFront};
 
+use crate::limits::MARK_GEAR;
 use std::alloc::AllocError;
-
-/// The greatest timestamp.
-pub const TS_END: u64 = 1 << 62;
-
-// The gear of a mark: above that of each gear and of a pulse.
-const MARK_GEAR: u16 = 65535;
 
 /// A point, ordered by timestamp, then site, then gear. The order is Saturn's total order of labels,
 /// by timestamp and then source.
 #[derive(Clone, Copy, Debug, PartialEq, Eq, PartialOrd, Ord)]
 pub struct Point {
-    /// The timestamp, at most [`TS_END`].
+    /// The timestamp, at most [`TS_END`](crate::TS_END).
     pub ts: u64,
     /// The site at which it was made.
     pub site: u16,

@@ -1,6 +1,7 @@
 //! Each public call on its happy path.
 use crate::{
-    Counts, Kind, Label, Labels, Name, NodeId, Nodes, Point, Points, SiteSet, Value, write_point,
+    Counts, Kind, Label, Labels, Name, NodeId, NodeName, Nodes, Point, Points, SiteSet, Value,
+    write_point,
 };
 use std::test::Fail;
 
@@ -36,6 +37,24 @@ fn points_are_ordered(rt: HostRuntime) -> Result<(), Fail> {
     assert_eq!(rt; late.greater(early), late);
     assert!(rt; NodeId::Site(1).is_same(&NodeId::Site(1)));
     assert!(rt; !NodeId::Site(1).is_same(&NodeId::Serializer(1)));
+    Ok(())
+}
+
+#[test]
+fn nodes_are_told_apart(rt: HostRuntime) -> Result<(), Fail> {
+    let alloc = rt.alloc();
+    let first = NodeName::Serializer {
+        epoch: 1,
+        number: 2,
+    };
+    let second = NodeName::Serializer {
+        epoch: 2,
+        number: 2,
+    };
+    assert!(rt; first.is_same(&first) && !first.is_same(&second));
+    assert!(rt; !NodeName::Site(2).is_same(&first));
+    assert_eq!(rt; NodeId::Site(12).text(alloc)?.as_str(), "s12");
+    assert_eq!(rt; NodeId::Serializer(0).text(alloc)?.as_str(), "z0");
     Ok(())
 }
 
@@ -83,6 +102,15 @@ fn names_and_values(rt: HostRuntime) -> Result<(), Fail> {
     } else {
         assert!(rt; false);
     }
+    let longest = b"aaaaaaaaaaaaaaaaaaaaaaaaaaaaaaaa".as_slice();
+    assert!(rt; longest.len() == 32 && Name::of(alloc, longest)?.is_some());
+    let mut value = Vec::new(alloc);
+    for _ in 0..256 {
+        value.push(b'~')?;
+    }
+    assert!(rt; Value::of(alloc, value.as_slice())?.is_some());
+    value.push(b'~')?;
+    assert!(rt; Value::of(alloc, value.as_slice())?.is_none());
     assert!(rt; Value::of(alloc, b"two words")?.is_none());
     if let Some(value) = Value::of(alloc, b"->~!")? {
         assert_eq!(rt; value.copy()?.bytes(), b"->~!".as_slice());

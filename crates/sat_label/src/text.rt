@@ -3,6 +3,7 @@ ghost use Rattle.std.specs.Prelude.{◌≡◌, true, false, IfOk, IfSome, IsNone
 ghost use Rattle.std.specs.List.{list_all};
 ghost use Rattle.sat_label.specs.Text.{is_between, is_name, is_name_byte, is_value};
 
+use crate::limits::{NAME_BYTES, VALUE_BYTES};
 use std::alloc::{AllocError, Global};
 use std::marker::Model;
 
@@ -19,10 +20,11 @@ fn all_fit_name(text: &[u8]) -> bool
     text.iter().all(|&byte| fits_name(byte))
 }
 
-fn spells_name(text: &[u8]) -> bool
+/// Whether these bytes are a name.
+pub fn spells_name(text: &[u8]) -> bool
     ensures { result ≡ is_name text.now }
 {
-    0 < text.len() && text.len() <= 32 && all_fit_name(text)
+    0 < text.len() && text.len() <= NAME_BYTES && all_fit_name(text)
 }
 
 fn all_visible(bytes: &[u8]) -> bool
@@ -31,10 +33,11 @@ fn all_visible(bytes: &[u8]) -> bool
     bytes.iter().all(|&byte| 33 <= byte && byte <= 126)
 }
 
-fn spells_value(bytes: &[u8]) -> bool
+/// Whether these bytes are a value.
+pub fn spells_value(bytes: &[u8]) -> bool
     ensures { result ≡ is_value bytes.now }
 {
-    0 < bytes.len() && bytes.len() <= 256 && all_visible(bytes)
+    0 < bytes.len() && bytes.len() <= VALUE_BYTES && all_visible(bytes)
 }
 
 /// A name of an item or a client: 1 to 32 letters, digits, `_`, `-` or `.`. Contracts see its bytes.

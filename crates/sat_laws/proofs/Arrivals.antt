@@ -20,7 +20,6 @@ use Rattle.sat_laws.proofs.Steps.{Step}
 use Rattle.sat_laws.proofs.Runs.{step_of, before_of, entry}
 use Rattle.sat_laws.proofs.Labels.{some_is}
 use Rattle.sat_laws.proofs.Gears.{split_le}
-use Rattle.sat_laws.proofs.Members.{In, In-get}
 use Rattle.sat_laws.proofs.Cuts.{sent-site}
 use Rattle.sat_laws.proofs.Handlings.{handled_as}
 use Rattle.sat_laws.proofs.Sinks.{Sent}
@@ -37,6 +36,8 @@ use Rattle.sat_laws.proofs.Order.{sent-in}
 use Rattle.sat_laws.proofs.Sendings.{emission-rises}
 use Rattle.sat_tree.specs.Cut.{seat_of}
 use Rattle.sat_laws.proofs.Handlings.{seat-edge}
+use Rattle.sat_label.specs.Members.{In}
+use Rattle.sat_label.proofs.Members.{In-get}
 
 -- what is handled in the tree of an epoch was sent in that epoch
 front-in : (d : Deployed) (h : List Entry) (e : ℕ) (t : TreeShape) (u v : NodeId) (l : Label) → link_front d h e t u v ≡ Some l → In (entered d h e t u v) l

@@ -2,6 +2,7 @@
 use Rattle.std.specs.Prelude.{◌≡◌, ◌<◌, ◌≤◌, ℕ, zero, suc, ◌+◌, Bool, true, false, ◌&&◌, List, [], ◌∷◌, ◌++◌, Option, Some, None, refl, ◌==◌, if◌then◌else◌, length, slice_get}
 use Rattle.std.proofs.Common.{sym, subst, arith, inl, inr, ap}
 use Rattle.std.proofs.lemmas.Bool.Decides.{nat_tests}
+use Rattle.std.proofs.lemmas.Bool.{and_parts, leb-true}
 use Rattle.sat_label.specs.declared.point.Point.{Point}
 use Rattle.sat_label.specs.declared.label.Label.{Label}
 use Rattle.sat_label.specs.Words.{below}
@@ -15,7 +16,7 @@ use Rattle.sat_act.specs.Goals.{Gives, IsValid}
 use Rattle.sat_laws.proofs.Runs.{before_of}
 use Rattle.sat_laws.proofs.Labels.{some_is}
 use Rattle.sat_laws.proofs.Gears.{split_le}
-use Rattle.sat_laws.proofs.Members.{In, In-get, listed-gives, gives-listed}
+use Rattle.sat_laws.proofs.Members.{listed-gives, gives-listed}
 use Rattle.sat_laws.proofs.Sendings.{picked_if}
 use Rattle.sat_act.specs.Parts.{stable, cut}
 use Rattle.sat_laws.proofs.Links.{SentIn, get-below, In-place}
@@ -25,10 +26,9 @@ use Rattle.sat_laws.proofs.Sendings.{emission-rises}
 use Rattle.sat_act.specs.Done.{made_in}
 use Rattle.sat_act.specs.Parts.{close_cut}
 use Rattle.sat_act.specs.Goals.{Made}
-use Rattle.sat_laws.proofs.Sinks.{both_true, new-unstable}
+use Rattle.sat_laws.proofs.Sinks.{new-unstable}
 use Rattle.sat_laws.proofs.Sendings.{picked_if}
 use Rattle.std.specs.List.{list_all}
-use Rattle.sat_laws.proofs.Members.{In-get}
 use Rattle.std.specs.List.{prefix_len}
 use Rattle.sat_label.specs.Order.{label_eq}
 use Rattle.sat_label.specs.Words.{has}
@@ -40,8 +40,9 @@ use Rattle.std.specs.Prelude.{cond, nat_le}
 use Rattle.sat_laws.proofs.Members.{listed-gives, gives-listed}
 use Rattle.sat_laws.proofs.Sinks.{gives-map, by_gather, stable-rises, keep}
 use Rattle.sat_laws.proofs.Shows.{Brings}
-use Rattle.sat_laws.proofs.Members.{has-in}
 use Rattle.sat_laws.proofs.Links.{get-keep, get-below, In-place}
+use Rattle.sat_label.specs.Members.{In}
+use Rattle.sat_label.proofs.Members.{In-get, In-get, has-in}
 
 -- a history that goes on from another
 pub data Later (b : List Entry) : List Entry → Type 0 where
@@ -51,11 +52,6 @@ pub data Later (b : List Entry) : List Entry → Type 0 where
 pub later-run : (d : Deployed) (b h : List Entry) → Later b h → IsRun d h → IsRun d b
 later-run d b h now run = run
 later-run d b h (more {x = x} {h = k} l) run = later-run d b k l (before_of d k x run)
-
-pub later-gives : {X : Type 0} (f : List Entry → Entry → Option X) (b h : List Entry) (y : X) → Later b h → Gives f b y → Gives f h y
-unfolding Gives
-later-gives f b h y now g = g
-later-gives f b h y (more {h = k} l) g = inl (later-gives f b k y l g)
 
 pub later-sent-in : (b h : List Entry) (i e : ℕ) (a : Label) → Later b h → SentIn b i e a → SentIn h i e a
 unfolding SentIn
@@ -176,7 +172,7 @@ all-below f zero k e b = absurd (omega arith)
 all-below f (suc n) k e b =
     let w : (list_all f (below n) ≡ true) × (list_all f (n ∷ []) ≡ true) = all-parts f (below n) (n ∷ []) e in
     elim (split_le k n (omega arith)) [
-      | inl s ↦ subst (λ (m : ℕ). f m ≡ true) (sym s) (both_true (f n) true w.1).0
+      | inl s ↦ subst (λ (m : ℕ). f m ≡ true) (sym s) (and_parts (f n) true w.1).0
       | inr lt ↦ all-below f n k w.0 lt
     ]
   where
@@ -187,16 +183,13 @@ all-below f (suc n) k e b =
     all-parts : (f : ℕ → Bool) (xs ys : List ℕ) → list_all f (xs ++ ys) ≡ true → (list_all f xs ≡ true) × (list_all f ys ≡ true)
     all-parts f [] ys e = (refl, e)
     all-parts f (x ∷ xs) ys e =
-        let w : (f x ≡ true) × (list_all f (xs ++ ys) ≡ true) = both_true (f x) (list_all f (xs ++ ys)) e in
+        let w : (f x ≡ true) × (list_all f (xs ++ ys) ≡ true) = and_parts (f x) (list_all f (xs ++ ys)) e in
         let y : (list_all f xs ≡ true) × (list_all f ys ≡ true) = all-parts f xs ys w.1 in
         (both (f x) (list_all f xs) w.0 y.0, y.1)
 
-nat_le-is : (a b : ℕ) → nat_le a b ≡ true → a ≤ b
-nat_le-is a b e = grind (arith, nat_tests)
-
 complete-at : (d : Deployed) (h : List Entry) (i j g : ℕ) (note : BeatNote) → is_complete d h i j note ≡ true → g < d.gears → note.counts g ≤ lane_front d h i g j
 unfolding is_complete
-complete-at d h i j g note e b = nat_le-is (note.counts g) (lane_front d h i g j) (all-below (λ k. nat_le (note.counts k) (lane_front d h i k j)) d.gears g e b)
+complete-at d h i j g note e b = leb-true (note.counts g) (lane_front d h i g j) (all-below (λ k. nat_le (note.counts k) (lane_front d h i k j)) d.gears g e b)
 
 pub in-lane-of : (d : Deployed) (h : List Entry) (j : ℕ) (l : Label) → Made h l → is_update l.kind ≡ true → is_target d l j ≡ true → In (lane d h l.point.site l.point.gear j) l
 unfolding lane

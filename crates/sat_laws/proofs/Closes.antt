@@ -1,6 +1,7 @@
 -- What a turn that took a Close tells.
 use Rattle.std.specs.Prelude.{◌≡◌, ℕ, Bool, true, false, ◌&&◌, List, [], ◌∷◌, Option, Some, ◌==◌}
 use Rattle.std.proofs.Common.{sym, inl, inr, ap, ◌∙◌}
+use Rattle.std.proofs.lemmas.Bool.{and_parts, eqb-true, or_cases}
 use Rattle.sat_label.specs.declared.label.Label.{Label}
 use Rattle.sat_label.specs.declared.node.NodeId.{NodeId}
 use Rattle.sat_label.specs.declared.node.NodeId.TheVariants.{Site}
@@ -15,7 +16,6 @@ use Rattle.sat_act.specs.Goals.{IsValid}
 use Rattle.sat_laws.proofs.Steps.{Step}
 use Rattle.sat_laws.proofs.Runs.{step_of, before_of, entry}
 use Rattle.sat_laws.proofs.Handlings.{handled_as}
-use Rattle.sat_laws.proofs.Cuts.{num_is}
 use Rattle.sat_label.specs.declared.label.Kind.TheVariants as kind
 use Rattle.sat_laws.proofs.Links.{HandledFrom, SentIn}
 use Rattle.sat_label.specs.declared.label.Kind.{Kind}
@@ -24,10 +24,8 @@ use Rattle.sat_act.specs.declared.answer.Answer.TheVariants as ans
 use Rattle.sat_act.specs.Parts.{view}
 use Rattle.sat_laws.proofs.Steps.{took}
 use Rattle.sat_label.specs.declared.label.Kind.TheVariants as kind
-use Rattle.sat_laws.proofs.Sinks.{both_true}
 use Rattle.sat_laws.proofs.Sendings.{close-now}
 use Rattle.sat_act.specs.Answers.{took_close}
-use Rattle.sat_laws.proofs.Sinks.{either_true}
 
 pub record TookClose (d : Deployed) (h : List Entry) (j i e : ℕ) : Type 0 where
   pub label : Label
@@ -47,24 +45,24 @@ close_is : (l : Label) (e : ℕ) → elim l.kind [ kind.Close f ↦ f == e | _ �
 close_is l e m = go l.kind m
   where
     go : (k : Kind) → elim k [ kind.Close f ↦ f == e | _ ↦ false ] ≡ true → k ≡ kind.Close e
-    go (kind.Close f) m = ap (λ (y : ℕ). kind.Close y) (num_is f e m)
+    go (kind.Close f) m = ap (λ (y : ℕ). kind.Close y) (eqb-true f e m)
     go _ m = absurd (cc)
 
 took-step : (d : Deployed) (h : List Entry) (j i e : ℕ) (a : Act) (r : Answer) (n : Bool) → Step d h a r → took_close (entry a r n ∷ h) j i e ≡ true → (took_close h j i e ≡ true → TookClose d h j i e) → TookClose d (entry a r n ∷ h) j i e
 unfolding took_close handling HandledFrom
 took-step d h j i e a r n (took {j = k} {t = t} {z = z} {l = l} m p s w u) c old =
-    elim (either_true ((k == j) && ((l.point.site == i) && elim l.kind [ kind.Close f ↦ f == e | _ ↦ false ])) (took_close h j i e) c) [
+    elim (or_cases ((k == j) && ((l.point.site == i) && elim l.kind [ kind.Close f ↦ f == e | _ ↦ false ])) (took_close h j i e) c) [
       | inl q ↦
-          let b : ((k == j) ≡ true) × (((l.point.site == i) && elim l.kind [ kind.Close f ↦ f == e | _ ↦ false ]) ≡ true) = both_true (k == j) _ q in
-          let b' : ((l.point.site == i) ≡ true) × (elim l.kind [ kind.Close f ↦ f == e | _ ↦ false ] ≡ true) = both_true (l.point.site == i) _ b.1 in
+          let b : ((k == j) ≡ true) × (((l.point.site == i) && elim l.kind [ kind.Close f ↦ f == e | _ ↦ false ]) ≡ true) = and_parts (k == j) _ q in
+          let b' : ((l.point.site == i) ≡ true) × (elim l.kind [ kind.Close f ↦ f == e | _ ↦ false ] ≡ true) = and_parts (l.point.site == i) _ b.1 in
           record {
             label = l;
             epoch = view h k;
             tree = t;
             from = z;
             is_tree = p;
-            handled = inr (ap (λ (o : Option NodeId). Some (handled_as (view h k) (Site k) o l)) s ∙ ap (λ (y : ℕ). Some (handled_as (view h k) (Site y) (Some z) l)) (num_is k j b.0));
-            site = num_is l.point.site i b'.0;
+            handled = inr (ap (λ (o : Option NodeId). Some (handled_as (view h k) (Site k) o l)) s ∙ ap (λ (y : ℕ). Some (handled_as (view h k) (Site y) (Some z) l)) (eqb-true k j b.0));
+            site = eqb-true l.point.site i b'.0;
             kind = close_is l e b'.1;
           }
       | inr q ↦ took-later d h (entry (act.Turn k) (ans.Took l) n) j i e (old q)

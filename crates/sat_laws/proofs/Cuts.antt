@@ -3,6 +3,7 @@ use Rattle.std.specs.Prelude.{◌≡◌, ◌⊎◌, ◌<◌, ◌≤◌, ℕ, ◌
 use Rattle.std.proofs.Common.{sym, subst, arith, inl, inr, ap, ◌∙◌, lit≤}
 use Rattle.std.proofs.lemmas.Bool.Decides.{nat_tests}
 use Rattle.std.proofs.Math.Nat.{le_refl}
+use Rattle.std.proofs.lemmas.Bool.{eqb-true, or_cases, or_left}
 use Rattle.sat_label.specs.declared.point.Point.{Point}
 use Rattle.sat_label.specs.declared.label.Kind.{Kind}
 use Rattle.sat_label.specs.declared.label.Kind.TheVariants as kind
@@ -19,12 +20,16 @@ use Rattle.sat_act.specs.Goals.{Gives, Made, IsValid}
 use Rattle.sat_laws.proofs.Steps.{Step, emitted, pulsed, closed}
 use Rattle.sat_laws.proofs.Runs.{step_of, before_of, entry}
 use Rattle.sat_laws.proofs.Labels.{some_is, IsPlaced, made-placed, made-positive, made-point}
-use Rattle.sat_laws.proofs.Members.{In, gives-listed, in-has}
+use Rattle.sat_laws.proofs.Members.{gives-listed}
 use Rattle.sat_act.specs.Parts.{emission, known_at, last_pulse}
 use Rattle.sat_laws.proofs.Labels.{made-known}
-use Rattle.sat_laws.proofs.Orders.{point_lt-total, point_le-trans, point_le_lt-absurd, point_le-mark, mark-ts, point_eq-is}
-use Rattle.sat_laws.proofs.Knowledge.{point_le-self, point_le-ts, point_le-greater_right}
-use Rattle.sat_laws.proofs.Sinks.{Sent, Precedes, either_true, join_left, pending-is, sent-or-pending, stable-made, stable-rises, gathered-made, IsLeast, least-is, none-least, new-unstable}
+use Rattle.sat_laws.proofs.Orders.{point_le-mark, point_eq-is}
+use Rattle.sat_laws.proofs.Knowledge.{point_le-ts, point_le-greater_right}
+use Rattle.sat_laws.proofs.Sinks.{Sent, Precedes, pending-is, sent-or-pending, stable-made, stable-rises, gathered-made, new-unstable}
+use Rattle.sat_label.specs.Members.{In}
+use Rattle.sat_label.proofs.Members.{in-has}
+use Rattle.sat_label.proofs.Orders.{lt-ts, ts-lt, point_lt-total, point_le-trans, point_le_lt-absurd, mark-ts, point_le-self}
+use Rattle.sat_label.proofs.Least.{IsLeast, least-is, none-passes}
 
 -- how a site sends a label
 pub data Sending (d : Deployed) (h : List Entry) (i : ℕ) (s : Label) : Type 0 where
@@ -36,19 +41,16 @@ taken_if : {X : Type 0} (b : Bool) (x y : X) → (if b then Some x else None) �
 taken_if true x y e = (refl, some_is x y e)
 taken_if false x y e = absurd (cc)
 
-pub num_is : (a b : ℕ) → (a == b) ≡ true → a ≡ b
-num_is a b e = grind (arith, nat_tests)
-
 pub sending : (d : Deployed) (h : List Entry) (i : ℕ) (s : Label) (a : Act) (r : Answer) (n : Bool) → Step d h a r → sent_entry i h (entry a r n) ≡ Some s → Sending d h i s
 sending d h i s a r n (emitted {i = k} {l = l} q) e =
     let w : ((k == i) ≡ true) × (l ≡ s) = taken_if (k == i) l s e in
-    subst (λ (x : ℕ). Sending d h x s) (num_is k i w.0) (by_emit (q ∙ ap (λ (y : Label). Some y) w.1))
+    subst (λ (x : ℕ). Sending d h x s) (eqb-true k i w.0) (by_emit (q ∙ ap (λ (y : Label). Some y) w.1))
 sending d h i s a r n (pulsed {i = k} q p) e =
     let w : ((k == i) ≡ true) × (record { point = point_at (stable d h k) k 65534; kind = kind.Pulse } ≡ s) = taken_if (k == i) (record { point = point_at (stable d h k) k 65534; kind = kind.Pulse }) s e in
-    subst (λ (x : ℕ). Sending d h x s) (num_is k i w.0) (by_pulse q p w.1)
+    subst (λ (x : ℕ). Sending d h x s) (eqb-true k i w.0) (by_pulse q p w.1)
 sending d h i s a r n (closed {i = k} q p) e =
     let w : ((k == i) ≡ true) × (record { point = cut d h k; kind = kind.Close (emission h k) } ≡ s) = taken_if (k == i) (record { point = cut d h k; kind = kind.Close (emission h k) }) s e in
-    subst (λ (x : ℕ). Sending d h x s) (num_is k i w.0) (by_close w.1)
+    subst (λ (x : ℕ). Sending d h x s) (eqb-true k i w.0) (by_close w.1)
 sending d h i s a r n _ e = absurd (cc)
 
 pub ready-is : (d : Deployed) (h : List Entry) (i : ℕ) (s : Label) → ready d h i ≡ Some s → IsLeast (is_stable d h i) (pending d h i) s
@@ -57,9 +59,9 @@ ready-is d h i s e = least-is (is_stable d h i) (pending d h i) s e
 
 pub ready-none : (d : Deployed) (h : List Entry) (i : ℕ) (l : Label) → ready d h i ≡ None → is_stable d h i l ≡ true → In (pending d h i) l → ⊥
 unfolding ready
-ready-none d h i l e k m = none-least (is_stable d h i) (pending d h i) l e k m
+ready-none d h i l e k m = none-passes (is_stable d h i) (pending d h i) l e k m
 
-stable-ts : (d : Deployed) (h : List Entry) (i : ℕ) (l : Label) → is_stable d h i l ≡ true → l.point.ts ≤ stable d h i
+pub stable-ts : (d : Deployed) (h : List Entry) (i : ℕ) (l : Label) → is_stable d h i l ≡ true → l.point.ts ≤ stable d h i
 unfolding is_stable
 stable-ts d h i l e = grind (arith, nat_tests)
 
@@ -73,7 +75,7 @@ point_of o = elim o [ None ↦ None | Some l ↦ Some l.point ]
 abbrev fold_last : Option Label → Point → Point
 fold_last o p = elim (point_of o) [ None ↦ p | Some y ↦ y ]
 
-abbrev fold_cut : Option Label → Point → Point → ℕ → Point
+abbrev pub fold_cut : Option Label → Point → Point → ℕ → Point
 fold_cut o p q i = elim o [ None ↦ p | Some least ↦ greater_point q (mark (least.point.ts - 1) i) ]
 
 -- the point of the last label that i sent
@@ -108,7 +110,7 @@ pub cut-none : (d : Deployed) (h : List Entry) (i : ℕ) → ready d h i ≡ Non
 unfolding cut
 cut-none d h i e = ap (λ (o : Option Label). fold_cut o (mark (stable d h i) i) (last_sent h i) i) e
 
-cut-some : (d : Deployed) (h : List Entry) (i : ℕ) (m : Label) → ready d h i ≡ Some m → cut d h i ≡ greater_point (last_sent h i) (mark (m.point.ts - 1) i)
+pub cut-some : (d : Deployed) (h : List Entry) (i : ℕ) (m : Label) → ready d h i ≡ Some m → cut d h i ≡ greater_point (last_sent h i) (mark (m.point.ts - 1) i)
 unfolding cut
 cut-some d h i m e = ap (λ (o : Option Label). fold_cut o (mark (stable d h i) i) (last_sent h i) i) e
 
@@ -177,17 +179,11 @@ sent-known d (e ∷ h) i s v run (inr m) = go (sending d h i s e.act e.answer e.
 
 -- ---- the cut is a true line
 
-lt-ts : (p q : Point) → point_lt p q ≡ true → p.ts ≤ q.ts
-lt-ts p q h = grind (arith, nat_tests)
-
-pub ts-lt : (p q : Point) → p.ts < q.ts → point_lt p q ≡ true
-ts-lt p q h = grind (arith, nat_tests)
-
 points-is : (p q : Point) → (p.ts ≡ q.ts) × (p.site ≡ q.site) × (p.gear ≡ q.gear) → p ≡ q
 points-is p q e = λ i. record { ts = e.0 i; site = e.1 i; gear = e.2 i }
 
 le-cases : (p q : Point) → point_le p q ≡ true → (point_lt p q ≡ true) ⊎ (p ≡ q)
-le-cases p q w = elim (either_true (point_lt p q) (point_eq p q) w) [ inl a ↦ inl a | inr a ↦ inr (points-is p q (point_eq-is p q a)) ]
+le-cases p q w = elim (or_cases (point_lt p q) (point_eq p q) w) [ inl a ↦ inl a | inr a ↦ inr (points-is p q (point_eq-is p q a)) ]
 
 below_least : (l s : Label) → point_lt l.point s.point ≡ true → label_lt l s ≡ false → ⊥
 below_least l s t f = go (point_lt l.point s.point) t f
@@ -236,7 +232,7 @@ lower-sent d h i l s v run m e t r =
     let g : Made (gathered h l.point.site) l = stable-made d h l v run m (subst (λ (k : ℕ). l.point.ts ≤ stable d h k) (sym e) u) in
     elim (sent-or-pending d h l p.gear g) [
       | inl a ↦ subst (λ (k : ℕ). Sent h k l) e a
-      | inr a ↦ absurd (below_least l s t (k.least l (subst (λ (k : ℕ). In (pending d h k) l) e a) (ts-stable d h i l u)))
+      | inr a ↦ absurd (below_least l s t (k.lowest l (subst (λ (k : ℕ). In (pending d h k) l) e a) (ts-stable d h i l u)))
     ]
 
 -- what lies at or below the cut was sent
@@ -321,7 +317,7 @@ sending-last : (d : Deployed) (h : List Entry) (i : ℕ) (s l : Label) → i < d
 sending-last d h i s l x v run (by_emit r) a m e w t =
     let k : IsLeast (is_stable d h i) (pending d h i) s = ready-is d h i s r in
     let q : Made (gathered h i) s × (s.point.site ≡ i) × (has label_eq (sent h i) s ≡ false) = pending-is d h i s k.member in
-    let b : point_le s.point (known_by l) ≡ true = subst (λ (p : Point). point_le s.point p ≡ true) (sym (made-known d h l v run m)) (join_left (point_lt s.point l.point) (point_eq s.point l.point) t) in
+    let b : point_le s.point (known_by l) ≡ true = subst (λ (p : Point). point_le s.point p ≡ true) (sym (made-known d h l v run m)) (or_left (point_lt s.point l.point) (point_eq s.point l.point) t) in
     not_sent h i s q.2 (in-order-sent h i (sent-order d h i x v run) l s a (gathered-made h i s q.0) q.1 b)
 sending-last d h i s l x v run (by_pulse r _ q) a m e w t =
     let p : IsPlaced d h l = made-placed d h l v run m in

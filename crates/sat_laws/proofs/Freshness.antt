@@ -2,6 +2,7 @@
 use Rattle.std.specs.Prelude.{◌≡◌, ◌⊎◌, ℕ, Bool, true, false, List, [], ◌∷◌, Option, Some, None, refl, ◌==◌, if◌then◌else◌}
 use Rattle.std.proofs.Common.{sym, subst, arith, inl, inr, ap}
 use Rattle.std.proofs.lemmas.Bool.Decides.{nat_tests}
+use Rattle.std.proofs.lemmas.Bool.{false_from_ne_true}
 use Rattle.sat_label.specs.declared.label.Label.{Label}
 use Rattle.sat_act.specs.declared.act.Act.{Act}
 use Rattle.sat_act.specs.declared.answer.Answer.{Answer}
@@ -13,7 +14,7 @@ use Rattle.sat_act.specs.Goals.{IsValid}
 use Rattle.sat_laws.proofs.Steps.{Step}
 use Rattle.sat_laws.proofs.Runs.{step_of, before_of}
 use Rattle.sat_laws.proofs.Labels.{some_is}
-use Rattle.sat_laws.proofs.Members.{In, gives-listed}
+use Rattle.sat_laws.proofs.Members.{gives-listed}
 use Rattle.sat_label.specs.declared.label.Kind.TheVariants as kind
 use Rattle.sat_laws.proofs.Links.{AllCuttable}
 use Rattle.sat_label.specs.declared.label.Kind.{Kind}
@@ -30,11 +31,12 @@ use Rattle.sat_label.specs.Order.{label_lt}
 use Rattle.sat_act.specs.Parts.{version, greatest_label, is_update_of, shown}
 use Rattle.sat_act.specs.Goals.{Fresh, IsFresh}
 use Rattle.sat_laws.proofs.Steps.{read_none, read_some}
-use Rattle.sat_laws.proofs.Members.{In, gives-listed}
-use Rattle.sat_laws.proofs.Sinks.{label_lt-self, label_lt-trans, not_true}
+use Rattle.sat_laws.proofs.Members.{gives-listed}
 use Rattle.sat_laws.proofs.Mains.{main}
 use Rattle.sat_laws.proofs.Labels.{seat-range}
 use Rattle.sat_laws.proofs.Sites.{known}
+use Rattle.sat_label.specs.Members.{In, In}
+use Rattle.sat_label.proofs.Orders.{label_lt-self, label_lt-trans}
 
 none-greatest : (p : Label → Bool) (x m : Label) (ls : List Label) (b : Bool) → p x ≡ b → (o : Option Label) → (o ≡ None → In ls m → ⊥) →
     (if b then elim o [ None ↦ Some x | Some y ↦ if label_lt y x then Some x else Some y ] else o) ≡ None → p m ≡ true → (x ≡ m) ⊎ In ls m → ⊥
@@ -62,7 +64,7 @@ greatest-step p x l ls true w (Some y) rest none e m i k = go (label_lt y x) ref
   where
     go : (c : Bool) → label_lt y x ≡ c → (if c then Some x else Some y) ≡ Some l → (x ≡ m) ⊎ In ls m → label_lt l m ≡ false
     go true c e (inl q) = subst (λ (z : Label). label_lt z m ≡ false) (some_is x l e) (subst (λ (z : Label). label_lt x z ≡ false) q (label_lt-self x))
-    go true c e (inr q) = subst (λ (z : Label). label_lt z m ≡ false) (some_is x l e) (not_true (label_lt x m) (λ t. let z : label_lt y m ≡ true = label_lt-trans y x m c t in let f : label_lt y m ≡ false = rest y refl m q k in cc))
+    go true c e (inr q) = subst (λ (z : Label). label_lt z m ≡ false) (some_is x l e) (false_from_ne_true (label_lt x m) (λ t. let z : label_lt y m ≡ true = label_lt-trans y x m c t in let f : label_lt y m ≡ false = rest y refl m q k in cc))
     go false c e (inl q) = subst (λ (z : Label). label_lt z m ≡ false) (some_is y l e) (subst (λ (z : Label). label_lt y z ≡ false) q c)
     go false c e (inr q) = subst (λ (z : Label). label_lt z m ≡ false) (some_is y l e) (rest y refl m q k)
 

@@ -1,7 +1,7 @@
 -- What an entry that handles a label tells.
-use Rattle.std.specs.Prelude.{◌≡◌, ◌<◌, ℕ, Bool, true, false, ◌||◌, List, Option, Some, None, refl, ◌==◌, if◌then◌else◌}
-use Rattle.std.proofs.Common.{sym, subst, arith, ap, ◌∙◌}
-use Rattle.std.proofs.lemmas.Bool.Decides.{nat_tests}
+use Rattle.std.specs.Prelude.{◌≡◌, ◌<◌, ℕ, Bool, true, false, ◌||◌, List, Option, Some, None, refl, ◌==◌}
+use Rattle.std.proofs.Common.{sym, subst, ap, ◌∙◌}
+use Rattle.sat_label.proofs.Truth.{same-number, some_if}
 use Rattle.sat_label.specs.declared.label.Label.{Label}
 use Rattle.sat_label.specs.declared.node.NodeId.{NodeId}
 use Rattle.sat_label.specs.declared.node.NodeId.TheVariants.{Site, Serializer}
@@ -27,16 +27,9 @@ pub data HandlingView (d : Deployed) (h : List Entry) (x : Entry) : Handling →
   sends : (i : ℕ) (l : Label) → i < d.sites → sent_entry i h x ≡ Some l → HandlingView d h x (handled_as (emission h i) (Site i) None l)
   passes : (e : ℕ) (t : TreeShape) (u v : NodeId) (l : Label) → tree_of d e ≡ Some t → is_edge t u v ≡ true → link_front d h e t u v ≡ Some l → HandlingView d h x (handled_as e v (Some u) l)
 
-self_num : (i : ℕ) → (i == i) ≡ true
-self_num i = grind (arith, nat_tests)
-
-if_true : {X : Type 0} (b : Bool) (x : X) → b ≡ true → (if b then Some x else None) ≡ Some x
-if_true true x e = refl
-if_true false x e = absurd (cc)
-
 pub seat-edge : (t : TreeShape) (j : ℕ) → is_edge t (Serializer (seat_of t j)) (Site j) ≡ true
 unfolding is_edge hangs_on over
-seat-edge t j = go (seat_of t j == seat_of t j) (self_num (seat_of t j))
+seat-edge t j = go (seat_of t j == seat_of t j) (same-number (seat_of t j))
   where
     go : (b : Bool) → b ≡ true → (false || (b || false)) ≡ true
     go true e = refl
@@ -62,11 +55,11 @@ same-tree d e t u a b = some_is t u (sym a ∙ b)
 pub handling-view : (d : Deployed) (h : List Entry) (a : Act) (r : Answer) (n : Bool) (y : Handling) → InRange d a → Step d h a r → handling d h (entry a r n) ≡ Some y → HandlingView d h (entry a r n) y
 unfolding handling
 handling-view d h a r n y range (emitted {i = i} {l = l} q) e =
-    subst (HandlingView d h (entry (act.Emit i) (ans.Emitted l) n)) (some_is _ y e) (sends i l range (if_true (i == i) l (self_num i)))
+    subst (HandlingView d h (entry (act.Emit i) (ans.Emitted l) n)) (some_is _ y e) (sends i l range (some_if (i == i) l (same-number i)))
 handling-view d h a r n y range (pulsed {i = i} q p) e =
-    subst (HandlingView d h (entry (act.Pulse i) _ n)) (some_is _ y e) (sends i _ range (if_true (i == i) _ (self_num i)))
+    subst (HandlingView d h (entry (act.Pulse i) _ n)) (some_is _ y e) (sends i _ range (some_if (i == i) _ (same-number i)))
 handling-view d h a r n y range (closed {i = i} q p) e =
-    subst (HandlingView d h (entry (act.Close i) _ n)) (some_is _ y e) (sends i _ range (if_true (i == i) _ (self_num i)))
+    subst (HandlingView d h (entry (act.Close i) _ n)) (some_is _ y e) (sends i _ range (some_if (i == i) _ (same-number i)))
 handling-view d h a r n y range (hopped {e = f} {z = z} {u = u} {t = t} {l = l} k w) e =
     subst (HandlingView d h (entry (act.Hop f u z) _ n)) (some_is _ y e)
     (passes f t u (Serializer z) l k (subst (λ (s : TreeShape). is_edge s u (Serializer z) ≡ true) (same-tree d f range.0 t range.1 k) range.2) w)

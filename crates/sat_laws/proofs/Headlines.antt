@@ -1,5 +1,5 @@
 -- The headline, over every history whose entries have the answers of their acts.
-use Rattle.sat_laws.specs.Claims.{EveryHistoryIsGood}
+use Rattle.sat_laws.specs.Laws.{EveryHistoryIsGood}
 use Rattle.sat_laws.proofs.Links.{AllCuttable}
 use Rattle.sat_tree.proofs.Trees.{cuttable}
 use Rattle.sat_laws.proofs.Stamps.{stamp-rules}

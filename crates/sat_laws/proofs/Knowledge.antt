@@ -5,6 +5,7 @@ use Rattle.std.proofs.lemmas.Bool.Decides.{nat_tests}
 use Rattle.sat_label.specs.declared.point.Point.{Point}
 use Rattle.sat_label.specs.declared.label.Label.{Label}
 use Rattle.sat_label.specs.Order.{point_le, greater_point, zero_point}
+use Rattle.sat_label.proofs.Orders.{point_le-self}
 use Rattle.sat_act.specs.declared.act.Act.{Act}
 use Rattle.sat_act.specs.declared.answer.Answer.{Answer}
 use Rattle.sat_act.specs.declared.answer.Answer.TheVariants as ans
@@ -18,16 +19,13 @@ use Rattle.sat_act.specs.Causes.{Who, Client, Maker, Knows, LearnedBy, Past, Cau
 use Rattle.sat_act.specs.Goals.{Gives, Made, IsValid}
 use Rattle.sat_laws.proofs.Runs.{step_of, before_of, entry}
 use Rattle.sat_laws.proofs.Labels.{Making, making, some_is, made-new}
-use Rattle.sat_laws.proofs.Orders.{point_le-trans}
+use Rattle.sat_label.proofs.Orders.{point_le-trans}
 
 pub point_le-greater_left : (p q : Point) → point_le p (greater_point q p) ≡ true
 point_le-greater_left p q = grind (arith, nat_tests)
 
 pub point_le-greater_right : (p q : Point) → point_le q (greater_point q p) ≡ true
 point_le-greater_right p q = grind (arith, nat_tests)
-
-pub point_le-self : (p : Point) → point_le p p ≡ true
-point_le-self p = grind (arith, nat_tests)
 
 pub point_le-ts : (p q : Point) → point_le p q ≡ true → p.ts ≤ q.ts
 point_le-ts p q h = grind (arith, nat_tests)

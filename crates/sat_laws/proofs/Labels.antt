@@ -3,9 +3,8 @@ use Rattle.std.specs.Prelude.{◌≡◌, ◌<◌, ◌≤◌, ℕ, ◌+◌, ◌%�
 use Rattle.std.proofs.Common.{sym, subst, arith, inl, inr, ◌∙◌}
 use Rattle.std.proofs.lemmas.Bool.Decides.{nat_tests}
 use Rattle.sat_label.specs.declared.point.Point.{Point}
-use Rattle.sat_label.specs.declared.label.Kind.{Kind}
-use Rattle.sat_label.specs.declared.label.Kind.TheVariants as kind
 use Rattle.sat_label.specs.declared.label.Label.{Label}
+use Rattle.sat_label.specs.Members.{is_made}
 use Rattle.sat_act.specs.declared.act.Act.{Act}
 use Rattle.sat_act.specs.declared.answer.Answer.{Answer}
 use Rattle.sat_act.specs.declared.answer.Answer.TheVariants as ans
@@ -27,11 +26,6 @@ chosen P false x y f g = g refl
 
 pub some_is : {X : Type 0} (x y : X) → Some x ≡ Some y → x ≡ y
 some_is x y e = cc
-
-abbrev pub is_made : Kind → Bool
-is_made (kind.Update x) = true
-is_made (kind.Move j) = true
-is_made _ = false
 
 -- how a label is made
 pub record Making (d : Deployed) (h : List Entry) (a : Act) (b : Label) : Type 0 where

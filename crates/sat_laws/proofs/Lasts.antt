@@ -1,6 +1,7 @@
 -- What a site's last points tell: what it took, and what was closed.
 use Rattle.std.specs.Prelude.{◌≡◌, ◌⊎◌, ◌<◌, ◌≤◌, ℕ, ◌+◌, Bool, true, false, ◌&&◌, List, [], ◌∷◌, Option, Some, None, refl, ◌==◌, if◌then◌else◌}
 use Rattle.std.proofs.Common.{sym, subst, arith, inl, inr, ap, ◌∙◌}
+use Rattle.std.proofs.lemmas.Bool.{and_parts, eqb-true}
 use Rattle.sat_label.specs.declared.point.Point.{Point}
 use Rattle.sat_label.specs.declared.label.Label.{Label}
 use Rattle.sat_label.specs.declared.node.NodeId.{NodeId}
@@ -19,7 +20,6 @@ use Rattle.sat_laws.proofs.Gears.{split_le}
 use Rattle.sat_laws.proofs.Cuts.{sent-site}
 use Rattle.sat_laws.proofs.Handlings.{handled_as}
 use Rattle.sat_laws.proofs.Sendings.{sent-once, picked_if}
-use Rattle.sat_laws.proofs.Cuts.{num_is}
 use Rattle.sat_act.specs.Parts.{cut}
 use Rattle.sat_label.specs.Order.{point_at}
 use Rattle.sat_laws.proofs.Steps.{closed}
@@ -30,9 +30,9 @@ use Rattle.sat_act.specs.Parts.{view}
 use Rattle.sat_laws.proofs.Steps.{showed_turn, took}
 use Rattle.sat_laws.proofs.Order.{sent-in, InOrder}
 use Rattle.sat_label.specs.Order.{point_le, point_lt}
-use Rattle.sat_act.specs.Parts.{close_cut, closed_entry, known_by}
+use Rattle.sat_act.specs.Parts.{close_cut, close_cut_of_entry, known_by}
 use Rattle.sat_act.specs.Goals.{Made}
-use Rattle.sat_laws.proofs.Sinks.{both_true, Precedes}
+use Rattle.sat_laws.proofs.Sinks.{Precedes}
 use Rattle.sat_laws.proofs.Cuts.{sent-order}
 use Rattle.sat_laws.proofs.Sendings.{picked_if}
 use Rattle.sat_laws.proofs.Knowledge.{point_le-ts}
@@ -70,22 +70,22 @@ pub data LastSource (d : Deployed) (h : List Entry) (j i : ℕ) (q : Point) : Ty
   took_up : TookUp d h j i q → LastSource d h j i q
   passed_up : PassedUp h j i q → LastSource d h j i q
 
-still-closed : (h : List Entry) (x : Entry) (i e : ℕ) (p : Point) → closed_entry i e h x ≡ None → close_cut h i e ≡ Some p → close_cut (x ∷ h) i e ≡ Some p
+still-closed : (h : List Entry) (x : Entry) (i e : ℕ) (p : Point) → close_cut_of_entry i e h x ≡ None → close_cut h i e ≡ Some p → close_cut (x ∷ h) i e ≡ Some p
 unfolding close_cut
 still-closed h x i e p w m = subst (λ (o : Option (Option Point)). elim o [ None ↦ close_cut h i e | Some y ↦ y ] ≡ Some p) (sym w) m
 
-no-none-close : (d : Deployed) (h : List Entry) (i e : ℕ) (a : Act) (r : Answer) (n : Bool) → Step d h a r → closed_entry i e h (entry a r n) ≡ Some None → ⊥
+no-none-close : (d : Deployed) (h : List Entry) (i e : ℕ) (a : Act) (r : Answer) (n : Bool) → Step d h a r → close_cut_of_entry i e h (entry a r n) ≡ Some None → ⊥
 no-none-close d h i e a r n (closed {i = k} q w) m = let z : Some (cut d h k) ≡ None = (picked_if ((k == i) && (emission h k == e)) (Some (cut d h k)) None m).1 in cc
 no-none-close d h i e a r n _ m = cc
 
 pub cut-keeps : (d : Deployed) (h : List Entry) (x : Entry) (i e : ℕ) (p : Point) → IsRun d (x ∷ h) → close_cut h i e ≡ Some p → close_cut (x ∷ h) i e ≡ Some p
 unfolding close_cut
-cut-keeps d h x i e p run m = go (closed_entry i e h x) refl
+cut-keeps d h x i e p run m = go (close_cut_of_entry i e h x) refl
   where
-    go : (o : Option (Option Point)) → closed_entry i e h x ≡ o → elim (closed_entry i e h x) [ None ↦ close_cut h i e | Some y ↦ y ] ≡ Some p
+    go : (o : Option (Option Point)) → close_cut_of_entry i e h x ≡ o → elim (close_cut_of_entry i e h x) [ None ↦ close_cut h i e | Some y ↦ y ] ≡ Some p
     go o w = subst (λ (o : Option (Option Point)). elim o [ None ↦ close_cut h i e | Some y ↦ y ] ≡ Some p) (sym w) (pick o w)
       where
-        pick : (o : Option (Option Point)) → closed_entry i e h x ≡ o → elim o [ None ↦ close_cut h i e | Some y ↦ y ] ≡ Some p
+        pick : (o : Option (Option Point)) → close_cut_of_entry i e h x ≡ o → elim o [ None ↦ close_cut h i e | Some y ↦ y ] ≡ Some p
         pick None w = m
         pick (Some None) w = absurd (no-none-close d h i e x.act x.answer x.inner (step_of d h x run) w)
         pick (Some (Some q)) w = absurd (let z : e ≡ emission h i = (closing d h i e q x.act x.answer x.inner (step_of d h x run) w).0 in let y : e < emission h i = closed-below d h i e p (before_of d h x run) m in omega arith)
@@ -132,12 +132,12 @@ source-now : (d : Deployed) (h : List Entry) (j i : ℕ) (q : Point) (a : Act) (
 unfolding HandledFrom handling
 source-now d h j i q a r n (showed_turn {j = k} {t = t} {z = z} {l = l} m p s w u c) up e =
     let y : (((k == j) && (l.point.site == i)) ≡ true) × (known_by l ≡ q) = picked_if ((k == j) && (l.point.site == i)) (known_by l) q e in
-    let b : ((k == j) ≡ true) × ((l.point.site == i) ≡ true) = both_true (k == j) (l.point.site == i) y.0 in
-    took_up (turned-up d h k j i q z t l (num_is k j b.0) up p (num_is l.point.site i b.1) y.1 (inr (ap (λ (o : Option NodeId). Some (handled_as (view h k) (Site k) o l)) s)))
+    let b : ((k == j) ≡ true) × ((l.point.site == i) ≡ true) = and_parts (k == j) (l.point.site == i) y.0 in
+    took_up (turned-up d h k j i q z t l (eqb-true k j b.0) up p (eqb-true l.point.site i b.1) y.1 (inr (ap (λ (o : Option NodeId). Some (handled_as (view h k) (Site k) o l)) s)))
 source-now d h j i q a r n (took {j = k} {t = t} {z = z} {l = l} m p s w u) up e =
     let y : (((k == j) && (l.point.site == i)) ≡ true) × (known_by l ≡ q) = picked_if ((k == j) && (l.point.site == i)) (known_by l) q e in
-    let b : ((k == j) ≡ true) × ((l.point.site == i) ≡ true) = both_true (k == j) (l.point.site == i) y.0 in
-    took_up (turned-up d h k j i q z t l (num_is k j b.0) up p (num_is l.point.site i b.1) y.1 (inr (ap (λ (o : Option NodeId). Some (handled_as (view h k) (Site k) o l)) s)))
+    let b : ((k == j) ≡ true) × ((l.point.site == i) ≡ true) = and_parts (k == j) (l.point.site == i) y.0 in
+    took_up (turned-up d h k j i q z t l (eqb-true k j b.0) up p (eqb-true l.point.site i b.1) y.1 (inr (ap (λ (o : Option NodeId). Some (handled_as (view h k) (Site k) o l)) s)))
 source-now d h j i q a r n (advanced {j = k} p w) up e = passed-now d h k j i q n (in_stamp_mode d h j) e
 source-now d h j i q a r n _ up e = absurd (cc)
 

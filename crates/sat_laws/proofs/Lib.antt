@@ -6,6 +6,7 @@ pub mod Freshness
 pub mod Gears
 pub mod Handlings
 pub mod Knowledge
+pub mod Known
 pub mod Labels
 pub mod Lasts
 pub mod Links

@@ -20,9 +20,11 @@ use Rattle.sat_act.specs.Goals.{Gives}
 use Rattle.sat_laws.proofs.Runs.{step_of, before_of, range_of}
 use Rattle.sat_laws.proofs.Labels.{some_is}
 use Rattle.sat_laws.proofs.Gears.{split_le}
-use Rattle.sat_laws.proofs.Members.{In, In-get, listed-gives, gives-listed}
+use Rattle.sat_laws.proofs.Members.{listed-gives, gives-listed}
 use Rattle.sat_laws.proofs.Cuts.{sent-site}
 use Rattle.sat_laws.proofs.Handlings.{HandlingView, sends, passes, handled_as, handling-view}
+use Rattle.sat_label.specs.Members.{In}
+use Rattle.sat_label.proofs.Members.{In-get}
 
 pub record AllCuttable (d : Deployed) : Type 0 where
   pub each : (e : ℕ) (t : TreeShape) → tree_of d e ≡ Some t → IsCuttable t

@@ -2,6 +2,7 @@
 use Rattle.std.specs.Prelude.{◌≡◌, ◌⊎◌, ◌<◌, ◌≤◌, ℕ, ◌+◌, Bool, true, false, List, [], ◌∷◌, Option, Some, None, refl, ◌==◌, if◌then◌else◌}
 use Rattle.std.proofs.Common.{sym, subst, arith, inl, inr, ap, ◌∙◌}
 use Rattle.std.proofs.lemmas.Bool.Decides.{nat_tests}
+use Rattle.std.proofs.lemmas.Bool.{cases_eq}
 use Rattle.sat_label.specs.declared.label.Label.{Label}
 use Rattle.sat_label.specs.declared.node.NodeId.{NodeId}
 use Rattle.sat_label.specs.declared.node.NodeId.TheVariants.{Site}
@@ -34,7 +35,7 @@ use Rattle.sat_laws.proofs.Sendings.{emission-rises}
 use Rattle.sat_laws.proofs.Handlings.{seat-edge}
 use Rattle.sat_act.specs.Causes.{Maker, Knows}
 use Rattle.sat_act.specs.Goals.{Made}
-use Rattle.sat_laws.proofs.Labels.{is_made, made-kind, made-new, Making, making, IsPlaced, made-placed}
+use Rattle.sat_laws.proofs.Labels.{made-kind, made-new, Making, making, IsPlaced, made-placed}
 use Rattle.sat_laws.proofs.Sendings.{close-seq}
 use Rattle.sat_laws.proofs.Knowledge.{cause-made}
 use Rattle.sat_laws.proofs.Arrivals.{sent-epoch, epoch-bound, one-epoch}
@@ -44,7 +45,7 @@ use Rattle.sat_laws.proofs.Arrivals.{handled-sent-in, self-ahead}
 use Rattle.sat_laws.proofs.Order.{behind-first}
 use Rattle.sat_laws.proofs.Origins.{sent-made}
 use Rattle.sat_act.specs.Parts.{may_attach, all_others}
-use Rattle.sat_laws.specs.Known.{SiteKnows, SiteLearned}
+use Rattle.sat_laws.proofs.Known.{SiteKnows, SiteLearned}
 use Rattle.sat_act.specs.Answers.{may_advance, took_close}
 use Rattle.sat_laws.proofs.Steps.{attached, showed_stamp}
 use Rattle.sat_laws.proofs.Order.{SentAhead}
@@ -52,11 +53,11 @@ use Rattle.sat_laws.proofs.Sites.{known}
 use Rattle.sat_laws.proofs.Shows.{Showing, showing, by_write, by_turn, by_stamp, own-shown, waits, brings-for}
 use Rattle.sat_laws.proofs.Arrivals.{arrives-shown, kept-update}
 use Rattle.sat_laws.proofs.Knowledge.{knows-below}
-use Rattle.sat_laws.proofs.Origins.{knows-made, close-behind, emits, ready-made}
+use Rattle.sat_laws.proofs.Origins.{knows-made, made-behind, emits, ready-made}
 use Rattle.sat_act.specs.Done.{is_at}
 use Rattle.sat_act.specs.Goals.{Causal}
 use Rattle.sat_laws.proofs.Knowledge.{cause-stays, cause-new, cause-made}
-use Rattle.sat_laws.proofs.Cuts.{lower-sent, ts-lt}
+use Rattle.sat_laws.proofs.Cuts.{lower-sent}
 use Rattle.sat_laws.proofs.Order.{in-order-step}
 use Rattle.sat_laws.proofs.Origins.{sent-made}
 use Rattle.sat_laws.proofs.Views.{sends-view}
@@ -64,7 +65,9 @@ use Rattle.sat_laws.proofs.Handlings.{seat-is, seat-edge}
 use Rattle.sat_laws.proofs.Steps.{showed_turn}
 use Rattle.sat_laws.proofs.Arrivals.{self-ahead}
 use Rattle.sat_laws.proofs.Closes.{TookClose, took-close, close-epoch}
-use Rattle.sat_laws.proofs.Safety.{fallen-now, sent-later, IsSafe, Main, StampRules, attach-safe, turn-safe, stamp-safe, any-safe, safe-later, others-pass, sent-old, dec_num}
+use Rattle.sat_laws.proofs.Safety.{fallen-now, sent-later, IsSafe, Main, StampRules, attach-safe, turn-safe, stamp-safe, any-safe, safe-later, others-pass, sent-old}
+use Rattle.sat_label.specs.Members.{is_made}
+use Rattle.sat_label.proofs.Orders.{ts-lt}
 
 record TurnNow (d : Deployed) (h : List Entry) (j : ℕ) (b : Label) (x : Entry) : Type 0 where
   pub tree : TreeShape
@@ -194,7 +197,7 @@ module _ (d : Deployed) (h : List Entry) (x : Entry) (v : IsValid d) (cuts : All
       go false y z w e = inr e
 
   closed-now : StampRules d → (j i : ℕ) → j < d.sites → i < d.sites → (emission h j ≡ view h j → ⊥) → may_advance d h j ≡ true → view h j < emission h i
-  closed-now rules j i bj bi q m = elim (dec_num i j) [ inl s ↦ subst (λ (k : ℕ). view h j < emission h k) (sym s) own | inr n ↦ other n (mode-cases j m) ]
+  closed-now rules j i bj bi q m = elim (cases_eq i j) [ inl s ↦ subst (λ (k : ℕ). view h j < emission h k) (sym s) own | inr n ↦ other n (mode-cases j m) ]
     where
       own : view h j < emission h j
       own = let lo : view h j ≤ emission h j = (abreast d h j (before_of d h x run)).low in grind arith
@@ -229,7 +232,7 @@ module _ (d : Deployed) (h : List Entry) (x : Entry) (v : IsValid d) (cuts : All
       let z : SentIn h c.label.point.site c.epoch c.label = handled-sent-in d h c.epoch (Site j) (Some c.from) c.label (before_of d h x run) c.handled in
       let y : SentIn h i c.epoch c.label = subst (λ (m : ℕ). SentIn h m c.epoch c.label) c.site z in
       let f : c.epoch ≡ view h j = close-epoch d h i c.epoch (view h j) c.label v (before_of d h x run) y c.kind in
-      let q : Behind h (view h j) a c.label = close-behind d h i (view h j) a c.label v (before_of d h x run) s (sent-in h i c.epoch c.label y) c.kind (kept-made a k) in
+      let q : Behind h (view h j) a c.label = made-behind d h i (view h j) a c.label v (before_of d h x run) s (sent-in h i c.epoch c.label y) c.kind (kept-made a k) in
       let t : tree_of d (view h j) ≡ Some c.tree = subst (λ (m : ℕ). tree_of d m ≡ Some c.tree) f c.is_tree in
       let hd : HandledFrom d h (view h j) (Site j) (Some c.from) c.label = subst (λ (m : ℕ). HandledFrom d h m (Site j) (Some c.from) c.label) f c.handled in
       arrives-shown d h (view h j) c.tree j a cuts (before_of d h x run) t bj (inv.order.ahead (view h j) c.tree (Site j) c.label a t (Some c.from, hd) q) n k
@@ -239,7 +242,7 @@ module _ (d : Deployed) (h : List Entry) (x : Entry) (v : IsValid d) (cuts : All
 
   below-now : StampRules d → (j i : ℕ) (a : Label) → j < d.sites → i < d.sites → may_advance d h j ≡ true → SentIn h i (view h j) a → IsKeptAt d j a → Shows h j a
   below-now rules j i a bj bi m s k =
-      elim (dec_num i j) [
+      elim (cases_eq i j) [
         | inl e ↦ subst (λ (n : ℕ). Shows h n a) e (subst (λ (n : ℕ). Shows h n a) site (own-shown d h a (before_of d h x run) (sent-made d h i a (before_of d h x run) sent_a (kept-is-made a k)) (kept-update d j a k)))
         | inr n ↦ other n (mode-cases j m)
       ]

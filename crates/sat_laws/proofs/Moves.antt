@@ -2,6 +2,7 @@
 use Rattle.std.specs.Prelude.{◌≡◌, ◌⊎◌, ◌<◌, ℕ, ◌+◌, Bool, true, false, List, [], ◌∷◌, Option, Some, None, refl, ◌==◌, if◌then◌else◌}
 use Rattle.std.proofs.Common.{sym, subst, arith, inl, inr, ap, ◌∙◌}
 use Rattle.std.proofs.lemmas.Bool.Decides.{nat_tests}
+use Rattle.std.proofs.lemmas.Bool.{eqb-true}
 use Rattle.sat_label.specs.declared.label.Label.{Label}
 use Rattle.sat_label.specs.declared.label.Kind.TheVariants as kind
 use Rattle.sat_act.specs.declared.act.Act.{Act}
@@ -11,7 +12,6 @@ use Rattle.sat_act.specs.declared.answer.Answer.TheVariants as ans
 use Rattle.sat_act.specs.declared.entry.Entry.{Entry}
 use Rattle.sat_act.specs.Deployed.{Deployed}
 use Rattle.sat_act.specs.Done.{made_in}
-use Rattle.sat_laws.proofs.Cuts.{num_is}
 use Rattle.sat_act.specs.Parts.{seat, value_of}
 use Rattle.sat_act.specs.Runs.{IsRun}
 use Rattle.sat_act.specs.Causes.{Knows, Past, Cause}
@@ -74,7 +74,7 @@ moving_on true o j k e = inl (refl, some_is j k e)
 moving_on false o j k e = inr (refl, e)
 
 clash : (d : Deployed) (h : List Entry) (b c i : ℕ) → (b == c) ≡ true → seat d h b ≡ Some i → seat d h c ≡ None → ⊥
-clash d h b c i e s n = let w : seat d h c ≡ Some i = subst (λ (y : ℕ). seat d h y ≡ Some i) (num_is b c e) s in cc
+clash d h b c i e s n = let w : seat d h c ≡ Some i = subst (λ (y : ℕ). seat d h y ≡ Some i) (eqb-true b c e) s in cc
 
 greater_is : (p q : Point) → q.ts < p.ts → greater_point p q ≡ p
 greater_is p q l = go (point_lt p q) refl
@@ -104,9 +104,9 @@ unfolding moving carried seat Knows Gives highest
 new-moving d h b c i j k n e f = record {
   label = record { point = point_at (base h b i 0 + 1) i 0; kind = kind.Move j };
   made = inr refl;
-  point = test_on (b == c) (point_at (base h b i 0 + 1) i 0) (carried h c) e (stamp-above h b c i (num_is b c e));
+  point = test_on (b == c) (point_at (base h b i 0 + 1) i 0) (carried h c) e (stamp-above h b c i (eqb-true b c e));
   kind = ap (λ (y : ℕ). kind.Move y) f;
-  past = λ l z. inr (refl, (b, refl, subst (λ (y : ℕ). Past h y l) (sym (num_is b c e)) (elim z [ inl y ↦ y | inr y ↦ absurd y.1 ])));
+  past = λ l z. inr (refl, (b, refl, subst (λ (y : ℕ). Past h y l) (sym (eqb-true b c e)) (elim z [ inl y ↦ y | inr y ↦ absurd y.1 ])));
   unseated = seat_gone (b == c) (seat d h c) e;
 }
 

@@ -3,6 +3,7 @@ use Rattle.std.specs.Prelude.{◌≡◌, ◌⊎◌, ◌<◌, ℕ, Bool, true, fa
 use Rattle.std.specs.List.{list_any}
 use Rattle.std.proofs.Common.{sym, subst, arith, inl, inr, ap, ◌∙◌}
 use Rattle.std.proofs.lemmas.Bool.Decides.{nat_tests}
+use Rattle.std.proofs.lemmas.Bool.{eqb-true}
 use Rattle.sat_label.specs.declared.label.Label.{Label}
 use Rattle.sat_label.specs.declared.node.NodeId.{NodeId}
 use Rattle.sat_label.specs.declared.node.NodeId.TheVariants.{Site, Serializer}
@@ -20,12 +21,10 @@ use Rattle.sat_act.specs.Causes.{Cause}
 use Rattle.sat_act.specs.Goals.{Gives, IsValid}
 use Rattle.sat_laws.proofs.Steps.{Step}
 use Rattle.sat_laws.proofs.Runs.{step_of, before_of, entry}
-use Rattle.sat_laws.proofs.Members.{In, In-get}
 use Rattle.sat_laws.proofs.Cuts.{sent-site}
 use Rattle.sat_laws.proofs.Handlings.{handled_as}
 use Rattle.sat_laws.proofs.Sinks.{Sent}
 use Rattle.sat_laws.proofs.Sendings.{sent-once, picked_if}
-use Rattle.sat_laws.proofs.Cuts.{num_is}
 use Rattle.sat_act.specs.Parts.{stable, cut}
 use Rattle.sat_label.specs.Order.{point_at}
 use Rattle.sat_label.specs.declared.label.Kind.TheVariants as kind
@@ -33,6 +32,8 @@ use Rattle.sat_laws.proofs.Steps.{emitted, pulsed, closed}
 use Rattle.sat_label.proofs.SameNodes.{same-node}
 use Rattle.sat_tree.specs.Laws.{IsCuttable}
 use Rattle.sat_laws.proofs.Links.{AllCuttable, HandledFrom, Handled, SentIn, Behind, Ahead, ahead-later, entered-in, into-entered, came-from-side, taking, taken-handled, own-sending, passing, view-of, entered-if, get-cases, get-below, In-place, entered-step, entered-keeps}
+use Rattle.sat_label.specs.Members.{In}
+use Rattle.sat_label.proofs.Members.{In-get}
 
 -- what a site knows when it sends a label is ahead of it
 unfoldable pub SentAhead : Deployed → List Entry → Type 0
@@ -114,15 +115,15 @@ sent-handled-now : (d : Deployed) (h : List Entry) (i : ℕ) (a : Act) (r : Answ
 unfolding handling
 sent-handled-now d h i a r n l (emitted {i = k} {l = m} q) e =
     let w : ((k == i) ≡ true) × (m ≡ l) = picked_if (k == i) m l e in
-    let s : k ≡ i = num_is k i w.0 in
+    let s : k ≡ i = eqb-true k i w.0 in
     λ z. Some (handled_as (emission h (s z)) (Site (s z)) None (w.1 z))
 sent-handled-now d h i a r n l (pulsed {i = k} q p) e =
     let w : ((k == i) ≡ true) × (record { point = point_at (stable d h k) k 65534; kind = kind.Pulse } ≡ l) = picked_if (k == i) (record { point = point_at (stable d h k) k 65534; kind = kind.Pulse }) l e in
-    let s : k ≡ i = num_is k i w.0 in
+    let s : k ≡ i = eqb-true k i w.0 in
     λ z. Some (handled_as (emission h (s z)) (Site (s z)) None (w.1 z))
 sent-handled-now d h i a r n l (closed {i = k} q p) e =
     let w : ((k == i) ≡ true) × (record { point = cut d h k; kind = kind.Close (emission h k) } ≡ l) = picked_if (k == i) (record { point = cut d h k; kind = kind.Close (emission h k) }) l e in
-    let s : k ≡ i = num_is k i w.0 in
+    let s : k ≡ i = eqb-true k i w.0 in
     λ z. Some (handled_as (emission h (s z)) (Site (s z)) None (w.1 z))
 sent-handled-now d h i a r n l _ e = absurd (cc)
 

@@ -1,6 +1,7 @@
 -- Where what is known and sent comes from, and what a close parts.
 use Rattle.std.specs.Prelude.{◌≡◌, ◌⊎◌, ◌<◌, ◌≤◌, ℕ, ◌+◌, Bool, true, false, ◌&&◌, List, [], ◌∷◌, Option, Some, None, refl, ◌==◌, if◌then◌else◌}
 use Rattle.std.proofs.Common.{sym, subst, arith, inl, inr, ap, ◌∙◌}
+use Rattle.std.proofs.lemmas.Bool.{and_parts, eqb-true}
 use Rattle.sat_label.specs.declared.point.Point.{Point}
 use Rattle.sat_label.specs.declared.label.Label.{Label}
 use Rattle.sat_act.specs.declared.act.Act.{Act}
@@ -16,7 +17,6 @@ use Rattle.sat_laws.proofs.Labels.{some_is}
 use Rattle.sat_laws.proofs.Cuts.{sent-site}
 use Rattle.sat_laws.proofs.Sinks.{Sent}
 use Rattle.sat_laws.proofs.Sendings.{picked_if}
-use Rattle.sat_laws.proofs.Cuts.{num_is}
 use Rattle.sat_act.specs.Parts.{stable, cut}
 use Rattle.sat_label.specs.declared.label.Kind.TheVariants as kind
 use Rattle.sat_laws.proofs.Steps.{closed}
@@ -29,18 +29,18 @@ use Rattle.sat_laws.proofs.Sendings.{emission-rises}
 use Rattle.sat_label.specs.Order.{point_le}
 use Rattle.sat_act.specs.Done.{made_in}
 use Rattle.sat_label.specs.declared.label.Kind.TheVariants as kind
-use Rattle.sat_act.specs.Parts.{ready, close_cut, closed_entry, closes_entry}
+use Rattle.sat_act.specs.Parts.{ready, close_cut, close_cut_of_entry, closed_epoch_of_entry}
 use Rattle.sat_act.specs.Causes.{Who, Client, Maker, Knows, LearnedBy}
 use Rattle.sat_act.specs.Goals.{Made}
 use Rattle.sat_laws.proofs.Steps.{read_some}
-use Rattle.sat_laws.proofs.Labels.{is_made}
-use Rattle.sat_laws.proofs.Sinks.{both_true, pending-is, gathered-made, new-unstable}
+use Rattle.sat_laws.proofs.Sinks.{pending-is, gathered-made, new-unstable}
 use Rattle.sat_laws.proofs.Cuts.{Sending, by_emit, by_pulse, by_close, sending, ready-is, sent-order, cut-sent, sent-cut, sent-ts}
 use Rattle.sat_laws.proofs.Sendings.{close-seq, close-now, picked_if, emission-closed}
 use Rattle.sat_laws.proofs.Shows.{shows-is}
 use Rattle.sat_laws.proofs.Sites.{version-shown}
 use Rattle.sat_laws.proofs.Knowledge.{point_le-ts}
 use Rattle.sat_laws.proofs.Arrivals.{sent-epoch, epoch-bound}
+use Rattle.sat_label.specs.Members.{is_made}
 
 -- ---- origins
 
@@ -89,30 +89,34 @@ kind_of_close : (e : ℕ) (c : Label) → c.kind ≡ kind.Close e → is_made c.
 kind_of_close e c k = subst (λ (y : Kind). is_made y ≡ false) (sym k) refl
 
 -- what was sent in an epoch was sent before its close
-pub close-behind : (d : Deployed) (h : List Entry) (i e : ℕ) (a c : Label) → IsValid d → IsRun d h → SentIn h i e a → Sent h i c → c.kind ≡ kind.Close e → is_made a.kind ≡ true → Behind h e a c
+pub close-behind : (d : Deployed) (h : List Entry) (i e : ℕ) (a c : Label) → IsValid d → IsRun d h → SentIn h i e a → Sent h i c → c.kind ≡ kind.Close e → (a ≡ c → ⊥) → Behind h e a c
 unfolding SentIn Gives Behind
 close-behind d [] i e a c v run s m k u = s
 close-behind d (x ∷ h) i e a c v run (inl s) (inl m) k u = inl (close-behind d h i e a c v (before_of d h x run) s m k u)
 close-behind d (x ∷ h) i e a c v run (inl s) (inr m) k u =
-    let w : (e ≡ emission h i) × (closes_entry i h x ≡ Some e) = close-now d h i e x.act x.answer x.inner c v (before_of d h x run) (step_of d h x run) m k in
+    let w : (e ≡ emission h i) × (closed_epoch_of_entry i h x ≡ Some e) = close-now d h i e x.act x.answer x.inner c v (before_of d h x run) (step_of d h x run) m k in
     let t : a.point.site ≡ i = sent-site d h i a (before_of d h x run) (sent-in h i e a s) in
     inr (i, m, sym w.0, subst (λ (n : ℕ). SentIn h n e a) (sym t) s, inr t)
 close-behind d (x ∷ h) i e a c v run (inr s) (inl m) k u =
     let w : e < emission h i = close-seq d h i e c v (before_of d h x run) m k in
     let y : emission h i ≡ e = s.1 in
     absurd (omega arith)
-close-behind d (x ∷ h) i e a c v run (inr s) (inr m) k u =
-    let w : a ≡ c = some_is a c (sym s.0 ∙ m) in
-    absurd (let y : is_made c.kind ≡ true = subst (λ (l : Label). is_made l.kind ≡ true) w u in let z : is_made c.kind ≡ false = kind_of_close e c k in cc)
+close-behind d (x ∷ h) i e a c v run (inr s) (inr m) k u = absurd (u (some_is a c (sym s.0 ∙ m)))
+
+-- the same of a made label, which is no close
+pub made-behind : (d : Deployed) (h : List Entry) (i e : ℕ) (a c : Label) → IsValid d → IsRun d h → SentIn h i e a → Sent h i c → c.kind ≡ kind.Close e → is_made a.kind ≡ true → Behind h e a c
+made-behind d h i e a c v run s m k u =
+    close-behind d h i e a c v run s m k
+    (λ w. let y : is_made c.kind ≡ true = subst (λ (l : Label). is_made l.kind ≡ true) w u in let z : is_made c.kind ≡ false = kind_of_close e c k in cc)
 
 -- the close cut of an epoch, as an entry's answer
-pub closing : (d : Deployed) (h : List Entry) (i e : ℕ) (p : Point) (a : Act) (r : Answer) (n : Bool) → Step d h a r → closed_entry i e h (entry a r n) ≡ Some (Some p) → (e ≡ emission h i) × (p ≡ cut d h i) × (closes_entry i h (entry a r n) ≡ Some e)
+pub closing : (d : Deployed) (h : List Entry) (i e : ℕ) (p : Point) (a : Act) (r : Answer) (n : Bool) → Step d h a r → close_cut_of_entry i e h (entry a r n) ≡ Some (Some p) → (e ≡ emission h i) × (p ≡ cut d h i) × (closed_epoch_of_entry i h (entry a r n) ≡ Some e)
 closing d h i e p a r n (closed {i = k} q w) m =
     let z : ((k == i) && (emission h k == e)) ≡ true = (picked_if ((k == i) && (emission h k == e)) (Some (cut d h k)) (Some p) m).0 in
     let y : Some (cut d h k) ≡ Some p = (picked_if ((k == i) && (emission h k == e)) (Some (cut d h k)) (Some p) m).1 in
-    let b : ((k == i) ≡ true) × ((emission h k == e) ≡ true) = both_true (k == i) (emission h k == e) z in
-    let s : k ≡ i = num_is k i b.0 in
-    let f : emission h k ≡ e = num_is (emission h k) e b.1 in
+    let b : ((k == i) ≡ true) × ((emission h k == e) ≡ true) = and_parts (k == i) (emission h k == e) z in
+    let s : k ≡ i = eqb-true k i b.0 in
+    let f : emission h k ≡ e = eqb-true (emission h k) e b.1 in
     (sym f ∙ ap (λ (y : ℕ). emission h y) s, sym (some_is (cut d h k) p y) ∙ ap (λ (y : ℕ). cut d h y) s, give (k == i) (emission h k) b.0 ∙ ap (λ (y : ℕ). Some y) f)
   where
     give : (b : Bool) (n : ℕ) → b ≡ true → (if b then Some n else None) ≡ Some n
@@ -120,23 +124,23 @@ closing d h i e p a r n (closed {i = k} q w) m =
     give false n e = absurd (cc)
 closing d h i e p a r n _ m = absurd (cc)
 
-close-not-made : (d : Deployed) (h : List Entry) (i e : ℕ) (q : Option Point) (l : Label) (a : Act) (r : Answer) (n : Bool) → Step d h a r → closed_entry i e h (entry a r n) ≡ Some q → sent_entry i h (entry a r n) ≡ Some l → is_made l.kind ≡ true → ⊥
+close-not-made : (d : Deployed) (h : List Entry) (i e : ℕ) (q : Option Point) (l : Label) (a : Act) (r : Answer) (n : Bool) → Step d h a r → close_cut_of_entry i e h (entry a r n) ≡ Some q → sent_entry i h (entry a r n) ≡ Some l → is_made l.kind ≡ true → ⊥
 close-not-made d h i e q l a r n (closed {i = k} u w) c m k' =
     let z : record { point = cut d h k; kind = kind.Close (emission h k) } ≡ l = (picked_if (k == i) (record { point = cut d h k; kind = kind.Close (emission h k) }) l m).1 in
     let y : is_made (kind.Close (emission h k)) ≡ true = subst (λ (x : Label). is_made x.kind ≡ true) (sym z) k' in
     cc
 close-not-made d h i e q l a r n _ c m k = cc
 
-close-not-making : (d : Deployed) (h : List Entry) (i e : ℕ) (q : Option Point) (l : Label) (a : Act) (r : Answer) (n : Bool) → Step d h a r → closed_entry i e h (entry a r n) ≡ Some q → made_in r ≡ Some l → ⊥
+close-not-making : (d : Deployed) (h : List Entry) (i e : ℕ) (q : Option Point) (l : Label) (a : Act) (r : Answer) (n : Bool) → Step d h a r → close_cut_of_entry i e h (entry a r n) ≡ Some q → made_in r ≡ Some l → ⊥
 close-not-making d h i e q l a r n (closed u w) c m = cc
 close-not-making d h i e q l a r n _ c m = cc
 
-close-sends : (d : Deployed) (h : List Entry) (i e : ℕ) (p : Point) (a : Act) (r : Answer) (n : Bool) → Step d h a r → closed_entry i e h (entry a r n) ≡ Some (Some p) → sent_entry i h (entry a r n) ≡ Some (record { point = p; kind = kind.Close e })
+close-sends : (d : Deployed) (h : List Entry) (i e : ℕ) (p : Point) (a : Act) (r : Answer) (n : Bool) → Step d h a r → close_cut_of_entry i e h (entry a r n) ≡ Some (Some p) → sent_entry i h (entry a r n) ≡ Some (record { point = p; kind = kind.Close e })
 close-sends d h i e p a r n (closed {i = k} q w) m =
     let z : ((k == i) && (emission h k == e)) ≡ true = (picked_if ((k == i) && (emission h k == e)) (Some (cut d h k)) (Some p) m).0 in
     let y : Some (cut d h k) ≡ Some p = (picked_if ((k == i) && (emission h k == e)) (Some (cut d h k)) (Some p) m).1 in
-    let b : ((k == i) ≡ true) × ((emission h k == e) ≡ true) = both_true (k == i) (emission h k == e) z in
-    let f : emission h k ≡ e = num_is (emission h k) e b.1 in
+    let b : ((k == i) ≡ true) × ((emission h k == e) ≡ true) = and_parts (k == i) (emission h k == e) z in
+    let f : emission h k ≡ e = eqb-true (emission h k) e b.1 in
     let c : cut d h k ≡ p = some_is (cut d h k) p y in
     give (k == i) (record { point = cut d h k; kind = kind.Close (emission h k) }) b.0 ∙ (λ i. Some (record { point = c i; kind = kind.Close (f i) }))
   where
@@ -145,9 +149,9 @@ close-sends d h i e p a r n (closed {i = k} q w) m =
     give false n e = absurd (cc)
 close-sends d h i e p a r n _ m = absurd (cc)
 
-pub cut-cases : (h : List Entry) (x : Entry) (i e : ℕ) (p : Point) → close_cut (x ∷ h) i e ≡ Some p → (closed_entry i e h x ≡ Some (Some p)) ⊎ (close_cut h i e ≡ Some p)
+pub cut-cases : (h : List Entry) (x : Entry) (i e : ℕ) (p : Point) → close_cut (x ∷ h) i e ≡ Some p → (close_cut_of_entry i e h x ≡ Some (Some p)) ⊎ (close_cut h i e ≡ Some p)
 unfolding close_cut
-cut-cases h x i e p m = go (closed_entry i e h x) m
+cut-cases h x i e p m = go (close_cut_of_entry i e h x) m
   where
     go : (o : Option (Option Point)) → elim o [ None ↦ close_cut h i e | Some y ↦ y ] ≡ Some p → (o ≡ Some (Some p)) ⊎ (close_cut h i e ≡ Some p)
     go None m = inr m
@@ -158,7 +162,7 @@ closed-below d [] i e p run m = absurd (unfold close_cut in cc)
 closed-below d (x ∷ h) i e p run m =
     elim (cut-cases h x i e p m) [
       | inl k ↦
-          let w : (e ≡ emission h i) × (p ≡ cut d h i) × (closes_entry i h x ≡ Some e) = closing d h i e p x.act x.answer x.inner (step_of d h x run) k in
+          let w : (e ≡ emission h i) × (p ≡ cut d h i) × (closed_epoch_of_entry i h x ≡ Some e) = closing d h i e p x.act x.answer x.inner (step_of d h x run) k in
           let y : e ≡ emission h i = w.0 in
           let z : emission (x ∷ h) i ≡ emission h i + 1 = emission-closed h x i e w.2 in
           omega arith
@@ -204,9 +208,9 @@ unfolding Gives SentIn stable
 cut-epoch d [] i e p l b v run m k s le = absurd k
 cut-epoch d (x ∷ h) i e p l b v run m k s le = go (cut-cases h x i e p m) k (λ w q. cut-epoch d h i e p l b v (before_of d h x run) w q s le)
   where
-    now : closed_entry i e h x ≡ Some (Some p) → Made h l → (f : ℕ) × (f ≤ e) × SentIn (x ∷ h) i f l
+    now : close_cut_of_entry i e h x ≡ Some (Some p) → Made h l → (f : ℕ) × (f ≤ e) × SentIn (x ∷ h) i f l
     now w q =
-        let z : (e ≡ emission h i) × (p ≡ cut d h i) × (closes_entry i h x ≡ Some e) = closing d h i e p x.act x.answer x.inner (step_of d h x run) w in
+        let z : (e ≡ emission h i) × (p ≡ cut d h i) × (closed_epoch_of_entry i h x ≡ Some e) = closing d h i e p x.act x.answer x.inner (step_of d h x run) w in
         let t : Sent h i l = cut-sent d h i l v (before_of d h x run) (sent-order d h i b v (before_of d h x run)) q s (subst (λ (y : Point). point_le l.point y ≡ true) z.1 le) in
         let f : (f : ℕ) × SentIn h i f l = sent-epoch h i l t in
         let g : f.0 ≤ emission h i = epoch-bound h i f.0 l f.1 in
@@ -216,7 +220,7 @@ cut-epoch d (x ∷ h) i e p l b v run m k s le = go (cut-cases h x i e p m) k (�
     later : ((f : ℕ) × (f ≤ e) × SentIn h i f l) → (f : ℕ) × (f ≤ e) × SentIn (x ∷ h) i f l
     later w = (w.0, w.1, inl w.2)
 
-    go : (closed_entry i e h x ≡ Some (Some p)) ⊎ (close_cut h i e ≡ Some p) → Made h l ⊎ (made_in x.answer ≡ Some l) → (close_cut h i e ≡ Some p → Made h l → (f : ℕ) × (f ≤ e) × SentIn h i f l) → (f : ℕ) × (f ≤ e) × SentIn (x ∷ h) i f l
+    go : (close_cut_of_entry i e h x ≡ Some (Some p)) ⊎ (close_cut h i e ≡ Some p) → Made h l ⊎ (made_in x.answer ≡ Some l) → (close_cut h i e ≡ Some p → Made h l → (f : ℕ) × (f ≤ e) × SentIn h i f l) → (f : ℕ) × (f ≤ e) × SentIn (x ∷ h) i f l
     go (inl w) (inl q) old = now w q
     go (inl w) (inr q) old = absurd (close-not-making d h i e (Some p) l x.act x.answer x.inner (step_of d h x run) w q)
     go (inr w) (inl q) old = later (old w q)

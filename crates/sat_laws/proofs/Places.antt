@@ -8,23 +8,24 @@ use Rattle.sat_act.specs.Runs.{IsRun}
 use Rattle.sat_act.specs.Causes.{Cause}
 use Rattle.sat_act.specs.Goals.{IsValid}
 use Rattle.sat_laws.proofs.Runs.{before_of}
-use Rattle.sat_laws.proofs.Members.{In, In-get, listed-gives, gives-listed}
+use Rattle.sat_laws.proofs.Members.{listed-gives, gives-listed}
 use Rattle.sat_laws.proofs.Links.{get-cases, get-below, In-place, tail_of}
 use Rattle.sat_act.specs.Parts.{shown_entry}
 use Rattle.sat_act.specs.Goals.{Shows}
 use Rattle.sat_act.specs.Goals.{Made}
 use Rattle.sat_laws.proofs.Shows.{shows-is}
-use Rattle.sat_laws.proofs.Members.{In-get}
 use Rattle.sat_act.specs.Goals.{Causal}
 use Rattle.sat_laws.proofs.Knowledge.{cause-stays}
 use Rattle.sat_act.specs.Parts.{shown}
-use Rattle.sat_laws.proofs.Members.{In, gives-listed}
+use Rattle.sat_laws.proofs.Members.{gives-listed}
 use Rattle.sat_laws.proofs.Members.{listed-gives}
 use Rattle.sat_laws.proofs.Shows.{shows-is}
 use Rattle.sat_laws.proofs.Links.{In-place}
 use Rattle.sat_act.specs.Goals.{Causal, Once}
 use Rattle.sat_act.specs.Headline.{CausalAsListed, OnceAsListed}
 use Rattle.sat_laws.proofs.Links.{get-cases, get-keep, get-below, tail_of}
+use Rattle.sat_label.specs.Members.{In, In}
+use Rattle.sat_label.proofs.Members.{In-get, In-get}
 
 shown-step : (h : List Entry) (x : Entry) (k : ℕ) → shown (x ∷ h) k ≡ shown h k ++ tail_of (shown_entry k h x)
 unfolding shown

@@ -2,6 +2,7 @@
 use Rattle.std.specs.Prelude.{◌≡◌, ◌⊎◌, ◌<◌, ◌≤◌, ℕ, zero, suc, ◌+◌, Bool, true, false, ◌&&◌, ◌||◌, not, List, [], ◌∷◌, ◌++◌, Option, Some, None, refl, ◌==◌}
 use Rattle.std.proofs.Common.{sym, subst, arith, inl, inr, ap, ◌∙◌}
 use Rattle.std.proofs.lemmas.Bool.Decides.{nat_tests}
+use Rattle.std.proofs.lemmas.Bool.{and_parts, cases_eq, eqb-true, or_cases}
 use Rattle.sat_label.specs.declared.point.Point.{Point}
 use Rattle.sat_label.specs.declared.label.Label.{Label}
 use Rattle.sat_label.specs.declared.node.NodeId.{NodeId}
@@ -18,10 +19,8 @@ use Rattle.sat_act.specs.Goals.{Gives, IsValid}
 use Rattle.sat_laws.proofs.Runs.{before_of}
 use Rattle.sat_laws.proofs.Labels.{some_is}
 use Rattle.sat_laws.proofs.Gears.{split_le}
-use Rattle.sat_laws.proofs.Members.{In-get}
 use Rattle.sat_laws.proofs.Handlings.{handled_as}
 use Rattle.sat_laws.proofs.Sendings.{sent-once}
-use Rattle.sat_laws.proofs.Cuts.{num_is}
 use Rattle.sat_label.specs.declared.label.Kind.TheVariants as kind
 use Rattle.sat_laws.proofs.Links.{AllCuttable, HandledFrom, SentIn, Behind, Ahead, ahead-later, entered-in}
 use Rattle.sat_label.specs.declared.label.Kind.{Kind}
@@ -33,7 +32,6 @@ use Rattle.sat_label.specs.declared.label.Kind.TheVariants as kind
 use Rattle.sat_act.specs.Causes.{Client, Maker, Past}
 use Rattle.sat_act.specs.Goals.{Made}
 use Rattle.sat_laws.proofs.Labels.{IsPlaced, made-placed}
-use Rattle.sat_laws.proofs.Sinks.{both_true}
 use Rattle.sat_laws.proofs.Knowledge.{point_le-ts}
 use Rattle.sat_laws.proofs.Arrivals.{one-epoch}
 use Rattle.sat_act.specs.Parts.{last, in_stamp_mode, fallen}
@@ -42,11 +40,10 @@ use Rattle.sat_laws.proofs.Arrivals.{handled-sent-in}
 use Rattle.sat_laws.proofs.Order.{behind-first}
 use Rattle.sat_laws.proofs.Labels.{made-positive}
 use Rattle.std.specs.List.{list_all}
-use Rattle.sat_laws.proofs.Orders.{point_le-trans, point_le-mark}
-use Rattle.sat_laws.proofs.Sinks.{either_true}
+use Rattle.sat_laws.proofs.Orders.{point_le-mark}
 use Rattle.sat_label.specs.Order.{zero_point}
 use Rattle.sat_act.specs.Parts.{carried, moving, may_attach, case_zero, case_moving, case_taken, case_beats, all_others, next_stamp}
-use Rattle.sat_laws.specs.Known.{SiteKnows}
+use Rattle.sat_laws.proofs.Known.{SiteKnows}
 use Rattle.sat_act.specs.Answers.{may_advance}
 use Rattle.sat_laws.proofs.Order.{SentAhead, front-ahead}
 use Rattle.sat_laws.proofs.Shows.{own-shown}
@@ -55,7 +52,8 @@ use Rattle.sat_laws.proofs.Knowledge.{knows-below}
 use Rattle.sat_laws.proofs.Origins.{knows-made}
 use Rattle.sat_laws.proofs.Moves.{IsMoving, moving-source, move-away}
 use Rattle.sat_laws.proofs.Lasts.{Reached, long_ago, just_now, reached}
-use Rattle.sat_laws.proofs.Members.{In-get}
+use Rattle.sat_label.proofs.Members.{In-get, In-get}
+use Rattle.sat_label.proofs.Orders.{point_le-trans}
 
 pub record IsSafe (d : Deployed) (h : List Entry) (j : ℕ) (a : Label) : Type 0 where
   pub placed : (a.point.site ≡ j) ⊎ ((f : ℕ) × (f ≤ view h j) × SentIn h a.point.site f a)
@@ -80,9 +78,6 @@ pub record StampRules (d : Deployed) : Type 0 where
   pub advances : (h : List Entry) (j : ℕ) → IsRun d h → Main d h → j < d.sites → in_stamp_mode d h j ≡ true → may_advance d h j ≡ true →
       (i : ℕ) → i < d.sites → (i ≡ j → ⊥) → (view h j < emission h i) × ((a : Label) (e : ℕ) → e ≤ view h j → SentIn h i e a → IsKeptAt d j a → Shows h j a)
 
-pub dec_num : (m n : ℕ) → (m ≡ n) ⊎ (m ≡ n → ⊥)
-dec_num m n = grind (arith, nat_tests)
-
 move-target : (d : Deployed) (j : ℕ) (m : Label) → m.kind ≡ kind.Move j → is_target d m j ≡ true
 unfolding is_target
 move-target d j m k = subst (λ (y : Kind). elim y [ kind.Update x ↦ replicates d x j && not (j == m.point.site) | kind.Move y ↦ j == y | kind.Pulse ↦ not (j == m.point.site) | kind.Close e ↦ not (j == m.point.site) ] ≡ true) (sym k) (same j)
@@ -97,7 +92,7 @@ others-pass d j i p e b n = go d.sites e b
     all-parts : (f : ℕ → Bool) (xs ys : List ℕ) → list_all f (xs ++ ys) ≡ true → (list_all f xs ≡ true) × (list_all f ys ≡ true)
     all-parts f [] ys e = (refl, e)
     all-parts f (x ∷ xs) ys e =
-        let w : (f x ≡ true) × (list_all f (xs ++ ys) ≡ true) = both_true (f x) (list_all f (xs ++ ys)) e in
+        let w : (f x ≡ true) × (list_all f (xs ++ ys) ≡ true) = and_parts (f x) (list_all f (xs ++ ys)) e in
         let y : (list_all f xs ≡ true) × (list_all f ys ≡ true) = all-parts f xs ys w.1 in
         (both (f x) (list_all f xs) w.0 y.0, y.1)
       where
@@ -120,7 +115,7 @@ others-pass d j i p e b n = go d.sites e b
     go (suc n) e b =
         let w : (list_all (λ k. (k == j) || p k) (below n) ≡ true) × (list_all (λ k. (k == j) || p k) (n ∷ []) ≡ true) = all-parts (λ k. (k == j) || p k) (below n) (n ∷ []) e in
         elim (split_le i n (omega arith)) [
-          | inl s ↦ right (p i) (subst (λ (k : ℕ). ((k == j) || p k) ≡ true) (sym s) (both_true ((n == j) || p n) true w.1).0)
+          | inl s ↦ right (p i) (subst (λ (k : ℕ). ((k == j) || p k) ≡ true) (sym s) (and_parts ((n == j) || p n) true w.1).0)
           | inr lt ↦ go n w.0 lt
         ]
 
@@ -169,7 +164,7 @@ module _ (d : Deployed) (h : List Entry) (j : ℕ) (v : IsValid d) (cuts : AllCu
 
   -- a known label of another site, or an own one
   pub any-safe : (a : Label) → Made h a → ((a.point.site ≡ j → ⊥) → IsSafe d h j a) → IsSafe d h j a
-  any-safe a m f = elim (dec_num a.point.site j) [ inl s ↦ own-safe a m s | inr n ↦ f n ]
+  any-safe a m f = elim (cases_eq a.point.site j) [ inl s ↦ own-safe a m s | inr n ↦ f n ]
 
   -- what a reached label was sent behind is reached
   cause-reached : (m a : Label) → Cause h m a → (a.point.site ≡ j → ⊥) → (e : ℕ) (t : TreeShape) → e ≡ view h j → tree_of d e ≡ Some t → SentIn h m.point.site e m → (Behind h e a m → Ahead d h e t a (Site j)) → Reached d h j a
@@ -212,8 +207,8 @@ module _ (d : Deployed) (h : List Entry) (j : ℕ) (v : IsValid d) (cuts : AllCu
         go : (o : Option ℕ) → moving h c ≡ o → elim o [ None ↦ false | Some k ↦ (k == j) && point_le (carried h c) (last d h j (carried h c).site) ] ≡ true → Reached d h j a
         go None w e = absurd (cc)
         go (Some k) w e =
-            let y : ((k == j) ≡ true) × (point_le (carried h c) (last d h j (carried h c).site) ≡ true) = both_true (k == j) _ e in
-            let m : IsMoving d h c j = moving-source d h c j run (w ∙ ap (λ (n : ℕ). Some n) (num_is k j y.0)) in
+            let y : ((k == j) ≡ true) × (point_le (carried h c) (last d h j (carried h c).site) ≡ true) = and_parts (k == j) _ e in
+            let m : IsMoving d h c j = moving-source d h c j run (w ∙ ap (λ (n : ℕ). Some n) (eqb-true k j y.0)) in
             let q : point_le m.label.point (last d h j m.label.point.site) ≡ true = subst (λ (x : Point). point_le x (last d h j x.site) ≡ true) (sym m.point) y.1 in
             moving-reached m (reached d h j m.label v cuts run inv.order (made-placed d h m.label v run m.made).site m.made q) a p other
 
@@ -238,11 +233,11 @@ module _ (d : Deployed) (h : List Entry) (j : ℕ) (v : IsValid d) (cuts : AllCu
     unfolding may_attach
     attach-safe rules m a p =
         any-safe a (knows-made d h (Client c) a run p)
-        (λ other. elim (either_true (case_zero h c) _ m) [
+        (λ other. elim (or_cases (case_zero h c) _ m) [
           | inl e ↦ absurd (by_zero e a p)
-          | inr e ↦ elim (either_true (case_moving d h c j) _ e) [
+          | inr e ↦ elim (or_cases (case_moving d h c j) _ e) [
             | inl f ↦ reached-safe a other (by_moving f a p other)
-            | inr f ↦ elim (either_true (case_taken d h c j) _ f) [
+            | inr f ↦ elim (or_cases (case_taken d h c j) _ f) [
               | inl g ↦ reached-safe a other (by_taken g a p other)
               | inr g ↦ by_beats rules g a p other
             ]

@@ -2,6 +2,8 @@
 use Rattle.std.specs.Prelude.{◌≡◌, ◌<◌, ◌≤◌, ℕ, ◌+◌, Bool, true, false, List, [], ◌∷◌, ◌++◌, Option, Some, None, refl, ◌==◌, nat_le, if◌then◌else◌, length}
 use Rattle.std.proofs.Common.{sym, subst, arith, inl, inr, ap, ◌∙◌, length-append}
 use Rattle.std.proofs.lemmas.Bool.Decides.{nat_tests}
+use Rattle.std.proofs.lemmas.Bool.{eqb-true}
+use Rattle.sat_label.proofs.Truth.{some_if}
 use Rattle.sat_label.specs.declared.label.Kind.{Kind}
 use Rattle.sat_label.specs.declared.label.Kind.TheVariants as kind
 use Rattle.sat_label.specs.declared.label.Label.{Label}
@@ -17,10 +19,12 @@ use Rattle.sat_act.specs.Goals.{Gives, IsValid}
 use Rattle.sat_laws.proofs.Steps.{Step, emitted, pulsed, closed}
 use Rattle.sat_laws.proofs.Runs.{step_of, before_of, entry}
 use Rattle.sat_laws.proofs.Labels.{some_is}
-use Rattle.sat_act.specs.Parts.{emission, last_pulse, closes_entry, pulse_entry}
-use Rattle.sat_laws.proofs.Sinks.{Sent, pending-is, gathered-made, IsLeast}
-use Rattle.sat_laws.proofs.Labels.{is_made, made-kind}
-use Rattle.sat_laws.proofs.Cuts.{Sending, by_emit, by_pulse, by_close, sending, ready-is, not_sent, num_is}
+use Rattle.sat_act.specs.Parts.{emission, last_pulse, closed_epoch_of_entry, pulse_entry}
+use Rattle.sat_laws.proofs.Sinks.{Sent, pending-is, gathered-made}
+use Rattle.sat_laws.proofs.Labels.{made-kind}
+use Rattle.sat_laws.proofs.Cuts.{Sending, by_emit, by_pulse, by_close, sending, ready-is, not_sent}
+use Rattle.sat_label.proofs.Least.{IsLeast}
+use Rattle.sat_label.specs.Members.{is_made}
 
 length-more : {X : Type 0} (xs ys : List X) → length xs ≤ length (xs ++ ys)
 length-more xs ys = omega (arith, length-append xs ys)
@@ -29,26 +33,22 @@ length-more xs ys = omega (arith, length-append xs ys)
 pub emission-rises : (h : List Entry) (e : Entry) (i : ℕ) → emission h i ≤ emission (e ∷ h) i
 unfolding emission
 emission-rises h e i =
-    let w : length (listed (closes_entry i) h) ≤ length (listed (closes_entry i) h ++ elim (closes_entry i h e) [ None ↦ [] | Some x ↦ x ∷ [] ]) = length-more (listed (closes_entry i) h) _ in
+    let w : length (listed (closed_epoch_of_entry i) h) ≤ length (listed (closed_epoch_of_entry i) h ++ elim (closed_epoch_of_entry i h e) [ None ↦ [] | Some x ↦ x ∷ [] ]) = length-more (listed (closed_epoch_of_entry i) h) _ in
     omega arith
 
 length-one : {X : Type 0} (xs : List X) (o : Option X) (y : X) → o ≡ Some y → length (xs ++ elim o [ None ↦ [] | Some x ↦ x ∷ [] ]) ≡ length xs + 1
 length-one xs None y e = absurd (cc)
 length-one xs (Some x) y e = omega (arith, length-append xs (x ∷ []))
 
-pub emission-closed : (h : List Entry) (e : Entry) (i f : ℕ) → closes_entry i h e ≡ Some f → emission (e ∷ h) i ≡ emission h i + 1
+pub emission-closed : (h : List Entry) (e : Entry) (i f : ℕ) → closed_epoch_of_entry i h e ≡ Some f → emission (e ∷ h) i ≡ emission h i + 1
 unfolding emission
 emission-closed h e i f w =
-    let q : length (listed (closes_entry i) h ++ elim (closes_entry i h e) [ None ↦ [] | Some x ↦ x ∷ [] ]) ≡ length (listed (closes_entry i) h) + 1 = length-one (listed (closes_entry i) h) (closes_entry i h e) f w in
+    let q : length (listed (closed_epoch_of_entry i) h ++ elim (closed_epoch_of_entry i h e) [ None ↦ [] | Some x ↦ x ∷ [] ]) ≡ length (listed (closed_epoch_of_entry i) h) + 1 = length-one (listed (closed_epoch_of_entry i) h) (closed_epoch_of_entry i h e) f w in
     omega arith
 
 pub picked_if : {X : Type 0} (b : Bool) (x y : X) → (if b then Some x else None) ≡ Some y → (b ≡ true) × (x ≡ y)
 picked_if true x y e = (refl, some_is x y e)
 picked_if false x y e = absurd (cc)
-
-give_if : {X : Type 0} (b : Bool) (x : X) → b ≡ true → (if b then Some x else None) ≡ Some x
-give_if true x e = refl
-give_if false x e = absurd (cc)
 
 kind_close : (e f : ℕ) → kind.Close e ≡ kind.Close f → e ≡ f
 kind_close e f k = cc
@@ -65,7 +65,7 @@ ready-made d h i l v run r =
     made-kind d h l v run (gathered-made h i l (pending-is d h i l k.member).0)
 
 pub close-now : (d : Deployed) (h : List Entry) (i f : ℕ) (a : Act) (r : Answer) (n : Bool) (l : Label) → IsValid d → IsRun d h → Step d h a r → sent_entry i h (entry a r n) ≡ Some l → l.kind ≡ kind.Close f →
-    (f ≡ emission h i) × (closes_entry i h (entry a r n) ≡ Some f)
+    (f ≡ emission h i) × (closed_epoch_of_entry i h (entry a r n) ≡ Some f)
 close-now d h i f a r n l v run (emitted {i = k} {l = m} q) e c =
     let w : ((k == i) ≡ true) × (m ≡ l) = picked_if (k == i) m l e in
     absurd (not_made l f c (subst (λ (x : Label). is_made x.kind ≡ true) w.1 (ready-made d h k m v run q)))
@@ -75,7 +75,7 @@ close-now d h i f a r n l v run (pulsed {i = k} q p) e c =
 close-now d h i f a r n l v run (closed {i = k} q p) e c =
     let w : ((k == i) ≡ true) × (record { point = cut d h k; kind = kind.Close (emission h k) } ≡ l) = picked_if (k == i) (record { point = cut d h k; kind = kind.Close (emission h k) }) l e in
     let z : emission h k ≡ f = kind_close (emission h k) f (ap (λ (x : Label). x.kind) w.1 ∙ c) in
-    (sym z ∙ ap (emission h) (num_is k i w.0), give_if (k == i) (emission h k) w.0 ∙ ap (λ (x : ℕ). Some x) z)
+    (sym z ∙ ap (emission h) (eqb-true k i w.0), some_if (k == i) (emission h k) w.0 ∙ ap (λ (x : ℕ). Some x) z)
 close-now d h i f a r n l v run _ e c = absurd (cc)
 
 pub close-seq : (d : Deployed) (h : List Entry) (i f : ℕ) (l : Label) → IsValid d → IsRun d h → Sent h i l → l.kind ≡ kind.Close f → f < emission h i
@@ -86,7 +86,7 @@ close-seq d (x ∷ h) i f l v run (inl m) c =
     let b : emission h i ≤ emission (x ∷ h) i = emission-rises h x i in
     omega arith
 close-seq d (x ∷ h) i f l v run (inr m) c =
-    let w : (f ≡ emission h i) × (closes_entry i h x ≡ Some f) = close-now d h i f x.act x.answer x.inner l v (before_of d h x run) (step_of d h x run) m c in
+    let w : (f ≡ emission h i) × (closed_epoch_of_entry i h x ≡ Some f) = close-now d h i f x.act x.answer x.inner l v (before_of d h x run) (step_of d h x run) m c in
     let a : f ≡ emission h i = w.0 in
     let b : emission (x ∷ h) i ≡ emission h i + 1 = emission-closed h x i f w.1 in
     omega arith
@@ -100,8 +100,8 @@ pulse-now d h i a r n l v run (pulsed {i = k} q p) e c =
     let w : ((k == i) ≡ true) × (record { point = point_at (stable d h k) k 65534; kind = kind.Pulse } ≡ l) = picked_if (k == i) (record { point = point_at (stable d h k) k 65534; kind = kind.Pulse }) l e in
     let t : stable d h k ≡ l.point.ts = ap (λ (x : Label). x.point.ts) w.1 in
     let s : last_pulse h k < stable d h k = above (stable d h k) (last_pulse h k) p in
-    let s' : last_pulse h i < stable d h k = subst (λ (y : ℕ). last_pulse h y < stable d h k) (num_is k i w.0) s in
-    (give_if (k == i) (stable d h k) w.0 ∙ ap (λ (x : ℕ). Some x) t, omega arith)
+    let s' : last_pulse h i < stable d h k = subst (λ (y : ℕ). last_pulse h y < stable d h k) (eqb-true k i w.0) s in
+    (some_if (k == i) (stable d h k) w.0 ∙ ap (λ (x : ℕ). Some x) t, omega arith)
   where
     above : (a b : ℕ) → nat_le a b ≡ false → b < a
     above a b e = grind (arith, nat_tests)
@@ -114,7 +114,7 @@ pulse-any : (d : Deployed) (h : List Entry) (i t : ℕ) (a : Act) (r : Answer) (
 pulse-any d h i t a r n (pulsed {i = k} q p) e =
     let w : ((k == i) ≡ true) × (stable d h k ≡ t) = picked_if (k == i) (stable d h k) t e in
     let s : last_pulse h k < stable d h k = above (stable d h k) (last_pulse h k) p in
-    let s' : last_pulse h i < stable d h k = subst (λ (y : ℕ). last_pulse h y < stable d h k) (num_is k i w.0) s in
+    let s' : last_pulse h i < stable d h k = subst (λ (y : ℕ). last_pulse h y < stable d h k) (eqb-true k i w.0) s in
     let z : stable d h k ≡ t = w.1 in
     omega arith
   where

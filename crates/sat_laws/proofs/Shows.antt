@@ -2,6 +2,8 @@
 use Rattle.std.specs.Prelude.{◌≡◌, ℕ, ◌+◌, Bool, true, false, ◌&&◌, not, List, [], ◌∷◌, Option, Some, None, refl, ◌==◌, if◌then◌else◌}
 use Rattle.std.proofs.Common.{sym, subst, arith, inl, inr, ap, ◌∙◌}
 use Rattle.std.proofs.lemmas.Bool.Decides.{nat_tests}
+use Rattle.std.proofs.lemmas.Bool.{and_parts, eq-eqb, eqb-true}
+use Rattle.sat_label.proofs.Truth.{some_if}
 use Rattle.sat_label.specs.declared.label.Kind.{Kind}
 use Rattle.sat_label.specs.declared.label.Kind.TheVariants as kind
 use Rattle.sat_label.specs.declared.label.Label.{Label}
@@ -22,11 +24,13 @@ use Rattle.sat_act.specs.Goals.{Gives, Made, Shows, IsValid, IsKeptAt, Once}
 use Rattle.sat_laws.proofs.Steps.{Step, wrote, moved, brought_now, showed_turn, showed_stamp}
 use Rattle.sat_laws.proofs.Runs.{step_of, before_of, entry}
 use Rattle.sat_laws.proofs.Labels.{some_is, made-new}
-use Rattle.sat_laws.proofs.Members.{In, In-get, In-filter, listed-gives, gives-listed, has-in, in-has}
-use Rattle.sat_laws.proofs.Sinks.{kept, both_true, IsLeast, least-is}
+use Rattle.sat_laws.proofs.Members.{listed-gives, gives-listed}
+use Rattle.sat_laws.proofs.Sinks.{kept}
 use Rattle.sat_laws.proofs.Sendings.{picked_if}
-use Rattle.sat_laws.proofs.Cuts.{num_is}
 use Rattle.sat_laws.proofs.Values.{write-of}
+use Rattle.sat_label.specs.Members.{In}
+use Rattle.sat_label.proofs.Members.{In-get, In-filter, has-in, in-has}
+use Rattle.sat_label.proofs.Least.{IsLeast, least-is}
 
 abbrev pub Brings : List Entry → ℕ → Label → Type 0
 Brings h j l = Gives (brought_entry j) h l
@@ -44,7 +48,7 @@ lane-for d i g j l (x ∷ h) (inl k) = let w : IsFor d h j l = lane-for d i g j 
 lane-for d i g j l (x ∷ h) (inr k) =
     let w : (made_entry i g h x ≡ Some l) × ((is_update l.kind && is_target d l j) ≡ true) = kept (λ (m : Label). is_update m.kind && is_target d m j) (made_entry i g h x) l k in
     let y : (made_in x.answer ≡ Some l) × (((l.point.site == i) && (l.point.gear == g)) ≡ true) = kept (λ (m : Label). (m.point.site == i) && (m.point.gear == g)) (made_in x.answer) l w.0 in
-    let z : (is_update l.kind ≡ true) × (is_target d l j ≡ true) = both_true (is_update l.kind) (is_target d l j) w.1 in
+    let z : (is_update l.kind ≡ true) × (is_target d l j ≡ true) = and_parts (is_update l.kind) (is_target d l j) w.1 in
     record { made = inr y.0; update = z.0; target = z.1 }
 
 pub in-lane : (d : Deployed) (h : List Entry) (i g j : ℕ) (l : Label) → In (lane d h i g j) l → IsFor d h j l
@@ -55,7 +59,7 @@ brought-step : (d : Deployed) (h : List Entry) (j : ℕ) (l : Label) (a : Act) (
 brought-step d h j l a r n (brought_now {i = i} {g = g} {j = k} {l = m} p w q) e =
     let y : ((k == j) ≡ true) × (m ≡ l) = picked_if (k == j) m l e in
     let f : IsFor d h k m = in-lane d h i g k m (In-get (lane d h i g k) p m w) in
-    subst (λ (x : ℕ). IsFor d h x l) (num_is k j y.0) (subst (IsFor d h k) y.1 f)
+    subst (λ (x : ℕ). IsFor d h x l) (eqb-true k j y.0) (subst (IsFor d h k) y.1 f)
 brought-step d h j l a r n _ e = absurd (cc)
 
 pub for-later : (d : Deployed) (h : List Entry) (x : Entry) (j : ℕ) (l : Label) → IsFor d h j l → IsFor d (x ∷ h) j l
@@ -105,14 +109,14 @@ pub data Showing (d : Deployed) (h : List Entry) (j : ℕ) (l : Label) (a : Act)
 pub showing : (d : Deployed) (h : List Entry) (j : ℕ) (l : Label) (a : Act) (r : Answer) (n : Bool) → Step d h a r → shown_entry j h (entry a r n) ≡ Some l → Showing d h j l a r
 showing d h j l a r n (wrote {c = c} {x = x} {i = i} p q w) e =
     let z : ((i == j) ≡ true) × (record { point = point_at (base h c i (gear_of d x) + 1) i (gear_of d x); kind = kind.Update x } ≡ l) = picked_if (i == j) (record { point = point_at (base h c i (gear_of d x) + 1) i (gear_of d x); kind = kind.Update x }) l e in
-    by_write x (ap (λ (m : Label). Some m) z.1) (ap (λ (m : Label). ans.Wrote m) z.1) (ap (λ (m : Label). m.point.site) (sym z.1) ∙ num_is i j z.0) (ap (λ (m : Label). m.kind) (sym z.1)) (subst (λ (k : ℕ). replicates d x k ≡ true) (num_is i j z.0) q)
+    by_write x (ap (λ (m : Label). Some m) z.1) (ap (λ (m : Label). ans.Wrote m) z.1) (ap (λ (m : Label). m.point.site) (sym z.1) ∙ eqb-true i j z.0) (ap (λ (m : Label). m.kind) (sym z.1)) (subst (λ (k : ℕ). replicates d x k ≡ true) (eqb-true i j z.0) q)
 showing d h j l a r n (showed_turn {j = k} {l = m} p q s w u y) e =
     let z : ((k == j) ≡ true) × (m ≡ l) = picked_if (k == j) m l e in
-    by_turn (ap (λ (x : ℕ). act.Turn x) (num_is k j z.0)) (ap (λ (x : Label). ans.Shown x) z.1) (subst (λ (x : ℕ). In (waiting h x) l) (num_is k j z.0) (subst (λ (x : Label). In (waiting h k) x) z.1 (has-in (waiting h k) m y)))
+    by_turn (ap (λ (x : ℕ). act.Turn x) (eqb-true k j z.0)) (ap (λ (x : Label). ans.Shown x) z.1) (subst (λ (x : ℕ). In (waiting h x) l) (eqb-true k j z.0) (subst (λ (x : Label). In (waiting h k) x) z.1 (has-in (waiting h k) m y)))
 showing d h j l a r n (showed_stamp {j = k} {l = m} p q) e =
     let z : ((k == j) ≡ true) × (m ≡ l) = picked_if (k == j) m l e in
-    let s : next_stamp d h j ≡ Some l = subst (λ (x : ℕ). next_stamp d h x ≡ Some l) (num_is k j z.0) (q ∙ ap (λ (x : Label). Some x) z.1) in
-    by_stamp (ap (λ (x : ℕ). act.Stamp x) (num_is k j z.0)) (ap (λ (x : Label). ans.Shown x) z.1) s (candidate-least d h j l (next-stamp-waits d h j l s).0).member
+    let s : next_stamp d h j ≡ Some l = subst (λ (x : ℕ). next_stamp d h x ≡ Some l) (eqb-true k j z.0) (q ∙ ap (λ (x : Label). Some x) z.1) in
+    by_stamp (ap (λ (x : ℕ). act.Stamp x) (eqb-true k j z.0)) (ap (λ (x : Label). ans.Shown x) z.1) s (candidate-least d h j l (next-stamp-waits d h j l s).0).member
 showing d h j l a r n _ e = absurd (cc)
 
 -- what a site shows was made, and is an update that the site keeps
@@ -121,13 +125,13 @@ unfolding is_target
 target-kept d l j u t = go l.kind refl u t
   where
     other : (b : Bool) (i : ℕ) → (b && not (j == i)) ≡ true → i ≡ j → ⊥
-    other b i e k = let w : (b ≡ true) × (not (j == i) ≡ true) = both_true b (not (j == i)) e in differs j i w.1 (sym k)
+    other b i e k = let w : (b ≡ true) × (not (j == i) ≡ true) = and_parts b (not (j == i)) e in differs j i w.1 (sym k)
       where
         differs : (m n : ℕ) → not (m == n) ≡ true → m ≡ n → ⊥
         differs m n e k = grind (arith, nat_tests)
 
     go : (k : Kind) → l.kind ≡ k → is_update k ≡ true → elim k [ kind.Update x ↦ replicates d x j && not (j == l.point.site) | kind.Move y ↦ j == y | kind.Pulse ↦ not (j == l.point.site) | kind.Close e ↦ not (j == l.point.site) ] ≡ true → IsKeptAt d j l × (l.point.site ≡ j → ⊥)
-    go (kind.Update x) k u t = ((x, k, (both_true (replicates d x j) (not (j == l.point.site)) t).0), other (replicates d x j) l.point.site t)
+    go (kind.Update x) k u t = ((x, k, (and_parts (replicates d x j) (not (j == l.point.site)) t).0), other (replicates d x j) l.point.site t)
     go (kind.Move x) k u t = absurd (cc)
     go kind.Pulse k u t = absurd (cc)
     go (kind.Close f) k u t = absurd (cc)
@@ -167,20 +171,13 @@ once d (x ∷ h) v run = (
       (not-again d h x k b v run s, (w.kept.0, write-of d (x ∷ h) b w.kept.0 v run w.made w.kept.1, w.kept.2)),
 )
 
-equal_test : (i k : ℕ) → i ≡ k → (i == k) ≡ true
-equal_test i k e = grind (arith, nat_tests)
-
-give_some : (b : Bool) (m : Label) → b ≡ true → (if b then Some m else None) ≡ Some m
-give_some true m e = refl
-give_some false m e = absurd (cc)
-
 not_move : (l : Label) (j : ℕ) → l.kind ≡ kind.Move j → is_update l.kind ≡ true → ⊥
 not_move l j k u = let w : is_update (kind.Move j) ≡ true = subst (λ (x : Kind). is_update x ≡ true) k u in cc
 
 written : (d : Deployed) (h : List Entry) (a : Act) (r : Answer) (n : Bool) (l : Label) → Step d h a r → made_in r ≡ Some l → is_update l.kind ≡ true → shown_entry l.point.site h (entry a r n) ≡ Some l
 written d h a r n l (wrote {c = c} {x = x} {i = i} p q w) m u =
     let z : record { point = point_at (base h c i (gear_of d x) + 1) i (gear_of d x); kind = kind.Update x } ≡ l = some_is _ l m in
-    give_some (i == l.point.site) (record { point = point_at (base h c i (gear_of d x) + 1) i (gear_of d x); kind = kind.Update x }) (equal_test i l.point.site (ap (λ (y : Label). y.point.site) z)) ∙ m
+    some_if (i == l.point.site) (record { point = point_at (base h c i (gear_of d x) + 1) i (gear_of d x); kind = kind.Update x }) (eq-eqb i l.point.site (ap (λ (y : Label). y.point.site) z)) ∙ m
 written d h a r n l (moved {c = c} {j = j} {i = i} p q w) m u = absurd (not_move l j (sym (ap (λ (y : Label). y.kind) (some_is _ l m))) u)
 written d h a r n l _ m u = absurd (cc)
 

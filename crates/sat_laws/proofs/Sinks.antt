@@ -1,23 +1,24 @@
 -- The sink of a site: labels leave in the order of their points, and the cut is a true line.
-use Rattle.std.specs.Prelude.{◌≡◌, ◌⊎◌, ◌<◌, ◌≤◌, ℕ, zero, suc, ◌+◌, Bool, true, false, ◌&&◌, ◌||◌, not, List, [], ◌∷◌, Option, Some, None, refl, ◌==◌, nat_lt, max, min, if◌then◌else◌}
+use Rattle.std.specs.Prelude.{◌≡◌, ◌⊎◌, ◌<◌, ◌≤◌, ℕ, zero, suc, ◌+◌, Bool, true, false, ◌&&◌, not, List, [], ◌∷◌, Option, Some, None, refl, ◌==◌, max, min, if◌then◌else◌}
 use Rattle.std.proofs.Common.{sym, subst, arith, inl, inr, ap, ◌∙◌}
 use Rattle.std.proofs.lemmas.Bool.Decides.{nat_tests}
 use Rattle.std.proofs.Math.Nat.{le_refl}
-use Rattle.sat_label.specs.declared.point.Point.{Point}
 use Rattle.sat_label.specs.declared.label.Label.{Label}
-use Rattle.sat_label.specs.Order.{point_lt, point_eq, label_eq, label_lt, kind_lt, kind_rank, kind_number}
+use Rattle.sat_label.specs.Order.{label_eq}
 use Rattle.sat_label.specs.Words.{has}
 use Rattle.sat_act.specs.declared.entry.Entry.{Entry}
 use Rattle.sat_act.specs.Deployed.{Deployed}
 use Rattle.sat_act.specs.Histories.{up_to}
 use Rattle.sat_act.specs.Done.{made_in, is_gather}
-use Rattle.sat_act.specs.Parts.{promise, made, made_entry, made_to, gathered, least_promise, stable, sent, sent_entry, pending, least_label, carried}
+use Rattle.sat_act.specs.Parts.{promise, made, made_entry, made_to, gathered, least_promise, stable, sent, sent_entry, pending, carried}
 use Rattle.sat_act.specs.Runs.{IsRun}
 use Rattle.sat_act.specs.Goals.{Gives, Made, IsValid}
 use Rattle.sat_laws.proofs.Runs.{step_of, before_of}
 use Rattle.sat_laws.proofs.Gears.{promise-rises, both_equal, split_le}
 use Rattle.sat_laws.proofs.Labels.{Making, making, some_is, IsPlaced, made-placed}
-use Rattle.sat_laws.proofs.Members.{In, In-left, In-right, In-parts, In-filter, into-filter, listed-gives, gives-listed, has-in}
+use Rattle.sat_laws.proofs.Members.{listed-gives, gives-listed}
+use Rattle.sat_label.specs.Members.{In}
+use Rattle.sat_label.proofs.Members.{In-left, In-right, In-parts, In-filter, into-filter, has-in}
 
 -- site i sent l
 abbrev pub Sent : List Entry → ℕ → Label → Type 0
@@ -171,108 +172,6 @@ stable-rises d h e i x run =
     (λ _. let a : least_promise (gathered h i) i d.gears ≤ least_promise h i d.gears = gathered-least d h i d.gears x (le_refl d.gears) (before_of d h e run) in
     let b : least_promise h i d.gears ≤ least_promise (e ∷ h) i d.gears = least_promise-rises d h e i d.gears x (le_refl d.gears) run in omega arith)
     (λ _. le_refl (least_promise (gathered h i) i d.gears))
-
--- ---- the least pending label
-
--- what the least of the labels that pass is
-pub record IsLeast (p : Label → Bool) (ls : List Label) (l : Label) : Type 0 where
-  pub member : In ls l
-  pub passes : p l ≡ true
-  pub least : (m : Label) → In ls m → p m ≡ true → label_lt m l ≡ false
-
-pub label_lt-self : (l : Label) → label_lt l l ≡ false
-label_lt-self l = grind (arith, nat_tests)
-
-pub not_true : (b : Bool) → (b ≡ true → ⊥) → b ≡ false
-not_true true k = absurd (k refl)
-not_true false k = refl
-
-pub point_lt-trans : (p q r : Point) → point_lt p q ≡ true → point_lt q r ≡ true → point_lt p r ≡ true
-point_lt-trans p q r a b = grind (arith, nat_tests)
-
-lt-eq : (p q r : Point) → point_lt p q ≡ true → point_eq q r ≡ true → point_lt p r ≡ true
-lt-eq p q r a b = grind (arith, nat_tests)
-
-eq-lt : (p q r : Point) → point_eq p q ≡ true → point_lt q r ≡ true → point_lt p r ≡ true
-eq-lt p q r a b = grind (arith, nat_tests)
-
-eq-eq : (p q r : Point) → point_eq p q ≡ true → point_eq q r ≡ true → point_eq p r ≡ true
-eq-eq p q r a b = grind (arith, nat_tests)
-
-pairs-trans : (a b c x y z : ℕ) → (nat_lt a b || ((a == b) && nat_lt x y)) ≡ true → (nat_lt b c || ((b == c) && nat_lt y z)) ≡ true → (nat_lt a c || ((a == c) && nat_lt x z)) ≡ true
-pairs-trans a b c x y z p q = grind (arith, nat_tests)
-
-pub either_true : (a b : Bool) → (a || b) ≡ true → (a ≡ true) ⊎ (b ≡ true)
-either_true true b e = inl refl
-either_true false b e = inr e
-
-pub both_true : (a b : Bool) → (a && b) ≡ true → (a ≡ true) × (b ≡ true)
-both_true true b e = (refl, e)
-both_true false b e = absurd (cc)
-
-pub join_left : (a b : Bool) → a ≡ true → (a || b) ≡ true
-join_left true b e = refl
-join_left false b e = absurd (cc)
-
-join_right : (a b c : Bool) → b ≡ true → c ≡ true → (a || (b && c)) ≡ true
-join_right true b c e f = refl
-join_right false true true e f = refl
-join_right false _ _ e f = absurd (cc)
-
-pub label_lt-trans : (a b c : Label) → label_lt a b ≡ true → label_lt b c ≡ true → label_lt a c ≡ true
-label_lt-trans a b c p q =
-    elim (either_true (point_lt a.point b.point) _ p) [
-      | inl x ↦ elim (either_true (point_lt b.point c.point) _ q) [
-        | inl y ↦ join_left (point_lt a.point c.point) _ (point_lt-trans a.point b.point c.point x y)
-        | inr y ↦ join_left (point_lt a.point c.point) _ (lt-eq a.point b.point c.point x (both_true _ _ y).0)
-      ]
-      | inr x ↦ elim (either_true (point_lt b.point c.point) _ q) [
-        | inl y ↦ join_left (point_lt a.point c.point) _ (eq-lt a.point b.point c.point (both_true _ _ x).0 y)
-        | inr y ↦ join_right (point_lt a.point c.point) (point_eq a.point c.point) (kind_lt a.kind c.kind) (eq-eq a.point b.point c.point (both_true _ _ x).0 (both_true _ _ y).0)
-            (pairs-trans (kind_rank a.kind) (kind_rank b.kind) (kind_rank c.kind) (kind_number a.kind) (kind_number b.kind) (kind_number c.kind) (both_true _ _ x).1 (both_true _ _ y).1)
-      ]
-    ]
-
-none-step : (p : Label → Bool) (x m : Label) (ls : List Label) (b : Bool) → p x ≡ b → (o : Option Label) → (o ≡ None → In ls m → ⊥) →
-    (if b then elim o [ None ↦ Some x | Some y ↦ if label_lt x y then Some x else Some y ] else o) ≡ None → p m ≡ true → (x ≡ m) ⊎ In ls m → ⊥
-none-step p x m ls true w None rest e k i = cc
-none-step p x m ls true w (Some y) rest e k i = go (label_lt x y) e
-  where
-    go : (c : Bool) → (if c then Some x else Some y) ≡ None → ⊥
-    go true e = cc
-    go false e = cc
-none-step p x m ls false w o rest e k (inl q) = let z : p x ≡ p m = ap p q in cc
-none-step p x m ls false w o rest e k (inr q) = rest e q
-
-pub none-least : (p : Label → Bool) (ls : List Label) (m : Label) → least_label p ls ≡ None → p m ≡ true → In ls m → ⊥
-unfolding least_label
-none-least p [] m e k i = i
-none-least p (x ∷ ls) m e k i = none-step p x m ls (p x) refl (least_label p ls) (λ o. none-least p ls m o k) e k i
-
-least-step : (p : Label → Bool) (x l : Label) (ls : List Label) (b : Bool) → p x ≡ b → (o : Option Label) → ((m : Label) → o ≡ Some m → IsLeast p ls m) → (o ≡ None → (m : Label) → p m ≡ true → In ls m → ⊥) →
-    (if b then elim o [ None ↦ Some x | Some y ↦ if label_lt x y then Some x else Some y ] else o) ≡ Some l → IsLeast p (x ∷ ls) l
-least-step p x l ls false w o rest none e =
-    let k : IsLeast p ls l = rest l e in
-    record { member = inr k.member; passes = k.passes; least = λ m i q. elim i [ inl a ↦ absurd (let z : p x ≡ p m = ap p a in cc) | inr a ↦ k.least m a q ] }
-least-step p x l ls true w None rest none e =
-    subst (IsLeast p (x ∷ ls)) (some_is x l e)
-    (record { member = inl refl; passes = w; least = λ m i q. elim i [ inl a ↦ subst (λ (y : Label). label_lt y x ≡ false) a (label_lt-self x) | inr a ↦ absurd (none refl m q a) ] })
-least-step p x l ls true w (Some y) rest none e = go (label_lt x y) refl e
-  where
-    go : (c : Bool) → label_lt x y ≡ c → (if c then Some x else Some y) ≡ Some l → IsLeast p (x ∷ ls) l
-    go true c e =
-        let k : IsLeast p ls y = rest y refl in
-        subst (IsLeast p (x ∷ ls)) (some_is x l e)
-        (record { member = inl refl; passes = w; least = λ m i q. elim i [ inl a ↦ subst (λ (y : Label). label_lt y x ≡ false) a (label_lt-self x) | inr a ↦ not_true (label_lt m x) (λ t. let z : label_lt m y ≡ true = label_lt-trans m x y t c in let f : label_lt m y ≡ false = k.least m a q in cc) ] })
-    go false c e =
-        let k : IsLeast p ls y = rest y refl in
-        subst (IsLeast p (x ∷ ls)) (some_is y l e)
-        (record { member = inr k.member; passes = k.passes; least = λ m i q. elim i [ inl a ↦ subst (λ (z : Label). label_lt z y ≡ false) a c | inr a ↦ k.least m a q ] })
-
-pub least-is : (p : Label → Bool) (ls : List Label) (l : Label) → least_label p ls ≡ Some l → IsLeast p ls l
-unfolding least_label
-least-is p [] l e = absurd (cc)
-least-is p (x ∷ ls) l e = least-step p x l ls (p x) refl (least_label p ls) (λ m. least-is p ls m) (λ o m k. none-least p ls m o k) e
 
 -- ---- what was sent
 

@@ -2,6 +2,8 @@
 use Rattle.std.specs.Prelude.{◌≡◌, ◌⊎◌, ℕ, Bool, true, false, List, [], ◌∷◌, Option, Some, None, refl, ◌==◌, if◌then◌else◌}
 use Rattle.std.proofs.Common.{sym, subst, arith, inl, inr, ap, ◌∙◌}
 use Rattle.std.proofs.lemmas.Bool.Decides.{nat_tests}
+use Rattle.std.proofs.lemmas.Bool.{eqb-true}
+use Rattle.sat_label.proofs.Truth.{same-number}
 use Rattle.sat_label.specs.declared.label.Kind.{Kind}
 use Rattle.sat_label.specs.declared.label.Kind.TheVariants as kind
 use Rattle.sat_label.specs.declared.label.Label.{Label}
@@ -14,18 +16,18 @@ use Rattle.sat_act.specs.Deployed.{Deployed}
 use Rattle.sat_act.specs.Histories.{listed}
 use Rattle.sat_act.specs.Done.{made_in, of_client, is_at}
 use Rattle.sat_label.specs.Order.{label_lt}
-use Rattle.sat_laws.proofs.Cuts.{num_is}
 use Rattle.sat_act.specs.Parts.{seat, version, greatest_label, is_update_of, shown, shown_entry, waiting}
 use Rattle.sat_act.specs.Runs.{IsRun}
 use Rattle.sat_act.specs.Causes.{Client, Knows, Past, Cause, Learned, LearnedBy}
-use Rattle.sat_laws.specs.Known.{SiteKnows, SiteLearned}
+use Rattle.sat_laws.proofs.Known.{SiteKnows, SiteLearned}
 use Rattle.sat_act.specs.Goals.{Gives, Made, Shows, IsValid}
 use Rattle.sat_laws.proofs.Steps.{Step, moved, left, attached, read_some}
 use Rattle.sat_laws.proofs.Runs.{step_of, before_of, entry}
 use Rattle.sat_laws.proofs.Labels.{some_is, Making, making, chosen}
-use Rattle.sat_laws.proofs.Members.{In, listed-gives}
+use Rattle.sat_laws.proofs.Members.{listed-gives}
 use Rattle.sat_laws.proofs.Knowledge.{cause-stays, cause-new}
 use Rattle.sat_laws.proofs.Shows.{waits, brings-for, shows-is, Showing, showing, by_write, by_turn, by_stamp}
+use Rattle.sat_label.specs.Members.{In}
 
 -- the version of an item was shown
 greatest-step : (p : Label → Bool) (x l : Label) (ls : List Label) (b : Bool) (o : Option Label) → ((m : Label) → o ≡ Some m → In ls m) →
@@ -90,14 +92,11 @@ learned-shown h a r j b l e s k = subst (λ (y : Answer). SiteLearned h a y j l)
 learned-attach : (h : List Entry) (a : Act) (r : Answer) (j c : ℕ) (l : Label) → r ≡ ans.Attached → a ≡ act.Attach c j → Past h c l → SiteLearned h a r j l
 learned-attach h a r j c l e s k = subst (λ (y : Answer). SiteLearned h a y j l) (sym e) (c, s, k)
 
-self_at : (j : ℕ) → (j == j) ≡ true
-self_at j = grind (arith, nat_tests)
-
 turn-at : (a : Act) (j : ℕ) → a ≡ act.Turn j → is_at a j ≡ true
-turn-at a j e = subst (λ (y : Act). is_at y j ≡ true) (sym e) (self_at j)
+turn-at a j e = subst (λ (y : Act). is_at y j ≡ true) (sym e) (same-number j)
 
 stamp-at : (a : Act) (j : ℕ) → a ≡ act.Stamp j → is_at a j ≡ true
-stamp-at a j e = subst (λ (y : Act). is_at y j ≡ true) (sym e) (self_at j)
+stamp-at a j e = subst (λ (y : Act). is_at y j ≡ true) (sym e) (same-number j)
 
 left_or : (b : Bool) (o : Option ℕ) (j : ℕ) → elim (if b then Some None else None) [ None ↦ o | Some z ↦ z ] ≡ Some j → o ≡ Some j
 left_or true o j e = absurd (cc)
@@ -108,7 +107,7 @@ seat-change : (d : Deployed) (h : List Entry) (c j : ℕ) (a : Act) (r : Answer)
 unfolding seat
 seat-change d h c j a r n (attached {c = b} {j = k} p q) =
     chosen (λ (o : Option ℕ). o ≡ Some j → (seat d h c ≡ Some j) ⊎ ((ans.Attached ≡ ans.Attached) × (act.Attach b k ≡ act.Attach c j))) (b == c) (Some k) (seat d h c)
-    (λ t e. inr (refl, ap (λ (y : ℕ). act.Attach y k) (num_is b c t) ∙ ap (λ (y : ℕ). act.Attach c y) (some_is k j e))) (λ _ e. inl e)
+    (λ t e. inr (refl, ap (λ (y : ℕ). act.Attach y k) (eqb-true b c t) ∙ ap (λ (y : ℕ). act.Attach c y) (some_is k j e))) (λ _ e. inl e)
 seat-change d h c j a r n (moved {c = b} p q w) = λ e. inl (left_or (b == c) (seat d h c) j e)
 seat-change d h c j a r n (left {c = b} p) = λ e. inl (left_or (b == c) (seat d h c) j e)
 seat-change d h c j a r n _ = λ e. inl e

@@ -3,6 +3,7 @@ use Rattle.std.specs.Prelude.{◌≡◌, ◌⊎◌, ◌<◌, ◌≤◌, ℕ, ◌
 use Rattle.std.specs.List.{list_any}
 use Rattle.std.proofs.Common.{sym, subst, arith, inl, inr, ap, ◌∙◌}
 use Rattle.std.proofs.lemmas.Bool.Decides.{nat_tests}
+use Rattle.std.proofs.lemmas.Bool.{and_parts, eqb-true, false_from_ne_true, or_cases}
 use Rattle.sat_label.specs.declared.point.Point.{Point}
 use Rattle.sat_label.specs.declared.label.Label.{Label}
 use Rattle.sat_act.specs.declared.act.Act.{Act}
@@ -18,10 +19,9 @@ use Rattle.sat_laws.proofs.Steps.{Step}
 use Rattle.sat_laws.proofs.Runs.{step_of, before_of, entry}
 use Rattle.sat_laws.proofs.Labels.{some_is}
 use Rattle.sat_laws.proofs.Gears.{split_le}
-use Rattle.sat_laws.proofs.Members.{In, listed-gives, gives-listed}
+use Rattle.sat_laws.proofs.Members.{listed-gives, gives-listed}
 use Rattle.sat_laws.proofs.Cuts.{sent-site}
 use Rattle.sat_laws.proofs.Sinks.{Sent}
-use Rattle.sat_laws.proofs.Cuts.{num_is}
 use Rattle.sat_act.specs.Parts.{stable, cut}
 use Rattle.sat_label.specs.declared.label.Kind.TheVariants as kind
 use Rattle.sat_laws.proofs.Steps.{closed}
@@ -34,19 +34,18 @@ use Rattle.sat_act.specs.Goals.{Shows, IsKeptAt}
 use Rattle.sat_laws.proofs.Order.{sent-in}
 use Rattle.sat_label.specs.Order.{point_le, mark, point_lt}
 use Rattle.sat_label.specs.declared.label.Kind.TheVariants as kind
-use Rattle.sat_act.specs.Parts.{close_cut, closed_entry, closes_entry}
+use Rattle.sat_act.specs.Parts.{close_cut, close_cut_of_entry, closed_epoch_of_entry}
 use Rattle.sat_act.specs.Causes.{Maker}
 use Rattle.sat_act.specs.Goals.{Made}
-use Rattle.sat_laws.proofs.Labels.{is_made, made-kind, IsPlaced, made-placed}
-use Rattle.sat_laws.proofs.Sinks.{both_true, IsLeast, pending-is, gathered-made}
+use Rattle.sat_laws.proofs.Labels.{made-kind, IsPlaced, made-placed}
+use Rattle.sat_laws.proofs.Sinks.{pending-is, gathered-made}
 use Rattle.sat_laws.proofs.Cuts.{ready-is, sent-order, cut-sent, sent-ts}
 use Rattle.sat_laws.proofs.Knowledge.{point_le-ts}
 use Rattle.sat_laws.proofs.Arrivals.{sent-epoch, epoch-bound}
 use Rattle.sat_act.specs.Parts.{in_stamp_mode}
 use Rattle.sat_laws.proofs.Order.{behind-first}
 use Rattle.sat_laws.proofs.Origins.{closed-below, sent-made, epoch-cut, cut-epoch}
-use Rattle.sat_laws.proofs.Orders.{point_le-trans, point_le-mark}
-use Rattle.sat_laws.proofs.Sinks.{either_true}
+use Rattle.sat_laws.proofs.Orders.{point_le-mark}
 use Rattle.sat_act.specs.Parts.{carried, case_beats, all_others, next_stamp, waiting}
 use Rattle.sat_act.specs.Answers.{may_advance}
 use Rattle.sat_laws.proofs.Shows.{waits, brings-for}
@@ -58,8 +57,7 @@ use Rattle.sat_label.specs.Words.{has}
 use Rattle.sat_act.specs.Histories.{listed}
 use Rattle.sat_laws.proofs.Lasts.{cut-keeps}
 use Rattle.std.specs.Prelude.{filter, nat_le}
-use Rattle.sat_laws.proofs.Cuts.{cut-ts, ts-lt}
-use Rattle.sat_laws.proofs.Orders.{point_le_lt-absurd}
+use Rattle.sat_laws.proofs.Cuts.{cut-ts}
 use Rattle.sat_label.specs.Order.{point_eq, kind_lt, label_lt}
 use Rattle.sat_laws.proofs.Arrivals.{epoch-bound, sent-epoch}
 use Rattle.sat_act.specs.Parts.{BeatNote, best, brought, brought_entry, gathered, shown}
@@ -67,16 +65,18 @@ use Rattle.std.specs.Prelude.{nat_le}
 use Rattle.sat_laws.proofs.Members.{listed-gives, gives-listed}
 use Rattle.sat_laws.proofs.Sinks.{by_gather}
 use Rattle.sat_laws.proofs.Shows.{Brings}
-use Rattle.sat_laws.proofs.Members.{has-in, into-filter}
 use Rattle.std.specs.Prelude.{is_some}
 use Rattle.std.specs.List.{list_any}
 use Rattle.sat_act.specs.Parts.{candidate, is_past, every_site_passed, own_site_passed, best_passes}
-use Rattle.sat_laws.proofs.Sinks.{not_true}
 use Rattle.sat_laws.proofs.Views.{count-none, count-if, add_if}
 use Rattle.sat_laws.proofs.Shows.{next-stamp-waits, candidate-least}
 use Rattle.sat_laws.proofs.Origins.{closed-sent}
 use Rattle.sat_laws.proofs.Safety.{Main, StampRules, others-pass}
 use Rattle.sat_laws.proofs.BeatTimes.{later-run, later-sent-in, later-emission, later-cut, later-made, Best, best-is, beat-brought}
+use Rattle.sat_label.specs.Members.{In, is_made}
+use Rattle.sat_label.proofs.Least.{IsLeast}
+use Rattle.sat_label.proofs.Orders.{point_le-trans, ts-lt, point_le_lt-absurd}
+use Rattle.sat_label.proofs.Members.{has-in, into-filter}
 
 -- ---- every epoch below the emission was closed
 
@@ -91,19 +91,19 @@ close-at d h k i e = subst (λ (m : ℕ). (if (k == m) && (emission h k == emiss
     give false e = absurd (cc)
 
 closes-now : (d : Deployed) (h : List Entry) (i : ℕ) (a : Act) (r : Answer) (n : Bool) → Step d h a r →
-    (emission (entry a r n ∷ h) i ≡ emission h i) ⊎ ((closed_entry i (emission h i) h (entry a r n) ≡ Some (Some (cut d h i))) × (emission (entry a r n ∷ h) i ≡ emission h i + 1))
+    (emission (entry a r n ∷ h) i ≡ emission h i) ⊎ ((close_cut_of_entry i (emission h i) h (entry a r n) ≡ Some (Some (cut d h i))) × (emission (entry a r n ∷ h) i ≡ emission h i + 1))
 unfolding emission
-closes-now d h i a r n (closed {i = k} p q) = go (k == i) refl (count-if (k == i) (listed (closes_entry i) h) (emission h k))
+closes-now d h i a r n (closed {i = k} p q) = go (k == i) refl (count-if (k == i) (listed (closed_epoch_of_entry i) h) (emission h k))
   where
-    at : (k == i) ≡ true → closed_entry i (emission h i) h (entry (act.Close k) (ans.Closed (emission h k) (cut d h k)) n) ≡ Some (Some (cut d h i))
-    at w = close-at d h k i (num_is k i w)
+    at : (k == i) ≡ true → close_cut_of_entry i (emission h i) h (entry (act.Close k) (ans.Closed (emission h k) (cut d h k)) n) ≡ Some (Some (cut d h i))
+    at w = close-at d h k i (eqb-true k i w)
 
-    go : (b : Bool) → (k == i) ≡ b → emission (entry (act.Close k) (ans.Closed (emission h k) (cut d h k)) n ∷ h) i ≡ add_if (k == i) (emission h i) → (emission (entry (act.Close k) (ans.Closed (emission h k) (cut d h k)) n ∷ h) i ≡ emission h i) ⊎ ((closed_entry i (emission h i) h (entry (act.Close k) (ans.Closed (emission h k) (cut d h k)) n) ≡ Some (Some (cut d h i))) × (emission (entry (act.Close k) (ans.Closed (emission h k) (cut d h k)) n ∷ h) i ≡ emission h i + 1))
+    go : (b : Bool) → (k == i) ≡ b → emission (entry (act.Close k) (ans.Closed (emission h k) (cut d h k)) n ∷ h) i ≡ add_if (k == i) (emission h i) → (emission (entry (act.Close k) (ans.Closed (emission h k) (cut d h k)) n ∷ h) i ≡ emission h i) ⊎ ((close_cut_of_entry i (emission h i) h (entry (act.Close k) (ans.Closed (emission h k) (cut d h k)) n) ≡ Some (Some (cut d h i))) × (emission (entry (act.Close k) (ans.Closed (emission h k) (cut d h k)) n ∷ h) i ≡ emission h i + 1))
     go true w e = inr (at w, e ∙ ap (λ (b : Bool). add_if b (emission h i)) w)
     go false w e = inl (e ∙ ap (λ (b : Bool). add_if b (emission h i)) w)
-closes-now d h i a r n _ = inl (count-none (listed (closes_entry i) h))
+closes-now d h i a r n _ = inl (count-none (listed (closed_epoch_of_entry i) h))
 
-newly-closed : (h : List Entry) (x : Entry) (i e : ℕ) (p : Point) → closed_entry i e h x ≡ Some (Some p) → close_cut (x ∷ h) i e ≡ Some p
+newly-closed : (h : List Entry) (x : Entry) (i e : ℕ) (p : Point) → close_cut_of_entry i e h x ≡ Some (Some p) → close_cut (x ∷ h) i e ≡ Some p
 unfolding close_cut
 newly-closed h x i e p w = subst (λ (o : Option (Option Point)). elim o [ None ↦ close_cut h i e | Some y ↦ y ] ≡ Some p) (sym w) refl
 
@@ -118,7 +118,7 @@ closed-step d h x i e run b rest =
       | inr w ↦
           let y : emission (x ∷ h) i ≡ emission h i + 1 = w.1 in
           elim (split_le e (emission h i) (omega arith)) [
-            | inl s ↦ (cut d h i, newly-closed h x i e (cut d h i) (subst (λ (n : ℕ). closed_entry i n h x ≡ Some (Some (cut d h i))) (sym s) w.0))
+            | inl s ↦ (cut d h i, newly-closed h x i e (cut d h i) (subst (λ (n : ℕ). close_cut_of_entry i n h x ≡ Some (Some (cut d h i))) (sym s) w.0))
             | inr lt ↦ old lt
           ]
     ]
@@ -261,12 +261,12 @@ module _ (d : Deployed) (h : List Entry) (j : ℕ) (v : IsValid d) (run : IsRun 
   rule-attach : (c : ℕ) (a : Label) → case_beats d h c j ≡ true → Made h a → (a.point.site ≡ j → ⊥) → a.point.ts ≤ (carried h c).ts →
       ((e : ℕ) × (e ≤ view h j) × SentIn h a.point.site e a) × (IsKeptAt d j a → Shows h j a) × (in_stamp_mode d h j ≡ true)
   rule-attach c a e m other t =
-      let w : ((in_stamp_mode d h j && all_others d j (λ i. best_passes (best d h j i) (attach-test c i))) ≡ true) × (not (list_any (λ l. nat_le l.point.ts (carried h c).ts) (waiting h j)) ≡ true) = both_true _ _ e in
-      let y : (in_stamp_mode d h j ≡ true) × (all_others d j (λ i. best_passes (best d h j i) (attach-test c i)) ≡ true) = both_true (in_stamp_mode d h j) _ w.0 in
+      let w : ((in_stamp_mode d h j && all_others d j (λ i. best_passes (best d h j i) (attach-test c i))) ≡ true) × (not (list_any (λ l. nat_le l.point.ts (carried h c).ts) (waiting h j)) ≡ true) = and_parts _ _ e in
+      let y : (in_stamp_mode d h j ≡ true) × (all_others d j (λ i. best_passes (best d h j i) (attach-test c i)) ≡ true) = and_parts (in_stamp_mode d h j) _ w.0 in
       let pl : IsPlaced d h a = made-placed d h a v run m in
       let b : (note : BeatNote) × Best d h j a.point.site note × (attach-test c a.point.site note ≡ true) × ((q : BeatNote → Bool) → best_passes (best d h j a.point.site) q ≡ q note) =
       passing-beat a.point.site (attach-test c a.point.site) (others-pass d j a.point.site (λ i. best_passes (best d h j i) (attach-test c i)) y.1 pl.site other) in
-      let z : (point_le (mark (carried h c).ts a.point.site) b.0.cut ≡ true) × (elim (b.0.closes (view h j)) [ None ↦ true | Some p ↦ point_le (mark (carried h c).ts a.point.site) p ] ≡ true) = both_true (point_le (mark (carried h c).ts a.point.site) b.0.cut) _ b.2 in
+      let z : (point_le (mark (carried h c).ts a.point.site) b.0.cut ≡ true) × (elim (b.0.closes (view h j)) [ None ↦ true | Some p ↦ point_le (mark (carried h c).ts a.point.site) p ] ≡ true) = and_parts (point_le (mark (carried h c).ts a.point.site) b.0.cut) _ b.2 in
       let few : d.gears ≤ 8 = v.few_gears in
       let g : a.point.gear < d.gears = pl.gear in
       let low : point_le a.point (mark (carried h c).ts a.point.site) ≡ true = point_le-mark a.point (carried h c).ts (omega arith) t in
@@ -297,7 +297,7 @@ module _ (d : Deployed) (h : List Entry) (j : ℕ) (v : IsValid d) (run : IsRun 
     where
       go : (o : Option Point) → note.closes (view h j) ≡ o → elim o [ None ↦ false | Some p ↦ point_lt p a.point ] ≡ false
       go None c = refl
-      go (Some p) c = not_true (point_lt p a.point) (λ t. point_le_lt-absurd a.point p (under-close a m note b f p c) t)
+      go (Some p) c = false_from_ne_true (point_lt p a.point) (λ t. point_le_lt-absurd a.point p (under-close a m note b f p c) t)
 
   abbrev own-test : Label → BeatNote → Bool
   own-test l note = elim (note.closes (view h j)) [ None ↦ point_le l.point note.cut | Some p ↦ point_le l.point p ]
@@ -320,7 +320,7 @@ module _ (d : Deployed) (h : List Entry) (j : ℕ) (v : IsValid d) (run : IsRun 
       let pl : IsPlaced d h a = made-placed d h a v run m in
       let few : d.gears ≤ 8 = v.few_gears in
       let g : a.point.gear < d.gears = pl.gear in
-      elim (either_true (point_le (mark b.point.ts a.point.site) note.cut) (is_some (note.closes (view h j))) e) [
+      elim (or_cases (point_le (mark b.point.ts a.point.site) note.cut) (is_some (note.closes (view h j))) e) [
         | inl q ↦ by-cut a m note bt (point_le-trans a.point (mark b.point.ts a.point.site) note.cut (point_le-mark a.point b.point.ts (omega arith) (omega arith)) q)
         | inr q ↦
             let p : (p : Point) × (note.closes (view h j) ≡ Some p) = some_of (note.closes (view h j)) q in
@@ -351,7 +351,7 @@ module _ (d : Deployed) (h : List Entry) (j : ℕ) (v : IsValid d) (run : IsRun 
             passing-beat a.point.site (site-test b a.point.site) (others-pass d j a.point.site (λ i. best_passes (best d h j i) (site-test b i)) q.1 (made-placed d h a v run m).site other) in
             let s : Sent w.1.at a.point.site a = cause-sent b a m w.0 w.1 t f w.2 in
             shown-unless a (sent-brought a m w.0 w.1 s k other)
-            (λ i. lower-label a b t (least.least a i (ap not (not-past a m w.0 w.1 w.3 f)))),
+            (λ i. lower-label a b t (least.lowest a i (ap not (not-past a m w.0 w.1 w.3 f)))),
       )
 
   abbrev close-test : ℕ → BeatNote → Bool

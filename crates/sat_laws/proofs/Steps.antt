@@ -17,8 +17,8 @@ use Rattle.sat_act.specs.declared.answer.Refusal.{Refusal}
 use Rattle.sat_act.specs.declared.answer.Refusal.TheVariants as why
 use Rattle.sat_act.specs.declared.entry.Entry.{Entry}
 use Rattle.sat_act.specs.Deployed.{Deployed}
-use Rattle.sat_act.specs.Parts.{BeatNote, replicates, tree_of, promise, least_promise, stable, ready, cut, last_pulse, emission, view, in_stamp_mode, seat_in, goes_beyond, link_front, killed, is_update, version, value_of, lane, brought, waiting, beats, beats_taken, best, seat, carried, may_attach, next_stamp}
-use Rattle.sat_act.specs.Answers.{answer, unless, at_seat, gear_of, base, turned, bulk_to, next_of_lane, may_advance, greatest_promise}
+use Rattle.sat_act.specs.Parts.{BeatNote, lane_front, replicates, tree_of, promise, least_promise, stable, ready, cut, last_pulse, emission, view, in_stamp_mode, seat_in, goes_beyond, link_front, killed, is_update, version, value_of, lane, brought, waiting, beats, beats_taken, best, seat, carried, may_attach, next_stamp}
+use Rattle.sat_act.specs.Answers.{answer, refused_if, at_seat, gear_of, base, turned, bulk_to, may_advance, greatest_promise}
 
 pub data Step (d : Deployed) (h : List Entry) : Act → Answer → Type 0 where
   ticked : {i g t : ℕ} → Step d h (act.Tick i g t) (ans.Ticked (max (promise h i g) t))
@@ -55,7 +55,7 @@ pub data Step (d : Deployed) (h : List Entry) : Act → Answer → Type 0 where
 
 module _ (d : Deployed) (h : List Entry) where
   -- a test that refuses, or else the rest
-  tested : (a : Act) (b : Bool) (r : Refusal) (rest : Answer) → (b ≡ false → Step d h a rest) → Step d h a (unless b r rest)
+  tested : (a : Act) (b : Bool) (r : Refusal) (rest : Answer) → (b ≡ false → Step d h a rest) → Step d h a (refused_if b r rest)
   tested a true r rest next = refused
   tested a false r rest next = next refl
 
@@ -140,7 +140,7 @@ module _ (d : Deployed) (h : List Entry) where
 
   bulk_cases : (i g j : ℕ) (number : Option ℕ) → Step d h (act.Bulk i g j number) (bulk_to d h i g j number)
   unfolding bulk_to
-  bulk_cases i g j None = bring_cases i g j (next_of_lane d h i g j) None (slice_get (lane d h i g j) (next_of_lane d h i g j)) refl
+  bulk_cases i g j None = bring_cases i g j (lane_front d h i g j) None (slice_get (lane d h i g j) (lane_front d h i g j)) refl
   bulk_cases i g j (Some n) = bring_cases i g j n (Some n) (slice_get (lane d h i g j) n) refl
 
   taken_or_again : (i j n : ℕ) → nat_le (length (beats d h i j)) n ≡ false → (b : Bool) → Step d h (act.BeatIn i j n) (if b then ans.Again else ans.Taken)

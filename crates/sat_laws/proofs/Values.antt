@@ -1,6 +1,7 @@
 -- The value of an update stays with its label, and is that of its write.
 use Rattle.std.specs.Prelude.{◌≡◌, ℕ, ◌+◌, Bool, true, false, List, [], ◌∷◌, Some, None, if◌then◌else◌, refl}
 use Rattle.std.proofs.Common.{sym, subst, inl, inr, ap, ◌∙◌}
+use Rattle.std.proofs.lemmas.Bool.{false_from_ne_true}
 use Rattle.sat_label.specs.declared.label.Label.{Label}
 use Rattle.sat_label.specs.declared.label.Kind.TheVariants as kind
 use Rattle.sat_label.specs.Order.{label_eq, point_at}
@@ -18,8 +19,7 @@ use Rattle.sat_act.specs.Goals.{Gives, Made, IsValid, Writes, WritesNow, IsWrite
 use Rattle.sat_laws.proofs.Steps.{Step, wrote, moved}
 use Rattle.sat_laws.proofs.Runs.{step_of, before_of, entry}
 use Rattle.sat_laws.proofs.Labels.{made-new, some_is}
-use Rattle.sat_laws.proofs.Members.{same-label, label-self}
-use Rattle.sat_laws.proofs.Sinks.{not_true}
+use Rattle.sat_label.proofs.Orders.{same-label, label_eq-self}
 
 value-step : (d : Deployed) (h : List Entry) (a : Act) (r : Answer) (n : Bool) (l : Label) → Step d h a r → ((m : Label) → made_in r ≡ Some m → label_eq m l ≡ false) → value_of (entry a r n ∷ h) l ≡ value_of h l
 unfolding value_of
@@ -34,11 +34,11 @@ value-step d h a r n l _ new = refl
 -- the value of a made label stays
 pub value-stays : (d : Deployed) (h : List Entry) (e : Entry) (l : Label) → IsValid d → IsRun d (e ∷ h) → Made h l → value_of (e ∷ h) l ≡ value_of h l
 value-stays d h e l v run m =
-    value-step d h e.act e.answer e.inner l (step_of d h e run) (λ k w. not_true (label_eq k l) (λ s. made-new d h e l v run (w ∙ ap (λ (x : Label). Some x) (same-label k l s)) m))
+    value-step d h e.act e.answer e.inner l (step_of d h e run) (λ k w. false_from_ne_true (label_eq k l) (λ s. made-new d h e l v run (w ∙ ap (λ (x : Label). Some x) (same-label k l s)) m))
 
 pub value-new : (h : List Entry) (l : Label) (n : Bool) (c x : ℕ) (v : List ℕ) → value_of (entry (act.Write c x v) (ans.Wrote l) n ∷ h) l ≡ v
 unfolding value_of
-value-new h l n c x v = go (label_eq l l) (label-self l)
+value-new h l n c x v = go (label_eq l l) (label_eq-self l)
   where
     go : (b : Bool) → b ≡ true → elim (if b then Some v else None) [ None ↦ value_of h l | Some y ↦ y ] ≡ v
     go true e = refl

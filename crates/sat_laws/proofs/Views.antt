@@ -1,7 +1,7 @@
 -- Views, emission epochs and falls.
 use Rattle.std.specs.Prelude.{◌≡◌, ◌≤◌, ℕ, ◌+◌, Bool, true, false, List, [], ◌∷◌, ◌++◌, Some, None, refl, ◌==◌, if◌then◌else◌, length}
 use Rattle.std.proofs.Common.{sym, subst, arith, ap, ◌∙◌, length-append}
-use Rattle.std.proofs.lemmas.Bool.Decides.{nat_tests}
+use Rattle.std.proofs.lemmas.Bool.{eqb-false, eqb-true}
 use Rattle.sat_label.specs.declared.label.Label.{Label}
 use Rattle.sat_act.specs.declared.act.Act.{Act}
 use Rattle.sat_act.specs.declared.act.Act.TheVariants as act
@@ -10,12 +10,11 @@ use Rattle.sat_act.specs.declared.answer.Answer.TheVariants as ans
 use Rattle.sat_act.specs.declared.entry.Entry.{Entry}
 use Rattle.sat_act.specs.Deployed.{Deployed}
 use Rattle.sat_act.specs.Histories.{listed}
-use Rattle.sat_act.specs.Parts.{sent_entry, view, view_entry, emission, closes_entry, fallen}
+use Rattle.sat_act.specs.Parts.{sent_entry, view, view_entry, emission, closed_epoch_of_entry, fallen}
 use Rattle.sat_act.specs.Answers.{may_advance}
 use Rattle.sat_act.specs.Runs.{IsRun}
 use Rattle.sat_laws.proofs.Steps.{Step, emitted, pulsed, closed, fell, advanced}
 use Rattle.sat_laws.proofs.Runs.{step_of, before_of, entry}
-use Rattle.sat_laws.proofs.Cuts.{num_is}
 
 abbrev pub add_if : Bool → ℕ → ℕ
 add_if b n = if b then n + 1 else n
@@ -34,9 +33,6 @@ pub data Turning (d : Deployed) (h : List Entry) (x : Entry) (j : ℕ) : Type 0 
   falls : view (x ∷ h) j ≡ view h j → emission (x ∷ h) j ≡ emission h j → (emission h j ≡ view h j → ⊥) → Turning d h x j
   advances : view (x ∷ h) j ≡ view h j + 1 → emission (x ∷ h) j ≡ emission h j → fallen (x ∷ h) j ≡ false → (emission h j ≡ view h j → ⊥) → x.act ≡ act.Advance j → may_advance d h j ≡ true → Turning d h x j
 
-differ : (m n : ℕ) → (m == n) ≡ false → m ≡ n → ⊥
-differ m n e k = grind (arith, nat_tests)
-
 flag-if : (b y z : Bool) → elim (if b then Some y else None) [ None ↦ z | Some w ↦ w ] ≡ (if b then y else z)
 flag-if true y z = refl
 flag-if false y z = refl
@@ -45,26 +41,26 @@ abbrev pick_flag : Bool → Bool → Bool → Bool
 pick_flag b y z = if b then y else z
 
 close-turn : (d : Deployed) (h : List Entry) (x : Entry) (j k : ℕ) (b : Bool) → (k == j) ≡ b → view (x ∷ h) j ≡ view h j → emission (x ∷ h) j ≡ add_if b (emission h j) → fallen (x ∷ h) j ≡ fallen h j → (emission h k == view h k + 1) ≡ false → Turning d h x j
-close-turn d h x j k true e v m f q = closes v m f (subst (λ (i : ℕ). emission h i ≡ view h i + 1 → ⊥) (num_is k j e) (differ (emission h k) (view h k + 1) q))
+close-turn d h x j k true e v m f q = closes v m f (subst (λ (i : ℕ). emission h i ≡ view h i + 1 → ⊥) (eqb-true k j e) (eqb-false (emission h k) (view h k + 1) q))
 close-turn d h x j k false e v m f q = stays v m f
 
 fall-turn : (d : Deployed) (h : List Entry) (x : Entry) (j k : ℕ) (b : Bool) → (k == j) ≡ b → view (x ∷ h) j ≡ view h j → emission (x ∷ h) j ≡ emission h j → fallen (x ∷ h) j ≡ pick_flag b true (fallen h j) → (emission h k == view h k) ≡ false → Turning d h x j
-fall-turn d h x j k true e v m f q = falls v m (subst (λ (i : ℕ). emission h i ≡ view h i → ⊥) (num_is k j e) (differ (emission h k) (view h k) q))
+fall-turn d h x j k true e v m f q = falls v m (subst (λ (i : ℕ). emission h i ≡ view h i → ⊥) (eqb-true k j e) (eqb-false (emission h k) (view h k) q))
 fall-turn d h x j k false e v m f q = stays v m f
 
 advance-turn : (d : Deployed) (h : List Entry) (x : Entry) (j k : ℕ) (b : Bool) → (k == j) ≡ b → view (x ∷ h) j ≡ add_if b (view h j) → emission (x ∷ h) j ≡ emission h j → fallen (x ∷ h) j ≡ pick_flag b false (fallen h j) → (emission h k == view h k) ≡ false → x.act ≡ act.Advance k → may_advance d h k ≡ true → Turning d h x j
-advance-turn d h x j k true e v m f q a w = advances v m f (subst (λ (i : ℕ). emission h i ≡ view h i → ⊥) (num_is k j e) (differ (emission h k) (view h k) q)) (a ∙ ap (λ (i : ℕ). act.Advance i) (num_is k j e)) (subst (λ (i : ℕ). may_advance d h i ≡ true) (num_is k j e) w)
+advance-turn d h x j k true e v m f q a w = advances v m f (subst (λ (i : ℕ). emission h i ≡ view h i → ⊥) (eqb-true k j e) (eqb-false (emission h k) (view h k) q)) (a ∙ ap (λ (i : ℕ). act.Advance i) (eqb-true k j e)) (subst (λ (i : ℕ). may_advance d h i ≡ true) (eqb-true k j e) w)
 advance-turn d h x j k false e v m f q a w = stays v m f
 
 turning : (d : Deployed) (h : List Entry) (j : ℕ) (a : Act) (r : Answer) (n : Bool) → Step d h a r → Turning d h (entry a r n) j
 unfolding view emission fallen
 turning d h j a r n (closed {i = k} p q) =
-    close-turn d h (entry a r n) j k (k == j) refl (count-none (listed (view_entry j) h)) (count-if (k == j) (listed (closes_entry j) h) (emission h k)) refl q
+    close-turn d h (entry a r n) j k (k == j) refl (count-none (listed (view_entry j) h)) (count-if (k == j) (listed (closed_epoch_of_entry j) h) (emission h k)) refl q
 turning d h j a r n (fell {j = k} p q) =
-    fall-turn d h (entry a r n) j k (k == j) refl (count-none (listed (view_entry j) h)) (count-none (listed (closes_entry j) h)) (flag-if (k == j) true (fallen h j)) q
+    fall-turn d h (entry a r n) j k (k == j) refl (count-none (listed (view_entry j) h)) (count-none (listed (closed_epoch_of_entry j) h)) (flag-if (k == j) true (fallen h j)) q
 turning d h j a r n (advanced {j = k} p q) =
-    advance-turn d h (entry a r n) j k (k == j) refl (count-if (k == j) (listed (view_entry j) h) (view h k + 1)) (count-none (listed (closes_entry j) h)) (flag-if (k == j) false (fallen h j)) p refl q
-turning d h j a r n _ = stays (count-none (listed (view_entry j) h)) (count-none (listed (closes_entry j) h)) refl
+    advance-turn d h (entry a r n) j k (k == j) refl (count-if (k == j) (listed (view_entry j) h) (view h k + 1)) (count-none (listed (closed_epoch_of_entry j) h)) (flag-if (k == j) false (fallen h j)) p refl q
+turning d h j a r n _ = stays (count-none (listed (view_entry j) h)) (count-none (listed (closed_epoch_of_entry j) h)) refl
 
 pub turning-of : (d : Deployed) (h : List Entry) (x : Entry) (j : ℕ) → IsRun d (x ∷ h) → Turning d h x j
 turning-of d h x j run = turning d h j x.act x.answer x.inner (step_of d h x run)

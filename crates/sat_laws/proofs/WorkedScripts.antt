@@ -4,9 +4,9 @@ use Rattle.sat_label.specs.declared.label.Kind.TheVariants as kind
 use Rattle.sat_label.specs.declared.node.NodeId.TheVariants.{Site, Serializer}
 use Rattle.sat_label.specs.Order.{point_at}
 use Rattle.sat_act.specs.declared.act.Act.{Act}
-use Rattle.sat_act.specs.declared.act.Act.TheVariants.{Tick, Write, Read, Move, Leave, Attach, Gather, Emit, Pulse, Hop, Turn, Bulk, Beat, BeatIn, Stamp, Close, Fall, Advance, Kill}
+use Rattle.sat_act.specs.declared.act.Act.TheVariants.{Tick, Clock, Write, Read, Move, Leave, Attach, Gather, Emit, Pulse, Hop, Turn, Bulk, Beat, BeatIn, Stamp, Close, Fall, Advance, Kill}
 use Rattle.sat_act.specs.declared.answer.Answer.{Answer}
-use Rattle.sat_act.specs.declared.answer.Answer.TheVariants.{Ticked, Wrote, ReadNone, ReadSome, Moved, Left, Attached, Gathered, Emitted, Pulsed, Hopped, Shown, Took, Brought, Again, Taken, Old, Closed, Fallen, View, Killed, Refused}
+use Rattle.sat_act.specs.declared.answer.Answer.TheVariants.{Ticked, Clocked, Wrote, ReadNone, ReadSome, Moved, Left, Attached, Gathered, Emitted, Pulsed, Hopped, Shown, Took, Brought, Again, Taken, Old, Closed, Fallen, View, Killed, Refused}
 use Rattle.sat_act.specs.declared.answer.Answer.TheVariants as ans
 use Rattle.sat_act.specs.declared.answer.Refusal.TheVariants as why
 use Rattle.sat_act.specs.declared.deployment.Plan.{Plan}
@@ -68,6 +68,18 @@ three_sites = record { sites = 3; gears = 1; items = item (codes "p") 5 ∷ item
 -- two sites that keep x and y, and three clients
 abbrev two_items : Deployed
 two_items = record { sites = 2; gears = 1; items = item (codes "x") 3 ∷ item (codes "y") 3 ∷ []; clients = client (codes "a") 0 ∷ client (codes "b") 1 ∷ client (codes "c") 0 ∷ []; plans = star (0 ∷ 0 ∷ []) ∷ [] }
+
+-- two sites that keep x, a client at each, and two epochs by timestamp order
+abbrev two_stamps : Deployed
+two_stamps = record { sites = 2; gears = 1; items = item (codes "x") 3 ∷ []; clients = client (codes "a") 0 ∷ client (codes "b") 1 ∷ []; plans = plan.Stamp ∷ plan.Stamp ∷ [] }
+
+-- two sites of which the first alone keeps x, one client, and two epochs by timestamp order
+abbrev kept_at_one : Deployed
+kept_at_one = record { sites = 2; gears = 1; items = item (codes "x") 1 ∷ []; clients = client (codes "a") 0 ∷ []; plans = plan.Stamp ∷ plan.Stamp ∷ [] }
+
+-- two sites of two gears that keep x, one client, and one epoch by timestamp order
+abbrev two_clocks : Deployed
+two_clocks = record { sites = 2; gears = 2; items = item (codes "x") 3 ∷ []; clients = client (codes "a") 0 ∷ []; plans = plan.Stamp ∷ [] }
 
 -- three sites that keep x, one client, and one serializer
 abbrev one_star : Deployed
@@ -483,3 +495,56 @@ a_cause_through_a_chain : Plays a_chain (
     [])
 unfolding play
 a_cause_through_a_chain = refl
+
+-- an update that was sent after its site closed the view waits for the next view, although nothing below it can come
+past_the_close : Plays two_stamps (
+    (Write 0 0 (codes "1"), Wrote (update 1 0 0 0)) ∷
+    (Gather 0, Gathered 1 1) ∷
+    (Emit 0, Emitted (update 1 0 0 0)) ∷
+    (Close 0, Closed 1 (point_at 1 0 65535)) ∷
+    (Write 0 0 (codes "2"), Wrote (update 2 0 0 0)) ∷
+    (Gather 0, Gathered 1 2) ∷
+    (Emit 0, Emitted (update 2 0 0 0)) ∷
+    (Beat 0 1, ans.Beat 0) ∷
+    (Bulk 0 0 1 None, Brought (update 1 0 0 0)) ∷
+    (Bulk 0 0 1 None, Brought (update 2 0 0 0)) ∷
+    (BeatIn 0 1 0, Taken) ∷
+    (Stamp 1, Shown (update 1 0 0 0)) ∷
+    (Stamp 1, Refused why.NotYet) ∷
+    (Advance 1, Refused why.NotClosed) ∷
+    (Close 1, Closed 1 (point_at 0 1 65535)) ∷
+    (Advance 1, View 2) ∷
+    (Stamp 1, Shown (update 2 0 0 0)) ∷
+    (Read 1 0, ReadSome (update 2 0 0 0) (codes "2")) ∷
+    [])
+unfolding play
+past_the_close = refl
+
+-- a beat's cut reaches a client's timestamp, but the close cut of the view does not: the client may come in the next view
+a_close_cut_below_the_client : Plays kept_at_one (
+    (Close 0, Closed 1 (point_at 0 0 65535)) ∷
+    (Write 0 0 (codes "1"), Wrote (update 1 0 0 0)) ∷
+    (Gather 0, Gathered 1 1) ∷
+    (Emit 0, Emitted (update 1 0 0 0)) ∷
+    (Leave 0, Left (point_at 1 0 0)) ∷
+    (Beat 0 1, ans.Beat 0) ∷
+    (BeatIn 0 1 0, Taken) ∷
+    (Attach 0 1, Refused why.NotYet) ∷
+    (Close 1, Closed 1 (point_at 0 1 65535)) ∷
+    (Advance 1, View 2) ∷
+    (Attach 0 1, Attached) ∷
+    [])
+unfolding play
+a_close_cut_below_the_client = refl
+
+-- a clock raises every gear to the greatest promise of all
+one_clock : Plays two_clocks (
+    (Tick 1 1 7, Ticked 7) ∷
+    (Write 0 0 (codes "1"), Wrote (update 1 0 0 0)) ∷
+    (Clock, Clocked 7) ∷
+    (Write 0 0 (codes "2"), Wrote (update 8 0 0 0)) ∷
+    (Gather 1, Gathered 0 7) ∷
+    (Pulse 1, Pulsed (pulse 7 1 65534)) ∷
+    [])
+unfolding play
+one_clock = refl

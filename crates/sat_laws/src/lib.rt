@@ -2,7 +2,7 @@
 //! update once, is fresh and settled.
 #![tactic(auto)]
 
-ghost use Rattle.sat_laws.specs.Claims.{EveryHistoryIsGood};
+ghost use Rattle.sat_laws.specs.Laws.{EveryHistoryIsGood};
 
 /// Every history whose entries have the answers of their acts is causal, shows each update once, is fresh and settled.
 pub fn headline()

@@ -5,12 +5,16 @@ use super::*;
 use std::test::*;
 use std::thread;
 
+// An end that is told nothing goes on after it was full, and after it was empty.
 #[test]
-fn one_place(rt: HostRuntime) -> Result<(), Fail> {
+fn full_and_empty_untold(rt: HostRuntime) -> Result<(), Fail> {
     let (mut input, mut output) = link::<u32>(rt.alloc(), 1)?;
-    assert_eq!(rt; input.push(&rt, 1), Ok(()));
-    assert_eq!(rt; input.push(&rt, 2), Err(2));
-    assert_eq!(rt; output.pop(&rt), Some(1));
+    for round in 0..3 {
+        assert_eq!(rt; input.push(&rt, round), Ok(()));
+        assert_eq!(rt; input.push(&rt, 9), Err(9));
+        assert_eq!(rt; output.pop(&rt), Some(round));
+        assert_eq!(rt; output.pop(&rt), None);
+    }
     Ok(())
 }
 

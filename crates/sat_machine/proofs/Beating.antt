@@ -18,10 +18,8 @@ use Rattle.sat_act.specs.Goals.{IsValid}
 use Rattle.sat_laws.proofs.Steps.{Step, beat, beat_came}
 use Rattle.sat_laws.proofs.Runs.{step_of, before_of, entry}
 use Rattle.sat_laws.proofs.Labels.{some_is}
-use Rattle.sat_laws.proofs.Members.{In, In-parts}
 use Rattle.sat_laws.proofs.Links.{tail_of, get-keep, get-below}
 use Rattle.sat_machine.specs.State.{SiteState}
-use Rattle.sat_machine.specs.Input.{SiteInput}
 use Rattle.sat_machine.specs.Input as given
 use Rattle.sat_machine.specs.Look.{best_in, best_of, complete_at}
 use Rattle.sat_machine.specs.Next.{site_next, note_of}
@@ -31,6 +29,8 @@ use Rattle.sat_machine.proofs.Lists.{plain, map-join}
 use Rattle.sat_machine.proofs.Simple.{closes-agrees}
 use Rattle.sat_machine.proofs.Gathering.{cut-agrees, counts-agree}
 use Rattle.sat_machine.proofs.Windows.{front-agrees}
+use Rattle.sat_label.specs.Members.{In}
+use Rattle.sat_label.proofs.Members.{In-parts}
 
 -- ---- beats made
 

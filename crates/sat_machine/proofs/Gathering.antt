@@ -2,6 +2,7 @@
 use Rattle.std.specs.Prelude.{◌≡◌, ℕ, zero, suc, ◌+◌, ◌-◌, Bool, true, false, ◌&&◌, not, List, [], ◌∷◌, ◌++◌, length, filter, min, nat_le, Option, Some, None, ◌==◌, if◌then◌else◌, refl}
 use Rattle.std.proofs.Common.{sym, subst, ap, ◌∙◌, arith, inl, inr}
 use Rattle.std.proofs.lemmas.Bool.Decides.{nat_tests}
+use Rattle.sat_label.proofs.Truth.{same-number}
 use Rattle.sat_label.specs.declared.label.Label.{Label}
 use Rattle.sat_label.specs.declared.point.Point.{Point}
 use Rattle.sat_label.specs.declared.label.Kind.TheVariants as kind
@@ -15,15 +16,15 @@ use Rattle.sat_act.specs.declared.entry.Entry.{Entry}
 use Rattle.sat_act.specs.Deployed.{Deployed}
 use Rattle.sat_act.specs.Done.{made_in, sent_in, is_gather, is_at}
 use Rattle.sat_act.specs.Histories.{listed, up_to}
-use Rattle.sat_act.specs.Parts.{emission, is_update, is_target, promise, made, made_entry, made_to, gathered, least_promise, stable, sent, sent_entry, pending, is_stable, ready, least_label, last_sent, cut, lane}
+use Rattle.sat_act.specs.Parts.{emission, is_update, is_target, promise, made, made_entry, made_to, gathered, least_promise, stable, sent, sent_entry, pending, is_stable, ready, last_sent, cut, lane}
 use Rattle.sat_act.specs.Answers.{answer, gather_of, gear_of, base}
 use Rattle.sat_act.specs.Runs.{IsRun, IsAnswer}
 use Rattle.sat_act.specs.Goals.{Made, IsValid}
 use Rattle.sat_laws.proofs.Steps.{Step, wrote, moved, gathered_now, emitted, pulsed, closed}
 use Rattle.sat_laws.proofs.Runs.{step_of, before_of, entry}
-use Rattle.sat_laws.proofs.Labels.{made-new, made-kind, is_made}
-use Rattle.sat_laws.proofs.Members.{In, In-filter, In-parts, In-right, has-in, listed-gives, same-label}
-use Rattle.sat_laws.proofs.Sinks.{from-made, gathered-made, not_true, kept as kept_label}
+use Rattle.sat_laws.proofs.Labels.{made-new, made-kind}
+use Rattle.sat_laws.proofs.Members.{listed-gives}
+use Rattle.sat_laws.proofs.Sinks.{from-made, gathered-made, kept as kept_label}
 use Rattle.sat_laws.proofs.Stamps.{sent-gathered}
 use Rattle.sat_bulk.specs.declared.Payload.{Payload}
 use Rattle.sat_machine.specs.State.{SiteState}
@@ -34,8 +35,14 @@ use Rattle.sat_machine.specs.Next.{site_next}
 use Rattle.sat_machine.specs.Replay.{after, handed, site_state, carrying}
 use Rattle.sat_machine.proofs.Kept.{kept, at-seat}
 use Rattle.sat_machine.proofs.Lists.{plain, joined, map-length, filter-join, filter-all, without, without-more}
-use Rattle.sat_machine.proofs.Lanes.{payload_of, lanes-agree}
+use Rattle.sat_machine.proofs.Lanes.{lanes-agree}
 use Rattle.sat_machine.proofs.Simple.{promise-agrees, sent-agrees}
+use Rattle.sat_label.specs.Least.{least_label}
+use Rattle.sat_label.specs.Members.{is_made, In}
+use Rattle.sat_label.proofs.Members.{In-filter, In-parts, In-right, has-in}
+use Rattle.sat_label.proofs.Orders.{same-label}
+use Rattle.std.proofs.lemmas.Bool.{false_from_ne_true}
+use Rattle.sat_machine.specs.Parts.{valued}
 
 -- ---- an entry is a gather of i, or leaves what i gathered
 
@@ -61,12 +68,9 @@ pub gathers-of : (d : Deployed) (h : List Entry) (x : Entry) (i : ℕ) → IsRun
 unfolding IsRun
 gathers-of d h x i run e = gathers-now d h x.act x.answer x.inner i (site_of x.act i e) run.2
 
-self_num : (i : ℕ) → (i == i) ≡ true
-self_num i = grind (arith, nat_tests)
-
 gather-self : (d : Deployed) (h : List Entry) (i m t : ℕ) (s : SiteState) → after d i s (handed d h (act.Gather i) i) (ans.Gathered m t) ≡ site_next d i s given.Gather (ans.Gathered m t)
 unfolding after handed
-gather-self d h i m t s = ap (λ (b : Bool). after d i s (if b then Some given.Gather else None) (ans.Gathered m t)) (self_num i)
+gather-self d h i m t s = ap (λ (b : Bool). after d i s (if b then Some given.Gather else None) (ans.Gathered m t)) (same-number i)
 
 pub gather-after : (d : Deployed) (h : List Entry) (x : Entry) (i : ℕ) (s : SiteState) → (k : Gathers d h x i) → after d i s (handed d h x.act i) x.answer ≡ site_next d i s given.Gather (ans.Gathered k.labels k.stable)
 gather-after d h x i s k = ap (λ (a : Act). after d i s (handed d h a i) x.answer) k.is ∙ (ap (λ (r : Answer). after d i s (handed d h (act.Gather i) i) r) k.so ∙ gather-self d h i k.labels k.stable s)
@@ -147,7 +151,7 @@ counts-agree d (e ∷ h) i g j v run =
     let s : SiteState = site_state d h i in
     by_test _ (is_gather e.act i)
     (λ w. let k : Gathers d h e i = gathers-of d h e i run w in
-    ap (λ (s : SiteState). s.sink.counts g j) (gather-after d h e i s k) ∙ (now s k ∙ (ap (λ (ps : List Payload). length ps) (lanes-agree d h i g j v (before_of d h e run)) ∙ (map-length (payload_of h) (lane d h i g j) ∙
+    ap (λ (s : SiteState). s.sink.counts g j) (gather-after d h e i s k) ∙ (now s k ∙ (ap (λ (ps : List Payload). length ps) (lanes-agree d h i g j v (before_of d h e run)) ∙ (map-length (valued h) (lane d h i g j) ∙
     sym (ap (λ (h : List Entry). length (lane d h i g j)) (gathered-now e h i w) ∙ ap (λ (ls : List Label). length ls) (gathered-lane-same d i g j h e k.labels k.stable k.so))))))
     (λ w. gather-kept (λ s. s.sink.counts g j) d h i s e.act e.answer (λ input k. unfold site_next in not-gathered e.answer ℕ (s.sink.counts g j) (length ((s.gears g).lanes j)) k) w (step_of d h e run) ∙
     (counts-agree d h i g j v (before_of d h e run) ∙ sym (ap (λ (h : List Entry). length (lane d h i g j)) (gathered-same e h i w))))
@@ -236,7 +240,7 @@ emit-less G input true l S M u v = v ∙ sym (without-more S l M)
 emit-less G input false l S M u v = u ∙ ap (λ (ls : List Label). without ls M) (sym (plain S))
 
 other-kind : (l m : Label) → is_made l.kind ≡ false → is_made m.kind ≡ true → label_eq l m ≡ false
-other-kind l m a b = not_true (label_eq l m) (λ e. let w : is_made l.kind ≡ is_made m.kind = ap (λ (x : Label). is_made x.kind) (same-label l m e) in cc)
+other-kind l m a b = false_from_ne_true (label_eq l m) (λ e. let w : is_made l.kind ≡ is_made m.kind = ap (λ (x : Label). is_made x.kind) (same-label l m e) in cc)
 
 other-less : (b : Bool) (l : Label) (S M : List Label) → is_made l.kind ≡ false → ((m : Label) → In M m → is_made m.kind ≡ true) → without S M ≡ without (S ++ added (if b then Some l else None)) M
 other-less true l S M e k =
@@ -267,7 +271,7 @@ gather-pending d i g m t s = refl
 fresh-unsent : (d : Deployed) (h : List Entry) (i g : ℕ) (l : Label) → IsValid d → IsRun d h → In ((site_state d h i).gears g).fresh l → has label_eq (sent h i) l ≡ false
 unfolding sent
 fresh-unsent d h i g l v run m =
-    not_true (has label_eq (sent h i) l) (λ e. fresh-new d h i g l v run m
+    false_from_ne_true (has label_eq (sent h i) l) (λ e. fresh-new d h i g l v run m
     (sent-gathered d h i l run (listed-gives (sent_entry i) h l (has-in (listed (sent_entry i) h) l e)) (made-kind d h l v run (fresh-made d h i g l run m).0)))
 
 gathered-kind : (d : Deployed) (h : List Entry) (i g : ℕ) (m : Label) → IsValid d → IsRun d h → In (made (gathered h i) i g) m → is_made m.kind ≡ true

@@ -28,15 +28,6 @@ latest-and G input true true m q u v = v
 latest-and G input true false m q u v = v
 latest-and G input false c m q u v = u
 
--- what is listed
-pub listed-if : {X : Type 0} (G : Option SiteInput → List X) (input : SiteInput) (b : Bool) (m : X) (q : List X) → G None ≡ q → G (Some input) ≡ q ++ m ∷ [] → G (if b then Some input else None) ≡ q ++ elim (if b then Some m else None) [ None ↦ [] | Some y ↦ y ∷ [] ]
-listed-if G input true m q u v = v
-listed-if G input false m q u v = u ∙ sym (plain q)
-  where
-    plain : {Y : Type 0} (xs : List Y) → xs ++ [] ≡ xs
-    plain [] = refl
-    plain (x ∷ xs) = ap (λ ys. x ∷ ys) (plain xs)
-
 pub listed-and : {X : Type 0} (G : Option SiteInput → List X) (input : SiteInput) (b c : Bool) (l : X) (q : List X) → G None ≡ q → G (Some input) ≡ (if c then q ++ l ∷ [] else q) → G (if b then Some input else None) ≡ q ++ elim (if b && c then Some l else None) [ None ↦ [] | Some y ↦ y ∷ [] ]
 listed-and G input true true l q u v = v
 listed-and G input true false l q u v = v ∙ sym (end q)

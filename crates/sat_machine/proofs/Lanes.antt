@@ -9,13 +9,12 @@ use Rattle.sat_act.specs.declared.answer.Answer.{Answer}
 use Rattle.sat_act.specs.declared.entry.Entry.{Entry}
 use Rattle.sat_act.specs.Deployed.{Deployed}
 use Rattle.sat_act.specs.Histories.{listed}
-use Rattle.sat_act.specs.Parts.{value_of, lane, lane_entry, is_target, is_update}
+use Rattle.sat_act.specs.Parts.{lane, lane_entry, is_target, is_update}
 use Rattle.sat_act.specs.Answers.{gear_of, base}
 use Rattle.sat_act.specs.Runs.{IsRun}
 use Rattle.sat_act.specs.Goals.{Made, IsValid}
 use Rattle.sat_laws.proofs.Steps.{Step, wrote, moved}
 use Rattle.sat_laws.proofs.Runs.{step_of, before_of, entry}
-use Rattle.sat_laws.proofs.Members.{In}
 use Rattle.sat_laws.proofs.Shows.{in-lane}
 use Rattle.sat_laws.proofs.Values.{value-stays, value-new}
 use Rattle.sat_bulk.specs.declared.Payload.{Payload}
@@ -23,15 +22,14 @@ use Rattle.sat_machine.specs.State.{SiteState}
 use Rattle.sat_machine.specs.Input.{SiteInput}
 use Rattle.sat_machine.specs.Input as given
 use Rattle.sat_machine.specs.Next.{site_next, payload_at}
+use Rattle.sat_machine.specs.Parts.{valued}
 use Rattle.sat_machine.specs.Replay.{after, handed, site_state, carrying}
 use Rattle.sat_machine.proofs.Kept.{kept, at-seat}
 use Rattle.sat_machine.proofs.Lists.{plain, map-join, map-same}
+use Rattle.sat_label.specs.Members.{In}
 
-abbrev pub payload_of : List Entry → Label → Payload
-payload_of h l = payload_at l (value_of h l)
-
-pub payloads-stay : (d : Deployed) (h : List Entry) (e : Entry) (ls : List Label) → IsValid d → IsRun d (e ∷ h) → ((l : Label) → In ls l → Made h l) → map (payload_of h) ls ≡ map (payload_of (e ∷ h)) ls
-payloads-stay d h e ls v run k = map-same (payload_of h) (payload_of (e ∷ h)) ls (λ l i. ap (λ (w : List ℕ). payload_at l w) (sym (value-stays d h e l v run (k l i))))
+pub payloads-stay : (d : Deployed) (h : List Entry) (e : Entry) (ls : List Label) → IsValid d → IsRun d (e ∷ h) → ((l : Label) → In ls l → Made h l) → map (valued h) ls ≡ map (valued (e ∷ h)) ls
+payloads-stay d h e ls v run k = map-same (valued h) (valued (e ∷ h)) ls (λ l i. ap (λ (w : List ℕ). payload_at l w) (sym (value-stays d h e l v run (k l i))))
 
 abbrev if_test : (Label → Bool) → Option Label → Option Label
 if_test p o = elim o [ None ↦ None | Some l ↦ if p l then Some l else None ]
@@ -55,23 +53,23 @@ lane-less true p l ls t = ap (λ (c : Bool). ls ++ added (if c then Some l else 
 lane-less false p l ls t = plain ls
 
 lanes-step : (d : Deployed) (h : List Entry) (i g j : ℕ) (s : SiteState) (a : Act) (r : Answer) (n : Bool) →
-    (s.gears g).lanes j ≡ map (payload_of (entry a r n ∷ h)) (lane d h i g j) → Step d h a r →
-    ((after d i s (handed d h a i) r).gears g).lanes j ≡ map (payload_of (entry a r n ∷ h)) (lane d (entry a r n ∷ h) i g j)
+    (s.gears g).lanes j ≡ map (valued (entry a r n ∷ h)) (lane d h i g j) → Step d h a r →
+    ((after d i s (handed d h a i) r).gears g).lanes j ≡ map (valued (entry a r n ∷ h)) (lane d (entry a r n ∷ h) i g j)
 unfolding after handed site_next lane
 lanes-step d h i g j s a r n k (wrote {c = c} {x = x} {i = t} {value = v} p q w) =
     let l : Label = record { point = point_at (base h c t (gear_of d x) + 1) t (gear_of d x); kind = kind.Update x } in
     at-seat (λ o. ((after d i s o r).gears g).lanes j) _ i t (given.Write (carrying h c) x v) _ p
-    (lane-more (payload_of (entry a r n ∷ h)) (λ o. ((after d i s o r).gears g).lanes j) (given.Write (carrying h c) x v) (t == i) (gear_of d x == g) (is_target d l j)
+    (lane-more (valued (entry a r n ∷ h)) (λ o. ((after d i s o r).gears g).lanes j) (given.Write (carrying h c) x v) (t == i) (gear_of d x == g) (is_target d l j)
     (λ m. is_update m.kind && is_target d m j) l (listed (lane_entry d i g j) h) refl k
     (ap (λ (ps : List Payload). if (gear_of d x == g) && is_target d l j then ps ++ payload_at l v ∷ [] else ps) k ∙
-    ap (λ (y : List ℕ). if (gear_of d x == g) && is_target d l j then map (payload_of (entry a r n ∷ h)) (listed (lane_entry d i g j) h) ++ payload_at l y ∷ [] else map (payload_of (entry a r n ∷ h)) (listed (lane_entry d i g j) h)) (sym (value-new h l n c x v))))
+    ap (λ (y : List ℕ). if (gear_of d x == g) && is_target d l j then map (valued (entry a r n ∷ h)) (listed (lane_entry d i g j) h) ++ payload_at l y ∷ [] else map (valued (entry a r n ∷ h)) (listed (lane_entry d i g j) h)) (sym (value-new h l n c x v))))
 lanes-step d h i g j s a r n k (moved {c = c} {j = u} {i = t} p q w) =
     let l : Label = record { point = point_at (base h c t 0 + 1) t 0; kind = kind.Move u } in
     kept (λ s. (s.gears g).lanes j) d i s (handed d h a i) r (λ input. refl) ∙
-    (k ∙ ap (map (payload_of (entry a r n ∷ h))) (sym (lane-less ((t == i) && (0 == g)) (λ m. is_update m.kind && is_target d m j) l (listed (lane_entry d i g j) h) refl)))
-lanes-step d h i g j s a r n k _ = kept (λ s. (s.gears g).lanes j) d i s (handed d h a i) r (λ input. refl) ∙ (k ∙ ap (map (payload_of (entry a r n ∷ h))) (sym (plain (listed (lane_entry d i g j) h))))
+    (k ∙ ap (map (valued (entry a r n ∷ h))) (sym (lane-less ((t == i) && (0 == g)) (λ m. is_update m.kind && is_target d m j) l (listed (lane_entry d i g j) h) refl)))
+lanes-step d h i g j s a r n k _ = kept (λ s. (s.gears g).lanes j) d i s (handed d h a i) r (λ input. refl) ∙ (k ∙ ap (map (valued (entry a r n ∷ h))) (sym (plain (listed (lane_entry d i g j) h))))
 
-pub lanes-agree : (d : Deployed) (h : List Entry) (i g j : ℕ) → IsValid d → IsRun d h → ((site_state d h i).gears g).lanes j ≡ map (payload_of h) (lane d h i g j)
+pub lanes-agree : (d : Deployed) (h : List Entry) (i g j : ℕ) → IsValid d → IsRun d h → ((site_state d h i).gears g).lanes j ≡ map (valued h) (lane d h i g j)
 unfolding site_state lane
 lanes-agree d [] i g j v run = refl
 lanes-agree d (e ∷ h) i g j v run =

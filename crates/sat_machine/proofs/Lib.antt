@@ -13,4 +13,5 @@ pub mod SiteSteps
 pub mod Worlds
 pub mod Local
 pub mod Runs
-pub mod Sets
+pub mod Parts
+pub mod Unmoved

@@ -4,7 +4,7 @@ use Rattle.std.proofs.Common.{sym, ap, ◌∙◌, inl, inr, arith}
 use Rattle.sat_label.specs.declared.label.Label.{Label}
 use Rattle.sat_label.specs.Order.{label_eq}
 use Rattle.sat_label.specs.Words.{has}
-use Rattle.sat_laws.proofs.Members.{In}
+use Rattle.sat_label.specs.Members.{In}
 
 pub plain : {X : Type 0} (xs : List X) → xs ++ [] ≡ xs
 plain [] = refl
@@ -36,10 +36,6 @@ filter-join p (x ∷ xs) ys = cond-join (p x) x (filter p (xs ++ ys)) (filter p 
 
 cond-same : {X : Type 0} (b c : Bool) (x : X) (xs ys : List X) → b ≡ c → xs ≡ ys → cond b (x ∷ xs) xs ≡ cond c (x ∷ ys) ys
 cond-same b c x xs ys e k = ap (λ (a : Bool). cond a (x ∷ xs) xs) e ∙ ap (λ zs. cond c (x ∷ zs) zs) k
-
-pub filter-same : {X : Type 0} (p q : X → Bool) (xs : List X) → ((x : X) → In xs x → p x ≡ q x) → filter p xs ≡ filter q xs
-filter-same p q [] k = refl
-filter-same p q (x ∷ xs) k = cond-same (p x) (q x) x (filter p xs) (filter q xs) (k x (inl refl)) (filter-same p q xs (λ y i. k y (inr i)))
 
 cond-all : {X : Type 0} (b : Bool) (x : X) (xs ys : List X) → b ≡ true → xs ≡ ys → cond b (x ∷ xs) xs ≡ x ∷ ys
 cond-all true x xs ys e k = ap (λ zs. x ∷ zs) k

@@ -1,6 +1,7 @@
 -- Locality: what a node does is a function of its journal; and the inputs that the history hands fit.
 use Rattle.std.specs.Prelude.{◌≡◌, ℕ, Bool, true, false, not, List, Option, Some, None, slice_get, ◌==◌, if◌then◌else◌, refl}
-use Rattle.std.proofs.Common.{sym, subst, ap, ◌∙◌, arith}
+use Rattle.std.proofs.Common.{sym, subst, ap, ◌∙◌}
+use Rattle.std.proofs.lemmas.Bool.{eqb-true}
 use Rattle.sat_label.specs.declared.label.Label.{Label}
 use Rattle.sat_label.specs.declared.node.NodeId.{NodeId}
 use Rattle.sat_label.specs.declared.node.NodeId.TheVariants.{Site}
@@ -9,7 +10,6 @@ use Rattle.sat_label.specs.Words.{has}
 use Rattle.sat_tree.specs.Shape.{TreeShape}
 use Rattle.sat_act.specs.declared.act.Act.{Act}
 use Rattle.sat_act.specs.declared.act.Act.TheVariants as act
-use Rattle.std.proofs.lemmas.Bool.Decides.{nat_tests}
 use Rattle.sat_laws.proofs.Labels.{some_is}
 use Rattle.sat_act.specs.declared.entry.Entry.{Entry}
 use Rattle.sat_act.specs.Deployed.{Deployed}
@@ -18,7 +18,6 @@ use Rattle.sat_act.specs.Answers.{answer}
 use Rattle.sat_act.specs.Runs.{IsRun}
 use Rattle.sat_act.specs.Goals.{Made, IsValid}
 use Rattle.sat_laws.proofs.Labels.{made-point}
-use Rattle.sat_laws.proofs.Members.{In, In-get, In-filter, has-in, in-has}
 use Rattle.sat_laws.proofs.Shows.{IsFor, in-lane}
 use Rattle.sat_laws.proofs.Links.{SentIn, HandledFrom, entered-in}
 use Rattle.sat_laws.proofs.Handlings.{handled_as}
@@ -32,10 +31,12 @@ use Rattle.sat_machine.specs.Reply.{site_answer}
 use Rattle.sat_machine.specs.Replay.{handed, site_state, turn_front, carrying, given_at, given_seat, given_number}
 use Rattle.sat_machine.specs.Journal.{journal, replay}
 use Rattle.sat_machine.specs.Fits.{BulkFits, FrontFits, IsFit}
-use Rattle.sat_machine.proofs.Lanes.{payload_of}
 use Rattle.sat_machine.proofs.Windows.{Window, window-agrees, lane-of, brought-made}
 use Rattle.sat_machine.proofs.Pools.{waiting-agrees}
 use Rattle.sat_machine.proofs.SiteSteps.{replays, site-replies}
+use Rattle.sat_label.specs.Members.{In}
+use Rattle.sat_label.proofs.Members.{In-get, In-filter, has-in, in-has}
+use Rattle.sat_machine.specs.Parts.{valued}
 
 -- two histories with one journal at a site have one state there
 pub same-state : (d : Deployed) (h k : List Entry) (i : ℕ) → journal d h i ≡ journal d k i → site_state d h i ≡ site_state d k i
@@ -52,7 +53,7 @@ waits-brought : (h : List Entry) (j : ℕ) (q : Label) → In (waiting h j) q �
 unfolding waiting
 waits-brought h j q m = (In-filter (λ l. not (has label_eq (shown h j) l)) (brought h j) q m).0
 
-pub bulk-fits : (d : Deployed) (h : List Entry) (i g j n : ℕ) (l : Label) → IsValid d → IsRun d h → slice_get (lane d h i g j) n ≡ Some l → BulkFits d j (site_state d h j) i g n (payload_of h l)
+pub bulk-fits : (d : Deployed) (h : List Entry) (i g j n : ℕ) (l : Label) → IsValid d → IsRun d h → slice_get (lane d h i g j) n ≡ Some l → BulkFits d j (site_state d h j) i g n (valued h l)
 bulk-fits d h i g j n l v run e =
     let m : In (lane d h i g j) l = In-get (lane d h i g j) n l e in
     let f : IsFor d h j l = in-lane d h i g j l m in
@@ -89,15 +90,12 @@ front-sent d h j l run e = tree (tree_of d (view h j)) refl e
 pub front-fits : (d : Deployed) (h : List Entry) (j : ℕ) (l : Label) → IsValid d → IsRun d h → turn_front d h j ≡ Some l → FrontFits (site_state d h j) l
 front-fits d h j l v run e = record { epoch = λ f k. sym (close-epoch d h l.point.site (view h j) f l v run (front-sent d h j l run e) k) ∙ sym (view-agrees d h j run) }
 
-num_is : (a b : ℕ) → (a == b) ≡ true → a ≡ b
-num_is a b e = grind (arith, nat_tests)
-
 -- where an act hands x to site t, and x fits there
 fits-here : (d : Deployed) (h : List Entry) (t i : ℕ) (x input : SiteInput) → given_at t i x ≡ Some input → IsFit d t (site_state d h t) x → IsFit d i (site_state d h i) input
 fits-here d h t i x input e k = go (t == i) refl e
   where
     go : (b : Bool) → (t == i) ≡ b → (if b then Some x else None) ≡ Some input → IsFit d i (site_state d h i) input
-    go true w e = subst (λ (y : SiteInput). IsFit d i (site_state d h i) y) (some_is x input e) (subst (λ (j : ℕ). IsFit d j (site_state d h j) x) (num_is t i w) k)
+    go true w e = subst (λ (y : SiteInput). IsFit d i (site_state d h i) y) (some_is x input e) (subst (λ (j : ℕ). IsFit d j (site_state d h j) x) (eqb-true t i w) k)
     go false w e = absurd (cc)
 
 fits-seat : (d : Deployed) (h : List Entry) (o : Option ℕ) (i : ℕ) (x input : SiteInput) → given_seat o i x ≡ Some input → ((t : ℕ) → IsFit d t (site_state d h t) x) → IsFit d i (site_state d h i) input
@@ -127,9 +125,9 @@ given-fits d h (act.Pulse t) i input v run e = fits-here d h t i given.Pulse inp
 given-fits d h (act.Turn t) i input v run e = fits-here d h t i (given.Turn (turn_front d h t)) input e (turn-fits d h t v run (turn_front d h t) refl)
 given-fits d h (act.Bulk k g j o) i input v run e = go (slice_get (lane d h k g j) (given_number d h k g j o)) refl e
   where
-    go : (x : Option Label) → slice_get (lane d h k g j) (given_number d h k g j o) ≡ x → elim x [ None ↦ None | Some l ↦ given_at j i (given.Bulk k g (given_number d h k g j o) (payload_of h l)) ] ≡ Some input → IsFit d i (site_state d h i) input
+    go : (x : Option Label) → slice_get (lane d h k g j) (given_number d h k g j o) ≡ x → elim x [ None ↦ None | Some l ↦ given_at j i (given.Bulk k g (given_number d h k g j o) (valued h l)) ] ≡ Some input → IsFit d i (site_state d h i) input
     go None w e = absurd (cc)
-    go (Some l) w e = fits-here d h j i (given.Bulk k g (given_number d h k g j o) (payload_of h l)) input e (bulk-fits d h k g j (given_number d h k g j o) l v run w)
+    go (Some l) w e = fits-here d h j i (given.Bulk k g (given_number d h k g j o) (valued h l)) input e (bulk-fits d h k g j (given_number d h k g j o) l v run w)
 given-fits d h (act.Beat t j) i input v run e = fits-here d h t i (given.Beat j) input e tt
 given-fits d h (act.BeatIn k j n) i input v run e = go (slice_get (beats d h k j) n) e
   where

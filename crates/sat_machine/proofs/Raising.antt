@@ -3,6 +3,7 @@ use Rattle.std.specs.Prelude.{◌≡◌, ◌⊎◌, ◌<◌, ℕ, Bool, true, fa
 use Rattle.std.specs.List.{list_any}
 use Rattle.std.proofs.Common.{sym, subst, ap, ◌∙◌, arith, inl, inr}
 use Rattle.std.proofs.lemmas.Bool.Decides.{nat_tests}
+use Rattle.std.proofs.lemmas.Bool.{eqb-false, eqb-true}
 use Rattle.sat_label.specs.declared.label.Label.{Label}
 use Rattle.sat_label.specs.declared.point.Point.{Point}
 use Rattle.sat_label.specs.Order.{greater_point, point_le}
@@ -111,12 +112,6 @@ stamp-advance : (d : Deployed) (h : List Entry) (j i : ℕ) → may_advance d h 
 unfolding may_advance
 stamp-advance d h j i e m l n = others-pass d j i (λ i. best_passes (best d h j i) (passes_by (λ k. waiting h j) i (view h j))) (when_true (in_stamp_mode d h j) _ _ m e) l n
 
-num_is : (a b : ℕ) → (a == b) ≡ true → a ≡ b
-num_is a b e = grind (arith, nat_tests)
-
-num_not : (a b : ℕ) → (a == b) ≡ false → a ≡ b → ⊥
-num_not a b e k = grind (arith, nat_tests)
-
 in_range : (m n : ℕ) → (m < n) ⊎ (m < n → ⊥)
 in_range m n = go (nat_le n m) refl
   where
@@ -143,12 +138,12 @@ passed-agrees d h j i v run e =
     go (in_stamp_mode d h j) refl (i == j) refl)))
   where
     other : in_stamp_mode d h j ≡ true → (i == j) ≡ false → (i < d.sites) ⊎ (i < d.sites → ⊥) → closes_view (best d h j i) (view h j) ≡ close_cut h i (view h j)
-    other m n (inl l) = passed-best d h j i run (stamp-advance d h j i e m l (num_not i j n))
+    other m n (inl l) = passed-best d h j i run (stamp-advance d h j i e m l (eqb-false i j n))
     other m n (inr l) = ap (λ (o : Option (ℕ × BeatNote)). closes_view o (view h j)) (best-none d h i j l run) ∙ sym (close-none d h i (view h j) l run)
 
     go : (m : Bool) → in_stamp_mode d h j ≡ m → (b : Bool) → (i == j) ≡ b → passed_by m b (close_cut h j (view h j)) (closes_view (best d h j i) (view h j)) ≡ (if m then close_cut h i (view h j) else None)
     go false m b w = refl
-    go true m true w = ap (λ (k : ℕ). close_cut h k (view h j)) (sym (num_is i j w))
+    go true m true w = ap (λ (k : ℕ). close_cut h k (view h j)) (sym (eqb-true i j w))
     go true m false w = other m w (in_range i d.sites)
 
 -- ---- last
@@ -173,7 +168,7 @@ last-step d h j i s a r n k f (showed_stamp {j = t} {l = l} p q) = go (t == j)
 last-step d h j i s a r n k f (advanced {j = t} p q) = go (t == j) refl
   where
     go : (b : Bool) → (t == j) ≡ b → (after d j s (if b then Some given.Advance else None) r).proxy.last i ≡ elim (if b && in_stamp_mode d h j then close_cut h i (view h j) else None) [ None ↦ last d h j i | Some y ↦ greater_point y (last d h j i) ]
-    go true e = ap (λ (x : Point). raised x (passed_cut d j s i)) k ∙ ap (raised (last d h j i)) (f (subst (λ (x : ℕ). may_advance d h x ≡ true) (num_is t j e) q))
+    go true e = ap (λ (x : Point). raised x (passed_cut d j s i)) k ∙ ap (raised (last d h j i)) (f (subst (λ (x : ℕ). may_advance d h x ≡ true) (eqb-true t j e) q))
     go false e = k
 last-step d h j i s a r n k f _ = kept (λ s. s.proxy.last i) d j s (handed d h a j) r (λ input. refl) ∙ k
 

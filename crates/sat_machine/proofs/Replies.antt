@@ -1,5 +1,5 @@
 -- What a site answers by its state is what the history answers.
-use Rattle.std.specs.Prelude.{◌≡◌, ◌⊎◌, ◌<◌, ◌≤◌, ℕ, zero, suc, ◌+◌, ◌-◌, ◌^◌, Bool, true, false, ◌&&◌, ◌||◌, not, nat_le, max, List, [], ◌∷◌, ◌++◌, length, map, Option, Some, None, is_some, slice_get, ◌==◌, if◌then◌else◌, refl}
+use Rattle.std.specs.Prelude.{◌≡◌, ◌⊎◌, ◌<◌, ◌≤◌, ℕ, zero, suc, ◌+◌, ◌-◌, ◌^◌, Bool, false, ◌&&◌, ◌||◌, not, nat_le, max, List, [], ◌∷◌, ◌++◌, length, Option, Some, None, is_some, slice_get, ◌==◌, if◌then◌else◌, refl}
 use Rattle.std.proofs.Common.{sym, ap, ◌∙◌, arith}
 use Rattle.std.proofs.lemmas.Bool.Decides.{nat_tests}
 use Rattle.sat_label.specs.declared.label.Label.{Label}
@@ -17,24 +17,23 @@ use Rattle.sat_act.specs.declared.answer.Refusal.TheVariants as why
 use Rattle.sat_act.specs.declared.entry.Entry.{Entry}
 use Rattle.sat_act.specs.Deployed.{Deployed}
 use Rattle.sat_act.specs.Parts.{BeatNote, tree_of, promise, made, made_to, gathered, least_promise, stable, ready, emission, view, in_stamp_mode, seat_in, link_front, version, value_of, lane, brought, waiting, last, beats, beats_taken, best, seat, carried, may_attach, next_stamp, candidate, is_past, replicates}
-use Rattle.sat_act.specs.Answers.{answer, unless, at_seat, gear_of, base, write_at, read_at, move_from, attach_to, gather_of, emit_of, pulse_of, turned, turn_of, bulk_to, bring, beat_to, beat_in_to, stamp_of, close_of, fall_of, took_close, may_advance, advance_of}
+use Rattle.sat_act.specs.Answers.{answer, refused_if, at_seat, gear_of, base, write_at, read_at, move_from, attach_to, gather_of, emit_of, pulse_of, turned, turn_of, bulk_to, bring, beat_to, beat_in_to, stamp_of, close_of, fall_of, took_close, may_advance, advance_of}
 use Rattle.sat_act.specs.Runs.{IsRun}
 use Rattle.sat_act.specs.Goals.{IsValid}
 use Rattle.sat_laws.proofs.Links.{get-below}
 use Rattle.sat_machine.specs.State.{SiteState}
-use Rattle.sat_machine.specs.Input.{SiteInput}
 use Rattle.sat_machine.specs.Input as given
 use Rattle.sat_machine.specs.Look.{rows, least_row, stable_of, cut_of, waiting_of, numbers_of}
 use Rattle.sat_machine.specs.Reply.{Outlook, outlook_of, site_answer, write_by, read_by, move_by, may_come, stamp_next, may_pass}
 use Rattle.sat_machine.specs.Replay.{site_state, carrying, given_number, turn_front}
-use Rattle.sat_machine.proofs.Lanes.{payload_of}
 use Rattle.sat_machine.proofs.Simple.{promise-agrees, pulse-agrees, emission-agrees, view-agrees, heard-agrees}
 use Rattle.sat_machine.proofs.Gathering.{fresh-agrees, stable-agrees, ready-agrees, cut-agrees}
 use Rattle.sat_machine.proofs.Windows.{Window, window-agrees}
 use Rattle.sat_machine.proofs.Pools.{waiting-agrees}
-use Rattle.sat_machine.proofs.Stores.{stored, store-agrees}
+use Rattle.sat_machine.proofs.Stores.{store-agrees}
 use Rattle.sat_machine.proofs.Beating.{Taken, made-agrees, taken-agrees, best-agrees}
 use Rattle.sat_machine.proofs.Raising.{mode-agrees, last-agrees}
+use Rattle.sat_machine.specs.Parts.{valued, valued_version}
 
 -- the outlook of a site in D's words
 abbrev outlook_at : Deployed → List Entry → ℕ → Outlook
@@ -66,7 +65,7 @@ pub read-reply : (d : Deployed) (h : List Entry) (c x i : ℕ) → IsValid d →
 unfolding site_answer answer read_at
 read-reply d h c x i v run e = ap (read_by d i x) (store-agrees d h i x v run) ∙ (go (version h i x) ∙ sym (seated-answer (seat d h c) i (λ i. read_at d h x i) e))
   where
-    go : (o : Option Label) → read_by d i x (stored h o) ≡ unless (not (replicates d x i)) why.NotHere (elim o [ None ↦ ans.ReadNone | Some l ↦ ans.ReadSome l (value_of h l) ])
+    go : (o : Option Label) → read_by d i x (valued_version h o) ≡ refused_if (not (replicates d x i)) why.NotHere (elim o [ None ↦ ans.ReadNone | Some l ↦ ans.ReadSome l (value_of h l) ])
     go None = refl
     go (Some l) = refl
 
@@ -77,8 +76,8 @@ move-reply d h c j i run e = ap (λ (p : ℕ). move_by i j p (carried h c).ts) (
 pub attach-reply : (d : Deployed) (h : List Entry) (c j : ℕ) → IsValid d → IsRun d h → seat d h c ≡ None → site_answer d j (site_state d h j) (given.Attach (carrying h c)) ≡ answer d h (act.Attach c j)
 unfolding site_answer answer attach_to may_attach
 attach-reply d h c j v run e =
-    ap (λ (o : Outlook). unless (not (may_come d o (carrying h c) j)) why.NotYet ans.Attached) (outlook-agrees d h j v run) ∙
-    sym (ap (λ (o : Option ℕ). unless (is_some o) why.Joined (unless (not (may_come d (outlook_at d h j) (carrying h c) j)) why.NotYet ans.Attached)) e)
+    ap (λ (o : Outlook). refused_if (not (may_come d o (carrying h c) j)) why.NotYet ans.Attached) (outlook-agrees d h j v run) ∙
+    sym (ap (λ (o : Option ℕ). refused_if (is_some o) why.Joined (refused_if (not (may_come d (outlook_at d h j) (carrying h c) j)) why.NotYet ans.Attached)) e)
 
 length-join : {X : Type 0} (xs ys : List X) → length (xs ++ ys) ≡ length xs + length ys
 length-join [] ys = omega arith
@@ -115,7 +114,7 @@ unfolding site_answer answer emit_of
 emit-reply d h i v run = ap (λ (o : Option Label). elim o [ None ↦ ans.Refused why.Idle | Some l ↦ ans.Emitted l ]) (ready-agrees d h i v run)
 
 abbrev pulse_by : ℕ → Option Label → ℕ → ℕ → Answer
-pulse_by i o t p = unless (is_some o || nat_le t p) why.Idle (ans.Pulsed (record { point = point_at t i 65534; kind = kind.Pulse }))
+pulse_by i o t p = refused_if (is_some o || nat_le t p) why.Idle (ans.Pulsed (record { point = point_at t i 65534; kind = kind.Pulse }))
 
 pub pulse-reply : (d : Deployed) (h : List Entry) (i : ℕ) → IsValid d → IsRun d h → site_answer d i (site_state d h i) given.Pulse ≡ answer d h (act.Pulse i)
 unfolding site_answer answer pulse_of
@@ -125,7 +124,7 @@ pulse-reply d h i v run =
     (ap (λ (t : ℕ). pulse_by i (ready d h i) t s.sink.pulse) (stable-agrees d h i run) ∙ ap (λ (p : ℕ). pulse_by i (ready d h i) (stable d h i) p) (pulse-agrees d h i run))
 
 abbrev turn_by : Bool → Option Label → List Label → Answer
-turn_by m o w = unless m why.StampOrder (elim o [ None ↦ ans.Refused why.Empty | Some l ↦ turned w l ])
+turn_by m o w = refused_if m why.StampOrder (elim o [ None ↦ ans.Refused why.Empty | Some l ↦ turned w l ])
 
 pub turn-reply : (d : Deployed) (h : List Entry) (j : ℕ) → IsValid d → IsRun d h → site_answer d j (site_state d h j) (given.Turn (turn_front d h j)) ≡ answer d h (act.Turn j)
 unfolding site_answer answer turn_of turn_front
@@ -134,12 +133,12 @@ turn-reply d h j v run =
     ap (λ (m : Bool). turn_by m (turn_front d h j) (waiting_of s)) (mode-agrees d h j run) ∙ (ap (turn_by (in_stamp_mode d h j) (turn_front d h j)) (waiting-agrees d h j v run) ∙ tree (tree_of d (view h j)))
   where
     nodes : (t : TreeShape) (o : Option NodeId) → turn_by (in_stamp_mode d h j) (elim o [ None ↦ None | Some z ↦ link_front d h (view h j) t z (Site j) ]) (waiting h j) ≡
-        unless (in_stamp_mode d h j) why.StampOrder (elim o [ None ↦ ans.Refused why.Empty | Some z ↦ elim (link_front d h (view h j) t z (Site j)) [ None ↦ ans.Refused why.Empty | Some l ↦ turned (waiting h j) l ] ])
+        refused_if (in_stamp_mode d h j) why.StampOrder (elim o [ None ↦ ans.Refused why.Empty | Some z ↦ elim (link_front d h (view h j) t z (Site j)) [ None ↦ ans.Refused why.Empty | Some l ↦ turned (waiting h j) l ] ])
     nodes t None = refl
     nodes t (Some z) = refl
 
     tree : (o : Option TreeShape) → turn_by (in_stamp_mode d h j) (elim o [ None ↦ None | Some t ↦ elim (seat_in d (view h j) j) [ None ↦ None | Some z ↦ link_front d h (view h j) t z (Site j) ] ]) (waiting h j) ≡
-        unless (in_stamp_mode d h j) why.StampOrder (elim o [
+        refused_if (in_stamp_mode d h j) why.StampOrder (elim o [
           | None ↦ ans.Refused why.Empty
           | Some t ↦ elim (seat_in d (view h j) j) [ None ↦ ans.Refused why.Empty | Some z ↦ elim (link_front d h (view h j) t z (Site j)) [ None ↦ ans.Refused why.Empty | Some l ↦ turned (waiting h j) l ] ]
         ])
@@ -147,7 +146,7 @@ turn-reply d h j v run =
     tree (Some t) = nodes t (seat_in d (view h j) j)
 
 pub bulk-reply : (d : Deployed) (h : List Entry) (i g j : ℕ) (o : Option ℕ) (l : Label) → IsValid d → IsRun d h → slice_get (lane d h i g j) (given_number d h i g j o) ≡ Some l →
-    site_answer d j (site_state d h j) (given.Bulk i g (given_number d h i g j o) (payload_of h l)) ≡ answer d h (act.Bulk i g j o)
+    site_answer d j (site_state d h j) (given.Bulk i g (given_number d h i g j o) (valued h l)) ≡ answer d h (act.Bulk i g j o)
 unfolding site_answer answer bulk_to bring
 bulk-reply d h i g j o l v run e =
     let w : Window d h i g j ((site_state d h j).proxy.taken i g) = window-agrees d h i g j v run in
@@ -173,7 +172,7 @@ beat-in-reply d h i j n note v run e =
     let s : SiteState = site_state d h j in
     let k : Taken d h i j (s.proxy.beats i) = taken-agrees d h i j run in
     ap (λ (o : Option (ℕ × BeatNote)). beat_by o (numbers_of s i) n) (best-agrees d h j i v run) ∙ (ap (λ (ns : List ℕ). beat_by (best d h j i) ns n) k.numbers ∙
-    sym (ap (λ (b : Bool). unless b why.NoSuch (beat_by (best d h j i) (beats_taken h i j) n)) (inside (length (beats d h i j)) n (get-below (beats d h i j) n note e))))
+    sym (ap (λ (b : Bool). refused_if b why.NoSuch (beat_by (best d h j i) (beats_taken h i j) n)) (inside (length (beats d h i j)) n (get-below (beats d h i j) n note e))))
   where
     inside : (m n : ℕ) → n < m → nat_le m n ≡ false
     inside m n l = grind (arith, nat_tests)
@@ -181,10 +180,10 @@ beat-in-reply d h i j n note v run e =
 pub stamp-reply : (d : Deployed) (h : List Entry) (j : ℕ) → IsValid d → IsRun d h → site_answer d j (site_state d h j) given.Stamp ≡ answer d h (act.Stamp j)
 unfolding site_answer answer stamp_of next_stamp candidate is_past
 stamp-reply d h j v run =
-    ap (λ (o : Outlook). unless (not o.stamp) why.TreeOrder (elim (stamp_next d o j) [ None ↦ ans.Refused why.NotYet | Some l ↦ ans.Shown l ])) (outlook-agrees d h j v run)
+    ap (λ (o : Outlook). refused_if (not o.stamp) why.TreeOrder (elim (stamp_next d o j) [ None ↦ ans.Refused why.NotYet | Some l ↦ ans.Shown l ])) (outlook-agrees d h j v run)
 
 abbrev close_by : Deployed → ℕ → ℕ → Point → Answer
-close_by d e w p = unless (e == length d.plans) why.NoNextEpoch (unless (e == w + 1) why.Behind (ans.Closed e p))
+close_by d e w p = refused_if (e == length d.plans) why.NoNextEpoch (refused_if (e == w + 1) why.Behind (ans.Closed e p))
 
 pub close-reply : (d : Deployed) (h : List Entry) (i : ℕ) → IsValid d → IsRun d h → site_answer d i (site_state d h i) given.Close ≡ answer d h (act.Close i)
 unfolding site_answer answer close_of
@@ -193,7 +192,7 @@ close-reply d h i v run =
     ap (λ (e : ℕ). close_by d e s.views.view (cut_of d i s)) (emission-agrees d h i run) ∙ (ap (λ (w : ℕ). close_by d (emission h i) w (cut_of d i s)) (view-agrees d h i run) ∙ ap (close_by d (emission h i) (view h i)) (cut-agrees d h i v run))
 
 abbrev fall_by : Bool → ℕ → ℕ → Answer
-fall_by m e w = unless m why.StampOrder (unless (e == w) why.NotClosed ans.Fallen)
+fall_by m e w = refused_if m why.StampOrder (refused_if (e == w) why.NotClosed ans.Fallen)
 
 pub fall-reply : (d : Deployed) (h : List Entry) (j : ℕ) → IsRun d h → site_answer d j (site_state d h j) given.Fall ≡ answer d h (act.Fall j)
 unfolding site_answer answer fall_of
@@ -202,7 +201,7 @@ fall-reply d h j run =
     ap (λ (m : Bool). fall_by m s.views.emission s.views.view) (mode-agrees d h j run) ∙ (ap (λ (e : ℕ). fall_by (in_stamp_mode d h j) e s.views.view) (emission-agrees d h j run) ∙ ap (fall_by (in_stamp_mode d h j) (emission h j)) (view-agrees d h j run))
 
 abbrev advance_by : Deployed → ℕ → ℕ → ℕ → Outlook → (ℕ → ℕ → Bool) → Answer
-advance_by d j e w o heard = unless (e == w) why.NotClosed (unless (not (may_pass d o heard j)) why.NotYet (ans.View (w + 1)))
+advance_by d j e w o heard = refused_if (e == w) why.NotClosed (refused_if (not (may_pass d o heard j)) why.NotYet (ans.View (w + 1)))
 
 pub advance-reply : (d : Deployed) (h : List Entry) (j : ℕ) → IsValid d → IsRun d h → site_answer d j (site_state d h j) given.Advance ≡ answer d h (act.Advance j)
 unfolding site_answer answer advance_of may_advance

@@ -11,15 +11,15 @@ use Rattle.sat_act.specs.declared.entry.Entry.{Entry}
 use Rattle.sat_act.specs.Deployed.{Deployed}
 use Rattle.sat_act.specs.Histories.{listed}
 use Rattle.std.proofs.lemmas.Bool.Decides.{nat_tests}
-use Rattle.sat_act.specs.Parts.{promise, last_sent, last_pulse, emission, close_cut, view, fallen, cut, closes_entry, view_entry}
-use Rattle.sat_act.specs.Answers.{took_close, gear_of, base}
+use Rattle.sat_act.specs.Parts.{promise, last_sent, last_pulse, emission, close_cut, view, fallen, cut, closed_epoch_of_entry, view_entry}
+use Rattle.sat_act.specs.Answers.{took_close, gear_of, base, is_close_of}
 use Rattle.sat_act.specs.Runs.{IsRun}
 use Rattle.sat_laws.proofs.Steps.{Step, ticked, clocked, wrote, moved, emitted, pulsed, closed, fell, advanced, took}
 use Rattle.sat_laws.proofs.Runs.{step_of, before_of, entry}
 use Rattle.sat_machine.specs.State.{SiteState}
 use Rattle.sat_machine.specs.Input.{SiteInput}
 use Rattle.sat_machine.specs.Input as given
-use Rattle.sat_machine.specs.Next.{site_next, is_close_of}
+use Rattle.sat_machine.specs.Next.{site_next}
 use Rattle.sat_machine.specs.Replay.{after, handed, site_state, carrying, turn_front}
 use Rattle.sat_machine.proofs.Kept.{kept, at-seat, latest-if, latest-and}
 
@@ -107,10 +107,10 @@ emission-step : (d : Deployed) (h : List Entry) (i : ℕ) (s : SiteState) (a : A
 unfolding after handed site_next emission
 emission-step d h i s a r n k (closed {i = t} p q) = go (t == i) refl
   where
-    go : (b : Bool) → (t == i) ≡ b → (after d i s (if b then Some given.Close else None) r).views.emission ≡ 1 + length (listed (closes_entry i) h ++ elim (if b then Some (emission h t) else None) [ None ↦ [] | Some x ↦ x ∷ [] ])
-    go true e = ap (λ (m : ℕ). m + 1) (same_num t i (emission h) true e refl) ∙ sym (longer (listed (closes_entry i) h) (emission h t))
-    go false e = k ∙ same-count (listed (closes_entry i) h)
-emission-step d h i s a r n k _ = kept (λ s. s.views.emission) d i s (handed d h a i) r (λ input. refl) ∙ (k ∙ same-count (listed (closes_entry i) h))
+    go : (b : Bool) → (t == i) ≡ b → (after d i s (if b then Some given.Close else None) r).views.emission ≡ 1 + length (listed (closed_epoch_of_entry i) h ++ elim (if b then Some (emission h t) else None) [ None ↦ [] | Some x ↦ x ∷ [] ])
+    go true e = ap (λ (m : ℕ). m + 1) (same_num t i (emission h) true e refl) ∙ sym (longer (listed (closed_epoch_of_entry i) h) (emission h t))
+    go false e = k ∙ same-count (listed (closed_epoch_of_entry i) h)
+emission-step d h i s a r n k _ = kept (λ s. s.views.emission) d i s (handed d h a i) r (λ input. refl) ∙ (k ∙ same-count (listed (closed_epoch_of_entry i) h))
 
 pub emission-agrees : (d : Deployed) (h : List Entry) (i : ℕ) → IsRun d h → (site_state d h i).views.emission ≡ emission h i
 unfolding site_state emission

@@ -1,12 +1,10 @@
 -- A site's step is what the history says: its answer is the entry's, and its state then stands for the history with the entry.
 use Rattle.std.specs.Prelude.{◌≡◌, ℕ, Bool, true, false, List, [], ◌∷◌, ◌++◌, Option, Some, None, slice_get, ◌==◌, if◌then◌else◌, refl}
-use Rattle.std.proofs.Common.{sym, subst, ap, ◌∙◌, arith, inl, inr}
-use Rattle.std.proofs.lemmas.Bool.Decides.{nat_tests}
+use Rattle.std.proofs.Common.{sym, subst, ap, ◌∙◌, inl, inr}
+use Rattle.std.proofs.lemmas.Bool.{eqb-true}
 use Rattle.sat_act.specs.declared.act.Act.{Act}
 use Rattle.sat_act.specs.declared.act.Act.TheVariants as act
 use Rattle.sat_act.specs.declared.answer.Answer.{Answer}
-use Rattle.sat_act.specs.declared.answer.Answer.TheVariants as ans
-use Rattle.sat_act.specs.declared.answer.Refusal.{Refusal}
 use Rattle.sat_act.specs.declared.entry.Entry.{Entry}
 use Rattle.sat_act.specs.Deployed.{Deployed}
 use Rattle.sat_act.specs.Parts.{seat, lane, beats}
@@ -22,17 +20,14 @@ use Rattle.sat_machine.specs.Next.{site_next}
 use Rattle.sat_machine.specs.Reply.{site_answer, site_step}
 use Rattle.sat_machine.specs.Replay.{after, handed, site_state, carrying, given_at, given_seat, given_number, turn_front}
 use Rattle.sat_machine.specs.Journal.{Noted, noted, journal, replay, IsJournal}
-use Rattle.sat_machine.proofs.Lanes.{payload_of}
 use Rattle.sat_machine.proofs.Replies.{tick-reply, write-reply, read-reply, move-reply, attach-reply, gather-reply, emit-reply, pulse-reply, turn-reply, bulk-reply, beat-reply, beat-in-reply, stamp-reply, close-reply, fall-reply, advance-reply}
-
-num_is : (a b : ℕ) → (a == b) ≡ true → a ≡ b
-num_is a b e = grind (arith, nat_tests)
+use Rattle.sat_machine.specs.Parts.{valued}
 
 given-is : (t i : ℕ) (x input : SiteInput) → given_at t i x ≡ Some input → (t ≡ i) × (x ≡ input)
 given-is t i x input e = go (t == i) refl e
   where
     go : (b : Bool) → (t == i) ≡ b → (if b then Some x else None) ≡ Some input → (t ≡ i) × (x ≡ input)
-    go true w e = (num_is t i w, some_is x input e)
+    go true w e = (eqb-true t i w, some_is x input e)
     go false w e = absurd (cc)
 
 module _ (d : Deployed) (h : List Entry) (a : Act) where
@@ -70,7 +65,7 @@ site-replies d h (act.Emit t) i input v run e = here d h _ t i given.Emit input 
 site-replies d h (act.Pulse t) i input v run e = here d h _ t i given.Pulse input e (pulse-reply d h t v run)
 site-replies d h (act.Turn t) i input v run e = here d h _ t i (given.Turn (turn_front d h t)) input e (turn-reply d h t v run)
 site-replies d h (act.Bulk k g j o) i input v run e =
-    finds d h _ (slice_get (lane d h k g j) (given_number d h k g j o)) i j (λ l. given.Bulk k g (given_number d h k g j o) (payload_of h l)) input e (λ l w. bulk-reply d h k g j o l v run w)
+    finds d h _ (slice_get (lane d h k g j) (given_number d h k g j o)) i j (λ l. given.Bulk k g (given_number d h k g j o) (valued h l)) input e (λ l w. bulk-reply d h k g j o l v run w)
 site-replies d h (act.Beat t j) i input v run e = here d h _ t i (given.Beat j) input e (beat-reply d h t j v run)
 site-replies d h (act.BeatIn k j n) i input v run e = finds d h _ (slice_get (beats d h k j) n) i j (λ b. given.BeatIn k n b) input e (λ b w. beat-in-reply d h k j n b v run w)
 site-replies d h (act.Stamp t) i input v run e = here d h _ t i given.Stamp input e (stamp-reply d h t v run)
@@ -104,19 +99,6 @@ site-steps d h e i input v run k =
 pub site-stays : (d : Deployed) (h : List Entry) (e : Entry) (i : ℕ) → handed d h e.act i ≡ None → site_state d (e ∷ h) i ≡ site_state d h i
 unfolding site_state after
 site-stays d h e i k = ap (λ (o : Option SiteInput). after d i (site_state d h i) o e.answer) k
-
--- a refused act changes nothing, nor do Again and Old
-pub refused-stays : (d : Deployed) (i : ℕ) (s : SiteState) (input : SiteInput) (r : Refusal) → site_next d i s input (ans.Refused r) ≡ s
-unfolding site_next
-refused-stays d i s input r = refl
-
-pub again-stays : (d : Deployed) (i : ℕ) (s : SiteState) (input : SiteInput) → site_next d i s input ans.Again ≡ s
-unfolding site_next
-again-stays d i s input = refl
-
-pub old-stays : (d : Deployed) (i : ℕ) (s : SiteState) (input : SiteInput) → site_next d i s input ans.Old ≡ s
-unfolding site_next
-old-stays d i s input = refl
 
 -- ---- journals
 

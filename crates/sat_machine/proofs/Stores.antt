@@ -1,7 +1,8 @@
 -- The store keeps the history's versions, with the values of their writes.
-use Rattle.std.specs.Prelude.{◌≡◌, ℕ, ◌+◌, Bool, true, false, ◌&&◌, ◌||◌, List, [], ◌∷◌, ◌++◌, Option, Some, None, ◌==◌, if◌then◌else◌, refl}
+use Rattle.std.specs.Prelude.{◌≡◌, ℕ, ◌+◌, Bool, true, false, ◌&&◌, List, [], ◌∷◌, ◌++◌, Option, Some, None, ◌==◌, if◌then◌else◌, refl}
 use Rattle.std.proofs.Common.{sym, subst, ap, ◌∙◌, arith, inl, inr}
 use Rattle.std.proofs.lemmas.Bool.Decides.{nat_tests}
+use Rattle.std.proofs.lemmas.Bool.{and_from, or_parts, false_from_ne_true}
 use Rattle.sat_label.specs.declared.label.Label.{Label}
 use Rattle.sat_label.specs.declared.point.Point.{Point}
 use Rattle.sat_label.specs.declared.label.Kind.{Kind}
@@ -21,8 +22,7 @@ use Rattle.sat_act.specs.Goals.{Made, IsValid}
 use Rattle.sat_laws.proofs.Steps.{Step, wrote, showed_turn, showed_stamp}
 use Rattle.sat_laws.proofs.Runs.{step_of, before_of, entry}
 use Rattle.sat_laws.proofs.Labels.{some_is}
-use Rattle.sat_laws.proofs.Members.{In, same-label, has-in, listed-gives}
-use Rattle.sat_laws.proofs.Sinks.{label_lt-trans, label_lt-self, not_true}
+use Rattle.sat_laws.proofs.Members.{listed-gives}
 use Rattle.sat_laws.proofs.Shows.{shows-is, next-stamp-waits, candidate-least}
 use Rattle.sat_laws.proofs.Links.{tail_of}
 use Rattle.sat_bulk.specs.declared.Payload.{Payload}
@@ -34,29 +34,21 @@ use Rattle.sat_machine.specs.Next.{site_next, payload_at, put}
 use Rattle.sat_machine.specs.Replay.{after, handed, site_state, carrying, turn_front}
 use Rattle.sat_machine.proofs.Kept.{kept, at-seat}
 use Rattle.sat_machine.proofs.Lists.{plain}
-use Rattle.sat_machine.proofs.Lanes.{payload_of}
+use Rattle.sat_machine.specs.Parts.{valued, valued_version}
 use Rattle.sat_laws.proofs.Values.{value-new, value-stays}
 use Rattle.sat_machine.proofs.Pools.{waiting-value}
-
-abbrev pub stored : List Entry → Option Label → Option Payload
-stored h o = elim o [ None ↦ None | Some l ↦ Some (payload_of h l) ]
+use Rattle.sat_label.specs.Members.{In}
+use Rattle.sat_label.proofs.Orders.{same-label, label_lt-trans, label_lt-self}
+use Rattle.sat_label.proofs.Members.{has-in}
 
 -- ---- the greatest label of a list that grows at its end
 
 abbrev up : Label → Option Label → Option Label
 up y o = elim o [ None ↦ Some y | Some m ↦ if label_lt m y then Some y else Some m ]
 
-or_parts : (a b : Bool) → (a || b) ≡ false → (a ≡ false) × (b ≡ false)
-or_parts true b e = absurd (cc)
-or_parts false b e = (refl, e)
-
 and_true : (a b : Bool) → a ≡ true → (a && b) ≡ false → b ≡ false
 and_true true b e f = f
 and_true false b e f = absurd (cc)
-
-both : (a b : Bool) → a ≡ true → b ≡ true → (a && b) ≡ true
-both true b e f = f
-both false b e f = absurd (cc)
 
 points-connex : (p q : Point) → point_lt p q ≡ false → point_lt q p ≡ false → point_eq p q ≡ true
 points-connex p q a b = grind (arith, nat_tests)
@@ -72,10 +64,10 @@ connex a b p q =
     let x : (point_lt a.point b.point ≡ false) × ((point_eq a.point b.point && kind_lt a.kind b.kind) ≡ false) = or_parts _ _ p in
     let y : (point_lt b.point a.point ≡ false) × ((point_eq b.point a.point && kind_lt b.kind a.kind) ≡ false) = or_parts _ _ q in
     let z : point_eq a.point b.point ≡ true = points-connex a.point b.point x.0 y.0 in
-    same-label a b (both _ _ z (kinds-connex a.kind b.kind (and_true _ _ z x.1) (and_true _ _ (point-sym a.point b.point z) y.1)))
+    same-label a b (and_from _ _ z (kinds-connex a.kind b.kind (and_true _ _ z x.1) (and_true _ _ (point-sym a.point b.point z) y.1)))
 
 asym : (a b : Label) → label_lt a b ≡ true → label_lt b a ≡ false
-asym a b p = not_true (label_lt b a) (λ q. let w : label_lt a a ≡ true = label_lt-trans a b a p q in let v : label_lt a a ≡ false = label_lt-self a in cc)
+asym a b p = false_from_ne_true (label_lt b a) (λ q. let w : label_lt a a ≡ true = label_lt-trans a b a p q in let v : label_lt a a ≡ false = label_lt-self a in cc)
 
 two : (y l : Label) → up y (Some l) ≡ up l (Some y)
 two y l = go (label_lt l y) (label_lt y l) refl refl
@@ -99,8 +91,8 @@ three y m l = go (label_lt m l) (label_lt m y) refl refl
 
     go : (b c : Bool) → label_lt m l ≡ b → label_lt m y ≡ c → up y (if b then Some l else Some m) ≡ up l (if c then Some y else Some m)
     go true true e f = two y l
-    go true false e f = side (label_lt l y) y l (not_true (label_lt l y) (λ k. let w : label_lt m y ≡ true = label_lt-trans m l y e k in cc)) ∙ sym (front (label_lt m l) l m e)
-    go false true e f = front (label_lt m y) y m f ∙ sym (side (label_lt y l) l y (not_true (label_lt y l) (λ k. let w : label_lt m l ≡ true = label_lt-trans m y l f k in cc)))
+    go true false e f = side (label_lt l y) y l (false_from_ne_true (label_lt l y) (λ k. let w : label_lt m y ≡ true = label_lt-trans m l y e k in cc)) ∙ sym (front (label_lt m l) l m e)
+    go false true e f = front (label_lt m y) y m f ∙ sym (side (label_lt y l) l y (false_from_ne_true (label_lt y l) (λ k. let w : label_lt m l ≡ true = label_lt-trans m y l f k in cc)))
     go false false e f = side (label_lt m y) y m f ∙ sym (side (label_lt m l) l m e)
 
 swap : (y l : Label) (o : Option Label) → up y (up l o) ≡ up l (up y o)
@@ -135,23 +127,23 @@ greatest-in p (y ∷ S) l e = go (p y) (greatest_label p S) (λ m. greatest-in p
 
 -- ---- the store
 
-put-is : (h : List Entry) (l : Label) (o : Option Label) → put (stored h o) (payload_of h l) ≡ stored h (up l o)
+put-is : (h : List Entry) (l : Label) (o : Option Label) → put (valued_version h o) (valued h l) ≡ valued_version h (up l o)
 put-is h l None = refl
 put-is h l (Some m) = go (label_lt m l)
   where
-    go : (b : Bool) → (if b then Some (payload_of h l) else Some (payload_of h m)) ≡ stored h (if b then Some l else Some m)
+    go : (b : Bool) → (if b then Some (valued h l) else Some (valued h m)) ≡ valued_version h (if b then Some l else Some m)
     go true = refl
     go false = refl
 
 put-if : (h : List Entry) (l : Label) (b c : Bool) (p : Label → Bool) (S : List Label) → p l ≡ c →
-    (if b then (if c then put (stored h (greatest_label p S)) (payload_of h l) else stored h (greatest_label p S)) else stored h (greatest_label p S)) ≡ stored h (greatest_label p (S ++ tail_of (if b then Some l else None)))
-put-if h l true c p S e = sym (ap (stored h) (greatest-more p S l) ∙ go c (p l) e)
+    (if b then (if c then put (valued_version h (greatest_label p S)) (valued h l) else valued_version h (greatest_label p S)) else valued_version h (greatest_label p S)) ≡ valued_version h (greatest_label p (S ++ tail_of (if b then Some l else None)))
+put-if h l true c p S e = sym (ap (valued_version h) (greatest-more p S l) ∙ go c (p l) e)
   where
-    go : (c b : Bool) → b ≡ c → stored h (if b then up l (greatest_label p S) else greatest_label p S) ≡ (if c then put (stored h (greatest_label p S)) (payload_of h l) else stored h (greatest_label p S))
+    go : (c b : Bool) → b ≡ c → valued_version h (if b then up l (greatest_label p S) else greatest_label p S) ≡ (if c then put (valued_version h (greatest_label p S)) (valued h l) else valued_version h (greatest_label p S))
     go true true w = sym (put-is h l (greatest_label p S))
     go false false w = refl
     go _ _ w = absurd (cc)
-put-if h l false c p S e = ap (λ (ls : List Label). stored h (greatest_label p ls)) (sym (plain S))
+put-if h l false c p S e = ap (λ (ls : List Label). valued_version h (greatest_label p ls)) (sym (plain S))
 
 pick : {X : Type 0} (G : Option SiteInput → X) (input : SiteInput) (b : Bool) (y z : X) → G None ≡ z → G (Some input) ≡ y → G (if b then Some input else None) ≡ (if b then y else z)
 pick G input true y z e f = f
@@ -164,17 +156,17 @@ old-value : (h : List Entry) (a : Act) (l m : Label) (n : Bool) → value_of (en
 unfolding value_of
 old-value h a l m n = refl
 
-store-step : (d : Deployed) (h : List Entry) (j x : ℕ) (s : SiteState) (a : Act) (r : Answer) (n : Bool) → s.store x ≡ stored (entry a r n ∷ h) (version h j x) → Step d h a r →
+store-step : (d : Deployed) (h : List Entry) (j x : ℕ) (s : SiteState) (a : Act) (r : Answer) (n : Bool) → s.store x ≡ valued_version (entry a r n ∷ h) (version h j x) → Step d h a r →
     ((l : Label) → In (waiting h j) l → payload_in s.proxy.pool l ≡ value_of h l) →
-    (after d j s (handed d h a j) r).store x ≡ stored (entry a r n ∷ h) (version (entry a r n ∷ h) j x)
+    (after d j s (handed d h a j) r).store x ≡ valued_version (entry a r n ∷ h) (version (entry a r n ∷ h) j x)
 unfolding after handed site_next version shown
 store-step d h j x s a r n k (wrote {c = c} {x = y} {i = t} {value = v} p q w) u =
     let l : Label = record { point = point_at (base h c t (gear_of d y) + 1) t (gear_of d y); kind = kind.Update y } in
     let h' : List Entry = entry a r n ∷ h in
     let S : List Label = listed (shown_entry j) h in
     at-seat (λ o. (after d j s o r).store x) _ j t (given.Write (carrying h c) y v) _ p
-    (pick (λ o. (after d j s o r).store x) (given.Write (carrying h c) y v) (t == j) (if y == x then put (stored h' (greatest_label (λ l. is_update_of l.kind x) S)) (payload_of h' l) else stored h' (greatest_label (λ l. is_update_of l.kind x) S)) (stored h' (greatest_label (λ l. is_update_of l.kind x) S)) k
-    (ap (λ (o : Option Payload). if y == x then put o (payload_at l v) else o) k ∙ ap (λ (z : List ℕ). if y == x then put (stored h' (greatest_label (λ l. is_update_of l.kind x) S)) (payload_at l z) else stored h' (greatest_label (λ l. is_update_of l.kind x) S)) (sym (value-new h l n c y v)))
+    (pick (λ o. (after d j s o r).store x) (given.Write (carrying h c) y v) (t == j) (if y == x then put (valued_version h' (greatest_label (λ l. is_update_of l.kind x) S)) (valued h' l) else valued_version h' (greatest_label (λ l. is_update_of l.kind x) S)) (valued_version h' (greatest_label (λ l. is_update_of l.kind x) S)) k
+    (ap (λ (o : Option Payload). if y == x then put o (payload_at l v) else o) k ∙ ap (λ (z : List ℕ). if y == x then put (valued_version h' (greatest_label (λ l. is_update_of l.kind x) S)) (payload_at l z) else valued_version h' (greatest_label (λ l. is_update_of l.kind x) S)) (sym (value-new h l n c y v)))
     ∙ put-if h' l (t == j) (y == x) (λ l. is_update_of l.kind x) S refl)
 store-step d h j x s a r n k (showed_turn {j = t} {l = l} p q w y z e) u = go (t == j) refl
   where
@@ -187,10 +179,10 @@ store-step d h j x s a r n k (showed_turn {j = t} {l = l} p q w y z e) u = go (t
     num : (a b : ℕ) → (a == b) ≡ true → a ≡ b
     num a b e = grind (arith, nat_tests)
 
-    go : (b : Bool) → (t == j) ≡ b → (after d j s (if b then Some (given.Turn (turn_front d h t)) else None) (ans.Shown l)).store x ≡ stored h' (greatest_label (λ l. is_update_of l.kind x) (S ++ tail_of (if b then Some l else None)))
+    go : (b : Bool) → (t == j) ≡ b → (after d j s (if b then Some (given.Turn (turn_front d h t)) else None) (ans.Shown l)).store x ≡ valued_version h' (greatest_label (λ l. is_update_of l.kind x) (S ++ tail_of (if b then Some l else None)))
     go true w =
         ap (λ (o : Option Payload). if is_update_of l.kind x then put o (payload_at l (payload_in s.proxy.pool l)) else o) k ∙
-        (ap (λ (v : List ℕ). if is_update_of l.kind x then put (stored h' (greatest_label (λ l. is_update_of l.kind x) S)) (payload_at l v) else stored h' (greatest_label (λ l. is_update_of l.kind x) S)) (u l (has-in (waiting h j) l (subst (λ (i : ℕ). has label_eq (waiting h i) l ≡ true) (num t j w) e)) ∙ sym (old-value h a l l n)) ∙
+        (ap (λ (v : List ℕ). if is_update_of l.kind x then put (valued_version h' (greatest_label (λ l. is_update_of l.kind x) S)) (payload_at l v) else valued_version h' (greatest_label (λ l. is_update_of l.kind x) S)) (u l (has-in (waiting h j) l (subst (λ (i : ℕ). has label_eq (waiting h i) l ≡ true) (num t j w) e)) ∙ sym (old-value h a l l n)) ∙
         put-if h' l true (is_update_of l.kind x) (λ l. is_update_of l.kind x) S refl)
     go false w = k ∙ put-if h' l false (is_update_of l.kind x) (λ l. is_update_of l.kind x) S refl
 store-step d h j x s a r n k (showed_stamp {j = t} {l = l} p q) u = go (t == j) refl
@@ -204,16 +196,16 @@ store-step d h j x s a r n k (showed_stamp {j = t} {l = l} p q) u = go (t == j) 
     num : (a b : ℕ) → (a == b) ≡ true → a ≡ b
     num a b e = grind (arith, nat_tests)
 
-    go : (b : Bool) → (t == j) ≡ b → (after d j s (if b then Some given.Stamp else None) (ans.Shown l)).store x ≡ stored h' (greatest_label (λ l. is_update_of l.kind x) (S ++ tail_of (if b then Some l else None)))
+    go : (b : Bool) → (t == j) ≡ b → (after d j s (if b then Some given.Stamp else None) (ans.Shown l)).store x ≡ valued_version h' (greatest_label (λ l. is_update_of l.kind x) (S ++ tail_of (if b then Some l else None)))
     go true w =
         ap (λ (o : Option Payload). if is_update_of l.kind x then put o (payload_at l (payload_in s.proxy.pool l)) else o) k ∙
-        (ap (λ (v : List ℕ). if is_update_of l.kind x then put (stored h' (greatest_label (λ l. is_update_of l.kind x) S)) (payload_at l v) else stored h' (greatest_label (λ l. is_update_of l.kind x) S)) (u l (subst (λ (i : ℕ). In (waiting h i) l) (num t j w) (stamp-waits d h t l q)) ∙ sym (old-value h a l l n)) ∙
+        (ap (λ (v : List ℕ). if is_update_of l.kind x then put (valued_version h' (greatest_label (λ l. is_update_of l.kind x) S)) (payload_at l v) else valued_version h' (greatest_label (λ l. is_update_of l.kind x) S)) (u l (subst (λ (i : ℕ). In (waiting h i) l) (num t j w) (stamp-waits d h t l q)) ∙ sym (old-value h a l l n)) ∙
         put-if h' l true (is_update_of l.kind x) (λ l. is_update_of l.kind x) S refl)
     go false w = k ∙ put-if h' l false (is_update_of l.kind x) (λ l. is_update_of l.kind x) S refl
 store-step d h j x s a r n k _ u =
-    kept (λ s. s.store x) d j s (handed d h a j) r (λ input. refl) ∙ (k ∙ ap (λ (ls : List Label). stored (entry a r n ∷ h) (greatest_label (λ l. is_update_of l.kind x) ls)) (sym (plain (listed (shown_entry j) h))))
+    kept (λ s. s.store x) d j s (handed d h a j) r (λ input. refl) ∙ (k ∙ ap (λ (ls : List Label). valued_version (entry a r n ∷ h) (greatest_label (λ l. is_update_of l.kind x) ls)) (sym (plain (listed (shown_entry j) h))))
 
-stored-stays : (d : Deployed) (h : List Entry) (e : Entry) (o : Option Label) → IsValid d → IsRun d (e ∷ h) → ((l : Label) → o ≡ Some l → Made h l) → stored h o ≡ stored (e ∷ h) o
+stored-stays : (d : Deployed) (h : List Entry) (e : Entry) (o : Option Label) → IsValid d → IsRun d (e ∷ h) → ((l : Label) → o ≡ Some l → Made h l) → valued_version h o ≡ valued_version (e ∷ h) o
 stored-stays d h e None v run k = refl
 stored-stays d h e (Some l) v run k = ap (λ (w : List ℕ). Some (payload_at l w)) (sym (value-stays d h e l v run (k l refl)))
 
@@ -221,7 +213,7 @@ version-made : (d : Deployed) (h : List Entry) (j x : ℕ) (l : Label) → IsRun
 unfolding version shown
 version-made d h j x l run e = (shows-is d h j l run (listed-gives (shown_entry j) h l (greatest-in (λ l. is_update_of l.kind x) (listed (shown_entry j) h) l e))).made
 
-pub store-agrees : (d : Deployed) (h : List Entry) (j x : ℕ) → IsValid d → IsRun d h → (site_state d h j).store x ≡ stored h (version h j x)
+pub store-agrees : (d : Deployed) (h : List Entry) (j x : ℕ) → IsValid d → IsRun d h → (site_state d h j).store x ≡ valued_version h (version h j x)
 unfolding site_state
 store-agrees d [] j x v run = unfold version shown greatest_label in refl
 store-agrees d (e ∷ h) j x v run =

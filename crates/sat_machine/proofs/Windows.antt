@@ -3,6 +3,8 @@ use Rattle.std.specs.Prelude.{◌≡◌, ◌⊎◌, ℕ, zero, suc, ◌+◌, ◌
 use Rattle.std.specs.List.{prefix_len}
 use Rattle.std.proofs.Common.{sym, subst, ap, ◌∙◌, arith, inl, inr}
 use Rattle.std.proofs.lemmas.Bool.Decides.{nat_tests}
+use Rattle.std.proofs.lemmas.Bool.{eqb-true, false_from_ne_true}
+use Rattle.sat_label.proofs.Truth.{same-number, same-test}
 use Rattle.sat_label.specs.declared.label.Label.{Label}
 use Rattle.sat_label.specs.Order.{label_eq}
 use Rattle.sat_label.specs.Words.{has}
@@ -16,14 +18,14 @@ use Rattle.sat_act.specs.Deployed.{Deployed}
 use Rattle.sat_act.specs.Done.{made_in}
 use Rattle.sat_act.specs.Histories.{listed}
 use Rattle.sat_act.specs.Parts.{lane, lane_entry, made_entry, is_target, is_update, brought, brought_entry, lane_front}
-use Rattle.sat_act.specs.Answers.{answer, bulk_to, bring, next_of_lane}
+use Rattle.sat_act.specs.Answers.{answer, bulk_to, bring}
 use Rattle.sat_act.specs.Runs.{IsRun, IsAnswer}
 use Rattle.sat_act.specs.Goals.{Gives, Made, IsValid}
 use Rattle.sat_laws.proofs.Steps.{Step, brought_now}
 use Rattle.sat_laws.proofs.Runs.{step_of, before_of, entry}
 use Rattle.sat_laws.proofs.Labels.{some_is, made-new}
-use Rattle.sat_laws.proofs.Members.{In, In-get, same-label, label-self, has-in, listed-gives}
-use Rattle.sat_laws.proofs.Sinks.{not_true, kept as kept_label}
+use Rattle.sat_laws.proofs.Members.{listed-gives}
+use Rattle.sat_laws.proofs.Sinks.{kept as kept_label}
 use Rattle.sat_laws.proofs.Shows.{in-lane, brings-for}
 use Rattle.sat_laws.proofs.Links.{get-cases, tail_of}
 use Rattle.sat_bulk.specs.declared.Payload.{Payload}
@@ -35,7 +37,10 @@ use Rattle.sat_machine.specs.Next.{site_next}
 use Rattle.sat_machine.specs.Replay.{after, handed, site_state, given_number, given_at}
 use Rattle.sat_machine.proofs.Kept.{kept}
 use Rattle.sat_machine.proofs.Lists.{plain, has-join}
-use Rattle.sat_machine.proofs.Lanes.{payload_of}
+use Rattle.sat_label.specs.Members.{In}
+use Rattle.sat_label.proofs.Members.{In-get, has-in}
+use Rattle.sat_label.proofs.Orders.{same-label, label_eq-self}
+use Rattle.sat_machine.specs.Parts.{valued}
 
 -- ---- which payload a Bulk brings
 
@@ -53,7 +58,7 @@ bring-out d h i g j n l e = go (slice_get (lane d h i g j) n) e
 
 bulk-out : (d : Deployed) (h : List Entry) (i g j : ℕ) (o : Option ℕ) (l : Label) → ans.Brought l ≡ answer d h (act.Bulk i g j o) → slice_get (lane d h i g j) (given_number d h i g j o) ≡ Some l
 unfolding answer bulk_to
-bulk-out d h i g j None l e = bring-out d h i g j (next_of_lane d h i g j) l (sym e)
+bulk-out d h i g j None l e = bring-out d h i g j (lane_front d h i g j) l (sym e)
 bulk-out d h i g j (Some n) l e = bring-out d h i g j n l (sym e)
 
 bulk-answer : (d : Deployed) (h : List Entry) (i g j : ℕ) (o : Option ℕ) (l : Label) → IsAnswer d h (act.Bulk i g j o) (ans.Brought l) → slice_get (lane d h i g j) (given_number d h i g j o) ≡ Some l
@@ -63,29 +68,23 @@ bulk-answer d h i g j o l (inr e) = absurd (let w : act.Bulk i g j o ≡ act.Set
 -- ---- an entry brings a payload to j, or none
 
 pub data Bringing (d : Deployed) (h : List Entry) (x : Entry) (j : ℕ) : Type 0 where
-  brings : (i g n : ℕ) (l : Label) → handed d h x.act j ≡ Some (given.Bulk i g n (payload_of h l)) → x.answer ≡ ans.Brought l → slice_get (lane d h i g j) n ≡ Some l → has label_eq (brought h j) l ≡ false → brought (x ∷ h) j ≡ brought h j ++ l ∷ [] → Bringing d h x j
+  brings : (i g n : ℕ) (l : Label) → handed d h x.act j ≡ Some (given.Bulk i g n (valued h l)) → x.answer ≡ ans.Brought l → slice_get (lane d h i g j) n ≡ Some l → has label_eq (brought h j) l ≡ false → brought (x ∷ h) j ≡ brought h j ++ l ∷ [] → Bringing d h x j
   brings_none : ((l : Label) → x.answer ≡ ans.Brought l → handed d h x.act j ≡ None) → brought (x ∷ h) j ≡ brought h j → Bringing d h x j
 
-self_num : (i : ℕ) → (i == i) ≡ true
-self_num i = grind (arith, nat_tests)
-
-num-is : (a b : ℕ) → (a == b) ≡ true → a ≡ b
-num-is a b e = grind (arith, nat_tests)
-
 abbrev bulk_given : List Entry → ℕ → ℕ → ℕ → ℕ → ℕ → Option Label → Option SiteInput
-bulk_given h i g j n k o = elim o [ None ↦ None | Some l ↦ given_at j k (given.Bulk i g n (payload_of h l)) ]
+bulk_given h i g j n k o = elim o [ None ↦ None | Some l ↦ given_at j k (given.Bulk i g n (valued h l)) ]
 
 brings-here : (d : Deployed) (h : List Entry) (i g j : ℕ) (o : Option ℕ) (l : Label) (n : Bool) → slice_get (lane d h i g j) (given_number d h i g j o) ≡ Some l → has label_eq (brought h j) l ≡ false → Bringing d h (entry (act.Bulk i g j o) (ans.Brought l) n) j
 unfolding handed brought
 brings-here d h i g j o l n e f =
     brings i g (given_number d h i g j o) l
-    (ap (bulk_given h i g j (given_number d h i g j o) j) e ∙ ap (λ (b : Bool). if b then Some (given.Bulk i g (given_number d h i g j o) (payload_of h l)) else None) (self_num j))
-    refl e f (ap (λ (b : Bool). listed (brought_entry j) h ++ tail_of (if b then Some l else None)) (self_num j))
+    (ap (bulk_given h i g j (given_number d h i g j o) j) e ∙ ap (λ (b : Bool). if b then Some (given.Bulk i g (given_number d h i g j o) (valued h l)) else None) (same-number j))
+    refl e f (ap (λ (b : Bool). listed (brought_entry j) h ++ tail_of (if b then Some l else None)) (same-number j))
 
 brings-there : (d : Deployed) (h : List Entry) (i g k j : ℕ) (o : Option ℕ) (l : Label) (n : Bool) → slice_get (lane d h i g k) (given_number d h i g k o) ≡ Some l → (k == j) ≡ false → Bringing d h (entry (act.Bulk i g k o) (ans.Brought l) n) j
 unfolding handed brought
 brings-there d h i g k j o l n e f =
-    brings_none (λ m w. ap (bulk_given h i g k (given_number d h i g k o) j) e ∙ ap (λ (b : Bool). if b then Some (given.Bulk i g (given_number d h i g k o) (payload_of h l)) else None) f)
+    brings_none (λ m w. ap (bulk_given h i g k (given_number d h i g k o) j) e ∙ ap (λ (b : Bool). if b then Some (given.Bulk i g (given_number d h i g k o) (valued h l)) else None) f)
     (ap (λ (b : Bool). listed (brought_entry j) h ++ tail_of (if b then Some l else None)) f ∙ plain (listed (brought_entry j) h))
 
 bringing-step : (d : Deployed) (h : List Entry) (a : Act) (r : Answer) (n : Bool) (j : ℕ) → IsAnswer d h a r → Step d h a r → Bringing d h (entry a r n) j
@@ -93,7 +92,7 @@ unfolding brought
 bringing-step d h a r n j k (brought_now {i = i} {g = g} {j = t} {o = o} {l = l} m p q) = go (t == j) refl
   where
     go : (b : Bool) → (t == j) ≡ b → Bringing d h (entry (act.Bulk i g t o) (ans.Brought l) n) j
-    go true e = subst (λ (u : ℕ). Bringing d h (entry (act.Bulk i g t o) (ans.Brought l) n) u) (num-is t j e) (brings-here d h i g t o l n (bulk-answer d h i g t o l k) q)
+    go true e = subst (λ (u : ℕ). Bringing d h (entry (act.Bulk i g t o) (ans.Brought l) n) u) (eqb-true t j e) (brings-here d h i g t o l n (bulk-answer d h i g t o l k) q)
     go false e = brings-there d h i g t j o l n (bulk-answer d h i g t o l k) e
 bringing-step d h a r n j k _ = brings_none (λ l e. absurd (cc)) (plain (listed (brought_entry j) h))
 
@@ -154,12 +153,6 @@ pub record Window (d : Deployed) (h : List Entry) (i g j : ℕ) (ns : List ℕ) 
   pub known : (n : ℕ) (l : Label) → slice_get (lane d h i g j) n ≡ Some l → has ◌==◌ ns n ≡ has label_eq (brought h j) l
   pub beyond : (n : ℕ) → slice_get (lane d h i g j) n ≡ None → has ◌==◌ ns n ≡ false
 
-bool-same : (a b : Bool) → (a ≡ true → b ≡ true) → (b ≡ true → a ≡ true) → a ≡ b
-bool-same true true f g = refl
-bool-same false false f g = refl
-bool-same true false f g = absurd (let w : false ≡ true = f refl in cc)
-bool-same false true f g = absurd (let w : false ≡ true = g refl in cc)
-
 -- the lane as it was before the entry, the numbers and the labels as they are after it
 record Half (d : Deployed) (h : List Entry) (i g j : ℕ) (ns : List ℕ) (ls : List Label) : Type 0 where
   known : (n : ℕ) (l : Label) → slice_get (lane d h i g j) n ≡ Some l → has ◌==◌ ns n ≡ has label_eq ls l
@@ -167,7 +160,7 @@ record Half (d : Deployed) (h : List Entry) (i g j : ℕ) (ns : List ℕ) (ls : 
 
 same-place : (d : Deployed) (h : List Entry) (i g a b j m n : ℕ) (k l : Label) → IsValid d → IsRun d h → slice_get (lane d h a b j) m ≡ Some k → slice_get (lane d h i g j) n ≡ Some l →
     (((a == i) && (b == g)) && (m == n)) ≡ label_eq k l
-same-place d h i g a b j m n k l v run p q = bool-same _ _ there back
+same-place d h i g a b j m n k l v run p q = same-test _ _ there back
   where
     three : (((a == i) && (b == g)) && (m == n)) ≡ true → (a ≡ i) × (b ≡ g) × (m ≡ n)
     three e = grind (arith, nat_tests)
@@ -179,7 +172,7 @@ same-place d h i g a b j m n k l v run p q = bool-same _ _ there back
     there e =
         let w : (a ≡ i) × (b ≡ g) × (m ≡ n) = three e in
         let y : slice_get (lane d h i g j) n ≡ Some k = subst (λ (n : ℕ). slice_get (lane d h i g j) n ≡ Some k) w.2 (subst (λ (g : ℕ). slice_get (lane d h i g j) m ≡ Some k) w.1 (subst (λ (i : ℕ). slice_get (lane d h i b j) m ≡ Some k) w.0 p)) in
-        subst (λ (z : Label). label_eq k z ≡ true) (some_is k l (sym y ∙ q)) (label-self k)
+        subst (λ (z : Label). label_eq k z ≡ true) (some_is k l (sym y ∙ q)) (label_eq-self k)
 
     back : label_eq k l ≡ true → (((a == i) && (b == g)) && (m == n)) ≡ true
     back e =
@@ -217,7 +210,7 @@ half-brings : (d : Deployed) (h : List Entry) (i g a b j m : ℕ) (k : Label) (n
 half-brings d h i g a b j m k ns v run p w = record {
   known = λ n l q. taken-has ((a == i) && (b == g)) ns m n ∙ (ap (λ (x : Bool). x || (((a == i) && (b == g)) && (m == n))) (w.known n l q) ∙
       (ap (λ (x : Bool). has label_eq (brought h j) l || x) (same-place d h i g a b j m n k l v run p q) ∙ sym (label-has (brought h j) k l)));
-  beyond = λ n q. taken-has ((a == i) && (b == g)) ns m n ∙ (ap (λ (x : Bool). x || (((a == i) && (b == g)) && (m == n))) (w.beyond n q) ∙ not_true (((a == i) && (b == g)) && (m == n)) (other n q));
+  beyond = λ n q. taken-has ((a == i) && (b == g)) ns m n ∙ (ap (λ (x : Bool). x || (((a == i) && (b == g)) && (m == n))) (w.beyond n q) ∙ false_from_ne_true (((a == i) && (b == g)) && (m == n)) (other n q));
 }
   where
     three : (n : ℕ) → (((a == i) && (b == g)) && (m == n)) ≡ true → (a ≡ i) × (b ≡ g) × (m ≡ n)
@@ -240,7 +233,7 @@ made-or-brought h a _ n j l p q = cc
 
 pub new-unbrought : (d : Deployed) (h : List Entry) (x : Entry) (j : ℕ) (l : Label) → IsValid d → IsRun d (x ∷ h) → made_in x.answer ≡ Some l → has label_eq (brought (x ∷ h) j) l ≡ false
 unfolding brought Gives
-new-unbrought d h x j l v run m = not_true (has label_eq (brought (x ∷ h) j) l) (λ e.
+new-unbrought d h x j l v run m = false_from_ne_true (has label_eq (brought (x ∷ h) j) l) (λ e.
     elim (listed-gives (brought_entry j) (x ∷ h) l (has-in (brought (x ∷ h) j) l e)) [
       | inl k ↦ made-new d h x l v run m (brings-for d h j l (before_of d h x run) k).made
       | inr k ↦ made-or-brought h x.act x.answer x.inner j l k m
@@ -280,7 +273,7 @@ window-agrees d (x ∷ h) i g j v run =
       | brings a b m l e f p q t ↦
           subst (Half d h i g j ((after d j s (handed d h x.act j) x.answer).proxy.taken i g)) (sym t)
           (subst (λ (ns : List ℕ). Half d h i g j ns (brought h j ++ l ∷ []))
-          (sym (ap (λ (o : Option SiteInput). (after d j s o x.answer).proxy.taken i g) e ∙ (ap (λ (r : Answer). (after d j s (Some (given.Bulk a b m (payload_of h l))) r).proxy.taken i g) f ∙ taken-now d j i g a b m s (payload_of h l) l)))
+          (sym (ap (λ (o : Option SiteInput). (after d j s o x.answer).proxy.taken i g) e ∙ (ap (λ (r : Answer). (after d j s (Some (given.Bulk a b m (valued h l))) r).proxy.taken i g) f ∙ taken-now d j i g a b m s (valued h l) l)))
           (half-brings d h i g a b j m l (s.proxy.taken i g) v (before_of d h x run) p old))
       | brings_none k t ↦
           subst (Half d h i g j ((after d j s (handed d h x.act j) x.answer).proxy.taken i g)) (sym t)

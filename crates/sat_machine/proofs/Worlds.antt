@@ -1,5 +1,5 @@
 -- The world that stands for a history answers as the history does, and then stands for it with the entry.
-use Rattle.std.specs.Prelude.{◌≡◌, ◌<◌, ◌≤◌, ℕ, zero, suc, ◌+◌, Bool, true, false, ◌&&◌, max, nat_le, List, [], ◌∷◌, ◌++◌, length, map, drop, Option, Some, None, is_some, slice_get, ◌==◌, if◌then◌else◌, refl}
+use Rattle.std.specs.Prelude.{◌≡◌, ◌<◌, ◌≤◌, ℕ, zero, suc, ◌+◌, Bool, true, false, max, nat_le, List, [], ◌∷◌, ◌++◌, length, map, drop, Option, Some, None, is_some, slice_get, ◌==◌, if◌then◌else◌, refl}
 use Rattle.std.proofs.Common.{sym, subst, ap, ◌∙◌, arith}
 use Rattle.std.proofs.lemmas.Bool.Decides.{nat_tests}
 use Rattle.std.proofs.lemmas.List.{drop-append-le}
@@ -22,8 +22,8 @@ use Rattle.sat_act.specs.declared.entry.Entry.{Entry}
 use Rattle.sat_act.specs.Deployed.{Deployed}
 use Rattle.sat_act.specs.Done.{is_of, is_kill}
 use Rattle.sat_act.specs.Histories.{listed}
-use Rattle.sat_act.specs.Parts.{BeatNote, Handling, handling, tree_of, promise, view, seat_in, link_front, entered, entered_entry, taken, taken_entry, killed, lane, lane_front, brought, beats, seat, moving, carried}
-use Rattle.sat_act.specs.Answers.{answer, unless, at_seat, write_at, read_at, move_from, attach_to, greatest_promise, hop_to, bulk_to, bring, next_of_lane, beat_in_to}
+use Rattle.sat_act.specs.Parts.{BeatNote, Handling, handling, tree_of, promise, view, seat_in, link_front, entered, entered_entry, taken, taken_entry, killed, lane, lane_front, brought, beats, seat, moving, carried, is_taken, is_put}
+use Rattle.sat_act.specs.Answers.{answer, refused_if, at_seat, write_at, read_at, move_from, attach_to, greatest_promise, hop_to, bulk_to, bring, beat_in_to}
 use Rattle.sat_act.specs.Runs.{IsRun}
 use Rattle.sat_act.specs.Goals.{IsValid}
 use Rattle.sat_laws.proofs.Runs.{before_of, entry}
@@ -33,13 +33,14 @@ use Rattle.sat_machine.specs.Input.{SiteInput}
 use Rattle.sat_machine.specs.Input as given
 use Rattle.sat_machine.specs.Reply.{site_answer}
 use Rattle.sat_machine.specs.Replay.{after, handed, site_state, carrying, given_at, given_number, turn_front}
-use Rattle.sat_machine.specs.World.{WorldState, world_given, world_answer, world_next, world_step, world_state, fresh_world, link_left, link_next, handled_by, takes, puts, front_at, first, greatest_row, clock_of, number_of, payload_from, beat_from, dead_next, point_next, moving_next, seat_next, hop_by}
-use Rattle.sat_machine.proofs.Lanes.{payload_of, lanes-agree}
+use Rattle.sat_machine.specs.World.{WorldState, world_given, world_answer, world_next, world_step, world_state, fresh_world, link_left, link_next, handled_by, front_at, first, greatest_row, clock_of, number_of, payload_from, beat_from, dead_next, point_next, moving_next, seat_next, hop_by}
+use Rattle.sat_machine.proofs.Lanes.{lanes-agree}
 use Rattle.sat_machine.proofs.Lists.{plain}
 use Rattle.sat_machine.proofs.Simple.{promise-agrees, emission-agrees, view-agrees}
 use Rattle.sat_machine.proofs.Windows.{front-agrees}
 use Rattle.sat_machine.proofs.Beating.{made-agrees}
 use Rattle.sat_machine.proofs.Replies.{tick-reply, write-reply, read-reply, move-reply, attach-reply, gather-reply, emit-reply, pulse-reply, turn-reply, bulk-reply, beat-reply, beat-in-reply, stamp-reply, close-reply, fall-reply, advance-reply}
+use Rattle.sat_machine.specs.Parts.{valued}
 
 -- ---- what is handed
 
@@ -91,7 +92,7 @@ unfolding world_state
 front-at-agrees d h j run = ap (front_in_view d h j) (view-agrees d h j run) ∙ front-is d h j
 
 number-agrees : (d : Deployed) (h : List Entry) (i g j : ℕ) (o : Option ℕ) → IsValid d → IsRun d h → number_of (world_state d h) i g j o ≡ given_number d h i g j o
-unfolding world_state next_of_lane lane_front
+unfolding world_state lane_front
 number-agrees d h i g j None v run = front-agrees d h i g j v run
 number-agrees d h i g j (Some n) v run = refl
 
@@ -101,16 +102,16 @@ get-map f (x ∷ xs) zero = refl
 get-map f (x ∷ xs) (suc n) = get-map f xs n
 
 abbrev with_payload : List Entry → Option Label → Option Payload
-with_payload h o = elim o [ None ↦ None | Some l ↦ Some (payload_of h l) ]
+with_payload h o = elim o [ None ↦ None | Some l ↦ Some (valued h l) ]
 
 payload-agrees : (d : Deployed) (h : List Entry) (i g j n : ℕ) → IsValid d → IsRun d h → payload_from (world_state d h) i g j n ≡ with_payload h (slice_get (lane d h i g j) n)
 unfolding world_state
-payload-agrees d h i g j n v run = ap (λ (ps : List Payload). slice_get ps n) (lanes-agree d h i g j v run) ∙ get-map (payload_of h) (lane d h i g j) n
+payload-agrees d h i g j n v run = ap (λ (ps : List Payload). slice_get ps n) (lanes-agree d h i g j v run) ∙ get-map (valued h) (lane d h i g j) n
 
 abbrev bulk_with : {X : Type 0} → X → (Payload → X) → Option Payload → X
 bulk_with x f o = elim o [ None ↦ x | Some p ↦ f p ]
 
-bulk-with : {X : Type 0} (h : List Entry) (x : X) (f : Payload → X) (o : Option Label) → bulk_with x f (with_payload h o) ≡ elim o [ None ↦ x | Some l ↦ f (payload_of h l) ]
+bulk-with : {X : Type 0} (h : List Entry) (x : X) (f : Payload → X) (o : Option Label) → bulk_with x f (with_payload h o) ≡ elim o [ None ↦ x | Some l ↦ f (valued h l) ]
 bulk-with h x f None = refl
 bulk-with h x f (Some l) = refl
 
@@ -134,10 +135,6 @@ gives-as-handed d h _ k v run = refl
 
 -- ---- what is answered
 
-by_seat : (d : Deployed) (h : List Entry) (a : Act) (o : Option ℕ) (f g : ℕ → Answer) → (at_seat o g ≡ answer d h a) → ((t : ℕ) → o ≡ Some t → f t ≡ answer d h a) → at_seat o f ≡ answer d h a
-by_seat d h a None f g e k = e
-by_seat d h a (Some t) f g e k = k t refl
-
 abbrev hop_over : Deployed → NodeId → ℕ → Option TreeShape → (TreeShape → Option Label) → Answer
 hop_over d u z o f = elim o [ None ↦ ans.Refused why.Empty | Some t ↦ hop_by d t u z (f t) ]
 
@@ -146,7 +143,7 @@ left_over d h e u v o = elim o [ None ↦ [] | Some t ↦ drop (taken d h e u v)
 
 hop-agrees : (d : Deployed) (h : List Entry) (e : ℕ) (u : NodeId) (z : ℕ) → world_answer d (world_state d h) (act.Hop e u z) ≡ answer d h (act.Hop e u z)
 unfolding world_answer world_state answer hop_to link_front
-hop-agrees d h e u z = ap (unless (killed h e z) why.Dead) (go (tree_of d e) refl)
+hop-agrees d h e u z = ap (refused_if (killed h e z) why.Dead) (go (tree_of d e) refl)
   where
     go : (o : Option TreeShape) → tree_of d e ≡ o → hop_over d u z o (λ t. first (left_over d h e u (Serializer z) (tree_of d e))) ≡ hop_over d u z o (λ t. slice_get (entered d h e t u (Serializer z)) (taken d h e u (Serializer z)))
     go None w = refl
@@ -168,7 +165,7 @@ bulk-agrees d h i g j o v run =
         no_such d h i g j (Some n) e = sym (ap (λ (x : Option Label). elim x [ None ↦ ans.Refused why.NoSuch | Some l ↦ if has label_eq (brought h j) l then ans.Again else ans.Brought l ]) e) ∙ (unfold answer in unfold bulk_to in unfold bring in refl)
 
     go : (x : Option Label) → slice_get (lane d h i g j) (given_number d h i g j o) ≡ x →
-        elim x [ None ↦ ans.Refused why.NoSuch | Some l ↦ site_answer d j (site_state d h j) (given.Bulk i g (given_number d h i g j o) (payload_of h l)) ] ≡ answer d h (act.Bulk i g j o)
+        elim x [ None ↦ ans.Refused why.NoSuch | Some l ↦ site_answer d j (site_state d h j) (given.Bulk i g (given_number d h i g j o) (valued h l)) ] ≡ answer d h (act.Bulk i g j o)
     go None e = none e
     go (Some l) e = bulk-reply d h i g j o l v run e
 
@@ -187,7 +184,7 @@ no-beat : (d : Deployed) (h : List Entry) (i j n : ℕ) → nat_le (length (beat
 unfolding answer beat_in_to
 no-beat d h i j n e = go (nat_le (length (beats d h i j)) n) _ e
   where
-    go : (b : Bool) (r : Answer) → b ≡ true → ans.Refused why.NoSuch ≡ unless b why.NoSuch r
+    go : (b : Bool) (r : Answer) → b ≡ true → ans.Refused why.NoSuch ≡ refused_if b why.NoSuch r
     go true r e = refl
     go false r e = absurd (cc)
 
@@ -211,7 +208,7 @@ no-attach : (d : Deployed) (h : List Entry) (c j t : ℕ) → seat d h c ≡ Som
 unfolding answer attach_to
 no-attach d h c j t e = go (seat d h c) _ e
   where
-    go : (o : Option ℕ) (r : Answer) → o ≡ Some t → ans.Refused why.Joined ≡ unless (is_some o) why.Joined r
+    go : (o : Option ℕ) (r : Answer) → o ≡ Some t → ans.Refused why.Joined ≡ refused_if (is_some o) why.Joined r
     go None r e = absurd (cc)
     go (Some t) r e = refl
 
@@ -289,23 +286,19 @@ link-moves true c l T E le lt =
 link-moves false c l T E le lt =
     ap (λ (ts : List Label). drop (length ts) (E ++ tail_of (label_if c l))) (plain T) ∙ (drop-append-le (length T) E (tail_of (label_if c l)) le ∙ ap (λ (ls : List Label). drop (length T) E ++ ls) (tail-if c l))
 
-and_parts : (a b : Bool) → (a && b) ≡ true → (a ≡ true) × (b ≡ true)
-and_parts true b e = (refl, e)
-and_parts false b e = absurd (cc)
-
 abbrev entered_by : Deployed → ℕ → TreeShape → NodeId → NodeId → Option Handling → Option Label
-entered_by d e t u v o = elim o [ None ↦ None | Some x ↦ label_if (puts d e t u v x) x.label ]
+entered_by d e t u v o = elim o [ None ↦ None | Some x ↦ label_if (is_put d e t u v x) x.label ]
 
 abbrev taken_by : ℕ → NodeId → NodeId → Option Handling → Option Label
-taken_by e u v o = elim o [ None ↦ None | Some x ↦ label_if (takes e u v x) x.label ]
+taken_by e u v o = elim o [ None ↦ None | Some x ↦ label_if (is_taken e u v x) x.label ]
 
-taken-is : (d : Deployed) (h : List Entry) (x : Entry) (e : ℕ) (t : TreeShape) (u v : NodeId) (y : Handling) → IsRun d (x ∷ h) → tree_of d e ≡ Some t → handling d h x ≡ Some y → takes e u v y ≡ true → taken d h e u v < length (entered d h e t u v)
+taken-is : (d : Deployed) (h : List Entry) (x : Entry) (e : ℕ) (t : TreeShape) (u v : NodeId) (y : Handling) → IsRun d (x ∷ h) → tree_of d e ≡ Some t → handling d h x ≡ Some y → is_taken e u v y ≡ true → taken d h e u v < length (entered d h e t u v)
 taken-is d h x e t u v y run k w b =
     get-below (entered d h e t u v) (taken d h e u v) y.label (taking d h x e t u v y.label run k (taken-if d e u v h x y.label (ap (taken_by e u v) w ∙ ap (λ (b : Bool). label_if b y.label) b))).0
 
 link-tree : (d : Deployed) (h : List Entry) (x : Entry) (e : ℕ) (t : TreeShape) (u v : NodeId) → IsRun d (x ∷ h) → tree_of d e ≡ Some t →
     drop (taken d (x ∷ h) e u v) (entered d (x ∷ h) e t u v) ≡
-    elim (handling d h x) [ None ↦ drop (taken d h e u v) (entered d h e t u v) | Some y ↦ (if takes e u v y then drop 1 (drop (taken d h e u v) (entered d h e t u v)) else drop (taken d h e u v) (entered d h e t u v)) ++ (if puts d e t u v y then y.label ∷ [] else []) ]
+    elim (handling d h x) [ None ↦ drop (taken d h e u v) (entered d h e t u v) | Some y ↦ (if is_taken e u v y then drop 1 (drop (taken d h e u v) (entered d h e t u v)) else drop (taken d h e u v) (entered d h e t u v)) ++ (if is_put d e t u v y then y.label ∷ [] else []) ]
 unfolding taken entered
 link-tree d h x e t u v run k = go (handling d h x) refl (taken-below d h e t u v (before_of d h x run) k) (λ y. taken-is d h x e t u v y run k)
   where
@@ -315,17 +308,17 @@ link-tree d h x e t u v run k = go (handling d h x) refl (taken-below d h e t u 
     E : List Label
     E = listed (entered_entry d e t u v) h
 
-    go : (o : Option Handling) → handling d h x ≡ o → length T ≤ length E → ((y : Handling) → handling d h x ≡ Some y → takes e u v y ≡ true → length T < length E) →
+    go : (o : Option Handling) → handling d h x ≡ o → length T ≤ length E → ((y : Handling) → handling d h x ≡ Some y → is_taken e u v y ≡ true → length T < length E) →
         drop (length (T ++ tail_of (taken_by e u v o))) (E ++ tail_of (entered_by d e t u v o)) ≡
-        elim o [ None ↦ drop (length T) E | Some y ↦ (if takes e u v y then drop 1 (drop (length T) E) else drop (length T) E) ++ (if puts d e t u v y then y.label ∷ [] else []) ]
+        elim o [ None ↦ drop (length T) E | Some y ↦ (if is_taken e u v y then drop 1 (drop (length T) E) else drop (length T) E) ++ (if is_put d e t u v y then y.label ∷ [] else []) ]
     go None w le lt = ap (λ (ts : List Label). drop (length ts) (E ++ [])) (plain T) ∙ ap (drop (length T)) (plain E)
-    go (Some y) w le lt = link-moves (takes e u v y) (puts d e t u v y) y.label T E le (lt y w)
+    go (Some y) w le lt = link-moves (is_taken e u v y) (is_put d e t u v y) y.label T E le (lt y w)
 
 link-agrees : (d : Deployed) (h : List Entry) (x : Entry) (e : ℕ) (u v : NodeId) → IsRun d (x ∷ h) → link_next d (handling d h x) e u v (link_left d h e u v) ≡ link_left d (x ∷ h) e u v
 link-agrees d h x e u v run = go (tree_of d e) refl
   where
     next : Option TreeShape → List Label → List Label
-    next o ls = elim o [ None ↦ [] | Some t ↦ elim (handling d h x) [ None ↦ ls | Some y ↦ (if takes e u v y then drop 1 ls else ls) ++ (if puts d e t u v y then y.label ∷ [] else []) ] ]
+    next o ls = elim o [ None ↦ [] | Some t ↦ elim (handling d h x) [ None ↦ ls | Some y ↦ (if is_taken e u v y then drop 1 ls else ls) ++ (if is_put d e t u v y then y.label ∷ [] else []) ] ]
 
     go : (o : Option TreeShape) → tree_of d e ≡ o → next o (left_over d h e u v o) ≡ left_over d (x ∷ h) e u v o
     go None w = refl

@@ -21,8 +21,9 @@ pub record BulkFits (d : Deployed) (i : ℕ) (s : SiteState) (from gear number :
 
 -- a close that is taken is one of the view's epoch
 pub record FrontFits (s : SiteState) (l : Label) : Type 0 where
-  pub epoch : (e : ℕ) → l.kind ≡ kind.Close e → e ≡ s.views.view
+  pub epoch : (closed : ℕ) → l.kind ≡ kind.Close closed → closed ≡ s.views.view
 
+-- what is asked of an input at a state, beyond ranges
 abbrev pub IsFit : Deployed → ℕ → SiteState → SiteInput → Type 0
 IsFit d i s (given.Bulk from gear n p) = BulkFits d i s from gear n p
 IsFit d i s (given.Turn (Some l)) = FrontFits s l

@@ -5,6 +5,7 @@ use Rattle.sat_act.specs.Parts.{BeatNote}
 use Rattle.sat_label.specs.declared.carried.Carried.{Carried}
 use Rattle.sat_bulk.specs.declared.Payload.{Payload}
 
+-- what a site is handed: an act, with all that it needs of the world beside the site, and without the answer
 pub data SiteInput : Type 0 where
   Tick : (gear ts : ℕ) → SiteInput
   Clock : (ts : ℕ) → SiteInput

@@ -6,9 +6,10 @@ use Rattle.sat_label.specs.declared.label.Label.{Label}
 use Rattle.sat_label.specs.Order.{mark, greater_point, label_eq}
 use Rattle.sat_label.specs.Words.{below, has}
 use Rattle.sat_act.specs.Deployed.{Deployed}
-use Rattle.sat_act.specs.Parts.{BeatNote, tree_of, least_label}
+use Rattle.sat_act.specs.Parts.{BeatNote, tree_of}
 use Rattle.sat_bulk.specs.declared.Payload.{Payload}
 use Rattle.sat_machine.specs.State.{SiteState}
+use Rattle.sat_label.specs.Least.{least_label}
 
 -- ---- the sink
 
@@ -23,12 +24,15 @@ unfoldable pub rows : {X : Type 0} → (ℕ → List X) → ℕ → List X
 rows f zero = []
 rows f (suc n) = rows f n ++ f n
 
+-- the stable timestamp: the least gathered promise
 abbrev pub stable_of : Deployed → SiteState → ℕ
 stable_of d s = least_row s.sink.promises d.gears
 
+-- the label that the sink would emit next: the least pending one that is stable
 abbrev pub ready_of : Deployed → SiteState → Option Label
 ready_of d s = least_label (λ l. nat_le l.point.ts (stable_of d s)) (rows s.sink.pending d.gears)
 
+-- the cut of site i
 abbrev pub cut_of : Deployed → ℕ → SiteState → Point
 cut_of d i s =
     elim (ready_of d s) [
@@ -38,14 +42,17 @@ cut_of d i s =
 
 -- ---- views
 
+-- whether the site shows in timestamp order: its view has no tree, or it has fallen
 abbrev pub mode_of : Deployed → SiteState → Bool
-mode_of d s = elim (tree_of d s.views.view) [ None ↦ true | Some t ↦ s.views.fallen ]
+mode_of d s = elim (tree_of d s.views.view) [ None ↦ true | Some tree ↦ s.views.fallen ]
 
 -- ---- lanes and beats
 
+-- the label of a payload
 abbrev pub label_of : Payload → Label
 label_of p = p.label
 
+-- the updates that wait
 abbrev pub waiting_of : SiteState → List Label
 waiting_of s = map label_of s.proxy.pool
 
@@ -68,9 +75,11 @@ gap_from (suc m) ns k = if has ◌==◌ ns k then gap_from m ns (k + 1) else k
 abbrev pub front_in : List ℕ → ℕ
 front_in ns = gap_from (top ns) ns 0
 
+-- the front of the lane of gear g of site i
 abbrev pub front_of : SiteState → ℕ → ℕ → ℕ
 front_of s i g = front_in (s.proxy.taken i g)
 
+-- whether a beat of i is complete: all that it counts was taken
 abbrev pub complete_at : Deployed → SiteState → ℕ → BeatNote → Bool
 complete_at d s i note = list_all (λ g. nat_le (note.counts g) (front_of s i g)) (below d.gears)
 
@@ -81,8 +90,10 @@ best_in p (b ∷ bs) =
     let rest = best_in p bs in
     if p b.1 then elim rest [ None ↦ Some b | Some c ↦ if nat_lt c.0 b.0 then Some b else Some c ] else rest
 
+-- the best beat of i: of the complete ones, the one of the greatest number
 abbrev pub best_of : Deployed → SiteState → ℕ → Option (ℕ × BeatNote)
 best_of d s i = best_in (complete_at d s i) (s.proxy.beats i)
 
+-- the numbers of the beats of i that were taken
 abbrev pub numbers_of : SiteState → ℕ → List ℕ
 numbers_of s i = map (λ b. b.0) (s.proxy.beats i)

@@ -1,12 +1,12 @@
 -- What an answer makes of a site's state, part by part. A refusal, `Again` and `Old` change nothing.
 use Rattle.std.specs.Prelude.{ℕ, ◌+◌, Bool, true, false, ◌&&◌, ◌||◌, not, ◌==◌, List, [], ◌∷◌, ◌++◌, length, filter, Option, Some, None, if◌then◌else◌}
 use Rattle.sat_label.specs.declared.point.Point.{Point}
-use Rattle.sat_label.specs.declared.label.Kind.TheVariants as kind
 use Rattle.sat_label.specs.declared.label.Label.{Label}
 use Rattle.sat_label.specs.Order.{greater_point, label_eq, label_lt}
 use Rattle.sat_act.specs.declared.answer.Answer.{Answer}
 use Rattle.sat_act.specs.declared.answer.Answer.TheVariants as ans
 use Rattle.sat_act.specs.Deployed.{Deployed}
+use Rattle.sat_act.specs.Answers.{is_close_of}
 use Rattle.sat_act.specs.Parts.{BeatNote, is_target, is_update_of, known_by}
 use Rattle.sat_bulk.specs.declared.Payload.{Payload}
 use Rattle.sat_machine.specs.State.{GearState, SinkState, ViewState, ProxyState, SiteState}
@@ -16,31 +16,36 @@ use Rattle.sat_machine.specs.Look.{cut_of, mode_of, payload_in, best_of}
 
 -- ---- gear g
 
+-- what an answer makes of the promise of gear g
 abbrev pub promise_next : ℕ → ℕ → SiteInput → Answer → ℕ
 promise_next g p input answer =
     elim answer [
-      | ans.Ticked t ↦ elim input [ given.Tick k u ↦ if k == g then t else p | _ ↦ p ]
-      | ans.Clocked t ↦ t
+      | ans.Ticked ts ↦ elim input [ given.Tick k asked ↦ if k == g then ts else p | _ ↦ p ]
+      | ans.Clocked ts ↦ ts
       | ans.Wrote l ↦ if l.point.gear == g then l.point.ts else p
       | ans.Moved l ↦ if l.point.gear == g then l.point.ts else p
       | _ ↦ p
     ]
 
+-- what it makes of the labels of gear g that were not gathered
 abbrev pub fresh_next : ℕ → List Label → Answer → List Label
 fresh_next g ls answer =
     elim answer [
       | ans.Wrote l ↦ if l.point.gear == g then ls ++ l ∷ [] else ls
       | ans.Moved l ↦ if l.point.gear == g then ls ++ l ∷ [] else ls
-      | ans.Gathered n t ↦ []
+      | ans.Gathered labels stable ↦ []
       | _ ↦ ls
     ]
 
+-- the value of a write
 abbrev pub value_given : SiteInput → List ℕ
 value_given input = elim input [ given.Write seen x value ↦ value | _ ↦ [] ]
 
+-- a label and its value
 abbrev pub payload_at : Label → List ℕ → Payload
 payload_at l value = record { label = l; value = value }
 
+-- what it makes of the lane of gear g to site j
 abbrev pub lane_next : Deployed → ℕ → ℕ → List Payload → SiteInput → Answer → List Payload
 lane_next d g j ps input answer =
     elim answer [
@@ -48,6 +53,7 @@ lane_next d g j ps input answer =
       | _ ↦ ps
     ]
 
+-- what it makes of gear g
 abbrev pub gear_next : Deployed → ℕ → GearState → SiteInput → Answer → GearState
 gear_next d g s input answer = record {
   promise = promise_next g s.promise input answer;
@@ -57,23 +63,28 @@ gear_next d g s input answer = record {
 
 -- ---- the sink
 
+-- by a gather the new one, else the old
 abbrev pub gathered_next : {X : Type 0} → X → X → Answer → X
-gathered_next old new answer = elim answer [ ans.Gathered n t ↦ new | _ ↦ old ]
+gathered_next old new answer = elim answer [ ans.Gathered labels stable ↦ new | _ ↦ old ]
 
+-- what it makes of the pending labels of a gear, whose fresh ones are given
 abbrev pub pending_next : List Label → List Label → Answer → List Label
 pending_next ls fresh answer =
     elim answer [
-      | ans.Gathered n t ↦ ls ++ fresh
+      | ans.Gathered labels stable ↦ ls ++ fresh
       | ans.Emitted l ↦ filter (λ m. not (label_eq l m)) ls
       | _ ↦ ls
     ]
 
+-- the point that the sink sent last
 abbrev pub sent_next : Point → Answer → Point
-sent_next p answer = elim answer [ ans.Emitted l ↦ l.point | ans.Pulsed l ↦ l.point | ans.Closed e q ↦ q | _ ↦ p ]
+sent_next p answer = elim answer [ ans.Emitted l ↦ l.point | ans.Pulsed l ↦ l.point | ans.Closed epoch q ↦ q | _ ↦ p ]
 
+-- the timestamp of the last pulse
 abbrev pub pulse_next : ℕ → Answer → ℕ
-pulse_next t answer = elim answer [ ans.Pulsed l ↦ l.point.ts | _ ↦ t ]
+pulse_next ts answer = elim answer [ ans.Pulsed l ↦ l.point.ts | _ ↦ ts ]
 
+-- what it makes of the sink
 abbrev pub sink_next : (ℕ → GearState) → SinkState → Answer → SinkState
 sink_next gears s answer = record {
   promises = λ g. gathered_next (s.promises g) (gears g).promise answer;
@@ -85,35 +96,39 @@ sink_next gears s answer = record {
 
 -- ---- views
 
-abbrev pub is_close_of : Label → ℕ → ℕ → Bool
-is_close_of l i e = (l.point.site == i) && elim l.kind [ kind.Close f ↦ f == e | _ ↦ false ]
-
+-- what it makes of the view
 abbrev pub view_next : ℕ → Answer → ℕ
 view_next v answer = elim answer [ ans.View w ↦ w | _ ↦ v ]
 
+-- what it makes of the epoch in which the site sends
 abbrev pub emission_next : ℕ → Answer → ℕ
-emission_next n answer = elim answer [ ans.Closed e p ↦ e + 1 | _ ↦ n ]
+emission_next n answer = elim answer [ ans.Closed epoch p ↦ epoch + 1 | _ ↦ n ]
 
+-- what it makes of the fall
 abbrev pub fallen_next : Bool → Answer → Bool
 fallen_next b answer = elim answer [ ans.View w ↦ false | ans.Fallen ↦ true | _ ↦ b ]
 
+-- what it makes of the close cut of an epoch
 abbrev pub close_next : ℕ → Option Point → Answer → Option Point
-close_next e o answer = elim answer [ ans.Closed f p ↦ if f == e then Some p else o | _ ↦ o ]
+close_next epoch o answer = elim answer [ ans.Closed closed p ↦ if closed == epoch then Some p else o | _ ↦ o ]
 
+-- whether the Close of site i for an epoch was taken
 abbrev pub heard_next : ℕ → ℕ → Bool → Answer → Bool
-heard_next i e b answer = elim answer [ ans.Took l ↦ is_close_of l i e || b | _ ↦ b ]
+heard_next i epoch b answer = elim answer [ ans.Took l ↦ is_close_of l i epoch || b | _ ↦ b ]
 
+-- what it makes of the site's epochs
 abbrev pub views_next : ViewState → Answer → ViewState
 views_next s answer = record {
   view = view_next s.view answer;
   emission = emission_next s.emission answer;
   fallen = fallen_next s.fallen answer;
-  closes = λ e. close_next e (s.closes e) answer;
-  heard = λ i e. heard_next i e (s.heard i e) answer;
+  closes = λ epoch. close_next epoch (s.closes epoch) answer;
+  heard = λ i epoch. heard_next i epoch (s.heard i epoch) answer;
 }
 
 -- ---- windows, pool, beats, and what is known of other sites
 
+-- what it makes of the taken numbers of the lane of gear g of site i
 abbrev pub taken_next : ℕ → ℕ → List ℕ → SiteInput → Answer → List ℕ
 taken_next i g ns input answer =
     elim answer [
@@ -121,6 +136,7 @@ taken_next i g ns input answer =
       | _ ↦ ns
     ]
 
+-- what it makes of the payloads that wait
 abbrev pub pool_next : List Payload → SiteInput → Answer → List Payload
 pool_next ps input answer =
     elim answer [
@@ -129,6 +145,7 @@ pool_next ps input answer =
       | _ ↦ ps
     ]
 
+-- what it makes of the taken beats of site i
 abbrev pub beats_next : ℕ → List (ℕ × BeatNote) → SiteInput → Answer → List (ℕ × BeatNote)
 beats_next i bs input answer =
     elim answer [
@@ -136,6 +153,7 @@ beats_next i bs input answer =
       | _ ↦ bs
     ]
 
+-- the greater of a point and another, if there is one
 abbrev pub raised : Point → Option Point → Point
 raised p o = elim o [ None ↦ p | Some q ↦ greater_point q p ]
 
@@ -146,6 +164,7 @@ passed_cut d j s i =
     then (if i == j then s.views.closes s.views.view else elim (best_of d s i) [ None ↦ None | Some b ↦ b.1.closes s.views.view ])
     else None
 
+-- what it makes of the point up to which the site knows site i
 abbrev pub last_next : Deployed → ℕ → SiteState → ℕ → SiteInput → Answer → Point
 last_next d j s i input answer =
     elim answer [
@@ -155,6 +174,7 @@ last_next d j s i input answer =
       | _ ↦ s.proxy.last i
     ]
 
+-- what it makes of all that the site has of others
 abbrev pub proxy_next : Deployed → ℕ → SiteState → SiteInput → Answer → ProxyState
 proxy_next d j s input answer = record {
   taken = λ i g. taken_next i g (s.proxy.taken i g) input answer;
@@ -165,9 +185,11 @@ proxy_next d j s input answer = record {
 
 -- ---- the store: a lower label changes nothing
 
+-- a version put before an old one: the greater stays
 abbrev pub put : Option Payload → Payload → Option Payload
 put old p = elim old [ None ↦ Some p | Some q ↦ if label_lt q.label p.label then Some p else Some q ]
 
+-- what it makes of the version of item x
 abbrev pub store_next : ℕ → Option Payload → List Payload → SiteInput → Answer → Option Payload
 store_next x old pool input answer =
     elim answer [
@@ -178,9 +200,11 @@ store_next x old pool input answer =
 
 -- ---- beats made
 
+-- what a beat for site j would say
 abbrev pub note_of : Deployed → ℕ → SiteState → ℕ → BeatNote
 note_of d i s j = record { cut = cut_of d i s; closes = s.views.closes; counts = λ g. s.sink.counts g j }
 
+-- what it makes of the beats for site j
 abbrev pub made_next : Deployed → ℕ → SiteState → ℕ → SiteInput → Answer → List BeatNote
 made_next d i s j input answer =
     elim answer [
@@ -190,6 +214,7 @@ made_next d i s j input answer =
 
 -- ---- the site
 
+-- what an answer makes of a site
 unfoldable pub site_next : Deployed → ℕ → SiteState → SiteInput → Answer → SiteState
 site_next d i s input answer = record {
   gears = λ g. gear_next d g (s.gears g) input answer;

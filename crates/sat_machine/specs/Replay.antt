@@ -7,14 +7,15 @@ use Rattle.sat_act.specs.declared.act.Act.TheVariants as act
 use Rattle.sat_act.specs.declared.answer.Answer.{Answer}
 use Rattle.sat_act.specs.declared.entry.Entry.{Entry}
 use Rattle.sat_act.specs.Deployed.{Deployed}
-use Rattle.sat_act.specs.Parts.{tree_of, view, seat_in, link_front, value_of, lane, beats, seat, moving, carried}
-use Rattle.sat_act.specs.Answers.{next_of_lane, greatest_promise}
+use Rattle.sat_act.specs.Parts.{tree_of, view, seat_in, link_front, value_of, lane, lane_front, beats, seat, moving, carried}
+use Rattle.sat_act.specs.Answers.{greatest_promise}
 use Rattle.sat_label.specs.declared.carried.Carried.{Carried}
 use Rattle.sat_machine.specs.State.{SiteState, fresh_site}
 use Rattle.sat_machine.specs.Input.{SiteInput}
 use Rattle.sat_machine.specs.Input as given
 use Rattle.sat_machine.specs.Next.{site_next}
 
+-- what a client carries after a history
 abbrev pub carrying : List Entry → ℕ → Carried
 carrying h c = record { point = carried h c; moving = moving h c }
 
@@ -24,26 +25,30 @@ unfolding tree_of view seat_in link_front
 turn_front d h j =
     elim (tree_of d (view h j)) [
       | None ↦ None
-      | Some t ↦ elim (seat_in d (view h j) j) [ None ↦ None | Some z ↦ link_front d h (view h j) t z (Site j) ]
+      | Some tree ↦ elim (seat_in d (view h j) j) [ None ↦ None | Some z ↦ link_front d h (view h j) tree z (Site j) ]
     ]
 
+-- where site k is handed an input, what site i is handed
 abbrev pub given_at : ℕ → ℕ → SiteInput → Option SiteInput
 given_at k i input = if k == i then Some input else None
 
+-- the same, where a client's seat, if any, is handed the input
 abbrev pub given_seat : Option ℕ → ℕ → SiteInput → Option SiteInput
 given_seat o i input = elim o [ None ↦ None | Some k ↦ given_at k i input ]
 
+-- what site k is handed of the payload of this number of the lane of gear g of i to j
 abbrev pub given_bulk : Deployed → List Entry → ℕ → ℕ → ℕ → ℕ → ℕ → Option SiteInput
 given_bulk d h i g j n k =
     elim (slice_get (lane d h i g j) n) [ None ↦ None | Some l ↦ given_at j k (given.Bulk i g n (record { label = l; value = value_of h l })) ]
 
+-- the number of a bulk: the one that it names, or the front of the lane
 abbrev pub given_number : Deployed → List Entry → ℕ → ℕ → ℕ → Option ℕ → ℕ
-given_number d h i g j o = elim o [ None ↦ next_of_lane d h i g j | Some n ↦ n ]
+given_number d h i g j o = elim o [ None ↦ lane_front d h i g j | Some n ↦ n ]
 
 -- what an act hands to site k, None where it is not an act at k, or finds nothing to hand
 unfoldable pub handed : Deployed → List Entry → Act → ℕ → Option SiteInput
-unfolding turn_front lane value_of next_of_lane beats seat carried moving greatest_promise
-handed d h (act.Tick i g t) k = given_at i k (given.Tick g t)
+unfolding turn_front lane value_of lane_front beats seat carried moving greatest_promise
+handed d h (act.Tick i g ts) k = given_at i k (given.Tick g ts)
 handed d h act.Clock k = Some (given.Clock (greatest_promise h d.sites d.gears))
 handed d h (act.Write c x value) k = given_seat (seat d h c) k (given.Write (carrying h c) x value)
 handed d h (act.Read c x) k = given_seat (seat d h c) k (given.Read (carrying h c) x)
@@ -62,6 +67,7 @@ handed d h (act.Fall j) k = given_at j k given.Fall
 handed d h (act.Advance j) k = given_at j k given.Advance
 handed d h _ k = None
 
+-- a site after an entry that handed it this, or nothing, and had this answer
 unfoldable pub after : Deployed → ℕ → SiteState → Option SiteInput → Answer → SiteState
 unfolding site_next
 after d i s None answer = s
@@ -71,4 +77,4 @@ after d i s (Some input) answer = site_next d i s input answer
 unfoldable pub site_state : Deployed → List Entry → ℕ → SiteState
 unfolding after handed
 site_state d [] i = fresh_site i
-site_state d (e ∷ h) i = after d i (site_state d h i) (handed d h e.act i) e.answer
+site_state d (entry ∷ h) i = after d i (site_state d h i) (handed d h entry.act i) entry.answer

@@ -6,12 +6,14 @@ use Rattle.sat_label.specs.Order.{point_at}
 use Rattle.sat_bulk.specs.declared.Payload.{Payload}
 use Rattle.sat_act.specs.Parts.{BeatNote}
 
+-- a gear: its promise, the labels that were not gathered, and by site the payloads of its lane to it
 pub record GearState : Type 0 where
   pub promise : ℕ
   pub fresh : List Label
   pub lanes : ℕ → List Payload
 
--- by gear: the gathered promise, the gathered labels that were not emitted, and how much of each lane was gathered
+-- a sink. By gear: the gathered promise, the gathered labels that were not emitted, and how much of each lane was gathered.
+-- Beside these the point that it sent last and the timestamp of its last pulse
 pub record SinkState : Type 0 where
   pub promises : ℕ → ℕ
   pub pending : ℕ → List Label
@@ -19,7 +21,8 @@ pub record SinkState : Type 0 where
   pub last : Point
   pub pulse : ℕ
 
--- closes by epoch, and the heard closes by site and epoch
+-- a site's epochs: its view, the epoch in which it sends, whether it has fallen, its close cuts by epoch, and the closes that it
+-- took from its tree, by site and epoch
 pub record ViewState : Type 0 where
   pub view : ℕ
   pub emission : ℕ
@@ -27,13 +30,14 @@ pub record ViewState : Type 0 where
   pub closes : ℕ → Option Point
   pub heard : ℕ → ℕ → Bool
 
--- taken numbers by site and gear, what waits, the taken beats by site with their numbers, and what is known of each site
+-- what a site has of others: taken numbers by site and gear, what waits, the taken beats by site with their numbers, and what is known of each site
 pub record ProxyState : Type 0 where
   pub taken : ℕ → ℕ → List ℕ
   pub pool : List Payload
   pub beats : ℕ → List (ℕ × BeatNote)
   pub last : ℕ → Point
 
+-- a site: its gears, its sink, its views, what it has of other sites, its version of each item, and by site the beats that it made
 pub record SiteState : Type 0 where
   pub gears : ℕ → GearState
   pub sink : SinkState
@@ -42,6 +46,7 @@ pub record SiteState : Type 0 where
   pub store : ℕ → Option Payload
   pub made_beats : ℕ → List BeatNote
 
+-- a site in the beginning
 abbrev pub fresh_site : ℕ → SiteState
 fresh_site i = record {
   gears = λ g. record { promise = 0; fresh = []; lanes = λ j. [] };

@@ -1,25 +1,14 @@
 -- The best of the turns.
 use Rattle.std.proofs.Common.{ℕ, suc, ◌≡◌, ◌<◌, ◌≤◌, ◌+◌, ◌==◌, nat_lt, ◌⊎◌, inl, inr, Bool, true, false, List, [], ◌∷◌, length, get_or, refl, arith, ap, ◌∙◌, sym}
 use Rattle.std.proofs.Math.Nat.{eq-or-lt_of_le}
-use Rattle.std.proofs.lemmas.Bool.Decides.{nat_tests}
+use Rattle.std.proofs.lemmas.Bool.{eqb-true, eqb-false, ltb-true, ltb-false}
 use Rattle.sat_plan.specs.declared.terms.Term.{Term}
 use Rattle.sat_plan.specs.declared.terms.Choice.{Choice}
 use Rattle.sat_plan.specs.Sums.{IsLeast}
-use Rattle.sat_plan.specs.Drafts.{terms_cost, turn_of, better, NoWorse, IsBestOf}
+use Rattle.sat_plan.specs.Drafts.{terms_cost, turn_of, better}
+use Rattle.sat_plan.proofs.Loops.{NoWorse, IsBestOf}
 use Rattle.sat_plan.proofs.Legs.{get_or_default}
 use Rattle.sat_plan.proofs.Turns.{TurnsAt, least_turn}
-
-is_below : (a b : ℕ) → nat_lt a b ≡ true → a < b
-is_below a b t = grind (arith, nat_tests)
-
-isn't_below : (a b : ℕ) → nat_lt a b ≡ false → b ≤ a
-isn't_below a b t = grind (arith, nat_tests)
-
-is_same : (a b : ℕ) → (a == b) ≡ true → a ≡ b
-is_same a b t = grind (arith, nat_tests)
-
-isn't_same : (a b : ℕ) → (a == b) ≡ false → a ≡ b → ⊥
-isn't_same a b t = grind (arith, nat_tests)
 
 -- the better of two is no worse than either
 record IsBetter (a b c : Choice) : Type 0 where
@@ -31,15 +20,15 @@ is_better : (a b : Choice) → IsBetter a b (better a b)
 is_better a b = go (nat_lt b.cost a.cost) (b.cost == a.cost) (nat_lt b.delay a.delay) refl refl refl
   where
     go : (x y z : Bool) → nat_lt b.cost a.cost ≡ x → (b.cost == a.cost) ≡ y → nat_lt b.delay a.delay ≡ z → IsBetter a b (better a b)
-    go true y z cheaper even lower = rw cheaper (record { one = inr refl; first = inl (is_below b.cost a.cost cheaper); second = inr (omega arith, omega arith) })
+    go true y z cheaper even lower = rw cheaper (record { one = inr refl; first = inl (ltb-true b.cost a.cost cheaper); second = inr (omega arith, omega arith) })
     go false true true cheaper even lower =
-        let e = is_same b.cost a.cost even in let l = is_below b.delay a.delay lower in
+        let e = eqb-true b.cost a.cost even in let l = ltb-true b.delay a.delay lower in
         rw (cheaper, even, lower) (record { one = inr refl; first = inr (omega arith, omega arith); second = inr (omega arith, omega arith) })
     go false true false cheaper even lower =
-        let e = is_same b.cost a.cost even in let l = isn't_below b.delay a.delay lower in
+        let e = eqb-true b.cost a.cost even in let l = ltb-false b.delay a.delay lower in
         rw (cheaper, even, lower) (record { one = inl refl; first = inr (omega arith, omega arith); second = inr (omega arith, omega arith) })
     go false false z cheaper even lower =
-        let m = isn't_below b.cost a.cost cheaper in let n = isn't_same b.cost a.cost even in
+        let m = ltb-false b.cost a.cost cheaper in let n = eqb-false b.cost a.cost even in
         rw (cheaper, even) (record { one = inl refl; first = inr (omega arith, omega arith); second = inl (omega arith) })
 
 keeps : (terms : List Term) (a c : Choice) (delay : ℕ) → (c.cost < a.cost) ⊎ ((c.cost ≤ a.cost) × (c.delay ≤ a.delay)) → NoWorse terms a delay → NoWorse terms c delay

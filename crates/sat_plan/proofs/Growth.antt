@@ -7,7 +7,8 @@ use Rattle.sat_plan.specs.declared.best.Best.{Best}
 use Rattle.sat_plan.specs.Config.{Config, Fits}
 use Rattle.sat_plan.specs.Mismatch.{mismatch}
 use Rattle.sat_plan.specs.Steps.{start, start_at, undelayed, hung, hung_cost, best_place, parent_cost, best_parent, best_hung, grow, grown}
-use Rattle.sat_plan.specs.Drafts.{best_below, IsGrowing}
+use Rattle.sat_plan.specs.Drafts.{best_below}
+use Rattle.sat_plan.proofs.Loops.{IsGrowing}
 use Rattle.sat_plan.specs.Laws.{GrowsToTheEnd}
 use Rattle.sat_plan.proofs.Grown.{hung_count}
 

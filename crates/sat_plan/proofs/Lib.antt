@@ -1,3 +1,4 @@
+pub mod Loops
 pub mod Turns
 pub mod SumLemmas
 pub mod Lists
@@ -11,5 +12,4 @@ pub mod Growth
 pub mod Chosen
 pub mod Tuned
 pub mod Passes
-pub mod Plans
 pub mod OnWay

@@ -1,9 +1,9 @@
 -- The routes give the latencies and the mismatch.
-use Rattle.std.proofs.Common.{ℕ, ◌≡◌, ◌<◌, ◌&&◌, not, nat_lt, true, List, [], ◌∷◌, length, sum_by, slice_index, slice_index_or, refl, arith}
+use Rattle.std.proofs.Common.{ℕ, ◌≡◌, ◌<◌, ◌&&◌, not, List, [], ◌∷◌, length, sum_by, slice_index, slice_index_or, refl, arith}
 use Rattle.std.specs.List.{All}
-use Rattle.std.proofs.lemmas.Bool.Decides.{nat_tests}
 use Rattle.std.proofs.lemmas.List.Elements.{All-head, All-tail}
 use Rattle.std.proofs.lemmas.List.Sums.{sum_by-cons}
+use Rattle.std.proofs.lemmas.Bool.{lt-ltb}
 use Rattle.sat_label.specs.Words.{bit}
 use Rattle.sat_tree.specs.Shape.{TreeShape}
 use Rattle.sat_delay.specs.Table.{DelayTable}
@@ -19,13 +19,10 @@ use Rattle.sat_plan.proofs.Legs.{access_at}
 use Rattle.sat_plan.proofs.Lists.{pairs_are}
 use Rattle.sat_plan.proofs.SumLemmas.{sum_to-same}
 
-below_true : (k n : ℕ) → k < n → nat_lt k n ≡ true
-below_true k n under = grind (arith, nat_tests)
-
 -- a leg is on the way where its edge is
 pub leg_on_way : (d : DelayTable) (t : TreeShape) (places : List ℕ) (e : Edge) (l : Leg) (i k : ℕ) → IsLeg d t places e l → i < length t.seats → k < length t.seats → (bit l.far.bits k && not (bit l.far.bits i)) ≡ on_way t e i k
 unfolding on_way
-leg_on_way d t places e l i k stands from to = rw (stands.far k, stands.far i, below_true i (length t.seats) from, below_true k (length t.seats) to) refl
+leg_on_way d t places e l i k stands from to = rw (stands.far k, stands.far i, lt-ltb i (length t.seats) from, lt-ltb k (length t.seats) to) refl
 
 leg_same : (d : DelayTable) (t : TreeShape) (places delays : List ℕ) (legs : List Leg) (i k e : ℕ) → IsLeg d t places (edge_at t e) (slice_index_or legs e no_leg) → i < length t.seats → k < length t.seats → routed_leg legs delays i k e ≡ leg d (config_of t places delays) i k e
 unfolding routed_leg leg

@@ -1,5 +1,6 @@
 -- An edge lies on the way between two sites just where it is a step of the path between them.
 use Rattle.std.proofs.Common.{ℕ, ◌≡◌, Bool, true, false, not, ◌&&◌, ◌||◌, inl, inr, List, [], ◌∷◌, refl, sym, subst}
+use Rattle.sat_label.proofs.Truth.{or-true}
 use Rattle.sat_label.specs.declared.node.NodeId.{NodeId}
 use Rattle.sat_label.specs.declared.node.NodeId.TheVariants.{Site, Serializer}
 use Rattle.sat_label.specs.Order.{node_eq}
@@ -24,10 +25,6 @@ both false b is = absurd (cc)
 
 clash : (b : Bool) → b ≡ true → b ≡ false → ⊥
 clash b e f = cc
-
-or-true : (b : Bool) → (b || true) ≡ true
-or-true true = refl
-or-true false = refl
 
 begins-with : (t : TreeShape) (u v : NodeId) (nodes : List NodeId) → Path t u v nodes → (rest : List NodeId) × (nodes ≡ u ∷ rest)
 begins-with t u v nodes (stays {v = z}) = ([], refl)

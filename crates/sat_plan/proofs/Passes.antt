@@ -1,6 +1,6 @@
 -- Passes over the edges, until one changes nothing.
 use Rattle.std.proofs.Common.{ℕ, zero, suc, ◌≡◌, ◌<◌, ◌≤◌, ◌+◌, ◌⊎◌, inl, inr, length, refl, arith, ap, ◌∙◌, sym, subst, add-one}
-use Rattle.std.proofs.lemmas.Bool.{cases_lt}
+use Rattle.std.proofs.lemmas.Bool.{cases_lt, lt-ltb, le-ltb}
 use Rattle.std.proofs.Math.Nat.{eq-or-lt_of_le}
 use Rattle.std.proofs.lemmas.List.{set_past}
 use Rattle.sat_delay.specs.Table.{DelayTable, IsWithinLimits}
@@ -9,9 +9,8 @@ use Rattle.sat_plan.specs.Mismatch.{mismatch}
 use Rattle.sat_plan.specs.Steps.{delay_cost, best_delay, tuned, tuned_below, pass, settled, grown, built}
 use Rattle.sat_plan.specs.declared.routes.Routes.{Routes}
 use Rattle.sat_plan.specs.Routes.{IsRoutes}
-use Rattle.sat_plan.specs.Drafts.{IsPassing, IsSettling}
+use Rattle.sat_plan.proofs.Loops.{IsPassing, IsSettling}
 use Rattle.sat_plan.specs.Laws.{SettlesToTheEnd}
-use Rattle.sat_plan.proofs.SumLemmas.{test_below, test_not_below}
 use Rattle.sat_plan.proofs.Tuned.{tuned_if, tuned_else, best_delay_is_best}
 
 -- ---- one edge
@@ -68,10 +67,6 @@ below_same d c (suc n) most =
       best = λ e under. by_place e before.best (subst (λ x. mismatch d x ≤ delay_cost d x n (best_delay d x n)) before.same least) (eq-or-lt_of_le (let m : e ≤ n = omega arith in m));
     }
 
-pub pass_le : (d : DelayTable) (c : Config) → mismatch d (pass d c) ≤ mismatch d c
-unfolding pass
-pass_le d c = tuned_below_le d c (length (edges c.tree))
-
 pub pass_same : (d : DelayTable) (c : Config) → mismatch d c ≤ mismatch d (pass d c) → pass d c ≡ c
 unfolding pass
 pass_same d c most = (below_same d c (length (edges c.tree)) most).same
@@ -94,11 +89,11 @@ no_better d c e x limits fits same = elim (cases_lt e (length (edges c.tree))) [
 settled_stop : (d : DelayTable) (n : ℕ) (c : Config) → mismatch d c ≤ mismatch d (pass d c) → settled d n c ≡ c
 unfolding settled
 settled_stop d zero c most = refl
-settled_stop d (suc n) c most = rw (settled, test_not_below (mismatch d (pass d c)) (mismatch d c) most) refl
+settled_stop d (suc n) c most = rw (settled, le-ltb (mismatch d (pass d c)) (mismatch d c) most) refl
 
 settled_go : (d : DelayTable) (n : ℕ) (c : Config) → mismatch d (pass d c) < mismatch d c → settled d (suc n) c ≡ settled d n (pass d c)
 unfolding settled
-settled_go d n c less = rw (settled, test_below (mismatch d (pass d c)) (mismatch d c) less) refl
+settled_go d n c less = rw (settled, lt-ltb (mismatch d (pass d c)) (mismatch d c) less) refl
 
 -- more passes than the mismatch are as good as that many
 settled_enough : (d : DelayTable) (n m : ℕ) (c : Config) → mismatch d c ≤ n → mismatch d c ≤ m → settled d n c ≡ settled d m c

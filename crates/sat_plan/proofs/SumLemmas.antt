@@ -111,11 +111,3 @@ best_more f n cost best front next = rw (add-one, front, next) (go (nat_lt (f n)
 
 pub best_within : (f : ℕ → ℕ) (n : ℕ) (best : Best) → best ≡ best_below f n → 0 < n → best.number < n
 best_within f n best is some = rw is ((least_is_least f n some).below)
-
--- ---- tests
-
-pub test_below : (a b : ℕ) → a < b → nat_lt a b ≡ true
-test_below a b under = grind (arith, nat_tests)
-
-pub test_not_below : (a b : ℕ) → b ≤ a → nat_lt a b ≡ false
-test_not_below a b most = grind (arith, nat_tests)

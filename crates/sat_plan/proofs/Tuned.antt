@@ -1,9 +1,8 @@
 -- The mismatch as a function of one edge's delay, and the passes over the edges.
-use Rattle.std.proofs.Common.{ℕ, suc, ◌≡◌, ◌<◌, ◌≤◌, ◌+◌, ◌-◌, ◌*◌, ◌⊎◌, inl, inr, Bool, true, false, List, [], ◌∷◌, length, map, sum_by, slice_index, slice_set, slice_index_or, if◌then◌else◌, refl, arith, ap, ◌∙◌, sym}
+use Rattle.std.proofs.Common.{ℕ, suc, ◌≡◌, ◌<◌, ◌≤◌, ◌+◌, ◌-◌, ◌*◌, ◌⊎◌, inl, inr, Bool, true, false, List, [], ◌∷◌, length, map, sum_by, slice_index, slice_index_or, if◌then◌else◌, refl, arith, ap, ◌∙◌, sym}
 use Rattle.std.specs.List.{All}
-use Rattle.std.proofs.Math.Nat.{eq-or-lt_of_le}
-use Rattle.std.proofs.lemmas.Bool.{cases_lt}
-use Rattle.std.proofs.lemmas.List.{set-get_or, get_or-set_same, get_or-set_other, get_or_past, length-set, length-map}
+use Rattle.std.proofs.lemmas.Bool.{lt-ltb, le-ltb}
+use Rattle.std.proofs.lemmas.List.{set-get_or, get_or-set_same, get_or-set_other, length-map}
 use Rattle.std.proofs.lemmas.List.Sums.{sum_by-cons}
 use Rattle.std.proofs.lemmas.List.Elements.{All-head, All-tail}
 use Rattle.sat_delay.specs.Table.{DelayTable, entry, IsWithinLimits}
@@ -18,7 +17,7 @@ use Rattle.sat_plan.specs.Routes.{no_leg, routed, IsRoutes}
 use Rattle.sat_plan.specs.Drafts.{term_cost, terms_cost, turn_of, crosses, term_of, IsPairBelow}
 use Rattle.sat_plan.proofs.Lists.{pairs_are, pairs_few}
 use Rattle.sat_plan.proofs.Measured.{leg_on_way, routed_is}
-use Rattle.sat_plan.proofs.SumLemmas.{sum_to-one, least_is_least, least_alone, test_below, test_not_below}
+use Rattle.sat_plan.proofs.SumLemmas.{sum_to-one, least_is_least, least_alone}
 use Rattle.sat_plan.proofs.Turns.{TurnsAt, better_turn}
 
 -- ---- latencies with another delay
@@ -170,11 +169,11 @@ own_cost d c e = ap (mismatch d) (delayed_same c e)
 
 pub tuned_if : (d : DelayTable) (c : Config) (e : ℕ) → delay_cost d c e (best_delay d c e) < mismatch d c → tuned d c e ≡ delayed c e (best_delay d c e)
 unfolding tuned
-tuned_if d c e less = rw (tuned, test_below (delay_cost d c e (best_delay d c e)) (mismatch d c) less) refl
+tuned_if d c e less = rw (tuned, lt-ltb (delay_cost d c e (best_delay d c e)) (mismatch d c) less) refl
 
 pub tuned_else : (d : DelayTable) (c : Config) (e : ℕ) → mismatch d c ≤ delay_cost d c e (best_delay d c e) → tuned d c e ≡ c
 unfolding tuned
-tuned_else d c e most = rw (tuned, test_not_below (delay_cost d c e (best_delay d c e)) (mismatch d c) most) refl
+tuned_else d c e most = rw (tuned, le-ltb (delay_cost d c e (best_delay d c e)) (mismatch d c) most) refl
 
 -- the best choice, where it lowers the cost
 pub tuned_lower : (d : DelayTable) (c : Config) (r : Routes) (e best cost : ℕ) (terms : List Term) (ways : List Pair) → terms ≡ map (term_of d r c.delays e) ways → ways ≡ pairs d.sites → IsRoutes d c.tree c.places r → Fits d c → e < length (edges c.tree) → IsLeast (terms_cost terms) best → best ≤ 100000 → cost ≡ terms_cost terms best → cost < terms_cost terms (slice_index c.delays e) → delayed c e best ≡ tuned d c e
@@ -197,24 +196,6 @@ tuned_stays d c r e best cost terms ways is all routes fits edge least few costs
     let own = own_cost d c e in
     let no_lower : mismatch d c ≤ delay_cost d c e (best_delay d c e) = rw known (omega arith) in
     delayed_same c e ∙ sym (tuned_else d c e no_lower)
-
-pub delayed_fits : (d : DelayTable) (c : Config) (e x : ℕ) → Fits d c → x ≤ 100000 → Fits d (delayed c e x)
-delayed_fits d c e x fits few = record {
-  seats = fits.seats;
-  one_each = fits.one_each;
-  placed = fits.placed;
-  edges = length-set c.delays e x ∙ fits.edges;
-  prompt = λ n. elim (cases_eq n e) [
-    | inl same ↦ elim (cases_lt e (length c.delays)) [
-      | inl within ↦ rw (same, get_or-set_same c.delays e x 0 within) few
-      | inr past ↦ rw (get_or_past (slice_set c.delays e x) n 0 (let l = length-set c.delays e x in omega arith)) (omega arith)
-    ]
-    | inr other ↦ rw (get_or-set_other c.delays e n x 0 other) (fits.prompt n)
-  ];
-}
-  where
-    cases_eq : (a b : ℕ) → (a ≡ b) ⊎ (a ≡ b → ⊥)
-    cases_eq a b = elim (cases_lt a b) [ inl under ↦ inr (λ same. absurd (omega arith)) | inr most ↦ elim (eq-or-lt_of_le most) [ inl same ↦ inl (sym same) | inr over ↦ inr (λ same. absurd (omega arith)) ] ]
 
 pub terms_few : (d : DelayTable) (r : Routes) (delays : List ℕ) (e : ℕ) (terms : List Term) (ways : List Pair) → terms ≡ map (term_of d r delays e) ways → ways ≡ pairs d.sites → d.sites ≤ 16 → length terms ≤ 256
 terms_few d r delays e terms ways is all few =

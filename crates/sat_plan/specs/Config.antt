@@ -8,11 +8,13 @@ use Rattle.sat_tree.specs.Cut.{neighbours}
 use Rattle.sat_delay.specs.Table.{DelayTable}
 use Rattle.sat_plan.specs.declared.edges.Edge.{Edge}
 
+-- a tree with a place for each serializer and a delay for each edge
 pub record Config : Type 0 where
   pub tree : TreeShape
   pub places : List ℕ
   pub delays : List ℕ
 
+-- the same of its parts
 abbrev pub config_of : TreeShape → List ℕ → List ℕ → Config
 config_of tree places delays = record { tree = tree; places = places; delays = delays }
 
@@ -25,10 +27,12 @@ unfoldable pub edges_below : TreeShape → ℕ → List Edge
 edges_below t zero = []
 edges_below t (suc z) = edges_below t z ++ map (edge_of z) (neighbours t z)
 
+-- all edges, by the serializer that they leave, then in the order of its neighbours
 unfoldable pub edges : TreeShape → List Edge
 unfolding edges_below
 edges t = edges_below t (length t.parents)
 
+-- the edge of a number
 unfoldable pub edge_at : TreeShape → ℕ → Edge
 unfolding edges
 edge_at t e = slice_index_or (edges t) e (edge_of 0 (Site 0))

@@ -1,5 +1,5 @@
 -- What is known of trees that are being built.
-use Rattle.std.specs.Prelude.{ℕ, ◌≡◌, ◌<◌, ◌≤◌, ◌+◌, ◌*◌, ◌-◌, ◌⊎◌, ◌&&◌, ◌||◌, ◌==◌, nat_lt, not, true, List, length, Bool, sum_by, slice_index, if◌then◌else◌}
+use Rattle.std.specs.Prelude.{ℕ, ◌≡◌, ◌<◌, ◌≤◌, ◌+◌, ◌*◌, ◌-◌, ◌&&◌, ◌||◌, ◌==◌, nat_lt, not, true, List, length, Bool, sum_by, slice_index, if◌then◌else◌}
 use Rattle.std.specs.List.{slice_index_or}
 use Rattle.sat_label.specs.Words.{bit}
 use Rattle.sat_label.specs.declared.node.NodeId.{NodeId}
@@ -15,11 +15,10 @@ use Rattle.sat_plan.specs.declared.routes.Routes.{Routes}
 use Rattle.sat_plan.specs.declared.terms.Term.{Term}
 use Rattle.sat_plan.specs.declared.terms.Choice.{Choice}
 use Rattle.sat_plan.specs.Sums.{least_of, gap}
-use Rattle.sat_plan.specs.Config.{Config, config_of, Fits}
-use Rattle.sat_plan.specs.Mismatch.{mismatch}
-use Rattle.sat_plan.specs.Steps.{grow, grown, tuned_below, settled}
-use Rattle.sat_plan.specs.Routes.{routed, no_leg, IsRoutes}
+use Rattle.sat_plan.specs.Config.{Config, config_of}
+use Rattle.sat_plan.specs.Routes.{routed, no_leg}
 
+-- the tree that a draft stands for
 abbrev pub draft_config : Draft → Config
 draft_config c = config_of c.tree c.places.items c.delays.items
 
@@ -49,6 +48,7 @@ best_below f n = record { number = least_of f n; cost = f (least_of f n) }
 unfoldable pub term_cost : ℕ → Term → ℕ
 term_cost delay t = t.weight * gap (t.rest + (if t.crosses then delay else 0)) t.optimal
 
+-- what all pairs add
 unfoldable pub terms_cost : List Term → ℕ → ℕ
 unfolding term_cost
 terms_cost terms delay = sum_by (term_cost delay) terms
@@ -63,6 +63,7 @@ pub record IsSmallTerm (t : Term) : Type 0 where
   pub rest : t.rest ≤ 100000000
   pub optimal : t.optimal ≤ 100000
 
+-- whether an edge lies on the way of a pair
 unfoldable pub crosses : Routes → ℕ → Pair → Bool
 crosses r e p = bit (slice_index_or r.legs.items e no_leg).far.bits p.to && not (bit (slice_index_or r.legs.items e no_leg).far.bits p.from)
 
@@ -79,37 +80,3 @@ term_of d r delays e p = record {
 -- the cheaper of two, and among equals the one of lower delay, or else the first
 abbrev pub better : Choice → Choice → Choice
 better a b = if nat_lt b.cost a.cost || ((b.cost == a.cost) && nat_lt b.delay a.delay) then b else a
-
--- a tree with its mismatch, from which the steps go on to the one that is grown
-pub record IsGrowing (d : DelayTable) (c : Config) (cost : ℕ) : Type 0 where
-  pub fits : Fits d c
-  pub costs : cost ≡ mismatch d c
-  pub some : 0 < length c.tree.parents
-  pub few : length c.tree.parents ≤ 15
-  pub grows : grow d (15 - length c.tree.parents) c ≡ grown d
-
--- a choice that is no worse than a delay, and no greater where it is as good
-abbrev pub NoWorse : List Term → Choice → ℕ → Type 0
-NoWorse terms best delay = (best.cost < terms_cost terms delay) ⊎ ((best.cost ≤ terms_cost terms delay) × (best.delay ≤ delay))
-
--- the best of 0 and of the first so many turns
-pub record IsBestOf (terms : List Term) (n : ℕ) (best : Choice) : Type 0 where
-  pub costs : best.cost ≡ terms_cost terms best.delay
-  pub few : best.delay ≤ 100000
-  pub none : NoWorse terms best 0
-  pub turns : (k : ℕ) (t : Term) → k < n → NoWorse terms best (turn_of (slice_index_or terms k t))
-
--- a tree in the midst of a pass
-pub record IsPassing (d : DelayTable) (old : Config) (c : Config) (r : Routes) (e : ℕ) : Type 0 where
-  pub fits : Fits d c
-  pub tree : c.tree ≡ old.tree
-  pub places : c.places ≡ old.places
-  pub routes : IsRoutes d c.tree c.places r
-  pub passed : c ≡ tuned_below d old e
-
--- a tree with its mismatch between two passes
-pub record IsSettling (d : DelayTable) (old : Config) (c : Config) (r : Routes) (cost : ℕ) : Type 0 where
-  pub fits : Fits d c
-  pub routes : IsRoutes d c.tree c.places r
-  pub costs : cost ≡ mismatch d c
-  pub settles : settled d (mismatch d c) c ≡ settled d (mismatch d old) old

@@ -20,6 +20,7 @@ abbrev pub span_to : DelayTable → List ℕ → ℕ → NodeId → ℕ
 span_to d places z (Site i) = 0
 span_to d places z (Serializer y) = entry d.between (slice_index places z) (slice_index places y)
 
+-- the milliseconds from the place of an edge's serializer to that of its other end; none to a site
 abbrev pub span : DelayTable → List ℕ → Edge → ℕ
 span d places e = span_to d places e.from e.to
 
@@ -39,9 +40,11 @@ unfoldable pub latency : DelayTable → Config → ℕ → ℕ → ℕ
 unfolding access sum_to leg edges
 latency d c i k = access d c i + sum_to (leg d c i k) (length (edges c.tree)) + access d c k
 
+-- the pair from one site to another
 abbrev pub pair_of : ℕ → ℕ → Pair
 pair_of from to = record { from = from; to = to }
 
+-- two sites differ
 abbrev pub is_other : ℕ → ℕ → Bool
 is_other i k = not (k == i)
 
@@ -50,6 +53,7 @@ unfoldable pub pairs_below : ℕ → ℕ → List Pair
 pairs_below sites zero = []
 pairs_below sites (suc i) = pairs_below sites i ++ map (pair_of i) (filter (is_other i) (below sites))
 
+-- all ordered pairs of different sites
 unfoldable pub pairs : ℕ → List Pair
 unfolding pairs_below
 pairs sites = pairs_below sites sites
@@ -59,6 +63,7 @@ unfoldable pub pair_cost : DelayTable → Config → Pair → ℕ
 unfolding latency
 pair_cost d c p = entry d.weight p.from p.to * gap (latency d c p.from p.to) (entry d.optimal p.from p.to)
 
+-- the sum over all pairs
 unfoldable pub mismatch : DelayTable → Config → ℕ
 unfolding pair_cost pairs
 mismatch d c = sum_by (pair_cost d c) (pairs d.sites)

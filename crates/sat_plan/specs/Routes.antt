@@ -14,6 +14,7 @@ use Rattle.sat_plan.specs.Sums.{sum_to, gap}
 use Rattle.sat_plan.specs.Config.{edges, edge_at}
 use Rattle.sat_plan.specs.Mismatch.{span}
 
+-- a leg that leads nowhere
 abbrev pub no_leg : Leg
 no_leg = record { far = record { bits = 0 }; span = 0 }
 
@@ -21,13 +22,16 @@ no_leg = record { far = record { bits = 0 }; span = 0 }
 abbrev pub leg_way : Leg → ℕ → ℕ → ℕ → ℕ
 leg_way l delay i k = if bit l.far.bits k && not (bit l.far.bits i) then l.span + delay else 0
 
+-- what a leg adds on the way from i to k
 unfoldable pub routed_leg : List Leg → List ℕ → ℕ → ℕ → ℕ → ℕ
 routed_leg legs delays i k e = leg_way (slice_index_or legs e no_leg) (slice_index delays e) i k
 
+-- the latency from i to k
 unfoldable pub routed : Routes → List ℕ → ℕ → ℕ → ℕ
 unfolding sum_to routed_leg
 routed r delays i k = slice_index r.access.items i + sum_to (routed_leg r.legs.items delays i k) (length r.legs.items) + slice_index r.access.items k
 
+-- what a pair adds to the mismatch
 unfoldable pub routed_cost : DelayTable → Routes → List ℕ → Pair → ℕ
 unfolding routed
 routed_cost d r delays p = entry d.weight p.from p.to * gap (routed r delays p.from p.to) (entry d.optimal p.from p.to)

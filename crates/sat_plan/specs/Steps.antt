@@ -14,6 +14,7 @@ undelayed t places = config_of t places (replicate (length (edges t)) 0)
 
 -- ---- the first serializer
 
+-- one serializer, with all sites seated there
 abbrev pub star : ℕ → TreeShape
 star sites = record { parents = None ∷ []; seats = replicate sites 0 }
 
@@ -22,16 +23,19 @@ unfoldable pub start_at : DelayTable → ℕ → Config
 unfolding undelayed
 start_at d p = undelayed (star d.sites) (p ∷ [])
 
+-- its mismatch
 unfoldable pub start_cost : DelayTable → ℕ → ℕ
 unfolding start_at mismatch
 start_cost d p = mismatch d (start_at d p)
 
+-- it stands at the place of least mismatch, of the lowest number among equals
 unfoldable pub start : DelayTable → Config
 unfolding start_at start_cost least_of
 start d = start_at d (least_of (start_cost d) d.places)
 
 -- ---- further serializers
 
+-- the milliseconds from a site to the place of a serializer
 abbrev pub seat_cost : DelayTable → List ℕ → ℕ → ℕ → ℕ
 seat_cost d places i z = entry d.reach i (slice_index places z)
 
@@ -40,10 +44,12 @@ unfoldable pub nearest : DelayTable → List ℕ → ℕ → ℕ
 unfolding least_of
 nearest d places i = least_of (seat_cost d places i) (length places)
 
+-- each site at the nearest serializer
 unfoldable pub nearest_seats : DelayTable → List ℕ → List ℕ
 unfolding nearest
 nearest_seats d places = map (nearest d places) (below d.sites)
 
+-- one serializer more that hangs on q, and the seats after it
 abbrev pub hung_tree : DelayTable → Config → ℕ → ℕ → TreeShape
 hung_tree d c q p = record { parents = c.tree.parents ++ Some q ∷ []; seats = nearest_seats d (c.places ++ p ∷ []) }
 
@@ -52,6 +58,7 @@ unfoldable pub hung : DelayTable → Config → ℕ → ℕ → Config
 unfolding undelayed nearest_seats
 hung d c q p = undelayed (hung_tree d c q p) (c.places ++ p ∷ [])
 
+-- its mismatch
 unfoldable pub hung_cost : DelayTable → Config → ℕ → ℕ → ℕ
 unfolding hung mismatch
 hung_cost d c q p = mismatch d (hung d c q p)
@@ -61,10 +68,12 @@ unfoldable pub best_place : DelayTable → Config → ℕ → ℕ
 unfolding hung_cost least_of
 best_place d c q = least_of (hung_cost d c q) d.places
 
+-- the mismatch with a new serializer at its best place under q
 unfoldable pub parent_cost : DelayTable → Config → ℕ → ℕ
 unfolding hung_cost best_place
 parent_cost d c q = hung_cost d c q (best_place d c q)
 
+-- the serializer under which that is least
 unfoldable pub best_parent : DelayTable → Config → ℕ
 unfolding parent_cost least_of
 best_parent d c = least_of (parent_cost d c) (length c.tree.parents)
@@ -87,6 +96,7 @@ grown d = grow d 14 (start d)
 
 -- ---- delays, in definitions that open one by one, since the best delay is looked for up to a large number
 
+-- the mismatch where one edge has this delay
 unfoldable pub delay_cost : DelayTable → Config → ℕ → ℕ → ℕ
 delay_cost d c e delay = mismatch d (delayed c e delay)
 
@@ -98,6 +108,7 @@ best_delay d c e = least_of (delay_cost d c e) 100001
 unfoldable pub tuned : DelayTable → Config → ℕ → Config
 tuned d c e = if nat_lt (delay_cost d c e (best_delay d c e)) (mismatch d c) then delayed c e (best_delay d c e) else c
 
+-- so many edges tuned, in order
 unfoldable pub tuned_below : DelayTable → Config → ℕ → Config
 tuned_below d c zero = c
 tuned_below d c (suc e) = tuned d (tuned_below d c e) e

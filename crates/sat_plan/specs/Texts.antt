@@ -1,9 +1,9 @@
 -- What is printed of a tree that was built.
-use Rattle.std.specs.Prelude.{ℕ, zero, suc, nat_lt, List, [], ◌∷◌, ◌++◌, length, map, slice_index, Option, Some, None, Result, Ok, Err, if◌then◌else◌, codes}
+use Rattle.std.specs.Prelude.{ℕ, zero, suc, nat_lt, List, [], ◌∷◌, ◌++◌, length, slice_index, Result, Ok, Err, if◌then◌else◌, codes}
 use Rattle.std.specs.Fmt.{decimal}
-use Rattle.sat_label.specs.declared.node.NodeId.{NodeId}
-use Rattle.sat_label.specs.declared.node.NodeId.TheVariants.{Site, Serializer}
+use Rattle.sat_label.specs.Text.{node_text}
 use Rattle.sat_tree.specs.Shape.{TreeShape}
+use Rattle.sat_tree.specs.PlanLine.{tree_line}
 use Rattle.sat_delay.specs.declared.fault.DelayFault.{DelayFault}
 use Rattle.sat_delay.specs.Table.{DelayTable}
 use Rattle.sat_delay.specs.Reading.{reading}
@@ -13,28 +13,11 @@ use Rattle.sat_plan.specs.Config.{Config, edges, edge_at}
 use Rattle.sat_plan.specs.Mismatch.{mismatch}
 use Rattle.sat_plan.specs.Steps.{built}
 
--- words with a blank before each
-abbrev pub spaced : List (List ℕ) → List ℕ
-spaced [] = []
-spaced (word ∷ words) = 32 ∷ (word ++ spaced words)
-
--- the serializer that one hangs on
-abbrev pub parent_text : Option ℕ → List ℕ
-parent_text None = codes "-"
-parent_text (Some p) = decimal p
-
-abbrev pub node_text : NodeId → List ℕ
-node_text (Site i) = 115 ∷ decimal i
-node_text (Serializer z) = 122 ∷ decimal z
-
--- `plan tree PARENTS / SEATS`
-unfoldable pub tree_line : TreeShape → List ℕ
-tree_line t = codes "plan tree" ++ (spaced (map parent_text t.parents) ++ (codes " /" ++ (spaced (map decimal t.seats) ++ 10 ∷ [])))
-
 -- `place zK P`
 unfoldable pub place_line : List ℕ → ℕ → List ℕ
 place_line places z = codes "place z" ++ (decimal z ++ 32 ∷ (decimal (slice_index places z) ++ 10 ∷ []))
 
+-- the lines of so many serializers
 unfoldable pub place_lines : List ℕ → ℕ → List ℕ
 unfolding place_line
 place_lines places zero = []
@@ -44,10 +27,12 @@ place_lines places (suc z) = place_lines places z ++ place_line places z
 abbrev pub edge_line : Edge → ℕ → List ℕ
 edge_line e delay = codes "delay z" ++ (decimal e.from ++ 32 ∷ (node_text e.to ++ 32 ∷ (decimal delay ++ 10 ∷ [])))
 
+-- the line of an edge, or nothing where it has no delay
 unfoldable pub delay_line : TreeShape → List ℕ → ℕ → List ℕ
 unfolding edge_at
 delay_line t delays e = if nat_lt 0 (slice_index delays e) then edge_line (edge_at t e) (slice_index delays e) else []
 
+-- the lines of so many edges
 unfoldable pub delay_lines : TreeShape → List ℕ → ℕ → List ℕ
 unfolding delay_line
 delay_lines t delays zero = []
@@ -57,6 +42,7 @@ delay_lines t delays (suc e) = delay_lines t delays e ++ delay_line t delays e
 unfoldable pub mismatch_line : ℕ → List ℕ
 mismatch_line cost = codes "mismatch " ++ (decimal cost ++ 10 ∷ [])
 
+-- the plan of the tree, its places, its delays and its mismatch
 unfoldable pub config_text : Config → ℕ → List ℕ
 unfolding tree_line place_lines delay_lines mismatch_line edges
 config_text c cost =
@@ -64,6 +50,7 @@ config_text c cost =
 
 -- ---- what comes of a text
 
+-- the text of the tree that is built from a table, or the line of its fault
 abbrev pub result_text : Result DelayTable DelayFault → List ℕ
 result_text (Ok d) = config_text (built d) (mismatch d (built d))
 result_text (Err fault) = fault_text fault

@@ -11,14 +11,12 @@ ghost use Rattle.sat_plan.specs.Steps.{start_at, start_cost, start, seat_cost, n
 use crate::best::Best;
 use crate::draft::Draft;
 use sat_delay::Delays;
+use sat_label::MOST_SERIALIZERS;
 use sat_tree::{Tree, TreeFault};
 use std::alloc::{AllocError, Global};
 
-/// The greatest number of serializers.
-const MOST_SERIALIZERS: u16 = 15;
-
 // The tree of parents and seats that are right.
-#[tactic(auto, using(crate::proofs::Sound::no_flaw))]
+#[tactic(auto, using(sat_tree::proofs::Small::no_flaw))]
 fn tree_of(alloc: Global, parents: &[Option<u16>], seats: &[u16]) -> Result<Tree, AllocError>
     requires { IsSmallTree (record { parents = parents.now; seats = seats.now }) }
     ensures { IfOk result (λ t. t ≡ record { parents = parents.now; seats = seats.now }) }

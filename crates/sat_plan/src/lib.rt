@@ -21,8 +21,9 @@ pub use building::{Built, build};
 pub use measure::mismatch;
 pub use text::write_built;
 
-/// What the words of the definitions mean: an edge lies on the way between two sites just where it is a step of their path, the least below a number is the least, a tree is grown to the end, an edge's best delay
-/// is the best of all whole numbers, and the passes over the edges go on to the end.
+/// What the words of the definitions mean: an edge lies on the way between two sites just where it is a step of their path, the
+/// least below a number is the least, a tree is grown to the end, an edge's best delay is the best of all whole numbers, and the
+/// passes over the edges go on to the end.
 #[tactic(auto, using(crate::proofs::OnWay::on_way_is_on_path, crate::proofs::SumLemmas::least_is_least, crate::proofs::Growth::grows_to_the_end, crate::proofs::Tuned::best_delay_is_best, crate::proofs::Passes::settles_to_the_end))]
 pub fn plan_laws()
     ensures on_way { OnWayIsOnPath }
@@ -31,6 +32,3 @@ pub fn plan_laws()
     ensures best { BestDelayIsBest }
     ensures settled { SettlesToTheEnd }
 {}
-
-#[cfg(test)]
-mod tests;

@@ -2,11 +2,11 @@
 ghost use Rattle.std.specs.Prelude.{◌≡◌, ◌<◌, ◌++◌, ◌∷◌, [], nat_lt, if◌then◌else◌, length, map, slice_index, IfOk, OnOk, OnErr, string_bytes};
 ghost use Rattle.std.specs.Fmt.{decimal};
 ghost use Rattle.sat_plan.specs.Config.{config_of, edges, edge_at};
-ghost use Rattle.sat_plan.specs.Texts.{spaced, parent_text, node_text, tree_line, place_line, place_lines, edge_line, delay_line, delay_lines, mismatch_line, config_text};
+ghost use Rattle.sat_tree.specs.PlanLine.{spaced, parent_text, tree_line};
+ghost use Rattle.sat_plan.specs.Texts.{place_line, place_lines, edge_line, delay_line, delay_lines, mismatch_line, config_text};
 
 use crate::building::Built;
 use crate::edges::{Edge, edges};
-use sat_label::NodeId;
 use sat_tree::Tree;
 use std::alloc::{AllocError, Global};
 
@@ -35,16 +35,6 @@ fn parent_text(alloc: Global, parent: Option<u16>) -> Result<String, AllocError>
     }
 }
 
-fn node_text(alloc: Global, node: NodeId) -> Result<String, AllocError>
-    ensures { IfOk result (λ text. string_bytes text ≡ node_text node) }
-{
-    match node {
-        NodeId::Site(site) => format!(in alloc; "s{site}"),
-        NodeId::Serializer(serializer) => format!(in alloc; "z{serializer}"),
-    }
-}
-
-#[tactic(auto, using(crate::proofs::Texts::spaced_more))]
 fn parents_text(alloc: Global, tree: &Tree) -> Result<Vec<u8>, AllocError>
     ensures { IfOk result (λ text. text.items ≡ spaced (map parent_text tree.now.parents)) }
 {
@@ -56,7 +46,6 @@ fn parents_text(alloc: Global, tree: &Tree) -> Result<Vec<u8>, AllocError>
     Ok(text)
 }
 
-#[tactic(auto, using(crate::proofs::Texts::spaced_more))]
 fn seats_text(alloc: Global, tree: &Tree) -> Result<Vec<u8>, AllocError>
     ensures { IfOk result (λ text. text.items ≡ spaced (map decimal tree.now.seats)) }
 {
@@ -69,7 +58,7 @@ fn seats_text(alloc: Global, tree: &Tree) -> Result<Vec<u8>, AllocError>
 }
 
 // `plan tree PARENTS / SEATS`
-#[tactic(auto, unfolding(crate::specs::Texts::tree_line))]
+#[tactic(auto, unfolding(sat_tree::specs::PlanLine::tree_line))]
 fn tree_line(alloc: Global, tree: &Tree) -> Result<Vec<u8>, AllocError>
     ensures { IfOk result (λ text. text.items ≡ tree_line tree.now) }
 {
@@ -111,7 +100,7 @@ fn edge_line(alloc: Global, edge: Edge, delay: u64) -> Result<String, AllocError
     ensures { IfOk result (λ text. string_bytes text ≡ edge_line edge delay) }
 {
     let from = edge.from;
-    let to = node_text(alloc, edge.to)?;
+    let to = edge.to.text(alloc)?;
     format!(in alloc; "delay z{from} {to} {delay}\n")
 }
 

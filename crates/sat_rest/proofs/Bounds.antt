@@ -1,9 +1,11 @@
 -- How much is left after the opening of a settle.
-use Rattle.std.specs.Prelude.{◌≡◌, ◌⊎◌, ◌<◌, ◌≤◌, ℕ, zero, suc, ◌+◌, ◌*◌, Bool, true, false, ◌&&◌, not, ◌==◌, List, [], ◌∷◌, ◌++◌, Option, Some, None, refl, length, filter, map, if◌then◌else◌}
+use Rattle.std.specs.Prelude.{◌≡◌, ◌⊎◌, ◌<◌, ◌≤◌, ℕ, ◌+◌, ◌*◌, Bool, true, false, ◌&&◌, not, ◌==◌, List, [], ◌∷◌, ◌++◌, Option, Some, None, refl, length, filter, map, if◌then◌else◌}
 use Rattle.std.proofs.Common.{sym, subst, arith, inl, inr, ap, ◌∙◌, length-append}
 use Rattle.std.proofs.lemmas.List.{append-nil, length-map}
 use Rattle.std.proofs.lemmas.Bool.Decides.{nat_tests}
 use Rattle.std.proofs.Math.Nat.{mul_comm}
+use Rattle.std.proofs.lemmas.Bool.{not_from_true}
+use Rattle.sat_label.proofs.Numbers.{length-below}
 use Rattle.sat_label.specs.declared.label.Label.{Label}
 use Rattle.sat_label.specs.declared.label.Kind.{Kind}
 use Rattle.sat_label.specs.declared.label.Kind.TheVariants as kind
@@ -24,20 +26,17 @@ use Rattle.sat_act.specs.Answers.{base, gear_of}
 use Rattle.sat_act.specs.Runs.{IsRun}
 use Rattle.sat_act.specs.Goals.{Gives}
 use Rattle.sat_act.specs.Settling.{total, payload_entry, payloads, payload_left, payloads_left, handlings, sending_entry, sendings, nodes_of, was_handled, sending_left, epochs_left, left}
-use Rattle.sat_rest.specs.SettleGoals.{IsWithin, any_sent_entry, sent_count, wrote_entry, wrote_count}
+use Rattle.sat_rest.specs.Ends.{IsWithin, any_sent_entry, sent_count, wrote_entry, wrote_count}
 use Rattle.sat_laws.proofs.Steps.{Step, wrote}
 use Rattle.sat_laws.proofs.Runs.{step_of, before_of, entry}
 use Rattle.sat_act.specs.Done.{sent_in, is_at}
 use Rattle.sat_laws.proofs.Sinks.{kept}
 use Rattle.sat_laws.proofs.Labels.{seat-range, some_is}
-use Rattle.sat_laws.proofs.Members.{In, listed-gives}
+use Rattle.sat_laws.proofs.Members.{listed-gives}
 use Rattle.sat_laws.proofs.Links.{HandledFrom, tail_of, own-sending, view-of}
 use Rattle.sat_rest.proofs.Lefts.{payloads_all, sendings_all, epochs_all, pick_sending, payloads_left-is, left-is, site-node, handled-grows, handled-now}
 use Rattle.sat_rest.proofs.Totals.{total-le, total-lt, total-bound, filter-less, In-below}
-
-pub length-below : (n : ℕ) → length (below n) ≡ n
-length-below zero = refl
-length-below (suc n) = let a : length (below n) ≡ n = length-below n in omega (arith, length-append (below n) (n ∷ []))
+use Rattle.sat_label.specs.Members.{In}
 
 -- ---- payloads
 
@@ -229,15 +228,11 @@ none-left d hs s k = go (tree_of d s.epoch) k
     go None e = omega arith
     go (Some t) e = absurd (cc)
 
-off : (b : Bool) → b ≡ true → not b ≡ false
-off true e = refl
-off false e = absurd (cc)
-
 some-left : (d : Deployed) (hs : List Handling) (s : Handling) → length (nodes_of d s.epoch) ≤ 31 → In (nodes_of d s.epoch) s.node → was_handled hs s.epoch s.label s.node ≡ true → sending_left d hs s ≤ 30
 unfolding sending_left
 some-left d hs s few m k =
     let a : length (filter (λ (v : NodeId). not (was_handled hs s.epoch s.label v)) (nodes_of d s.epoch)) < length (nodes_of d s.epoch) =
-    filter-less (λ (v : NodeId). not (was_handled hs s.epoch s.label v)) (nodes_of d s.epoch) s.node m (off (was_handled hs s.epoch s.label s.node) k) in
+    filter-less (λ (v : NodeId). not (was_handled hs s.epoch s.label v)) (nodes_of d s.epoch) s.node m (not_from_true (was_handled hs s.epoch s.label s.node) k) in
     below_limit (length (filter (λ (v : NodeId). not (was_handled hs s.epoch s.label v)) (nodes_of d s.epoch))) (length (nodes_of d s.epoch)) a few
   where
     below_limit : (a b : ℕ) → a < b → b ≤ 31 → a ≤ 30

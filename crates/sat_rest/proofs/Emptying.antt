@@ -19,11 +19,11 @@ use Rattle.sat_act.specs.Answers.{answer, greatest_promise}
 use Rattle.sat_act.specs.Runs.{IsRun}
 use Rattle.sat_act.specs.Goals.{Gives, Made, IsValid}
 use Rattle.sat_act.specs.Settling.{is_done, inner_entry, tried, for_each, joined, gather_at, emit_all, emptied, opening, bulks, hops, turns, round_acts, settle}
-use Rattle.sat_rest.specs.SettleGoals.{IsWithin, UntilRefused, ends, goes_on, IsQuiet, LanesWhole}
+use Rattle.sat_rest.specs.Ends.{IsWithin, UntilRefused, ends, goes_on, IsQuiet}
+use Rattle.sat_rest.specs.Rest.{LanesWhole}
 use Rattle.sat_laws.proofs.Steps.{Step, outcome, wrote, moved}
 use Rattle.sat_laws.proofs.Labels.{IsPlaced, made-placed}
 use Rattle.sat_laws.proofs.Gears.{greatest_promise-above, promise-rises}
-use Rattle.sat_laws.proofs.Members.{In, In-get, In-left, In-right}
 use Rattle.sat_laws.proofs.Sinks.{Sent, by_gather, stable-rises}
 use Rattle.sat_laws.proofs.Cuts.{none-sent}
 use Rattle.sat_laws.proofs.Links.{In-place}
@@ -32,6 +32,8 @@ use Rattle.sat_laws.proofs.BeatTimes.{in-lane-of}
 use Rattle.sat_rest.proofs.Rounds.{IsInner, inner-act, Goes, goes-keep, IsAfter, tried-after, repeated-after, for_each-after, in-among, emits-end}
 use Rattle.sat_rest.proofs.Settles.{emptied-is, opening-after, settle-ends}
 use Rattle.sat_rest.proofs.Totals.{In-below, below-In, into-joined}
+use Rattle.sat_label.specs.Members.{In}
+use Rattle.sat_label.proofs.Members.{In-get, In-left, In-right}
 
 -- ---- the acts that a round tries
 

@@ -8,9 +8,11 @@ use Rattle.sat_act.specs.declared.act.Act.{Act}
 use Rattle.sat_act.specs.declared.act.Act.TheVariants.{Write, Read, Gather, Emit, Hop, Turn, Bulk}
 use Rattle.sat_act.specs.declared.deployment.Plan.TheVariants as plan
 use Rattle.sat_act.specs.Deployed.{Deployed}
+use Rattle.sat_act.proofs.Plans.{tree_in_plans}
 use Rattle.sat_act.specs.Parts.{tree_of, home, view, emission, fallen, killed}
 use Rattle.sat_act.specs.Settling.{run, settle}
-use Rattle.sat_rest.specs.SettleGoals.{IsWithin, CanEnd, IsAtRest}
+use Rattle.sat_rest.specs.Ends.{IsWithin}
+use Rattle.sat_rest.specs.Rest.{CanEnd, IsAtRest}
 use Rattle.sat_act.specs.declared.entry.Entry.{Entry}
 use Rattle.sat_rest.proofs.Rest.{rests}
 use Rattle.sat_act.specs.Goals.{IsValid}
@@ -57,13 +59,15 @@ star-tree = record {
     seat (suc zero) = lit≤ tt
     seat (suc (suc i)) = lit≤ tt
 
+only-plan : (n : ℕ) (t : TreeShape) → slice_get (plan.Tree star ∷ []) n ≡ Some (plan.Tree t) → star ≡ t
+only-plan zero t k = let e : plan.Tree star ≡ plan.Tree t = cc in cc
+only-plan (suc n) t k = absurd (cc)
+
+only-tree : (e : ℕ) (t : TreeShape) → tree_of A e ≡ Some t → star ≡ t
+only-tree e t k = only-plan (e - 1) t (tree_in_plans A e t k).1
+
 trees : HasTrees A
-unfolding tree_of
-trees e t k = subst IsTree (one-plan (e - 1) k) star-tree
-  where
-    one-plan : (n : ℕ) → elim (slice_get (plan.Tree star ∷ []) n) [ None ↦ None | Some p ↦ elim p [ plan.Stamp ↦ None | plan.Tree t ↦ Some t ] ] ≡ Some t → star ≡ t
-    one-plan zero k = some_is star t k
-    one-plan (suc n) k = absurd (cc)
+trees e t k = subst IsTree (only-tree e t k) star-tree
 
 abbrev script : List Act
 script = Read 1 0 ∷ Turn 1 ∷ Bulk 0 0 1 None ∷ Hop 1 (Site 0) 0 ∷ Emit 0 ∷ Gather 0 ∷ Write 0 0 (104 ∷ []) ∷ []
@@ -75,20 +79,15 @@ in-range = (((((((tt, tt), lit≤ tt), lit≤ tt), (star, refl, refl)), (lit≤ 
 plain-path-good : IsGood A (run A script)
 plain-path-good = every-run A script valid trees in-range
 
-only-plan : (n : ℕ) (t : TreeShape) → elim (slice_get (plan.Tree star ∷ []) n) [ None ↦ None | Some p ↦ elim p [ plan.Stamp ↦ None | plan.Tree t ↦ Some t ] ] ≡ Some t → star ≡ t
-only-plan zero t k = some_is star t k
-only-plan (suc n) t k = absurd (cc)
-
 within : IsWithin A
-unfolding tree_of
 within = record {
   valid = valid;
   some_site = lit≤ tt;
   trees = trees;
   some_plan = lit≤ tt;
   few_sites = lit≤ tt;
-  few_serializers = λ e t k. subst (λ (s : TreeShape). length s.parents ≤ 15) (only-plan (e - 1) t k) (lit≤ tt);
-  all_seated = λ e t k. subst (λ (s : TreeShape). length s.seats ≡ 2) (only-plan (e - 1) t k) refl;
+  few_serializers = λ e t k. subst (λ (s : TreeShape). length s.parents ≤ 15) (only-tree e t k) (lit≤ tt);
+  all_seated = λ e t k. subst (λ (s : TreeShape). length s.seats ≡ 2) (only-tree e t k) refl;
 }
 
 abbrev after_settle : List Entry

@@ -2,6 +2,8 @@
 use Rattle.std.specs.Prelude.{◌≡◌, ◌⊎◌, ◌<◌, ◌≤◌, ℕ, zero, suc, ◌+◌, Bool, true, false, ◌&&◌, ◌||◌, ◌==◌, nat_le, List, [], ◌∷◌, ◌++◌, Option, Some, None, refl, length, slice_get, if◌then◌else◌}
 use Rattle.std.proofs.Common.{sym, subst, arith, inl, inr, ap, ◌∙◌, length-append}
 use Rattle.std.proofs.lemmas.Bool.Decides.{nat_tests}
+use Rattle.std.proofs.lemmas.Bool.{leb-true}
+use Rattle.sat_label.proofs.Truth.{some_if}
 use Rattle.sat_label.specs.declared.point.Point.{Point}
 use Rattle.sat_label.specs.declared.label.Label.{Label}
 use Rattle.sat_label.specs.Order.{mark, point_le, label_eq}
@@ -14,13 +16,12 @@ use Rattle.sat_act.specs.declared.answer.Refusal.TheVariants as why
 use Rattle.sat_act.specs.declared.entry.Entry.{Entry}
 use Rattle.sat_act.specs.Deployed.{Deployed}
 use Rattle.sat_act.specs.Parts.{BeatNote, gathered, sent, beats, beat_entry, beats_taken, is_complete, best, best_below, cut, ready, stable}
-use Rattle.sat_act.specs.Answers.{answer, unless}
+use Rattle.sat_act.specs.Answers.{answer, refused_if}
 use Rattle.sat_act.specs.Runs.{IsRun}
 use Rattle.sat_act.specs.Goals.{Made, IsValid}
 use Rattle.sat_act.specs.Settling.{is_done, inner_entry, tried, for_each, joined, beat_over, pairs, pulse_at, emptied, opening, settle}
-use Rattle.sat_rest.specs.SettleGoals.{IsWithin}
+use Rattle.sat_rest.specs.Ends.{IsWithin}
 use Rattle.sat_laws.proofs.Labels.{some_is}
-use Rattle.sat_laws.proofs.Members.{In}
 use Rattle.sat_laws.proofs.Sinks.{pending-is, gathered-made}
 use Rattle.sat_laws.proofs.Cuts.{ready-is, not_sent, cut-none}
 use Rattle.sat_laws.proofs.Links.{tail_of, get-cases, get-below}
@@ -29,6 +30,7 @@ use Rattle.sat_rest.proofs.Rounds.{IsInner, inner-act, Goes, stay, step, goes-ke
 use Rattle.sat_rest.proofs.Settles.{beat-after, pair-of, emptied-after, opening-is, settle-ends}
 use Rattle.sat_rest.proofs.Totals.{In-below, below-In, into-joined}
 use Rattle.sat_rest.proofs.Emptying.{AllSent, AllStable, sent-keeps, stable-keeps, old-made, emptied-sent, emptied-stable, for_each-all}
+use Rattle.sat_label.specs.Members.{In}
 
 -- a note whose cut is at or above all that was made
 abbrev IsHigh : ℕ → List Entry → BeatNote → Type 0
@@ -133,20 +135,16 @@ beat-is d h i j = refl
 abbrev coming : Option (ℕ × BeatNote) → ℕ → Bool → Answer
 coming o n t = elim o [ None ↦ if t then ans.Again else ans.Taken | Some b ↦ if nat_le n b.0 then ans.Old else (if t then ans.Again else ans.Taken) ]
 
-answer-beat-in : (d : Deployed) (h : List Entry) (i j n : ℕ) → answer d h (act.BeatIn i j n) ≡ unless (nat_le (length (beats d h i j)) n) why.NoSuch (coming (best d h j i) n (has ◌==◌ (beats_taken h i j) n))
+answer-beat-in : (d : Deployed) (h : List Entry) (i j n : ℕ) → answer d h (act.BeatIn i j n) ≡ refused_if (nat_le (length (beats d h i j)) n) why.NoSuch (coming (best d h j i) n (has ◌==◌ (beats_taken h i j) n))
 unfolding answer
 answer-beat-in d h i j n = refl
 
 same_pair : (i j : ℕ) → ((i == i) && (j == j)) ≡ true
 same_pair i j = grind (arith, nat_tests)
 
-if_some : {X : Type 0} (b : Bool) (x : X) → b ≡ true → (if b then Some x else None) ≡ Some x
-if_some true x e = refl
-if_some false x e = absurd (cc)
-
 gives-note : (d : Deployed) (h : List Entry) (i j : ℕ) → beat_entry d i j h (inner_entry d h (act.Beat i j)) ≡ Some (note_of d i j h)
 unfolding answer
-gives-note d h i j = if_some ((i == i) && (j == j)) (note_of d i j h) (same_pair i j)
+gives-note d h i j = some_if ((i == i) && (j == j)) (note_of d i j h) (same_pair i j)
 
 beat-new : (d : Deployed) (h : List Entry) (i j : ℕ) → length (beats d (inner_entry d h (act.Beat i j) ∷ h) i j) ≡ length (beats d h i j) + 1
 beat-new d h i j =
@@ -172,10 +170,7 @@ has-last (x ∷ xs) n = go (x == n) (has-last xs n)
 taken-new : (h : List Entry) (i j n : ℕ) → has ◌==◌ (beats_taken (record { act = act.BeatIn i j n; answer = ans.Taken; inner = true } ∷ h) i j) n ≡ true
 unfolding beats_taken
 taken-new h i j n =
-    subst (λ (o : Option ℕ). has ◌==◌ (beats_taken h i j ++ tail_of o) n ≡ true) (sym (if_some ((i == i) && (j == j)) n (same_pair i j))) (has-last (beats_taken h i j) n)
-
-at_or_above : (a b : ℕ) → nat_le a b ≡ true → a ≤ b
-at_or_above a b e = grind (arith, nat_tests)
+    subst (λ (o : Option ℕ). has ◌==◌ (beats_taken h i j ++ tail_of o) n ≡ true) (sym (some_if ((i == i) && (j == j)) n (same_pair i j))) (has-last (beats_taken h i j) n)
 
 above_not : (a b : ℕ) → b < a → nat_le a b ≡ false
 above_not a b l = grind (arith, nat_tests)
@@ -197,7 +192,7 @@ came-in : (d : Deployed) (i j n : ℕ) (h : List Entry) → n < length (beats d 
 came-in d i j n h b = elim (tried-cases d (act.BeatIn i j n) h) [ inl w ↦ done w.0 w.1 | inr w ↦ not_done w.0 w.1 ]
   where
     ans-is : answer d h (act.BeatIn i j n) ≡ coming (best d h j i) n (has ◌==◌ (beats_taken h i j) n)
-    ans-is = answer-beat-in d h i j n ∙ ap (λ (b : Bool). unless b why.NoSuch (coming (best d h j i) n (has ◌==◌ (beats_taken h i j) n))) (above_not (length (beats d h i j)) n b)
+    ans-is = answer-beat-in d h i j n ∙ ap (λ (b : Bool). refused_if b why.NoSuch (coming (best d h j i) n (has ◌==◌ (beats_taken h i j) n))) (above_not (length (beats d h i j)) n b)
 
     fresh_if : (t : Bool) → is_done (if t then ans.Again else ans.Taken) ≡ true → (if t then ans.Again else ans.Taken) ≡ ans.Taken
     fresh_if true e = absurd (cc)
@@ -237,7 +232,7 @@ came-in d i j n h b = elim (tried-cases d (act.BeatIn i j n) h) [ inl w ↦ done
     not_done e s =
         elim (old_if (best d h j i) (has ◌==◌ (beats_taken h i j) n) (subst (λ (r : Answer). is_done r ≡ false) ans-is e)) [
           | inl t ↦ (n, omega arith, b, subst (λ (k : List Entry). has ◌==◌ (beats_taken k i j) n ≡ true) (sym s) t)
-          | inr r ↦ (r.0.0, at_or_above n r.0.0 r.2, get-below (beats d h i j) r.0.0 r.0.1 (best-of d h i j r.0 r.1).at, subst (λ (k : List Entry). has ◌==◌ (beats_taken k i j) r.0.0 ≡ true) (sym s) (best-of d h i j r.0 r.1).taken)
+          | inr r ↦ (r.0.0, leb-true n r.0.0 r.2, get-below (beats d h i j) r.0.0 r.0.1 (best-of d h i j r.0 r.1).at, subst (λ (k : List Entry). has ◌==◌ (beats_taken k i j) r.0.0 ≡ true) (sym s) (best-of d h i j r.0 r.1).taken)
         ]
 
 record Highs (d : Deployed) (i j n : ℕ) (h : List Entry) : Type 0 where

@@ -16,7 +16,6 @@ use Rattle.sat_act.specs.Runs.{IsRun}
 use Rattle.sat_act.specs.Goals.{Gives, IsValid}
 use Rattle.sat_act.specs.Headline.{HasTrees}
 use Rattle.sat_laws.proofs.Runs.{before_of}
-use Rattle.sat_laws.proofs.Members.{In-get}
 use Rattle.sat_laws.proofs.Cuts.{sent-site}
 use Rattle.sat_laws.proofs.Sinks.{Sent}
 use Rattle.sat_laws.proofs.Sendings.{sent-once}
@@ -27,6 +26,7 @@ use Rattle.sat_laws.proofs.Links.{AllCuttable, HandledFrom, Handled, entered-if,
 use Rattle.sat_laws.proofs.Order.{sent-in}
 use Rattle.sat_laws.proofs.Arrivals.{handled-sent-in}
 use Rattle.sat_tree.proofs.Trees.{cuttable, other-side}
+use Rattle.sat_label.proofs.Members.{In-get}
 
 pub all-cuttable : (d : Deployed) → HasTrees d → AllCuttable d
 all-cuttable d t = record { each = λ e s k. cuttable s (t e s k) }

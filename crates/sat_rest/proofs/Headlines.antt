@@ -11,7 +11,7 @@ use Rattle.sat_laws.proofs.Runs.{entry}
 use Rattle.sat_act.specs.declared.entry.Entry.{Entry}
 use Rattle.sat_act.specs.declared.act.Act.TheVariants as act
 use Rattle.sat_act.specs.Headline.{AllInRange}
-use Rattle.sat_rest.specs.SettleGoals.{EveryRunIsGood}
+use Rattle.sat_rest.specs.Laws.{EveryRunIsGood}
 use Rattle.sat_laws.proofs.Headlines.{good}
 
 -- the answer of an act, after the inner entries of a settle

@@ -4,6 +4,8 @@ use Rattle.std.specs.List.{list_any}
 use Rattle.std.proofs.Common.{sym, subst, arith, inl, inr, ap, ◌∙◌}
 use Rattle.std.proofs.lemmas.List.{append-nil}
 use Rattle.std.proofs.lemmas.Bool.Decides.{nat_tests}
+use Rattle.std.proofs.lemmas.Bool.{eqb-false, not_from_true, eqb-true}
+use Rattle.sat_label.proofs.Truth.{same-number, some_if}
 use Rattle.sat_label.specs.declared.label.Label.{Label}
 use Rattle.sat_label.specs.declared.node.NodeId.{NodeId}
 use Rattle.sat_label.specs.declared.node.NodeId.TheVariants.{Site, Serializer}
@@ -19,7 +21,7 @@ use Rattle.sat_act.specs.declared.entry.Entry.{Entry}
 use Rattle.sat_act.specs.Deployed.{Deployed}
 use Rattle.sat_act.specs.Histories.{listed}
 use Rattle.sat_act.specs.Done.{made_in}
-use Rattle.sat_act.specs.Parts.{Handling, handling, is_target, is_update, tree_of, emission, closes_entry, view, seat_in, brought, brought_entry, shown, shown_entry, waiting, lane, link_front, entered, taken, came_from, goes_beyond}
+use Rattle.sat_act.specs.Parts.{Handling, handling, is_target, is_update, tree_of, emission, closed_epoch_of_entry, view, seat_in, brought, brought_entry, shown, shown_entry, waiting, lane, link_front, entered, taken, came_from, goes_beyond}
 use Rattle.sat_act.specs.Runs.{IsRun}
 use Rattle.sat_act.specs.Goals.{Gives, IsValid}
 use Rattle.sat_act.specs.Headline.{HasTrees}
@@ -27,9 +29,8 @@ use Rattle.sat_act.specs.Settling.{is_done, total, payload_entry, payloads, payl
 use Rattle.sat_laws.proofs.Steps.{Step, hopped, showed_turn, took, brought_now, showed_stamp, advanced, closed}
 use Rattle.sat_laws.proofs.Runs.{step_of, before_of, range_of, entry}
 use Rattle.sat_laws.proofs.Labels.{some_is}
-use Rattle.sat_laws.proofs.Members.{In, same-label, In-get, In-left, In-right, In-filter, listed-gives, gives-listed, has-in, in-has, label-self}
+use Rattle.sat_laws.proofs.Members.{listed-gives, gives-listed}
 use Rattle.sat_laws.proofs.Sinks.{keep, gives-map}
-use Rattle.sat_laws.proofs.Cuts.{num_is}
 use Rattle.sat_laws.proofs.Shows.{IsFor, in-lane, brings-for, waits, candidate-least, next-stamp-waits}
 use Rattle.sat_laws.proofs.Views.{IsAbreast, abreast, view-rises, advance-view, add_if, count-if, count-none}
 use Rattle.sat_laws.proofs.Handlings.{handled_as}
@@ -40,6 +41,9 @@ use Rattle.sat_laws.proofs.Arrivals.{handled-sent-in}
 use Rattle.sat_tree.proofs.Trees.{edge-end}
 use Rattle.sat_rest.proofs.HandledOnce.{HandledOnce, handled-once}
 use Rattle.sat_rest.proofs.Totals.{total-le, total-lt, filter-le, filter-lt, In-below}
+use Rattle.sat_label.specs.Members.{In}
+use Rattle.sat_label.proofs.Orders.{same-label, label_eq-self}
+use Rattle.sat_label.proofs.Members.{In-get, In-left, In-right, In-filter, has-in, in-has}
 
 -- the acts of rounds
 abbrev pub is_round_act : Act → Bool
@@ -164,11 +168,11 @@ pub waiting-tests : (h : List Entry) (j : ℕ) (l : Label) → In (waiting h j) 
 unfolding waiting
 waiting-tests h j l m =
     let w : In (brought h j) l × (not (has label_eq (shown h j) l) ≡ true) = In-filter (λ l. not (has label_eq (shown h j) l)) (brought h j) l m in
-    (in-has (brought h j) l w.0, off (has label_eq (shown h j) l) w.1)
+    (in-has (brought h j) l w.0, not_from_true (has label_eq (shown h j) l) w.1)
   where
-    off : (b : Bool) → not b ≡ true → b ≡ false
-    off true e = absurd (cc)
-    off false e = refl
+    not_from_true : (b : Bool) → not b ≡ true → b ≡ false
+    not_from_true true e = absurd (cc)
+    not_from_true false e = refl
 
 show-lt : (d : Deployed) (h : List Entry) (x : Entry) (j : ℕ) (l : Label) → IsRun d h → made_in x.answer ≡ None → j < d.sites → In (waiting h j) l → shown_entry j h x ≡ Some l →
     payloads_all d (x ∷ h) < payloads_all d h
@@ -184,9 +188,6 @@ sendings_all d h = total (sending_left d (handlings d h)) (sendings d h)
 
 abbrev pub pick_sending : Option Handling → Option Handling
 pick_sending o = elim o [ None ↦ None | Some x ↦ elim x.from [ None ↦ Some x | Some u ↦ None ] ]
-
-abbrev pick_from : Handling → Option NodeId → Option Handling
-pick_from x o = elim o [ None ↦ Some x | Some u ↦ None ]
 
 sendings-same : (d : Deployed) (h : List Entry) (x : Entry) → sending_entry d h x ≡ None → sendings d (x ∷ h) ≡ sendings d h
 unfolding sendings
@@ -232,10 +233,10 @@ handled-grows d h x e l v k =
 pub handled-now : (d : Deployed) (h : List Entry) (x : Entry) (e : ℕ) (l : Label) (v : NodeId) (o : Option NodeId) → handling d h x ≡ Some (handled_as e v o l) → was_handled (handlings d (x ∷ h)) e l v ≡ true
 handled-now d h x e l v o k =
     subst (λ (xs : List Handling). was_handled xs e l v ≡ true) (sym (handlings-step d h x ∙ ap (λ (o : Option Handling). handlings d h ++ tail_of o) k))
-    (any-last (λ (y : Handling). (y.epoch == e) && (node_eq y.node v && label_eq y.label l)) (handlings d h) (handled_as e v o l) (all_true (e == e) (node_eq v v) (label_eq l l) (num_self e) (node-self v) (label-self l)))
+    (any-last (λ (y : Handling). (y.epoch == e) && (node_eq y.node v && label_eq y.label l)) (handlings d h) (handled_as e v o l) (all_true (e == e) (node_eq v v) (label_eq l l) (same-number e) (node-self v) (label_eq-self l)))
   where
-    num_self : (n : ℕ) → (n == n) ≡ true
-    num_self n = grind (arith, nat_tests)
+    same-number : (n : ℕ) → (n == n) ≡ true
+    same-number n = grind (arith, nat_tests)
 
     all_true : (a b c : Bool) → a ≡ true → b ≡ true → c ≡ true → (a && (b && c)) ≡ true
     all_true true true c p q r = r
@@ -259,7 +260,7 @@ was-handled d h e l v k =
     parts : (y : Handling) → HandledFrom d h y.epoch y.node y.from y.label → (a b c : Bool) → (y.epoch == e) ≡ a → node_eq y.node v ≡ b → label_eq y.label l ≡ c → (a && (b && c)) ≡ true → Handled d h e v l
     parts y m true true true p q r w = (
       y.from,
-      subst (λ (f : ℕ). HandledFrom d h f v y.from l) (num_is y.epoch e p)
+      subst (λ (f : ℕ). HandledFrom d h f v y.from l) (eqb-true y.epoch e p)
           (subst (λ (n : NodeId). HandledFrom d h y.epoch n y.from l) (same-node y.node v q)
           (subst (λ (z : Label). HandledFrom d h y.epoch y.node y.from z) (same-label y.label l r) m)),
     )
@@ -278,10 +279,6 @@ sending-le d h x s =
     filter-le (λ (v : NodeId). not (was_handled (handlings d (x ∷ h)) s.epoch s.label v)) (λ (v : NodeId). not (was_handled (handlings d h) s.epoch s.label v)) (nodes_of d s.epoch)
     (λ v k. not_more (was_handled (handlings d h) s.epoch s.label v) (was_handled (handlings d (x ∷ h)) s.epoch s.label v) (handled-grows d h x s.epoch s.label v) k)
 
-off : (b : Bool) → b ≡ true → not b ≡ false
-off true e = refl
-off false e = absurd (cc)
-
 on : (b : Bool) → (b ≡ true → ⊥) → not b ≡ true
 on true f = absurd (f refl)
 on false f = refl
@@ -292,7 +289,7 @@ unfolding sending_left
 sending-lt d h x s v o i k new =
     filter-lt (λ (v : NodeId). not (was_handled (handlings d (x ∷ h)) s.epoch s.label v)) (λ (v : NodeId). not (was_handled (handlings d h) s.epoch s.label v)) (nodes_of d s.epoch) v
     (λ v k. not_more (was_handled (handlings d h) s.epoch s.label v) (was_handled (handlings d (x ∷ h)) s.epoch s.label v) (handled-grows d h x s.epoch s.label v) k)
-    i (off (was_handled (handlings d (x ∷ h)) s.epoch s.label v) (handled-now d h x s.epoch s.label v o k)) (on (was_handled (handlings d h) s.epoch s.label v) (λ m. new (was-handled d h s.epoch s.label v m)))
+    i (not_from_true (was_handled (handlings d (x ∷ h)) s.epoch s.label v) (handled-now d h x s.epoch s.label v o k)) (on (was_handled (handlings d h) s.epoch s.label v) (λ m. new (was-handled d h s.epoch s.label v m)))
 
 sendings_all-le : (d : Deployed) (h : List Entry) (x : Entry) → sending_entry d h x ≡ None → sendings_all d (x ∷ h) ≤ sendings_all d h
 sendings_all-le d h x e =
@@ -345,9 +342,6 @@ epochs_all-lt : (d : Deployed) (h : List Entry) (x : Entry) (j : ℕ) → IsRun 
 epochs_all-lt d h x j run b e v =
     total-lt (epochs_left d (x ∷ h)) (epochs_left d h) (below d.sites) j (λ j i. epochs-le d h x j run) (In-below d.sites j b) (let lt : length d.plans - view (x ∷ h) j < length d.plans - view h j = omega arith in lt)
 
-not_equal : (a b : ℕ) → (a == b) ≡ false → a ≡ b → ⊥
-not_equal a b e k = grind (arith, nat_tests)
-
 add-most : (b : Bool) (n m p : ℕ) → n ≤ p → (b ≡ true → n ≡ p → ⊥) → m ≡ add_if b n → m ≤ p
 add-most true n m p l f e = let ne : n ≡ p → ⊥ = f refl in grind arith
 add-most false n m p l f e = omega arith
@@ -356,8 +350,8 @@ emission-step : (d : Deployed) (h : List Entry) (j : ℕ) (a : Act) (r : Answer)
 unfolding emission
 emission-step d h j a r n (closed {i = k} p q) old =
     add-most (k == j) (emission h j) (emission (entry a r n ∷ h) j) (length d.plans) old
-    (λ b e. not_equal (emission h k) (length d.plans) p (ap (λ (i : ℕ). emission h i) (num_is k j b) ∙ e)) (count-if (k == j) (listed (closes_entry j) h) (emission h k))
-emission-step d h j a r n _ old = subst (λ (m : ℕ). m ≤ length d.plans) (sym (count-none (listed (closes_entry j) h))) old
+    (λ b e. eqb-false (emission h k) (length d.plans) p (ap (λ (i : ℕ). emission h i) (eqb-true k j b) ∙ e)) (count-if (k == j) (listed (closed_epoch_of_entry j) h) (emission h k))
+emission-step d h j a r n _ old = subst (λ (m : ℕ). m ≤ length d.plans) (sym (count-none (listed (closed_epoch_of_entry j) h))) old
 
 emission-start : (d : Deployed) (j : ℕ) → 0 < length d.plans → emission [] j ≤ length d.plans
 unfolding emission
@@ -380,13 +374,6 @@ fall d h x a b c w =
     let p : left d (x ∷ h) ≡ (payloads_all d (x ∷ h) + sendings_all d (x ∷ h)) + epochs_all d (x ∷ h) = left-is d (x ∷ h) in
     let q : left d h ≡ (payloads_all d h + sendings_all d h) + epochs_all d h = left-is d h in
     elim w [ inl k ↦ omega arith | inr k ↦ elim k [ inl m ↦ omega arith | inr m ↦ omega arith ] ]
-
-num_self : (n : ℕ) → (n == n) ≡ true
-num_self n = grind (arith, nat_tests)
-
-if_true : {X : Type 0} (b : Bool) (x : X) → b ≡ true → (if b then Some x else None) ≡ Some x
-if_true true x e = refl
-if_true false x e = absurd (cc)
 
 pub In-map : {X Y : Type 0} (f : X → Y) (xs : List X) (x : X) → In xs x → In (map f xs) (f x)
 In-map f [] x i = absurd i
@@ -420,7 +407,7 @@ pub left-falls : (d : Deployed) (h : List Entry) (a : Act) (r : Answer) (n : Boo
 unfolding handling
 left-falls d h a r n valid trees some run (brought_now {i = i} {g = g} {j = j} {o = o} {l = l} p w q) ra dn =
     let x : Entry = entry (act.Bulk i g j o) (ans.Brought l) n in
-    let lt : payloads_all d (x ∷ h) < payloads_all d h = bring-lt d h x j l refl (range_of d h x run).2 (in-lane d h i g j l (In-get (lane d h i g j) p l w)) q (if_true (j == j) l (num_self j)) in
+    let lt : payloads_all d (x ∷ h) < payloads_all d h = bring-lt d h x j l refl (range_of d h x run).2 (in-lane d h i g j l (In-get (lane d h i g j) p l w)) q (some_if (j == j) l (same-number j)) in
     fall d h x (omega arith) (sendings_all-le d h x refl) (epochs_all-le d h x run) (inl lt)
 left-falls d h a r n valid trees some run (hopped {e = e} {z = z} {u = u} {t = t} {l = l} {to = to} k w) ra dn =
     let x : Entry = entry (act.Hop e u z) (ans.Hopped l to) n in
@@ -437,11 +424,11 @@ left-falls d h a r n valid trees some run (took {j = j} {t = t} {z = z} {l = l} 
     fall d h x (payloads_all-le d h x refl) (omega arith) (epochs_all-le d h x run) (inr (inl lt))
 left-falls d h a r n valid trees some run (showed_stamp {j = j} {l = l} m q) ra dn =
     let x : Entry = entry (act.Stamp j) (ans.Shown l) n in
-    let lt : payloads_all d (x ∷ h) < payloads_all d h = show-lt d h x j l (before_of d h x run) refl (range_of d h x run) (candidate-least d h j l (next-stamp-waits d h j l q).0).member (if_true (j == j) l (num_self j)) in
+    let lt : payloads_all d (x ∷ h) < payloads_all d h = show-lt d h x j l (before_of d h x run) refl (range_of d h x run) (candidate-least d h j l (next-stamp-waits d h j l q).0).member (some_if (j == j) l (same-number j)) in
     fall d h x (omega arith) (sendings_all-le d h x refl) (epochs_all-le d h x run) (inl lt)
 left-falls d h a r n valid trees some run (advanced {j = j} c m) ra dn =
     let x : Entry = entry (act.Advance j) (ans.View (view h j + 1)) n in
-    let lt : epochs_all d (x ∷ h) < epochs_all d h = advance-lt d h j n some run (not_equal (emission h j) (view h j) c) in
+    let lt : epochs_all d (x ∷ h) < epochs_all d h = advance-lt d h j n some run (eqb-false (emission h j) (view h j) c) in
     fall d h x (payloads_all-le d h x refl) (sendings_all-le d h x refl) (omega arith) (inr (inr lt))
   where
     advance-lt : (d : Deployed) (h : List Entry) (j : ℕ) (n : Bool) → 0 < length d.plans → IsRun d (entry (act.Advance j) (ans.View (view h j + 1)) n ∷ h) → (emission h j ≡ view h j → ⊥) →
@@ -452,5 +439,5 @@ left-falls d h a r n valid trees some run (advanced {j = j} c m) ra dn =
         let lo : view h j ≤ emission h j = w.low in
         let hi : emission h j ≤ length d.plans = emission-most d h j some (before_of d h x run) in
         let b : view h j < length d.plans = grind arith in
-        epochs_all-lt d h x j run (range_of d h x run) (advance-view h j j (view h j + 1) n (num_self j)) b
+        epochs_all-lt d h x j run (range_of d h x run) (advance-view h j j (view h j + 1) n (same-number j)) b
 left-falls d h a r n valid trees some run _ ra dn = absurd (cc)

@@ -15,3 +15,5 @@ pub mod Marked
 pub mod SettledScripts
 pub mod Example
 pub mod Headlines
+pub mod Flags
+pub mod WayBack

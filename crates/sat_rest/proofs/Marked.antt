@@ -9,7 +9,8 @@ use Rattle.sat_act.specs.declared.entry.Entry.{Entry}
 use Rattle.sat_act.specs.Deployed.{Deployed}
 use Rattle.sat_act.specs.Runs.{IsRun}
 use Rattle.sat_act.specs.Settling.{inner_entry, run, answer_of, with_inner}
-use Rattle.sat_rest.specs.SettleGoals.{printed, EveryActPrintsOnce}
+use Rattle.sat_rest.specs.Printed.{printed}
+use Rattle.sat_rest.specs.Laws.{EveryActPrintsOnce}
 use Rattle.sat_rest.proofs.Rounds.{Goes, goes-keep}
 use Rattle.sat_rest.proofs.Settles.{settle-after}
 use Rattle.sat_rest.proofs.Headlines.{run-is}

@@ -2,6 +2,7 @@
 use Rattle.std.specs.Prelude.{◌≡◌, ◌⊎◌, ◌<◌, ◌≤◌, ℕ, zero, suc, ◌+◌, Bool, true, false, ◌&&◌, not, ◌==◌, List, [], ◌∷◌, Option, Some, None, refl, length, slice_get, if◌then◌else◌}
 use Rattle.std.proofs.Common.{sym, subst, arith, inl, inr, ap, ◌∙◌}
 use Rattle.std.proofs.lemmas.Bool.Decides.{nat_tests}
+use Rattle.std.proofs.lemmas.Bool.{cases_eq, and_parts}
 use Rattle.sat_label.specs.declared.label.Kind.{Kind}
 use Rattle.sat_label.specs.declared.label.Kind.TheVariants as kind
 use Rattle.sat_label.specs.declared.label.Label.{Label}
@@ -13,17 +14,16 @@ use Rattle.sat_tree.specs.Shape.{TreeShape}
 use Rattle.sat_tree.specs.Cut.{is_edge, beyond}
 use Rattle.sat_act.specs.declared.entry.Entry.{Entry}
 use Rattle.sat_act.specs.Deployed.{Deployed}
-use Rattle.sat_act.specs.Parts.{replicates, closes_entry, is_target, tree_of, emission, view, in_stamp_mode, goes_beyond, entered, taken, came_from, waiting, all_others}
+use Rattle.sat_act.specs.Parts.{replicates, is_target, tree_of, emission, view, in_stamp_mode, goes_beyond, entered, taken, came_from, waiting, all_others}
 use Rattle.sat_act.specs.Answers.{may_advance, took_close}
+use Rattle.sat_laws.proofs.Origins.{close-behind}
 use Rattle.sat_act.specs.Runs.{IsRun}
-use Rattle.sat_act.specs.Goals.{Gives, Shows, IsValid, IsKeptAt}
-use Rattle.sat_rest.specs.SettleGoals.{IsWithin, IsQuiet, CanEnd, IsPlace, LinkWhole, LeftByStamps}
-use Rattle.sat_laws.proofs.Runs.{step_of, before_of}
-use Rattle.sat_laws.proofs.Labels.{some_is, made-placed}
-use Rattle.sat_laws.proofs.Members.{In, In-get, same-label, label-self}
-use Rattle.sat_laws.proofs.Sinks.{Sent, both_true}
-use Rattle.sat_laws.proofs.Cuts.{sent-site}
-use Rattle.sat_laws.proofs.Sendings.{close-now, close-seq}
+use Rattle.sat_act.specs.Goals.{Shows, IsKeptAt}
+use Rattle.sat_rest.specs.Ends.{IsWithin, IsQuiet}
+use Rattle.sat_rest.specs.Rest.{CanEnd, IsPlace, LinkWhole, LeftByStamps}
+use Rattle.sat_laws.proofs.Runs.{before_of}
+use Rattle.sat_laws.proofs.Labels.{made-placed}
+use Rattle.sat_laws.proofs.Sinks.{Sent}
 use Rattle.sat_laws.proofs.Views.{Turning, turning-of, stays, closes, falls, advances}
 use Rattle.sat_laws.proofs.Closes.{TookClose, took-close, took-later, close-epoch}
 use Rattle.sat_laws.proofs.Handlings.{handled_as}
@@ -43,6 +43,9 @@ use Rattle.sat_rest.proofs.Lefts.{any-In, in-sendings}
 use Rattle.sat_rest.proofs.Bounds.{IsSending, sending-is}
 use Rattle.sat_rest.proofs.Emptying.{AllSent}
 use Rattle.sat_rest.proofs.QuietLinks.{hop-whole, turn-whole}
+use Rattle.sat_label.specs.Members.{In}
+use Rattle.sat_label.proofs.Members.{In-get}
+use Rattle.sat_label.proofs.Orders.{same-label, label_eq-self}
 
 pub none_empty : (xs : List Label) → ((l : Label) → In xs l → ⊥) → xs ≡ []
 none_empty [] w = refl
@@ -51,9 +54,6 @@ none_empty (x ∷ xs) w = absurd (w x (inl refl))
 both_ways : (b : Bool) → b ≡ true → b ≡ false → ⊥
 both_ways true e f = cc
 both_ways false e f = cc
-
-dec_num : (m n : ℕ) → (m ≡ n) ⊎ (m ≡ n → ⊥)
-dec_num m n = grind (arith, nat_tests)
 
 apart : (u v : NodeId) → node_eq u v ≡ false → u ≡ v → ⊥
 apart u v e s = let z : node_eq u v ≡ true = subst (λ (n : NodeId). node_eq u n ≡ true) s (node-self u) in cc
@@ -128,7 +128,7 @@ module _ (d : Deployed) (h : List Entry) (w : IsWithin d) (run : IsRun d h) (e :
     far-place : (p q : NodeId) (j : ℕ) → j < d.sites → is_edge t p q ≡ true → beyond t p q (Site j) ≡ true → IsPlace d q
     far-place p (Serializer z) j b edge far = tt
     far-place p (Site i) j b edge far =
-        elim (dec_num j i) [
+        elim (cases_eq j i) [
           | inl s ↦ subst (λ (n : ℕ). n < d.sites) s b
           | inr n ↦ absurd (both_ways (beyond t p (Site i) (Site j)) far (cuts.leaf p i j edge n))
         ]
@@ -186,20 +186,6 @@ goes-target d t u v l g = any-In (λ (k : ℕ). is_target d l k && beyond t u v 
 ahead-at : (d : Deployed) (h : List Entry) (e : ℕ) (t : TreeShape) (a : Label) (u : NodeId) → Ahead d h e t a u → (p q : NodeId) → is_edge t p q ≡ true → beyond t p q (Site a.point.site) ≡ false → beyond t p q u ≡ true → goes_beyond d t p q a ≡ true → Handled d h e q a
 unfolding Ahead
 ahead-at d h e t a u w p q edge near far goes = w p q edge near far goes
-
-close-behind : (d : Deployed) (h : List Entry) (i e : ℕ) (a c : Label) → IsValid d → IsRun d h → SentIn h i e a → Sent h i c → c.kind ≡ kind.Close e → (a ≡ c → ⊥) → Behind h e a c
-unfolding SentIn Gives Behind
-close-behind d [] i e a c v run s m k u = s
-close-behind d (x ∷ h) i e a c v run (inl s) (inl m) k u = inl (close-behind d h i e a c v (before_of d h x run) s m k u)
-close-behind d (x ∷ h) i e a c v run (inl s) (inr m) k u =
-    let w : (e ≡ emission h i) × (closes_entry i h x ≡ Some e) = close-now d h i e x.act x.answer x.inner c v (before_of d h x run) (step_of d h x run) m k in
-    let t : a.point.site ≡ i = sent-site d h i a (before_of d h x run) (sent-in h i e a s) in
-    inr (i, m, sym w.0, subst (λ (n : ℕ). SentIn h n e a) (sym t) s, inr t)
-close-behind d (x ∷ h) i e a c v run (inr s) (inl m) k u =
-    let w : e < emission h i = close-seq d h i e c v (before_of d h x run) m k in
-    let y : emission h i ≡ e = s.1 in
-    absurd (omega arith)
-close-behind d (x ∷ h) i e a c v run (inr s) (inr m) k u = absurd (u (some_is a c (sym s.0 ∙ m)))
 
 advance-tree : (d : Deployed) (h : List Entry) (j : ℕ) → in_stamp_mode d h j ≡ false → may_advance d h j ≡ true → all_others d j (λ i. took_close h j i (view h j)) ≡ true
 unfolding may_advance
@@ -272,7 +258,7 @@ module _ (d : Deployed) (h : List Entry) (w : IsWithin d) (run : IsRun d h) (e :
       let sent : SentIn h l.point.site e l = handled-sent-in d h e u m.0 l run m.1 in
       let i : l.point.site < d.sites = sent-range d h w run e t k l sent in
       let r : (j : ℕ) × In (below d.sites) j × ((is_target d l j && beyond t u v (Site j)) ≡ true) = target-of m.3 in
-      let far : beyond t u v (Site r.0) ≡ true = (both_true (is_target d l r.0) (beyond t u v (Site r.0)) r.2).1 in
+      let far : beyond t u v (Site r.0) ≡ true = (and_parts (is_target d l r.0) (beyond t u v (Site r.0)) r.2).1 in
       let b : r.0 < d.sites = below-In d.sites r.0 r.1 in
       let ne : l.point.site ≡ r.0 → ⊥ = λ (s : l.point.site ≡ r.0). both_ways (beyond t u v (Site r.0)) far (subst (λ (j : ℕ). beyond t u v (Site j) ≡ false) s near) in
       by_close r.0 b near sent far ne m.3 (took-all d w r.0 l.point.site e i ne h run p (left_all r.0 b) by_closes)
@@ -300,7 +286,7 @@ module _ (d : Deployed) (h : List Entry) (w : IsWithin d) (run : IsRun d h) (e :
               let y : q.0 < taken d h e u v = q.1 in
               omega arith
           same false s q sc goes =
-              let bh : Behind h e l tc.label = close-behind d h l.point.site e l tc.label w.valid run sent sc tc.kind (λ z. let y : label_eq l tc.label ≡ true = subst (λ (y : Label). label_eq l y ≡ true) z (label-self l) in both_ways (label_eq l tc.label) y s) in
+              let bh : Behind h e l tc.label = close-behind d h l.point.site e l tc.label w.valid run sent sc tc.kind (λ z. let y : label_eq l tc.label ≡ true = subst (λ (y : Label). label_eq l y ≡ true) z (label_eq-self l) in both_ways (label_eq l tc.label) y s) in
               let f : (m' : ℕ) × (m' < q.0) × (slice_get (entered d h e t u v) m' ≡ Some l) = (main d h w.valid (all-cuttable d w.trees) (stamp-rules d w.valid) run).order.order e t u v q.0 tc.label l k edge q.2 bh near goes in
               let z : n ≡ f.0 = entered-once d h e t u v n f.0 l (handled-once d h w.valid w.trees run) at f.2 in
               let x : f.0 < q.0 = f.1 in

@@ -1,7 +1,7 @@
 -- After a settle each link of the view's tree is taken whole.
 use Rattle.std.specs.Prelude.{◌≡◌, ◌⊎◌, ◌<◌, ◌≤◌, ℕ, zero, suc, ◌+◌, ◌-◌, Bool, true, false, ◌&&◌, not, List, [], ◌∷◌, ◌++◌, Option, Some, None, refl, length, filter, map, slice_get, if◌then◌else◌}
 use Rattle.std.proofs.Common.{sym, subst, arith, inl, inr, ap, ◌∙◌}
-use Rattle.std.proofs.lemmas.Bool.Decides.{nat_tests}
+use Rattle.std.proofs.lemmas.Bool.{cases_eq, and_parts}
 use Rattle.sat_label.specs.declared.label.Kind.{Kind}
 use Rattle.sat_label.specs.declared.label.Kind.TheVariants as kind
 use Rattle.sat_label.specs.declared.label.Label.{Label}
@@ -16,22 +16,21 @@ use Rattle.sat_act.specs.declared.act.Act.TheVariants as act
 use Rattle.sat_act.specs.declared.answer.Answer.{Answer}
 use Rattle.sat_act.specs.declared.answer.Answer.TheVariants as ans
 use Rattle.sat_act.specs.declared.answer.Refusal.TheVariants as why
-use Rattle.sat_act.specs.declared.deployment.Plan.{Plan}
 use Rattle.sat_act.specs.declared.deployment.Plan.TheVariants as plan
 use Rattle.sat_act.specs.declared.entry.Entry.{Entry}
 use Rattle.sat_act.specs.Deployed.{Deployed}
 use Rattle.sat_act.specs.Parts.{handling, is_target, is_update, tree_of, emission, view, fallen, in_stamp_mode, seat_in, goes_beyond, entered, taken, link_front, killed, came_from, brought, brought_entry, shown_entry, waiting}
-use Rattle.sat_act.specs.Answers.{answer, unless, turned}
+use Rattle.sat_act.specs.Answers.{answer, refused_if, turned}
+use Rattle.sat_act.proofs.Plans.{tree_in_plans}
 use Rattle.sat_act.specs.Runs.{IsRun}
 use Rattle.sat_act.specs.Goals.{Shows}
 use Rattle.sat_act.specs.Settling.{is_done, bulks, hops, hops_of, turns, round_acts}
-use Rattle.sat_rest.specs.SettleGoals.{IsWithin, IsQuiet, CanEnd, IsPlace, LinkWhole}
+use Rattle.sat_rest.specs.Ends.{IsWithin, IsQuiet}
+use Rattle.sat_rest.specs.Rest.{CanEnd, IsPlace, LinkWhole}
 use Rattle.sat_laws.proofs.Steps.{Step, showed_stamp}
 use Rattle.sat_laws.proofs.Runs.{step_of, before_of, entry}
-use Rattle.sat_laws.proofs.Members.{In, In-get, In-left, In-right, into-filter, has-in, in-has, listed-gives}
-use Rattle.sat_laws.proofs.Sinks.{both_true}
+use Rattle.sat_laws.proofs.Members.{listed-gives}
 use Rattle.sat_laws.proofs.Views.{abreast, view-rises}
-use Rattle.sat_laws.proofs.Labels.{is_made}
 use Rattle.sat_laws.proofs.Handlings.{handled_as}
 use Rattle.sat_tree.specs.Laws.{IsCuttable}
 use Rattle.sat_laws.proofs.Links.{HandledFrom, SentIn, get-below, entered-in, taken-below, own-site, came-from-side}
@@ -48,16 +47,13 @@ use Rattle.sat_rest.proofs.Totals.{In-below, into-joined}
 use Rattle.sat_rest.proofs.Lefts.{any-In, In-map}
 use Rattle.sat_rest.proofs.Rounds.{in-among, edge-turned}
 use Rattle.sat_rest.proofs.Emptying.{for-brought, turn-tried}
+use Rattle.sat_label.specs.Members.{In, is_made}
+use Rattle.sat_label.proofs.Members.{In-get, In-left, In-right, into-filter, has-in, in-has}
 
 -- ---- the hops that a round tries
 
 tree-plan : (d : Deployed) (e : ℕ) (t : TreeShape) → tree_of d e ≡ Some t → e - 1 < length d.plans
-unfolding tree_of
-tree-plan d e t k = go (slice_get d.plans (e - 1)) refl k
-  where
-    go : (o : Option Plan) → slice_get d.plans (e - 1) ≡ o → elim o [ None ↦ None | Some p ↦ elim p [ plan.Stamp ↦ None | plan.Tree t ↦ Some t ] ] ≡ Some t → e - 1 < length d.plans
-    go None q k = absurd (cc)
-    go (Some p) q k = get-below d.plans (e - 1) p q
+tree-plan d e t k = get-below d.plans (e - 1) (plan.Tree t) (tree_in_plans d e t k).1
 
 hop-in : (d : Deployed) (n z : ℕ) (t : TreeShape) (u : NodeId) → n < length d.plans → tree_of d (n + 1) ≡ Some t → z < length t.parents → In (neighbours t z) u → In (hops d) (act.Hop (n + 1) u z)
 unfolding hops_of
@@ -111,7 +107,7 @@ pick_hop f o = elim o [ None ↦ ans.Refused why.Empty | Some l ↦ ans.Hopped l
 abbrev hop_of : Deployed → List Entry → ℕ → NodeId → ℕ → TreeShape → Answer
 hop_of d h e u z t = pick_hop (λ l. filter (λ v. not (node_eq u v) && goes_beyond d t (Serializer z) v l) (neighbours t z)) (link_front d h e t u (Serializer z))
 
-answer-hop : (d : Deployed) (h : List Entry) (e z : ℕ) (u : NodeId) → answer d h (act.Hop e u z) ≡ unless (killed h e z) why.Dead (pick_tree (hop_of d h e u z) (tree_of d e))
+answer-hop : (d : Deployed) (h : List Entry) (e z : ℕ) (u : NodeId) → answer d h (act.Hop e u z) ≡ refused_if (killed h e z) why.Dead (pick_tree (hop_of d h e u z) (tree_of d e))
 unfolding answer
 answer-hop d h e z u = refl
 
@@ -125,7 +121,7 @@ hop-whole d h e z t u w run quiet p k alive place edge =
     let i : In (round_acts d) (act.Hop e u z) = hop-tried d e z t u p k (edge-end t (w.trees e t k) u z edge) (neighbour d t u z (w.trees e t k) (w.all_seated e t k) place edge) in
     let q : is_done (answer d h (act.Hop e u z)) ≡ false = quiet (act.Hop e u z) (in-among (round_acts d) (act.Hop e u z) i) in
     let r : answer d h (act.Hop e u z) ≡ hop_of d h e u z t =
-    answer-hop d h e z u ∙ ap (λ (b : Bool). unless b why.Dead (pick_tree (hop_of d h e u z) (tree_of d e))) alive ∙ ap (λ (o : Option TreeShape). pick_tree (hop_of d h e u z) o) k in
+    answer-hop d h e z u ∙ ap (λ (b : Bool). refused_if b why.Dead (pick_tree (hop_of d h e u z) (tree_of d e))) alive ∙ ap (λ (o : Option TreeShape). pick_tree (hop_of d h e u z) o) k in
     no-front d h e t u (Serializer z) run k
     (no-hop (λ l. filter (λ v. not (node_eq u v) && goes_beyond d t (Serializer z) v l) (neighbours t z)) (link_front d h e t u (Serializer z)) (subst (λ (r : Answer). is_done r ≡ false) r q))
 
@@ -140,7 +136,7 @@ pick_turn ws o = elim o [ None ↦ ans.Refused why.Empty | Some l ↦ turned ws 
 abbrev turn_from : Deployed → List Entry → ℕ → TreeShape → NodeId → Answer
 turn_from d h j t z = pick_turn (waiting h j) (link_front d h (view h j) t z (Site j))
 
-answer-turn : (d : Deployed) (h : List Entry) (j : ℕ) → answer d h (act.Turn j) ≡ unless (in_stamp_mode d h j) why.StampOrder (pick_tree (λ t. pick_seat (turn_from d h j t) (seat_in d (view h j) j)) (tree_of d (view h j)))
+answer-turn : (d : Deployed) (h : List Entry) (j : ℕ) → answer d h (act.Turn j) ≡ refused_if (in_stamp_mode d h j) why.StampOrder (pick_tree (λ t. pick_seat (turn_from d h j t) (seat_in d (view h j) j)) (tree_of d (view h j)))
 unfolding answer
 answer-turn d h j = refl
 
@@ -177,16 +173,13 @@ made-update l e = go l.kind e
     go kind.Pulse e = absurd (cc)
     go (kind.Close x) e = absurd (cc)
 
-dec_num : (m n : ℕ) → (m ≡ n) ⊎ (m ≡ n → ⊥)
-dec_num m n = grind (arith, nat_tests)
-
 -- what goes to a site over its own link is for it
 link-target : (d : Deployed) (t : TreeShape) (z : NodeId) (j : ℕ) (l : Label) → IsCuttable t → is_edge t z (Site j) ≡ true → goes_beyond d t z (Site j) l ≡ true → is_target d l j ≡ true
 unfolding goes_beyond
 link-target d t z j l c e g =
     let r : (k : ℕ) × In (below d.sites) k × ((is_target d l k && beyond t z (Site j) (Site k)) ≡ true) = any-In (λ (k : ℕ). is_target d l k && beyond t z (Site j) (Site k)) (below d.sites) g in
-    let p : (is_target d l r.0 ≡ true) × (beyond t z (Site j) (Site r.0) ≡ true) = both_true (is_target d l r.0) (beyond t z (Site j) (Site r.0)) r.2 in
-    elim (dec_num r.0 j) [
+    let p : (is_target d l r.0 ≡ true) × (beyond t z (Site j) (Site r.0) ≡ true) = and_parts (is_target d l r.0) (beyond t z (Site j) (Site r.0)) r.2 in
+    elim (cases_eq r.0 j) [
       | inl s ↦ subst (λ (k : ℕ). is_target d l k ≡ true) s p.0
       | inr n ↦ absurd (let f : beyond t z (Site j) (Site r.0) ≡ false = c.leaf z j r.0 e n in let y : beyond t z (Site j) (Site r.0) ≡ true = p.1 in cc)
     ]
@@ -294,7 +287,7 @@ module _ (d : Deployed) (h : List Entry) (w : IsWithin d) (run : IsRun d h) (qui
 
       r : answer d h (act.Turn j) ≡ turn_from d h j t (Serializer (seat_of t j))
       r = answer-turn d h j
-          ∙ ap (λ (b : Bool). unless b why.StampOrder (pick_tree (λ t. pick_seat (turn_from d h j t) (seat_in d (view h j) j)) (tree_of d (view h j)))) (tree-mode d h j t k' ∙ end.no_fall j b)
+          ∙ ap (λ (b : Bool). refused_if b why.StampOrder (pick_tree (λ t. pick_seat (turn_from d h j t) (seat_in d (view h j) j)) (tree_of d (view h j)))) (tree-mode d h j t k' ∙ end.no_fall j b)
           ∙ ap (λ (o : Option TreeShape). pick_tree (λ t. pick_seat (turn_from d h j t) (seat_in d (view h j) j)) o) k'
           ∙ ap (λ (o : Option NodeId). pick_seat (turn_from d h j t) o) (seat-at d (view h j) j t k')
 

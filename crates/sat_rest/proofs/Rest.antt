@@ -10,7 +10,9 @@ use Rattle.sat_act.specs.Deployed.{Deployed}
 use Rattle.sat_act.specs.Parts.{tree_of, emission, view, goes_beyond, entered, taken, came_from, waiting}
 use Rattle.sat_act.specs.Runs.{IsRun}
 use Rattle.sat_act.specs.Settling.{settle}
-use Rattle.sat_rest.specs.SettleGoals.{IsWithin, IsQuiet, CanEnd, IsPlace, LinkWhole, LanesWhole, LeftByStamps, IsAtRest, EverySettleRests}
+use Rattle.sat_rest.specs.Ends.{IsWithin, IsQuiet}
+use Rattle.sat_rest.specs.Rest.{CanEnd, IsPlace, LinkWhole, LanesWhole, LeftByStamps, IsAtRest}
+use Rattle.sat_rest.specs.Laws.{EverySettleRests}
 use Rattle.sat_laws.proofs.Handlings.{handled_as}
 use Rattle.sat_laws.proofs.Links.{HandledFrom, SentIn, entered-in, taken-below}
 use Rattle.sat_laws.proofs.Arrivals.{handled-sent-in, epoch-bound}

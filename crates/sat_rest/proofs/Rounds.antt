@@ -22,15 +22,16 @@ use Rattle.sat_act.specs.Answers.{answer, InRange}
 use Rattle.sat_act.specs.Runs.{IsRun, is_settle}
 use Rattle.sat_act.specs.Goals.{Gives}
 use Rattle.sat_act.specs.Settling.{is_done, inner_entry, tried, repeated, for_each, joined, emit_all, left, bulks, hops, hops_of, turns, round_acts, until_refused}
-use Rattle.sat_rest.specs.SettleGoals.{IsWithin, UntilRefused, ends, goes_on, IsAmong}
+use Rattle.sat_rest.specs.Ends.{IsWithin, UntilRefused, ends, goes_on, IsAmong}
 use Rattle.sat_laws.proofs.Steps.{Step, outcome, emitted}
 use Rattle.sat_laws.proofs.Runs.{entry, run-on}
-use Rattle.sat_laws.proofs.Members.{In, In-parts, In-filter, In-left, gives-listed, has-in, in-has}
+use Rattle.sat_laws.proofs.Members.{gives-listed}
 use Rattle.sat_laws.proofs.Cuts.{ready-is}
 use Rattle.sat_laws.proofs.Links.{tail_of}
-use Rattle.sat_laws.proofs.BeatTimes.{Later, now, more}
 use Rattle.sat_rest.proofs.Lefts.{is_round_act, left-falls}
 use Rattle.sat_rest.proofs.Totals.{In-joined, below-In, filter-lt}
+use Rattle.sat_label.specs.Members.{In}
+use Rattle.sat_label.proofs.Members.{In-parts, In-filter, In-left, has-in, in-has}
 
 -- ---- an act, and an act until it is refused
 
@@ -54,10 +55,6 @@ pub data Goes (d : Deployed) (h : List Entry) : List Entry → Type 0 where
 pub goes-trans : (d : Deployed) (a b c : List Entry) → Goes d a b → Goes d b c → Goes d a c
 goes-trans d a b c p stay = p
 goes-trans d a b c p (step {k = k} x q run m) = step x (goes-trans d a b k p q) run m
-
-pub goes-later : (d : Deployed) (h k : List Entry) → Goes d h k → Later h k
-goes-later d h k stay = now
-goes-later d h k (step {k = k'} x q run m) = more (goes-later d h k' q)
 
 -- what each such act keeps
 pub goes-keep : (d : Deployed) (Q : List Entry → Type 0) → ((k : List Entry) (a : Act) → IsRun d k → IsInner d a → IsRun d (inner_entry d k a ∷ k) → Q k → Q (inner_entry d k a ∷ k)) → (h k : List Entry) → Goes d h k → Q h → Q k

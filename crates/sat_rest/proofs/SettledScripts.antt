@@ -1,15 +1,13 @@
 -- Worked scripts with settle: what is printed, computed.
-use Rattle.std.specs.Prelude.{◌≡◌, true, false, List, [], ◌∷◌, Option, Some, None, refl}
+use Rattle.std.specs.Prelude.{◌≡◌, [], ◌∷◌, None, refl}
 use Rattle.sat_label.specs.declared.label.Kind.TheVariants as kind
 use Rattle.sat_label.specs.Order.{point_at}
 use Rattle.sat_act.specs.declared.act.Act.TheVariants as act
-use Rattle.sat_act.specs.declared.answer.Answer.{Answer}
 use Rattle.sat_act.specs.declared.answer.Answer.TheVariants as ans
 use Rattle.sat_act.specs.declared.deployment.Plan.TheVariants as plan
-use Rattle.sat_act.specs.declared.entry.Entry.{Entry}
 use Rattle.sat_act.specs.Deployed.{Deployed}
-use Rattle.sat_act.specs.Histories.{listed}
 use Rattle.sat_act.specs.Settling.{run}
+use Rattle.sat_rest.specs.Printed.{printed}
 
 abbrev A : Deployed
 A = record {
@@ -20,21 +18,13 @@ A = record {
   plans = plan.Tree (record { parents = None ∷ []; seats = 0 ∷ 0 ∷ [] }) ∷ [];
 }
 
--- what is printed: the answers of the entries that are not inner
-abbrev printed_entry : List Entry → Entry → Option Answer
-printed_entry before e = elim e.inner [ true ↦ None | false ↦ Some e.answer ]
-
-printed : List Entry → List Answer
-unfolding listed
-printed h = listed printed_entry h
-
 -- the update is brought, hopped and shown by one round; a second settle finds nothing to do
 one_update_settles : printed (run A (act.Settle ∷ act.Read 1 0 ∷ act.Settle ∷ act.Write 0 0 (118 ∷ []) ∷ []))
     ≡ (ans.Wrote (record { point = point_at 1 0 0; kind = kind.Update 0 }) ∷ ans.Settled 1 17 ∷ ans.ReadSome (record { point = point_at 1 0 0; kind = kind.Update 0 }) (118 ∷ []) ∷ ans.Settled 0 7 ∷ [])
 unfolding printed run
 one_update_settles = refl
 
--- two trees: an update is under way when both sites close the first; settle drains it, both sites advance, and the second is at rest too
+-- a tree and then stamp order: an update is under way when both sites close the first epoch; settle drains it, both sites advance, and the second is at rest too
 abbrev B : Deployed
 B = record {
   sites = 2;

@@ -11,10 +11,10 @@ use Rattle.sat_act.specs.Parts.{pending, beats}
 use Rattle.sat_act.specs.Answers.{answer}
 use Rattle.sat_act.specs.Runs.{IsRun}
 use Rattle.sat_act.specs.Settling.{is_done, inner_entry, tried, for_each, joined, gather_at, emit_all, pulse_at, beat_over, pairs, emptied, opening, left, round_acts, until_refused, round, rounds, settle}
-use Rattle.sat_rest.specs.SettleGoals.{IsWithin, UntilRefused, ends, goes_on, IsQuiet}
-use Rattle.sat_laws.proofs.Members.{In}
+use Rattle.sat_rest.specs.Ends.{IsWithin, UntilRefused, ends, goes_on, IsQuiet}
 use Rattle.sat_rest.proofs.Rounds.{inner-act, Goes, stay, step, goes-trans, IsAfter, after-self, after-trans, tried-after, repeated-after, for_each-after, IsRoundAct, round-act, among-in, falls, until-ends, until-after, inner-run}
 use Rattle.sat_rest.proofs.Totals.{In-joined, below-In}
+use Rattle.sat_label.specs.Members.{In}
 
 -- a history that goes on, where each entry more leaves less
 pub record Progress (d : Deployed) (h k : List Entry) : Type 0 where

@@ -3,6 +3,7 @@ use Rattle.std.specs.Prelude.{◌≡◌, ◌<◌, ◌≤◌, ℕ, suc, ◌+◌, 
 use Rattle.std.specs.List.{list_all, prefix_len}
 use Rattle.std.proofs.Common.{sym, subst, arith, inl, inr, ap, ◌∙◌, length-append}
 use Rattle.std.proofs.lemmas.Bool.Decides.{nat_tests}
+use Rattle.std.proofs.lemmas.Bool.{le-leb}
 use Rattle.sat_label.specs.declared.point.Point.{Point}
 use Rattle.sat_label.specs.declared.label.Label.{Label}
 use Rattle.sat_label.specs.Order.{mark, point_le, point_lt, label_eq}
@@ -15,16 +16,15 @@ use Rattle.sat_act.specs.declared.answer.Refusal.TheVariants as why
 use Rattle.sat_act.specs.declared.entry.Entry.{Entry}
 use Rattle.sat_act.specs.Deployed.{Deployed}
 use Rattle.sat_act.specs.Histories.{listed}
-use Rattle.sat_act.specs.Parts.{BeatNote, gathered, tree_of, close_cut, emission, view, fallen, in_stamp_mode, lane, lane_entry, lane_front, brought, waiting, beats, beat_entry, is_complete, best, best_passes, is_past, candidate, least_label, every_site_passed, own_site_passed, next_stamp}
-use Rattle.sat_act.specs.Answers.{answer, unless}
+use Rattle.sat_act.specs.Parts.{BeatNote, gathered, tree_of, close_cut, emission, view, fallen, in_stamp_mode, lane, lane_entry, lane_front, brought, waiting, beats, beat_entry, is_complete, best, best_passes, is_past, candidate, every_site_passed, own_site_passed, next_stamp}
+use Rattle.sat_act.specs.Answers.{answer, refused_if}
 use Rattle.sat_act.specs.Runs.{IsRun}
 use Rattle.sat_act.specs.Goals.{Made}
 use Rattle.sat_act.specs.Settling.{is_done, round_acts, settle}
-use Rattle.sat_rest.specs.SettleGoals.{IsWithin, IsQuiet, CanEnd, LanesWhole}
+use Rattle.sat_rest.specs.Ends.{IsWithin, IsQuiet}
+use Rattle.sat_rest.specs.Rest.{CanEnd, LanesWhole}
 use Rattle.sat_laws.proofs.Labels.{IsPlaced, made-placed}
-use Rattle.sat_laws.proofs.Orders.{point_le-trans, point_le-mark}
-use Rattle.sat_laws.proofs.Members.{In, In-get}
-use Rattle.sat_laws.proofs.Sinks.{none-least}
+use Rattle.sat_laws.proofs.Orders.{point_le-mark}
 use Rattle.sat_laws.proofs.Links.{tail_of}
 use Rattle.sat_laws.proofs.Origins.{closed-below}
 use Rattle.sat_laws.proofs.BeatTimes.{Later, now, more, later-run, later-trans, later-emission, gathered-later, note_of, is-note, beats-gave, gave-at, Best, best-is}
@@ -33,6 +33,11 @@ use Rattle.sat_laws.proofs.Shows.{IsFor, brings-for, for-kept, waits, candidate-
 use Rattle.sat_rest.proofs.Rounds.{in-among}
 use Rattle.sat_rest.proofs.Emptying.{turn-tried}
 use Rattle.sat_rest.proofs.FreshBeats.{HighBest, settle-best}
+use Rattle.sat_label.specs.Least.{least_label}
+use Rattle.sat_label.proofs.Orders.{point_le-trans}
+use Rattle.sat_label.specs.Members.{In}
+use Rattle.sat_label.proofs.Members.{In-get}
+use Rattle.sat_label.proofs.Least.{none-passes}
 
 -- ---- each beat is complete where the lanes are whole
 
@@ -67,12 +72,9 @@ all-of p (x ∷ xs) w = both (p x) (list_all p xs) (w x) (all-of p xs w)
     both true b e f = f
     both false b e f = absurd (cc)
 
-le_test : (a b : ℕ) → a ≤ b → nat_le a b ≡ true
-le_test a b l = grind (arith, nat_tests)
-
 note-complete : (d : Deployed) (h b : List Entry) (i j : ℕ) → LanesWhole d h → j < d.sites → Later b h → is_complete d h i j (note_of d i j b) ≡ true
 unfolding is_complete
-note-complete d h b i j w bj l = all-of (λ g. nat_le (length (lane d (gathered b i) i g j)) (lane_front d h i g j)) (below d.gears) (λ g. le_test _ _ (fits g))
+note-complete d h b i j w bj l = all-of (λ g. nat_le (length (lane d (gathered b i) i g j)) (lane_front d h i g j)) (below d.gears) (λ g. le-leb _ _ (fits g))
   where
     fits : (g : ℕ) → length (lane d (gathered b i) i g j) ≤ lane_front d h i g j
     fits g =
@@ -101,7 +103,7 @@ all-complete d h i j w b m note e = let a : BeatAt d h i j note = beat-at d h i 
 abbrev pick_stamp : Option Label → Answer
 pick_stamp o = elim o [ None ↦ ans.Refused why.NotYet | Some l ↦ ans.Shown l ]
 
-answer-stamp : (d : Deployed) (h : List Entry) (j : ℕ) → answer d h (act.Stamp j) ≡ unless (not (in_stamp_mode d h j)) why.TreeOrder (pick_stamp (next_stamp d h j))
+answer-stamp : (d : Deployed) (h : List Entry) (j : ℕ) → answer d h (act.Stamp j) ≡ refused_if (not (in_stamp_mode d h j)) why.TreeOrder (pick_stamp (next_stamp d h j))
 unfolding answer
 answer-stamp d h j = refl
 
@@ -210,7 +212,7 @@ module _ (d : Deployed) (h : List Entry) (w : IsWithin d) (run : IsRun d h) (qui
       next-is d h j ∙ ap (λ (o : Option Label). pick_next o (λ l. every_site_passed d h j l && own_site_passed d h j l)) e
       ∙ taken_if (every_site_passed d h j c) (own_site_passed d h j c) (every-passed c f) (own-passed c f) in
       let r : answer d h (act.Stamp j) ≡ ans.Shown c =
-      answer-stamp d h j ∙ ap (λ (b : Bool). unless (not b) why.TreeOrder (pick_stamp (next_stamp d h j))) (stamps-now d h j (subst (λ (e : ℕ). tree_of d e ≡ None) (sym (end.views j bj)) k))
+      answer-stamp d h j ∙ ap (λ (b : Bool). refused_if (not b) why.TreeOrder (pick_stamp (next_stamp d h j))) (stamps-now d h j (subst (λ (e : ℕ). tree_of d e ≡ None) (sym (end.views j bj)) k))
       ∙ ap (λ (o : Option Label). pick_stamp o) q in
       let z : is_done (ans.Shown c) ≡ false = subst (λ (r : Answer). is_done r ≡ false) r refused-stamp in
       cc
@@ -224,7 +226,7 @@ module _ (d : Deployed) (h : List Entry) (w : IsWithin d) (run : IsRun d h) (qui
   no-member l m = go (candidate d h j) refl
     where
       go : (o : Option Label) → candidate d h j ≡ o → ⊥
-      go None e = none-least (λ l. not (is_past d h j l)) (waiting h j) l (sym (candidate-is d h j) ∙ e) (not-past l (waits-as l m)) m
+      go None e = none-passes (λ l. not (is_past d h j l)) (waiting h j) l (sym (candidate-is d h j) ∙ e) (not-past l (waits-as l m)) m
       go (Some c) e = stamped c e (waits-as c (candidate-least d h j c e).member)
 
   none_empty : (xs : List Label) → ((l : Label) → In xs l → ⊥) → xs ≡ []

@@ -1,10 +1,11 @@
 -- Sums and counts over lists.
-use Rattle.std.specs.Prelude.{◌≡◌, ◌⊎◌, ◌<◌, ◌≤◌, ℕ, zero, suc, ◌+◌, ◌*◌, Bool, true, false, List, [], ◌∷◌, ◌++◌, length, filter, refl, cond}
+use Rattle.std.specs.Prelude.{◌≡◌, ◌⊎◌, ◌<◌, ◌≤◌, ℕ, zero, suc, ◌*◌, Bool, true, false, List, [], ◌∷◌, ◌++◌, length, filter, refl, cond}
 use Rattle.std.proofs.Common.{sym, subst, arith, inl, inr, ap, ◌∙◌}
 use Rattle.std.proofs.Math.Nat.{mul-suc}
 use Rattle.sat_label.specs.Words.{below}
 use Rattle.sat_act.specs.Settling.{total, joined}
-use Rattle.sat_laws.proofs.Members.{In, In-parts, In-left, In-right}
+use Rattle.sat_label.specs.Members.{In}
+use Rattle.sat_label.proofs.Members.{In-parts, In-left, In-right}
 
 pub total-le : {X : Type 0} (f g : X → ℕ) (xs : List X) → ((x : X) → In xs x → f x ≤ g x) → total f xs ≤ total g xs
 unfolding total
@@ -25,11 +26,6 @@ total-lt f g (x ∷ xs) y w (inr i) lt =
     let a : f x ≤ g x = w x (inl refl) in
     let b : total f xs < total g xs = total-lt f g xs y (λ y i. w y (inr i)) i lt in
     omega arith
-
-pub total-append : {X : Type 0} (f : X → ℕ) (xs ys : List X) → total f (xs ++ ys) ≡ total f xs + total f ys
-unfolding total
-total-append f [] ys = omega arith
-total-append f (x ∷ xs) ys = let a : total f (xs ++ ys) ≡ total f xs + total f ys = total-append f xs ys in omega arith
 
 -- a sum of parts that are each at most c
 pub total-bound : {X : Type 0} (c : ℕ) (f : X → ℕ) (xs : List X) → ((x : X) → In xs x → f x ≤ c) → total f xs ≤ c * length xs

@@ -1,1 +1,5 @@
-pub mod SettleGoals
+pub mod Ends
+pub mod Rest
+pub mod Printed
+pub mod Flags
+pub mod Laws

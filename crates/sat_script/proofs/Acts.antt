@@ -1,239 +1,66 @@
--- The lines of acts: what each says is an act of the deployment, and it is spelled so.
-use Rattle.std.proofs.Common.{◌≡◌, ℕ, ◌<◌, ◌≤◌, ◌^◌, Bool, true, false, not, ◌&&◌, ◌||◌, cond, eqb, ltb, List, [], ◌∷◌, length, Option, Some, None, Result, Ok, Err, sym, ap, ◌∙◌, refl, subst, arith}
+-- What a line says is an act of the deployment, and it is spelled so.
+use Rattle.std.proofs.Common.{◌≡◌, ℕ, ◌<◌, ◌≤◌, ◌^◌, ◌-◌, Bool, true, false, ◌&&◌, ◌||◌, cond, eqb, ltb, List, [], ◌∷◌, length, Option, Some, None, Result, Ok, Err, sym, ap, ◌∙◌, refl, subst, arith}
 use Rattle.std.specs.Str.{bytes_eq}
-use Rattle.std.specs.Prelude.{codes}
-use Rattle.std.specs.Fmt.{decimal}
 use Rattle.std.specs.Option.{option_map}
-use Rattle.std.proofs.lemmas.Bool.{ltb-true}
+use Rattle.std.proofs.lemmas.Bool.{and_from, and_parts, eqb-true, lt-ltb, ltb-true}
 use Rattle.std.proofs.lemmas.Bool.Decides.{nat_tests}
-use Rattle.sat_label.specs.Text.{is_name, is_value}
+use Rattle.sat_label.specs.Text.{is_value, node_text}
 use Rattle.sat_label.specs.declared.node.NodeId.{NodeId}
 use Rattle.sat_label.specs.declared.node.NodeId.TheVariants.{Site, Serializer}
 use Rattle.sat_tree.specs.Shape.{TreeShape}
 use Rattle.sat_tree.specs.Cut.{is_edge, IsNode}
 use Rattle.sat_act.specs.Built.{is_built_act}
 use Rattle.sat_act.specs.Deployed.{Deployed}
+use Rattle.sat_act.specs.Limits.{IsDeployment}
 use Rattle.sat_act.specs.Parts.{tree_of}
 use Rattle.sat_act.specs.Ranges.{IsActOf}
 use Rattle.sat_act.specs.declared.act.Act.{Act}
 use Rattle.sat_act.specs.declared.act.Act.TheVariants as act
-use Rattle.sat_script.specs.Grammar.{bar, is_built, is_live, has_room, client_of, item_of, of_site, site_in, leave_line, read_line, of_client_site, client_site_in, beat_line, kill_line, write_line, tick_line, hop_in, hop_line, bulk_line, beat_in_line, numbered_bulk_line, bare_line, act_of_none, act_of_one, act_of_two, act_of_three, act_of_four, act_form, act_line}
-use Rattle.sat_script.specs.Reading.{is_live_act}
-use Rattle.sat_script.specs.Spelled.{act_words, client_name, node_text}
+use Rattle.sat_script.specs.Causes.{bar, is_built, has_room, client_of, item_of, given, barred}
+use Rattle.sat_script.specs.Laws.{ActsAreSpelled}
 use Rattle.sat_script.specs.State.{State, most_acts}
-use Rattle.sat_script.specs.Words.{is_token, is_number, is_node, is_serializer, number_below, number_to, number_up_to, node_in, serializer_in, keyword_of}
+use Rattle.sat_script.specs.Table.{Said, place, num, bytes, at, word_of, kinds_of, act_forms, act_of, form_of, args_of, shape, says, text, shapes, all_known, onto, in_tree, all_say, no_tree, has_node, joins, edge_cause, unfit, said_act, found_form, form_line, act_line, texts, act_words}
+use Rattle.sat_script.specs.Words.{number_below, number_to, number_up_to, node_in, serializer_in, is_node, is_serializer, is_number}
 use Rattle.sat_script.specs.declared.fault.Cause.{Cause}
-use Rattle.sat_script.specs.declared.fault.Cause.TheVariants.{UnknownName, OutOfRange}
+use Rattle.sat_script.specs.declared.fault.Cause.TheVariants.{BadAct, OutOfRange, NoEdge}
 use Rattle.sat_script.specs.declared.form.Form.{Form}
 use Rattle.sat_script.specs.declared.form.Form.TheVariants as form
-use Rattle.sat_script.specs.declared.line.Parsed.{Parsed}
-use Rattle.sat_script.specs.declared.line.Parsed.TheVariants as parsed
-use Rattle.sat_script.proofs.Bars.{free}
-use Rattle.sat_script.proofs.Choices.{passed, skipped, unbarred, found, same_ok, word_is, both}
+use Rattle.sat_script.specs.declared.form.Kind.{Kind}
+use Rattle.sat_script.specs.declared.form.Kind.TheVariants as kind
+use Rattle.sat_script.specs.declared.limits.TheConstants.{MOST_SETTLES}
+use Rattle.sat_script.proofs.Bars.{free, bars_nothing}
+use Rattle.sat_script.proofs.Choices.{passed, unbarred, found, same_ok, word_is}
 use Rattle.sat_script.proofs.Digits.{below_is, to_is, up_to_is}
 use Rattle.sat_script.proofs.Lookup.{client_is, item_is}
+use Rattle.sat_script.proofs.Stands.{ActStands}
 
--- the words of a line spell an act of the deployment that may stand here
-pub record IsActLine (s : State) (words : List (List ℕ)) (a : Act) : Type 0 where
-  pub spelled : words ≡ act_words s.header a
-  pub fits : IsActOf s.header a
-  pub built : is_built_act a ≡ true
-  pub live : (not s.live || is_live_act a) ≡ true
-  pub room : s.acts < most_acts s.live
-
-abbrev pub SaysAct : State → List (List ℕ) → Parsed → Type 0
-SaysAct s words p = (a : Act) × (p ≡ parsed.Act a) × IsActLine s words a
-
--- sizes of a deployment that keep its numbers small
-pub record IsSmall (d : Deployed) : Type 0 where
-  pub sites : d.sites ≤ 16
-  pub gears : d.gears ≤ 8
-  pub plans : length d.plans ≤ 16
-  pub trees : (e : ℕ) (t : TreeShape) → tree_of d e ≡ Some t → (length t.parents ≤ 15) × (length t.seats ≤ 16)
-
--- an act's form leaves room for it
-stands : (s : State) (f : Form) → has_room s f ≡ ltb s.acts (most_acts s.live) → bar s f ≡ None → ((not s.live || is_live f) ≡ true) × (s.acts < most_acts s.live)
-stands s f room h = let is = free s f h in (is.live, ltb-true s.acts (most_acts s.live) (sym room ∙ is.room))
-
-not_built : {Y : Type 0} (s : State) (f : Form) (r : Result Y Cause) (p : Y) → is_built s.header f ≡ false → bar s f ≡ None → ⊥
-not_built s f r p built h = let is = free s f h in let never : true ≡ false = sym is.built ∙ built in cc
-
--- ---- each form that is built
-
-write_is : (s : State) (client item value : List ℕ) (p : Parsed) → write_line s client item value ≡ Ok p → SaysAct s (codes "write" ∷ client ∷ item ∷ value ∷ []) p
-unfolding write_line act_words has_room is_live
-write_is s client item value p h =
-    let w = passed (is_name client && (is_name item && is_token value)) _ _ _ h in
-    let b = unbarred (bar s form.Write) _ p w.1 in
-    let c = found (client_of s.header client) UnknownName _ p b.1 in
-    let x = found (item_of s.header item) UnknownName _ p c.2 in
-    let v = passed (is_value value) _ _ _ x.2 in
-    let cs = client_is s.header client c.0 c.1 in
-    let xs = item_is s.header item x.0 x.1 in
-    let at = stands s form.Write refl b.0 in (
-      act.Write c.0 x.0 value,
-      sym (same_ok _ p v.1),
-      record {
-        spelled = ap (λ n. codes "write" ∷ n ∷ item ∷ value ∷ []) (sym cs.1) ∙ ap (λ n. codes "write" ∷ client_name s.header c.0 ∷ n ∷ value ∷ []) (sym xs.1);
-        fits = (cs.0, xs.0, v.0);
-        built = refl;
-        live = at.0;
-        room = at.1;
-      },
-    )
-
-read_is : (s : State) (client item : List ℕ) (p : Parsed) → read_line s client item ≡ Ok p → SaysAct s (codes "read" ∷ client ∷ item ∷ []) p
-unfolding read_line act_words has_room is_live
-read_is s client item p h =
-    let w = passed (is_name client && is_name item) _ _ _ h in
-    let b = unbarred (bar s form.Read) _ p w.1 in
-    let c = found (client_of s.header client) UnknownName _ p b.1 in
-    let x = found (item_of s.header item) UnknownName _ p c.2 in
-    let cs = client_is s.header client c.0 c.1 in
-    let xs = item_is s.header item x.0 x.1 in
-    let at = stands s form.Read refl b.0 in (
-      act.Read c.0 x.0,
-      sym (same_ok _ p x.2),
-      record {
-        spelled = ap (λ n. codes "read" ∷ n ∷ item ∷ []) (sym cs.1) ∙ ap (λ n. codes "read" ∷ client_name s.header c.0 ∷ n ∷ []) (sym xs.1);
-        fits = (cs.0, xs.0);
-        built = refl;
-        live = at.0;
-        room = at.1;
-      },
-    )
-
-made_site : (made : ℕ → Act) (r : Result ℕ Cause) (p : Parsed) → of_site made r ≡ Ok p → (i : ℕ) × (r ≡ Ok i) × (p ≡ parsed.Act (made i))
-made_site made (Ok i) p h = (i, refl, sym (same_ok (parsed.Act (made i)) p h))
-made_site made (Err cause) p h = absurd (cc)
-
-site_is : (s : State) (f : Form) (made : ℕ → Act) (site : List ℕ) (p : Parsed) → IsSmall s.header → of_site made (site_in s f site) ≡ Ok p → (i : ℕ) × (p ≡ parsed.Act (made i)) × (i < s.header.sites) × (site ≡ decimal i) × (bar s f ≡ None)
-unfolding site_in
-site_is s f made site p small h =
-    let m = made_site made (site_in s f site) p h in
-    let w = passed (is_number site) _ _ _ m.1 in
-    let b = unbarred (bar s f) _ m.0 w.1 in
-    let i = found (number_below s.header.sites site) OutOfRange _ m.0 b.1 in
-    let few = small.sites in
-    let is = below_is s.header.sites site i.0 (omega arith) i.1 in
-    let same : i.0 ≡ m.0 = same_ok i.0 m.0 i.2 in
-    (i.0, m.2 ∙ ap (λ n. parsed.Act (made n)) (sym same), is.0, is.1, b.0)
-
-gather_is : (s : State) (site : List ℕ) (p : Parsed) → IsSmall s.header → of_site act.Gather (site_in s form.Gather site) ≡ Ok p → SaysAct s (codes "gather" ∷ site ∷ []) p
-unfolding act_words has_room is_live
-gather_is s site p small h =
-    let i = site_is s form.Gather act.Gather site p small h in
-    let at = stands s form.Gather refl i.4 in
-    (act.Gather i.0, i.1, record { spelled = ap (λ n. codes "gather" ∷ n ∷ []) i.3; fits = i.2; built = refl; live = at.0; room = at.1 })
-
-emit_is : (s : State) (site : List ℕ) (p : Parsed) → IsSmall s.header → of_site act.Emit (site_in s form.Emit site) ≡ Ok p → SaysAct s (codes "emit" ∷ site ∷ []) p
-unfolding act_words has_room is_live
-emit_is s site p small h =
-    let i = site_is s form.Emit act.Emit site p small h in
-    let at = stands s form.Emit refl i.4 in
-    (act.Emit i.0, i.1, record { spelled = ap (λ n. codes "emit" ∷ n ∷ []) i.3; fits = i.2; built = refl; live = at.0; room = at.1 })
-
-turn_is : (s : State) (site : List ℕ) (p : Parsed) → IsSmall s.header → of_site act.Turn (site_in s form.Turn site) ≡ Ok p → SaysAct s (codes "turn" ∷ site ∷ []) p
-unfolding act_words has_room is_live
-turn_is s site p small h =
-    let i = site_is s form.Turn act.Turn site p small h in
-    let at = stands s form.Turn refl i.4 in
-    (act.Turn i.0, i.1, record { spelled = ap (λ n. codes "turn" ∷ n ∷ []) i.3; fits = i.2; built = refl; live = at.0; room = at.1 })
-
-other_site : (s : State) (f : Form) (made : ℕ → Act) (site : List ℕ) (p : Parsed) → IsSmall s.header → is_built s.header f ≡ false → of_site made (site_in s f site) ≡ Ok p → ⊥
-other_site s f made site p small built h = let i = site_is s f made site p small h in not_built s f (Ok p) p built i.4
-
-clock_is : (s : State) (p : Parsed) → bare_line s form.Clock act.Clock ≡ Ok p → SaysAct s (codes "clock" ∷ []) p
-unfolding bare_line act_words has_room is_live
-clock_is s p h =
-    let b = unbarred (bar s form.Clock) _ p h in
-    let at = stands s form.Clock refl b.0 in
-    (act.Clock, sym (same_ok _ p b.1), record { spelled = refl; fits = tt; built = refl; live = at.0; room = at.1 })
-
-tick_is : (s : State) (site gear ts : List ℕ) (p : Parsed) → IsSmall s.header → tick_line s site gear ts ≡ Ok p → SaysAct s (codes "tick" ∷ site ∷ gear ∷ ts ∷ []) p
-unfolding tick_line act_words has_room is_live
-tick_is s site gear ts p small h =
-    let w = passed (is_number site && (is_number gear && is_number ts)) _ _ _ h in
-    let b = unbarred (bar s form.Tick) _ p w.1 in
-    let i = found (number_below s.header.sites site) OutOfRange _ p b.1 in
-    let g = found (number_below s.header.gears gear) OutOfRange _ p i.2 in
-    let t = found (number_up_to (2 ^ 62) ts) OutOfRange _ p g.2 in
-    let few = small.sites in
-    let gears = small.gears in
-    let is = below_is s.header.sites site i.0 (omega arith) i.1 in
-    let gs = below_is s.header.gears gear g.0 (omega arith) g.1 in
-    let ns = up_to_is (2 ^ 62) ts t.0 (omega arith) t.1 in
-    let at = stands s form.Tick refl b.0 in (
-      act.Tick i.0 g.0 t.0,
-      sym (same_ok _ p t.2),
-      record {
-        spelled =
-            ap (λ n. codes "tick" ∷ n ∷ gear ∷ ts ∷ []) is.1
-            ∙ ap (λ n. codes "tick" ∷ decimal i.0 ∷ n ∷ ts ∷ []) gs.1
-            ∙ ap (λ n. codes "tick" ∷ decimal i.0 ∷ decimal g.0 ∷ n ∷ []) ns.1;
-        fits = (is.0, gs.0, ns.0);
-        built = refl;
-        live = at.0;
-        room = at.1;
-      },
-    )
-
-bulk_is : (s : State) (from gear to : List ℕ) (p : Parsed) → IsSmall s.header → bulk_line s from gear to ≡ Ok p → SaysAct s (codes "bulk" ∷ from ∷ gear ∷ to ∷ []) p
-unfolding bulk_line act_words has_room is_live
-bulk_is s from gear to p small h =
-    let w = passed (is_number from && (is_number gear && is_number to)) _ _ _ h in
-    let b = unbarred (bar s form.Bulk) _ p w.1 in
-    let i = found (number_below s.header.sites from) OutOfRange _ p b.1 in
-    let g = found (number_below s.header.gears gear) OutOfRange _ p i.2 in
-    let j = found (number_below s.header.sites to) OutOfRange _ p g.2 in
-    let other = skipped (eqb i.0 j.0) _ _ _ j.2 in
-    let few = small.sites in
-    let gears = small.gears in
-    let is = below_is s.header.sites from i.0 (omega arith) i.1 in
-    let gs = below_is s.header.gears gear g.0 (omega arith) g.1 in
-    let js = below_is s.header.sites to j.0 (omega arith) j.1 in
-    let at = stands s form.Bulk refl b.0 in (
-      act.Bulk i.0 g.0 j.0 None,
-      sym (same_ok _ p other.1),
-      record {
-        spelled =
-            ap (λ n. codes "bulk" ∷ n ∷ gear ∷ to ∷ []) is.1
-            ∙ ap (λ n. codes "bulk" ∷ decimal i.0 ∷ n ∷ to ∷ []) gs.1
-            ∙ ap (λ n. codes "bulk" ∷ decimal i.0 ∷ decimal g.0 ∷ n ∷ []) js.1;
-        fits = ((is.0, js.0, other.0), gs.0, tt);
-        built = refl;
-        live = at.0;
-        room = at.1;
-      },
-    )
-
--- ---- nodes
+-- ---- nodes, as in sat_script
 
 byte_is : (a b : ℕ) → eqb a b ≡ true → a ≡ b
 byte_is a b h = grind (arith, nat_tests)
 
-serializer_is : (t : TreeShape) (word : List ℕ) (z : ℕ) → length t.parents ≤ 15 → is_serializer word ≡ true → serializer_in t word ≡ Some z → (z < length t.parents) × (word ≡ node_text (Serializer z))
-unfolding serializer_in is_serializer
+pub serializer_is : (t : TreeShape) (word : List ℕ) (z : ℕ) → length t.parents ≤ 15 → is_serializer word ≡ true → serializer_in t word ≡ Some z → (z < length t.parents) × (word ≡ node_text (Serializer z))
+unfolding serializer_in is_serializer node_text
 serializer_is t [] z few shape h = absurd (cc)
 serializer_is t (byte ∷ number) z few shape h =
-    let b = both (eqb byte 122) (is_number number) shape in
+    let b = and_parts (eqb byte 122) (is_number number) shape in
     let is = below_is (length t.parents) number z (omega arith) h in
     (is.0, ap (λ n. n ∷ number) (byte_is byte 122 b.0) ∙ ap (λ n. 122 ∷ n) is.1)
 
-mapped : {X Y : Type 0} (f : X → Y) (o : Option X) (y : Y) → option_map f o ≡ Some y → (x : X) × (o ≡ Some x) × (y ≡ f x)
+pub mapped : {X Y : Type 0} (f : X → Y) (o : Option X) (y : Y) → option_map f o ≡ Some y → (x : X) × (o ≡ Some x) × (y ≡ f x)
 mapped f (Some x) y h = (x, refl, cc)
 mapped f None y h = absurd (cc)
 
 either_byte : (byte : ℕ) → (eqb byte 115 || eqb byte 122) ≡ true → eqb byte 115 ≡ false → byte ≡ 122
 either_byte byte h other = grind (arith, nat_tests)
 
-node_is : (t : TreeShape) (word : List ℕ) (u : NodeId) → length t.parents ≤ 15 → length t.seats ≤ 16 → is_node word ≡ true → node_in t word ≡ Some u → IsNode t u × (word ≡ node_text u)
-unfolding node_in is_node
+pub node_is : (t : TreeShape) (word : List ℕ) (u : NodeId) → length t.parents ≤ 15 → length t.seats ≤ 16 → is_node word ≡ true → node_in t word ≡ Some u → IsNode t u × (word ≡ node_text u)
+unfolding node_in is_node node_text
 node_is t [] u few seats shape h = absurd (cc)
 node_is t (byte ∷ number) u few seats shape h = go (eqb byte 115) refl h
   where
     letters : (eqb byte 115 || eqb byte 122) ≡ true
-    letters = (both (eqb byte 115 || eqb byte 122) (is_number number) shape).0
+    letters = (and_parts (eqb byte 115 || eqb byte 122) (is_number number) shape).0
 
     go : (b : Bool) → eqb byte 115 ≡ b → cond b (option_map Site (number_below (length t.seats) number)) (option_map Serializer (number_below (length t.parents) number)) ≡ Some u → IsNode t u × ((byte ∷ number) ≡ node_text u)
     go true e h =
@@ -245,178 +72,291 @@ node_is t (byte ∷ number) u few seats shape h = go (eqb byte 115) refl h
         let is = below_is (length t.parents) number m.0 (omega arith) m.1 in
         subst (λ (u : NodeId). IsNode t u × ((byte ∷ number) ≡ node_text u)) (sym m.2) (is.0, ap (λ n. n ∷ number) (either_byte byte letters e) ∙ ap (λ n. 122 ∷ n) is.1)
 
-hop_tree : (o : Option TreeShape) (e : ℕ) (from to : List ℕ) (p : Parsed) → ((t : TreeShape) → o ≡ Some t → (length t.parents ≤ 15) × (length t.seats ≤ 16)) → is_node from ≡ true → is_serializer to ≡ true → hop_in o e from to ≡ Ok p
-    → (t : TreeShape) × (u : NodeId) × (z : ℕ) × (o ≡ Some t) × IsNode t u × (is_edge t u (Serializer z) ≡ true) × (from ≡ node_text u) × (to ≡ node_text (Serializer z)) × (p ≡ parsed.Act (act.Hop e u z))
-unfolding hop_in
-hop_tree None e from to p small one two h = absurd (cc)
-hop_tree (Some t) e from to p small one two h =
-    let u = found (node_in t from) OutOfRange _ p h in
-    let z = found (serializer_in t to) OutOfRange _ p u.2 in
-    let edge = passed (is_edge t u.0 (Serializer z.0)) _ _ _ z.2 in
-    let few = small t refl in
-    let us = node_is t from u.0 few.0 few.1 one u.1 in
-    let zs = serializer_is t to z.0 few.0 two z.1 in
-    (t, u.0, z.0, refl, us.0, edge.0, us.1, zs.1, sym (same_ok _ p edge.1))
+-- ---- words
 
-hop_is : (s : State) (epoch from to : List ℕ) (p : Parsed) → IsSmall s.header → hop_line s epoch from to ≡ Ok p → SaysAct s (codes "hop" ∷ epoch ∷ from ∷ to ∷ []) p
-unfolding hop_line act_words has_room is_live
-hop_is s epoch from to p small h =
-    let w = passed (is_number epoch && (is_node from && is_serializer to)) _ _ _ h in
-    let shapes = both (is_node from) (is_serializer to) (both (is_number epoch) (is_node from && is_serializer to) w.0).1 in
-    let b = unbarred (bar s form.Hop) _ p w.1 in
-    let e = found (number_to (length s.header.plans) epoch) OutOfRange _ p b.1 in
-    let few = small.plans in
-    let es = to_is (length s.header.plans) epoch e.0 (omega arith) e.1 in
-    let t = hop_tree (tree_of s.header e.0) e.0 from to p (small.trees e.0) shapes.0 shapes.1 e.2 in
-    let at = stands s form.Hop refl b.0 in (
-      act.Hop e.0 t.1 t.2,
-      t.8,
-      record {
-        spelled =
-            ap (λ n. codes "hop" ∷ n ∷ from ∷ to ∷ []) es.2
-            ∙ ap (λ n. codes "hop" ∷ decimal e.0 ∷ n ∷ to ∷ []) t.6
-            ∙ ap (λ n. codes "hop" ∷ decimal e.0 ∷ node_text t.1 ∷ n ∷ []) t.7;
-        fits = (t.0, es.0, t.3, t.4, t.5);
-        built = refl;
-        live = at.0;
-        room = at.1;
-      },
-    )
+-- what a word says is in range
+abbrev pub Fits : Deployed → TreeShape → Kind → Said → Type 0
+Fits d t kind.Client (place c) = c < length d.clients
+Fits d t kind.Item (place x) = x < length d.items
+Fits d t kind.Value (bytes v) = is_value v ≡ true
+Fits d t kind.Site (place i) = i < d.sites
+Fits d t kind.Gear (place g) = g < d.gears
+Fits d t kind.Ts (num n) = n ≤ 2 ^ 62
+Fits d t kind.Count (num n) = n < 2 ^ 64
+Fits d t kind.Epoch (place e) = (1 ≤ e) × (e ≤ length d.plans)
+Fits d t kind.Node (at u) = IsNode t u
+Fits d t kind.Serializer (place z) = z < length t.parents
+Fits d t _ _ = ⊥
 
--- ---- each form that isn't built
+pub record IsSmall (d : Deployed) (t : TreeShape) : Type 0 where
+  pub sites : d.sites ≤ 16
+  pub gears : d.gears ≤ 8
+  pub plans : length d.plans ≤ 16
+  pub parents : length t.parents ≤ 15
+  pub seats : length t.seats ≤ 16
 
-other_client_site : (s : State) (f : Form) (made : ℕ → ℕ → Act) (client site : List ℕ) (p : Parsed) → is_built s.header f ≡ false → of_client_site made (client_site_in s f client site) ≡ Ok p → ⊥
-unfolding client_site_in
-other_client_site s f made client site p built h = go (client_site_in s f client site) refl h
+word_fits : (d : Deployed) (t : TreeShape) (k : Kind) (w : List ℕ) (a : Said) → IsSmall d t → shape k w ≡ true → says d t k w ≡ Some a → (w ≡ text d k a) × Fits d t k a
+word_fits d t kind.Client w a small h e = let m = mapped place (client_of d w) a e in let is = client_is d w m.0 m.1 in subst (λ a. (w ≡ text d kind.Client a) × Fits d t kind.Client a) (sym m.2) (sym is.1, is.0)
+word_fits d t kind.Item w a small h e = let m = mapped place (item_of d w) a e in let is = item_is d w m.0 m.1 in subst (λ a. (w ≡ text d kind.Item a) × Fits d t kind.Item a) (sym m.2) (sym is.1, is.0)
+word_fits d t kind.Site w a small h e = let m = mapped place (number_below d.sites w) a e in let few = small.sites in let is = below_is d.sites w m.0 (omega arith) m.1 in subst (λ a. (w ≡ text d kind.Site a) × Fits d t kind.Site a) (sym m.2) (is.1, is.0)
+word_fits d t kind.Gear w a small h e = let m = mapped place (number_below d.gears w) a e in let few = small.gears in let is = below_is d.gears w m.0 (omega arith) m.1 in subst (λ a. (w ≡ text d kind.Gear a) × Fits d t kind.Gear a) (sym m.2) (is.1, is.0)
+word_fits d t kind.Ts w a small h e = let m = mapped num (number_up_to (2 ^ 62) w) a e in let is = up_to_is (2 ^ 62) w m.0 (omega arith) m.1 in subst (λ a. (w ≡ text d kind.Ts a) × Fits d t kind.Ts a) (sym m.2) (is.1, is.0)
+word_fits d t kind.Count w a small h e = let m = mapped num (number_up_to (2 ^ 64 - 1) w) a e in let is = up_to_is (2 ^ 64 - 1) w m.0 (omega arith) m.1 in subst (λ a. (w ≡ text d kind.Count a) × Fits d t kind.Count a) (sym m.2) (is.1, omega (arith, is.0))
+word_fits d t kind.Epoch w a small h e = let m = mapped place (number_to (length d.plans) w) a e in let few = small.plans in let is = to_is (length d.plans) w m.0 (omega arith) m.1 in subst (λ a. (w ≡ text d kind.Epoch a) × Fits d t kind.Epoch a) (sym m.2) (is.2, (is.0, is.1))
+word_fits d t kind.Node w a small h e = let m = mapped at (node_in t w) a e in let is = node_is t w m.0 small.parents small.seats h m.1 in subst (λ a. (w ≡ text d kind.Node a) × Fits d t kind.Node a) (sym m.2) (is.1, is.0)
+word_fits d t kind.Serializer w a small h e = let m = mapped place (serializer_in t w) a e in let is = serializer_is t w m.0 small.parents h m.1 in subst (λ a. (w ≡ text d kind.Serializer a) × Fits d t kind.Serializer a) (sym m.2) (is.1, is.0)
+word_fits d t kind.Value w a small h e = go (is_value w) refl e
   where
-    go : (r : Result (ℕ × ℕ) Cause) → client_site_in s f client site ≡ r → of_client_site made r ≡ Ok p → ⊥
-    go (Ok pair) e h =
-        let w = passed (is_name client && is_number site) _ _ _ e in
-        let b = unbarred (bar s f) _ pair w.1 in
-        not_built s f (Ok p) p built b.0
-    go (Err cause) e h = cc
+    go : (b : Bool) → is_value w ≡ b → cond b (Some (bytes w)) None ≡ Some a → (w ≡ text d kind.Value a) × Fits d t kind.Value a
+    go true v e = subst (λ a. (w ≡ text d kind.Value a) × Fits d t kind.Value a) (let s : bytes w ≡ a = cc in s) (refl, v)
+    go false v e = absurd (cc)
 
-no_leave : (s : State) (client : List ℕ) (p : Parsed) → leave_line s client ≡ Ok p → ⊥
-unfolding leave_line is_built
-no_leave s client p h = let w = passed (is_name client) _ _ _ h in let never = w.1 in cc
+-- the words in turn
+abbrev pub AllFit : Deployed → TreeShape → List Kind → List Said → Type 0
+AllFit d t [] [] = Unit {0}
+AllFit d t (kind.Epoch ∷ ks) (place e ∷ xs) = (u : TreeShape) × (tree_of d e ≡ Some u) × (1 ≤ e) × AllFit d u ks xs
+AllFit d t (k ∷ ks) (a ∷ xs) = Fits d t k a × AllFit d t ks xs
+AllFit d t _ _ = ⊥
 
-no_beat : (s : State) (from to : List ℕ) (p : Parsed) → beat_line s from to ≡ Ok p → ⊥
-unfolding beat_line is_built
-no_beat s from to p h = let w = passed (is_number from && is_number to) _ _ _ h in let never = w.1 in cc
+pub no_small : (d : Deployed) (t : TreeShape) → IsDeployment d → (length t.parents ≤ 15) → (length t.seats ≤ 16) → IsSmall d t
+no_small d t is ps ss = record { sites = is.few_sites; gears = is.few_gears; plans = is.few_plans; parents = ps; seats = ss }
 
-no_kill : (s : State) (epoch z : List ℕ) (p : Parsed) → kill_line s epoch z ≡ Ok p → ⊥
-unfolding kill_line is_built
-no_kill s epoch z p h = let w = passed (is_number epoch && is_serializer z) _ _ _ h in let never = w.1 in cc
+onto_ok : (a : Said) (r : Result (List Said) Cause) (xs : List Said) → onto a r ≡ Ok xs → (more : List Said) × (r ≡ Ok more) × (xs ≡ a ∷ more)
+onto_ok a (Ok more) xs h = (more, refl, let s : a ∷ more ≡ xs = cc in sym s)
+onto_ok a (Err cause) xs h = absurd (cc)
 
-no_beat_in : (s : State) (from to number : List ℕ) (p : Parsed) → beat_in_line s from to number ≡ Ok p → ⊥
-unfolding beat_in_line is_built
-no_beat_in s from to number p h = let w = passed (is_number from && (is_number to && is_number number)) _ _ _ h in let never = w.1 in cc
+-- all kinds but an epoch go on in the tree that they are read in
+plain : (d : Deployed) (t : TreeShape) (k : Kind) (w : List ℕ) (a : Said) (xs : List Said) (ks : List Kind) (ws : List (List ℕ)) (r : Result (List Said) Cause)
+    → IsSmall d t → shape k w ≡ true → says d t k w ≡ Some a → onto a r ≡ Ok xs → ((more : List Said) → r ≡ Ok more → (ws ≡ texts d ks more) × AllFit d t ks more)
+    → (more : List Said) × (xs ≡ a ∷ more) × (w ∷ ws ≡ text d k a ∷ texts d ks more) × Fits d t k a × AllFit d t ks more
+plain d t k w a xs ks ws r small h e o next =
+    let m = onto_ok a r xs o in
+    let f = word_fits d t k w a small h e in
+    let rest = next m.0 m.1 in
+    (m.0, m.2, ap (λ (w : List ℕ). w ∷ ws) f.0 ∙ ap (λ (ws : List (List ℕ)). text d k a ∷ ws) rest.0, f.1, rest.1)
 
-no_numbered : (s : State) (from gear to number : List ℕ) (p : Parsed) → numbered_bulk_line s from gear to number ≡ Ok p → ⊥
-unfolding numbered_bulk_line is_built
-no_numbered s from gear to number p h =
-    let w = passed ((is_number from && is_number gear) && (is_number to && is_number number)) _ _ _ h in
-    let never = w.1 in cc
+say_plain : (d : Deployed) (t : TreeShape) (k : Kind) (w : List ℕ) (ws : List (List ℕ)) (xs : List Said) (ks : List Kind) → IsSmall d t → shape k w ≡ true
+    → given OutOfRange (says d t k w) (λ a. onto a (all_say d t ks ws)) ≡ Ok xs → ((more : List Said) → all_say d t ks ws ≡ Ok more → (ws ≡ texts d ks more) × AllFit d t ks more)
+    → (a : Said) × (more : List Said) × (xs ≡ a ∷ more) × (w ∷ ws ≡ text d k a ∷ texts d ks more) × Fits d t k a × AllFit d t ks more
+say_plain d t k w ws xs ks small h say next =
+    let f = found (says d t k w) OutOfRange (λ a. onto a (all_say d t ks ws)) xs say in
+    let p = plain d t k w f.0 xs ks ws (all_say d t ks ws) small h f.1 f.2 next in
+    (f.0, p.0, p.1, p.2, p.3, p.4)
 
-no_settle : (s : State) (p : Parsed) → bare_line s form.Settle act.Settle ≡ Ok p → ⊥
-unfolding bare_line is_built
-no_settle s p h = cc
+abbrev pub AreSaid : Deployed → TreeShape → List Kind → List (List ℕ) → List Said → Type 0
+AreSaid d t ks ws xs = (ws ≡ texts d ks xs) × AllFit d t ks xs
 
--- ---- keywords
+pub shape_small : (d : Deployed) (e : ℕ) (u : TreeShape) → IsDeployment d → tree_of d e ≡ Some u → IsSmall d u
+shape_small d e u is here = no_small d u is (is.few_serializers e u here) (let s = is.all_seated e u here in let few = is.few_sites in omega arith)
 
-abbrev keyword_text : Form → List ℕ
-keyword_text form.Write = codes "write"
-keyword_text form.Read = codes "read"
-keyword_text form.Hop = codes "hop"
-keyword_text form.Bulk = codes "bulk"
-keyword_text form.Turn = codes "turn"
-keyword_text form.Gather = codes "gather"
-keyword_text form.Emit = codes "emit"
-keyword_text form.Tick = codes "tick"
-keyword_text form.Pulse = codes "pulse"
-keyword_text form.Beat = codes "beat"
-keyword_text form.BeatIn = codes "beatin"
-keyword_text form.Stamp = codes "stamp"
-keyword_text form.Move = codes "move"
-keyword_text form.Leave = codes "leave"
-keyword_text form.Attach = codes "attach"
-keyword_text form.Clock = codes "clock"
-keyword_text form.Close = codes "close"
-keyword_text form.Fall = codes "fall"
-keyword_text form.Advance = codes "advance"
-keyword_text form.Kill = codes "kill"
-keyword_text form.Settle = codes "settle"
-keyword_text _ = []
-
--- a word is the keyword, or the form is found further on
-next_keyword : (word : List ℕ) (f g : Form) (more : Option Form) → (more ≡ Some g → word ≡ keyword_text g) → cond (bytes_eq word (keyword_text f)) (Some f) more ≡ Some g → word ≡ keyword_text g
-next_keyword word f g more further h = go (bytes_eq word (keyword_text f)) refl h
+pub say_is : (d : Deployed) (t : TreeShape) (ks : List Kind) (ws : List (List ℕ)) (xs : List Said) → IsDeployment d → IsSmall d t → shapes ks ws ≡ true → all_say d t ks ws ≡ Ok xs → AreSaid d t ks ws xs
+say_is d t [] [] xs is small h e = subst (λ xs. AreSaid d t [] [] xs) (same_ok [] xs e) (refl, tt)
+say_is d t [] (w ∷ ws) xs is small h e = absurd (let none = eqb-true (length (w ∷ ws)) 0 h in omega (arith, none))
+say_is d t (k ∷ ks) [] xs is small h e = absurd (let never : false ≡ true = h in cc)
+say_is d t (kind.Epoch ∷ ks) (w ∷ ws) xs is small h e =
+    let b = and_parts (shape kind.Epoch w) (shapes ks ws) h in
+    let m = found (number_to (length d.plans) w) OutOfRange (λ n. given NoEdge (tree_of d n) (λ u. onto (place n) (all_say d u ks ws))) xs (number_first w (λ n. given NoEdge (tree_of d n) (λ u. onto (place n) (all_say d u ks ws))) e) in
+    let f = word_fits d t kind.Epoch w (place m.0) small b.0 (ap (option_map place) m.1) in
+    let u = found (tree_of d m.0) NoEdge (λ u. onto (place m.0) (all_say d u ks ws)) xs m.2 in
+    let o = onto_ok (place m.0) (all_say d u.0 ks ws) xs u.2 in
+    let rest = say_is d u.0 ks ws o.0 is (shape_small d m.0 u.0 is u.1) b.1 o.1 in
+    subst (λ xs. AreSaid d t (kind.Epoch ∷ ks) (w ∷ ws) xs) (sym o.2) (ap (λ (w : List ℕ). w ∷ ws) f.0 ∙ ap (λ (ws : List (List ℕ)). text d kind.Epoch (place m.0) ∷ ws) rest.0, (u.0, u.1, f.1.0, rest.1))
   where
-    go : (b : Bool) → bytes_eq word (keyword_text f) ≡ b → cond b (Some f) more ≡ Some g → word ≡ keyword_text g
-    go true e h = let same : f ≡ g = cc in word_is word (keyword_text f) e ∙ ap keyword_text same
-    go false e h = further h
+    number_first : (w : List ℕ) (next : ℕ → Result (List Said) Cause) → given OutOfRange (option_map place (number_to (length d.plans) w)) (λ a. in_tree d kind.Epoch t a (λ u. onto a (all_say d u ks ws))) ≡ Ok xs → given OutOfRange (number_to (length d.plans) w) (λ n. given NoEdge (tree_of d n) (λ u. onto (place n) (all_say d u ks ws))) ≡ Ok xs
+    number_first w next e = go (number_to (length d.plans) w) e
+      where
+        go : (o : Option ℕ) → given OutOfRange (option_map place o) (λ a. in_tree d kind.Epoch t a (λ u. onto a (all_say d u ks ws))) ≡ Ok xs → given OutOfRange o (λ n. given NoEdge (tree_of d n) (λ u. onto (place n) (all_say d u ks ws))) ≡ Ok xs
+        go None e = absurd (cc)
+        go (Some n) e = e
+say_is d t (k ∷ ks) (w ∷ ws) xs is small h e =
+    let b = and_parts (shape k w) (shapes ks ws) h in
+    let p = say_plain d t k w ws xs ks small b.0 e (λ more r. say_is d t ks ws more is small b.1 r) in
+    subst (λ xs. AreSaid d t (k ∷ ks) (w ∷ ws) xs) (sym p.2) (p.3, (p.4, p.5))
 
-keyword_is : (word : List ℕ) (f : Form) → keyword_of word ≡ Some f → word ≡ keyword_text f
-unfolding keyword_of
-keyword_is word f h =
-    next_keyword word form.Write f _ (next_keyword word form.Read f _ (next_keyword word form.Hop f _ (next_keyword word form.Bulk f _ (next_keyword word form.Turn f _ (next_keyword word form.Gather f _ (next_keyword word form.Emit f _
-    (next_keyword word form.Tick f _ (next_keyword word form.Pulse f _ (next_keyword word form.Beat f _ (next_keyword word form.BeatIn f _ (next_keyword word form.Stamp f _ (next_keyword word form.Move f _ (next_keyword word form.Leave f _
-    (next_keyword word form.Attach f _ (next_keyword word form.Clock f _ (next_keyword word form.Close f _ (next_keyword word form.Fall f _ (next_keyword word form.Advance f _ (next_keyword word form.Kill f _ (next_keyword word form.Settle f None
-    (λ e. absurd (cc)))))))))))))))))))))) h
+-- ---- the table
 
--- ---- all forms
+-- words of these kinds, whatever they name
+abbrev is_kind : Kind → Said → Bool
+is_kind kind.Client (place n) = true
+is_kind kind.Item (place n) = true
+is_kind kind.Value (bytes v) = true
+is_kind kind.Site (place n) = true
+is_kind kind.Gear (place n) = true
+is_kind kind.Ts (num n) = true
+is_kind kind.Count (num n) = true
+is_kind kind.Epoch (place n) = true
+is_kind kind.Node (at u) = true
+is_kind kind.Serializer (place n) = true
+is_kind _ _ = false
 
-with_word : (s : State) (word text : List ℕ) (words : List (List ℕ)) (p : Parsed) → word ≡ text → SaysAct s (text ∷ words) p → SaysAct s (word ∷ words) p
-with_word s word text words p e h = subst (λ (w : List ℕ). SaysAct s (w ∷ words) p) (sym e) h
+abbrev are_kinds : List Kind → List Said → Bool
+are_kinds [] [] = true
+are_kinds (k ∷ ks) (a ∷ xs) = is_kind k a && are_kinds ks xs
+are_kinds _ _ = false
 
-none_is : (s : State) (k : Option Form) (word : List ℕ) (p : Parsed) → keyword_of word ≡ k → act_of_none s k ≡ Ok p → SaysAct s (word ∷ []) p
-unfolding act_of_none
-none_is s (Some form.Clock) word p is h = with_word s word _ [] p (keyword_is word form.Clock is) (clock_is s p h)
-none_is s (Some form.Settle) word p is h = absurd (no_settle s p h)
-none_is s _ word p is h = absurd (cc)
+fit_kind : (d : Deployed) (t : TreeShape) (k : Kind) (a : Said) → Fits d t k a → is_kind k a ≡ true
+fit_kind d t kind.Client (place n) h = refl
+fit_kind d t kind.Item (place n) h = refl
+fit_kind d t kind.Value (bytes v) h = refl
+fit_kind d t kind.Site (place n) h = refl
+fit_kind d t kind.Gear (place n) h = refl
+fit_kind d t kind.Ts (num n) h = refl
+fit_kind d t kind.Count (num n) h = refl
+fit_kind d t kind.Epoch (place n) h = refl
+fit_kind d t kind.Node (at u) h = refl
+fit_kind d t kind.Serializer (place n) h = refl
+fit_kind d t _ _ h = absurd h
 
-one_is : (s : State) (k : Option Form) (word a : List ℕ) (p : Parsed) → IsSmall s.header → keyword_of word ≡ k → act_of_one s k a ≡ Ok p → SaysAct s (word ∷ a ∷ []) p
-unfolding act_of_one is_built
-one_is s (Some form.Gather) word a p small is h = with_word s word _ (a ∷ []) p (keyword_is word form.Gather is) (gather_is s a p small h)
-one_is s (Some form.Emit) word a p small is h = with_word s word _ (a ∷ []) p (keyword_is word form.Emit is) (emit_is s a p small h)
-one_is s (Some form.Turn) word a p small is h = with_word s word _ (a ∷ []) p (keyword_is word form.Turn is) (turn_is s a p small h)
-one_is s (Some form.Leave) word a p small is h = absurd (no_leave s a p h)
-one_is s (Some form.Pulse) word a p small is h = absurd (other_site s form.Pulse act.Pulse a p small refl h)
-one_is s (Some form.Stamp) word a p small is h = absurd (other_site s form.Stamp act.Stamp a p small refl h)
-one_is s (Some form.Close) word a p small is h = absurd (other_site s form.Close act.Close a p small refl h)
-one_is s (Some form.Fall) word a p small is h = absurd (other_site s form.Fall act.Fall a p small refl h)
-one_is s (Some form.Advance) word a p small is h = absurd (other_site s form.Advance act.Advance a p small refl h)
-one_is s _ word a p small is h = absurd (cc)
+fit_kinds : (d : Deployed) (t : TreeShape) (ks : List Kind) (xs : List Said) → AllFit d t ks xs → are_kinds ks xs ≡ true
+fit_kinds d t [] [] h = refl
+fit_kinds d t (kind.Epoch ∷ ks) (place e ∷ xs) h = fit_kinds d h.0 ks xs h.3
+fit_kinds d t [] (a ∷ xs) h = absurd h
+fit_kinds d t (kind.Epoch ∷ ks) [] h = absurd h
+fit_kinds d t (k ∷ ks) [] h = absurd h
+fit_kinds d t (k ∷ ks) (a ∷ xs) h = and_from (is_kind k a) (are_kinds ks xs) (fit_kind d t k a h.0) (fit_kinds d t ks xs h.1)
 
-two_is : (s : State) (k : Option Form) (word a b : List ℕ) (p : Parsed) → keyword_of word ≡ k → act_of_two s k a b ≡ Ok p → SaysAct s (word ∷ a ∷ b ∷ []) p
-unfolding act_of_two is_built
-two_is s (Some form.Read) word a b p is h = with_word s word _ (a ∷ b ∷ []) p (keyword_is word form.Read is) (read_is s a b p h)
-two_is s (Some form.Move) word a b p is h = absurd (other_client_site s form.Move act.Move a b p refl h)
-two_is s (Some form.Attach) word a b p is h = absurd (other_client_site s form.Attach act.Attach a b p refl h)
-two_is s (Some form.Beat) word a b p is h = absurd (no_beat s a b p h)
-two_is s (Some form.Kill) word a b p is h = absurd (no_kill s a b p h)
-two_is s _ word a b p is h = absurd (cc)
+row : (x a : Act) → (let o : Option Act = Some x in o) ≡ Some a → (form_of x ≡ form_of a) × (args_of x ≡ args_of a)
+row x a h = let e : x ≡ a = cc in (ap form_of e, ap args_of e)
 
-three_is : (s : State) (k : Option Form) (word a b c : List ℕ) (p : Parsed) → IsSmall s.header → keyword_of word ≡ k → act_of_three s k a b c ≡ Ok p → SaysAct s (word ∷ a ∷ b ∷ c ∷ []) p
-unfolding act_of_three
-three_is s (Some form.Write) word a b c p small is h = with_word s word _ (a ∷ b ∷ c ∷ []) p (keyword_is word form.Write is) (write_is s a b c p h)
-three_is s (Some form.Tick) word a b c p small is h = with_word s word _ (a ∷ b ∷ c ∷ []) p (keyword_is word form.Tick is) (tick_is s a b c p small h)
-three_is s (Some form.Hop) word a b c p small is h = with_word s word _ (a ∷ b ∷ c ∷ []) p (keyword_is word form.Hop is) (hop_is s a b c p small h)
-three_is s (Some form.Bulk) word a b c p small is h = with_word s word _ (a ∷ b ∷ c ∷ []) p (keyword_is word form.Bulk is) (bulk_is s a b c p small h)
-three_is s (Some form.BeatIn) word a b c p small is h = absurd (no_beat_in s a b c p h)
-three_is s _ word a b c p small is h = absurd (cc)
+tested : (b : Bool) (x a : Act) → cond b (Some x) None ≡ Some a → (form_of x ≡ form_of a) × (args_of x ≡ args_of a)
+tested true x a h = row x a h
+tested false x a h = absurd (cc)
 
-four_is : (s : State) (k : Option Form) (a b c e : List ℕ) (p : Parsed) → act_of_four s k a b c e ≡ Ok p → ⊥
-unfolding act_of_four
-four_is s (Some form.Bulk) a b c e p h = no_numbered s a b c e p h
-four_is s _ a b c e p h = cc
+pub act_is : (f : Form) (xs : List Said) (a : Act) → are_kinds (kinds_of f) xs ≡ true → act_of f xs ≡ Some a → (f ≡ form_of a) × (xs ≡ args_of a)
+act_is form.Tick (place i ∷ place g ∷ num t ∷ []) a k h = row (act.Tick i g t) a h
+act_is form.Clock [] a k h = row act.Clock a h
+act_is form.Write (place c ∷ place x ∷ bytes v ∷ []) a k h = tested (is_value v) (act.Write c x v) a h
+act_is form.Read (place c ∷ place x ∷ []) a k h = row (act.Read c x) a h
+act_is form.Move (place c ∷ place j ∷ []) a k h = row (act.Move c j) a h
+act_is form.Leave (place c ∷ []) a k h = row (act.Leave c) a h
+act_is form.Attach (place c ∷ place j ∷ []) a k h = row (act.Attach c j) a h
+act_is form.Gather (place i ∷ []) a k h = row (act.Gather i) a h
+act_is form.Emit (place i ∷ []) a k h = row (act.Emit i) a h
+act_is form.Pulse (place i ∷ []) a k h = row (act.Pulse i) a h
+act_is form.Hop (place e ∷ at u ∷ place z ∷ []) a k h = row (act.Hop e u z) a h
+act_is form.Turn (place i ∷ []) a k h = row (act.Turn i) a h
+act_is form.Bulk (place i ∷ place g ∷ place j ∷ []) a k h = row (act.Bulk i g j None) a h
+act_is form.NumberedBulk (place i ∷ place g ∷ place j ∷ num n ∷ []) a k h = row (act.Bulk i g j (Some n)) a h
+act_is form.Beat (place i ∷ place j ∷ []) a k h = row (act.Beat i j) a h
+act_is form.BeatIn (place i ∷ place j ∷ num n ∷ []) a k h = row (act.BeatIn i j n) a h
+act_is form.Stamp (place i ∷ []) a k h = row (act.Stamp i) a h
+act_is form.Close (place i ∷ []) a k h = row (act.Close i) a h
+act_is form.Fall (place i ∷ []) a k h = row (act.Fall i) a h
+act_is form.Advance (place i ∷ []) a k h = row (act.Advance i) a h
+act_is form.Kill (place e ∷ place z ∷ []) a k h = row (act.Kill e z) a h
+act_is form.Settle [] a k h = row act.Settle a h
+act_is _ _ a k h = absurd (cc)
 
-pub act_is : (s : State) (words : List (List ℕ)) (p : Parsed) → IsSmall s.header → act_line s words ≡ Ok p → SaysAct s words p
-unfolding act_line act_form
-act_is s [] p small h = absurd (cc)
-act_is s (word ∷ []) p small h = none_is s (keyword_of word) word p refl h
-act_is s (word ∷ a ∷ []) p small h = one_is s (keyword_of word) word a p small refl h
-act_is s (word ∷ a ∷ b ∷ []) p small h = two_is s (keyword_of word) word a b p refl h
-act_is s (word ∷ a ∷ b ∷ c ∷ []) p small h = three_is s (keyword_of word) word a b c p small refl h
-act_is s (word ∷ a ∷ b ∷ c ∷ e ∷ []) p small h = absurd (four_is s (keyword_of word) a b c e p h)
-act_is s (word ∷ a ∷ b ∷ c ∷ e ∷ g ∷ words) p small h = absurd (cc)
+eq_test : (i j : ℕ) (c : Cause) → cond (eqb i j) (Some c) None ≡ None → eqb i j ≡ false
+eq_test i j c h = go (eqb i j) refl h
+  where
+    go : (b : Bool) → eqb i j ≡ b → cond b (Some c) None ≡ None → eqb i j ≡ false
+    go true e h = absurd (cc)
+    go false e h = e
+
+edge_is : (o : Option TreeShape) (t : TreeShape) (v : NodeId) (z : ℕ) → o ≡ Some t → edge_cause o v z ≡ None → is_edge t v (Serializer z) ≡ true
+edge_is None t v z e h = absurd (cc)
+edge_is (Some u) t v z e h =
+    let joined = go (joins u v z) h in
+    let edge = and_parts (has_node u (Serializer z)) (is_edge u v (Serializer z)) (and_parts (has_node u v) _ joined).1 in
+    subst (λ t. is_edge t v (Serializer z) ≡ true) (let s : u ≡ t = cc in s) edge.1
+  where
+    go : (b : Bool) → cond b None (Some NoEdge) ≡ None → b ≡ true
+    go true h = refl
+    go false h = absurd (cc)
+
+-- what such words say is an act of the deployment
+pub act_fits : (d : Deployed) (a : Act) → AllFit d no_tree (kinds_of (form_of a)) (args_of a) → unfit d a ≡ None → IsActOf d a
+act_fits d (act.Tick i g t) h u = (h.0, h.1.0, h.1.1.0)
+act_fits d act.Clock h u = tt
+act_fits d (act.Write c x v) h u = (h.0, h.1.0, h.1.1.0)
+act_fits d (act.Read c x) h u = (h.0, h.1.0)
+act_fits d (act.Move c j) h u = (h.0, h.1.0)
+act_fits d (act.Leave c) h u = h.0
+act_fits d (act.Attach c j) h u = (h.0, h.1.0)
+act_fits d (act.Gather i) h u = h.0
+act_fits d (act.Emit i) h u = h.0
+act_fits d (act.Pulse i) h u = h.0
+act_fits d (act.Hop e v z) h u = (h.0, h.2, h.1, h.3.0, edge_is (tree_of d e) h.0 v z h.1 u)
+act_fits d (act.Turn i) h u = h.0
+act_fits d (act.Bulk i g j None) h u = ((h.0, h.1.1.0, eq_test i j OutOfRange u), h.1.0, tt)
+act_fits d (act.Bulk i g j (Some n)) h u = ((h.0, h.1.1.0, eq_test i j OutOfRange u), h.1.0, h.1.1.1.0)
+act_fits d (act.Beat i j) h u = (h.0, h.1.0, eq_test i j OutOfRange u)
+act_fits d (act.BeatIn i j n) h u = ((h.0, h.1.0, eq_test i j OutOfRange u), h.1.1.0)
+act_fits d (act.Stamp i) h u = h.0
+act_fits d (act.Close i) h u = h.0
+act_fits d (act.Fall i) h u = h.0
+act_fits d (act.Advance i) h u = h.0
+act_fits d (act.Kill e z) h u = (h.0, h.2, h.1, h.3.0)
+act_fits d act.Settle h u = tt
+
+form_is : (word : List ℕ) (n : ℕ) (fs : List Form) (f : Form) → found_form word n fs ≡ Some f → word ≡ word_of f
+form_is word n [] f h = absurd (cc)
+form_is word n (g ∷ fs) f h = go (bytes_eq word (word_of g) && eqb (length (kinds_of g)) n) refl h (form_is word n fs f)
+  where
+    go : (b : Bool) → (bytes_eq word (word_of g) && eqb (length (kinds_of g)) n) ≡ b → cond b (Some g) (found_form word n fs) ≡ Some f → (found_form word n fs ≡ Some f → word ≡ word_of f) → word ≡ word_of f
+    go true e h later = let same : g ≡ f = cc in word_is word (word_of g) (and_parts (bytes_eq word (word_of g)) (eqb (length (kinds_of g)) n) e).0 ∙ ap word_of same
+    go false e h later = later h
+
+-- ---- a line
+
+chosen : (d : Deployed) (f : Form) (r : Result (List Said) Cause) (a : Act) → said_act d f r ≡ Ok a
+    → (xs : List Said) × (r ≡ Ok xs) × (act_of f xs ≡ Some a) × (unfit d a ≡ None)
+chosen d f (Err cause) a h = absurd (cc)
+chosen d f (Ok xs) a h =
+    let g = found (act_of f xs) OutOfRange (λ a. barred (unfit d a) (Ok a)) a h in
+    let u = unbarred (unfit d g.0) (Ok g.0) a g.2 in
+    let e : g.0 ≡ a = same_ok g.0 a u.1 in
+    (xs, refl, g.1 ∙ ap Some e, ap (unfit d) (sym e) ∙ u.0)
+
+line_says : (bars : Form → Option Cause) (d : Deployed) (f : Form) (words : List (List ℕ)) (a : Act) → IsDeployment d → form_line bars d f words ≡ Ok a
+    → (f ≡ form_of a) × (words ≡ texts d (kinds_of (form_of a)) (args_of a)) × IsActOf d a × (bars (form_of a) ≡ None)
+unfolding form_line
+line_says bars d f words a is h =
+    let shaped = passed (shapes (kinds_of f) words) _ _ _ h in
+    let free = unbarred (bars f) _ a shaped.1 in
+    let named = passed (all_known d (kinds_of f) words) _ _ _ free.1 in
+    let c = chosen d f (all_say d no_tree (kinds_of f) words) a named.1 in
+    let said = say_is d no_tree (kinds_of f) words c.0 is (no_small d no_tree is (omega arith) (omega arith)) shaped.0 c.1 in
+    let t = act_is f c.0 a (fit_kinds d no_tree (kinds_of f) c.0 said.1) c.2 in
+    let fits = subst (λ xs. AllFit d no_tree (kinds_of (form_of a)) xs) t.1 (subst (λ f. AllFit d no_tree (kinds_of f) c.0) t.0 said.1) in
+    (t.0, said.0 ∙ ap (λ f. texts d (kinds_of f) c.0) t.0 ∙ ap (texts d (kinds_of (form_of a))) t.1, act_fits d a fits c.3, ap bars (sym t.0) ∙ free.0)
+
+pub acts_spelled : ActsAreSpelled
+unfolding act_line act_words
+acts_spelled bars d [] a is h = absurd (cc)
+acts_spelled bars d (word ∷ words) a is h =
+    let f = found (found_form word (length words) act_forms) BadAct (λ f. form_line bars d f words) a h in
+    let l = line_says bars d f.0 words a is f.2 in
+    (ap (λ (w : List ℕ). w ∷ words) (form_is word (length words) act_forms f.0 f.1 ∙ ap word_of l.0) ∙ ap (λ (ws : List (List ℕ)). word_of (form_of a) ∷ ws) l.1, l.2, l.3)
+
+-- ---- what the form bars
+
+form_built : (d : Deployed) (a : Act) → is_built d (form_of a) ≡ is_built_act a
+unfolding is_built
+form_built d (act.Bulk i g j None) = refl
+form_built d (act.Bulk i g j (Some n)) = refl
+form_built d _ = refl
+
+form_room : (s : State) (a : Act) → has_room s (form_of a) ≡ true → ltb s.acts (most_acts s.live) ≡ true
+unfolding has_room
+form_room s act.Settle h = (and_parts (ltb s.acts (most_acts s.live)) (ltb s.settles MOST_SETTLES) h).0
+form_room s (act.Bulk i g j None) h = h
+form_room s (act.Bulk i g j (Some n)) h = h
+form_room s _ h = h
+
+-- where the form bars nothing
+pub form_stands : (s : State) (a : Act) → IsActOf s.header a → bar s (form_of a) ≡ None → ActStands s a
+form_stands s a fits none =
+    let is = free s (form_of a) none in
+    record { fits = fits; built = sym (form_built s.header a) ∙ is.built; live = is.live; room = ltb-true s.acts (most_acts s.live) (form_room s a is.room) }
+
+room_again : (s : State) (a : Act) → is_built_act a ≡ true → ltb s.acts (most_acts s.live) ≡ true → has_room s (form_of a) ≡ true
+unfolding has_room
+room_again s act.Settle built h = absurd (cc)
+room_again s (act.Bulk i g j None) built h = h
+room_again s (act.Bulk i g j (Some n)) built h = h
+room_again s _ built h = h
+
+pub stands_free : (s : State) (a : Act) → ActStands s a → bar s (form_of a) ≡ None
+stands_free s a st = bars_nothing s (form_of a) (form_built s.header a ∙ st.built) st.live (room_again s a st.built (lt-ltb s.acts (most_acts s.live) st.room))

@@ -1,10 +1,10 @@
 -- The spelling of an act is read as the act.
-use Rattle.std.proofs.Common.{◌≡◌, ℕ, zero, suc, ◌-◌, ◌<◌, ◌≤◌, ◌^◌, true, false, not, ◌&&◌, ◌||◌, eqb, ltb, leb, List, [], ◌∷◌, length, Option, Some, None, Ok, ap, ◌∙◌, refl, arith}
-use Rattle.std.specs.Fmt.{decimal}
+use Rattle.std.proofs.Common.{◌≡◌, ℕ, zero, suc, ◌<◌, ◌≤◌, ◌^◌, ◌-◌, true, false, ◌&&◌, cond, eqb, ltb, leb, List, [], ◌∷◌, length, Option, Some, None, Ok, is_some, ap, ◌∙◌, refl, arith}
+use Rattle.std.specs.Option.{option_map}
 use Rattle.std.specs.List.{slice_get, list_all, AllByRecursion}
-use Rattle.std.proofs.lemmas.Bool.Decides.{nat_tests}
+use Rattle.std.proofs.lemmas.Bool.{and_from, and_parts, lt-ltb}
 use Rattle.std.proofs.lemmas.Option.{slice_get_within}
-use Rattle.sat_label.specs.Text.{is_name, is_value, is_between}
+use Rattle.sat_label.specs.Text.{is_name, is_value, is_between, node_text}
 use Rattle.sat_label.specs.declared.node.NodeId.{NodeId}
 use Rattle.sat_label.specs.declared.node.NodeId.TheVariants.{Site, Serializer}
 use Rattle.sat_tree.specs.Shape.{TreeShape}
@@ -13,31 +13,30 @@ use Rattle.sat_tree.proofs.Trees.{edge-end}
 use Rattle.sat_act.specs.Deployed.{Deployed}
 use Rattle.sat_act.specs.Limits.{IsDeployment}
 use Rattle.sat_act.specs.Parts.{tree_of}
+use Rattle.sat_act.proofs.Plans.{tree_in_plans}
 use Rattle.sat_act.specs.Ranges.{IsActOf}
 use Rattle.sat_act.specs.declared.act.Act.{Act}
 use Rattle.sat_act.specs.declared.act.Act.TheVariants as act
 use Rattle.sat_act.specs.declared.deployment.Item.{Item}
 use Rattle.sat_act.specs.declared.deployment.ClientLine.{ClientLine}
-use Rattle.sat_act.specs.declared.deployment.Plan.{Plan}
-use Rattle.sat_act.specs.declared.deployment.Plan.TheVariants as plan
-use Rattle.sat_script.specs.Grammar.{bar, is_built, is_live, has_room, of_site, site_in, read_line, write_line, tick_line, hop_in, hop_line, bulk_line, bare_line, act_of_none, act_of_one, act_of_two, act_of_three, act_form, act_line}
-use Rattle.sat_script.specs.Spelled.{act_words, client_name, item_name, node_text, HaveNames}
-use Rattle.sat_script.specs.State.{State, most_acts}
-use Rattle.sat_script.specs.Words.{is_token, is_node, is_serializer, node_in, serializer_in, keyword_of}
+use Rattle.sat_script.specs.Causes.{bar, given}
+use Rattle.sat_script.specs.Grammar.{is_end}
+use Rattle.sat_script.specs.Laws.{ActsAreRead}
+use Rattle.sat_script.specs.Spelled.{HaveNames}
+use Rattle.sat_script.specs.State.{State}
+use Rattle.sat_script.specs.Table.{Said, place, num, bytes, at, word_of, kinds_of, act_forms, act_of, form_of, args_of, shape, known, says, text, shapes, all_known, onto, in_tree, all_say, no_tree, has_node, edge_cause, unfit, found_form, form_line, act_line, texts, act_words, client_name, item_name}
+use Rattle.sat_script.specs.Words.{is_token, is_node, is_serializer, node_in, serializer_in}
+use Rattle.sat_script.specs.declared.fault.Cause.{Cause}
+use Rattle.sat_script.specs.declared.fault.Cause.TheVariants.{BadAct, OutOfRange, NoEdge}
 use Rattle.sat_script.specs.declared.form.Form.{Form}
-use Rattle.sat_script.specs.declared.form.Form.TheVariants as form
-use Rattle.sat_script.specs.declared.line.Parsed.TheVariants as parsed
-use Rattle.sat_script.proofs.Bars.{bars_nothing}
-use Rattle.sat_script.proofs.Choices.{both, both_true}
+use Rattle.sat_script.specs.declared.form.Kind.{Kind}
+use Rattle.sat_script.specs.declared.form.Kind.TheVariants as kind
+use Rattle.sat_script.proofs.Acts.{Fits, AllFit, IsSmall, no_small, shape_small, stands_free}
 use Rattle.sat_script.proofs.Digits.{decimal_number, below_reads, to_reads, up_to_reads}
 use Rattle.sat_script.proofs.Lookup.{client_reads, item_reads}
 use Rattle.sat_script.proofs.Stands.{ActStands}
 
--- the form of an act that may stand here bars nothing
-stands_free : (s : State) (f : Form) → is_built s.header f ≡ true → (not s.live || is_live f) ≡ true → has_room s f ≡ ltb s.acts (most_acts s.live) → s.acts < most_acts s.live → bar s f ≡ None
-stands_free s f built live room few = let test : ltb s.acts (most_acts s.live) ≡ true = grind (arith, nat_tests) in bars_nothing s f built live (room ∙ test)
-
-named_client : (d : Deployed) (c : ℕ) → HaveNames d → c < length d.clients → is_name (client_name d c) ≡ true
+pub named_client : (d : Deployed) (c : ℕ) → HaveNames d → c < length d.clients → is_name (client_name d c) ≡ true
 named_client d c names inside = go d.clients c names.clients inside
   where
     go : (lines : List ClientLine) (c : ℕ) → AllByRecursion (λ (line : ClientLine). is_name line.name ≡ true) lines → c < length lines → is_name (elim (slice_get lines c) [ None ↦ [] | Some line ↦ line.name ]) ≡ true
@@ -45,7 +44,7 @@ named_client d c names inside = go d.clients c names.clients inside
     go (line ∷ lines) zero h less = h.0
     go (line ∷ lines) (suc c) h less = go lines c h.1 (omega arith)
 
-named_item : (d : Deployed) (x : ℕ) → HaveNames d → x < length d.items → is_name (item_name d x) ≡ true
+pub named_item : (d : Deployed) (x : ℕ) → HaveNames d → x < length d.items → is_name (item_name d x) ≡ true
 named_item d x names inside = go d.items x names.items inside
   where
     go : (items : List Item) (x : ℕ) → AllByRecursion (λ (item : Item). is_name item.name ≡ true) items → x < length items → is_name (elim (slice_get items x) [ None ↦ [] | Some item ↦ item.name ]) ≡ true
@@ -53,95 +52,140 @@ named_item d x names inside = go d.items x names.items inside
     go (item ∷ items) zero h less = h.0
     go (item ∷ items) (suc x) h less = go items x h.1 (omega arith)
 
-token : (value : List ℕ) → is_value value ≡ true → is_token value ≡ true
+pub token : (value : List ℕ) → is_value value ≡ true → is_token value ≡ true
 token value h =
-    let some = both (ltb 0 (length value)) (leb (length value) 256 && list_all (is_between 33 126) value) h in
-    let short = both (leb (length value) 256) (list_all (is_between 33 126) value) some.1 in
-    both_true (ltb 0 (length value)) (list_all (is_between 33 126) value) some.0 short.1
+    let some = and_parts (ltb 0 (length value)) (leb (length value) 256 && list_all (is_between 33 126) value) h in
+    let short = and_parts (leb (length value) 256) (list_all (is_between 33 126) value) some.1 in
+    and_from (ltb 0 (length value)) (list_all (is_between 33 126) value) some.0 short.1
 
-write_reads : (s : State) (c x : ℕ) (value : List ℕ) → IsDeployment s.header → HaveNames s.header → c < length s.header.clients → x < length s.header.items → is_value value ≡ true → bar s form.Write ≡ None
-    → write_line s (client_name s.header c) (item_name s.header x) value ≡ Ok (parsed.Act (act.Write c x value))
-unfolding write_line
-write_reads s c x value is names client item fits none =
-    rw (named_client s.header c names client, named_item s.header x names item, token value fits, none, client_reads s.header c is client, item_reads s.header x is item, fits) refl
-
-read_reads : (s : State) (c x : ℕ) → IsDeployment s.header → HaveNames s.header → c < length s.header.clients → x < length s.header.items → bar s form.Read ≡ None
-    → read_line s (client_name s.header c) (item_name s.header x) ≡ Ok (parsed.Act (act.Read c x))
-unfolding read_line
-read_reads s c x is names client item none = rw (named_client s.header c names client, named_item s.header x names item, none, client_reads s.header c is client, item_reads s.header x is item) refl
-
-site_reads : (s : State) (f : Form) (i : ℕ) → i < s.header.sites → s.header.sites ≤ 16 → bar s f ≡ None → site_in s f (decimal i) ≡ Ok i
-unfolding site_in
-site_reads s f i less few none = rw (below_reads s.header.sites i less (omega arith), decimal_number i (omega arith), none) refl
-
-tick_reads : (s : State) (i g t : ℕ) → i < s.header.sites → s.header.sites ≤ 16 → g < s.header.gears → s.header.gears ≤ 8 → t ≤ 2 ^ 62 → bar s form.Tick ≡ None → tick_line s (decimal i) (decimal g) (decimal t) ≡ Ok (parsed.Act (act.Tick i g t))
-unfolding tick_line
-tick_reads s i g t site few gear gears ts none =
-    rw (below_reads s.header.sites i site (omega arith), below_reads s.header.gears g gear (omega arith), up_to_reads (2 ^ 62) t ts (omega arith), decimal_number i (omega arith), decimal_number g (omega arith), decimal_number t (omega arith), none) refl
-
-bulk_reads : (s : State) (i g j : ℕ) → i < s.header.sites → j < s.header.sites → eqb i j ≡ false → s.header.sites ≤ 16 → g < s.header.gears → s.header.gears ≤ 8 → bar s form.Bulk ≡ None → bulk_line s (decimal i) (decimal g) (decimal j) ≡ Ok (parsed.Act (act.Bulk i g j None))
-unfolding bulk_line
-bulk_reads s i g j from to other few gear gears none =
-    rw (below_reads s.header.sites i from (omega arith), below_reads s.header.gears g gear (omega arith), below_reads s.header.sites j to (omega arith), decimal_number i (omega arith), decimal_number g (omega arith), decimal_number j (omega arith), none, other) refl
-
-serializer_reads : (t : TreeShape) (z : ℕ) → z < length t.parents → length t.parents ≤ 15 → serializer_in t (node_text (Serializer z)) ≡ Some z
-unfolding serializer_in
+pub serializer_reads : (t : TreeShape) (z : ℕ) → z < length t.parents → length t.parents ≤ 15 → serializer_in t (node_text (Serializer z)) ≡ Some z
+unfolding serializer_in node_text
 serializer_reads t z less few = below_reads (length t.parents) z less (omega arith)
 
-node_reads : (t : TreeShape) (u : NodeId) → IsNode t u → length t.parents ≤ 15 → length t.seats ≤ 16 → node_in t (node_text u) ≡ Some u
-unfolding node_in
+pub node_reads : (t : TreeShape) (u : NodeId) → IsNode t u → length t.parents ≤ 15 → length t.seats ≤ 16 → node_in t (node_text u) ≡ Some u
+unfolding node_in node_text
 node_reads t (Site i) less few seats = rw (below_reads (length t.seats) i less (omega arith)) refl
 node_reads t (Serializer z) less few seats = rw (below_reads (length t.parents) z less (omega arith)) refl
 
-node_shape : (t : TreeShape) (u : NodeId) → IsNode t u → length t.parents ≤ 15 → length t.seats ≤ 16 → is_node (node_text u) ≡ true
-unfolding is_node
+pub node_shape : (t : TreeShape) (u : NodeId) → IsNode t u → length t.parents ≤ 15 → length t.seats ≤ 16 → is_node (node_text u) ≡ true
+unfolding is_node node_text
 node_shape t (Site i) less few seats = decimal_number i (omega arith)
 node_shape t (Serializer z) less few seats = decimal_number z (omega arith)
 
-serializer_shape : (z : ℕ) → z < 2 ^ 64 → is_serializer (node_text (Serializer z)) ≡ true
-unfolding is_serializer
-serializer_shape z less = decimal_number z less
-
-hop_in_reads : (t : TreeShape) (e : ℕ) (u : NodeId) (z : ℕ) → IsNode t u → z < length t.parents → length t.parents ≤ 15 → length t.seats ≤ 16 → is_edge t u (Serializer z) ≡ true
-    → hop_in (Some t) e (node_text u) (node_text (Serializer z)) ≡ Ok (parsed.Act (act.Hop e u z))
-unfolding hop_in
-hop_in_reads t e u z node less few seats edge = rw (node_reads t u node few seats, serializer_reads t z less few, edge) refl
-
-tree_plan : (o : Option Plan) (t : TreeShape) → elim o [ None ↦ None | Some p ↦ elim p [ plan.Stamp ↦ None | plan.Tree t ↦ Some t ] ] ≡ Some t → (p : Plan) × (o ≡ Some p)
-tree_plan (Some p) t h = (p, refl)
-tree_plan None t h = absurd (cc)
-
-epoch_inside : (d : Deployed) (e : ℕ) (t : TreeShape) → 1 ≤ e → tree_of d e ≡ Some t → e ≤ length d.plans
-unfolding tree_of
+pub epoch_inside : (d : Deployed) (e : ℕ) (t : TreeShape) → 1 ≤ e → tree_of d e ≡ Some t → e ≤ length d.plans
 epoch_inside d e t some h =
-    let p = tree_plan (slice_get d.plans (e - 1)) t h in
-    let inside = slice_get_within d.plans (e - 1) p.0 p.1 in
+    let inside = slice_get_within d.plans (e - 1) _ (tree_in_plans d e t h).1 in
     omega arith
 
-hop_reads : (s : State) (e : ℕ) (u : NodeId) (z : ℕ) → IsDeployment s.header → IsActOf s.header (act.Hop e u z) → bar s form.Hop ≡ None
-    → hop_line s (decimal e) (node_text u) (node_text (Serializer z)) ≡ Ok (parsed.Act (act.Hop e u z))
-unfolding hop_line
-hop_reads s e u z is fits none =
-    let t = fits.0 in
-    let few = is.few_serializers e t fits.2 in
-    let seated = is.all_seated e t fits.2 in
-    let sites = is.few_sites in
-    let plans = is.few_plans in
-    let less = edge-end t (is.trees e t fits.2) u z fits.4 in
-    let inside = epoch_inside s.header e t fits.1 fits.2 in
-    rw (to_reads (length s.header.plans) e fits.1 inside (omega arith), decimal_number e (omega arith), node_shape t u fits.3 few (omega arith), serializer_shape z (omega arith), none, fits.2)
-    (hop_in_reads t e u z fits.3 less few (omega arith) fits.4)
+-- what is known of a word of an act
+pub record IsWordOf (d : Deployed) (t : TreeShape) (k : Kind) (a : Said) : Type 0 where
+  pub shaped : shape k (text d k a) ≡ true
+  pub named : known d k (text d k a) ≡ true
+  pub said : says d t k (text d k a) ≡ Some a
 
-pub act_reads : (s : State) (a : Act) → IsDeployment s.header → HaveNames s.header → ActStands s a → act_line s (act_words s.header a) ≡ Ok (parsed.Act a)
-unfolding act_line act_form act_of_none act_of_one act_of_two act_of_three bare_line act_words keyword_of is_built is_live has_room
-act_reads s (act.Write c x value) is names st = write_reads s c x value is names st.fits.0 st.fits.1 st.fits.2 (stands_free s form.Write refl st.live refl st.room)
-act_reads s (act.Read c x) is names st = read_reads s c x is names st.fits.0 st.fits.1 (stands_free s form.Read refl st.live refl st.room)
-act_reads s (act.Gather i) is names st = ap (of_site act.Gather) (site_reads s form.Gather i st.fits is.few_sites (stands_free s form.Gather refl st.live refl st.room))
-act_reads s (act.Emit i) is names st = ap (of_site act.Emit) (site_reads s form.Emit i st.fits is.few_sites (stands_free s form.Emit refl st.live refl st.room))
-act_reads s (act.Turn i) is names st = ap (of_site act.Turn) (site_reads s form.Turn i st.fits is.few_sites (stands_free s form.Turn refl st.live refl st.room))
-act_reads s act.Clock is names st = rw (stands_free s form.Clock refl st.live refl st.room) refl
-act_reads s (act.Tick i g t) is names st = tick_reads s i g t st.fits.0 is.few_sites st.fits.1 is.few_gears st.fits.2 (stands_free s form.Tick refl st.live refl st.room)
-act_reads s (act.Hop e u z) is names st = hop_reads s e u z is st.fits (stands_free s form.Hop refl st.live refl st.room)
-act_reads s (act.Bulk i g j None) is names st = bulk_reads s i g j st.fits.0.0 st.fits.0.1 st.fits.0.2 is.few_sites st.fits.1 is.few_gears (stands_free s form.Bulk refl st.live refl st.room)
-act_reads s (act.Bulk i g j (Some n)) is names st = absurd (let never = st.built in cc)
-act_reads s _ is names st = absurd (let never = st.built in cc)
+is_word : (d : Deployed) (t : TreeShape) (k : Kind) (a : Said) → IsDeployment d → HaveNames d → IsSmall d t → Fits d t k a → IsWordOf d t k a
+unfolding is_serializer node_text
+is_word d t kind.Client (place c) is names small h = record { shaped = named_client d c names h; named = ap is_some (client_reads d c is h); said = ap (option_map place) (client_reads d c is h) }
+is_word d t kind.Item (place x) is names small h = record { shaped = named_item d x names h; named = ap is_some (item_reads d x is h); said = ap (option_map place) (item_reads d x is h) }
+is_word d t kind.Value (bytes v) is names small h = record { shaped = token v h; named = refl; said = ap (λ b. cond b (Some (bytes v)) None) h }
+is_word d t kind.Site (place i) is names small h = let few = small.sites in record { shaped = decimal_number i (omega arith); named = refl; said = ap (option_map place) (below_reads d.sites i h (omega arith)) }
+is_word d t kind.Gear (place g) is names small h = let few = small.gears in record { shaped = decimal_number g (omega arith); named = refl; said = ap (option_map place) (below_reads d.gears g h (omega arith)) }
+is_word d t kind.Ts (num n) is names small h = record { shaped = decimal_number n (omega arith); named = refl; said = ap (option_map num) (up_to_reads (2 ^ 62) n h (omega arith)) }
+is_word d t kind.Count (num n) is names small h = record { shaped = decimal_number n h; named = refl; said = ap (option_map num) (up_to_reads (2 ^ 64 - 1) n (omega arith) (omega arith)) }
+is_word d t kind.Epoch (place e) is names small h = let few = small.plans in let high = h.1 in record { shaped = decimal_number e (omega arith); named = refl; said = ap (option_map place) (to_reads (length d.plans) e h.0 h.1 (omega arith)) }
+is_word d t kind.Node (at u) is names small h = record { shaped = node_shape t u h small.parents small.seats; named = refl; said = ap (option_map at) (node_reads t u h small.parents small.seats) }
+is_word d t kind.Serializer (place z) is names small h = let few = small.parents in record { shaped = decimal_number z (omega arith); named = refl; said = ap (option_map place) (serializer_reads t z h small.parents) }
+is_word d t _ _ is names small h = absurd h
+
+pub record AreWordsOf (d : Deployed) (t : TreeShape) (ks : List Kind) (xs : List Said) : Type 0 where
+  pub shaped : shapes ks (texts d ks xs) ≡ true
+  pub named : all_known d ks (texts d ks xs) ≡ true
+  pub said : all_say d t ks (texts d ks xs) ≡ Ok xs
+
+more_words : (d : Deployed) (t u : TreeShape) (k : Kind) (a : Said) (ks : List Kind) (xs : List Said) → IsWordOf d t k a → AreWordsOf d u ks xs → in_tree d k t a (λ u. onto a (all_say d u ks (texts d ks xs))) ≡ onto a (all_say d u ks (texts d ks xs)) → texts d (k ∷ ks) (a ∷ xs) ≡ text d k a ∷ texts d ks xs → AreWordsOf d t (k ∷ ks) (a ∷ xs)
+more_words d t u k a ks xs one more goes same = record {
+  shaped = and_from (shape k (text d k a)) (shapes ks (texts d ks xs)) one.shaped more.shaped;
+  named = and_from (known d k (text d k a)) (all_known d ks (texts d ks xs)) one.named more.named;
+  said = ap (λ (o : Option Said). given OutOfRange o (λ a. in_tree d k t a (λ u. onto a (all_say d u ks (texts d ks xs))))) one.said ∙ goes ∙ ap (onto a) more.said;
+}
+
+are_words : (d : Deployed) (t : TreeShape) (ks : List Kind) (xs : List Said) → IsDeployment d → HaveNames d → IsSmall d t → AllFit d t ks xs → AreWordsOf d t ks xs
+are_words d t [] [] is names small h = record { shaped = refl; named = refl; said = refl }
+are_words d t (kind.Epoch ∷ ks) (place e ∷ xs) is names small h =
+    let one = is_word d t kind.Epoch (place e) is names small (h.2, epoch_inside d e h.0 h.2 h.1) in
+    let more = are_words d h.0 ks xs is names (shape_small d e h.0 is h.1) h.3 in
+    more_words d t h.0 kind.Epoch (place e) ks xs one more (ap (λ (o : Option TreeShape). given NoEdge o (λ u. onto (place e) (all_say d u ks (texts d ks xs)))) h.1) refl
+are_words d t [] (a ∷ xs) is names small h = absurd h
+are_words d t (kind.Epoch ∷ ks) [] is names small h = absurd h
+are_words d t (k ∷ ks) [] is names small h = absurd h
+are_words d t (k ∷ ks) (a ∷ xs) is names small h = more_words d t t k a ks xs (is_word d t k a is names small h.0) (are_words d t ks xs is names small h.1) refl refl
+
+-- ---- the table
+
+act_again : (d : Deployed) (a : Act) → IsActOf d a → act_of (form_of a) (args_of a) ≡ Some a
+act_again d (act.Write c x v) h = ap (λ b. cond b (Some (act.Write c x v)) None) h.2
+act_again d (act.Bulk i g j None) h = refl
+act_again d (act.Bulk i g j (Some n)) h = refl
+act_again d _ h = refl
+
+form_again : (d : Deployed) (a : Act) → found_form (word_of (form_of a)) (length (texts d (kinds_of (form_of a)) (args_of a))) act_forms ≡ Some (form_of a)
+form_again d (act.Bulk i g j None) = refl
+form_again d (act.Bulk i g j (Some n)) = refl
+form_again d _ = refl
+
+apart : (i j : ℕ) (c : Cause) → eqb i j ≡ false → cond (eqb i j) (Some c) None ≡ None
+apart i j c e = rw e refl
+
+inside : (t : TreeShape) (u : NodeId) → IsNode t u → has_node t u ≡ true
+inside t (Site i) h = lt-ltb i (length t.seats) h
+inside t (Serializer z) h = lt-ltb z (length t.parents) h
+
+edge_again : (o : Option TreeShape) (t : TreeShape) (v : NodeId) (z : ℕ) → o ≡ Some t → IsNode t v → z < length t.parents → is_edge t v (Serializer z) ≡ true → edge_cause o v z ≡ None
+edge_again o t v z e node less h =
+    ap (λ o. edge_cause o v z) e
+    ∙ ap (λ b. cond b None (Some NoEdge)) (and_from (has_node t v) _ (inside t v node) (and_from (has_node t (Serializer z)) (is_edge t v (Serializer z)) (inside t (Serializer z) less) h))
+
+pub args_fit : (d : Deployed) (a : Act) → IsDeployment d → IsActOf d a → AllFit d no_tree (kinds_of (form_of a)) (args_of a) × (unfit d a ≡ None)
+args_fit d (act.Tick i g t) is h = ((h.0, (h.1, (h.2, tt))), refl)
+args_fit d act.Clock is h = (tt, refl)
+args_fit d (act.Write c x v) is h = ((h.0, (h.1, (h.2, tt))), refl)
+args_fit d (act.Read c x) is h = ((h.0, (h.1, tt)), refl)
+args_fit d (act.Move c j) is h = ((h.0, (h.1, tt)), refl)
+args_fit d (act.Leave c) is h = ((h, tt), refl)
+args_fit d (act.Attach c j) is h = ((h.0, (h.1, tt)), refl)
+args_fit d (act.Gather i) is h = ((h, tt), refl)
+args_fit d (act.Emit i) is h = ((h, tt), refl)
+args_fit d (act.Pulse i) is h = ((h, tt), refl)
+args_fit d (act.Hop e u z) is h =
+    let less = edge-end h.0 (is.trees e h.0 h.2) u z h.4 in
+    ((h.0, h.2, h.1, (h.3, (less, tt))), edge_again (tree_of d e) h.0 u z h.2 h.3 less h.4)
+args_fit d (act.Turn i) is h = ((h, tt), refl)
+args_fit d (act.Bulk i g j None) is h = ((h.0.0, (h.1, (h.0.1, tt))), apart i j OutOfRange h.0.2)
+args_fit d (act.Bulk i g j (Some n)) is h = ((h.0.0, (h.1, (h.0.1, (h.2, tt)))), apart i j OutOfRange h.0.2)
+args_fit d (act.Beat i j) is h = ((h.0, (h.1, tt)), apart i j OutOfRange h.2)
+args_fit d (act.BeatIn i j n) is h = ((h.0.0, (h.0.1, (h.1, tt))), apart i j OutOfRange h.0.2)
+args_fit d (act.Stamp i) is h = ((h, tt), refl)
+args_fit d (act.Close i) is h = ((h, tt), refl)
+args_fit d (act.Fall i) is h = ((h, tt), refl)
+args_fit d (act.Advance i) is h = ((h, tt), refl)
+args_fit d (act.Kill e z) is h = ((h.0, h.2, h.1, (h.3, tt)), refl)
+args_fit d act.Settle is h = (tt, refl)
+
+pub acts_read : ActsAreRead
+unfolding act_line act_words form_line
+acts_read bars d a is names h free =
+    let f = args_fit d a is h in
+    let w = are_words d no_tree (kinds_of (form_of a)) (args_of a) is names (no_small d no_tree is (omega arith) (omega arith)) f.0 in
+    let line : form_line bars d (form_of a) (texts d (kinds_of (form_of a)) (args_of a)) ≡ Ok a = rw (w.shaped, free, w.named, w.said, act_again d a h, f.1) refl in
+    ap (λ (o : Option Form). given BadAct o (λ f. form_line bars d f (texts d (kinds_of (form_of a)) (args_of a)))) (form_again d a) ∙ line
+
+-- what stands may be said
+pub act_reads : (s : State) (a : Act) → IsDeployment s.header → HaveNames s.header → ActStands s a → act_line (bar s) s.header (act_words s.header a) ≡ Ok a
+act_reads s a is names st = acts_read (bar s) s.header a is names st.fits (stands_free s a st)
+
+-- no act is the line `end`
+pub not_end : (d : Deployed) (a : Act) → is_end (act_words d a) ≡ false
+unfolding act_words
+not_end d (act.Bulk i g j None) = refl
+not_end d (act.Bulk i g j (Some n)) = refl
+not_end d _ = refl

@@ -1,6 +1,6 @@
 -- What it means that the form of a line bars nothing.
 use Rattle.std.proofs.Common.{◌≡◌, Bool, true, false, not, ◌&&◌, ◌||◌, cond, Some, None, refl}
-use Rattle.sat_script.specs.Grammar.{bar, is_built, is_live, has_room}
+use Rattle.sat_script.specs.Causes.{bar, is_built, is_live, has_room}
 use Rattle.sat_script.specs.State.{State}
 use Rattle.sat_script.specs.declared.fault.Cause.TheVariants.{Unbuilt, NotLive, TooMany}
 use Rattle.sat_script.specs.declared.form.Form.{Form}
@@ -31,8 +31,3 @@ bars_nothing s f built live room = rw (built, room) (go s.live (is_live f) live)
     go true true h = refl
     go true false h = absurd (cc)
     go false c h = refl
-
--- a form that isn't built is barred
-pub unbuilt : (s : State) (f : Form) → is_built s.header f ≡ false → bar s f ≡ Some Unbuilt
-unfolding bar
-unbuilt s f h = rw h refl

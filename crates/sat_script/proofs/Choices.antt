@@ -1,8 +1,8 @@
 -- What a good line passed on its way.
-use Rattle.std.proofs.Common.{◌≡◌, Bool, true, false, ◌&&◌, cond, ℕ, List, Option, Some, None, Result, Ok, Err, refl}
+use Rattle.std.proofs.Common.{◌≡◌, Bool, true, false, cond, ℕ, List, Option, Some, None, Result, Ok, Err, refl}
 use Rattle.std.specs.Str.{bytes_eq}
 use Rattle.std.proofs.lemmas.Slice.Eq.{bytes_eq-Decides}
-use Rattle.sat_script.specs.Grammar.{given, barred}
+use Rattle.sat_script.specs.Causes.{given, barred}
 use Rattle.sat_script.specs.declared.fault.Cause.{Cause}
 
 -- a test that must pass, and one that must not
@@ -26,13 +26,6 @@ found None e next p h = absurd (cc)
 
 pub same_ok : {Y : Type 0} (x y : Y) → (let r : Result Y Cause = Ok x in r) ≡ Ok y → x ≡ y
 same_ok x y h = cc
-
-pub both : (a b : Bool) → (a && b) ≡ true → (a ≡ true) × (b ≡ true)
-both true b h = (refl, h)
-both false b h = cc
-
-pub both_true : (a b : Bool) → a ≡ true → b ≡ true → (a && b) ≡ true
-both_true a b h k = rw (h, k) refl
 
 pub word_is : (word text : List ℕ) → bytes_eq word text ≡ true → word ≡ text
 word_is word text h = (bytes_eq-Decides word text).0 h

@@ -6,6 +6,7 @@ use Rattle.sat_act.specs.declared.act.Act.{Act}
 use Rattle.sat_act.specs.Deployed.{Deployed}
 use Rattle.sat_script.specs.Grammar.{after, with_act}
 use Rattle.sat_script.specs.Kept.{IsFit, IsWhole, HasHeader, HasSaid, IsComing}
+use Rattle.sat_script.specs.Laws.{IsRead}
 use Rattle.sat_script.specs.Lines.{Takes, Closes, running, failed}
 use Rattle.sat_script.specs.Reading.{reading, AreBuiltActs, with_line, told_line, fault_at}
 use Rattle.sat_script.specs.Spelled.{Spells}
@@ -23,7 +24,7 @@ use Rattle.sat_script.specs.declared.stream.Reading.{Reading}
 use Rattle.sat_script.proofs.Fits.{line_is, fit_after}
 use Rattle.sat_script.proofs.Meaning.{IsStuck, stuck_cause}
 use Rattle.sat_script.proofs.Pieces.{byte_keeps, byte_stops, stops, settled, line_fails, line_goes, good_of}
-use Rattle.sat_script.proofs.Whole.{IsRead, read_spells, line_counted, lines_counted, said_after, few_after}
+use Rattle.sat_script.proofs.Whole.{read_spells, line_counted, lines_counted, said_after, few_after}
 
 abbrev pub came : Seen → Option Deployed → List Act → List ℕ → Came
 came seen deployment acts begun = record { seen = seen; deployment = deployment; acts = acts; begun = begun }
@@ -44,10 +45,6 @@ fails_coming old new deployment acts begun now told coming e short =
     (record { fit = coming.fit; whole = coming.whole; none = coming.none; few = coming.few; short = short; going = λ never. absurd (cc) })
 
 -- ---- a byte of a line
-
-pub byte_coming : (seen : Seen) (deployment : Option Deployed) (acts : List Act) (begun now : List ℕ) (b : ℕ) → IsComing seen deployment acts begun → seen.fault ≡ None → now ≡ begun ++ b ∷ [] → length now ≤ LONGEST_LINE → IsComing seen deployment acts now
-byte_coming seen deployment acts begun now b coming none is short =
-    record { fit = coming.fit; whole = coming.whole; none = coming.none; few = coming.few; short = omega arith; going = λ _. record { said = (coming.going none).said; short = short } }
 
 pub byte_will : (seen : Seen) (deployment : Option Deployed) (acts : List Act) (begun now : List ℕ) (b : ℕ) → seen.fault ≡ None → now ≡ begun ++ b ∷ [] → b ≢ 10
     → (more : List ℕ) → will_be (came seen deployment acts now) more ≡ will_be (came seen deployment acts begun) (b ∷ more)
@@ -138,10 +135,6 @@ unkept_coming old mid new deployment now_deployment acts now_acts begun line tol
     let here : IsComing (failed (after old.state good.says) told) deployment acts begun = record { fit = fit; whole = coming.whole; none = coming.none; few = omega (arith, coming.few); short = coming.short; going = λ never. absurd (cc) } in
     subst (λ (seen : Seen). IsComing seen now_deployment now_acts begun) (sym at)
     (subst (λ (r : Reading). IsComing (failed (after old.state good.says) told) r.deployment r.acts begun) (sym keeps) here)
-
--- a fault of the line
-pub bad_coming : (old new : Seen) (deployment : Option Deployed) (acts : List Act) (begun : List ℕ) (told : ScriptFault) → IsComing old deployment acts begun → new ≡ failed old.state told → IsComing new deployment acts begun
-bad_coming old new deployment acts begun told coming e = fails_coming old new deployment acts begun begun told coming e coming.short
 
 pub bad_will : (old new : Seen) (deployment : Option Deployed) (acts : List Act) (begun : List ℕ) (told : ScriptFault) → Takes old.fault old.state new (Err told) begun → old.fault ≡ None → told.cause ≢ Memory
     → (more : List ℕ) → will_be (came new deployment acts begun) more ≡ will_be (came old deployment acts begun) (10 ∷ more)

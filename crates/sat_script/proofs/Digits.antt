@@ -5,13 +5,12 @@ use Rattle.std.specs.Str.{all_ascii_digits}
 use Rattle.std.specs.Str.Parse.{digits_value}
 use Rattle.std.specs.Char.{is_ascii_digit}
 use Rattle.std.specs.Fmt.{decimal}
-use Rattle.std.proofs.lemmas.Bool.{ltb-true, leb-true}
+use Rattle.std.proofs.lemmas.Bool.{and_from, and_parts, leb-true, ltb-true}
 use Rattle.std.proofs.lemmas.Bool.Decides.{nat_tests}
 use Rattle.std.proofs.lemmas.Fmt.{decimal-digits_value, digits_decimal, digits_value-decimal, decimal_nonempty, first_decimal, decimal_digit, length-decimal-le}
 use Rattle.std.proofs.lemmas.Str.Parse.{IsNumeralModel, numerals_by_value, tells_all_ascii_digits}
 use Rattle.sat_label.specs.Text.{is_between}
 use Rattle.sat_script.specs.Words.{is_number, value_of, number_below, number_to, number_up_to}
-use Rattle.sat_script.proofs.Choices.{both, both_true}
 
 own : IsNumeralModel (λ ds. all_ascii_digits ds ≡ true) (digits_value 10)
 own = numerals_by_value _ tells_all_ascii_digits
@@ -21,8 +20,8 @@ no_zero text h z = grind (arith, nat_tests)
 
 pub number_is : (text : List ℕ) → is_number text ≡ true → value_of text < 2 ^ 64 → text ≡ decimal (value_of text)
 number_is text h small =
-    let some = both (ltb 0 (length text)) (all_ascii_digits text && (eqb (length text) 1 || not (eqb (get_or text 0 0) 48))) h in
-    let digits = both (all_ascii_digits text) (eqb (length text) 1 || not (eqb (get_or text 0 0) 48)) some.1 in
+    let some = and_parts (ltb 0 (length text)) (all_ascii_digits text && (eqb (length text) 1 || not (eqb (get_or text 0 0) 48))) h in
+    let digits = and_parts (all_ascii_digits text) (eqb (length text) 1 || not (eqb (get_or text 0 0) 48)) some.1 in
     sym (decimal-digits_value own text digits.0 (ltb-true 0 (length text) some.0) (no_zero text digits.1) small)
 
 decimal_first : (n : ℕ) → n < 2 ^ 64 → (eqb (length (decimal n)) 1 || not (eqb (get_or (decimal n) 0 0) 48)) ≡ true
@@ -32,15 +31,15 @@ decimal_first (suc n) small = let first = first_decimal (suc n) (omega arith) sm
 pub decimal_number : (n : ℕ) → n < 2 ^ 64 → is_number (decimal n) ≡ true
 decimal_number n small =
     let some = decimal_nonempty n small in
-    both_true (ltb 0 (length (decimal n))) (all_ascii_digits (decimal n) && (eqb (length (decimal n)) 1 || not (eqb (get_or (decimal n) 0 0) 48))) (grind (arith, nat_tests))
-    (both_true (all_ascii_digits (decimal n)) (eqb (length (decimal n)) 1 || not (eqb (get_or (decimal n) 0 0) 48)) (digits_decimal own n small) (decimal_first n small))
+    and_from (ltb 0 (length (decimal n))) (all_ascii_digits (decimal n) && (eqb (length (decimal n)) 1 || not (eqb (get_or (decimal n) 0 0) 48))) (grind (arith, nat_tests))
+    (and_from (all_ascii_digits (decimal n)) (eqb (length (decimal n)) 1 || not (eqb (get_or (decimal n) 0 0) 48)) (digits_decimal own n small) (decimal_first n small))
 
 pub decimal_value : (n : ℕ) → n < 2 ^ 64 → value_of (decimal n) ≡ n
 decimal_value n small = digits_value-decimal own n small
 
 all_between : (xs : List ℕ) → all_ascii_digits xs ≡ true → list_all (is_between 48 57) xs ≡ true
 all_between [] h = refl
-all_between (x ∷ xs) h = let b = both (is_ascii_digit x) (all_ascii_digits xs) h in both_true (is_between 48 57 x) (list_all (is_between 48 57) xs) (digit x b.0) (all_between xs b.1)
+all_between (x ∷ xs) h = let b = and_parts (is_ascii_digit x) (all_ascii_digits xs) h in and_from (is_between 48 57 x) (list_all (is_between 48 57) xs) (digit x b.0) (all_between xs b.1)
   where
     digit : (x : ℕ) → is_ascii_digit x ≡ true → is_between 48 57 x ≡ true
     digit x h = grind (arith, nat_tests)
@@ -64,7 +63,7 @@ pub below_is : (limit : ℕ) (word : List ℕ) (n : ℕ) → limit ≤ 2 ^ 16 �
 unfolding number_below
 below_is limit word n few h =
     let t = tested (is_number word && ltb (value_of word) limit) (value_of word) n h in
-    let b = both (is_number word) (ltb (value_of word) limit) t.0 in
+    let b = and_parts (is_number word) (ltb (value_of word) limit) t.0 in
     let less = ltb-true (value_of word) limit b.1 in
     let same = t.1 in
     (omega arith, number_is word b.0 (omega arith) ∙ ap decimal same)
@@ -81,8 +80,8 @@ pub to_is : (limit : ℕ) (word : List ℕ) (n : ℕ) → limit < 2 ^ 16 → num
 unfolding number_to
 to_is limit word n few h =
     let t = tested (is_number word && (ltb 0 (value_of word) && leb (value_of word) limit)) (value_of word) n h in
-    let b = both (is_number word) (ltb 0 (value_of word) && leb (value_of word) limit) t.0 in
-    let r = both (ltb 0 (value_of word)) (leb (value_of word) limit) b.1 in
+    let b = and_parts (is_number word) (ltb 0 (value_of word) && leb (value_of word) limit) t.0 in
+    let r = and_parts (ltb 0 (value_of word)) (leb (value_of word) limit) b.1 in
     let some = ltb-true 0 (value_of word) r.0 in
     let less = leb-true (value_of word) limit r.1 in
     let same = t.1 in
@@ -101,7 +100,7 @@ pub up_to_is : (limit : ℕ) (word : List ℕ) (n : ℕ) → limit < 2 ^ 64 → 
 unfolding number_up_to
 up_to_is limit word n few h =
     let t = tested (is_number word && leb (value_of word) limit) (value_of word) n h in
-    let b = both (is_number word) (leb (value_of word) limit) t.0 in
+    let b = and_parts (is_number word) (leb (value_of word) limit) t.0 in
     let less = leb-true (value_of word) limit b.1 in
     let same = t.1 in
     (omega arith, number_is word b.0 (omega arith) ∙ ap decimal same)

@@ -1,10 +1,11 @@
 -- What good lines keep.
-use Rattle.std.proofs.Common.{◌≡◌, ℕ, zero, suc, ◌+◌, ◌<◌, ◌≤◌, Bool, true, false, not, ◌&&◌, cond, ltb, leb, List, [], ◌∷◌, ◌++◌, length, take, Option, Some, None, Ok, sym, ap, ◌∙◌, refl, subst, arith}
+use Rattle.std.proofs.Common.{◌≡◌, ℕ, zero, suc, ◌+◌, ◌<◌, ◌≤◌, Bool, true, false, not, ◌&&◌, cond, ltb, leb, List, [], ◌∷◌, ◌++◌, length, take, Option, Some, None, Result, Ok, Err, sym, ap, ◌∙◌, refl, subst, arith}
 use Rattle.std.specs.List.{slice_get, list_any, AllByRecursion}
 use Rattle.std.specs.Str.{bytes_eq}
 use Rattle.std.specs.Prelude.{codes}
 use Rattle.std.proofs.lemmas.List.{length-append}
 use Rattle.std.proofs.lemmas.Bool.Decides.{nat_tests}
+use Rattle.std.proofs.lemmas.Bool.{and_from}
 use Rattle.sat_label.specs.Text.{is_name}
 use Rattle.sat_label.specs.Words.{first_failing}
 use Rattle.sat_label.proofs.First.{first_more, first_none, first_start}
@@ -21,7 +22,11 @@ use Rattle.sat_act.specs.declared.deployment.Item.{Item}
 use Rattle.sat_act.specs.declared.deployment.ClientLine.{ClientLine}
 use Rattle.sat_act.specs.declared.deployment.Plan.{Plan}
 use Rattle.sat_act.specs.declared.deployment.Plan.TheVariants as plan
-use Rattle.sat_script.specs.Grammar.{is_end, is_ended, has_client, has_item, body_line, act_line, words_line, line_at, after, next_stage, with_parsed, with_act, with_settle, IsNew}
+use Rattle.sat_script.specs.Grammar.{is_end, is_ended, body_line, words_line, line_at, after, next_stage, with_parsed, with_act, with_settle, IsNew}
+use Rattle.sat_script.specs.Causes.{bar, has_client, has_item}
+use Rattle.sat_script.specs.Table.{act_line}
+use Rattle.sat_script.specs.Grammar.{of_act}
+use Rattle.sat_script.specs.declared.fault.Cause.{Cause}
 use Rattle.sat_script.specs.Kept.{IsSited, AreBuiltPlans, IsOpened, IsWhole, HasHeader, IsFit}
 use Rattle.sat_script.specs.State.{State, start, most_sites, most_clients, most_acts}
 use Rattle.sat_script.specs.Words.{words_of, is_text}
@@ -30,8 +35,8 @@ use Rattle.sat_script.specs.declared.line.Parsed.{Parsed}
 use Rattle.sat_script.specs.declared.line.Parsed.TheVariants as parsed
 use Rattle.sat_script.specs.declared.line.Stage.{Stage}
 use Rattle.sat_script.specs.declared.line.Stage.TheVariants as stage
-use Rattle.sat_script.proofs.Acts.{act_is, IsSmall}
-use Rattle.sat_script.proofs.Choices.{passed, skipped, same_ok, both_true, word_is}
+use Rattle.sat_script.proofs.Acts.{acts_spelled, form_stands}
+use Rattle.sat_script.proofs.Choices.{passed, skipped, same_ok, word_is}
 use Rattle.sat_script.proofs.Headers.{format_is, sites_is, gears_is, header_is}
 use Rattle.sat_script.proofs.Lists.{all_more}
 use Rattle.sat_script.proofs.Stands.{Stands, IsGood, ItemStands, ClientStands, PlanStands}
@@ -53,30 +58,25 @@ few_acts false = omega arith
 
 -- ---- any line
 
--- a whole header's numbers are small
-pub small : (d : Deployed) → IsDeployment d → IsSmall d
-small d is = record {
-  sites = is.few_sites;
-  gears = is.few_gears;
-  plans = is.few_plans;
-  trees = λ e t at. (is.few_serializers e t at, let seats = is.all_seated e t at in let few = is.few_sites in omega arith);
-}
-
 end_is : (words : List (List ℕ)) → is_end words ≡ true → words ≡ codes "end" ∷ []
 end_is [] h = absurd (cc)
 end_is (word ∷ []) h = ap (λ (w : List ℕ). w ∷ []) (word_is word (codes "end") h)
 end_is (word ∷ other ∷ words) h = absurd (cc)
 
-body_is : (s : State) (words : List (List ℕ)) (p : Parsed) → IsSmall s.header → body_line s words ≡ Ok p → IsGood stage.Body s words p
+said_is : (r : Result Act Cause) (p : Parsed) → of_act r ≡ Ok p → (a : Act) × (r ≡ Ok a) × (p ≡ parsed.Act a)
+said_is (Ok a) p h = (a, refl, sym (same_ok (parsed.Act a) p h))
+said_is (Err cause) p h = absurd (cc)
+
+body_is : (s : State) (words : List (List ℕ)) (p : Parsed) → IsDeployment s.header → body_line s words ≡ Ok p → IsGood stage.Body s words p
 unfolding body_line
-body_is s words p few h = go (is_end words) refl h
+body_is s words p is h = go (is_end words) refl h
   where
-    go : (b : Bool) → is_end words ≡ b → cond b (Ok parsed.End) (act_line s words) ≡ Ok p → IsGood stage.Body s words p
+    go : (b : Bool) → is_end words ≡ b → cond b (Ok parsed.End) (of_act (act_line (bar s) s.header words)) ≡ Ok p → IsGood stage.Body s words p
     go true e h = subst (λ (p : Parsed). IsGood stage.Body s words p) (same_ok _ p h) (record { spelled = end_is words e; stands = tt })
     go false e h =
-        let a = act_is s words p few h in
-        subst (λ (p : Parsed). IsGood stage.Body s words p) (sym a.1)
-        (record { spelled = a.2.spelled; stands = record { fits = a.2.fits; built = a.2.built; live = a.2.live; room = a.2.room } })
+        let a = said_is (act_line (bar s) s.header words) p h in
+        let l = acts_spelled (bar s) s.header words a.0 is a.1 in
+        subst (λ (p : Parsed). IsGood stage.Body s words p) (sym a.2) (record { spelled = l.0; stands = form_stands s a.0 l.1 l.2 })
 
 words_are : (here : Stage) (s : State) (words : List (List ℕ)) (p : Parsed) → HasHeader here s.header → words_line here s words ≡ Ok p → IsGood here s words p
 unfolding words_line
@@ -84,7 +84,7 @@ words_are stage.Start s words p kept h = format_is s words p h
 words_are stage.Sites s words p kept h = sites_is s words p h
 words_are stage.Gears s words p kept h = gears_is s words p h
 words_are stage.Header s words p kept h = header_is s words p kept.few_sites h
-words_are stage.Body s words p kept h = body_is s words p (small s.header kept.deployment) h
+words_are stage.Body s words p kept h = body_is s words p kept.deployment h
 words_are stage.Ended s words p kept h = absurd (cc)
 
 pub line_is : (s : State) (line : List ℕ) (p : Parsed) → IsFit s → line_at s line ≡ Ok p → IsGood s.stage s (words_of line) p
@@ -144,7 +144,7 @@ unfolding item_fits
 item_last sites items x are new =
     ap (item_at sites (take (length items) (items ++ x ∷ []))) (get_last items x)
     ∙ ap (λ (earlier : List Item). item_at sites earlier (Some x)) (take_whole items x)
-    ∙ both_true (are_sites sites x.replicas.bits) (not (list_any (λ (item : Item). bytes_eq item.name x.name) items)) are (ap not new)
+    ∙ and_from (are_sites sites x.replicas.bits) (not (list_any (λ (item : Item). bytes_eq item.name x.name) items)) are (ap not new)
 
 items_push : (sites : ℕ) (items : List Item) (x : Item) → first_failing (item_fits sites items) (length items) ≡ None → are_sites sites x.replicas.bits ≡ true → list_any (λ (item : Item). bytes_eq item.name x.name) items ≡ false
     → first_failing (item_fits sites (items ++ x ∷ [])) (length (items ++ x ∷ [])) ≡ None
@@ -160,7 +160,7 @@ client_last sites clients x home new =
     let less : ltb x.site sites ≡ true = grind (arith, nat_tests) in
     ap (client_at sites (take (length clients) (clients ++ x ∷ []))) (get_last clients x)
     ∙ ap (λ (earlier : List ClientLine). client_at sites earlier (Some x)) (take_whole clients x)
-    ∙ both_true (ltb x.site sites) (not (list_any (λ (line : ClientLine). bytes_eq line.name x.name) clients)) less (ap not new)
+    ∙ and_from (ltb x.site sites) (not (list_any (λ (line : ClientLine). bytes_eq line.name x.name) clients)) less (ap not new)
 
 clients_push : (sites : ℕ) (clients : List ClientLine) (x : ClientLine) → first_failing (client_fits sites clients) (length clients) ≡ None → x.site < sites → list_any (λ (line : ClientLine). bytes_eq line.name x.name) clients ≡ false
     → first_failing (client_fits sites (clients ++ x ∷ [])) (length (clients ++ x ∷ [])) ≡ None
@@ -180,7 +180,7 @@ no_trees e t at = absurd (cc)
 -- ---- a whole header
 
 within : (low high n : ℕ) → low ≤ n → n ≤ high → is_within low high n ≡ true
-within low high n a b = let one : leb low n ≡ true = grind (arith, nat_tests) in let two : leb n high ≡ true = grind (arith, nat_tests) in both_true (leb low n) (leb n high) one two
+within low high n a b = let one : leb low n ≡ true = grind (arith, nat_tests) in let two : leb n high ≡ true = grind (arith, nat_tests) in and_from (leb low n) (leb n high) one two
 
 at_most : (n m : ℕ) → n ≤ m → leb n m ≡ true
 at_most n m h = grind (arith, nat_tests)
@@ -318,16 +318,7 @@ same_counts s fit p header acts settles = record {
 
 built_settles : (n : ℕ) (a : Act) → is_built_act a ≡ true → with_settle n (parsed.Act a) ≡ n
 built_settles n act.Settle h = absurd (cc)
-built_settles n (act.Tick i g t) h = refl
-built_settles n act.Clock h = refl
-built_settles n (act.Write c x value) h = refl
-built_settles n (act.Read c x) h = refl
-built_settles n (act.Gather i) h = refl
-built_settles n (act.Emit i) h = refl
-built_settles n (act.Hop e u z) h = refl
-built_settles n (act.Turn j) h = refl
-built_settles n (act.Bulk i g j k) h = refl
-built_settles n _ h = absurd (cc)
+built_settles n _ h = refl
 
 counts : (here : Stage) (s : State) (p : Parsed) → IsFit s → Stands here s p → Counts s p
 counts stage.Start s parsed.Format fit h = same_counts s fit parsed.Format refl fit.acts refl

@@ -1,18 +1,8 @@
 -- Lines with a number of words that no form has.
-use Rattle.std.proofs.Common.{◌≡◌, ◌⊎◌, inl, inr, ◌<◌, ◌≤◌, ℕ, List, [], ◌∷◌, length, map, Option, Err, refl, Bor, arith}
-use Rattle.sat_script.specs.Grammar.{act_form, header_form, gears_line}
+use Rattle.std.proofs.Common.{◌≡◌, ◌⊎◌, inl, inr, ◌<◌, ◌≤◌, ℕ, List, [], ◌∷◌, length, map, Err, refl, Bor, arith}
+use Rattle.sat_script.specs.Grammar.{header_form, gears_line}
 use Rattle.sat_script.specs.State.{State}
-use Rattle.sat_script.specs.declared.fault.Cause.TheVariants.{BadAct, BadHeader}
-use Rattle.sat_script.specs.declared.form.Form.{Form}
-
-pub act_form-other : (s : State) (f : Option Form) (words : List (Bor (List ℕ))) → 5 ≤ length words → act_form s f (map (λ word. word.now) words) ≡ Err BadAct
-unfolding act_form
-act_form-other s f [] many = absurd (omega arith)
-act_form-other s f (a ∷ []) many = absurd (omega arith)
-act_form-other s f (a ∷ b ∷ []) many = absurd (omega arith)
-act_form-other s f (a ∷ b ∷ c ∷ []) many = absurd (omega arith)
-act_form-other s f (a ∷ b ∷ c ∷ e ∷ []) many = absurd (omega arith)
-act_form-other s f (a ∷ b ∷ c ∷ e ∷ g ∷ words) many = refl
+use Rattle.sat_script.specs.declared.fault.Cause.TheVariants.{BadHeader}
 
 pub header_form-other : (s : State) (word : List ℕ) (words : List (Bor (List ℕ))) → (length words ≡ 1) ⊎ (3 ≤ length words) → header_form s word (map (λ word. word.now) words) ≡ Err BadHeader
 unfolding header_form

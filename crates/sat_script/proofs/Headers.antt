@@ -4,7 +4,7 @@ use Rattle.std.specs.Str.{bytes_eq}
 use Rattle.std.specs.Prelude.{codes}
 use Rattle.std.specs.Fmt.{decimal}
 use Rattle.std.specs.List.{list_all, join_with_byte}
-use Rattle.std.proofs.lemmas.Bool.{ltb-true}
+use Rattle.std.proofs.lemmas.Bool.{and_from, and_parts, lt-ltb, ltb-true}
 use Rattle.std.proofs.lemmas.Bool.Decides.{nat_tests}
 use Rattle.std.proofs.lemmas.List.{drop_more, take-append-drop}
 use Rattle.std.proofs.lemmas.List.Splits.{join_with_byte-slice_split, length-slice_split}
@@ -15,8 +15,10 @@ use Rattle.sat_label.specs.declared.site_set.SiteSet.{SiteSet}
 use Rattle.sat_tree.specs.Shape.{TreeShape}
 use Rattle.sat_act.specs.declared.deployment.Plan.TheVariants as plan
 use Rattle.sat_act.specs.Flaw.{are_sites}
-use Rattle.sat_script.specs.Grammar.{bar, is_built, has_room, has_client, has_item, format_line, counted, of_count, sites_line, gears_line, item_line, client_line, begin_line, are_parents, parent_number, tree_on, tree_in, is_tree, tree_line, is_slash, parted_line, stamp_line, plan_line, named_line, header_form, header_line}
-use Rattle.sat_script.specs.Spelled.{parent_text, sites_text}
+use Rattle.sat_script.specs.Causes.{bar, is_built, has_room, has_client, has_item}
+use Rattle.sat_script.specs.Grammar.{format_line, counted, of_count, sites_line, gears_line, item_line, client_line, begin_line, are_parents, parent_number, tree_on, tree_in, is_tree, tree_line, is_slash, parted_line, stamp_line, plan_line, named_line, header_form, header_line}
+use Rattle.sat_script.specs.Spelled.{sites_text}
+use Rattle.sat_tree.specs.PlanLine.{parent_text}
 use Rattle.sat_script.specs.State.{State, most_sites, most_clients}
 use Rattle.sat_script.specs.Words.{is_number, value_of, is_comma, parts_of, is_rising, are_rising, is_list, set_of, are_below, sites_among, number_below, number_to}
 use Rattle.sat_script.specs.declared.fault.Cause.{Cause}
@@ -26,13 +28,13 @@ use Rattle.sat_script.specs.declared.limits.TheConstants.{MOST_GEARS, MOST_ITEMS
 use Rattle.sat_script.specs.declared.line.Parsed.{Parsed}
 use Rattle.sat_script.specs.declared.line.Parsed.TheVariants as parsed
 use Rattle.sat_script.proofs.Bars.{free}
-use Rattle.sat_script.proofs.Choices.{passed, skipped, unbarred, found, same_ok, word_is, both, both_true}
+use Rattle.sat_script.proofs.Choices.{passed, skipped, unbarred, found, same_ok, word_is}
 use Rattle.sat_script.proofs.Digits.{number_is, below_is, to_is}
 use Rattle.sat_script.proofs.Rising.{set_members, set_small}
-use Rattle.sat_script.proofs.Sites.{among, bit_set_of}
+use Rattle.sat_script.proofs.Sites.{bit_set_of}
 use Rattle.sat_script.proofs.Stands.{IsGood}
 use Rattle.sat_script.specs.declared.line.Stage.TheVariants as stage
-use Rattle.sat_script.proofs.Trees.{NoFlaw, tree_parts, seats_below, parents_below, tree_small}
+use Rattle.sat_script.proofs.Trees.{tree_parts, seats_below, parents_below}
 
 -- ---- numbers
 
@@ -44,22 +46,22 @@ empty (x ∷ xs) h = absurd (let n : length xs + 1 ≡ 0 = grind (arith, nat_tes
 pub digits_of : (limit : ℕ) (words : List (List ℕ)) → limit ≤ 2 ^ 16 → list_all is_number words ≡ true → are_below limit words ≡ true → words ≡ map decimal (map value_of words)
 digits_of limit [] few numbers low = refl
 digits_of limit (w ∷ words) few numbers low =
-    let n = both (is_number w) (list_all is_number words) numbers in
-    let l = both (ltb (value_of w) limit) (are_below limit words) low in
+    let n = and_parts (is_number w) (list_all is_number words) numbers in
+    let l = and_parts (ltb (value_of w) limit) (are_below limit words) low in
     let less = ltb-true (value_of w) limit l.0 in
     let word = number_is w n.0 (omega arith) in
     ap (λ v. v ∷ words) word ∙ ap (λ ws. decimal (value_of w) ∷ ws) (digits_of limit words few n.1 l.1)
 
 values_under : (limit : ℕ) (words : List (List ℕ)) → are_below limit words ≡ true → list_all (λ x. ltb x limit) (map value_of words) ≡ true
 values_under limit [] h = refl
-values_under limit (w ∷ words) h = let b = both (ltb (value_of w) limit) (are_below limit words) h in both_true (ltb (value_of w) limit) (list_all (λ x. ltb x limit) (map value_of words)) b.0 (values_under limit words b.1)
+values_under limit (w ∷ words) h = let b = and_parts (ltb (value_of w) limit) (are_below limit words) h in and_from (ltb (value_of w) limit) (list_all (λ x. ltb x limit) (map value_of words)) b.0 (values_under limit words b.1)
 
 wide : (limit n : ℕ) (xs : List ℕ) → limit ≤ n → list_all (λ x. ltb x limit) xs ≡ true → list_all (λ x. ltb x n) xs ≡ true
 wide limit n [] few h = refl
 wide limit n (x ∷ xs) few h =
-    let b = both (ltb x limit) (list_all (λ x. ltb x limit) xs) h in
+    let b = and_parts (ltb x limit) (list_all (λ x. ltb x limit) xs) h in
     let less = ltb-true x limit b.0 in
-    both_true (ltb x n) (list_all (λ x. ltb x n) xs) (low x n (omega arith)) (wide limit n xs few b.1)
+    and_from (ltb x n) (list_all (λ x. ltb x n) xs) (low x n (omega arith)) (wide limit n xs few b.1)
   where
     low : (x n : ℕ) → x < n → ltb x n ≡ true
     low x n h = grind (arith, nat_tests)
@@ -102,9 +104,6 @@ rises parts h = go (list_all is_number parts) refl h
     go true e h = (e, h)
     go false e h = absurd (cc)
 
-low_power : (n m : ℕ) → n < m → ltb n m ≡ true
-low_power n m h = grind (arith, nat_tests)
-
 pub list_is : (limit : ℕ) (list : List ℕ) (set : SiteSet) → limit ≤ 16 → is_list list ≡ true → sites_among limit (parts_of list) ≡ Some set → (list ≡ sites_text set) × (are_sites limit set.bits ≡ true)
 unfolding sites_among sites_text
 list_is limit list set few rising h =
@@ -121,7 +120,7 @@ list_is limit list set few rising h =
           ∙ ap (λ (xs : List ℕ). join_with_byte 44 (map decimal xs)) (sym members)
           ∙ ap (λ (n : ℕ). join_with_byte 44 (map decimal (filter (bit n) (below 64)))) (sym bits),
       subst (λ (n : ℕ). are_sites limit n ≡ true) (sym bits)
-          (both_true (not (eqb (set_of (map value_of parts)) 0)) (ltb (set_of (map value_of parts)) (2 ^ limit)) (some_member (map value_of parts) some) (low_power (set_of (map value_of parts)) (2 ^ limit) (set_small (map value_of parts) limit under))),
+          (and_from (not (eqb (set_of (map value_of parts)) 0)) (ltb (set_of (map value_of parts)) (2 ^ limit)) (some_member (map value_of parts) some) (lt-ltb (set_of (map value_of parts)) (2 ^ limit) (set_small (map value_of parts) limit under))),
     )
 
 -- ---- the first lines
@@ -138,7 +137,7 @@ format_is s [] p h = absurd (cc)
 format_is s (word ∷ []) p h = absurd (cc)
 format_is s (word ∷ number ∷ []) p h =
     let t = passed (bytes_eq word (codes "saturn") && bytes_eq number (codes "1")) _ _ _ h in
-    let b = both (bytes_eq word (codes "saturn")) (bytes_eq number (codes "1")) t.0 in
+    let b = and_parts (bytes_eq word (codes "saturn")) (bytes_eq number (codes "1")) t.0 in
     subst (λ (p : Parsed). IsGood stage.Start s (word ∷ number ∷ []) p) (same_ok _ p t.1)
     (record { spelled = two_words word number _ _ (word_is word (codes "saturn") b.0) (word_is number (codes "1") b.1); stands = tt })
 format_is s (word ∷ number ∷ other ∷ words) p h = absurd (cc)
@@ -147,7 +146,7 @@ counted_is : (keyword : List ℕ) (limit : ℕ) (word number : List ℕ) (n : �
 unfolding counted
 counted_is keyword limit word number n few h =
     let t = passed (bytes_eq word keyword && is_number number) _ _ _ h in
-    let b = both (bytes_eq word keyword) (is_number number) t.0 in
+    let b = and_parts (bytes_eq word keyword) (is_number number) t.0 in
     let f = found (number_to limit number) OutOfRange _ n t.1 in
     let same = same_ok f.0 n f.2 in
     let is = to_is limit number f.0 few f.1 in
@@ -192,8 +191,8 @@ item_says s word name sites p few is h =
     let b = unbarred (bar s form.Item) _ p n.1 in
     let new = skipped (has_item s.header name) _ _ _ b.1 in
     let set = found (sites_among s.header.sites (parts_of sites)) OutOfRange _ p new.1 in
-    let places = both (eqb (length s.header.clients) 0) (eqb (length s.header.plans) 0) t.0 in
-    let shapes = both (is_name name) (is_list sites) n.0 in
+    let places = and_parts (eqb (length s.header.clients) 0) (eqb (length s.header.plans) 0) t.0 in
+    let shapes = and_parts (is_name name) (is_list sites) n.0 in
     let list = list_is s.header.sites sites set.0 few shapes.1 set.1 in
     let room = (free s form.Item b.0).room in
     subst (λ (p : Parsed). IsGood stage.Header s (word ∷ name ∷ sites ∷ []) p) (same_ok _ p set.2)
@@ -210,7 +209,7 @@ client_says s word name site p few is h =
     let b = unbarred (bar s form.Client) _ p n.1 in
     let new = skipped (has_client s.header name) _ _ _ b.1 in
     let home = found (number_below s.header.sites site) OutOfRange _ p new.1 in
-    let shapes = both (is_name name) (is_number site) n.0 in
+    let shapes = and_parts (is_name name) (is_number site) n.0 in
     let at = below_is s.header.sites site home.0 (omega arith) home.1 in
     let room = (free s form.Client b.0).room in
     subst (λ (p : Parsed). IsGood stage.Header s (word ∷ name ∷ site ∷ []) p) (same_ok _ p home.2)
@@ -252,8 +251,8 @@ tree_says s [] seats p h =
     absurd (let never : true ≡ false = sym t.0 ∙ none in cc)
 tree_says s (root ∷ words) seats p h =
     let w = passed ((bytes_eq root (codes "-") && list_all is_number words) && list_all is_number seats) _ _ _ h in
-    let shapes = both (bytes_eq root (codes "-") && list_all is_number words) (list_all is_number seats) w.0 in
-    let inner = both (bytes_eq root (codes "-")) (list_all is_number words) shapes.0 in
+    let shapes = and_parts (bytes_eq root (codes "-") && list_all is_number words) (list_all is_number seats) w.0 in
+    let inner = and_parts (bytes_eq root (codes "-")) (list_all is_number words) shapes.0 in
     let b = unbarred (bar s form.PlanTree) _ p w.1 in
     let t = passed (is_tree s.header.sites (tree_on words seats)) _ _ _ b.1 in
     let text = rooted s.header.sites words seats inner.1 shapes.1 t.0 in

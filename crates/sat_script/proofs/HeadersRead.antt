@@ -4,7 +4,7 @@ use Rattle.std.specs.Str.{bytes_eq}
 use Rattle.std.specs.Prelude.{codes}
 use Rattle.std.specs.Fmt.{decimal}
 use Rattle.std.specs.List.{list_all, join_with_byte}
-use Rattle.std.proofs.lemmas.Bool.{ltb-true}
+use Rattle.std.proofs.lemmas.Bool.{and_from, and_parts, lt-ltb, ltb-true}
 use Rattle.std.proofs.lemmas.Bool.Decides.{nat_tests}
 use Rattle.std.proofs.lemmas.List.Splits.{slice_split_at, slice_split_none}
 use Rattle.sat_label.specs.Text.{is_between}
@@ -13,7 +13,8 @@ use Rattle.sat_label.specs.declared.site_set.SiteSet.{SiteSet}
 use Rattle.sat_act.specs.declared.deployment.Item.{Item}
 use Rattle.sat_act.specs.declared.deployment.ClientLine.{ClientLine}
 use Rattle.sat_act.specs.declared.deployment.Plan.{Plan}
-use Rattle.sat_script.specs.Grammar.{bar, is_built, is_live, has_room, format_line, counted, of_count, sites_line, gears_line, item_line, client_line, begin_line, named_line, header_form, header_line}
+use Rattle.sat_script.specs.Causes.{bar, is_built, is_live, has_room}
+use Rattle.sat_script.specs.Grammar.{format_line, counted, of_count, sites_line, gears_line, item_line, client_line, begin_line, named_line, header_form, header_line}
 use Rattle.sat_script.specs.Spelled.{item_words, client_words, sites_text}
 use Rattle.sat_script.specs.State.{State, most_sites, most_clients}
 use Rattle.sat_script.specs.Words.{is_number, value_of, is_comma, parts_of, is_rising, are_rising, is_list, set_of, are_below, sites_among}
@@ -21,7 +22,6 @@ use Rattle.sat_script.specs.declared.form.Form.TheVariants as form
 use Rattle.sat_script.specs.declared.limits.TheConstants.{MOST_GEARS, MOST_ITEMS, MOST_PLANS}
 use Rattle.sat_script.specs.declared.line.Parsed.TheVariants as parsed
 use Rattle.sat_script.proofs.Bars.{bars_nothing}
-use Rattle.sat_script.proofs.Choices.{both, both_true}
 use Rattle.sat_script.proofs.Digits.{decimal_number, decimal_value, decimal_between, below_reads, to_reads}
 use Rattle.sat_script.proofs.Rising.{members_rise, members_under, members_are, members_set}
 use Rattle.sat_script.proofs.Sites.{among}
@@ -33,24 +33,24 @@ use Rattle.sat_script.proofs.Texts.{lacks}
 small_values : (ns : List ℕ) → list_all (λ n. ltb n 64) ns ≡ true → map value_of (map decimal ns) ≡ ns
 small_values [] h = refl
 small_values (n ∷ ns) h =
-    let b = both (ltb n 64) (list_all (λ n. ltb n 64) ns) h in
+    let b = and_parts (ltb n 64) (list_all (λ n. ltb n 64) ns) h in
     let less = ltb-true n 64 b.0 in
     ap (λ (v : ℕ). v ∷ map value_of (map decimal ns)) (decimal_value n (omega arith)) ∙ ap (λ (vs : List ℕ). n ∷ vs) (small_values ns b.1)
 
 small_numbers : (ns : List ℕ) → list_all (λ n. ltb n 64) ns ≡ true → list_all is_number (map decimal ns) ≡ true
 small_numbers [] h = refl
 small_numbers (n ∷ ns) h =
-    let b = both (ltb n 64) (list_all (λ n. ltb n 64) ns) h in
+    let b = and_parts (ltb n 64) (list_all (λ n. ltb n 64) ns) h in
     let less = ltb-true n 64 b.0 in
-    both_true (is_number (decimal n)) (list_all is_number (map decimal ns)) (decimal_number n (omega arith)) (small_numbers ns b.1)
+    and_from (is_number (decimal n)) (list_all is_number (map decimal ns)) (decimal_number n (omega arith)) (small_numbers ns b.1)
 
 small_below : (limit : ℕ) (ns : List ℕ) → list_all (λ n. ltb n 64) ns ≡ true → list_all (λ n. ltb n limit) ns ≡ true → are_below limit (map decimal ns) ≡ true
 small_below limit [] h k = refl
 small_below limit (n ∷ ns) h k =
-    let b = both (ltb n 64) (list_all (λ n. ltb n 64) ns) h in
-    let c = both (ltb n limit) (list_all (λ n. ltb n limit) ns) k in
+    let b = and_parts (ltb n 64) (list_all (λ n. ltb n 64) ns) h in
+    let c = and_parts (ltb n limit) (list_all (λ n. ltb n limit) ns) k in
     let less = ltb-true n 64 b.0 in
-    both_true (ltb (value_of (decimal n)) limit) (are_below limit (map decimal ns)) (ap (λ (v : ℕ). ltb v limit) (decimal_value n (omega arith)) ∙ c.0) (small_below limit ns b.1 c.1)
+    and_from (ltb (value_of (decimal n)) limit) (are_below limit (map decimal ns)) (ap (λ (v : ℕ). ltb v limit) (decimal_value n (omega arith)) ∙ c.0) (small_below limit ns b.1 c.1)
 
 -- ---- a list of sites
 
@@ -60,17 +60,17 @@ no_comma x h = grind (arith, nat_tests)
 parts_again : (ns : List ℕ) → list_all (λ n. ltb n 64) ns ≡ true → 0 < length ns → parts_of (join_with_byte 44 (map decimal ns)) ≡ map decimal ns
 parts_again [] h some = absurd (omega arith)
 parts_again (a ∷ []) h some =
-    let less = ltb-true a 64 (both (ltb a 64) true h).0 in
+    let less = ltb-true a 64 (and_parts (ltb a 64) true h).0 in
     slice_split_none is_comma (decimal a) (lacks is_comma (is_between 48 57) no_comma (decimal a) (decimal_between a (omega arith)))
 parts_again (a ∷ b ∷ ns) h some =
-    let c = both (ltb a 64) (list_all (λ n. ltb n 64) (b ∷ ns)) h in
+    let c = and_parts (ltb a 64) (list_all (λ n. ltb n 64) (b ∷ ns)) h in
     let less = ltb-true a 64 c.0 in
     slice_split_at is_comma (decimal a) 44 (join_with_byte 44 (map decimal (b ∷ ns))) (lacks is_comma (is_between 48 57) no_comma (decimal a) (decimal_between a (omega arith))) refl
     ∙ ap (λ (ws : List (List ℕ)). decimal a ∷ ws) (parts_again (b ∷ ns) c.1 (omega arith))
 
 by_members : (limit : ℕ) (ns : List ℕ) → ((k : ℕ) → among ns k ≡ true → k < limit) → list_all (λ n. ltb n limit) ns ≡ true
 by_members limit [] h = refl
-by_members limit (n ∷ ns) h = both_true (ltb n limit) (list_all (λ n. ltb n limit) ns) (low n (h n (here n))) (by_members limit ns (λ k m. h k (ap (λ b. eqb k n || b) m ∙ or_true (eqb k n))))
+by_members limit (n ∷ ns) h = and_from (ltb n limit) (list_all (λ n. ltb n limit) ns) (low n (h n (here n))) (by_members limit ns (λ k m. h k (ap (λ b. eqb k n || b) m ∙ or_true (eqb k n))))
   where
     here : (n : ℕ) → among (n ∷ ns) n ≡ true
     here n = let same : eqb n n ≡ true = grind (arith, nat_tests) in rw same refl
@@ -90,9 +90,6 @@ pub record IsSites (limit : ℕ) (set : SiteSet) : Type 0 where
   pub some : (k : ℕ) × (bit set.bits k ≡ true)
   pub inside : (k : ℕ) → bit set.bits k ≡ true → k < limit
 
-low_test : (a b : ℕ) → a < b → ltb a b ≡ true
-low_test a b h = grind (arith, nat_tests)
-
 rises : (parts : List (List ℕ)) → list_all is_number parts ≡ true → is_rising (map value_of parts) ≡ true → are_rising parts ≡ true
 unfolding are_rising
 rises parts a b = rw (a, b) refl
@@ -103,11 +100,11 @@ named limit parts set low whole = rw low (ap (λ (n : ℕ). Some (let s : SiteSe
 
 numbers_read : (limit : ℕ) (ns : List ℕ) (set : SiteSet) → list_all (λ n. ltb n 64) ns ≡ true → list_all (λ n. ltb n limit) ns ≡ true → is_rising ns ≡ true → 0 < length ns → set_of ns ≡ set.bits
     → (is_list (join_with_byte 44 (map decimal ns)) ≡ true) × (sites_among limit (parts_of (join_with_byte 44 (map decimal ns))) ≡ Some set)
-numbers_read limit ns set small under rising some whole =
+numbers_read limit ns set small lt-ltb rising some whole =
     let parts = parts_again ns small some in
     let values = small_values ns small in (
       ap are_rising parts ∙ rises (map decimal ns) (small_numbers ns small) (ap is_rising values ∙ rising),
-      ap (sites_among limit) parts ∙ named limit (map decimal ns) set (small_below limit ns small under) (ap set_of values ∙ whole),
+      ap (sites_among limit) parts ∙ named limit (map decimal ns) set (small_below limit ns small lt-ltb) (ap set_of values ∙ whole),
     )
 
 members_read : (limit n : ℕ) (set : SiteSet) → n ≡ 64 → limit ≤ 16 → IsSites limit set
@@ -115,9 +112,9 @@ members_read : (limit n : ℕ) (set : SiteSet) → n ≡ 64 → limit ≤ 16 →
 members_read limit n set e few is =
     let small : list_all (λ x. ltb x 64) (filter (bit set.bits) (below n)) ≡ true = subst (λ (m : ℕ). list_all (λ x. ltb x m) (filter (bit set.bits) (below n)) ≡ true) e (members_under (bit set.bits) n) in
     let first = is.inside is.some.0 is.some.1 in
-    let member : among (filter (bit set.bits) (below n)) is.some.0 ≡ true = members_are (bit set.bits) n is.some.0 ∙ both_true (bit set.bits is.some.0) (ltb is.some.0 n) is.some.1 (low_test is.some.0 n (omega arith)) in
+    let member : among (filter (bit set.bits) (below n)) is.some.0 ≡ true = members_are (bit set.bits) n is.some.0 ∙ and_from (bit set.bits is.some.0) (ltb is.some.0 n) is.some.1 (lt-ltb is.some.0 n (omega arith)) in
     numbers_read limit (filter (bit set.bits) (below n)) set small
-    (by_members limit (filter (bit set.bits) (below n)) (λ k m. is.inside k (both (bit set.bits k) (ltb k n) (sym (members_are (bit set.bits) n k) ∙ m)).0))
+    (by_members limit (filter (bit set.bits) (below n)) (λ k m. is.inside k (and_parts (bit set.bits k) (ltb k n) (sym (members_are (bit set.bits) n k) ∙ m)).0))
     (members_rise (bit set.bits) n) (has_member (filter (bit set.bits) (below n)) is.some.0 member) (members_set set.bits n (λ k h. let inside = is.inside k h in omega arith))
 
 pub list_reads : (limit : ℕ) (set : SiteSet) → limit ≤ 16 → IsSites limit set → (is_list (sites_text set) ≡ true) × (sites_among limit (parts_of (sites_text set)) ≡ Some set)
@@ -146,20 +143,17 @@ pub gears_reads : (n : ℕ) → 1 ≤ n → n ≤ MOST_GEARS → gears_line (cod
 unfolding gears_line
 gears_reads n some few = ap (of_count parsed.Gears) (counted_reads (codes "gears") MOST_GEARS n refl some few (omega arith))
 
-under : (a b : ℕ) → a < b → ltb a b ≡ true
-under a b h = grind (arith, nat_tests)
-
 or_true : (b : Bool) → (not b || true) ≡ true
 or_true true = refl
 or_true false = refl
 
 item_free : (s : State) → length s.header.items < MOST_ITEMS → bar s form.Item ≡ None
 unfolding is_built is_live has_room
-item_free s room = bars_nothing s form.Item refl (or_true s.live) (under (length s.header.items) MOST_ITEMS room)
+item_free s room = bars_nothing s form.Item refl (or_true s.live) (lt-ltb (length s.header.items) MOST_ITEMS room)
 
 client_free : (s : State) → length s.header.clients < most_clients s.live → bar s form.Client ≡ None
 unfolding is_built is_live has_room
-client_free s room = bars_nothing s form.Client refl (or_true s.live) (under (length s.header.clients) (most_clients s.live) room)
+client_free s room = bars_nothing s form.Client refl (or_true s.live) (lt-ltb (length s.header.clients) (most_clients s.live) room)
 
 pub tree_free : (s : State) → s.header.plans ≡ [] → bar s form.PlanTree ≡ None
 unfolding is_built is_live has_room

@@ -24,3 +24,5 @@ pub mod Headers
 pub mod Rising
 pub mod Acts
 pub mod Order
+pub mod Faulty
+pub mod NoTree

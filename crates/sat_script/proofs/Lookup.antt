@@ -2,9 +2,10 @@
 use Rattle.std.proofs.Common.{◌≡◌, ℕ, suc, ◌+◌, ◌<◌, ◌≤◌, Bool, true, false, not, ◌&&◌, ◌||◌, cond, ltb, leb, List, [], ◌∷◌, ◌++◌, length, map, get_or, Some, sym, ap, ◌∙◌, refl, subst, arith}
 use Rattle.std.specs.List.{position, position_or_len, list_all, list_any}
 use Rattle.std.specs.Global.{Vec}
+use Rattle.sat_label.proofs.Truth.{same-test}
 use Rattle.sat_script.specs.Names.{texts_of, item_name_of, client_name_of}
 use Rattle.std.specs.Str.{bytes_eq}
-use Rattle.std.proofs.lemmas.Bool.{leb-true}
+use Rattle.std.proofs.lemmas.Bool.{and_parts, false_from_ne_true, leb-true}
 use Rattle.std.proofs.lemmas.Bool.Decides.{nat_tests}
 use Rattle.std.proofs.lemmas.List.Quantifiers.{position-Some}
 use Rattle.std.proofs.lemmas.List.Sums.{position_or_len_is}
@@ -14,14 +15,14 @@ use Rattle.sat_act.specs.declared.deployment.Item.{Item}
 use Rattle.sat_act.specs.declared.deployment.ClientLine.{ClientLine}
 use Rattle.sat_act.specs.Deployed.{Deployed}
 use Rattle.sat_act.specs.Limits.{IsDeployment}
-use Rattle.sat_script.specs.Grammar.{client_of, item_of}
-use Rattle.sat_script.specs.Spelled.{client_name, item_name}
-use Rattle.sat_script.proofs.Choices.{both, word_is, word_same}
+use Rattle.sat_script.specs.Causes.{client_of, item_of}
+use Rattle.sat_script.specs.Table.{client_name, item_name}
+use Rattle.sat_script.proofs.Choices.{word_is, word_same}
 
 pub name_parts : (name : List ℕ) → is_name name ≡ true → (list_all is_name_byte name ≡ true) × (length name ≤ 32)
 name_parts name h =
-    let some = both (ltb 0 (length name)) (leb (length name) 32 && list_all is_name_byte name) h in
-    let short = both (leb (length name) 32) (list_all is_name_byte name) some.1 in
+    let some = and_parts (ltb 0 (length name)) (leb (length name) 32 && list_all is_name_byte name) h in
+    let short = and_parts (leb (length name) 32) (list_all is_name_byte name) some.1 in
     (short.1, leb-true (length name) 32 short.0)
 
 no_client : ClientLine
@@ -55,16 +56,12 @@ first_is p xs i none inside here before =
     let test : ltb i (length xs) ≡ true = grind (arith, nat_tests) in
     rw (place, test) refl
 
-pub fails_or : (b : Bool) → (b ≡ true → ⊥) → b ≡ false
-fails_or true never = absurd (never refl)
-fails_or false never = refl
-
 pub client_reads : (d : Deployed) (c : ℕ) → IsDeployment d → c < length d.clients → client_of d (client_name d c) ≡ Some c
 unfolding client_of
 client_reads d c is inside =
     rw (client_at d c inside)
     (first_is (λ (line : ClientLine). bytes_eq line.name (get_or d.clients c no_client).name) d.clients c no_client inside (word_same (get_or d.clients c no_client).name)
-    (λ k less. fails_or _ (λ same.
+    (λ k less. false_from_ne_true _ (λ same.
     let within : k < length d.clients = omega arith in
     let here = is.client_names k c _ _ (slice_get-get_or d.clients k no_client within) (slice_get-get_or d.clients c no_client inside) (word_is _ _ same) in
     absurd (omega arith))))
@@ -74,7 +71,7 @@ unfolding item_of
 item_reads d x is inside =
     rw (item_at d x inside)
     (first_is (λ (item : Item). bytes_eq item.name (get_or d.items x no_item).name) d.items x no_item inside (word_same (get_or d.items x no_item).name)
-    (λ k less. fails_or _ (λ same.
+    (λ k less. false_from_ne_true _ (λ same.
     let within : k < length d.items = omega arith in
     let here = is.item_names k x _ _ (slice_get-get_or d.items k no_item within) (slice_get-get_or d.items x no_item inside) (word_is _ _ same) in
     absurd (omega arith))))
@@ -100,13 +97,8 @@ pub map_push : {X Y : Type 0} (f : X → Y) (xs : List X) (x : X) → map f (xs 
 map_push f [] x = refl
 map_push f (y ∷ xs) x = ap (λ ys. f y ∷ ys) (map_push f xs x)
 
-same_tests : (b c : Bool) → (b ≡ true → c ≡ true) → (c ≡ true → b ≡ true) → b ≡ c
-same_tests true c f g = sym (f refl)
-same_tests false true f g = g refl
-same_tests false false f g = refl
-
 pub bytes_turned : (a b : List ℕ) → bytes_eq a b ≡ bytes_eq b a
-bytes_turned a b = same_tests (bytes_eq a b) (bytes_eq b a) (λ h. let e = word_is a b h in subst (λ c. bytes_eq b c ≡ true) (sym e) (word_same b)) (λ h. let e = word_is b a h in subst (λ c. bytes_eq a c ≡ true) (sym e) (word_same a))
+bytes_turned a b = same-test (bytes_eq a b) (bytes_eq b a) (λ h. let e = word_is a b h in subst (λ c. bytes_eq b c ≡ true) (sym e) (word_same b)) (λ h. let e = word_is b a h in subst (λ c. bytes_eq a c ≡ true) (sym e) (word_same a))
 
 pub key_place : (keys : List (Vec ℕ)) (name : List ℕ) → position (λ key. bytes_eq name key.items) keys ≡ position (λ other. bytes_eq other name) (texts_of keys)
 key_place keys name = position_by (λ key. key.items) (λ key. bytes_eq name key.items) (λ other. bytes_eq other name) (λ key. bytes_turned name key.items) keys

@@ -4,7 +4,8 @@ use Rattle.std.specs.List.{slice_split, onto_first}
 use Rattle.std.proofs.lemmas.List.{append-nil, append_assoc, length-append}
 use Rattle.std.proofs.lemmas.List.Splits.{slice_split-cons_no, length-slice_split}
 use Rattle.std.proofs.lemmas.Bool.Decides.{nat_tests}
-use Rattle.sat_script.specs.Grammar.{refused, is_ended, line_at, close_at, close_in}
+use Rattle.sat_script.specs.Causes.{refused}
+use Rattle.sat_script.specs.Grammar.{is_ended, line_at, close_at, close_in}
 use Rattle.sat_script.specs.Reading.{script_from, reading, nothing, after_line, bad, closed}
 use Rattle.sat_script.specs.State.{State, start}
 use Rattle.sat_script.specs.Stream.{onto_front, goes_on}

@@ -8,11 +8,10 @@ use Rattle.std.proofs.Common.{Less, Equal, Greater}
 use Rattle.std.specs.Ordering.{nat_cmp, is_lt, ordering_then}
 use Rattle.std.proofs.lemmas.Str.{digit_value_digit}
 use Rattle.std.proofs.lemmas.Str.Parse.{IsNumeralModel, numerals_by_value, tells_all_ascii_digits, digits_value_short}
-use Rattle.std.proofs.lemmas.Bool.{cases_lt}
+use Rattle.std.proofs.lemmas.Bool.{and_parts, cases_lt, lt-ltb}
 use Rattle.std.proofs.lemmas.Bool.Decides.{nat_tests}
 use Rattle.std.proofs.Math.Nat.{le_trans, pow-suc}
 use Rattle.sat_script.specs.Words.{is_number, value_of}
-use Rattle.sat_script.proofs.Choices.{both}
 
 own : IsNumeralModel (λ ds. all_ascii_digits ds ≡ true) (digits_value 10)
 own = numerals_by_value _ tells_all_ascii_digits
@@ -33,12 +32,9 @@ lower n m [] [] same digits less = less
 lower n m [] (y ∷ ys) same digits less = absurd (omega arith)
 lower n m (x ∷ xs) [] same digits less = absurd (omega arith)
 lower n m (x ∷ xs) (y ∷ ys) same digits less =
-    let b = both (is_ascii_digit x) (all_ascii_digits xs) digits in
+    let b = and_parts (is_ascii_digit x) (all_ascii_digits xs) digits in
     let d = digit_small x b.0 in
     lower (n * 10 + digit_value x) (m * 10 + digit_value y) xs ys (omega arith) b.1 (omega (arith, d.2))
-
-less_is : (a b : ℕ) → a < b → ltb a b ≡ true
-less_is a b h = grind (arith, nat_tests)
 
 more_is : (a b : ℕ) → b ≤ a → ltb a b ≡ false
 more_is a b h = grind (arith, nat_tests)
@@ -50,10 +46,10 @@ same_length n (x ∷ xs) [] same p q = absurd (omega arith)
 same_length n (x ∷ xs) (y ∷ ys) same p q = go (ltb x y) (eqb x y) refl refl (same_length (n * 10 + digit_value x) xs ys (omega arith) b.1 c.1)
   where
     b : (is_ascii_digit x ≡ true) × (all_ascii_digits xs ≡ true)
-    b = both (is_ascii_digit x) (all_ascii_digits xs) p
+    b = and_parts (is_ascii_digit x) (all_ascii_digits xs) p
 
     c : (is_ascii_digit y ≡ true) × (all_ascii_digits ys ≡ true)
-    c = both (is_ascii_digit y) (all_ascii_digits ys) q
+    c = and_parts (is_ascii_digit y) (all_ascii_digits ys) q
 
     go : (t u : Bool) → ltb x y ≡ t → eqb x y ≡ u → is_lt (slice_cmp nat_cmp xs ys) ≡ ltb (after (n * 10 + digit_value x) xs) (after (n * 10 + digit_value x) ys)
         → is_lt (ordering_then (cond t Less (cond u Equal Greater)) (slice_cmp nat_cmp xs ys)) ≡ ltb (after (n * 10 + digit_value x) xs) (after (n * 10 + digit_value y) ys)
@@ -61,7 +57,7 @@ same_length n (x ∷ xs) (y ∷ ys) same p q = go (ltb x y) (eqb x y) refl refl 
         let d = digit_small x b.0 in
         let k = digit_small y c.0 in
         let less : x < y = grind (arith, nat_tests) in
-        sym (less_is _ _ (lower (n * 10 + digit_value x) (n * 10 + digit_value y) xs ys (omega arith) b.1 (omega (arith, d.2, k.2))))
+        sym (lt-ltb _ _ (lower (n * 10 + digit_value x) (n * 10 + digit_value y) xs ys (omega arith) b.1 (omega (arith, d.2, k.2))))
     go false true e f h = let equal : x ≡ y = grind (arith, nat_tests) in h ∙ ap (λ z. ltb (after (n * 10 + digit_value x) xs) (after (n * 10 + digit_value z) ys)) equal
     go false false e f h =
         let d = digit_small x b.0 in
@@ -86,13 +82,13 @@ at_least n (c ∷ cs) =
 
 digits_of : (word : List ℕ) → is_number word ≡ true → all_ascii_digits word ≡ true
 digits_of word h =
-    let some = both (ltb 0 (length word)) (all_ascii_digits word && (eqb (length word) 1 || not (eqb (get_or word 0 0) 48))) h in
-    (both (all_ascii_digits word) (eqb (length word) 1 || not (eqb (get_or word 0 0) 48)) some.1).0
+    let some = and_parts (ltb 0 (length word)) (all_ascii_digits word && (eqb (length word) 1 || not (eqb (get_or word 0 0) 48))) h in
+    (and_parts (all_ascii_digits word) (eqb (length word) 1 || not (eqb (get_or word 0 0) 48)) some.1).0
 
 first_some : (b : ℕ) (bs : List ℕ) → is_number (b ∷ bs) ≡ true → 0 < length bs → 1 ≤ digit_value b
 first_some b bs h some =
-    let parts = both (all_ascii_digits (b ∷ bs)) (eqb (length (b ∷ bs)) 1 || not (eqb b 48)) (both (ltb 0 (length (b ∷ bs))) (all_ascii_digits (b ∷ bs) && (eqb (length (b ∷ bs)) 1 || not (eqb b 48))) h).1 in
-    let d = digit_small b (both (is_ascii_digit b) (all_ascii_digits bs) parts.0).0 in
+    let parts = and_parts (all_ascii_digits (b ∷ bs)) (eqb (length (b ∷ bs)) 1 || not (eqb b 48)) (and_parts (ltb 0 (length (b ∷ bs))) (all_ascii_digits (b ∷ bs) && (eqb (length (b ∷ bs)) 1 || not (eqb b 48))) h).1 in
+    let d = digit_small b (and_parts (is_ascii_digit b) (all_ascii_digits bs) parts.0).0 in
     let other : not (eqb b 48) ≡ true = grind (arith, nat_tests) in
     let apart : 48 < b = grind (arith, nat_tests) in
     omega (arith, d.2)
@@ -117,7 +113,7 @@ as_long a b p q same = same_length 0 a b same (digits_of a p) (digits_of b q)
 
 pub by_length : (a b : List ℕ) → is_number a ≡ true → is_number b ≡ true → eqb (length a) (length b) ≡ false → ltb (length a) (length b) ≡ ltb (value_of a) (value_of b)
 by_length a b p q other = elim (cases_lt (length a) (length b)) [
-  | inl less ↦ less_is (length a) (length b) less ∙ sym (less_is (value_of a) (value_of b) (shorter a b p q less))
+  | inl less ↦ lt-ltb (length a) (length b) less ∙ sym (lt-ltb (value_of a) (value_of b) (shorter a b p q less))
   | inr most ↦
       let less : length b < length a = grind (arith, nat_tests) in
       let under = shorter b a q p less in

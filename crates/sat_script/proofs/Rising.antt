@@ -1,56 +1,52 @@
 -- Lists of sites: a rising list of numbers and the set of its members say the same.
 use Rattle.std.proofs.Common.{◌≡◌, ℕ, zero, suc, ◌<◌, ◌≤◌, ◌^◌, Bool, true, false, ◌&&◌, ◌||◌, cond, eqb, ltb, List, [], ◌∷◌, ◌++◌, filter, sym, ap, ◌∙◌, refl, arith}
 use Rattle.std.specs.List.{list_all}
-use Rattle.std.proofs.lemmas.Bool.{ltb-true}
+use Rattle.std.proofs.lemmas.Bool.{and_from, and_parts, lt-ltb, ltb-true}
 use Rattle.std.proofs.lemmas.Bool.Decides.{nat_tests}
 use Rattle.std.proofs.lemmas.List.Elements.{filter-append}
 use Rattle.std.proofs.lemmas.Nat.{or_lt}
 use Rattle.std.proofs.Math.Pow.{pow-lt, pow_pos}
 use Rattle.sat_label.specs.Words.{bit, below}
 use Rattle.sat_script.specs.Words.{is_rising, set_of}
-use Rattle.sat_script.proofs.Choices.{both, both_true}
 use Rattle.sat_script.proofs.Sites.{among, same_set, bit_set_of}
 
 -- all above a number
 abbrev above : ℕ → List ℕ → Bool
 above n xs = list_all (λ x. ltb n x) xs
 
-under : (a b : ℕ) → a < b → ltb a b ≡ true
-under a b h = grind (arith, nat_tests)
-
 wider : (n m : ℕ) (xs : List ℕ) → m ≤ n → above n xs ≡ true → above m xs ≡ true
 wider n m [] less h = refl
 wider n m (x ∷ xs) less h =
-    let b = both (ltb n x) (above n xs) h in
+    let b = and_parts (ltb n x) (above n xs) h in
     let far = ltb-true n x b.0 in
-    both_true (ltb m x) (above m xs) (under m x (omega arith)) (wider n m xs less b.1)
+    and_from (ltb m x) (above m xs) (lt-ltb m x (omega arith)) (wider n m xs less b.1)
 
 -- a rising list's later members are above its first
 tail_above : (x : ℕ) (xs : List ℕ) → is_rising (x ∷ xs) ≡ true → above x xs ≡ true
 tail_above x [] h = refl
 tail_above x (y ∷ ys) h =
-    let b = both (ltb x y) (is_rising (y ∷ ys)) h in
+    let b = and_parts (ltb x y) (is_rising (y ∷ ys)) h in
     let less = ltb-true x y b.0 in
-    both_true (ltb x y) (above x ys) b.0 (wider y x ys (omega arith) (tail_above y ys b.1))
+    and_from (ltb x y) (above x ys) b.0 (wider y x ys (omega arith) (tail_above y ys b.1))
 
 tail_rising : (x : ℕ) (xs : List ℕ) → is_rising (x ∷ xs) ≡ true → is_rising xs ≡ true
 tail_rising x [] h = refl
-tail_rising x (y ∷ ys) h = (both (ltb x y) (is_rising (y ∷ ys)) h).1
+tail_rising x (y ∷ ys) h = (and_parts (ltb x y) (is_rising (y ∷ ys)) h).1
 
 not_among : (n k : ℕ) (xs : List ℕ) → k ≤ n → above n xs ≡ true → among xs k ≡ false
 not_among n k [] less h = refl
 not_among n k (x ∷ xs) less h =
-    let b = both (ltb n x) (above n xs) h in
+    let b = and_parts (ltb n x) (above n xs) h in
     let far = ltb-true n x b.0 in
     let other : eqb k x ≡ false = grind (arith, nat_tests) in
     rw (other, not_among n k xs less b.1) refl
 
 is_among : (n k : ℕ) (xs : List ℕ) → above n xs ≡ true → among xs k ≡ true → n < k
 is_among n k [] h m = absurd (cc)
-is_among n k (x ∷ xs) h m = go (eqb k x) refl m (λ later. is_among n k xs (both (ltb n x) (above n xs) h).1 later)
+is_among n k (x ∷ xs) h m = go (eqb k x) refl m (λ later. is_among n k xs (and_parts (ltb n x) (above n xs) h).1 later)
   where
     go : (b : Bool) → eqb k x ≡ b → (b || among xs k) ≡ true → (among xs k ≡ true → n < k) → n < k
-    go true e m later = let far = ltb-true n x (both (ltb n x) (above n xs) h).0 in let same : k ≡ x = grind (arith, nat_tests) in omega arith
+    go true e m later = let far = ltb-true n x (and_parts (ltb n x) (above n xs) h).0 in let same : k ≡ x = grind (arith, nat_tests) in omega arith
     go false e m later = later m
 
 first_among : (x : ℕ) (xs : List ℕ) → among (x ∷ xs) x ≡ true
@@ -86,26 +82,23 @@ same_rising (x ∷ xs) (y ∷ ys) p q h =
 
 -- ---- the members of a set, in order
 
-all_under : ℕ → List ℕ → Bool
-all_under n xs = list_all (λ x. ltb x n) xs
-
 pub rising_push : (xs : List ℕ) (n : ℕ) → is_rising xs ≡ true → list_all (λ x. ltb x n) xs ≡ true → is_rising (xs ++ n ∷ []) ≡ true
 rising_push [] n p h = refl
-rising_push (x ∷ []) n p h = both_true (ltb x n) true ((both (ltb x n) true h).0) refl
+rising_push (x ∷ []) n p h = and_from (ltb x n) true ((and_parts (ltb x n) true h).0) refl
 rising_push (x ∷ y ∷ xs) n p h =
-    let b = both (ltb x y) (is_rising (y ∷ xs)) p in
-    both_true (ltb x y) (is_rising ((y ∷ xs) ++ n ∷ [])) b.0 (rising_push (y ∷ xs) n b.1 (both (ltb x n) (list_all (λ z. ltb z n) (y ∷ xs)) h).1)
+    let b = and_parts (ltb x y) (is_rising (y ∷ xs)) p in
+    and_from (ltb x y) (is_rising ((y ∷ xs) ++ n ∷ [])) b.0 (rising_push (y ∷ xs) n b.1 (and_parts (ltb x n) (list_all (λ z. ltb z n) (y ∷ xs)) h).1)
 
 under_more : (xs : List ℕ) (n : ℕ) → list_all (λ x. ltb x n) xs ≡ true → list_all (λ x. ltb x (suc n)) xs ≡ true
 under_more [] n h = refl
 under_more (x ∷ xs) n h =
-    let b = both (ltb x n) (list_all (λ x. ltb x n) xs) h in
+    let b = and_parts (ltb x n) (list_all (λ x. ltb x n) xs) h in
     let less = ltb-true x n b.0 in
-    both_true (ltb x (suc n)) (list_all (λ x. ltb x (suc n)) xs) (under x (suc n) (omega arith)) (under_more xs n b.1)
+    and_from (ltb x (suc n)) (list_all (λ x. ltb x (suc n)) xs) (lt-ltb x (suc n) (omega arith)) (under_more xs n b.1)
 
 under_push : (xs : List ℕ) (n : ℕ) → list_all (λ x. ltb x (suc n)) xs ≡ true → list_all (λ x. ltb x (suc n)) (xs ++ n ∷ []) ≡ true
-under_push [] n h = both_true (ltb n (suc n)) true (under n (suc n) (omega arith)) refl
-under_push (x ∷ xs) n h = let b = both (ltb x (suc n)) (list_all (λ x. ltb x (suc n)) xs) h in both_true (ltb x (suc n)) (list_all (λ x. ltb x (suc n)) (xs ++ n ∷ [])) b.0 (under_push xs n b.1)
+under_push [] n h = and_from (ltb n (suc n)) true (lt-ltb n (suc n) (omega arith)) refl
+under_push (x ∷ xs) n h = let b = and_parts (ltb x (suc n)) (list_all (λ x. ltb x (suc n)) xs) h in and_from (ltb x (suc n)) (list_all (λ x. ltb x (suc n)) (xs ++ n ∷ [])) b.0 (under_push xs n b.1)
 
 append_nil : (xs : List ℕ) → xs ++ [] ≡ xs
 append_nil [] = refl
@@ -183,10 +176,10 @@ members_are p (suc n) k = ap (λ xs. among xs k) (chosen p n) ∙ go (p n) (eqb 
 
 all_among : (xs : List ℕ) (n k : ℕ) → list_all (λ x. ltb x n) xs ≡ true → among xs k ≡ true → ltb k n ≡ true
 all_among [] n k h m = absurd (cc)
-all_among (x ∷ xs) n k h m = go (eqb k x) refl m (λ later. all_among xs n k (both (ltb x n) (list_all (λ x. ltb x n) xs) h).1 later)
+all_among (x ∷ xs) n k h m = go (eqb k x) refl m (λ later. all_among xs n k (and_parts (ltb x n) (list_all (λ x. ltb x n) xs) h).1 later)
   where
     go : (b : Bool) → eqb k x ≡ b → (b || among xs k) ≡ true → (among xs k ≡ true → ltb k n ≡ true) → ltb k n ≡ true
-    go true e m later = let same : k ≡ x = grind (arith, nat_tests) in ap (λ z. ltb z n) same ∙ (both (ltb x n) (list_all (λ x. ltb x n) xs) h).0
+    go true e m later = let same : k ≡ x = grind (arith, nat_tests) in ap (λ z. ltb z n) same ∙ (and_parts (ltb x n) (list_all (λ x. ltb x n) xs) h).0
     go false e m later = later m
 
 -- a rising list is the list of the members of its set
@@ -202,11 +195,11 @@ pub members_set : (bits n : ℕ) → ((k : ℕ) → bit bits k ≡ true → k < 
 members_set bits n few = same_set (set_of (filter (bit bits) (below n))) bits (λ k. bit_set_of (filter (bit bits) (below n)) k ∙ members_are (bit bits) n k ∙ go k (bit bits k) refl)
   where
     go : (k : ℕ) (b : Bool) → bit bits k ≡ b → (b && ltb k n) ≡ b
-    go k true e = under k n (few k e)
+    go k true e = lt-ltb k n (few k e)
     go k false e = refl
 
 pub set_small : (xs : List ℕ) (n : ℕ) → list_all (λ x. ltb x n) xs ≡ true → set_of xs < 2 ^ n
 set_small [] n h = pow_pos n
 set_small (x ∷ xs) n h =
-    let b = both (ltb x n) (list_all (λ x. ltb x n) xs) h in
+    let b = and_parts (ltb x n) (list_all (λ x. ltb x n) xs) h in
     or_lt n (2 ^ x) (set_of xs) (pow-lt (ltb-true x n b.0)) (set_small xs n b.1)

@@ -4,27 +4,27 @@ use Rattle.std.specs.List.{slice_split, slice_get, list_any, AllByRecursion}
 use Rattle.std.specs.Prelude.{codes}
 use Rattle.std.specs.Fmt.{decimal}
 use Rattle.std.specs.Str.{bytes_eq}
-use Rattle.std.proofs.lemmas.Bool.Decides.{nat_tests}
 use Rattle.std.proofs.lemmas.List.{append-nil, append_assoc, length-append}
 use Rattle.std.proofs.lemmas.List.Splits.{slice_split_at, length-slice_split}
+use Rattle.std.proofs.lemmas.Bool.{and_from, false_from_ne_true, lt-ltb}
 use Rattle.sat_label.specs.Text.{is_between, is_name}
 use Rattle.sat_label.specs.Words.{bit, below}
 use Rattle.sat_tree.specs.Shape.{TreeShape}
-use Rattle.sat_act.specs.Built.{is_built_act}
 use Rattle.sat_act.specs.Deployed.{Deployed}
 use Rattle.sat_act.specs.Flaw.{are_sites}
 use Rattle.sat_act.specs.Limits.{IsDeployment}
 use Rattle.sat_act.specs.Parts.{tree_of}
 use Rattle.sat_act.specs.declared.act.Act.{Act}
-use Rattle.sat_act.specs.declared.act.Act.TheVariants as act
 use Rattle.sat_act.specs.declared.deployment.Item.{Item}
 use Rattle.sat_act.specs.declared.deployment.ClientLine.{ClientLine}
 use Rattle.sat_act.specs.declared.deployment.Plan.{Plan}
 use Rattle.sat_act.specs.declared.deployment.Plan.TheVariants as plan
-use Rattle.sat_script.specs.Grammar.{has_client, has_item, is_end, is_ended, body_line, act_line, words_line, line_at, close_in, after, with_settle}
+use Rattle.sat_script.specs.Causes.{bar, has_client, has_item}
+use Rattle.sat_script.specs.Grammar.{is_ended, body_line, words_line, line_at, close_in, after, with_settle}
+use Rattle.sat_script.specs.Table.{act_line, act_words}
 use Rattle.sat_script.specs.Kept.{IsWhole, IsFit}
 use Rattle.sat_script.specs.Reading.{script_from, reading, nothing, after_line, good, told_line, with_line, AreBuiltActs, AreAllowed, IsAllowed}
-use Rattle.sat_script.specs.Spelled.{line_text, item_words, client_words, plan_words, act_words, ended, items_text, clients_text, plans_text, acts_text, header_text, spelling, HaveNames, Spells}
+use Rattle.sat_script.specs.Spelled.{line_text, item_words, client_words, plan_words, ended, items_text, clients_text, plans_text, acts_text, header_text, spelling, HaveNames, Spells}
 use Rattle.sat_script.specs.State.{State, start, most_sites, most_clients, most_acts}
 use Rattle.sat_script.specs.Words.{is_newline}
 use Rattle.sat_script.specs.declared.limits.TheConstants.{MOST_ACTS}
@@ -33,12 +33,12 @@ use Rattle.sat_script.specs.declared.line.Parsed.TheVariants as parsed
 use Rattle.sat_script.specs.declared.line.Stage.{Stage}
 use Rattle.sat_script.specs.declared.line.Stage.TheVariants as stage
 use Rattle.sat_script.specs.declared.stream.Reading.{Reading}
-use Rattle.sat_script.proofs.ActsRead.{act_reads}
-use Rattle.sat_script.proofs.Choices.{both_true, word_is}
+use Rattle.sat_script.proofs.ActsRead.{act_reads, not_end}
+use Rattle.sat_script.specs.Grammar.{of_act}
+use Rattle.sat_script.proofs.Choices.{word_is}
 use Rattle.sat_script.proofs.Fits.{fit_start, stands_after}
 use Rattle.sat_script.proofs.Headers.{not_zero, bit_none}
 use Rattle.sat_script.proofs.HeadersRead.{IsSites, format_reads, sites_reads, gears_reads, item_reads, client_reads, begin_reads}
-use Rattle.sat_script.proofs.Lookup.{fails_or}
 use Rattle.sat_script.proofs.Rising.{members_set, members_under, set_small}
 use Rattle.sat_script.proofs.Stands.{ItemStands, ClientStands, PlanStands, ActStands}
 use Rattle.sat_script.proofs.Texts.{IsLine, line_fits, is_text-line, line_at-words, lacks, no_newline}
@@ -61,26 +61,12 @@ line_step s r words rest p line going h =
 
 -- ---- the acts
 
-not_end : (d : Deployed) (a : Act) → is_built_act a ≡ true → is_end (act_words d a) ≡ false
-unfolding act_words
-not_end d (act.Tick i g t) form = refl
-not_end d act.Clock form = refl
-not_end d (act.Write c x value) form = refl
-not_end d (act.Read c x) form = refl
-not_end d (act.Gather i) form = refl
-not_end d (act.Emit i) form = refl
-not_end d (act.Hop e u z) form = refl
-not_end d (act.Turn i) form = refl
-not_end d (act.Bulk i g j None) form = refl
-not_end d (act.Bulk i g j (Some n)) form = refl
-not_end d _ form = absurd (cc)
-
 act_line_reads : (s : State) (a : Act) → s.stage ≡ stage.Body → IsWhole s.header → ActStands s a → words_line s.stage s (act_words s.header a) ≡ Ok (parsed.Act a)
 unfolding words_line body_line
 act_line_reads s a here is st =
     ap (λ (at : Stage). words_line at s (act_words s.header a)) here
-    ∙ ap (λ (b : Bool). cond b (Ok parsed.End) (act_line s (act_words s.header a))) (not_end s.header a st.built)
-    ∙ act_reads s a is.deployment is.names st
+    ∙ ap (λ (b : Bool). cond b (Ok parsed.End) (of_act (act_line (bar s) s.header (act_words s.header a)))) (not_end s.header a)
+    ∙ ap of_act (act_reads s a is.deployment is.names st)
 
 abbrev with_acts : Reading → List Act → Reading
 with_acts r acts = record { deployment = r.deployment; acts = acts; fault = r.fault }
@@ -137,18 +123,15 @@ of_items d items = record { sites = d.sites; gears = d.gears; items = items; cli
 item_sites : (d : Deployed) (item : Item) (x : ℕ) → IsDeployment d → slice_get d.items x ≡ Some item → IsSites d.sites item.replicas
 item_sites d item x is at = record { some = is.kept x item at; inside = λ k h. is.replicas x k item at h }
 
-under : (a b : ℕ) → a < b → ltb a b ≡ true
-under a b h = grind (arith, nat_tests)
-
 sites_are : (sites bits : ℕ) → ((k : ℕ) × (bit bits k ≡ true)) → ((k : ℕ) → bit bits k ≡ true → k < sites) → are_sites sites bits ≡ true
 sites_are sites bits some inside =
     let whole = members_set bits sites inside in
     let small : bits < 2 ^ sites = subst (λ (n : ℕ). n < 2 ^ sites) whole (set_small (filter (bit bits) (below sites)) sites (members_under (bit bits) sites)) in
-    both_true (not (eqb bits 0)) (ltb bits (2 ^ sites)) (not_zero bits (λ e. bit_none bits some.0 e some.1)) (under bits (2 ^ sites) small)
+    and_from (not (eqb bits 0)) (ltb bits (2 ^ sites)) (not_zero bits (λ e. bit_none bits some.0 e some.1)) (lt-ltb bits (2 ^ sites) small)
 
 item_new : (d : Deployed) (done todo : List Item) (item : Item) → IsDeployment d → d.items ≡ done ++ item ∷ todo → has_item (of_items d done) item.name ≡ false
 unfolding has_item
-item_new d done todo item is e = fails_or (list_any (λ (other : Item). bytes_eq other.name item.name) done) (λ h.
+item_new d done todo item is e = false_from_ne_true (list_any (λ (other : Item). bytes_eq other.name item.name) done) (λ h.
     let at = any_at (λ (other : Item). bytes_eq other.name item.name) done h in
     let early : slice_get d.items at.0 ≡ Some at.1 = ap (λ (xs : List Item). slice_get xs at.0) e ∙ get_early done (item ∷ todo) at.0 at.1 at.2 in
     let here : slice_get d.items (length done) ≡ Some item = ap (λ (xs : List Item). slice_get xs (length done)) e ∙ get_mid done todo item in
@@ -198,7 +181,7 @@ of_clients d clients = record { sites = d.sites; gears = d.gears; items = d.item
 
 client_new : (d : Deployed) (done todo : List ClientLine) (line : ClientLine) → IsDeployment d → d.clients ≡ done ++ line ∷ todo → has_client (of_clients d done) line.name ≡ false
 unfolding has_client
-client_new d done todo line is e = fails_or (list_any (λ (other : ClientLine). bytes_eq other.name line.name) done) (λ h.
+client_new d done todo line is e = false_from_ne_true (list_any (λ (other : ClientLine). bytes_eq other.name line.name) done) (λ h.
     let at = any_at (λ (other : ClientLine). bytes_eq other.name line.name) done h in
     let early : slice_get d.clients at.0 ≡ Some at.1 = ap (λ (xs : List ClientLine). slice_get xs at.0) e ∙ get_early done (line ∷ todo) at.0 at.1 at.2 in
     let here : slice_get d.clients (length done) ≡ Some line = ap (λ (xs : List ClientLine). slice_get xs (length done)) e ∙ get_mid done todo line in
@@ -255,9 +238,6 @@ limits false d acts is few h = record { sites = is.few_sites; clients = is.few_c
 
 spelled_flat : (a b c i f p e rest : List ℕ) → (a ++ (b ++ (c ++ (i ++ (f ++ (p ++ [])))))) ++ (e ++ rest) ≡ a ++ (b ++ (c ++ (i ++ (f ++ (p ++ (e ++ rest))))))
 spelled_flat a b c i f p e rest = simp (append_assoc, append-nil)
-
-abbrev sited : ℕ → Deployed
-sited n = record { sites = n; gears = 0; items = []; clients = []; plans = [] }
 
 first_lines : (live : Bool) (d : Deployed) (rest : List ℕ) → IsDeployment d → d.sites ≤ most_sites live
     → (script_from (start live) nothing (slice_split is_newline (ended (codes "saturn" ∷ codes "1" ∷ []) ++ (ended (codes "sites" ∷ decimal d.sites ∷ []) ++ (ended (codes "gears" ∷ decimal d.gears ∷ []) ++ rest))))

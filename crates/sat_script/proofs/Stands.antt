@@ -13,9 +13,11 @@ use Rattle.sat_act.specs.declared.deployment.Item.{Item}
 use Rattle.sat_act.specs.declared.deployment.ClientLine.{ClientLine}
 use Rattle.sat_act.specs.declared.deployment.Plan.{Plan}
 use Rattle.sat_act.specs.declared.deployment.Plan.TheVariants as plan
-use Rattle.sat_script.specs.Grammar.{has_client, has_item, is_tree}
+use Rattle.sat_script.specs.Causes.{has_client, has_item}
+use Rattle.sat_script.specs.Grammar.{is_tree}
 use Rattle.sat_script.specs.Reading.{is_live_act}
-use Rattle.sat_script.specs.Spelled.{item_words, client_words, plan_words, act_words}
+use Rattle.sat_script.specs.Spelled.{item_words, client_words, plan_words}
+use Rattle.sat_script.specs.Table.{act_words}
 use Rattle.sat_script.specs.State.{State, most_sites, most_clients, most_acts}
 use Rattle.sat_script.specs.declared.limits.TheConstants.{MOST_GEARS, MOST_ITEMS}
 use Rattle.sat_script.specs.declared.line.Parsed.{Parsed}

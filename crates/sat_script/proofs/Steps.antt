@@ -3,11 +3,10 @@ use Rattle.std.proofs.Common.{◌≡◌, ℕ, zero, suc, ◌+◌, ◌-◌, ◌<�
 use Rattle.std.specs.List.{list_all, slice_get}
 use Rattle.std.proofs.lemmas.List.{take_more, drop_more, length-drop, take_all, drop_all}
 use Rattle.std.proofs.lemmas.Option.{slice_get-get_or, slice_get-map}
-use Rattle.std.proofs.lemmas.Bool.{ltb-true}
+use Rattle.std.proofs.lemmas.Bool.{and_from, and_parts, ltb-true}
 use Rattle.std.proofs.lemmas.Bool.Decides.{nat_tests}
 use Rattle.sat_script.specs.Words.{is_number, value_of, number_below, is_rising, are_below}
 use Rattle.sat_script.proofs.Digits.{tested}
-use Rattle.sat_script.proofs.Choices.{both, both_true}
 use Rattle.sat_script.proofs.Lists.{all_at, fails_at, map_next, all_next}
 
 abbrev texts : List (Bor (List ℕ)) → List (List ℕ)
@@ -19,7 +18,7 @@ passes : (limit : ℕ) (word : List ℕ) (n : ℕ) → Some n ≡ number_below l
 unfolding number_below
 passes limit word n h =
     let t = tested (is_number word && ltb (value_of word) limit) (value_of word) n (sym h) in
-    ((both (is_number word) (ltb (value_of word) limit) t.0).1, t.1)
+    ((and_parts (is_number word) (ltb (value_of word) limit) t.0).1, t.1)
 
 fails : (limit : ℕ) (word : List ℕ) → is_number word ≡ true → None ≡ number_below limit word → ltb (value_of word) limit ≡ false
 unfolding number_below
@@ -106,9 +105,9 @@ all_end test words i all = ap (λ ws. list_all test (texts ws)) (drop_all i word
 pub few_sites : (limit : ℕ) (words : List (List ℕ)) → limit ≤ 16 → are_below limit words ≡ true → list_all (λ site. ltb site 64) (map value_of words) ≡ true
 few_sites limit [] few h = refl
 few_sites limit (w ∷ words) few h =
-    let b = both (ltb (value_of w) limit) (are_below limit words) h in
+    let b = and_parts (ltb (value_of w) limit) (are_below limit words) h in
     let less = ltb-true (value_of w) limit b.0 in
-    both_true (ltb (value_of w) 64) (list_all (λ site. ltb site 64) (map value_of words)) (low (value_of w) (omega arith)) (few_sites limit words few b.1)
+    and_from (ltb (value_of w) 64) (list_all (λ site. ltb site 64) (map value_of words)) (low (value_of w) (omega arith)) (few_sites limit words few b.1)
   where
     low : (n : ℕ) → n < 64 → ltb n 64 ≡ true
     low n h = grind (arith, nat_tests)

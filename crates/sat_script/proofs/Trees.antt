@@ -1,6 +1,6 @@
 -- The tree of a plan's line.
 use Rattle.std.proofs.Common.{◌≡◌, ℕ, suc, ◌+◌, ◌<◌, ◌≤◌, Bool, true, false, ◌&&◌, cond, eqb, ltb, leb, List, [], ◌∷◌, length, map, Option, Some, None, Result, Ok, Err, MatchOption, is_none, sym, ap, ◌∙◌, refl, subst, arith}
-use Rattle.std.proofs.lemmas.Bool.{ltb-true, leb-true}
+use Rattle.std.proofs.lemmas.Bool.{and_from, and_parts, false_from_ne_true, leb-true, lt-ltb, ltb-true}
 use Rattle.std.proofs.lemmas.Bool.Decides.{nat_tests}
 use Rattle.std.proofs.lemmas.Option.{slice_get_within, slice_get-map}
 use Rattle.std.specs.List.{slice_get, list_all}
@@ -10,8 +10,7 @@ use Rattle.sat_label.proofs.First.{first_none}
 use Rattle.sat_tree.specs.Cut.{parent_of, seat_of}
 use Rattle.sat_tree.proofs.Small.{small_tree}
 use Rattle.sat_script.specs.Words.{value_of, are_below}
-use Rattle.sat_script.proofs.Choices.{both, both_true}
-use Rattle.sat_script.proofs.Lookup.{fails_or, length_by}
+use Rattle.sat_script.proofs.Lookup.{length_by}
 use Rattle.sat_tree.specs.Shape.{TreeShape}
 use Rattle.sat_tree.specs.Flaw.{tree_flaw, parent_fits, seat_fits, few_serializers, IsSmallTree}
 use Rattle.sat_tree.specs.declared.fault.TreeFault.{TreeFault}
@@ -64,7 +63,7 @@ pub record NoFlaw (t : TreeShape) : Type 0 where
   pub seats : first_failing (seat_fits t) (length t.seats) ≡ None
 
 counted : (n : ℕ) → (ltb 0 n && leb n 15) ≡ true → (0 < n) × (n ≤ 15)
-counted n h = let b = both (ltb 0 n) (leb n 15) h in (ltb-true 0 n b.0, leb-true n 15 b.1)
+counted n h = let b = and_parts (ltb 0 n) (leb n 15) h in (ltb-true 0 n b.0, leb-true n 15 b.1)
 
 pub tree_parts : (t : TreeShape) → tree_flaw t ≡ None → NoFlaw t
 unfolding tree_flaw few_serializers
@@ -80,7 +79,7 @@ tree_parts t none = go (few_serializers t.parents) (first_failing (parent_fits t
 pub tree_is : (sites : ℕ) (t : TreeShape) → is_tree sites t ≡ true → (tree_flaw t ≡ None) × (length t.seats ≡ sites)
 unfolding is_tree
 tree_is sites t h =
-    let b = both (is_none (tree_flaw t)) (eqb (length t.seats) sites) h in
+    let b = and_parts (is_none (tree_flaw t)) (eqb (length t.seats) sites) h in
     (no_value (tree_flaw t) b.0, same_number (length t.seats) sites b.1)
   where
     no_value : {X : Type 0} (o : Option X) → is_none o ≡ true → o ≡ None
@@ -97,10 +96,10 @@ tree_small sites t h few =
     (small_tree t is.0 (omega (arith, is.1)), is.1)
 
 too_many : (sites : ℕ) (t : TreeShape) → 15 < length t.parents → is_tree sites t ≡ false
-too_many sites t many = fails_or (is_tree sites t) (λ h. let n = tree_parts t (tree_is sites t h).0 in omega (arith, n.few))
+too_many sites t many = false_from_ne_true (is_tree sites t) (λ h. let n = tree_parts t (tree_is sites t h).0 in omega (arith, n.few))
 
 no_root : (sites : ℕ) (t : TreeShape) → length t.parents ≡ 0 → is_tree sites t ≡ false
-no_root sites t none = fails_or (is_tree sites t) (λ h. let n = tree_parts t (tree_is sites t h).0 in omega (arith, n.some))
+no_root sites t none = false_from_ne_true (is_tree sites t) (λ h. let n = tree_parts t (tree_is sites t h).0 in omega (arith, n.some))
 
 length_numbers : (words : List (List ℕ)) → length (map parent_number words) ≡ length words
 length_numbers [] = refl
@@ -119,10 +118,7 @@ empty_line sites seats = no_root sites (tree_in [] seats) (parents_length [] sea
 
 all_from : {X : Type 0} (p : X → Bool) (xs : List X) → ((k : ℕ) (x : X) → slice_get xs k ≡ Some x → p x ≡ true) → list_all p xs ≡ true
 all_from p [] h = refl
-all_from p (x ∷ xs) h = both_true (p x) (list_all p xs) (h 0 x refl) (all_from p xs (λ k y at. h (suc k) y at))
-
-under : (a b : ℕ) → a < b → ltb a b ≡ true
-under a b h = grind (arith, nat_tests)
+all_from p (x ∷ xs) h = and_from (p x) (list_all p xs) (h 0 x refl) (all_from p xs (λ k y at. h (suc k) y at))
 
 seat_value : (t : TreeShape) (words : List (List ℕ)) (k : ℕ) (w : List ℕ) → t.seats ≡ map value_of words → slice_get words k ≡ Some w → seat_of t k ≡ value_of w
 unfolding seat_of
@@ -153,10 +149,10 @@ parents_below t words is parents = all_from (λ word. ltb (value_of word) (lengt
     let value : parent_of t.parents (suc k) ≡ Some (value_of w) = ap (λ (ps : List (Option ℕ)). parent_of ps (suc k)) parents ∙ parent_value words k w at in
     let less : ltb (value_of w) (suc k) ≡ true = rw (value, parent_fits) at fits in
     let low = ltb-true (value_of w) (suc k) less in
-    under (value_of w) (length t.parents) (omega arith))
+    lt-ltb (value_of w) (length t.parents) (omega arith))
 
 pub wrong_parents : (sites : ℕ) (words seats : List (List ℕ)) → are_below (length words + 1) words ≡ false → is_tree sites (tree_on words seats) ≡ false
-wrong_parents sites words seats none = fails_or (is_tree sites (tree_on words seats)) (λ h.
+wrong_parents sites words seats none = false_from_ne_true (is_tree sites (tree_on words seats)) (λ h.
     let t : TreeShape = tree_on words seats in
     let is = tree_parts t (tree_is sites t h).0 in
     let all = parents_below t words is refl in
@@ -165,7 +161,7 @@ wrong_parents sites words seats none = fails_or (is_tree sites (tree_on words se
     let never : true ≡ false = sym all ∙ same ∙ none in cc)
 
 pub wrong_seats : (sites : ℕ) (words seats : List (List ℕ)) → are_below (length words + 1) seats ≡ false → is_tree sites (tree_on words seats) ≡ false
-wrong_seats sites words seats none = fails_or (is_tree sites (tree_on words seats)) (λ h.
+wrong_seats sites words seats none = false_from_ne_true (is_tree sites (tree_on words seats)) (λ h.
     let t : TreeShape = tree_on words seats in
     let is = tree_parts t (tree_is sites t h).0 in
     let all = seats_below t seats is refl in

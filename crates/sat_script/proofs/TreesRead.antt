@@ -5,6 +5,7 @@ use Rattle.std.specs.Fmt.{decimal}
 use Rattle.std.specs.List.{slice_get, list_all, position_or_len}
 use Rattle.std.proofs.lemmas.Bool.Decides.{nat_tests}
 use Rattle.std.proofs.lemmas.List.{length-append}
+use Rattle.std.proofs.lemmas.Bool.{and_from, and_parts, false_from_ne_true}
 use Rattle.sat_label.specs.Text.{is_between}
 use Rattle.sat_label.specs.Words.{first_failing}
 use Rattle.sat_label.proofs.First.{first_more, first_start}
@@ -13,15 +14,15 @@ use Rattle.sat_tree.specs.Cut.{IsTree, parent_of, seat_of}
 use Rattle.sat_tree.specs.Flaw.{tree_flaw, parent_fits, seat_fits, few_serializers}
 use Rattle.sat_act.specs.declared.deployment.Plan.TheVariants as plan
 use Rattle.sat_script.specs.Grammar.{are_parents, parent_number, tree_on, tree_in, is_tree, tree_line, is_slash, parted_line, plan_line, header_line}
-use Rattle.sat_script.specs.Spelled.{plan_words, parent_text}
+use Rattle.sat_script.specs.Spelled.{plan_words}
+use Rattle.sat_tree.specs.PlanLine.{parent_text}
 use Rattle.sat_script.specs.State.{State}
 use Rattle.sat_script.specs.Words.{is_number, value_of}
 use Rattle.sat_script.specs.declared.line.Parsed.{Parsed}
 use Rattle.sat_script.specs.declared.line.Parsed.TheVariants as parsed
-use Rattle.sat_script.proofs.Choices.{both, both_true, word_is}
+use Rattle.sat_script.proofs.Choices.{word_is}
 use Rattle.sat_script.proofs.Digits.{decimal_number, decimal_value, decimal_between}
 use Rattle.sat_script.proofs.HeadersRead.{tree_free}
-use Rattle.sat_script.proofs.Lookup.{fails_or}
 use Rattle.sat_script.proofs.Trees.{no_flaw, map_twice}
 
 -- ---- numbers
@@ -39,23 +40,23 @@ numbers_back : (ns : List ℕ) → AreSmall ns → list_all is_number (map decim
 numbers_back [] h = refl
 numbers_back (n ∷ ns) h =
     let less = h 0 n refl in
-    both_true (is_number (decimal n)) (list_all is_number (map decimal ns)) (decimal_number n (omega arith)) (numbers_back ns (λ k m at. h (suc k) m at))
+    and_from (is_number (decimal n)) (list_all is_number (map decimal ns)) (decimal_number n (omega arith)) (numbers_back ns (λ k m at. h (suc k) m at))
 
 no_slash : (n : ℕ) → n < 2 ^ 16 → is_slash (decimal n) ≡ false
-no_slash n small = fails_or (is_slash (decimal n)) (λ same.
+no_slash n small = false_from_ne_true (is_slash (decimal n)) (λ same.
     let e = word_is (decimal n) (codes "/") same in
     let digits : list_all (is_between 48 57) (codes "/") ≡ true = subst (λ (w : List ℕ). list_all (is_between 48 57) w ≡ true) e (decimal_between n (omega arith)) in cc)
 
 no_slashes : (ns : List ℕ) → AreSmall ns → list_all (λ w. not (is_slash w)) (map decimal ns) ≡ true
 no_slashes [] h = refl
-no_slashes (n ∷ ns) h = both_true (not (is_slash (decimal n))) (list_all (λ w. not (is_slash w)) (map decimal ns)) (ap not (no_slash n (h 0 n refl))) (no_slashes ns (λ k m at. h (suc k) m at))
+no_slashes (n ∷ ns) h = and_from (not (is_slash (decimal n))) (list_all (λ w. not (is_slash w)) (map decimal ns)) (ap not (no_slash n (h 0 n refl))) (no_slashes ns (λ k m at. h (suc k) m at))
 
 -- ---- the place of the slash
 
 slash_place : (front rest : List (List ℕ)) → list_all (λ w. not (is_slash w)) front ≡ true → position_or_len is_slash (front ++ codes "/" ∷ rest) ≡ length front
 slash_place [] rest h = refl
 slash_place (w ∷ front) rest h =
-    let b = both (not (is_slash w)) (list_all (λ w. not (is_slash w)) front) h in
+    let b = and_parts (not (is_slash w)) (list_all (λ w. not (is_slash w)) front) h in
     let more = slash_place front rest b.1 in
     ap (λ c. cond c (1 + position_or_len is_slash (front ++ codes "/" ∷ rest)) 0) b.0 ∙ (omega arith)
 

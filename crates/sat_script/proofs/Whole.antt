@@ -13,9 +13,11 @@ use Rattle.sat_act.specs.declared.deployment.Item.{Item}
 use Rattle.sat_act.specs.declared.deployment.ClientLine.{ClientLine}
 use Rattle.sat_act.specs.declared.deployment.Plan.{Plan}
 use Rattle.sat_script.specs.Grammar.{line_at, close_at, close_in, after, next_stage, with_parsed, with_act}
+use Rattle.sat_script.specs.Laws.{IsRead}
 use Rattle.sat_script.specs.Kept.{IsFit, HasHeader, HasSaid}
 use Rattle.sat_script.specs.Reading.{script_from, reading, nothing, after_line, closed, told_line, with_line, AreBuiltActs, AreAllowed, IsAllowed, is_live_act}
-use Rattle.sat_script.specs.Spelled.{line_text, item_words, client_words, plan_words, act_words, ended, items_text, clients_text, plans_text, acts_text, header_text, spelling, Spells}
+use Rattle.sat_script.specs.Spelled.{line_text, item_words, client_words, plan_words, ended, items_text, clients_text, plans_text, acts_text, header_text, spelling}
+use Rattle.sat_script.specs.Table.{act_words}
 use Rattle.sat_script.specs.State.{State, start, number_of, header_lines, first_of, most_sites, most_clients, most_acts}
 use Rattle.sat_script.specs.Words.{is_newline}
 use Rattle.sat_script.specs.declared.fault.Cause.{Cause}
@@ -200,9 +202,6 @@ so_after s r text line p so h =
           ∙ sym (front-after s.stage s p r so.fit.header is.stands so.said);
     }
 
-abbrev pub IsRead : Bool → Reading → List ℕ → Type 0
-IsRead live found text = (d : Deployed) × (found.deployment ≡ Some d) × Spells text d found.acts × IsAllowed live d found.acts
-
 allowed : (live : Bool) (d : Deployed) (acts : List Act) → d.sites ≤ most_sites live → length d.clients ≤ most_clients live → length acts ≤ most_acts live → AreAllowed live acts → IsAllowed live d acts
 allowed true d acts sites clients few each = record { sites = sites; clients = clients; few = few; each = each }
 allowed false d acts sites clients few each = tt
@@ -270,12 +269,3 @@ unfolding reading
 read_spells live text none =
     subst (λ (bs : List ℕ). IsRead live (script_from (start live) nothing (slice_split is_newline text)) bs) (join_with_byte-slice_split 10 text)
     (read_parts (start live) nothing [] (slice_split is_newline text) (so_far live) none)
-
-pub read_whole_text : (live : Bool) (text : List ℕ) → (reading live text).fault ≡ None → (d : Deployed) × ((reading live text).deployment ≡ Some d) × Spells text d (reading live text).acts
-read_whole_text live text none = let r = read_spells live text none in (r.0, r.1, r.2)
-
-pub read_allowed : (live : Bool) (text : List ℕ) (d : Deployed) → (reading live text).fault ≡ None → (reading live text).deployment ≡ Some d → IsAllowed live d (reading live text).acts
-read_allowed live text d none has =
-    let r = read_spells live text none in
-    let same : r.0 ≡ d = (let e : Some r.0 ≡ Some d = sym r.1 ∙ has in cc) in
-    subst (λ (d : Deployed). IsAllowed live d (reading live text).acts) same r.3

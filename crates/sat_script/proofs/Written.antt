@@ -1,8 +1,8 @@
 -- Lists of words that grow by one.
-use Rattle.std.proofs.Common.{◌≡◌, ℕ, zero, suc, ◌+◌, ◌<◌, ◌^◌, Bool, true, false, cond, List, [], ◌∷◌, ◌++◌, length, map, filter, take, Some, Result, Ok, Err, sym, ap, ◌∙◌, refl, subst, arith, add-one}
-use Rattle.std.specs.List.{slice_get, join_with_byte, AllByRecursion}
+use Rattle.std.proofs.Common.{◌≡◌, ℕ, zero, suc, ◌+◌, ◌<◌, ◌^◌, Bool, true, false, cond, List, [], ◌∷◌, ◌++◌, length, map, filter, Result, Ok, Err, sym, ap, ◌∙◌, refl, subst, arith, add-one}
+use Rattle.std.specs.List.{join_with_byte, AllByRecursion}
 use Rattle.std.specs.Fmt.{decimal}
-use Rattle.std.proofs.lemmas.List.{append-nil, append_assoc, length-append}
+use Rattle.std.proofs.lemmas.List.{append_assoc, length-append}
 use Rattle.std.proofs.lemmas.Fmt.{decimal_nonempty}
 use Rattle.sat_label.specs.Words.{below, bit}
 use Rattle.sat_label.specs.declared.site_set.SiteSet.{SiteSet}
@@ -11,24 +11,10 @@ use Rattle.std.specs.Result.{OnErr}
 use Rattle.sat_label.specs.Text.{AppendsFront}
 use Rattle.sat_act.specs.Deployed.{Deployed}
 use Rattle.sat_act.specs.declared.act.Act.{Act}
-use Rattle.sat_script.specs.Spelled.{spaced, sites_text, line_text, with_comma, acts_text, ended, header_text, spelling}
+use Rattle.sat_script.specs.Spelled.{sites_text, line_text, with_comma, acts_text, ended, header_text, spelling}
+use Rattle.sat_tree.specs.PlanLine.{spaced}
+use Rattle.sat_tree.proofs.PlanLine.{joined-spaced, spaced-append}
 use Rattle.sat_script.proofs.Lists.{all_more}
-
-spaced_suc : {X : Type 0} (f : X → List ℕ) (xs : List X) (n : ℕ) (x : X) → slice_get xs n ≡ Some x → spaced (map f (take (suc n) xs)) ≡ spaced (map f (take n xs)) ++ 32 ∷ f x
-spaced_suc f [] n x h = absurd (cc)
-spaced_suc f (y ∷ xs) zero x h = let same : y ≡ x = cc in ap (λ bs. 32 ∷ bs) (append-nil (f y)) ∙ ap (λ y. 32 ∷ f y) same
-spaced_suc f (y ∷ xs) (suc n) x h = ap (λ bs. 32 ∷ (f y ++ bs)) (spaced_suc f xs n x h) ∙ ap (λ bs. 32 ∷ bs) (sym (append_assoc (f y) (spaced (map f (take n xs))) (32 ∷ f x)))
-
-pub spaced_more : {X : Type 0} (f : X → List ℕ) (xs : List X) (n : ℕ) (x : X) → slice_get xs n ≡ Some x → spaced (map f (take (n + 1) xs)) ≡ spaced (map f (take n xs)) ++ 32 ∷ f x
-spaced_more f xs n x h = rw add-one (spaced_suc f xs n x h)
-
-pub line_text-spaced : (word : List ℕ) (words : List (List ℕ)) → line_text (word ∷ words) ≡ word ++ spaced words
-line_text-spaced word [] = sym (append-nil word)
-line_text-spaced word (next ∷ words) = ap (λ bs. word ++ 32 ∷ bs) (line_text-spaced next words)
-
-pub spaced-append : (a b : List (List ℕ)) → spaced (a ++ b) ≡ spaced a ++ spaced b
-spaced-append [] b = refl
-spaced-append (word ∷ a) b = ap (λ bs. 32 ∷ (word ++ bs)) (spaced-append a b) ∙ ap (λ bs. 32 ∷ bs) (sym (append_assoc word (spaced a) (spaced b)))
 
 -- ---- numbers with commas between them
 
@@ -91,7 +77,7 @@ sites_more bits n old now small had is = rw add-one (is ∙ ap (λ text. cond (b
 
 pub tree_line : (parents seats : List (List ℕ)) → line_text (codes "plan" ∷ codes "tree" ∷ (parents ++ codes "/" ∷ seats)) ≡ ((codes "plan tree" ++ spaced parents) ++ 32 ∷ codes "/") ++ spaced seats
 tree_line parents seats =
-    line_text-spaced (codes "plan") (codes "tree" ∷ (parents ++ codes "/" ∷ seats))
+    joined-spaced (codes "plan") (codes "tree" ∷ (parents ++ codes "/" ∷ seats))
     ∙ ap (λ bs. codes "plan tree" ++ bs) (spaced-append parents (codes "/" ∷ seats))
     ∙ simp append_assoc
 
@@ -104,9 +90,6 @@ spelled_front d acts = sym (append_assoc (header_text d) (ended (codes "begin" �
 pub on_err : {T E : Type 0} (r : Result T E) (P : Type 0) → P → OnErr r P
 on_err (Ok x) P p = tt
 on_err (Err e) P p = p
-
-pub nothing_written : (old text : List ℕ) → AppendsFront old old text
-nothing_written old text = record { front = []; rest = text; parts = refl; added = sym (append-nil old) }
 
 pub front_written : (old now text front rest : List ℕ) → text ≡ front ++ rest → now ≡ old ++ front → AppendsFront old now text
 front_written old now text front rest parts added = record { front = front; rest = rest; parts = parts; added = added }

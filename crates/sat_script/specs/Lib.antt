@@ -1,9 +1,13 @@
 pub mod Words
 pub mod Names
 pub mod State
+pub mod Causes
+pub mod Table
 pub mod Grammar
 pub mod Reading
 pub mod Lines
 pub mod Kept
 pub mod Stream
 pub mod Spelled
+pub mod Laws
+pub mod Said

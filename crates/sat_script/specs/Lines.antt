@@ -13,8 +13,8 @@ use Rattle.sat_script.specs.declared.line.Line.{Line}
 use Rattle.sat_script.specs.declared.line.Parsed.{Parsed}
 
 -- the call answers this, or want of memory
-abbrev pub Gives : Result Parsed Cause → Result Parsed Cause → Type 0
-Gives (Ok parsed) said = said ≡ Ok parsed
+abbrev pub Gives : {T : Type 0} → Result T Cause → Result T Cause → Type 0
+Gives (Ok x) said = said ≡ Ok x
 Gives (Err cause) said = cause ≢ Memory → said ≡ Err cause
 
 -- a tree of so many sites, or none where it isn't one

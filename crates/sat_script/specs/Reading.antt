@@ -4,10 +4,11 @@ use Rattle.std.specs.declared.option.Option.{Option}
 use Rattle.std.specs.declared.result.Result.{Result}
 use Rattle.std.specs.List.{AllByRecursion, slice_split}
 use Rattle.sat_act.specs.declared.act.Act.{Act}
-use Rattle.sat_act.specs.declared.act.Act.TheVariants as act
 use Rattle.sat_act.specs.Deployed.{Deployed}
 use Rattle.sat_act.specs.Ranges.{IsActOf}
 use Rattle.sat_act.specs.Built.{is_built_act}
+use Rattle.sat_script.specs.Causes.{is_live}
+use Rattle.sat_script.specs.Table.{form_of}
 use Rattle.sat_script.specs.Grammar.{line_at, close_at, after}
 use Rattle.sat_script.specs.State.{State, start, number_of}
 use Rattle.sat_script.specs.Words.{is_newline}
@@ -82,15 +83,7 @@ AreBuiltActs d acts = AllByRecursion (λ a. IsActOf d a × (is_built_act a ≡ t
 
 -- the acts of a script for nodes on threads
 abbrev pub is_live_act : Act → Bool
-is_live_act (act.Write c x value) = true
-is_live_act (act.Read c x) = true
-is_live_act (act.Move c j) = true
-is_live_act (act.Leave c) = true
-is_live_act (act.Attach c j) = true
-is_live_act (act.Close i) = true
-is_live_act (act.Fall j) = true
-is_live_act (act.Kill e z) = true
-is_live_act _ = false
+is_live_act a = is_live (form_of a)
 
 abbrev pub AreAllowed : Bool → List Act → Type 0
 AreAllowed live acts = AllByRecursion (λ a. (not live || is_live_act a) ≡ true) acts

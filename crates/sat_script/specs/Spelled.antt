@@ -1,14 +1,12 @@
 -- How scripts are spelled.
-use Rattle.std.specs.Prelude.{ℕ, ◌≡◌, ◌≤◌, true, List, [], ◌∷◌, ◌++◌, length, map, filter, Option, Some, None, codes, slice_get}
+use Rattle.std.specs.Prelude.{ℕ, ◌≡◌, ◌≤◌, true, List, [], ◌∷◌, ◌++◌, length, map, filter, codes}
 use Rattle.std.specs.List.{join_with_byte, AllByRecursion}
 use Rattle.std.specs.Fmt.{decimal}
 use Rattle.sat_label.specs.Words.{below, bit}
 use Rattle.sat_label.specs.Text.{is_name}
-use Rattle.sat_label.specs.declared.node.NodeId.{NodeId}
-use Rattle.sat_label.specs.declared.node.NodeId.TheVariants.{Site, Serializer}
 use Rattle.sat_label.specs.declared.site_set.SiteSet.{SiteSet}
+use Rattle.sat_tree.specs.PlanLine.{tree_words}
 use Rattle.sat_act.specs.declared.act.Act.{Act}
-use Rattle.sat_act.specs.declared.act.Act.TheVariants as act
 use Rattle.sat_act.specs.declared.deployment.Item.{Item}
 use Rattle.sat_act.specs.declared.deployment.ClientLine.{ClientLine}
 use Rattle.sat_act.specs.declared.deployment.Plan.{Plan}
@@ -17,16 +15,12 @@ use Rattle.sat_act.specs.Deployed.{Deployed}
 use Rattle.sat_act.specs.Limits.{IsDeployment}
 use Rattle.sat_act.specs.Built.{IsBuilt}
 use Rattle.sat_script.specs.Reading.{AreBuiltActs}
+use Rattle.sat_script.specs.Table.{act_words}
 use Rattle.sat_script.specs.declared.limits.TheConstants.{MOST_ACTS}
 
 -- words with one blank between them
 abbrev pub line_text : List (List ℕ) → List ℕ
 line_text words = join_with_byte 32 words
-
--- words with a blank before each
-abbrev pub spaced : List (List ℕ) → List ℕ
-spaced [] = []
-spaced (word ∷ words) = 32 ∷ (word ++ spaced words)
 
 -- a set of sites: their numbers, ascending, with commas between them
 unfoldable pub sites_text : SiteSet → List ℕ
@@ -36,22 +30,6 @@ sites_text set = join_with_byte 44 (map decimal (filter (bit set.bits) (below 64
 abbrev pub with_comma : List ℕ → List ℕ → List ℕ
 with_comma [] number = number
 with_comma (byte ∷ text) number = (byte ∷ text) ++ 44 ∷ number
-
--- the serializer that one hangs on
-abbrev pub parent_text : Option ℕ → List ℕ
-parent_text None = codes "-"
-parent_text (Some p) = decimal p
-
-abbrev pub node_text : NodeId → List ℕ
-node_text (Site i) = 115 ∷ decimal i
-node_text (Serializer z) = 122 ∷ decimal z
-
--- the name of a client or an item; none where the deployment has no such number
-abbrev pub client_name : Deployed → ℕ → List ℕ
-client_name d c = elim (slice_get d.clients c) [ None ↦ [] | Some line ↦ line.name ]
-
-abbrev pub item_name : Deployed → ℕ → List ℕ
-item_name d x = elim (slice_get d.items x) [ None ↦ [] | Some item ↦ item.name ]
 
 -- ---- the words of the header's lines
 
@@ -63,37 +41,7 @@ client_words line = codes "client" ∷ line.name ∷ decimal line.site ∷ []
 
 abbrev pub plan_words : Plan → List (List ℕ)
 plan_words plan.Stamp = codes "plan" ∷ codes "stamp" ∷ []
-plan_words (plan.Tree t) = codes "plan" ∷ codes "tree" ∷ (map parent_text t.parents ++ codes "/" ∷ map decimal t.seats)
-
--- ---- the words of an act's line
-
--- with a payload's number, or without one for the next payload
-abbrev pub bulk_words : ℕ → ℕ → ℕ → Option ℕ → List (List ℕ)
-bulk_words i g j None = codes "bulk" ∷ decimal i ∷ decimal g ∷ decimal j ∷ []
-bulk_words i g j (Some n) = codes "bulk" ∷ decimal i ∷ decimal g ∷ decimal j ∷ decimal n ∷ []
-
-unfoldable pub act_words : Deployed → Act → List (List ℕ)
-act_words d (act.Tick i g t) = codes "tick" ∷ decimal i ∷ decimal g ∷ decimal t ∷ []
-act_words d act.Clock = codes "clock" ∷ []
-act_words d (act.Write c x value) = codes "write" ∷ client_name d c ∷ item_name d x ∷ value ∷ []
-act_words d (act.Read c x) = codes "read" ∷ client_name d c ∷ item_name d x ∷ []
-act_words d (act.Move c j) = codes "move" ∷ client_name d c ∷ decimal j ∷ []
-act_words d (act.Leave c) = codes "leave" ∷ client_name d c ∷ []
-act_words d (act.Attach c j) = codes "attach" ∷ client_name d c ∷ decimal j ∷ []
-act_words d (act.Gather i) = codes "gather" ∷ decimal i ∷ []
-act_words d (act.Emit i) = codes "emit" ∷ decimal i ∷ []
-act_words d (act.Pulse i) = codes "pulse" ∷ decimal i ∷ []
-act_words d (act.Hop e u z) = codes "hop" ∷ decimal e ∷ node_text u ∷ node_text (Serializer z) ∷ []
-act_words d (act.Turn j) = codes "turn" ∷ decimal j ∷ []
-act_words d (act.Bulk i g j n) = bulk_words i g j n
-act_words d (act.Beat i j) = codes "beat" ∷ decimal i ∷ decimal j ∷ []
-act_words d (act.BeatIn i j n) = codes "beatin" ∷ decimal i ∷ decimal j ∷ decimal n ∷ []
-act_words d (act.Stamp j) = codes "stamp" ∷ decimal j ∷ []
-act_words d (act.Close i) = codes "close" ∷ decimal i ∷ []
-act_words d (act.Fall j) = codes "fall" ∷ decimal j ∷ []
-act_words d (act.Advance j) = codes "advance" ∷ decimal j ∷ []
-act_words d (act.Kill e z) = codes "kill" ∷ decimal e ∷ node_text (Serializer z) ∷ []
-act_words d act.Settle = codes "settle" ∷ []
+plan_words (plan.Tree t) = tree_words t
 
 -- ---- texts
 

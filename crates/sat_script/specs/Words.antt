@@ -1,17 +1,15 @@
--- The words of a line: its bytes, numbers, lists of sites, nodes and keywords.
-use Rattle.std.specs.Prelude.{ℕ, ◌^◌, List, [], ◌∷◌, Bool, true, false, not, ◌&&◌, ◌||◌, ◌==◌, nat_lt, nat_le, length, map, slice_index, bit_or, Some, None, if◌then◌else◌, codes}
+-- The words of a line: its bytes, numbers, lists of sites, and nodes.
+use Rattle.std.specs.Prelude.{ℕ, ◌^◌, List, [], ◌∷◌, Bool, true, false, not, ◌&&◌, ◌||◌, ◌==◌, nat_lt, nat_le, length, map, slice_index, bit_or, Some, None, if◌then◌else◌}
 use Rattle.std.specs.declared.option.Option.{Option}
 use Rattle.std.specs.Option.{option_map}
 use Rattle.std.specs.List.{slice_split, list_all}
-use Rattle.std.specs.Str.{bytes_eq, all_ascii_digits}
+use Rattle.std.specs.Str.{all_ascii_digits}
 use Rattle.std.specs.Str.Parse.{digits_value}
 use Rattle.sat_label.specs.Text.{is_between}
 use Rattle.sat_label.specs.declared.node.NodeId.{NodeId}
 use Rattle.sat_label.specs.declared.node.NodeId.TheVariants.{Site, Serializer}
 use Rattle.sat_label.specs.declared.site_set.SiteSet.{SiteSet}
 use Rattle.sat_tree.specs.Shape.{TreeShape}
-use Rattle.sat_script.specs.declared.form.Form.{Form}
-use Rattle.sat_script.specs.declared.form.Form.TheVariants as form
 
 abbrev pub is_newline : ℕ → Bool
 is_newline byte = byte == 10
@@ -117,30 +115,3 @@ unfolding number_below
 node_in t [] = None
 node_in t (byte ∷ number) =
     if byte == 115 then option_map Site (number_below (length t.seats) number) else option_map Serializer (number_below (length t.parents) number)
-
--- ---- keywords
-
--- the form of the acts that begin with this word; of `bulk` the one without a number
-unfoldable pub keyword_of : List ℕ → Option Form
-keyword_of word =
-    if bytes_eq word (codes "write") then Some form.Write else (
-    if bytes_eq word (codes "read") then Some form.Read else (
-    if bytes_eq word (codes "hop") then Some form.Hop else (
-    if bytes_eq word (codes "bulk") then Some form.Bulk else (
-    if bytes_eq word (codes "turn") then Some form.Turn else (
-    if bytes_eq word (codes "gather") then Some form.Gather else (
-    if bytes_eq word (codes "emit") then Some form.Emit else (
-    if bytes_eq word (codes "tick") then Some form.Tick else (
-    if bytes_eq word (codes "pulse") then Some form.Pulse else (
-    if bytes_eq word (codes "beat") then Some form.Beat else (
-    if bytes_eq word (codes "beatin") then Some form.BeatIn else (
-    if bytes_eq word (codes "stamp") then Some form.Stamp else (
-    if bytes_eq word (codes "move") then Some form.Move else (
-    if bytes_eq word (codes "leave") then Some form.Leave else (
-    if bytes_eq word (codes "attach") then Some form.Attach else (
-    if bytes_eq word (codes "clock") then Some form.Clock else (
-    if bytes_eq word (codes "close") then Some form.Close else (
-    if bytes_eq word (codes "fall") then Some form.Fall else (
-    if bytes_eq word (codes "advance") then Some form.Advance else (
-    if bytes_eq word (codes "kill") then Some form.Kill else (
-    if bytes_eq word (codes "settle") then Some form.Settle else None))))))))))))))))))))

@@ -1,399 +1,276 @@
 //! The lines after `begin`, by their words.
-ghost use Rattle.std.specs.Prelude.{◌≡◌, ◌≤◌, length, map, option_copied};
+ghost use Rattle.std.specs.Prelude.{◌≡◌, ◌≤◌, ◌+◌, ◌==◌, length, map, option_copied, IsTrue, Some, None, if◌then◌else◌};
+ghost use Rattle.std.specs.Option.{option_map};
+ghost use Rattle.sat_tree.specs.Cut.{IsNode};
 ghost use Rattle.sat_act.specs.Parts.{tree_of};
-ghost use Rattle.sat_script.specs.Grammar.{site_in, leave_line, read_line, client_site_in, beat_line, kill_in, kill_line, write_line, tick_line, hop_in, hop_line, bulk_line, beat_in_line, numbered_bulk_line, bare_line, act_of_none, act_of_one, act_of_two, act_of_three, act_of_four, act_form, act_line, is_end, body_line};
+ghost use Rattle.sat_script.specs.Causes.{bar};
+ghost use Rattle.sat_script.specs.Grammar.{is_end, body_line};
 ghost use Rattle.sat_script.specs.Lines.{Gives};
+ghost use Rattle.sat_script.specs.Said.{said_of, shape_of, SaysOn};
+ghost use Rattle.sat_script.specs.Table.{shape, shapes, known, all_known, says, all_say, has_node, joins, edge_cause, unfit, form_line, act_line};
+ghost use Rattle.sat_script.specs.Table.{place, num, at};
+ghost use Rattle.sat_script.specs.Words.{node_in, serializer_in};
 
 use crate::Cause;
-use crate::form::{Form, keyword_of};
+use crate::form::{Form, Kind, act_forms, found_form, kinds_of};
+use crate::header::Header;
 use crate::line::Parsed;
 use crate::nodes::{node_in, serializer_in};
 use crate::number::{is_number, number_below, number_to, number_up_to};
 use crate::place::Place;
-use crate::words::{is_name, is_node, is_serializer, is_token};
-use sat_act::{Act, Plan};
-use sat_label::{NodeId, TS_END, Value};
+use crate::said::{Args, Said, act_of};
+use crate::words::{is_node, is_serializer, is_token};
+use arrayvec::ArrayVec;
+use sat_act::Act;
+use sat_label::{NodeId, TS_END, spells_name, spells_value};
 use sat_tree::Tree;
 use std::alloc::Global;
 
-// The site of an act of one.
-#[tactic(auto, unfolding(crate::specs::Grammar::site_in))]
-fn site_in(place: &Place, form: Form, site: &[u8]) -> Result<u16, Cause>
-    ensures { result ≡ site_in place.now form site.now }
-{
-    if !is_number(site) {
-        return Err(Cause::BadAct);
-    }
-    place.admit(form)?;
-    number_below(place.header().sites(), site).ok_or(Cause::OutOfRange)
-}
+// ---- each word
 
-#[tactic(auto, unfolding(crate::specs::Grammar::leave_line))]
-fn leave_line(place: &Place, client: &[u8]) -> Result<Parsed, Cause>
-    ensures { Gives result (leave_line place.now client.now) }
+fn has_shape(kind: Kind, word: &[u8]) -> bool
+    ensures { result ≡ shape kind word.now }
 {
-    if !is_name(client) {
-        return Err(Cause::BadAct);
-    }
-    place.admit(Form::Leave)?;
-    let client = place.header().client_of(client).ok_or(Cause::UnknownName)?;
-    Ok(Parsed::Act(Act::Leave { client }))
-}
-
-#[tactic(auto, unfolding(crate::specs::Grammar::read_line))]
-fn read_line(place: &Place, client: &[u8], item: &[u8]) -> Result<Parsed, Cause>
-    ensures { Gives result (read_line place.now client.now item.now) }
-{
-    if !(is_name(client) && is_name(item)) {
-        return Err(Cause::BadAct);
-    }
-    place.admit(Form::Read)?;
-    let client = place.header().client_of(client).ok_or(Cause::UnknownName)?;
-    let item = place.header().item_of(item).ok_or(Cause::UnknownName)?;
-    Ok(Parsed::Act(Act::Read { client, item }))
-}
-
-// The client and the site of an act of both.
-#[tactic(auto, unfolding(crate::specs::Grammar::client_site_in))]
-fn client_site_in(
-    place: &Place,
-    form: Form,
-    client: &[u8],
-    site: &[u8],
-) -> Result<(u16, u16), Cause>
-    ensures { result ≡ client_site_in place.now form client.now site.now }
-{
-    if !(is_name(client) && is_number(site)) {
-        return Err(Cause::BadAct);
-    }
-    place.admit(form)?;
-    let client = place.header().client_of(client).ok_or(Cause::UnknownName)?;
-    let site = number_below(place.header().sites(), site).ok_or(Cause::OutOfRange)?;
-    Ok((client, site))
-}
-
-#[tactic(auto, unfolding(crate::specs::Grammar::beat_line))]
-fn beat_line(place: &Place, from: &[u8], to: &[u8]) -> Result<Parsed, Cause>
-    ensures { Gives result (beat_line place.now from.now to.now) }
-{
-    if !(is_number(from) && is_number(to)) {
-        return Err(Cause::BadAct);
-    }
-    place.admit(Form::Beat)?;
-    let from = number_below(place.header().sites(), from).ok_or(Cause::OutOfRange)?;
-    let to = number_below(place.header().sites(), to).ok_or(Cause::OutOfRange)?;
-    if from == to {
-        return Err(Cause::OutOfRange);
-    }
-    Ok(Parsed::Act(Act::Beat { from, to }))
-}
-
-// The tree of an epoch, where it has one.
-#[tactic(auto, unfolding(sat_act::specs::Parts::tree_of))]
-fn tree_at(place: &Place, epoch: u16) -> Option<&Tree>
-    requires { (1 ≤ epoch) × (epoch ≤ length place.now.header.plans) }
-    ensures { option_copied result ≡ tree_of place.now.header epoch }
-{
-    match place.header().plan(epoch) {
-        Plan::Stamp => None,
-        Plan::Tree(tree) => Some(tree),
+    match kind {
+        Kind::Client => spells_name(word),
+        Kind::Item => spells_name(word),
+        Kind::Value => is_token(word),
+        Kind::Node => is_node(word),
+        Kind::Serializer => is_serializer(word),
+        _ => is_number(word),
     }
 }
 
-#[tactic(auto, unfolding(crate::specs::Grammar::kill_in))]
-fn kill_in(tree: Option<&Tree>, epoch: u16, serializer: &[u8]) -> Result<Parsed, Cause>
-    ensures { Gives result (kill_in (option_copied tree.entry) epoch serializer.now) }
+fn is_known(header: &Header, kind: Kind, word: &[u8]) -> bool
+    ensures { result ≡ known header.now kind word.now }
 {
-    let tree = tree.ok_or(Cause::NoEdge)?;
-    let serializer = serializer_in(tree, serializer).ok_or(Cause::OutOfRange)?;
-    Ok(Parsed::Act(Act::Kill { epoch, serializer }))
-}
-
-#[tactic(auto, unfolding(crate::specs::Grammar::kill_line))]
-fn kill_line(place: &Place, epoch: &[u8], serializer: &[u8]) -> Result<Parsed, Cause>
-    ensures { Gives result (kill_line place.now epoch.now serializer.now) }
-{
-    if !(is_number(epoch) && is_serializer(serializer)) {
-        return Err(Cause::BadAct);
-    }
-    place.admit(Form::Kill)?;
-    let epoch = number_to(place.header().plans(), epoch).ok_or(Cause::OutOfRange)?;
-    kill_in(tree_at(place, epoch), epoch, serializer)
-}
-
-#[tactic(auto, unfolding(crate::specs::Grammar::write_line))]
-fn write_line(
-    alloc: Global,
-    place: &Place,
-    client: &[u8],
-    item: &[u8],
-    value: &[u8],
-) -> Result<Parsed, Cause>
-    ensures { Gives result (write_line place.now client.now item.now value.now) }
-{
-    if !(is_name(client) && is_name(item) && is_token(value)) {
-        return Err(Cause::BadAct);
-    }
-    place.admit(Form::Write)?;
-    let client = place.header().client_of(client).ok_or(Cause::UnknownName)?;
-    let item = place.header().item_of(item).ok_or(Cause::UnknownName)?;
-    match Value::of(alloc, value) {
-        Ok(Some(value)) => Ok(Parsed::Act(Act::Write {
-            client,
-            item,
-            value,
-        })),
-        Ok(None) => Err(Cause::OutOfRange),
-        Err(_) => Err(Cause::Memory),
+    match kind {
+        Kind::Client => header.client_of(word).is_some(),
+        Kind::Item => header.item_of(word).is_some(),
+        _ => true,
     }
 }
 
-#[tactic(auto, unfolding(crate::specs::Grammar::tick_line))]
-fn tick_line(place: &Place, site: &[u8], gear: &[u8], ts: &[u8]) -> Result<Parsed, Cause>
-    ensures { Gives result (tick_line place.now site.now gear.now ts.now) }
+fn place_of<'a>(number: Option<u16>) -> Option<Said<'a>>
+    ensures { option_map said_of result ≡ option_map place number }
 {
-    if !(is_number(site) && is_number(gear) && is_number(ts)) {
-        return Err(Cause::BadAct);
-    }
-    place.admit(Form::Tick)?;
-    let site = number_below(place.header().sites(), site).ok_or(Cause::OutOfRange)?;
-    let gear = number_below(place.header().gears(), gear).ok_or(Cause::OutOfRange)?;
-    let ts = number_up_to(TS_END, ts).ok_or(Cause::OutOfRange)?;
-    Ok(Parsed::Act(Act::Tick { site, gear, ts }))
-}
-
-#[tactic(auto, unfolding(crate::specs::Grammar::hop_in))]
-fn hop_in(tree: Option<&Tree>, epoch: u16, from: &[u8], to: &[u8]) -> Result<Parsed, Cause>
-    ensures { Gives result (hop_in (option_copied tree.entry) epoch from.now to.now) }
-{
-    let tree = tree.ok_or(Cause::NoEdge)?;
-    let from = node_in(tree, from).ok_or(Cause::OutOfRange)?;
-    let to = serializer_in(tree, to).ok_or(Cause::OutOfRange)?;
-    if !tree.is_edge(from, NodeId::Serializer(to)) {
-        return Err(Cause::NoEdge);
-    }
-    Ok(Parsed::Act(Act::Hop { epoch, from, to }))
-}
-
-#[tactic(auto, unfolding(crate::specs::Grammar::hop_line))]
-fn hop_line(place: &Place, epoch: &[u8], from: &[u8], to: &[u8]) -> Result<Parsed, Cause>
-    ensures { Gives result (hop_line place.now epoch.now from.now to.now) }
-{
-    if !(is_number(epoch) && is_node(from) && is_serializer(to)) {
-        return Err(Cause::BadAct);
-    }
-    place.admit(Form::Hop)?;
-    let epoch = number_to(place.header().plans(), epoch).ok_or(Cause::OutOfRange)?;
-    hop_in(tree_at(place, epoch), epoch, from, to)
-}
-
-#[tactic(auto, unfolding(crate::specs::Grammar::bulk_line))]
-fn bulk_line(place: &Place, from: &[u8], gear: &[u8], to: &[u8]) -> Result<Parsed, Cause>
-    ensures { Gives result (bulk_line place.now from.now gear.now to.now) }
-{
-    if !(is_number(from) && is_number(gear) && is_number(to)) {
-        return Err(Cause::BadAct);
-    }
-    place.admit(Form::Bulk)?;
-    let from = number_below(place.header().sites(), from).ok_or(Cause::OutOfRange)?;
-    let gear = number_below(place.header().gears(), gear).ok_or(Cause::OutOfRange)?;
-    let to = number_below(place.header().sites(), to).ok_or(Cause::OutOfRange)?;
-    if from == to {
-        return Err(Cause::OutOfRange);
-    }
-    Ok(Parsed::Act(Act::Bulk {
-        from,
-        gear,
-        to,
-        number: None,
-    }))
-}
-
-#[tactic(auto, unfolding(crate::specs::Grammar::beat_in_line))]
-fn beat_in_line(place: &Place, from: &[u8], to: &[u8], number: &[u8]) -> Result<Parsed, Cause>
-    ensures { Gives result (beat_in_line place.now from.now to.now number.now) }
-{
-    if !(is_number(from) && is_number(to) && is_number(number)) {
-        return Err(Cause::BadAct);
-    }
-    place.admit(Form::BeatIn)?;
-    let from = number_below(place.header().sites(), from).ok_or(Cause::OutOfRange)?;
-    let to = number_below(place.header().sites(), to).ok_or(Cause::OutOfRange)?;
-    let number = number_up_to(u64::MAX, number).ok_or(Cause::OutOfRange)?;
-    if from == to {
-        return Err(Cause::OutOfRange);
-    }
-    Ok(Parsed::Act(Act::BeatIn { from, to, number }))
-}
-
-#[tactic(auto, unfolding(crate::specs::Grammar::numbered_bulk_line))]
-fn numbered_bulk_line(
-    place: &Place,
-    from: &[u8],
-    gear: &[u8],
-    to: &[u8],
-    number: &[u8],
-) -> Result<Parsed, Cause>
-    ensures { Gives result (numbered_bulk_line place.now from.now gear.now to.now number.now) }
-{
-    if !((is_number(from) && is_number(gear)) && (is_number(to) && is_number(number))) {
-        return Err(Cause::BadAct);
-    }
-    place.admit(Form::NumberedBulk)?;
-    let from = number_below(place.header().sites(), from).ok_or(Cause::OutOfRange)?;
-    let gear = number_below(place.header().gears(), gear).ok_or(Cause::OutOfRange)?;
-    let to = number_below(place.header().sites(), to).ok_or(Cause::OutOfRange)?;
-    let number = number_up_to(u64::MAX, number).ok_or(Cause::OutOfRange)?;
-    if from == to {
-        return Err(Cause::OutOfRange);
-    }
-    Ok(Parsed::Act(Act::Bulk {
-        from,
-        gear,
-        to,
-        number: Some(number),
-    }))
-}
-
-// An act that its first word says.
-#[tactic(auto, unfolding(crate::specs::Grammar::bare_line))]
-fn bare_line(place: &Place, form: Form, act: Act) -> Result<Parsed, Cause>
-    ensures { Gives result (bare_line place.now form act) }
-{
-    place.admit(form)?;
-    Ok(Parsed::Act(act))
-}
-
-#[tactic(auto, unfolding(crate::specs::Grammar::act_of_none))]
-fn act_of_none(place: &Place, form: Option<Form>) -> Result<Parsed, Cause>
-    ensures { Gives result (act_of_none place.now form) }
-{
-    match form {
-        Some(Form::Clock) => bare_line(place, Form::Clock, Act::Clock),
-        Some(Form::Settle) => bare_line(place, Form::Settle, Act::Settle),
-        _ => Err(Cause::BadAct),
+    match number {
+        Some(number) => Some(Said::Place(number)),
+        None => None,
     }
 }
 
-#[tactic(auto, unfolding(crate::specs::Grammar::act_of_one))]
-fn act_of_one(place: &Place, form: Option<Form>, a: &[u8]) -> Result<Parsed, Cause>
-    ensures { Gives result (act_of_one place.now form a.now) }
+fn num_of<'a>(number: Option<u64>) -> Option<Said<'a>>
+    ensures { option_map said_of result ≡ option_map num number }
 {
-    match form {
-        Some(Form::Leave) => leave_line(place, a),
-        Some(Form::Gather) => Ok(Parsed::Act(Act::Gather {
-            site: site_in(place, Form::Gather, a)?,
-        })),
-        Some(Form::Emit) => Ok(Parsed::Act(Act::Emit {
-            site: site_in(place, Form::Emit, a)?,
-        })),
-        Some(Form::Pulse) => Ok(Parsed::Act(Act::Pulse {
-            site: site_in(place, Form::Pulse, a)?,
-        })),
-        Some(Form::Turn) => Ok(Parsed::Act(Act::Turn {
-            site: site_in(place, Form::Turn, a)?,
-        })),
-        Some(Form::Stamp) => Ok(Parsed::Act(Act::Stamp {
-            site: site_in(place, Form::Stamp, a)?,
-        })),
-        Some(Form::Close) => Ok(Parsed::Act(Act::Close {
-            site: site_in(place, Form::Close, a)?,
-        })),
-        Some(Form::Fall) => Ok(Parsed::Act(Act::Fall {
-            site: site_in(place, Form::Fall, a)?,
-        })),
-        Some(Form::Advance) => Ok(Parsed::Act(Act::Advance {
-            site: site_in(place, Form::Advance, a)?,
-        })),
-        _ => Err(Cause::BadAct),
+    match number {
+        Some(number) => Some(Said::Number(number)),
+        None => None,
     }
 }
 
-#[tactic(auto, unfolding(crate::specs::Grammar::act_of_two))]
-fn act_of_two(place: &Place, form: Option<Form>, a: &[u8], b: &[u8]) -> Result<Parsed, Cause>
-    ensures { Gives result (act_of_two place.now form a.now b.now) }
+#[tactic(auto, using(crate::proofs::NoTree::no_node))]
+fn node_of<'a>(tree: Option<&Tree>, word: &[u8]) -> Option<Said<'a>>
+    ensures { option_map said_of result ≡ option_map at (node_in (shape_of (option_copied tree.entry)) word.now) }
 {
-    match form {
-        Some(Form::Read) => read_line(place, a, b),
-        Some(Form::Move) => {
-            let (client, site) = client_site_in(place, Form::Move, a, b)?;
-            Ok(Parsed::Act(Act::Move { client, site }))
+    match tree {
+        Some(tree) => match node_in(tree, word) {
+            Some(node) => Some(Said::Node(node)),
+            None => None,
+        },
+        None => None,
+    }
+}
+
+#[tactic(auto, using(crate::proofs::NoTree::no_serializer))]
+fn serializer_of<'a>(tree: Option<&Tree>, word: &[u8]) -> Option<Said<'a>>
+    ensures { option_map said_of result ≡ option_map place (serializer_in (shape_of (option_copied tree.entry)) word.now) }
+{
+    match tree {
+        Some(tree) => place_of(serializer_in(tree, word)),
+        None => None,
+    }
+}
+
+// What a word says; a node stands in the tree of the epoch before it.
+fn says<'a>(header: &Header, tree: Option<&Tree>, kind: Kind, word: &'a [u8]) -> Option<Said<'a>>
+    ensures { option_map said_of result ≡ says header.now (shape_of (option_copied tree.entry)) kind word.now }
+{
+    match kind {
+        Kind::Client => place_of(header.client_of(word)),
+        Kind::Item => place_of(header.item_of(word)),
+        Kind::Value => {
+            if spells_value(word) {
+                Some(Said::Bytes(word))
+            } else {
+                None
+            }
         }
-        Some(Form::Attach) => {
-            let (client, site) = client_site_in(place, Form::Attach, a, b)?;
-            Ok(Parsed::Act(Act::Attach { client, site }))
+        Kind::Site => place_of(number_below(header.sites(), word)),
+        Kind::Gear => place_of(number_below(header.gears(), word)),
+        Kind::Ts => num_of(number_up_to(TS_END, word)),
+        Kind::Count => num_of(number_up_to(u64::MAX, word)),
+        Kind::Epoch => place_of(number_to(header.plans(), word)),
+        Kind::Node => node_of(tree, word),
+        Kind::Serializer => serializer_of(tree, word),
+    }
+}
+
+// ---- the words of a line
+
+fn shapes(kinds: &[Kind], words: &[&[u8]]) -> bool
+    ensures { result ≡ shapes kinds.now (map (λ word. word.now) words.now) }
+{
+    let Some((kind, kinds)) = kinds.split_first() else {
+        return words.is_empty();
+    };
+    let Some((word, words)) = words.split_first() else {
+        return false;
+    };
+    has_shape(*kind, word) && shapes(kinds, words)
+}
+
+fn all_known(header: &Header, kinds: &[Kind], words: &[&[u8]]) -> bool
+    ensures { result ≡ all_known header.now kinds.now (map (λ word. word.now) words.now) }
+{
+    let Some((kind, kinds)) = kinds.split_first() else {
+        return true;
+    };
+    let Some((word, words)) = words.split_first() else {
+        return true;
+    };
+    is_known(header, *kind, word) && all_known(header, kinds, words)
+}
+
+// The words in turn, added to what was said; an epoch says in which tree the nodes after it stand.
+fn all_say<'a>(
+    header: &Header,
+    tree: Option<&Tree>,
+    kinds: &[Kind],
+    words: &[&'a [u8]],
+    said: &mut Args<'a>,
+) -> Result<(), Cause>
+    requires { length said.old.items + length kinds.now ≤ 4 }
+    ensures { SaysOn result said.old.items said.new.items (all_say header.now (shape_of (option_copied tree.entry)) kinds.now (map (λ word. word.now) words.now)) }
+{
+    let Some((kind, kinds)) = kinds.split_first() else {
+        return Ok(());
+    };
+    let Some((word, words)) = words.split_first() else {
+        return Ok(());
+    };
+    let Some(one) = says(header, tree, *kind, word) else {
+        return Err(Cause::OutOfRange);
+    };
+    said.push(one);
+    match (*kind, one) {
+        (Kind::Epoch, Said::Place(epoch)) => {
+            let Some(tree) = header.tree(epoch) else {
+                return Err(Cause::NoEdge);
+            };
+            all_say(header, Some(tree), kinds, words, said)
         }
-        Some(Form::Beat) => beat_line(place, a, b),
-        Some(Form::Kill) => kill_line(place, a, b),
-        _ => Err(Cause::BadAct),
+        _ => all_say(header, tree, kinds, words, said),
     }
 }
 
-#[tactic(auto, unfolding(crate::specs::Grammar::act_of_three))]
-fn act_of_three(
-    alloc: Global,
-    place: &Place,
-    form: Option<Form>,
-    a: &[u8],
-    b: &[u8],
-    c: &[u8],
-) -> Result<Parsed, Cause>
-    ensures { Gives result (act_of_three place.now form a.now b.now c.now) }
+// ---- acts
+
+fn has_node(tree: &Tree, node: NodeId) -> bool
+    ensures test { result ≡ has_node tree.now node }
+    ensures inside { IsTrue result → IsNode tree.now node }
 {
-    match form {
-        Some(Form::Write) => write_line(alloc, place, a, b, c),
-        Some(Form::Tick) => tick_line(place, a, b, c),
-        Some(Form::Hop) => hop_line(place, a, b, c),
-        Some(Form::Bulk) => bulk_line(place, a, b, c),
-        Some(Form::BeatIn) => beat_in_line(place, a, b, c),
-        _ => Err(Cause::BadAct),
+    match node {
+        NodeId::Site(site) => site < tree.sites(),
+        NodeId::Serializer(serializer) => serializer < tree.serializers(),
     }
 }
 
-#[tactic(auto, unfolding(crate::specs::Grammar::act_of_four))]
-fn act_of_four(
-    place: &Place,
-    form: Option<Form>,
-    a: &[u8],
-    b: &[u8],
-    c: &[u8],
-    d: &[u8],
-) -> Result<Parsed, Cause>
-    ensures { Gives result (act_of_four place.now form a.now b.now c.now d.now) }
+fn joins(tree: &Tree, from: NodeId, to: u16) -> bool
+    ensures { result ≡ joins tree.now from to }
 {
-    match form {
-        Some(Form::Bulk) => numbered_bulk_line(place, a, b, c, d),
-        _ => Err(Cause::BadAct),
+    let to = NodeId::Serializer(to);
+    if !has_node(tree, from) {
+        return false;
+    }
+    if !has_node(tree, to) {
+        return false;
+    }
+    tree.is_edge(from, to)
+}
+
+fn edge_cause(tree: Option<&Tree>, from: NodeId, to: u16) -> Option<Cause>
+    ensures { result ≡ edge_cause (option_copied tree.entry) from to }
+{
+    match tree {
+        None => Some(Cause::NoEdge),
+        Some(tree) => {
+            if joins(tree, from, to) {
+                None
+            } else {
+                Some(Cause::NoEdge)
+            }
+        }
     }
 }
 
-#[tactic(auto, unfolding(crate::specs::Grammar::act_form))]
-fn act_form(
-    alloc: Global,
-    place: &Place,
-    form: Option<Form>,
-    words: &[&[u8]],
-) -> Result<Parsed, Cause>
-    ensures { Gives result (act_form place.now form (map (λ word. word.now) words.now)) }
+fn pair_cause(from: u16, to: u16) -> Option<Cause>
+    ensures { result ≡ (if from == to then Some Cause.OutOfRange else None) }
 {
-    match words {
-        [] => act_of_none(place, form),
-        [a] => act_of_one(place, form, a),
-        [a, b] => act_of_two(place, form, a, b),
-        [a, b, c] => act_of_three(alloc, place, form, a, b, c),
-        [a, b, c, d] => act_of_four(place, form, a, b, c, d),
-        _ => Err(Cause::BadAct),
+    if from == to {
+        Some(Cause::OutOfRange)
+    } else {
+        None
     }
 }
 
-#[tactic(auto, unfolding(crate::specs::Grammar::act_line))]
-fn act_line(alloc: Global, place: &Place, words: &[&[u8]]) -> Result<Parsed, Cause>
-    ensures { Gives result (act_line place.now (map (λ word. word.now) words.now)) }
+// Two sites that are one, or two nodes that are no edge.
+fn unfit(header: &Header, act: &Act) -> Option<Cause>
+    ensures { result ≡ unfit header.now act.now }
 {
-    match words {
-        [] => Err(Cause::BadAct),
-        [word, words @ ..] => act_form(alloc, place, keyword_of(word), words),
+    match act {
+        Act::Bulk { from, to, .. } => pair_cause(*from, *to),
+        Act::Beat { from, to } => pair_cause(*from, *to),
+        Act::BeatIn { from, to, .. } => pair_cause(*from, *to),
+        Act::Hop { epoch, from, to } => edge_cause(header.tree(*epoch), *from, *to),
+        _ => None,
     }
+}
+
+// ---- a line
+
+#[tactic(auto, unfolding(crate::specs::Table::form_line))]
+fn form_line(alloc: Global, place: &Place, form: Form, words: &[&[u8]]) -> Result<Act, Cause>
+    ensures { Gives result (form_line (bar place.now) place.now.header form (map (λ word. word.now) words.now)) }
+{
+    let kinds = kinds_of(form);
+    if !shapes(kinds, words) {
+        return Err(Cause::BadAct);
+    }
+    place.admit(form)?;
+    if !all_known(place.header(), kinds, words) {
+        return Err(Cause::UnknownName);
+    }
+    let mut said = ArrayVec::new();
+    all_say(place.header(), None, kinds, words, &mut said)?;
+    let act = act_of(alloc, form, said.as_slice())?;
+    match unfit(place.header(), &act) {
+        Some(cause) => Err(cause),
+        None => Ok(act),
+    }
+}
+
+#[tactic(auto, unfolding(crate::specs::Table::act_line))]
+fn act_line(alloc: Global, place: &Place, words: &[&[u8]]) -> Result<Act, Cause>
+    ensures { Gives result (act_line (bar place.now) place.now.header (map (λ word. word.now) words.now)) }
+{
+    let Some((word, words)) = words.split_first() else {
+        return Err(Cause::BadAct);
+    };
+    let Some(form) = found_form(word, words.len(), act_forms()) else {
+        return Err(Cause::BadAct);
+    };
+    form_line(alloc, place, form, words)
 }
 
 fn is_end(words: &[&[u8]]) -> bool
@@ -413,5 +290,8 @@ pub fn body_line(alloc: Global, place: &Place, words: &[&[u8]]) -> Result<Parsed
     if is_end(words) {
         return Ok(Parsed::End);
     }
-    act_line(alloc, place, words)
+    match act_line(alloc, place, words) {
+        Ok(act) => Ok(Parsed::Act(act)),
+        Err(cause) => Err(cause),
+    }
 }

@@ -1,7 +1,7 @@
-//! The forms of lines.
-ghost use Rattle.std.specs.Prelude.{◌≡◌};
-ghost use Rattle.sat_script.specs.Words.{keyword_of};
-ghost use Rattle.sat_script.specs.Grammar.{is_live};
+//! The forms of lines, and the table of the acts: the word that an act begins with, and the kinds of the words after it.
+ghost use Rattle.std.specs.Prelude.{◌≡◌, ◌≤◌, length};
+ghost use Rattle.sat_script.specs.Causes.{is_live};
+ghost use Rattle.sat_script.specs.Table.{word_of, kinds_of, act_forms, found_form};
 
 /// The form of a line whose number is limited, or that may not be built yet: of the header's lines those that come any number of
 /// times, and each act.
@@ -41,79 +41,127 @@ pub enum Form {
     Settle,
 }
 
-/// The form of the acts that begin with a word, if there is one; of `bulk` the one without a number.
-#[tactic(auto, unfolding(crate::specs::Words::keyword_of))]
-pub fn keyword_of(word: &[u8]) -> Option<Form>
-    ensures { result ≡ keyword_of word.now }
+/// What a word of an act's line stands for.
+#[derive(Clone, Copy, Debug, PartialEq, Eq)]
+pub enum Kind {
+    Client,
+    Item,
+    Value,
+    Site,
+    Gear,
+    Ts,
+    Count,
+    Epoch,
+    Node,
+    Serializer,
+}
+
+/// The word that the acts of a form begin with.
+pub fn word_of(form: Form) -> &'static [u8]
+    ensures { result.now ≡ word_of form }
 {
-    if word == b"write".as_slice() {
-        return Some(Form::Write);
+    match form {
+        Form::Tick => b"tick".as_slice(),
+        Form::Clock => b"clock".as_slice(),
+        Form::Write => b"write".as_slice(),
+        Form::Read => b"read".as_slice(),
+        Form::Move => b"move".as_slice(),
+        Form::Leave => b"leave".as_slice(),
+        Form::Attach => b"attach".as_slice(),
+        Form::Gather => b"gather".as_slice(),
+        Form::Emit => b"emit".as_slice(),
+        Form::Pulse => b"pulse".as_slice(),
+        Form::Hop => b"hop".as_slice(),
+        Form::Turn => b"turn".as_slice(),
+        Form::Bulk => b"bulk".as_slice(),
+        Form::NumberedBulk => b"bulk".as_slice(),
+        Form::Beat => b"beat".as_slice(),
+        Form::BeatIn => b"beatin".as_slice(),
+        Form::Stamp => b"stamp".as_slice(),
+        Form::Close => b"close".as_slice(),
+        Form::Fall => b"fall".as_slice(),
+        Form::Advance => b"advance".as_slice(),
+        Form::Kill => b"kill".as_slice(),
+        Form::Settle => b"settle".as_slice(),
+        _ => b"".as_slice(),
     }
-    if word == b"read".as_slice() {
-        return Some(Form::Read);
+}
+
+/// The kinds of the words after it.
+pub fn kinds_of(form: Form) -> &'static [Kind]
+    ensures kinds { result.now ≡ kinds_of form }
+    ensures few { length result.now ≤ 4 }
+{
+    match form {
+        Form::Tick => &[Kind::Site, Kind::Gear, Kind::Ts],
+        Form::Write => &[Kind::Client, Kind::Item, Kind::Value],
+        Form::Read => &[Kind::Client, Kind::Item],
+        Form::Move => &[Kind::Client, Kind::Site],
+        Form::Leave => &[Kind::Client],
+        Form::Attach => &[Kind::Client, Kind::Site],
+        Form::Gather => &[Kind::Site],
+        Form::Emit => &[Kind::Site],
+        Form::Pulse => &[Kind::Site],
+        Form::Hop => &[Kind::Epoch, Kind::Node, Kind::Serializer],
+        Form::Turn => &[Kind::Site],
+        Form::Bulk => &[Kind::Site, Kind::Gear, Kind::Site],
+        Form::NumberedBulk => &[Kind::Site, Kind::Gear, Kind::Site, Kind::Count],
+        Form::Beat => &[Kind::Site, Kind::Site],
+        Form::BeatIn => &[Kind::Site, Kind::Site, Kind::Count],
+        Form::Stamp => &[Kind::Site],
+        Form::Close => &[Kind::Site],
+        Form::Fall => &[Kind::Site],
+        Form::Advance => &[Kind::Site],
+        Form::Kill => &[Kind::Epoch, Kind::Serializer],
+        _ => &[],
     }
-    if word == b"hop".as_slice() {
-        return Some(Form::Hop);
+}
+
+/// The forms of acts.
+pub fn act_forms() -> &'static [Form]
+    ensures { result.now ≡ act_forms }
+{
+    &[
+        Form::Write,
+        Form::Read,
+        Form::Hop,
+        Form::Bulk,
+        Form::NumberedBulk,
+        Form::Turn,
+        Form::Gather,
+        Form::Emit,
+        Form::Tick,
+        Form::Pulse,
+        Form::Beat,
+        Form::BeatIn,
+        Form::Stamp,
+        Form::Move,
+        Form::Leave,
+        Form::Attach,
+        Form::Clock,
+        Form::Close,
+        Form::Fall,
+        Form::Advance,
+        Form::Kill,
+        Form::Settle,
+    ]
+}
+
+/// The form of the acts that begin with a word and have so many more, if there is one among these.
+pub fn found_form(word: &[u8], count: usize, forms: &[Form]) -> Option<Form>
+    ensures { result ≡ found_form word.now count forms.now }
+{
+    let Some((form, forms)) = forms.split_first() else {
+        return None;
+    };
+    if word == word_of(*form) && kinds_of(*form).len() == count {
+        return Some(*form);
     }
-    if word == b"bulk".as_slice() {
-        return Some(Form::Bulk);
-    }
-    if word == b"turn".as_slice() {
-        return Some(Form::Turn);
-    }
-    if word == b"gather".as_slice() {
-        return Some(Form::Gather);
-    }
-    if word == b"emit".as_slice() {
-        return Some(Form::Emit);
-    }
-    if word == b"tick".as_slice() {
-        return Some(Form::Tick);
-    }
-    if word == b"pulse".as_slice() {
-        return Some(Form::Pulse);
-    }
-    if word == b"beat".as_slice() {
-        return Some(Form::Beat);
-    }
-    if word == b"beatin".as_slice() {
-        return Some(Form::BeatIn);
-    }
-    if word == b"stamp".as_slice() {
-        return Some(Form::Stamp);
-    }
-    if word == b"move".as_slice() {
-        return Some(Form::Move);
-    }
-    if word == b"leave".as_slice() {
-        return Some(Form::Leave);
-    }
-    if word == b"attach".as_slice() {
-        return Some(Form::Attach);
-    }
-    if word == b"clock".as_slice() {
-        return Some(Form::Clock);
-    }
-    if word == b"close".as_slice() {
-        return Some(Form::Close);
-    }
-    if word == b"fall".as_slice() {
-        return Some(Form::Fall);
-    }
-    if word == b"advance".as_slice() {
-        return Some(Form::Advance);
-    }
-    if word == b"kill".as_slice() {
-        return Some(Form::Kill);
-    }
-    if word == b"settle".as_slice() {
-        return Some(Form::Settle);
-    }
-    None
+    found_form(word, count, forms)
 }
 
 /// Whether a script for nodes on threads may have lines of a form.
-#[tactic(auto, unfolding(crate::specs::Grammar::is_live))]
+#[tactic(auto, unfolding(crate::specs::Causes::is_live))]
 pub fn is_live(form: Form) -> bool
     ensures { result ≡ is_live form }
 {

@@ -1,12 +1,14 @@
 //! A header as far as it has come.
-ghost use Rattle.std.specs.Prelude.{◌≡◌, ◌≤◌, ◌<◌, ◌++◌, [], ◌∷◌, false, length, slice_get, Some, ◌-◌, IfOk, IfSome, OnOk, OnErr, None};
+ghost use Rattle.std.specs.Prelude.{◌≡◌, ◌≤◌, ◌<◌, ◌++◌, [], ◌∷◌, false, length, option_copied, IfOk, IfSome, OnOk, OnErr, None};
 ghost use Rattle.sat_act.specs.Flaw.{flaw};
+ghost use Rattle.sat_act.specs.Parts.{tree_of};
 ghost use Rattle.sat_script.specs.State.{no_header, header_lines};
-ghost use Rattle.sat_script.specs.Grammar.{client_of, item_of, has_client, has_item};
+ghost use Rattle.sat_script.specs.Causes.{client_of, item_of, has_client, has_item};
 
 use crate::limits::{MOST_CLIENTS, MOST_ITEMS, MOST_PLANS};
 use crate::names::Names;
 use sat_act::{ClientLine, Deployment, DeploymentFault, Item, Plan};
+use sat_tree::Tree;
 use std::alloc::{AllocError, Global};
 use std::marker::Model;
 
@@ -127,16 +129,23 @@ impl Header {
         self.items.len() as u64 + self.clients.len() as u64 + self.plans.len() as u64
     }
 
-    /// The plan of an epoch, from 1.
-    pub fn plan(&self, epoch: u16) -> &Plan
-        requires { (1 ≤ epoch) × (epoch ≤ length self.now.plans) }
-        ensures { Some result.now ≡ slice_get self.now.plans (epoch - 1) }
+    /// The tree of an epoch, from 1, where it has one.
+    #[tactic(auto, unfolding(sat_act::specs::Parts::tree_of))]
+    pub fn tree(&self, epoch: u16) -> Option<&Tree>
+        ensures { option_copied result ≡ tree_of self.now epoch }
     {
-        &self.plans[epoch as usize - 1]
+        if epoch == 0 {
+            return None;
+        }
+        match self.plans.get(usize::from(epoch - 1)) {
+            Some(Plan::Tree(tree)) => Some(tree),
+            Some(Plan::Stamp) => None,
+            None => None,
+        }
     }
 
     /// The number of the client with a name.
-    #[tactic(auto, unfolding(crate::specs::Grammar::client_of))]
+    #[tactic(auto, unfolding(crate::specs::Causes::client_of))]
     pub fn client_of(&self, name: &[u8]) -> Option<u16>
         ensures { result ≡ client_of self.now name.now }
     {
@@ -147,7 +156,7 @@ impl Header {
     }
 
     /// The number of the item with a name.
-    #[tactic(auto, unfolding(crate::specs::Grammar::item_of))]
+    #[tactic(auto, unfolding(crate::specs::Causes::item_of))]
     pub fn item_of(&self, name: &[u8]) -> Option<u16>
         ensures { result ≡ item_of self.now name.now }
     {
@@ -158,7 +167,7 @@ impl Header {
     }
 
     /// Whether a client has this name.
-    #[tactic(auto, unfolding(crate::specs::Grammar::has_client))]
+    #[tactic(auto, unfolding(crate::specs::Causes::has_client))]
     pub fn has_client(&self, name: &[u8]) -> bool
         ensures { result ≡ has_client self.now name.now }
     {
@@ -166,7 +175,7 @@ impl Header {
     }
 
     /// Whether an item has this name.
-    #[tactic(auto, unfolding(crate::specs::Grammar::has_item))]
+    #[tactic(auto, unfolding(crate::specs::Causes::has_item))]
     pub fn has_item(&self, name: &[u8]) -> bool
         ensures { result ≡ has_item self.now name.now }
     {

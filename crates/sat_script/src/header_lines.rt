@@ -13,9 +13,9 @@ use crate::line::Parsed;
 use crate::list::{is_rising, numbers_below, parts_of, set_of};
 use crate::number::{is_number, number_below, number_to};
 use crate::place::Place;
-use crate::words::{are_numbers, is_name};
+use crate::words::are_numbers;
 use sat_act::{ClientLine, Item, Plan};
-use sat_label::{Name, SiteSet};
+use sat_label::{Name, SiteSet, spells_name};
 use sat_tree::{Tree, TreeFault};
 use std::alloc::{AllocError, Global};
 
@@ -113,7 +113,7 @@ fn item_line(alloc: Global, place: &Place, name: &[u8], sites: &[u8]) -> Result<
     let Ok(parts) = parts_of(alloc, sites) else {
         return Err(Cause::Memory);
     };
-    if !(is_name(name) && is_list(parts.as_slice())) {
+    if !(spells_name(name) && is_list(parts.as_slice())) {
         return Err(Cause::BadHeader);
     }
     place.admit(Form::Item)?;
@@ -140,7 +140,7 @@ fn client_line(alloc: Global, place: &Place, name: &[u8], site: &[u8]) -> Result
     if header.plans() != 0 {
         return Err(Cause::BadHeader);
     }
-    if !(is_name(name) && is_number(site)) {
+    if !(spells_name(name) && is_number(site)) {
         return Err(Cause::BadHeader);
     }
     place.admit(Form::Client)?;

@@ -14,6 +14,7 @@ mod nodes;
 mod number;
 mod place;
 mod reader;
+mod said;
 mod script;
 mod stream;
 mod words;
@@ -31,7 +32,5 @@ pub use script::{Script, one_spelling, read_script};
 pub use stream::{Reading, ScriptReader};
 pub use write::write_script;
 
-#[cfg(test)]
-mod fault_tests;
 #[cfg(test)]
 mod tests;

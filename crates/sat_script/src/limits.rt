@@ -4,25 +4,25 @@
 pub const LONGEST_LINE: usize = 4096;
 
 /// The most sites.
-pub const MOST_SITES: u16 = 16;
+pub const MOST_SITES: u16 = sat_label::MOST_SITES;
 
 /// The most gears of a site.
-pub const MOST_GEARS: u16 = 8;
+pub const MOST_GEARS: u16 = sat_label::MOST_GEARS;
 
 /// The most items.
-pub const MOST_ITEMS: usize = 4096;
+pub const MOST_ITEMS: usize = sat_label::MOST_ITEMS;
 
 /// The most clients.
-pub const MOST_CLIENTS: usize = 1024;
+pub const MOST_CLIENTS: usize = sat_label::MOST_CLIENTS;
 
 /// The most plans, one for each epoch.
-pub const MOST_PLANS: usize = 16;
+pub const MOST_PLANS: usize = sat_label::MOST_EPOCHS;
 
 /// The most acts of a script, `settle` among them.
-pub const MOST_ACTS: u32 = 200_000;
+pub const MOST_ACTS: u32 = sat_label::MOST_ACTS;
 
 /// The most `settle` of a script.
-pub const MOST_SETTLES: u32 = 64;
+pub const MOST_SETTLES: u32 = sat_label::MOST_SETTLES;
 
 /// The most sites of a script for nodes on threads.
 pub const LIVE_SITES: u16 = 8;

@@ -1,7 +1,8 @@
 //! What the lines so far say: where the next line stands, and what may stand there.
 ghost use Rattle.std.specs.Prelude.{◌≡◌, ◌≤◌, ◌↔◌, IsTrue, IfOk, OnErr, MatchResult, Some, None, length};
 ghost use Rattle.sat_script.specs.State.{start, number_of, most_sites, most_clients, most_acts};
-ghost use Rattle.sat_script.specs.Grammar.{is_built, has_room, bar, after, IsNew};
+ghost use Rattle.sat_script.specs.Causes.{is_built, has_room, bar};
+ghost use Rattle.sat_script.specs.Grammar.{after, IsNew};
 ghost use Rattle.sat_script.specs.Reading.{told_line};
 ghost use Rattle.sat_script.specs.Kept.{IsFit};
 
@@ -115,7 +116,7 @@ impl Place {
         first + self.header.lines() + u64::from(self.acts)
     }
 
-    #[tactic(auto, unfolding(crate::specs::Grammar::is_built))]
+    #[tactic(auto, unfolding(crate::specs::Causes::is_built))]
     fn is_built(&self, form: Form) -> bool
         ensures { result ≡ is_built self.now.header form }
     {
@@ -136,7 +137,7 @@ impl Place {
         }
     }
 
-    #[tactic(auto, unfolding(crate::specs::Grammar::has_room))]
+    #[tactic(auto, unfolding(crate::specs::Causes::has_room))]
     fn has_room(&self, form: Form) -> bool
         ensures { result ≡ has_room self.now form }
     {
@@ -151,7 +152,7 @@ impl Place {
     }
 
     /// Whether a line of a form may stand here, whatever its words say, and if not, why.
-    #[tactic(auto, unfolding(crate::specs::Grammar::bar))]
+    #[tactic(auto, unfolding(crate::specs::Causes::bar))]
     pub fn admit(&self, form: Form) -> Result<(), Cause>
         ensures { MatchResult result (λ _. bar self.now form ≡ None) (λ cause. bar self.now form ≡ Some cause) }
     {

@@ -101,17 +101,30 @@ impl Reader {
         }
     }
 
+    // The number of the next line.
+    pub(crate) fn number(&self) -> u64
+        ensures { result ≡ number_of self.now.state }
+    {
+        self.place.number()
+    }
+
+    // Fails at a line.
+    pub(crate) fn fail_at(&mut self, line: u64, cause: Cause) -> ScriptFault
+        ensures fault { result ≡ record { line = line; cause = cause } }
+        ensures new { self.new ≡ record { state = self.old.state; fault = Some result } }
+    {
+        let fault = ScriptFault { line, cause };
+        self.fault = Some(fault);
+        fault
+    }
+
     // Fails at the next line.
     pub(crate) fn fail(&mut self, cause: Cause) -> ScriptFault
         ensures fault { result ≡ record { line = number_of self.old.state; cause = cause } }
         ensures new { self.new ≡ record { state = self.old.state; fault = Some result } }
     {
-        let fault = ScriptFault {
-            line: self.place.number(),
-            cause,
-        };
-        self.fault = Some(fault);
-        fault
+        let line = self.place.number();
+        self.fail_at(line, cause)
     }
 
     /// The fault that it answered, if it answered one.

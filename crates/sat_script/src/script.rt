@@ -1,13 +1,12 @@
 //! What a text is as a script, and its one spelling.
-ghost use Rattle.std.specs.Prelude.{◌≡◌, ◌≢◌, ◌≤◌, ℕ, Bool, List, IfOk, IfErr, Some, None, length};
+ghost use Rattle.std.specs.Prelude.{◌≡◌, ◌≢◌, ℕ, Bool, List, IfOk, IfErr, Some, None};
 ghost use Rattle.sat_act.specs.declared.act.Act.{Act};
 ghost use Rattle.sat_act.specs.Deployed.{Deployed};
-ghost use Rattle.sat_act.specs.Limits.{IsDeployment};
-ghost use Rattle.sat_act.specs.Built.{IsBuilt};
-ghost use Rattle.sat_script.specs.Reading.{reading, good, AreBuiltActs, IsAllowed};
-ghost use Rattle.sat_script.specs.Spelled.{spelling, Spells, HaveNames};
+ghost use Rattle.sat_script.specs.Laws.{IsRead, ActsAreSpelled, ActsAreRead};
+ghost use Rattle.sat_script.specs.Reading.{reading, good, IsAllowed};
+ghost use Rattle.sat_script.specs.Spelled.{Spells};
 
-use crate::{Cause, MOST_ACTS, Reading, ScriptFault, ScriptReader};
+use crate::{Cause, Reading, ScriptFault, ScriptReader};
 use sat_act::{Acts, Deployment};
 use std::alloc::Global;
 
@@ -18,14 +17,13 @@ pub struct Script {
     pub acts: Acts,
 }
 
-/// Each script has one spelling, and a text with no fault is the spelling of what was read.
+/// Each script has one spelling: a text has no fault exactly where it spells a deployment and acts, within the limits of nodes on
+/// threads where it is read for them. And a line of an act says an act exactly where it spells it, whatever forms are built.
 pub fn one_spelling()
-    ensures read { (live : Bool) (text : List ℕ) → (reading live text).fault ≡ None
-        → (d : Deployed) × ((reading live text).deployment ≡ Some d) × Spells text d (reading live text).acts }
-    // A script that is read for nodes on threads is within their limits.
-    ensures allowed { (live : Bool) (text : List ℕ) (d : Deployed) → (reading live text).fault ≡ None → (reading live text).deployment ≡ Some d → IsAllowed live d (reading live text).acts }
+    ensures read { (live : Bool) (text : List ℕ) → (reading live text).fault ≡ None → IsRead live (reading live text) text }
     ensures found { (live : Bool) (text : List ℕ) (d : Deployed) (acts : List Act) → Spells text d acts → IsAllowed live d acts → reading live text ≡ good d acts }
-    ensures each { (d : Deployed) (acts : List Act) → IsDeployment d → IsBuilt d → HaveNames d → AreBuiltActs d acts → length acts ≤ MOST_ACTS → Spells (spelling d acts) d acts }
+    ensures acts_spelled { ActsAreSpelled }
+    ensures acts_read { ActsAreRead }
 {}
 
 /// The script that a text spells, or the fault of its first bad line.

@@ -1,6 +1,7 @@
 //! A reader that takes a script in pieces.
-ghost use Rattle.std.specs.Prelude.{◌≡◌, ◌≢◌, ℕ, ◌+◌, ◌≤◌, true, List, [], ◌∷◌, ◌++◌, length, None, IfSome, OnOk, OnErr};
+ghost use Rattle.std.specs.Prelude.{◌≡◌, ◌≢◌, ℕ, ◌+◌, ◌≤◌, true, List, [], ◌∷◌, ◌++◌, length, None, IfSome, IfErr, OnOk, OnErr};
 ghost use Rattle.sat_script.specs.Reading.{reading, with_line, UnlessMemory, AreBuiltActs};
+ghost use Rattle.sat_script.specs.State.{number_of};
 ghost use Rattle.sat_script.specs.Stream.{kept};
 ghost use Rattle.sat_act.specs.Built.{IsBuilt};
 ghost use Rattle.sat_script.specs.Spelled.{HaveNames};
@@ -100,13 +101,16 @@ impl ScriptReader {
         ensures fault { Knows self.new result }
         ensures settled { OnErr result ((more : List ℕ) → will_be self.new more ≡ will_be self.new []) }
         ensures counted { OnOk result (bytes_of self.old + 1 ≤ bytes_of self.new) }
+        // A fault is this line's, for want of memory too.
+        ensures line { IfErr result (λ fault. fault.line ≡ number_of self.old.seen.state) }
     {
+        let number = self.reader.number();
         let line = match self.reader.line(self.begun.as_slice()) {
             Ok(line) => line,
             Err(fault) => return Err(fault),
         };
         if keep(&mut self.deployment, &mut self.acts, line).is_err() {
-            return Err(self.reader.fail(Cause::Memory));
+            return Err(self.reader.fail_at(number, Cause::Memory));
         }
         self.begun.clear();
         Ok(())

@@ -9,7 +9,7 @@ use sat_tree::Tree;
 use std::alloc::{AllocError, Global};
 use std::test::Fail;
 
-pub(crate) const HEADER: &str =
+const HEADER: &str =
     "saturn 1\nsites 2\ngears 1\nitem x 0,1\nclient a 0\nclient b 1\nplan tree - / 0 0\nbegin\n";
 
 const PLAIN: &str =
@@ -26,7 +26,7 @@ fn under_header(alloc: Global, lines: &str) -> Result<Vec<u8>, AllocError> {
 }
 
 // The fault of a text.
-pub(crate) fn fault_of(alloc: Global, text: &[u8], live: bool) -> Option<ScriptFault> {
+fn fault_of(alloc: Global, text: &[u8], live: bool) -> Option<ScriptFault> {
     match read_script(alloc, text, live) {
         Ok(_) => None,
         Err(fault) => Some(fault),
@@ -34,7 +34,7 @@ pub(crate) fn fault_of(alloc: Global, text: &[u8], live: bool) -> Option<ScriptF
 }
 
 // The fault of a text, which comes the same whatever the size of its pieces.
-pub(crate) fn fault_in_pieces(alloc: Global, text: &[u8], size: usize) -> Option<ScriptFault> {
+fn fault_in_pieces(alloc: Global, text: &[u8], size: usize) -> Option<ScriptFault> {
     let mut reader = ScriptReader::new(alloc, false);
     for piece in text.chunks(size.max(1)) {
         if let Err(fault) = reader.feed(piece) {
@@ -110,6 +110,31 @@ fn good_texts_are_written_back(rt: HostRuntime) -> Result<(), Fail> {
         "saturn 1\nsites 8\ngears 2\nitem x 7\nclient a 0\nplan tree - / 0 0 0 0 0 0 0 0\nbegin\nwrite a x v\nread a x\nend\n";
     let out = written(alloc, live.as_bytes(), true)?;
     assert!(rt; matches!(&out, Some(out) if out.as_slice() == live.as_bytes()));
+    Ok(())
+}
+
+#[test]
+fn faults_are_told_at_once_and_in_pieces(rt: HostRuntime) -> Result<(), Fail> {
+    let alloc = rt.alloc();
+    for (lines, line, cause) in [
+        ("end\nx", 10, Cause::AfterEnd),
+        ("gather 0\nclo", 10, Cause::NoEnd),
+        ("gather 0\r\n", 9, Cause::NotText),
+        ("write a  x v\n", 9, Cause::BadAct),
+        ("gather 0\nsettle\n", 10, Cause::Unbuilt),
+        ("write d x v\n", 9, Cause::UnknownName),
+        ("hop 1 s2 z0\n", 9, Cause::OutOfRange),
+        ("hop 1 z0 z0\n", 9, Cause::NoEdge),
+    ] {
+        let text = under_header(alloc, lines)?;
+        let want = at(line, cause);
+        assert_eq!(rt; fault_of(alloc, &text, false), want, "of {lines}");
+        assert_eq!(rt;
+            fault_in_pieces(alloc, &text, 5),
+            want,
+            "in pieces of {lines}"
+        );
+    }
     Ok(())
 }
 

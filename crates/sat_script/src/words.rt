@@ -1,6 +1,6 @@
 //! The words of a line.
 ghost use Rattle.std.specs.Prelude.{◌≡◌, IfOk, map};
-ghost use Rattle.sat_label.specs.Text.{is_name, is_name_byte, is_between};
+ghost use Rattle.sat_label.specs.Text.{is_between};
 ghost use Rattle.std.specs.List.{list_all};
 ghost use Rattle.sat_script.specs.Words.{is_text, is_token, is_number, is_node, is_serializer, words_of};
 
@@ -32,26 +32,6 @@ pub fn is_token(word: &[u8]) -> bool
     ensures { result ≡ is_token word.now }
 {
     0 < word.len() && all_visible(word)
-}
-
-// A letter, a digit, `_`, `-` or `.`.
-fn fits_name(byte: u8) -> bool
-    ensures { result ≡ is_name_byte byte }
-{
-    byte.is_ascii_alphanumeric() || byte == b'_' || byte == b'-' || byte == b'.'
-}
-
-fn all_fit_name(word: &[u8]) -> bool
-    ensures { result ≡ list_all is_name_byte word.now }
-{
-    word.iter().all(|&byte| fits_name(byte))
-}
-
-/// Whether a word is a name: 1 to 32 letters, digits, `_`, `-` or `.`.
-pub fn is_name(word: &[u8]) -> bool
-    ensures { result ≡ is_name word.now }
-{
-    0 < word.len() && word.len() <= 32 && all_fit_name(word)
 }
 
 /// Whether all words are numbers.

@@ -1,9 +1,15 @@
 //! The spelling of each line, without its byte 10.
 ghost use Rattle.std.specs.Prelude.{◌≡◌, ◌++◌, ◌∷◌, [], OnOk, IfOk, map, codes, if◌then◌else◌};
 ghost use Rattle.std.specs.Fmt.{decimal};
+ghost use Rattle.sat_label.specs.Text.{node_text};
 ghost use Rattle.sat_label.specs.Words.{bit};
-ghost use Rattle.sat_script.specs.Spelled.{with_comma, line_text, spaced, bulk_words, sites_text, parent_text, node_text, client_name, item_name, item_words, client_words, plan_words, act_words, ended};
+ghost use Rattle.sat_script.specs.Spelled.{with_comma, line_text, sites_text, item_words, client_words, plan_words, ended};
+ghost use Rattle.sat_tree.specs.PlanLine.{spaced, parent_text};
+ghost use Rattle.sat_script.specs.Table.{client_name, item_name, act_words, text, texts};
+ghost use Rattle.sat_script.specs.Said.{said_of};
 
+use crate::form::{Kind, kinds_of, word_of};
+use crate::said::{Said, parts_of};
 use sat_act::{Act, ClientLine, Deployment, Item, Plan};
 use sat_label::{NodeId, SiteSet};
 use sat_tree::Tree;
@@ -40,41 +46,12 @@ fn add_number(alloc: Global, line: &mut Vec<u8>, number: u64) -> Result<(), Allo
 
 // ---- lines of a word and numbers
 
-// A line of one word.
-fn bare_line(alloc: Global, word: &[u8]) -> Result<Vec<u8>, AllocError>
-    ensures { IfOk result (λ line. line.items ≡ line_text (word.now ∷ [])) }
-{
-    let line = word.to_vec(alloc)?;
-    Ok(line)
-}
-
 /// A line of a word and a number.
 pub fn number_line(alloc: Global, word: &[u8], number: u64) -> Result<Vec<u8>, AllocError>
     ensures { IfOk result (λ line. line.items ≡ line_text (word.now ∷ decimal number ∷ [])) }
 {
     let mut line = word.to_vec(alloc)?;
     add_number(alloc, &mut line, number)?;
-    Ok(line)
-}
-
-#[tactic(auto, using(std::proofs::lemmas::List::append_assoc))]
-fn two_numbers(alloc: Global, word: &[u8], a: u64, b: u64) -> Result<Vec<u8>, AllocError>
-    ensures { IfOk result (λ line. line.items ≡ line_text (word.now ∷ decimal a ∷ decimal b ∷ [])) }
-{
-    let mut line = word.to_vec(alloc)?;
-    add_number(alloc, &mut line, a)?;
-    add_number(alloc, &mut line, b)?;
-    Ok(line)
-}
-
-#[tactic(auto, using(std::proofs::lemmas::List::append_assoc))]
-fn three_numbers(alloc: Global, word: &[u8], a: u64, b: u64, c: u64) -> Result<Vec<u8>, AllocError>
-    ensures { IfOk result (λ line. line.items ≡ line_text (word.now ∷ decimal a ∷ decimal b ∷ decimal c ∷ [])) }
-{
-    let mut line = word.to_vec(alloc)?;
-    add_number(alloc, &mut line, a)?;
-    add_number(alloc, &mut line, b)?;
-    add_number(alloc, &mut line, c)?;
     Ok(line)
 }
 
@@ -132,30 +109,13 @@ fn parent_word(alloc: Global, parent: Option<u16>) -> Result<Vec<u8>, AllocError
     }
 }
 
-// A letter and a number.
-fn lettered(alloc: Global, letter: u8, number: u16) -> Result<Vec<u8>, AllocError>
-    ensures { IfOk result (λ word. word.items ≡ letter ∷ decimal number) }
+// Adds a node to a line.
+fn add_node(alloc: Global, line: &mut Vec<u8>, node: NodeId) -> Result<(), AllocError>
+    ensures { OnOk result (line.new.items ≡ line.old.items ++ 32 ∷ node_text node) }
 {
-    let mut word = Vec::new(alloc);
-    word.push(letter)?;
-    let digits = number.to_string(alloc)?;
-    word.extend_from_slice(digits.as_bytes())?;
-    Ok(word)
-}
-
-fn node_word(alloc: Global, node: NodeId) -> Result<Vec<u8>, AllocError>
-    ensures { IfOk result (λ word. word.items ≡ node_text node) }
-{
-    match node {
-        NodeId::Site(site) => {
-            let word = lettered(alloc, b's', site)?;
-            Ok(word)
-        }
-        NodeId::Serializer(number) => {
-            let word = lettered(alloc, b'z', number)?;
-            Ok(word)
-        }
-    }
+    let text = node.text(alloc)?;
+    add(line, text.as_bytes())?;
+    Ok(())
 }
 
 fn client_name(d: &Deployment, client: u16) -> &[u8]
@@ -243,185 +203,57 @@ pub fn plan_line(alloc: Global, plan: &Plan) -> Result<Vec<u8>, AllocError>
 
 // ---- lines of acts
 
-fn name_line(alloc: Global, word: &[u8], name: &[u8]) -> Result<Vec<u8>, AllocError>
-    ensures { IfOk result (λ line. line.items ≡ line_text (word.now ∷ name.now ∷ [])) }
-{
-    let mut line = word.to_vec(alloc)?;
-    add(&mut line, name)?;
-    Ok(line)
-}
-
-#[tactic(auto, using(std::proofs::lemmas::List::append_assoc))]
-fn name_and_number(
+// Adds what a word of a kind says.
+fn add_said(
     alloc: Global,
-    word: &[u8],
-    name: &[u8],
-    number: u64,
-) -> Result<Vec<u8>, AllocError>
-    ensures { IfOk result (λ line. line.items ≡ line_text (word.now ∷ name.now ∷ decimal number ∷ [])) }
+    line: &mut Vec<u8>,
+    d: &Deployment,
+    kind: Kind,
+    said: Said,
+) -> Result<(), AllocError>
+    ensures { OnOk result (line.new.items ≡ line.old.items ++ 32 ∷ text d.now kind (said_of said.entry)) }
 {
-    let mut line = word.to_vec(alloc)?;
-    add(&mut line, name)?;
-    add_number(alloc, &mut line, number)?;
-    Ok(line)
-}
-
-#[tactic(auto, using(std::proofs::lemmas::List::append_assoc))]
-fn write_line(
-    alloc: Global,
-    client: &[u8],
-    item: &[u8],
-    value: &[u8],
-) -> Result<Vec<u8>, AllocError>
-    ensures { IfOk result (λ line. line.items ≡ line_text (codes "write" ∷ client.now ∷ item.now ∷ value.now ∷ [])) }
-{
-    let mut line = b"write".as_slice().to_vec(alloc)?;
-    add(&mut line, client)?;
-    add(&mut line, item)?;
-    add(&mut line, value)?;
-    Ok(line)
-}
-
-#[tactic(auto, using(std::proofs::lemmas::List::append_assoc))]
-fn read_line(alloc: Global, client: &[u8], item: &[u8]) -> Result<Vec<u8>, AllocError>
-    ensures { IfOk result (λ line. line.items ≡ line_text (codes "read" ∷ client.now ∷ item.now ∷ [])) }
-{
-    let mut line = b"read".as_slice().to_vec(alloc)?;
-    add(&mut line, client)?;
-    add(&mut line, item)?;
-    Ok(line)
-}
-
-#[tactic(auto, using(std::proofs::lemmas::List::append_assoc))]
-fn hop_line(alloc: Global, epoch: u16, from: NodeId, to: u16) -> Result<Vec<u8>, AllocError>
-    ensures { IfOk result (λ line. line.items ≡ line_text (codes "hop" ∷ decimal epoch ∷ node_text from ∷ node_text (NodeId.Serializer to) ∷ [])) }
-{
-    let mut line = b"hop".as_slice().to_vec(alloc)?;
-    add_number(alloc, &mut line, u64::from(epoch))?;
-    let from = node_word(alloc, from)?;
-    add(&mut line, from.as_slice())?;
-    let to = node_word(alloc, NodeId::Serializer(to))?;
-    add(&mut line, to.as_slice())?;
-    Ok(line)
-}
-
-#[tactic(auto, using(std::proofs::lemmas::List::append_assoc))]
-fn kill_line(alloc: Global, epoch: u16, serializer: u16) -> Result<Vec<u8>, AllocError>
-    ensures { IfOk result (λ line. line.items ≡ line_text (codes "kill" ∷ decimal epoch ∷ node_text (NodeId.Serializer serializer) ∷ [])) }
-{
-    let mut line = b"kill".as_slice().to_vec(alloc)?;
-    add_number(alloc, &mut line, u64::from(epoch))?;
-    let number = node_word(alloc, NodeId::Serializer(serializer))?;
-    add(&mut line, number.as_slice())?;
-    Ok(line)
-}
-
-#[tactic(auto, using(std::proofs::lemmas::List::append_assoc))]
-fn numbered_bulk(
-    alloc: Global,
-    from: u16,
-    gear: u16,
-    to: u16,
-    number: u64,
-) -> Result<Vec<u8>, AllocError>
-    ensures { IfOk result (λ line. line.items ≡ line_text (codes "bulk" ∷ decimal from ∷ decimal gear ∷ decimal to ∷ decimal number ∷ [])) }
-{
-    let mut line = b"bulk".as_slice().to_vec(alloc)?;
-    add_number(alloc, &mut line, u64::from(from))?;
-    add_number(alloc, &mut line, u64::from(gear))?;
-    add_number(alloc, &mut line, u64::from(to))?;
-    add_number(alloc, &mut line, number)?;
-    Ok(line)
-}
-
-fn bulk_line(
-    alloc: Global,
-    from: u16,
-    gear: u16,
-    to: u16,
-    number: Option<u64>,
-) -> Result<Vec<u8>, AllocError>
-    ensures { IfOk result (λ line. line.items ≡ line_text (bulk_words from gear to number)) }
-{
-    match number {
-        Some(number) => numbered_bulk(alloc, from, gear, to, number),
-        None => three_numbers(
-            alloc,
-            b"bulk",
-            u64::from(from),
-            u64::from(gear),
-            u64::from(to),
-        ),
+    match said {
+        Said::Place(place) => match kind {
+            Kind::Client => add(line, client_name(d, place)),
+            Kind::Item => add(line, item_name(d, place)),
+            Kind::Serializer => add_node(alloc, line, NodeId::Serializer(place)),
+            _ => add_number(alloc, line, u64::from(place)),
+        },
+        Said::Number(number) => add_number(alloc, line, number),
+        Said::Bytes(bytes) => add(line, bytes),
+        Said::Node(node) => add_node(alloc, line, node),
     }
+}
+
+// Adds what the words say, each by its kind.
+fn add_texts(
+    alloc: Global,
+    line: &mut Vec<u8>,
+    d: &Deployment,
+    kinds: &[Kind],
+    said: &[Said],
+) -> Result<(), AllocError>
+    ensures { OnOk result (line.new.items ≡ line.old.items ++ spaced (texts d.now kinds.now (map said_of said.now))) }
+{
+    let Some((kind, kinds)) = kinds.split_first() else {
+        return Ok(());
+    };
+    let Some((one, said)) = said.split_first() else {
+        return Ok(());
+    };
+    add_said(alloc, line, d, *kind, *one)?;
+    add_texts(alloc, line, d, kinds, said)
 }
 
 /// The line of an act and its byte 10.
+#[tactic(auto, unfolding(crate::specs::Table::act_words))]
 pub fn ended_act(alloc: Global, d: &Deployment, act: &Act) -> Result<Vec<u8>, AllocError>
     ensures { IfOk result (λ line. line.items ≡ ended (act_words d.now act.now)) }
 {
-    let mut line = act_line(alloc, d, act)?;
+    let (form, said) = parts_of(act);
+    let mut line = word_of(form).to_vec(alloc)?;
+    add_texts(alloc, &mut line, d, kinds_of(form), said.as_slice())?;
     line.push(b'\n')?;
     Ok(line)
-}
-
-// The line of an act.
-#[tactic(auto, unfolding(crate::specs::Spelled::act_words))]
-fn act_line(alloc: Global, d: &Deployment, act: &Act) -> Result<Vec<u8>, AllocError>
-    ensures { IfOk result (λ line. line.items ≡ line_text (act_words d.now act.now)) }
-{
-    match act {
-        Act::Tick { site, gear, ts } => three_numbers(
-            alloc,
-            b"tick",
-            u64::from(*site),
-            u64::from(*gear),
-            *ts,
-        ),
-        Act::Clock => bare_line(alloc, b"clock"),
-        Act::Write {
-            client,
-            item,
-            value,
-        } => write_line(
-            alloc,
-            client_name(d, *client),
-            item_name(d, *item),
-            value.bytes(),
-        ),
-        Act::Read { client, item } => {
-            read_line(alloc, client_name(d, *client), item_name(d, *item))
-        }
-        Act::Move { client, site } => {
-            name_and_number(alloc, b"move", client_name(d, *client), u64::from(*site))
-        }
-        Act::Leave { client } => name_line(alloc, b"leave", client_name(d, *client)),
-        Act::Attach { client, site } => {
-            name_and_number(alloc, b"attach", client_name(d, *client), u64::from(*site))
-        }
-        Act::Gather { site } => number_line(alloc, b"gather", u64::from(*site)),
-        Act::Emit { site } => number_line(alloc, b"emit", u64::from(*site)),
-        Act::Pulse { site } => number_line(alloc, b"pulse", u64::from(*site)),
-        Act::Hop { epoch, from, to } => hop_line(alloc, *epoch, *from, *to),
-        Act::Turn { site } => number_line(alloc, b"turn", u64::from(*site)),
-        Act::Bulk {
-            from,
-            gear,
-            to,
-            number,
-        } => bulk_line(alloc, *from, *gear, *to, *number),
-        Act::Beat { from, to } => two_numbers(alloc, b"beat", u64::from(*from), u64::from(*to)),
-        Act::BeatIn { from, to, number } => three_numbers(
-            alloc,
-            b"beatin",
-            u64::from(*from),
-            u64::from(*to),
-            *number,
-        ),
-        Act::Stamp { site } => number_line(alloc, b"stamp", u64::from(*site)),
-        Act::Close { site } => number_line(alloc, b"close", u64::from(*site)),
-        Act::Fall { site } => number_line(alloc, b"fall", u64::from(*site)),
-        Act::Advance { site } => number_line(alloc, b"advance", u64::from(*site)),
-        Act::Kill { epoch, serializer } => kill_line(alloc, *epoch, *serializer),
-        Act::Settle => bare_line(alloc, b"settle"),
-    }
 }

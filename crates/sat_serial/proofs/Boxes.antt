@@ -1,5 +1,5 @@
 -- Outboxes of the neighbours.
-use Rattle.std.proofs.Common.{◌≡◌, ◌≢◌, ℕ, zero, suc, ◌+◌, ◌<◌, ◌||◌, Bool, true, false, cond, List, [], ◌∷◌, ◌++◌, length, take, drop, set, get_or, Option, Some, None, slice_get, inl, inr, refl, sym, ap, ◌∙◌, subst, arith}
+use Rattle.std.proofs.Common.{◌≡◌, ◌≢◌, ℕ, zero, suc, ◌+◌, ◌<◌, ◌||◌, Bool, true, false, cond, List, [], ◌∷◌, ◌++◌, length, map, take, drop, set, get_or, Option, Some, None, slice_get, inl, inr, refl, sym, ap, ◌∙◌, subst, arith}
 use Rattle.std.specs.List.{list_any, position, position_from, AllWithin}
 use Rattle.std.specs.Option.{option_to_list}
 use Rattle.std.proofs.lemmas.Bool.{cases_Bool}
@@ -13,23 +13,25 @@ use Rattle.sat_label.specs.declared.label.Label.{Label}
 use Rattle.sat_label.specs.declared.node.NodeId.{NodeId}
 use Rattle.sat_label.specs.Order.{node_eq}
 use Rattle.sat_label.proofs.SameNodes.{same-node, node-self}
+use Rattle.sat_sites.specs.Interested.{Interested}
 use Rattle.sat_tree.specs.Cut.{neighbours}
-use Rattle.sat_serial.specs.Queues.{labels_in, HasRoom}
+use Rattle.sat_queue.specs.Queued.{Queued, members_of, HasRoom}
+use Rattle.sat_serial.specs.Queues.{labels_in}
 use Rattle.sat_serial.specs.Routes.{goes}
-use Rattle.sat_serial.specs.Outboxes.{change_where, box_of, boxes_without, EachOutbox}
+use Rattle.sat_serial.specs.Outboxes.{SerializerSeen, after_handle, change_where, is_marked, box_of, boxes_without, EachOutbox}
 use Rattle.sat_serial.proofs.Ways.{is-among}
 
 -- ---- a change of some outboxes, one node after another
 
 -- the outbox of the next node is as it was
-pub still : (test : NodeId → Bool) (f : List Label → List Label) (nodes : List NodeId) (boxes : List (List Label)) (i : ℕ) → i < length nodes → length boxes ≡ length nodes →
+pub still : {X : Type 0} (test : X → Bool) (f : List Label → List Label) (nodes : List X) (boxes : List (List Label)) (i : ℕ) → i < length nodes → length boxes ≡ length nodes →
     get_or (change_where test f (take i nodes) boxes) i [] ≡ get_or boxes i []
 still test f [] boxes i less same = absurd (omega arith)
 still test f (v ∷ nodes) [] i less same = absurd (cc)
 still test f (v ∷ nodes) (box ∷ boxes) zero less same = refl
 still test f (v ∷ nodes) (box ∷ boxes) (suc i) less same = still test f nodes boxes i (omega arith) (omega arith)
 
-more-suc : (test : NodeId → Bool) (f : List Label → List Label) (nodes : List NodeId) (boxes : List (List Label)) (i : ℕ) (d : NodeId) → i < length nodes → length boxes ≡ length nodes →
+more-suc : {X : Type 0} (test : X → Bool) (f : List Label → List Label) (nodes : List X) (boxes : List (List Label)) (i : ℕ) (d : X) → i < length nodes → length boxes ≡ length nodes →
     change_where test f (take (suc i) nodes) boxes ≡ set (change_where test f (take i nodes) boxes) i (cond (test (get_or nodes i d)) (f (get_or boxes i [])) (get_or boxes i []))
 more-suc test f [] boxes i d less same = absurd (omega arith)
 more-suc test f (v ∷ nodes) [] i d less same = absurd (cc)
@@ -38,9 +40,16 @@ more-suc test f (v ∷ nodes) (box ∷ boxes) (suc i) d less same =
     ap (λ rest. cond (test v) (f box) box ∷ rest) (more-suc test f nodes boxes i d (omega arith) (omega arith))
 
 -- the outbox of the next node changes, if its node passes the test
-pub more : (test : NodeId → Bool) (f : List Label → List Label) (nodes : List NodeId) (boxes : List (List Label)) (i : ℕ) (d : NodeId) → i < length nodes → length boxes ≡ length nodes →
+pub more : {X : Type 0} (test : X → Bool) (f : List Label → List Label) (nodes : List X) (boxes : List (List Label)) (i : ℕ) (d : X) → i < length nodes → length boxes ≡ length nodes →
     change_where test f (take (i + 1) nodes) boxes ≡ set (change_where test f (take i nodes) boxes) i (cond (test (get_or nodes i d)) (f (get_or boxes i [])) (get_or boxes i []))
 more test f nodes boxes i d less same = rw add-one (more-suc test f nodes boxes i d less same)
+
+-- marks are as the test that they were made by
+pub marked : {X : Type 0} (test : X → Bool) (f : List Label → List Label) (nodes : List X) (boxes : List (List Label)) →
+    change_where is_marked f (map test nodes) boxes ≡ change_where test f nodes boxes
+marked test f [] boxes = refl
+marked test f (v ∷ nodes) [] = refl
+marked test f (v ∷ nodes) (box ∷ boxes) = ap (λ rest. cond (test v) (f box) box ∷ rest) (marked test f nodes boxes)
 
 -- ---- an outbox without its oldest label
 
@@ -97,43 +106,43 @@ first (x ∷ xs) None e = let n : suc (length xs) ≡ length xs = ap length e in
 first (x ∷ xs) (Some y) e = cc
 
 -- the queue at the place is the outbox
-queue-at : {Z : Type 0} (queues : List (VecDeque Label Z)) (k : ℕ) (q : VecDeque Label Z) → k < length queues → get_or (labels_in queues) k [] ≡ (get_or queues k q).items
-queue-at queues k q less = get_or-map (λ (p : VecDeque Label _). p.items) queues k q [] less
+queue-at : (queues : List (Queued Label)) (k : ℕ) (q : Queued Label) → k < length queues → get_or (map members_of queues) k [] ≡ (get_or queues k q).members
+queue-at queues k q less = get_or-map (λ (p : Queued Label). p.members) queues k q [] less
 
-pub length-labels : {Z : Type 0} (queues : List (VecDeque Label Z)) → length (labels_in queues) ≡ length queues
+pub length-labels : (queues : List (Queued Label)) → length (map members_of queues) ≡ length queues
 length-labels [] = refl
 length-labels (q ∷ queues) = ap suc (length-labels queues)
 
 -- the label that leaves the queue of a node is the oldest of its outbox
-pub taken-first : {Z : Type 0} (v : NodeId) (nodes : List NodeId) (queues : List (VecDeque Label Z)) (k : ℕ) (q : VecDeque Label Z) (r : Option Label) (left : List Label) →
-    length queues ≡ length nodes → position (node_eq v) nodes ≡ Some k → q ≡ get_or queues k q → q.items ≡ option_to_list r ++ left → left ≡ drop 1 q.items →
-    r ≡ slice_get (box_of v nodes (labels_in queues)) 0
+pub taken-first : (v : NodeId) (nodes : List NodeId) (queues : List (Queued Label)) (k : ℕ) (q : Queued Label) (r : Option Label) (left : List Label) →
+    length queues ≡ length nodes → position (node_eq v) nodes ≡ Some k → q ≡ get_or queues k q → q.members ≡ option_to_list r ++ left → left ≡ drop 1 q.members →
+    r ≡ slice_get (box_of v nodes (map members_of queues)) 0
 unfolding AtPlace
 taken-first v nodes queues k q r left same at here split rest =
     let less : k < length queues = subst (λ (n : ℕ). k < n) (sym same) (within v nodes k at) in
-    let box : box_of v nodes (labels_in queues) ≡ q.items = (placed v nodes (labels_in queues) k (length-labels queues ∙ same) at).0 ∙ (queue-at queues k q less ∙ sym (ap (λ (p : VecDeque Label _). p.items) here)) in
-    first q.items r (split ∙ ap (λ (xs : List Label). option_to_list r ++ xs) rest) ∙ ap (λ (xs : List Label). slice_get xs 0) (sym box)
+    let box : box_of v nodes (map members_of queues) ≡ q.members = (placed v nodes (map members_of queues) k (length-labels queues ∙ same) at).0 ∙ (queue-at queues k q less ∙ sym (ap (λ (p : Queued Label). p.members) here)) in
+    first q.members r (split ∙ ap (λ (xs : List Label). option_to_list r ++ xs) rest) ∙ ap (λ (xs : List Label). slice_get xs 0) (sym box)
 
 -- the oldest label of the queue of a node is that of its outbox
-pub oldest-of : {Z : Type 0} (v : NodeId) (nodes : List NodeId) (queues : List (VecDeque Label Z)) (k : ℕ) (q : VecDeque Label Z) (r : Option Label) →
-    length queues ≡ length nodes → position (node_eq v) nodes ≡ Some k → q ≡ get_or queues k q → r ≡ slice_get q.items 0 → r ≡ slice_get (box_of v nodes (labels_in queues)) 0
+pub oldest-of : (v : NodeId) (nodes : List NodeId) (queues : List (Queued Label)) (k : ℕ) (q : Queued Label) (r : Option Label) →
+    length queues ≡ length nodes → position (node_eq v) nodes ≡ Some k → q ≡ get_or queues k q → r ≡ slice_get q.members 0 → r ≡ slice_get (box_of v nodes (map members_of queues)) 0
 unfolding AtPlace
 oldest-of v nodes queues k q r same at here front =
     let less : k < length queues = subst (λ (n : ℕ). k < n) (sym same) (within v nodes k at) in
-    let box : box_of v nodes (labels_in queues) ≡ q.items = (placed v nodes (labels_in queues) k (length-labels queues ∙ same) at).0 ∙ (queue-at queues k q less ∙ sym (ap (λ (p : VecDeque Label _). p.items) here)) in
+    let box : box_of v nodes (map members_of queues) ≡ q.members = (placed v nodes (map members_of queues) k (length-labels queues ∙ same) at).0 ∙ (queue-at queues k q less ∙ sym (ap (λ (p : Queued Label). p.members) here)) in
     front ∙ ap (λ (xs : List Label). slice_get xs 0) (sym box)
 
 -- and what is left are the outboxes without it
-pub taken-rest : {Z : Type 0} (v : NodeId) (nodes : List NodeId) (queues : List (VecDeque Label Z)) (k : ℕ) (q p : VecDeque Label Z) →
-    length queues ≡ length nodes → position (node_eq v) nodes ≡ Some k → q ≡ get_or queues k q → p.items ≡ drop 1 q.items →
-    labels_in (set queues k p) ≡ boxes_without v nodes (labels_in queues)
+pub taken-rest : (v : NodeId) (nodes : List NodeId) (queues : List (Queued Label)) (k : ℕ) (q p : Queued Label) →
+    length queues ≡ length nodes → position (node_eq v) nodes ≡ Some k → q ≡ get_or queues k q → p.members ≡ drop 1 q.members →
+    map members_of (set queues k p) ≡ boxes_without v nodes (map members_of queues)
 unfolding AtPlace
 taken-rest v nodes queues k q p same at here rest =
     let less : k < length queues = subst (λ (n : ℕ). k < n) (sym same) (within v nodes k at) in
-    let box : get_or (labels_in queues) k [] ≡ q.items = queue-at queues k q less ∙ sym (ap (λ (p : VecDeque Label _). p.items) here) in
-    map-set (λ (p : VecDeque Label _). p.items) queues k p
-    ∙ (ap (λ (xs : List Label). set (labels_in queues) k xs) (rest ∙ ap (λ (xs : List Label). drop 1 xs) (sym box))
-    ∙ sym (placed v nodes (labels_in queues) k (length-labels queues ∙ same) at).1)
+    let box : get_or (map members_of queues) k [] ≡ q.members = queue-at queues k q less ∙ sym (ap (λ (p : Queued Label). p.members) here) in
+    map-set (λ (p : Queued Label). p.members) queues k p
+    ∙ (ap (λ (xs : List Label). set (map members_of queues) k xs) (rest ∙ ap (λ (xs : List Label). drop 1 xs) (sym box))
+    ∙ sym (placed v nodes (map members_of queues) k (length-labels queues ∙ same) at).1)
 
 -- ---- what the two changes do to one outbox
 
@@ -194,20 +203,20 @@ pub same-labels : {Z : Type 0} (queues : List (VecDeque Label Z)) (i : ℕ) (q p
 same-labels queues i q p here same = map-set_same (λ (r : VecDeque Label _). r.items) queues i p q (same ∙ ap (λ (r : VecDeque Label _). r.items) here)
 
 -- the next queue gets its copy
-pub copied : {Z : Type 0} (test : NodeId → Bool) (f : List Label → List Label) (nodes : List NodeId) (queues : List (VecDeque Label Z)) (boxes : List (List Label)) (i : ℕ) (d : NodeId) (q p : VecDeque Label Z) →
-    length queues ≡ length nodes → length boxes ≡ length nodes → i < length nodes → labels_in queues ≡ change_where test f (take i nodes) boxes → test (get_or nodes i d) ≡ true →
-    q ≡ get_or queues i q → p.items ≡ f q.items → labels_in (set queues i p) ≡ change_where test f (take (i + 1) nodes) boxes
+pub copied : {X : Type 0} (test : X → Bool) (f : List Label → List Label) (nodes : List X) (queues : List (Queued Label)) (boxes : List (List Label)) (i : ℕ) (d : X) (q p : Queued Label) →
+    length queues ≡ length nodes → length boxes ≡ length nodes → i < length nodes → map members_of queues ≡ change_where test f (take i nodes) boxes → test (get_or nodes i d) ≡ true →
+    q ≡ get_or queues i q → p.members ≡ f q.members → map members_of (set queues i p) ≡ change_where test f (take (i + 1) nodes) boxes
 copied test f nodes queues boxes i d q p size old less labels passes here change =
-    let box : q.items ≡ get_or boxes i [] =
-    ap (λ (r : VecDeque Label _). r.items) here ∙ (sym (queue-at queues i q (subst (λ (n : ℕ). i < n) (sym size) less))
+    let box : q.members ≡ get_or boxes i [] =
+    ap (λ (r : Queued Label). r.members) here ∙ (sym (queue-at queues i q (subst (λ (n : ℕ). i < n) (sym size) less))
     ∙ (ap (λ (xs : List (List Label)). get_or xs i []) labels ∙ still test f nodes boxes i less old)) in
-    map-set (λ (r : VecDeque Label _). r.items) queues i p
-    ∙ (ap (λ (xs : List Label). set (labels_in queues) i xs) (change ∙ ap f box)
+    map-set (λ (r : Queued Label). r.members) queues i p
+    ∙ (ap (λ (xs : List Label). set (map members_of queues) i xs) (change ∙ ap f box)
     ∙ (ap (λ (xs : List (List Label)). set xs i (f (get_or boxes i []))) labels
     ∙ sym (more test f nodes boxes i d less old ∙ ap (λ (b : Bool). set (change_where test f (take i nodes) boxes) i (cond b (f (get_or boxes i [])) (get_or boxes i []))) passes)))
 
 -- the next queue gets none
-pub passed : (test : NodeId → Bool) (f : List Label → List Label) (nodes : List NodeId) (labels boxes : List (List Label)) (i : ℕ) (d : NodeId) →
+pub passed : {X : Type 0} (test : X → Bool) (f : List Label → List Label) (nodes : List X) (labels boxes : List (List Label)) (i : ℕ) (d : X) →
     length boxes ≡ length nodes → i < length nodes → labels ≡ change_where test f (take i nodes) boxes → test (get_or nodes i d) ≡ false → labels ≡ change_where test f (take (i + 1) nodes) boxes
 passed test f nodes labels boxes i d old less same fails =
     same ∙ sym (more test f nodes boxes i d less old
@@ -216,11 +225,22 @@ passed test f nodes labels boxes i d old less same fails =
     ∙ set-get_or (change_where test f (take i nodes) boxes) i [])))
 
 -- the queues after the next one keep their room
-pub room-after : {Z : Type 0} (queues : List (VecDeque Label Z)) (i : ℕ) (p : VecDeque Label Z) → AllWithin HasRoom queues i (length queues) → AllWithin HasRoom (set queues i p) (i + 1) (length (set queues i p))
+pub room-after : (queues : List (Queued Label)) (i : ℕ) (p : Queued Label) → AllWithin HasRoom queues i (length queues) → AllWithin HasRoom (set queues i p) (i + 1) (length (set queues i p))
 room-after queues i p room = λ k d low high.
     let other : k ≢ i = λ e. absurd (omega arith) in
     let less : k < length queues = omega (arith, length-set queues i p) in
     rw (get_or-set_other queues i k p d other) (room k d (omega arith) less)
 
-pub room-left : {Z : Type 0} (queues : List (VecDeque Label Z)) (i : ℕ) → AllWithin HasRoom queues i (length queues) → AllWithin HasRoom queues (i + 1) (length queues)
+pub room-left : (queues : List (Queued Label)) (i : ℕ) → AllWithin HasRoom queues i (length queues) → AllWithin HasRoom queues (i + 1) (length queues)
 room-left queues i room = λ k d low high. room k d (omega arith) high
+
+-- what a handled label leaves, over what the fields became
+pub handled-by : (v s : SerializerSeen) (a : Interested) (u : NodeId) (l : Label) (marks : List Bool) (old boxes : List (List Label)) → v ≡ s →
+    marks ≡ map (goes a v.tree v.number u l) (neighbours v.tree v.number) → old ≡ v.outboxes → boxes ≡ change_where is_marked (λ box. box ++ l ∷ []) marks old →
+    record v { outboxes = boxes } ≡ after_handle s a u l
+handled-by v s a u l marks old boxes same marks-are before after =
+    let add = λ (box : List Label). box ++ l ∷ [] in
+    let test = goes a v.tree v.number u l in
+    ap (λ (bs : List (List Label)). record v { outboxes = bs })
+    (after ∙ (ap (λ (ms : List Bool). change_where is_marked add ms old) marks-are ∙ (marked test add (neighbours v.tree v.number) old ∙ ap (λ (bs : List (List Label)). change_where test add (neighbours v.tree v.number) bs) before)))
+    ∙ ap (λ (t : SerializerSeen). after_handle t a u l) same

@@ -1,11 +1,12 @@
 -- The ways of a label through a serializer.
-use Rattle.std.proofs.Common.{◌≡◌, ℕ, zero, suc, ◌<◌, ◌≤◌, ◌==◌, ◌&&◌, ◌||◌, ◌↔◌, nat_lt, Bool, true, false, List, [], ◌∷◌, ◌++◌, length, map, filter, get_or, inl, inr, refl, sym, ap, ◌∙◌, subst, arith}
+use Rattle.std.proofs.Common.{◌≡◌, ℕ, zero, suc, ◌<◌, ◌≤◌, ◌==◌, ◌&&◌, ◌||◌, ◌↔◌, nat_lt, Bool, true, false, List, [], ◌∷◌, ◌++◌, length, map, filter, get_or, take, cond, ◌+◌, inl, inr, refl, sym, ap, ◌∙◌, subst, arith}
 use Rattle.std.specs.List.{list_any, All}
 use Rattle.std.specs.Bool.{IsTrue}
-use Rattle.std.proofs.lemmas.Bool.{cases_Bool, cases_eq, or_cases, and_parts, and_from}
-use Rattle.std.proofs.lemmas.Bool.Decides.{nat_tests}
+use Rattle.std.proofs.lemmas.Bool.{and_from, and_parts, cases_Bool, cases_eq, lt-ltb, ltb-true, or_cases, or_left, or_right}
+use Rattle.std.proofs.lemmas.List.{append-nil, map-append, take_more}
 use Rattle.std.proofs.lemmas.List.Folds.{list_any-append}
-use Rattle.std.proofs.lemmas.List.Elements.{All-nil, All-push, All-map, All-append, All-filter, filter_passes}
+use Rattle.std.proofs.lemmas.List.Elements.{All-nil, All-push, All-map, All-append, All-filter, filter_more, filter_passes}
+use Rattle.sat_label.proofs.Truth.{or-false, same-number, same-test}
 use Rattle.sat_label.specs.declared.label.Label.{Label}
 use Rattle.sat_label.specs.declared.node.NodeId.{NodeId}
 use Rattle.sat_label.specs.declared.node.NodeId.TheVariants.{Site, Serializer}
@@ -16,23 +17,6 @@ use Rattle.sat_sites.specs.Interested.{Interested, is_for}
 use Rattle.sat_tree.specs.Shape.{TreeShape}
 use Rattle.sat_tree.specs.Cut.{beyond, is_edge, neighbours, IsNode}
 use Rattle.sat_serial.specs.Routes.{leads, IsNeighbour}
-
-same-truth : (b c : Bool) → (b ≡ true → c ≡ true) → (c ≡ true → b ≡ true) → b ≡ c
-same-truth true c there back = sym (there refl)
-same-truth false true there back = back refl
-same-truth false false there back = refl
-
-or-left : (b c : Bool) → b ≡ true → (b || c) ≡ true
-or-left true c e = refl
-or-left false c e = absurd (cc)
-
-or-right : (b c : Bool) → c ≡ true → (b || c) ≡ true
-or-right true c e = refl
-or-right false c e = e
-
-or-false : (b : Bool) → (b || false) ≡ b
-or-false true = refl
-or-false false = refl
 
 -- ---- one of the numbers below n
 
@@ -49,29 +33,23 @@ some-below f (suc n) e = elim (or_cases (list_any f (below n)) (f n) (sym (any-m
 pub below-some : (f : ℕ → Bool) (n k : ℕ) → k < n → f k ≡ true → list_any f (below n) ≡ true
 below-some f zero k less e = absurd (omega arith)
 below-some f (suc n) k less e = any-more f n ∙ elim (cases_eq k n) [
-  | inl same ↦ or-right (list_any f (below n)) (f n) (subst (λ (m : ℕ). f m ≡ true) same e)
-  | inr other ↦ or-left (list_any f (below n)) (f n) (below-some f n k (omega arith) e)
+  | inl same ↦ or_right (list_any f (below n)) (f n) (subst (λ (m : ℕ). f m ≡ true) same e)
+  | inr other ↦ or_left (list_any f (below n)) (f n) (below-some f n k (omega arith) e)
 ]
 
 -- ---- sets of sites that meet
 
-is-less : (m n : ℕ) → nat_lt m n ≡ true → m < n
-is-less m n e = grind (arith, nat_tests)
-
-less-is : (m n : ℕ) → m < n → nat_lt m n ≡ true
-less-is m n e = grind (arith, nat_tests)
-
 meets-in : (b : Bool) (n sites : ℕ) (p q : ℕ → Bool) → n ≡ sites → (IsTrue b ↔ ((k : ℕ) × (p k ≡ true) × ((nat_lt k n && q k) ≡ true))) → b ≡ list_any (λ k. p k && q k) (below sites)
 meets-in b n sites p q same both =
-    same-truth b (list_any (λ k. p k && q k) (below sites))
+    same-test b (list_any (λ k. p k && q k) (below sites))
     (λ e. let some : (k : ℕ) × (p k ≡ true) × ((nat_lt k n && q k) ≡ true) = both.0 e in
     let parts : (nat_lt some.0 n ≡ true) × (q some.0 ≡ true) = and_parts (nat_lt some.0 n) (q some.0) some.2 in
-    let low : some.0 < sites = subst (λ (m : ℕ). some.0 < m) same (is-less some.0 n parts.0) in
+    let low : some.0 < sites = subst (λ (m : ℕ). some.0 < m) same (ltb-true some.0 n parts.0) in
     below-some (λ k. p k && q k) sites some.0 low (and_from (p some.0) (q some.0) some.1 parts.1))
     (λ e. let some : (k : ℕ) × (k < sites) × ((p k && q k) ≡ true) = some-below (λ k. p k && q k) sites e in
     let parts : (p some.0 ≡ true) × (q some.0 ≡ true) = and_parts (p some.0) (q some.0) some.2 in
     let low : some.0 < n = subst (λ (m : ℕ). some.0 < m) (sym same) some.1 in
-    both.1 (some.0, parts.0, and_from (nat_lt some.0 n) (q some.0) (less-is some.0 n low) parts.1))
+    both.1 (some.0, parts.0, and_from (nat_lt some.0 n) (q some.0) (lt-ltb some.0 n low) parts.1))
 
 -- the targets meet the sites beyond an edge just where the label leads there
 pub meets-leads : (b : Bool) (targets far : ℕ) (a : Interested) (t : TreeShape) (u v : NodeId) (l : Label) → a.sites ≡ length t.seats →
@@ -115,11 +93,11 @@ any-filter v p (x ∷ xs) passes e = elim (or_cases (node_eq v x) (list_any (nod
   | inl here ↦
       let same : v ≡ x = same-node v x here in
       let px : p x ≡ true = subst (λ (y : NodeId). p y ≡ true) same passes in
-      rw px (or-left (node_eq v x) (list_any (node_eq v) (filter p xs)) here)
+      rw px (or_left (node_eq v x) (list_any (node_eq v) (filter p xs)) here)
   | inr there ↦
       let rest : list_any (node_eq v) (filter p xs) ≡ true = any-filter v p xs passes there in
       elim (cases_Bool (p x)) [
-        | inl px ↦ rw px (or-right (node_eq v x) (list_any (node_eq v) (filter p xs)) rest)
+        | inl px ↦ rw px (or_right (node_eq v x) (list_any (node_eq v) (filter p xs)) rest)
         | inr px ↦ rw px rest
       ]
 ]
@@ -132,18 +110,15 @@ any-serializer : (y : ℕ) (ks : List ℕ) → list_any (node_eq (Serializer y))
 any-serializer y [] = refl
 any-serializer y (k ∷ ks) = ap (λ b. (y == k) || b) (any-serializer y ks)
 
-same-number : (k : ℕ) → (k == k) ≡ true
-same-number k = grind (arith, nat_tests)
-
 any-node : (t : TreeShape) (v : NodeId) → IsNode t v → list_any (node_eq v) (nodes-of t) ≡ true
 unfolding nodes-of
 any-node t (Site i) node =
     list_any-append (node_eq (Site i)) (map Site (below (length t.seats))) (map Serializer (below (length t.parents)))
-    ∙ or-left (list_any (node_eq (Site i)) (map Site (below (length t.seats)))) (list_any (node_eq (Site i)) (map Serializer (below (length t.parents))))
+    ∙ or_left (list_any (node_eq (Site i)) (map Site (below (length t.seats)))) (list_any (node_eq (Site i)) (map Serializer (below (length t.parents))))
     (any-site i (below (length t.seats)) ∙ below-some (λ k. i == k) (length t.seats) i node (same-number i))
 any-node t (Serializer y) node =
     list_any-append (node_eq (Serializer y)) (map Site (below (length t.seats))) (map Serializer (below (length t.parents)))
-    ∙ or-right (list_any (node_eq (Serializer y)) (map Site (below (length t.seats)))) (list_any (node_eq (Serializer y)) (map Serializer (below (length t.parents))))
+    ∙ or_right (list_any (node_eq (Serializer y)) (map Site (below (length t.seats)))) (list_any (node_eq (Serializer y)) (map Serializer (below (length t.parents))))
     (any-serializer y (below (length t.parents)) ∙ below-some (λ k. y == k) (length t.parents) y node (same-number y))
 
 -- and each such node is among them
@@ -153,3 +128,23 @@ is-among t z v n = any-filter v (λ m. is_edge t (Serializer z) m) (nodes-of t) 
 
 pub neighbour-at : (t : TreeShape) (z : ℕ) (nodes : List NodeId) (k : ℕ) (d : NodeId) → nodes ≡ neighbours t z → k < length nodes → IsNeighbour t z (get_or nodes k d)
 neighbour-at t z nodes k d same within = subst (λ (vs : List NodeId). All (IsNeighbour t z) vs) (sym same) (all-neighbours t z) k d within
+
+-- ---- the neighbours that pass, and their marks, of one neighbour more
+
+pub marks-more : (test : NodeId → Bool) (nodes : List NodeId) (i : ℕ) (d : NodeId) (mark : Bool) (marks : List Bool) → i < length nodes → mark ≡ test (get_or nodes i d) →
+    marks ≡ map test (take i nodes) → marks ++ mark ∷ [] ≡ map test (take (i + 1) nodes)
+marks-more test nodes i d mark marks less is had =
+    ap (λ ms. ms ++ mark ∷ []) had
+    ∙ (ap (λ m. map test (take i nodes) ++ m ∷ []) is
+    ∙ sym (ap (map test) (take_more nodes i d less) ∙ map-append test (take i nodes) (get_or nodes i d ∷ [])))
+
+pub picks : (test : NodeId → Bool) (nodes : List NodeId) (i : ℕ) (d : NodeId) (picked : List NodeId) → i < length nodes → test (get_or nodes i d) ≡ true →
+    picked ≡ filter test (take i nodes) → picked ++ get_or nodes i d ∷ [] ≡ filter test (take (i + 1) nodes)
+picks test nodes i d picked less passes had =
+    ap (λ ns. ns ++ get_or nodes i d ∷ []) had
+    ∙ sym (filter_more test nodes i d less ∙ ap (λ b. filter test (take i nodes) ++ cond b (get_or nodes i d ∷ []) []) passes)
+
+pub skips : (test : NodeId → Bool) (nodes : List NodeId) (i : ℕ) (d : NodeId) (picked : List NodeId) → i < length nodes → test (get_or nodes i d) ≡ false →
+    picked ≡ filter test (take i nodes) → picked ≡ filter test (take (i + 1) nodes)
+skips test nodes i d picked less fails had =
+    had ∙ sym (filter_more test nodes i d less ∙ (ap (λ b. filter test (take i nodes) ++ cond b (get_or nodes i d ∷ []) []) fails ∙ append-nil _))

@@ -25,11 +25,15 @@ pub record IsSerializer (s : SerializerSeen) : Type 0 where
 abbrev pub fresh : TreeShape → ℕ → SerializerSeen
 fresh t z = record { tree = t; number = z; killed = false; outboxes = replicate (length (neighbours t z)) [] }
 
--- the outboxes of these nodes, after a change of each whose node passes the test
-abbrev pub change_where : (NodeId → Bool) → (List Label → List Label) → List NodeId → List (List Label) → List (List Label)
+-- the outboxes of these nodes (or of these marks), after a change of each whose node (or whose mark) passes the test
+abbrev pub change_where : {X : Type 0} → (X → Bool) → (List Label → List Label) → List X → List (List Label) → List (List Label)
 change_where test change [] boxes = boxes
 change_where test change (v ∷ nodes) [] = []
 change_where test change (v ∷ nodes) (box ∷ boxes) = (if test v then change box else box) ∷ change_where test change nodes boxes
+
+-- a mark passes where it is set
+abbrev pub is_marked : Bool → Bool
+is_marked mark = mark
 
 -- the outbox of node v, the first of that node, among those of these nodes
 abbrev pub box_of : NodeId → List NodeId → List (List Label) → List Label
@@ -48,17 +52,17 @@ abbrev pub outbox : SerializerSeen → NodeId → List Label
 outbox s v = box_of v (neighbours s.tree s.number) s.outboxes
 
 -- a copy of a label that came from u in the outbox of each neighbour that it goes on to
-abbrev pub handled : SerializerSeen → Interested → NodeId → Label → SerializerSeen
-handled s a u l =
+abbrev pub after_handle : SerializerSeen → Interested → NodeId → Label → SerializerSeen
+after_handle s a u l =
     record s { outboxes = change_where (goes a s.tree s.number u l) (λ box. box ++ l ∷ []) (neighbours s.tree s.number) s.outboxes }
 
 -- the oldest label for a neighbour taken out
-abbrev pub shipped : SerializerSeen → NodeId → SerializerSeen
-shipped s v = record s { outboxes = boxes_without v (neighbours s.tree s.number) s.outboxes }
+abbrev pub after_ship : SerializerSeen → NodeId → SerializerSeen
+after_ship s v = record s { outboxes = boxes_without v (neighbours s.tree s.number) s.outboxes }
 
 -- What the two changes do to the outbox of each neighbour of a serializer: a label goes
 -- last into just the outboxes of the neighbours that it goes on to, and the first leaves just the outbox that is shipped.
 pub record EachOutbox : Type 0 where
   pub handles : (s : SerializerSeen) (a : Interested) (u v : NodeId) (l : Label) → IsSerializer s → IsNeighbour s.tree s.number v →
-      outbox (handled s a u l) v ≡ (if goes a s.tree s.number u l v then outbox s v ++ l ∷ [] else outbox s v)
-  pub ships : (s : SerializerSeen) (to v : NodeId) → outbox (shipped s to) v ≡ (if node_eq to v then drop 1 (outbox s v) else outbox s v)
+      outbox (after_handle s a u l) v ≡ (if goes a s.tree s.number u l v then outbox s v ++ l ∷ [] else outbox s v)
+  pub ships : (s : SerializerSeen) (to v : NodeId) → outbox (after_ship s to) v ≡ (if node_eq to v then drop 1 (outbox s v) else outbox s v)

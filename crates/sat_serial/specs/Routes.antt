@@ -10,6 +10,11 @@ use Rattle.sat_sites.specs.Interested.{Interested, is_for, IsLabelOf}
 use Rattle.sat_tree.specs.Shape.{TreeShape}
 use Rattle.sat_tree.specs.Cut.{beyond, is_edge, neighbours, IsNode}
 
+-- a serializer's place: a tree, and its number there
+pub record Placed : Type 0 where
+  pub tree : TreeShape
+  pub number : ℕ
+
 -- whether a target of the label lies beyond the edge from u to v
 unfoldable pub leads : Interested → TreeShape → NodeId → NodeId → Label → Bool
 leads a t u v l = list_any (λ k. is_for a l k && beyond t u v (Site k)) (below a.sites)

@@ -3,16 +3,13 @@ ghost use Rattle.std.specs.Prelude.{◌≡◌};
 ghost use Rattle.sat_serial.specs.declared.fault.HandleFault.TheVariants.{Memory};
 
 use std::alloc::AllocError;
-use thiserror::Error;
 
 /// Why a label was not handled.
-#[derive(Clone, Copy, Debug, PartialEq, Eq, Drop, Error)]
+#[derive(Clone, Copy, Debug, PartialEq, Eq, Drop)]
 pub enum HandleFault {
     /// The serializer was killed.
-    #[error("the serializer was killed")]
     Dead,
     /// There was no memory for the copies.
-    #[error("out of memory")]
     Memory,
 }
 
@@ -25,9 +22,8 @@ impl From<AllocError> for HandleFault {
 }
 
 /// Why a serializer was not killed.
-#[derive(Clone, Copy, Debug, PartialEq, Eq, Drop, Error)]
+#[derive(Clone, Copy, Debug, PartialEq, Eq, Drop)]
 pub enum KillFault {
     /// It was killed before.
-    #[error("the serializer was killed before")]
     Already,
 }

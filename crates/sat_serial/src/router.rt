@@ -1,27 +1,55 @@
 //! The ways on from one serializer.
-ghost use Rattle.std.specs.Prelude.{◌≡◌, ◌<◌, length, true, IfOk};
+ghost use Rattle.std.specs.Prelude.{◌≡◌, ◌<◌, ℕ, length, filter, map, IfOk};
 ghost use Rattle.std.specs.List.{position};
 ghost use Rattle.sat_label.specs.Order.{node_eq};
+ghost use Rattle.sat_label.specs.Words.{bit};
 ghost use Rattle.sat_tree.specs.Cut.{neighbours};
-ghost use Rattle.sat_sites.specs.Interested.{IsLabelOf};
+ghost use Rattle.sat_sites.specs.Interested.{Interested, is_for, IsLabelOf};
+ghost use Rattle.sat_label.specs.declared.label.Label as declared_label;
 ghost use Rattle.sat_serial.specs.Routes.{goes, routes, IsNeighbour};
 
-use sat_label::{Label, NodeId, Nodes};
+use sat_label::{Label, NodeId, Nodes, SiteSet};
 use sat_sites::Interest;
 use sat_tree::Tree;
 use std::alloc::{AllocError, Global};
+use std::marker::Model;
 
-/// A serializer's place in its tree. Its number is one of the tree's.
+/// A serializer's place in its tree. Contracts see the tree and the number, which is one of the tree's.
 #[derive(Drop)]
 pub struct Router {
-    pub tree: Tree,
-    pub number: u16,
+    tree: Tree,
+    number: u16,
+}
+
+impl Model for Router {
+    ghost use Rattle.std.specs.Prelude.{◌<◌, length};
+    ghost use Rattle.sat_serial.specs.Routes.{Placed};
+
+    ghost Value = { Placed };
+
+    ghost view = { λ a. record { tree = a.tree; number = a.number } };
+
+    ghost invariant = { λ a. a.number < length a.tree.parents };
+}
+
+/// Where a label goes on to: the neighbours, and for each neighbour whether it is one of them.
+#[derive(Drop)]
+pub struct Onward {
+    pub nodes: Nodes,
+    pub marks: Vec<bool>,
 }
 
 impl Router {
+    /// The place of a serializer.
+    pub fn new(tree: Tree, number: u16) -> Router
+        requires { number < length tree.parents }
+        ensures { result ≡ record { tree = tree; number = number } }
+    {
+        Router { tree, number }
+    }
+
     /// The neighbours, sites ascending and then serializers ascending.
     pub fn neighbours(&self) -> &[NodeId]
-        requires { self.now.number < length self.now.tree.parents }
         ensures { result.now ≡ neighbours self.now.tree self.now.number }
     {
         self.tree.neighbours(self.number)
@@ -29,7 +57,6 @@ impl Router {
 
     /// The place of a node among the neighbours, if it is one.
     pub fn place(&self, node: NodeId) -> Option<usize>
-        requires { self.now.number < length self.now.tree.parents }
         ensures { result ≡ position (node_eq node) (neighbours self.now.tree self.now.number) }
     {
         self.neighbours()
@@ -37,39 +64,41 @@ impl Router {
             .position(|neighbour| node.is_same(neighbour))
     }
 
-    /// Whether a label that came from a node goes on to a neighbour.
-    pub fn goes(&self, interest: &Interest, from: NodeId, label: &Label, to: NodeId) -> bool
-        requires number { self.now.number < length self.now.tree.parents }
-        requires sites { interest.now.sites ≡ length self.now.tree.seats }
-        requires label { IsLabelOf interest.now label.now }
-        requires neighbour { IsNeighbour self.now.tree self.now.number to }
-        ensures { result ≡ goes interest.now self.now.tree self.now.number from label.now to }
+    // Whether a label that came from a node goes on to a neighbour, by its targets.
+    fn goes(&self, targets: &SiteSet, from: NodeId, to: NodeId) -> bool
+        requires { IsNeighbour self.now.tree self.now.number to }
+        ensures { (a : Interested) (l : declared_label.Label) → a.sites ≡ length self.now.tree.seats →
+            ((k : ℕ) → bit targets.now.bits k ≡ is_for a l k) → result ≡ goes a self.now.tree self.now.number from l to }
     {
         let here = NodeId::Serializer(self.number);
-        let targets = interest.targets(label);
-        let beyond = self.tree.beyond(here, to);
-        !from.is_same(&to) && targets.meets(&beyond)
+        !from.is_same(&to) && targets.meets(&self.tree.beyond(here, to))
     }
 
-    /// The neighbours that a label that came from a node goes on to, in their order.
-    pub fn route(
+    /// Where a label that came from a node goes on to.
+    pub fn onward(
         &self,
         alloc: Global,
         interest: &Interest,
         from: NodeId,
         label: &Label,
-    ) -> Result<Nodes, AllocError>
-        requires number { self.now.number < length self.now.tree.parents }
+    ) -> Result<Onward, AllocError>
         requires sites { interest.now.sites ≡ length self.now.tree.seats }
         requires label { IsLabelOf interest.now label.now }
-        ensures { IfOk result (λ nodes. nodes ≡ routes interest.now self.now.tree self.now.number from label.now) }
+        ensures nodes { IfOk result
+            (λ onward. onward.nodes ≡ routes interest.now self.now.tree self.now.number from label.now) }
+        ensures marks { IfOk result (λ onward. onward.marks.items
+            ≡ map (goes interest.now self.now.tree self.now.number from label.now) (neighbours self.now.tree self.now.number)) }
     {
+        let targets = interest.targets(label);
         let mut nodes = Nodes::new(alloc);
+        let mut marks = Vec::new(alloc);
         for neighbour in self.neighbours() {
-            if self.goes(interest, from, label, *neighbour) {
+            let goes = self.goes(&targets, from, *neighbour);
+            marks.push(goes)?;
+            if goes {
                 nodes.push(*neighbour)?;
             }
         }
-        Ok(nodes)
+        Ok(Onward { nodes, marks })
     }
 }

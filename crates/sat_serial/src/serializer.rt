@@ -1,15 +1,16 @@
 //! Serializers.
 ghost use Rattle.std.specs.Prelude.{◌≡◌, ◌<◌, length, slice_get, true, false, IfOk, IsOk, IsErrOf, IsOkUnless, OnOk, OnErr};
 ghost use Rattle.sat_serial.specs.Routes.{routes, Arrives, IsNeighbour};
-ghost use Rattle.sat_serial.specs.Outboxes.{fresh, handled, outbox, shipped, IsSerializer};
+ghost use Rattle.sat_serial.specs.Outboxes.{fresh, after_handle, outbox, after_ship, IsSerializer};
 
+use crate::outboxes::add_copies;
 use crate::router::Router;
-use crate::{HandleFault, KillFault, outboxes};
+use crate::{HandleFault, KillFault};
 use sat_label::{Label, NodeId, Nodes};
+use sat_queue::{Queue, empty_queues, reserve_each};
 use sat_sites::Interest;
 use sat_tree::Tree;
 use std::alloc::{AllocError, Global};
-use std::collections::VecDeque;
 use std::marker::Model;
 
 /// One serializer of a tree. Contracts see the tree, its number there, whether it was killed, and the labels in the outbox of
@@ -18,18 +19,19 @@ use std::marker::Model;
 pub struct Serializer {
     router: Router,
     killed: bool,
-    outboxes: Vec<VecDeque<Label>>,
+    outboxes: Vec<Queue<Label>>,
 }
 
 impl Model for Serializer {
-    ghost use Rattle.sat_serial.specs.Queues.{labels_in};
+    ghost use Rattle.std.specs.Prelude.{map};
+    ghost use Rattle.sat_queue.specs.Queued.{members_of};
     ghost use Rattle.sat_serial.specs.Outboxes.{SerializerSeen, IsSerializer};
 
     ghost Value = { SerializerSeen };
 
-    ghost view = { λ a. record { tree = a.router.tree; number = a.router.number; killed = a.killed; outboxes = labels_in a.outboxes.items } };
+    ghost view = { λ a. record { tree = a.router.tree; number = a.router.number; killed = a.killed; outboxes = map members_of a.outboxes.items } };
 
-    ghost invariant = { λ a. IsSerializer (record { tree = a.router.tree; number = a.router.number; killed = a.killed; outboxes = labels_in a.outboxes.items }) };
+    ghost invariant = { λ a. IsSerializer (record { tree = a.router.tree; number = a.router.number; killed = a.killed; outboxes = map members_of a.outboxes.items }) };
 }
 
 impl Serializer {
@@ -38,9 +40,8 @@ impl Serializer {
         requires { number < length tree.now.parents }
         ensures { IfOk result (λ serializer. serializer ≡ fresh tree.now number) }
     {
-        let tree = tree.copy()?;
-        let router = Router { tree, number };
-        let outboxes = outboxes::empty(alloc, router.neighbours().len())?;
+        let router = Router::new(tree.copy()?, number);
+        let outboxes = empty_queues(alloc, router.neighbours().len())?;
         Ok(Serializer {
             router,
             killed: false,
@@ -60,7 +61,7 @@ impl Serializer {
     ) -> Result<Nodes, HandleFault>
         requires { Arrives interest.now self.old.tree self.old.number from label }
         ensures nodes { IfOk result (λ nodes. nodes ≡ routes interest.now self.old.tree self.old.number from label) }
-        ensures ok { OnOk result (self.new ≡ handled self.old interest.now from label) }
+        ensures ok { OnOk result (self.new ≡ after_handle self.old interest.now from label) }
         ensures err { OnErr result (self.new ≡ self.old) }
         ensures dead { self.old.killed ≡ true → IsErrOf result HandleFault.Dead }
         ensures alive { self.old.killed ≡ false → IsOkUnless result HandleFault.Memory }
@@ -69,10 +70,11 @@ impl Serializer {
         if self.killed {
             return Err(HandleFault::Dead);
         }
-        let nodes = self.route(interest, from, &label)?;
-        outboxes::make_room(&mut self.outboxes)?;
-        outboxes::add_copies(&mut self.outboxes, &self.router, interest, from, &label);
-        Ok(nodes)
+        let alloc = *self.outboxes.allocator();
+        let onward = self.router.onward(alloc, interest, from, &label)?;
+        reserve_each(&mut self.outboxes)?;
+        add_copies(&mut self.outboxes, &onward.marks, &label);
+        Ok(onward.nodes)
     }
 
     /// The nodes that `handle` answers while the serializer is alive; `handle` says what it asks for.
@@ -87,7 +89,8 @@ impl Serializer {
         ensures limits { IsSerializer self.now }
     {
         let alloc = *self.outboxes.allocator();
-        self.router.route(alloc, interest, from, label)
+        let onward = self.router.onward(alloc, interest, from, label)?;
+        Ok(onward.nodes)
     }
 
     /// The oldest label in the outbox of a neighbour, None where it is empty. It stays there.
@@ -99,7 +102,7 @@ impl Serializer {
         let Some(place) = self.router.place(to) else {
             return None;
         };
-        outboxes::oldest(&self.outboxes[place])
+        self.outboxes[place].front()
     }
 
     /// Takes the oldest label out of the outbox of a neighbour, None where it is empty. It takes no memory, and works after a
@@ -107,13 +110,13 @@ impl Serializer {
     pub fn ship(&mut self, to: NodeId) -> Option<Label>
         requires { IsNeighbour self.old.tree self.old.number to }
         ensures label { result ≡ slice_get (outbox self.old to) 0 }
-        ensures rest { self.new ≡ shipped self.old to }
+        ensures rest { self.new ≡ after_ship self.old to }
         ensures limits { IsSerializer self.old }
     {
         let Some(place) = self.router.place(to) else {
             return None;
         };
-        outboxes::take_oldest(&mut self.outboxes[place])
+        self.outboxes[place].take()
     }
 
     /// Kills the serializer: it handles nothing from now on. `Already` says that it was killed before. It takes no memory.

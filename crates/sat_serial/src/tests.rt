@@ -1,97 +1,157 @@
-//! Labels through the serializers of one tree, and the faults.
-ghost use Rattle.std.specs.Prelude.{◌≡◌, ◌<◌, IfOk};
-ghost use Rattle.sat_serial.specs.Examples.{five_sites, kept_at_1_and_3, update_at};
-ghost use Rattle.sat_serial.specs.Routes.{Arrives, IsNeighbour};
+//! Labels of every kind through serializers, and what a killed one does.
+ghost use Rattle.std.specs.Prelude.{◌≡◌, ◌<◌, ◌≤◌, length, true};
+ghost use Rattle.sat_label.specs.declared.limits.TheConstants.{MOST_SITES};
+ghost use Rattle.sat_tree.specs.Cut.{is_edge, IsNode};
+ghost use Rattle.sat_sites.specs.Interested.{IsLabelOf};
+ghost use Rattle.sat_serial.specs.Routes.{leads, Arrives, IsNeighbour};
 
 use crate::{HandleFault, KillFault, Serializer, outbox_laws};
 use sat_label::{Kind, Label, NodeId, Nodes, Point, SiteSet};
-use sat_sites::{Interest, InterestFault};
-use sat_tree::{Tree, TreeFault};
+use sat_sites::Interest;
+use sat_tree::Tree;
 use std::alloc::Global;
 use std::marker::Model;
 use std::test::Fail;
 
-// Serializers 1 and 2 hang on 0; site 0 is seated at 0, sites 1 and 2 at 1, sites 3 and 4 at 2.
-fn five_sites(alloc: Global) -> Result<Tree, TreeFault>
-    ensures { IfOk result (λ t. t ≡ five_sites) }
+// Whether it is a node of the tree.
+fn is_node(tree: &Tree, node: NodeId) -> bool
+    ensures { result ≡ true → IsNode tree.now node }
 {
-    Tree::new(alloc, &[None, Some(0), Some(0)], &[0, 1, 1, 2, 2])
-}
-
-// Sites 1 and 3 keep the one item.
-fn kept_at_1_and_3(alloc: Global) -> Result<Interest, InterestFault>
-    ensures { IfOk result (λ a. a ≡ kept_at_1_and_3) }
-{
-    Interest::new(alloc, 5, &[SiteSet { bits: 0b1010 }])
-}
-
-// An update of the item, made at site 1.
-fn update_at(ts: u64) -> Label
-    ensures { result ≡ update_at ts }
-{
-    Label {
-        point: Point::mark(ts, 1),
-        kind: Kind::Update(0),
+    match node {
+        NodeId::Site(site) => site < tree.sites(),
+        NodeId::Serializer(z) => z < tree.serializers(),
     }
 }
 
-// The nodes that a fresh serializer of the tree hands a label on to.
-fn route_at(alloc: Global, number: u16, from: NodeId, label: &Label) -> Result<Nodes, Fail>
-    requires number { number < 3 }
-    requires label { Arrives kept_at_1_and_3 five_sites number from label.now }
+// Whether it is a neighbour of a serializer.
+fn is_neighbour(tree: &Tree, number: u16, node: NodeId) -> bool
+    requires { number < length tree.now.parents }
+    ensures { result ≡ true → IsNeighbour tree.now number node }
 {
-    let tree = five_sites(alloc)?;
-    let interest = kept_at_1_and_3(alloc)?;
-    let serializer = Serializer::new(alloc, &tree, number)?;
-    Ok(serializer.route(&interest, from, label)?)
+    if !is_node(tree, node) {
+        return false;
+    }
+    tree.is_edge(NodeId::Serializer(number), node)
 }
 
-// The serializer 0, which is handed updates by serializer 1.
+// Whether it is a label of the interest.
+fn is_label(interest: &Interest, sites: u16, label: &Label) -> bool
+    requires { interest.now.sites ≡ sites }
+    ensures { result ≡ true → IsLabelOf interest.now label.now }
+{
+    if label.point.site >= sites {
+        return false;
+    }
+    match label.kind {
+        Kind::Update(item) => (item as usize) < interest.items(),
+        Kind::Move(site) => site < sites,
+        Kind::Pulse => true,
+        Kind::Close(_) => true,
+    }
+}
+
+// Whether a target of the label lies beyond the edge from one node to another.
+fn leads(tree: &Tree, interest: &Interest, from: NodeId, to: NodeId, label: &Label) -> bool
+    requires sites { interest.now.sites ≡ length tree.now.seats }
+    requires label { IsLabelOf interest.now label.now }
+    requires from { IsNode tree.now from }
+    requires to { IsNode tree.now to }
+    requires edge { is_edge tree.now from to ≡ true }
+    ensures { result ≡ leads interest.now tree.now from to label.now }
+{
+    let targets = interest.targets(label);
+    let beyond = tree.beyond(from, to);
+    targets.meets(&beyond)
+}
+
+// Whether a serializer may be handed the label by the node.
+fn arrives(tree: &Tree, interest: &Interest, number: u16, from: NodeId, label: &Label) -> bool
+    requires number { number < length tree.now.parents }
+    requires sites { interest.now.sites ≡ length tree.now.seats }
+    ensures { result ≡ true → Arrives interest.now tree.now number from label.now }
+{
+    let here = NodeId::Serializer(number);
+    if !is_neighbour(tree, number, from) || !is_label(interest, tree.sites(), label) {
+        return false;
+    }
+    if !tree.is_edge(from, here) {
+        return false;
+    }
+    leads(tree, interest, from, here, label)
+}
+
+// A serializer with what it is handed: calls that it doesn't allow are refused by a test.
 #[derive(Drop)]
-struct Root {
-    serializer: Serializer,
+struct Post {
+    tree: Tree,
     interest: Interest,
+    number: u16,
+    serializer: Serializer,
 }
 
-impl Model for Root {
-    ghost use Rattle.std.specs.Prelude.{◌≡◌};
+impl Model for Post {
+    ghost use Rattle.std.specs.Prelude.{◌≡◌, ◌<◌, length};
     ghost use Rattle.sat_serial.specs.Outboxes.{SerializerSeen};
-    ghost use Rattle.sat_serial.specs.Examples.{five_sites, kept_at_1_and_3};
 
     ghost Value = { SerializerSeen };
 
     ghost view = { λ a. a.serializer };
 
-    ghost invariant = { λ a. (a.serializer.tree ≡ five_sites) × (a.serializer.number ≡ 0) × (a.interest ≡ kept_at_1_and_3) };
+    ghost invariant = { λ a. (a.serializer.tree ≡ a.tree) × (a.serializer.number ≡ a.number)
+        × (a.interest.sites ≡ length a.tree.seats) × (a.number < length a.tree.parents) };
 }
 
-impl Root {
-    fn new(alloc: Global) -> Result<Root, Fail> {
-        let tree = five_sites(alloc)?;
-        let interest = kept_at_1_and_3(alloc)?;
-        let serializer = Serializer::new(alloc, &tree, 0)?;
-        Ok(Root {
-            serializer,
+impl Post {
+    // The serializer with this number. The one item is kept at these sites.
+    fn new(
+        alloc: Global,
+        parents: &[Option<u16>],
+        seats: &[u16],
+        kept: SiteSet,
+        number: u16,
+    ) -> Result<Post, Fail>
+        requires { length seats.now ≤ MOST_SITES }
+    {
+        let tree = Tree::new(alloc, parents, seats)?;
+        let interest = Interest::new(alloc, tree.sites(), &[kept])?;
+        if number >= tree.serializers() {
+            return Err(Fail::from("no such serializer"));
+        }
+        let serializer = Serializer::new(alloc, &tree, number)?;
+        Ok(Post {
+            tree,
             interest,
+            number,
+            serializer,
         })
     }
 
-    fn handle(&mut self, ts: u64) -> Result<Nodes, HandleFault> {
-        let nodes = self
-            .serializer
-            .handle(&self.interest, NodeId::Serializer(1), update_at(ts))?;
+    fn handle(&mut self, from: NodeId, label: Label) -> Result<Nodes, Fail> {
+        if !arrives(&self.tree, &self.interest, self.number, from, &label) {
+            return Err(Fail::from("not for this serializer"));
+        }
+        let nodes = self.serializer.handle(&self.interest, from, label)?;
         Ok(nodes)
     }
 
-    fn front(&self, to: NodeId) -> Option<Label>
-        requires { IsNeighbour five_sites 0 to }
-    {
+    fn is_dead(&mut self, from: NodeId, label: Label) -> bool {
+        if !arrives(&self.tree, &self.interest, self.number, from, &label) {
+            return false;
+        }
+        self.serializer.handle(&self.interest, from, label).err() == Some(HandleFault::Dead)
+    }
+
+    fn front(&self, to: NodeId) -> Option<Label> {
+        if !is_neighbour(&self.tree, self.number, to) {
+            return None;
+        }
         self.serializer.front(to)
     }
 
-    fn ship(&mut self, to: NodeId) -> Option<Label>
-        requires { IsNeighbour five_sites 0 to }
-    {
+    fn ship(&mut self, to: NodeId) -> Option<Label> {
+        if !is_neighbour(&self.tree, self.number, to) {
+            return None;
+        }
         self.serializer.ship(to)
     }
 
@@ -100,63 +160,119 @@ impl Root {
     }
 }
 
+// A label that site 0 sent.
+fn label(ts: u64, kind: Kind) -> Label {
+    Label {
+        point: Point {
+            ts,
+            site: 0,
+            gear: 0,
+        },
+        kind,
+    }
+}
+
+// The nodes that labels of these kinds go on to, one after another.
+fn onward(post: &mut Post, alloc: Global, from: NodeId, kinds: &[Kind]) -> Result<Nodes, Fail> {
+    let mut all = Nodes::new(alloc);
+    for kind in kinds {
+        let nodes = post.handle(from, label(1, *kind))?;
+        for node in nodes.as_slice() {
+            all.push(*node)?;
+        }
+    }
+    Ok(all)
+}
+
+// Serializer z + 1 hangs on z; site i is seated at serializer i, and the last two at the last one.
 #[test]
-#[tactic(auto, using(crate::proofs::FiveSites::update_at_left, crate::proofs::FiveSites::update_at_root, crate::proofs::FiveSites::update_at_right))]
-fn a_label_goes_towards_its_targets(rt: HostRuntime) -> Result<(), Fail> {
+fn labels_go_down_a_chain(rt: HostRuntime) -> Result<(), Fail> {
     outbox_laws();
     let alloc = rt.alloc();
-    let first = route_at(alloc, 1, NodeId::Site(1), &update_at(1))?;
-    assert_eq!(rt; first.as_slice(), [NodeId::Serializer(0)].as_slice());
-    let second = route_at(alloc, 0, NodeId::Serializer(1), &update_at(1))?;
-    assert_eq!(rt; second.as_slice(), [NodeId::Serializer(2)].as_slice());
-    let third = route_at(alloc, 2, NodeId::Serializer(0), &update_at(1))?;
-    assert_eq!(rt; third.as_slice(), [NodeId::Site(3)].as_slice());
-    Ok(())
-}
-
-#[test]
-#[tactic(auto, using(crate::proofs::FiveSites::pulse_at_left))]
-fn a_pulse_goes_everywhere_but_back(rt: HostRuntime) -> Result<(), Fail> {
-    let pulse = Label {
-        point: Point::mark(1, 1),
-        kind: Kind::Pulse,
-    };
-    let nodes = route_at(rt.alloc(), 1, NodeId::Site(1), &pulse)?;
+    let mut parents = [None; 15];
+    let mut seats = [14u16; 16];
+    for z in 1..15u16 {
+        parents[z as usize] = Some(z - 1);
+        seats[z as usize - 1] = z - 1;
+    }
+    let mut post = Post::new(alloc, &parents, &seats, SiteSet::one(0).with(15), 7)?;
+    let kinds = [Kind::Update(0), Kind::Move(15), Kind::Pulse, Kind::Close(1)];
+    let nodes = onward(&mut post, alloc, NodeId::Serializer(6), &kinds)?;
+    let (own, next) = (NodeId::Site(7), NodeId::Serializer(8));
     assert_eq!(rt;
         nodes.as_slice(),
-        [NodeId::Site(2), NodeId::Serializer(0)].as_slice()
+        [next, next, own, next, own, next].as_slice()
     );
+    let shipped = [
+        post.ship(own),
+        post.ship(own),
+        post.ship(own),
+        post.front(next),
+        post.ship(next),
+        post.ship(next),
+    ];
+    let expected = [
+        Some(label(1, Kind::Pulse)),
+        Some(label(1, Kind::Close(1))),
+        None,
+        Some(label(1, Kind::Update(0))),
+        Some(label(1, Kind::Update(0))),
+        Some(label(1, Kind::Move(15))),
+    ];
+    assert_eq!(rt; shipped, expected);
     Ok(())
 }
 
+// All serializers hang on serializer 0. Sites 0 to 13 are seated at the serializers 1 to 14, and sites 14 and 15 at the root.
 #[test]
-#[tactic(auto, using(crate::proofs::FiveSites::site_of_root, crate::proofs::FiveSites::left_of_root, crate::proofs::FiveSites::right_of_root))]
-fn labels_are_shipped_in_order(rt: HostRuntime) -> Result<(), Fail> {
-    let mut root = Root::new(rt.alloc())?;
-    assert_eq!(rt;
-        root.handle(1)?.as_slice(),
-        [NodeId::Serializer(2)].as_slice()
-    );
-    root.handle(2)?;
-    assert_eq!(rt; root.front(NodeId::Serializer(2)), Some(update_at(1)));
-    assert_eq!(rt; root.ship(NodeId::Serializer(2)), Some(update_at(1)));
-    assert_eq!(rt; root.front(NodeId::Serializer(1)), None);
-    assert_eq!(rt; root.ship(NodeId::Serializer(1)), None);
-    assert_eq!(rt; root.ship(NodeId::Site(0)), None);
-    assert_eq!(rt; root.ship(NodeId::Serializer(2)), Some(update_at(2)));
-    assert_eq!(rt; root.ship(NodeId::Serializer(2)), None);
+fn labels_go_through_the_middle_of_a_star(rt: HostRuntime) -> Result<(), Fail> {
+    let alloc = rt.alloc();
+    let mut parents = [Some(0u16); 15];
+    parents[0] = None;
+    let mut seats = [0u16; 16];
+    for site in 0..14u16 {
+        seats[site as usize] = site + 1;
+    }
+    let mut post = Post::new(alloc, &parents, &seats, SiteSet::one(0).with(3).with(15), 0)?;
+    let kinds = [Kind::Update(0), Kind::Move(5), Kind::Pulse, Kind::Close(1)];
+    let nodes = onward(&mut post, alloc, NodeId::Serializer(1), &kinds)?;
+    let mut expected = Nodes::new(alloc);
+    expected.push(NodeId::Site(15))?;
+    expected.push(NodeId::Serializer(4))?;
+    expected.push(NodeId::Serializer(6))?;
+    for _ in 0..2 {
+        expected.push(NodeId::Site(14))?;
+        expected.push(NodeId::Site(15))?;
+        for z in 2..15u16 {
+            expected.push(NodeId::Serializer(z))?;
+        }
+    }
+    assert_eq!(rt; nodes.as_slice(), expected.as_slice());
     Ok(())
 }
 
+// Serializers 1 and 2 hang on 0; site 0 is seated at 1, and site 1 at 2.
 #[test]
-#[tactic(auto, using(crate::proofs::FiveSites::right_of_root))]
 fn a_killed_serializer_still_ships(rt: HostRuntime) -> Result<(), Fail> {
-    let mut root = Root::new(rt.alloc())?;
-    root.handle(1)?;
-    assert_eq!(rt; root.kill(), Ok(()));
-    assert_eq!(rt; root.kill(), Err(KillFault::Already));
-    assert_eq!(rt; root.handle(2).err(), Some(HandleFault::Dead));
-    assert_eq!(rt; root.ship(NodeId::Serializer(2)), Some(update_at(1)));
-    assert_eq!(rt; root.ship(NodeId::Serializer(2)), None);
+    let alloc = rt.alloc();
+    let mut post = Post::new(
+        alloc,
+        &[None, Some(0), Some(0)],
+        &[1, 2],
+        SiteSet::one(0).with(1),
+        0,
+    )?;
+    let (left, right) = (NodeId::Serializer(1), NodeId::Serializer(2));
+    let update = label(1, Kind::Update(0));
+    assert_eq!(rt; post.handle(left, update)?.as_slice(), [right].as_slice());
+    assert_eq!(rt;
+        [post.kill(), post.kill()],
+        [Ok(()), Err(KillFault::Already)]
+    );
+    assert!(rt; post.is_dead(left, label(2, Kind::Pulse)));
+    assert_eq!(rt;
+        [post.ship(left), post.ship(right), post.ship(right)],
+        [None, Some(update), None]
+    );
     Ok(())
 }

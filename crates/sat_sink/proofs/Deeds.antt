@@ -1,22 +1,25 @@
 -- What each call makes of a sink, by the view of its fields.
-use Rattle.std.specs.Prelude.{◌≡◌, ◌<◌, ℕ, Bool, true, false, ◌&&◌, not, List, [], length, get_or, set, drop, map, Option, Some, None, is_some, nat_lt, refl}
+use Rattle.std.specs.Prelude.{◌≡◌, ◌<◌, ℕ, true, ◌&&◌, not, List, [], length, get_or, set, drop, map, Option, Some, None, is_some, nat_lt, refl}
 use Rattle.std.proofs.Common.{arith, ap, subst, sym, ◌∙◌}
+use Rattle.std.proofs.lemmas.Bool.{and_parts}
 use Rattle.std.proofs.lemmas.List.{map-set, length-map}
 use Rattle.sat_label.specs.declared.point.Point.{Point}
 use Rattle.sat_label.specs.declared.label.Label.{Label}
+use Rattle.sat_label.specs.declared.limits.TheConstants.{PULSE_GEAR}
 use Rattle.sat_label.specs.Order.{point_at, point_lt, point_le}
 use Rattle.sat_bulk.specs.declared.Drained.{Drained}
-use Rattle.sat_sink.specs.Pending.{Queued, labels_in, labels_of, promise_of, joined, without}
-use Rattle.sat_sink.specs.Sink.{Sink, stable_of, ready_of, cut_of, may_pulse, emitted, after_emit, AllAbove, IsDrain, IsSink}
+use Rattle.sat_queue.specs.Queued.{Queued, members_of}
+use Rattle.sat_sink.specs.Pending.{labels_of, promise_of, joined, without}
+use Rattle.sat_sink.specs.Sink.{Sink, stable_of, ready_of, cut_of, may_pulse, after_emit_of, after_emit, AllAbove, IsDrain, IsSink}
 use Rattle.sat_sink.proofs.Fronts.{labels-get}
 use Rattle.sat_sink.proofs.Sinks.{IsNext, next-is, popped, emitted-is, emit-above, emit-upto, emit-cut, pulsed-is, closed-is, closed-cut, cut-below, gathered-is, gather-cut}
 
 -- ---- emit
 
-pub next-queue : (s v : Sink) (qs : List Queued) (l : Label) → v ≡ s → IsSink v → ready_of s ≡ Some l → map labels_in qs ≡ v.pending → l.point.gear < length qs
+pub next-queue : (s v : Sink) (qs : List (Queued Label)) (l : Label) → v ≡ s → IsSink v → ready_of s ≡ Some l → map members_of qs ≡ v.pending → l.point.gear < length qs
 next-queue s v qs l same k e q =
     let n : IsNext v l = next-is v l k (ap ready_of same ∙ e) in
-    omega (arith, n.within, k.rows, ap (λ (ls : List (List Label)). length ls) q, length-map qs labels_in)
+    omega (arith, n.within, k.rows, ap (λ (ls : List (List Label)). length ls) q, length-map qs members_of)
 
 pub record Emits (s w : Sink) (l : Label) : Type 0 where
   pub sink : IsSink w
@@ -25,43 +28,39 @@ pub record Emits (s w : Sink) (l : Label) : Type 0 where
   pub upto : point_le l.point (cut_of w) ≡ true
   pub cut : point_le (cut_of s) (cut_of w) ≡ true
 
-emits-as : (s : Sink) (l : Label) → IsSink s → ready_of s ≡ Some l → Emits s (emitted s l) l
+emits-as : (s : Sink) (l : Label) → IsSink s → ready_of s ≡ Some l → Emits s (after_emit_of s l) l
 emits-as s l k e = record {
   sink = emitted-is s l k e;
-  new = ap (λ (o : Option Label). elim o as (λ x. Sink) [ None ↦ s | Some m ↦ emitted s m ]) (sym e);
+  new = ap (λ (o : Option Label). elim o as (λ x. Sink) [ None ↦ s | Some m ↦ after_emit_of s m ]) (sym e);
   above = emit-above s l k e;
   upto = emit-upto s l k e;
   cut = emit-cut s l k e;
 }
 
-pub emits : (s v : Sink) (qs : List Queued) (q r : Queued) (l : Label) → v ≡ s → IsSink v → ready_of s ≡ Some l → map labels_in qs ≡ v.pending → q ≡ get_or qs l.point.gear q → r.labels ≡ drop 1 q.labels →
-    Emits s (record v { pending = map labels_in (set qs l.point.gear r); last = l.point }) l
+pub emits : (s v : Sink) (qs : List (Queued Label)) (q r : Queued Label) (l : Label) → v ≡ s → IsSink v → ready_of s ≡ Some l → map members_of qs ≡ v.pending → q ≡ get_or qs l.point.gear q → r.members ≡ drop 1 q.members →
+    Emits s (record v { pending = map members_of (set qs l.point.gear r); last = l.point }) l
 emits s v qs q r l same k e rows at rest =
     let f : ready_of v ≡ Some l = ap ready_of same ∙ e in
     let n : IsNext v l = next-is v l k f in
     let w : l.point.gear < length qs = next-queue s v qs l same k e rows in
-    let own : r.labels ≡ drop 1 (get_or v.pending l.point.gear []) =
-    rest ∙ ap (λ (ls : List Label). drop 1 ls) (ap labels_in at ∙ (labels-get qs l.point.gear q w ∙ ap (λ (ls : List (List Label)). get_or ls l.point.gear []) rows)) in
-    let left : map labels_in (set qs l.point.gear r) ≡ without l v.pending =
-    map-set labels_in qs l.point.gear r ∙ ((λ i. set (rows i) l.point.gear (own i)) ∙ popped v l k n) in
-    subst (λ (t : Sink). Emits t (record v { pending = map labels_in (set qs l.point.gear r); last = l.point }) l) same
+    let own : r.members ≡ drop 1 (get_or v.pending l.point.gear []) =
+    rest ∙ ap (λ (ls : List Label). drop 1 ls) (ap members_of at ∙ (labels-get qs l.point.gear q w ∙ ap (λ (ls : List (List Label)). get_or ls l.point.gear []) rows)) in
+    let left : map members_of (set qs l.point.gear r) ≡ without l v.pending =
+    map-set members_of qs l.point.gear r ∙ ((λ i. set (rows i) l.point.gear (own i)) ∙ popped v l k n) in
+    subst (λ (t : Sink). Emits t (record v { pending = map members_of (set qs l.point.gear r); last = l.point }) l) same
     (subst (λ (ls : List (List Label)). Emits v (record v { pending = ls; last = l.point }) l) (sym left) (emits-as v l k f))
 
 -- ---- pulse
-
-both_true : (a b : Bool) → (a && b) ≡ true → (a ≡ true) × (b ≡ true)
-both_true true b e = (refl, e)
-both_true false b e = absurd (cc)
 
 none-ready : (o : Option Label) → not (is_some o) ≡ true → o ≡ None
 none-ready None e = refl
 none-ready (Some l) e = absurd (cc)
 
-pub pulses : (s v : Sink) (t : ℕ) → v ≡ s → IsSink v → may_pulse s ≡ true → t ≡ stable_of s → IsSink (record v { last = point_at t v.site 65534; pulse = t })
+pub pulses : (s v : Sink) (t : ℕ) → v ≡ s → IsSink v → may_pulse s ≡ true → t ≡ stable_of s → IsSink (record v { last = point_at t v.site PULSE_GEAR; pulse = t })
 pulses s v t same k e is =
     let f : may_pulse v ≡ true = ap may_pulse same ∙ e in
     let u : stable_of v ≡ t = ap stable_of same ∙ sym is in
-    subst (λ (n : ℕ). IsSink (record v { last = point_at n v.site 65534; pulse = n })) u (pulsed-is v k (none-ready (ready_of v) (both_true (not (is_some (ready_of v))) (nat_lt v.pulse (stable_of v)) f).0))
+    subst (λ (n : ℕ). IsSink (record v { last = point_at n v.site PULSE_GEAR; pulse = n })) u (pulsed-is v k (none-ready (ready_of v) (and_parts (not (is_some (ready_of v))) (nat_lt v.pulse (stable_of v)) f).0))
 
 -- ---- cut
 

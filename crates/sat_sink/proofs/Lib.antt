@@ -1,4 +1,3 @@
-pub mod Labels
 pub mod Leasts
 pub mod Queues
 pub mod Fronts

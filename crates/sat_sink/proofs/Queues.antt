@@ -4,29 +4,12 @@ use Rattle.std.proofs.Common.{arith, ap, sym, ◌∙◌, inl, inr}
 use Rattle.std.proofs.lemmas.List.{append-nil}
 use Rattle.sat_label.specs.declared.label.Label.{Label}
 use Rattle.sat_label.specs.Order.{point_lt, label_eq}
-use Rattle.sat_bulk.specs.Drains.{In, Rises}
-use Rattle.sat_bulk.proofs.Members.{in-parts}
+use Rattle.sat_label.specs.Members.{In}
+use Rattle.sat_bulk.specs.Drains.{Rises}
+use Rattle.sat_label.proofs.Members.{In-parts, In-filter, In-left, In-right}
 use Rattle.sat_sink.specs.Pending.{all_of, joined, without}
 
 -- ---- members
-
-pub In-left : (xs ys : List Label) (x : Label) → In xs x → In (xs ++ ys) x
-In-left [] ys x i = absurd i
-In-left (y ∷ xs) ys x (inl e) = inl e
-In-left (y ∷ xs) ys x (inr i) = inr (In-left xs ys x i)
-
-pub In-right : (xs ys : List Label) (x : Label) → In ys x → In (xs ++ ys) x
-In-right [] ys x i = i
-In-right (y ∷ xs) ys x i = inr (In-right xs ys x i)
-
-In-cond : (p : Label → Bool) (y x : Label) (ys xs : List Label) (b : Bool) → p y ≡ b → (In ys x → In xs x × (p x ≡ true)) → In (cond b (y ∷ ys) ys) x → In (y ∷ xs) x × (p x ≡ true)
-In-cond p y x ys xs true e rest (inl k) = (inl k, ap p (sym k) ∙ e)
-In-cond p y x ys xs true e rest (inr j) = let w : In xs x × (p x ≡ true) = rest j in (inr w.0, w.1)
-In-cond p y x ys xs false e rest j = let w : In xs x × (p x ≡ true) = rest j in (inr w.0, w.1)
-
-pub In-filter : (p : Label → Bool) (xs : List Label) (x : Label) → In (filter p xs) x → In xs x × (p x ≡ true)
-In-filter p [] x i = absurd i
-In-filter p (y ∷ xs) x i = In-cond p y x (filter p xs) xs (p y) refl (In-filter p xs x) i
 
 -- where each passes, a filter keeps all
 pub filter-all : (p : Label → Bool) (xs : List Label) → ((x : Label) → In xs x → p x ≡ true) → filter p xs ≡ xs
@@ -42,7 +25,7 @@ pub record Place (queues : List (List Label)) (l : Label) : Type 0 where
 pub In-all : (queues : List (List Label)) (l : Label) → In (all_of queues) l → Place queues l
 In-all [] l i = absurd i
 In-all (q ∷ queues) l i =
-    elim (in-parts q (all_of queues) l i) [
+    elim (In-parts q (all_of queues) l i) [
       | inl a ↦ record { gear = 0; within = omega arith; there = a }
       | inr b ↦ (let k : Place queues l = In-all queues l b in record { gear = suc k.gear; within = let w : k.gear < length queues = k.within in omega arith; there = k.there })
     ]

@@ -1,20 +1,24 @@
 -- What is true of each sink, kept by each of its calls; and its cut.
 use Rattle.std.specs.Prelude.{◌≡◌, ◌⊎◌, ◌<◌, ◌≤◌, ◌-◌, ℕ, zero, suc, Bool, true, false, not, List, [], ◌∷◌, length, get_or, set, drop, map, filter, cond, Option, Some, None, nat_le, if◌then◌else◌, refl}
 use Rattle.std.proofs.Common.{arith, ap, subst, sym, ◌∙◌, inl, inr}
-use Rattle.std.proofs.lemmas.Bool.{cases_eq}
+use Rattle.std.proofs.lemmas.Bool.{cases_eq, not-true, not_from_false}
 use Rattle.std.proofs.lemmas.Bool.Decides.{nat_tests}
 use Rattle.std.proofs.lemmas.List.{ext_get_or, get_or-set_same, get_or-set_other, length-map, length-set}
 use Rattle.sat_label.specs.declared.point.Point.{Point}
 use Rattle.sat_label.specs.declared.label.Label.{Label}
+use Rattle.sat_label.specs.declared.limits.TheConstants.{PULSE_GEAR}
 use Rattle.sat_label.specs.Order.{point_at, point_lt, point_le, mark, greater_point, label_lt, label_eq}
 use Rattle.sat_bulk.specs.declared.Drained.{Drained}
-use Rattle.sat_bulk.specs.Drains.{In, IsNew, Rises}
-use Rattle.sat_bulk.proofs.Members.{in-parts, rises-both}
+use Rattle.sat_label.specs.Members.{In}
+use Rattle.sat_bulk.specs.Drains.{IsNew, Rises}
+use Rattle.sat_label.proofs.Members.{In-parts, In-filter}
+use Rattle.sat_bulk.proofs.Members.{rises-both}
 use Rattle.sat_sink.specs.Pending.{least, is_up_to, all_of, without, joined, labels_of, promise_of}
-use Rattle.sat_sink.specs.Sink.{Sink, stable_of, ready_of, cut_of, gathered, emitted, pulsed, closed, IsDrainOf, IsDrain, IsPending, IsQueue, IsSink, AllAbove}
-use Rattle.sat_sink.proofs.Labels.{point_lt-le, point_le-self, point_le-trans, point_le_lt-trans, ts-lt, lt-ts, le-mark, marks-le, mark-lt, apart, lt-not_eq, gears-not_eq, le-greater_left, le-greater_right, of-greater, labels-lt, points-not_lt, labels-differ, label_eq-self}
-use Rattle.sat_sink.proofs.Leasts.{IsLeast, least-is, none-passes, least-each, least-above}
-use Rattle.sat_sink.proofs.Queues.{In-filter, filter-all, Place, In-all, all-In, rises-filter, length-joined, joined-get, without-get}
+use Rattle.sat_sink.specs.Sink.{Sink, stable_of, ready_of, cut_of, after_gather, after_emit_of, after_pulse, after_close, IsDrainOf, IsDrain, IsPending, IsQueue, IsSink, AllAbove}
+use Rattle.sat_label.proofs.Orders.{point_lt-le, point_le-self, point_le-trans, point_le_lt-trans, ts-lt, lt-ts, le-mark, marks-le, mark-lt, apart, lt-not_eq, gears-not_eq, le-greater_left, le-greater_right, of-greater, labels-lt, points-not_lt, labels-differ, label_eq-self}
+use Rattle.sat_label.proofs.Least.{IsLeast, least-is, none-passes}
+use Rattle.sat_sink.proofs.Leasts.{least-each, least-above}
+use Rattle.sat_sink.proofs.Queues.{filter-all, Place, In-all, all-In, rises-filter, length-joined, joined-get, without-get}
 
 -- ---- tests
 
@@ -36,14 +40,6 @@ not-below l m e = let f : point_lt m.point l.point ≡ false = points-not_lt m l
   where
     by-ts : (p q : Point) → point_lt p q ≡ false → q.ts ≤ p.ts
     by-ts p q f = grind (arith, nat_tests)
-
-not_false : (b : Bool) → not b ≡ true → b ≡ false
-not_false true e = absurd (cc)
-not_false false e = refl
-
-is_not : (b : Bool) → b ≡ false → not b ≡ true
-is_not true e = absurd (cc)
-is_not false e = refl
 
 past_end : (n g : ℕ) → (g < n) ⊎ (n ≤ g)
 past_end n g = grind arith
@@ -116,7 +112,7 @@ front-left l (x ∷ ls) r e =
     let f : l ≡ x = cc in
     let own : not (label_eq l x) ≡ false = subst (λ (y : Label). not (label_eq l y) ≡ false) f (ap not (label_eq-self l)) in
     sym (ap (λ (b : Bool). cond b (x ∷ filter (λ m. not (label_eq l m)) ls) (filter (λ m. not (label_eq l m)) ls)) own
-    ∙ filter-all (λ m. not (label_eq l m)) ls (λ m i. is_not (label_eq l m) (labels-differ l m (lt-not_eq l.point m.point (subst (λ (y : Label). point_lt y.point m.point ≡ true) (sym f) (r.0 m i))))))
+    ∙ filter-all (λ m. not (label_eq l m)) ls (λ m i. not_from_false (label_eq l m) (labels-differ l m (lt-not_eq l.point m.point (subst (λ (y : Label). point_lt y.point m.point ≡ true) (sym f) (r.0 m i))))))
 
 pub popped : (s : Sink) (l : Label) → IsSink s → IsNext s l → set s.pending l.point.gear (drop 1 (get_or s.pending l.point.gear [])) ≡ without l s.pending
 popped s l k n =
@@ -125,7 +121,7 @@ popped s l k n =
       | inl same ↦ subst (λ (g : ℕ). get_or (set s.pending l.point.gear (drop 1 (get_or s.pending l.point.gear []))) g [] ≡ get_or (without l s.pending) g []) (sym same)
           (get_or-set_same s.pending l.point.gear _ [] (omega (arith, n.within, k.rows)) ∙ (front-left l (get_or s.pending l.point.gear []) (k.queues l.point.gear n.within).rises n.queue ∙ sym (without-get l s.pending l.point.gear)))
       | inr other ↦ get_or-set_other s.pending l.point.gear i _ [] other ∙ sym (without-get l s.pending i ∙ filter-all (λ m. not (label_eq l m)) (get_or s.pending i [])
-          (λ m j. is_not (label_eq l m) (labels-differ l m (gears-not_eq l.point m.point (λ e. other (sym (pending-is s i m k j).new.gear ∙ sym e))))))
+          (λ m j. not_from_false (label_eq l m) (labels-differ l m (gears-not_eq l.point m.point (λ e. other (sym (pending-is s i m k j).new.gear ∙ sym e))))))
     ])
 
 -- ---- the cut
@@ -198,33 +194,33 @@ less-one s l k =
       last = k.last;
     }
 
-pub emitted-is : (s : Sink) (l : Label) → IsSink s → ready_of s ≡ Some l → IsSink (emitted s l)
+pub emitted-is : (s : Sink) (l : Label) → IsSink s → ready_of s ≡ Some l → IsSink (after_emit_of s l)
 emitted-is s l k e =
     let n : IsNext s l = next-is s l k e in
     with-last (record s { pending = without l s.pending }) l.point s.pulse (less-one s l k)
     (le-mark l.point (stable_of s) s.site n.stable n.pending.new.site (omega (arith, n.within, k.few)))
     (λ g m i.
     let j : In (get_or s.pending g []) m × (not (label_eq l m) ≡ true) = In-filter (λ m. not (label_eq l m)) (get_or s.pending g []) m (subst (λ (ls : List Label). In ls m) (without-get l s.pending g) i) in
-    others-above s l k n g m j.0 (not_false (label_eq l m) j.1))
+    others-above s l k n g m j.0 (not-true (label_eq l m) j.1))
 
 pub emit-above : (s : Sink) (l : Label) → IsSink s → ready_of s ≡ Some l → point_lt (cut_of s) l.point ≡ true
 emit-above s l k e =
     let n : IsNext s l = next-is s l k e in
     cut-below s k l.point.gear l (subst (λ (ls : List Label). In ls l) (sym n.queue) (inl refl))
 
-pub emit-upto : (s : Sink) (l : Label) → IsSink s → ready_of s ≡ Some l → point_le l.point (cut_of (emitted s l)) ≡ true
-emit-upto s l k e = cut-above (emitted s l) (emitted-is s l k e)
+pub emit-upto : (s : Sink) (l : Label) → IsSink s → ready_of s ≡ Some l → point_le l.point (cut_of (after_emit_of s l)) ≡ true
+emit-upto s l k e = cut-above (after_emit_of s l) (emitted-is s l k e)
 
-pub emit-cut : (s : Sink) (l : Label) → IsSink s → ready_of s ≡ Some l → point_le (cut_of s) (cut_of (emitted s l)) ≡ true
-emit-cut s l k e = point_le-trans (cut_of s) l.point (cut_of (emitted s l)) (point_lt-le (cut_of s) l.point (emit-above s l k e)) (emit-upto s l k e)
+pub emit-cut : (s : Sink) (l : Label) → IsSink s → ready_of s ≡ Some l → point_le (cut_of s) (cut_of (after_emit_of s l)) ≡ true
+emit-cut s l k e = point_le-trans (cut_of s) l.point (cut_of (after_emit_of s l)) (point_lt-le (cut_of s) l.point (emit-above s l k e)) (emit-upto s l k e)
 
-pulse-mark : (t i : ℕ) → point_le (point_at t i 65534) (mark t i) ≡ true
+pulse-mark : (t i : ℕ) → point_le (point_at t i PULSE_GEAR) (mark t i) ≡ true
 pulse-mark t i = grind (arith, nat_tests)
 
-pub pulsed-is : (s : Sink) → IsSink s → ready_of s ≡ None → IsSink (pulsed s)
-pulsed-is s k e = with-last s (point_at (stable_of s) s.site 65534) (stable_of s) k (pulse-mark (stable_of s) s.site) (λ g m i. ts-lt (point_at (stable_of s) s.site 65534) m.point (past-stable s g m e i))
+pub pulsed-is : (s : Sink) → IsSink s → ready_of s ≡ None → IsSink (after_pulse s)
+pulsed-is s k e = with-last s (point_at (stable_of s) s.site PULSE_GEAR) (stable_of s) k (pulse-mark (stable_of s) s.site) (λ g m i. ts-lt (point_at (stable_of s) s.site PULSE_GEAR) m.point (past-stable s g m e i))
 
-pub closed-is : (s : Sink) → IsSink s → IsSink (closed s)
+pub closed-is : (s : Sink) → IsSink s → IsSink (after_close s)
 closed-is s k = with-last s (cut_of s) s.pulse k (cut-stable s k) (cut-below s k)
 
 greater-twice : (p q : Point) → greater_point (greater_point p q) q ≡ greater_point p q
@@ -238,7 +234,7 @@ greater-twice p q = go (point_lt p q) refl
     go true e = either (point_lt q q)
     go false e = ap (λ (b : Bool). if b then q else p) e
 
-pub closed-cut : (s : Sink) → cut_of (closed s) ≡ cut_of s
+pub closed-cut : (s : Sink) → cut_of (after_close s) ≡ cut_of s
 closed-cut s = go (ready_of s)
   where
     go : (o : Option Label) →
@@ -270,7 +266,7 @@ promises-rise s ds r g h =
     let k : IsDrainOf s g (get_or ds g d) = r.each g d w in
     omega (arith, k.promise, map-get ds g d w)
 
-stable-rises : (s : Sink) (ds : List Drained) → IsSink s → IsDrain s ds → stable_of s ≤ stable_of (gathered s ds)
+stable-rises : (s : Sink) (ds : List Drained) → IsSink s → IsDrain s ds → stable_of s ≤ stable_of (after_gather s ds)
 stable-rises s ds k r =
     let same : length (map promise_of ds) ≡ length s.promises = length-map ds promise_of ∙ r.count in
     least-above (least s.promises) (map promise_of ds) (omega (arith, k.some)) (λ g h.
@@ -290,56 +286,56 @@ fresh-is s ds r g h =
     subst (IsFresh s g (get_or (map promise_of ds) g 0)) (sym (map-labels ds g d w))
     (subst (λ (n : ℕ). IsFresh s g n (get_or ds g d).labels) (sym (map-get ds g d w)) (record { rises = k.rises; labels = k.labels }))
 
-pub gathered-is : (s : Sink) (ds : List Drained) → IsSink s → IsDrain s ds → IsSink (gathered s ds)
+pub gathered-is : (s : Sink) (ds : List Drained) → IsSink s → IsDrain s ds → IsSink (after_gather s ds)
 gathered-is s ds k r =
     let same : length (map promise_of ds) ≡ length s.promises = length-map ds promise_of ∙ r.count in
-    let up : stable_of s ≤ stable_of (gathered s ds) = stable-rises s ds k r in
+    let up : stable_of s ≤ stable_of (after_gather s ds) = stable-rises s ds k r in
     record {
       some = omega (arith, k.some);
       few = omega (arith, k.few);
       rows = length-joined s.pending (map labels_of ds) ∙ (k.rows ∙ sym same);
       queues = λ g h. queue g (omega arith);
-      last = point_le-trans s.last (mark (stable_of s) s.site) (mark (stable_of (gathered s ds)) s.site) k.last (marks-le (stable_of s) (stable_of (gathered s ds)) s.site up);
+      last = point_le-trans s.last (mark (stable_of s) s.site) (mark (stable_of (after_gather s ds)) s.site) k.last (marks-le (stable_of s) (stable_of (after_gather s ds)) s.site up);
     }
   where
-    old : (g : ℕ) → g < length s.promises → (l : Label) → IsPending s g l → IsPending (gathered s ds) g l
+    old : (g : ℕ) → g < length s.promises → (l : Label) → IsPending s g l → IsPending (after_gather s ds) g l
     old g h l p = record {
       new = record { site = p.new.site; gear = p.new.gear; made = p.new.made; above = p.new.above; upto = omega (arith, p.new.upto, promises-rise s ds r g h) };
       unsent = p.unsent;
     }
 
-    new : (g : ℕ) → g < length s.promises → (l : Label) → IsNew s.site g (get_or s.promises g 0) (get_or (map promise_of ds) g 0) l → IsPending (gathered s ds) g l
+    new : (g : ℕ) → g < length s.promises → (l : Label) → IsNew s.site g (get_or s.promises g 0) (get_or (map promise_of ds) g 0) l → IsPending (after_gather s ds) g l
     new g h l n = record {
       new = record { site = n.site; gear = n.gear; made = n.made; above = omega (arith, n.above); upto = n.upto };
       unsent = point_le_lt-trans s.last (mark (stable_of s) s.site) l.point k.last (mark-lt (stable_of s) s.site l.point (omega (arith, n.above, least-each s.promises g h)));
     }
 
-    queue : (g : ℕ) → g < length s.promises → IsQueue (gathered s ds) g (get_or (joined s.pending (map labels_of ds)) g [])
+    queue : (g : ℕ) → g < length s.promises → IsQueue (after_gather s ds) g (get_or (joined s.pending (map labels_of ds)) g [])
     queue g h =
         let f : IsFresh s g (get_or (map promise_of ds) g 0) (get_or (map labels_of ds) g []) = fresh-is s ds r g h in
         let q : IsQueue s g (get_or s.pending g []) = k.queues g h in
-        subst (IsQueue (gathered s ds) g) (sym (joined-get s.pending (map labels_of ds) g (omega (arith, k.rows)))) (record {
+        subst (IsQueue (after_gather s ds) g) (sym (joined-get s.pending (map labels_of ds) g (omega (arith, k.rows)))) (record {
           rises = rises-both (get_or s.pending g []) (get_or (map labels_of ds) g []) q.rises f.rises (λ x y i j. ts-lt x.point y.point (omega (arith, (q.labels x i).new.upto, (f.labels y j).above)));
-          labels = λ l i. elim (in-parts (get_or s.pending g []) (get_or (map labels_of ds) g []) l i) [
+          labels = λ l i. elim (In-parts (get_or s.pending g []) (get_or (map labels_of ds) g []) l i) [
             | inl a ↦ old g h l (q.labels l a)
             | inr b ↦ new g h l (f.labels l b)
           ];
         })
 
 -- what is pending after it was so before, or is past what was stable
-after-gather : (s : Sink) (ds : List Drained) → IsSink s → IsDrain s ds → (m : Label) → In (all_of (gathered s ds).pending) m → In (all_of s.pending) m ⊎ (stable_of s < m.point.ts)
+after-gather : (s : Sink) (ds : List Drained) → IsSink s → IsDrain s ds → (m : Label) → In (all_of (after_gather s ds).pending) m → In (all_of s.pending) m ⊎ (stable_of s < m.point.ts)
 after-gather s ds k r m i =
     let at : Place (joined s.pending (map labels_of ds)) m = In-all (joined s.pending (map labels_of ds)) m i in
     let h : at.gear < length s.promises = omega (arith, at.within, length-joined s.pending (map labels_of ds), k.rows) in
-    elim (in-parts (get_or s.pending at.gear []) (get_or (map labels_of ds) at.gear []) m (subst (λ (ls : List Label). In ls m) (joined-get s.pending (map labels_of ds) at.gear (omega (arith, k.rows))) at.there)) [
+    elim (In-parts (get_or s.pending at.gear []) (get_or (map labels_of ds) at.gear []) m (subst (λ (ls : List Label). In ls m) (joined-get s.pending (map labels_of ds) at.gear (omega (arith, k.rows))) at.there)) [
       | inl a ↦ inl (all-In s.pending at.gear m a)
       | inr b ↦ inr (omega (arith, ((fresh-is s ds r at.gear h).labels m b).above, least-each s.promises at.gear h))
     ]
 
-pub gather-cut : (s : Sink) (ds : List Drained) → IsSink s → IsDrain s ds → point_le (cut_of s) (cut_of (gathered s ds)) ≡ true
-gather-cut s ds k r = go (ready_of (gathered s ds)) refl
+pub gather-cut : (s : Sink) (ds : List Drained) → IsSink s → IsDrain s ds → point_le (cut_of s) (cut_of (after_gather s ds)) ≡ true
+gather-cut s ds k r = go (ready_of (after_gather s ds)) refl
   where
-    late : (m : Label) → In (all_of (gathered s ds).pending) m → point_le (cut_of s) (greater_point s.last (mark (m.point.ts - 1) s.site)) ≡ true
+    late : (m : Label) → In (all_of (after_gather s ds).pending) m → point_le (cut_of s) (greater_point s.last (mark (m.point.ts - 1) s.site)) ≡ true
     late m i = by (ready_of s) refl
       where
         by : (o : Option Label) → ready_of s ≡ o → point_le (elim o as (λ x. Point) [ None ↦ mark (stable_of s) s.site | Some l ↦ greater_point s.last (mark (l.point.ts - 1) s.site) ]) (greater_point s.last (mark (m.point.ts - 1) s.site)) ≡ true
@@ -353,6 +349,6 @@ gather-cut s ds k r = go (ready_of (gathered s ds)) refl
             (le-greater_left s.last (mark (m.point.ts - 1) s.site))
             (point_le-trans (mark (l.point.ts - 1) s.site) (mark (m.point.ts - 1) s.site) _ (marks-le (l.point.ts - 1) (m.point.ts - 1) s.site (omega arith)) (le-greater_right s.last (mark (m.point.ts - 1) s.site)))
 
-    go : (o : Option Label) → ready_of (gathered s ds) ≡ o → point_le (cut_of s) (elim o as (λ x. Point) [ None ↦ mark (stable_of (gathered s ds)) s.site | Some l ↦ greater_point s.last (mark (l.point.ts - 1) s.site) ]) ≡ true
-    go None e = point_le-trans (cut_of s) (mark (stable_of s) s.site) (mark (stable_of (gathered s ds)) s.site) (cut-stable s k) (marks-le (stable_of s) (stable_of (gathered s ds)) s.site (stable-rises s ds k r))
-    go (Some m) e = late m (least-is (is_up_to (stable_of (gathered s ds))) (all_of (gathered s ds).pending) m e).member
+    go : (o : Option Label) → ready_of (after_gather s ds) ≡ o → point_le (cut_of s) (elim o as (λ x. Point) [ None ↦ mark (stable_of (after_gather s ds)) s.site | Some l ↦ greater_point s.last (mark (l.point.ts - 1) s.site) ]) ≡ true
+    go None e = point_le-trans (cut_of s) (mark (stable_of s) s.site) (mark (stable_of (after_gather s ds)) s.site) (cut-stable s k) (marks-le (stable_of s) (stable_of (after_gather s ds)) s.site (stable-rises s ds k r))
+    go (Some m) e = late m (least-is (is_up_to (stable_of (after_gather s ds))) (all_of (after_gather s ds).pending) m e).member

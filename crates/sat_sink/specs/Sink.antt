@@ -3,10 +3,13 @@ use Rattle.std.specs.Prelude.{ℕ, ◌≡◌, ◌≤◌, ◌<◌, ◌-◌, Bool,
 use Rattle.sat_label.specs.declared.point.Point.{Point}
 use Rattle.sat_label.specs.declared.label.Kind.TheVariants.{Pulse}
 use Rattle.sat_label.specs.declared.label.Label.{Label}
+use Rattle.sat_label.specs.declared.limits.TheConstants.{PULSE_GEAR}
 use Rattle.sat_label.specs.Order.{point_at, point_lt, point_le, mark, greater_point}
 use Rattle.sat_bulk.specs.declared.Drained.{Drained}
-use Rattle.sat_bulk.specs.Drains.{In, Rises, IsNew}
-use Rattle.sat_sink.specs.Pending.{least, least_label, is_up_to, all_of, without, joined, labels_of, promise_of}
+use Rattle.sat_label.specs.Members.{In}
+use Rattle.sat_bulk.specs.Drains.{Rises, IsNew}
+use Rattle.sat_sink.specs.Pending.{least, is_up_to, all_of, without, joined, labels_of, promise_of}
+use Rattle.sat_label.specs.Least.{least_label}
 
 -- the site, by gear the gathered promise and the gathered labels that were not emitted, the point of the label that was sent
 -- last, and the timestamp of the last pulse
@@ -42,24 +45,24 @@ abbrev pub may_pulse : Sink → Bool
 may_pulse s = not (is_some (ready_of s)) && nat_lt s.pulse (stable_of s)
 
 abbrev pub pulse_of : Sink → Label
-pulse_of s = record { point = point_at (stable_of s) s.site 65534; kind = Pulse }
+pulse_of s = record { point = point_at (stable_of s) s.site PULSE_GEAR; kind = Pulse }
 
 -- ---- what the calls make of it
 
-abbrev pub gathered : Sink → List Drained → Sink
-gathered s drained = record s { promises = map promise_of drained; pending = joined s.pending (map labels_of drained) }
+abbrev pub after_gather : Sink → List Drained → Sink
+after_gather s drained = record s { promises = map promise_of drained; pending = joined s.pending (map labels_of drained) }
 
-abbrev pub emitted : Sink → Label → Sink
-emitted s l = record s { pending = without l s.pending; last = l.point }
+abbrev pub after_emit_of : Sink → Label → Sink
+after_emit_of s l = record s { pending = without l s.pending; last = l.point }
 
-abbrev pub pulsed : Sink → Sink
-pulsed s = record s { last = (pulse_of s).point; pulse = stable_of s }
+abbrev pub after_pulse : Sink → Sink
+after_pulse s = record s { last = (pulse_of s).point; pulse = stable_of s }
 
-abbrev pub closed : Sink → Sink
-closed s = record s { last = cut_of s }
+abbrev pub after_close : Sink → Sink
+after_close s = record s { last = cut_of s }
 
 abbrev pub after_emit : Sink → Sink
-after_emit s = elim (ready_of s) [ None ↦ s | Some l ↦ emitted s l ]
+after_emit s = elim (ready_of s) [ None ↦ s | Some l ↦ after_emit_of s l ]
 
 -- ---- what it asks of what it gathers
 

@@ -1,17 +1,15 @@
 //! The label sink.
-ghost use Rattle.std.specs.Prelude.{◌≡◌, ◌<◌, ◌≤◌, [], length, map, replicate, true, is_some, Some, None, if◌then◌else◌, IfOk, IfSome, OnOk, OnErr};
+ghost use Rattle.std.specs.Prelude.{◌≡◌, ◌<◌, length, map, true, is_some, Some, None, if◌then◌else◌, IfOk, IfSome, OnOk, OnErr};
 ghost use Rattle.sat_label.specs.Order.{point_le, point_lt};
 ghost use Rattle.sat_sink.specs.Pending.{least, promise_of};
-ghost use Rattle.sat_sink.specs.Sink.{after_emit, closed, cut_of, fresh_sink, gathered, may_pulse, pulse_of, pulsed, ready_of, stable_of, AllAbove, IsDrain};
+ghost use Rattle.sat_sink.specs.Sink.{after_emit, after_close, cut_of, fresh_sink, after_gather, may_pulse, pulse_of, after_pulse, ready_of, stable_of, AllAbove, IsDrain};
 
-use crate::queue::{Queue, empty_queues, extend_all, least_up_to, reserve_all};
+use crate::queue::{extend_all, least_up_to, reserve_all};
 use sat_bulk::Drained;
-use sat_label::{Kind, Label, Point};
+use sat_label::{Kind, Label, PULSE_GEAR, Point};
+use sat_queue::{Queue, empty_queues};
 use std::alloc::{AllocError, Global};
 use std::marker::Model;
-
-// The gear of a pulse: above that of each gear, and below that of a mark.
-const PULSE_GEAR: u16 = 65534;
 
 /// What a site gathered from its gears and did not send yet, by gear, with what each gear promised. Contracts see it as the
 /// record of these.
@@ -19,21 +17,21 @@ const PULSE_GEAR: u16 = 65534;
 pub struct LabelSink {
     site: u16,
     promises: Vec<u64>,
-    pending: Vec<Queue>,
+    pending: Vec<Queue<Label>>,
     last: Point,
     pulse: u64,
 }
 
 impl Model for LabelSink {
     ghost use Rattle.std.specs.Prelude.{map};
-    ghost use Rattle.sat_sink.specs.Pending.{labels_in};
+    ghost use Rattle.sat_queue.specs.Queued.{members_of};
     ghost use Rattle.sat_sink.specs.Sink.{Sink, IsSink};
 
     ghost Value = { Sink };
 
-    ghost view = { λ a. record { site = a.site; promises = a.promises.items; pending = map labels_in a.pending.items; last = a.last; pulse = a.pulse } };
+    ghost view = { λ a. record { site = a.site; promises = a.promises.items; pending = map members_of a.pending.items; last = a.last; pulse = a.pulse } };
 
-    ghost invariant = { λ a. IsSink (record { site = a.site; promises = a.promises.items; pending = map labels_in a.pending.items; last = a.last; pulse = a.pulse }) };
+    ghost invariant = { λ a. IsSink (record { site = a.site; promises = a.promises.items; pending = map members_of a.pending.items; last = a.last; pulse = a.pulse }) };
 }
 
 // The least of some promises, 0 where there are none.
@@ -64,7 +62,7 @@ impl LabelSink {
         ensures { IfOk result (λ sink. sink ≡ fresh_sink site gears) }
     {
         let promises = vec![in alloc; 0; gears as usize]?;
-        let pending = empty_queues(alloc, gears)?;
+        let pending = empty_queues(alloc, gears as usize)?;
         Ok(LabelSink {
             site,
             promises,
@@ -82,7 +80,7 @@ impl LabelSink {
     /// whose points rise and are above the gear's gathered promise and up to the new one. For want of memory all is as before.
     pub fn gather(&mut self, drained: &[Drained]) -> Result<(), AllocError>
         requires { IsDrain self.old drained.now }
-        ensures ok { OnOk result (self.new ≡ gathered self.old drained.now) }
+        ensures ok { OnOk result (self.new ≡ after_gather self.old drained.now) }
         ensures err { OnErr result (self.new ≡ self.old) }
         ensures cut { point_le (cut_of self.old) (cut_of self.new) ≡ true }
     {
@@ -122,7 +120,7 @@ impl LabelSink {
         ensures cut { point_le (cut_of self.old) (cut_of self.new) ≡ true }
     {
         let label = self.next()?;
-        self.pending[label.point.gear as usize].pop();
+        let _ = self.pending[label.point.gear as usize].take();
         self.last = label.point;
         Some(label)
     }
@@ -137,7 +135,7 @@ impl LabelSink {
     /// Sends a pulse, which tells the stable timestamp, where no pending label is stable and the last pulse told a lower one.
     pub fn pulse(&mut self) -> Option<Label>
         ensures label { result ≡ (if may_pulse self.old then Some (pulse_of self.old) else None) }
-        ensures new { self.new ≡ (if may_pulse self.old then pulsed self.old else self.old) }
+        ensures new { self.new ≡ (if may_pulse self.old then after_pulse self.old else self.old) }
         ensures cut { cut_of self.new ≡ cut_of self.old }
     {
         if !self.pulse_ready() {
@@ -172,7 +170,7 @@ impl LabelSink {
 
     /// Notes that the site sent a label at its cut, as a close is.
     pub fn closed(&mut self)
-        ensures new { self.new ≡ closed self.old }
+        ensures new { self.new ≡ after_close self.old }
         ensures cut { cut_of self.new ≡ cut_of self.old }
     {
         self.last = self.cut();

@@ -1,9 +1,9 @@
 -- A payload that comes from another site.
-use Rattle.std.specs.Prelude.{◌≡◌, ◌≢◌, ◌<◌, ◌+◌, ◌*◌, ◌/◌, ℕ, suc, Bool, true, false, ◌==◌, ◌&&◌, List, [], ◌∷◌, ◌++◌, length, map, set, get_or, if◌then◌else◌, refl}
+use Rattle.std.specs.Prelude.{◌≡◌, ◌<◌, ◌+◌, ◌*◌, ◌/◌, ℕ, suc, Bool, true, false, ◌==◌, ◌&&◌, List, [], ◌∷◌, ◌++◌, length, map, set, get_or, if◌then◌else◌, refl}
 use Rattle.std.proofs.Common.{subst, ap, sym, ◌∙◌, arith}
 use Rattle.std.proofs.lemmas.List.{get_or-set_same, get_or-set_other}
 use Rattle.std.proofs.lemmas.Nat.{div-mul-add}
-use Rattle.std.proofs.lemmas.Bool.Decides.{nat_tests}
+use Rattle.std.proofs.lemmas.Bool.{eqb-false, eqb-true}
 use Rattle.sat_label.specs.Words.{below, has}
 use Rattle.sat_label.specs.Order.{label_eq}
 use Rattle.sat_bulk.specs.declared.Payload.{Payload}
@@ -21,12 +21,6 @@ use Rattle.sat_site.specs.Changes.{brought}
 use Rattle.sat_site.proofs.Lists.{passed}
 use Rattle.sat_site.proofs.Lanes.{new-number}
 use Rattle.sat_site.proofs.Payloads.{more-different}
-
-is-equal : (m n : ℕ) → (m == n) ≡ true → m ≡ n
-is-equal m n e = grind (arith, nat_tests)
-
-is-apart : (m n : ℕ) → (m == n) ≡ false → m ≢ n
-is-apart m n e f = grind (arith, nat_tests)
 
 -- two lanes at one place are one
 one-row : (a b w j k : ℕ) → j < w → k < w → a * w + j ≡ b * w + k → a ≡ b
@@ -56,9 +50,9 @@ lane-more xs w from gear k g m ns lg lh lt e f = go (from == k) (gear == g) refl
     there h = f ∙ ap below (sym (get_or-set_other xs (from * w + gear) (k * w + g) (get_or xs (from * w + gear) 0 + 1) 0 h))
 
     go : (a b : Bool) → (from == k) ≡ a → (gear == g) ≡ b → (if a && b then ns ++ m ∷ [] else ns) ≡ below (get_or (set xs (from * w + gear) (get_or xs (from * w + gear) 0 + 1)) (k * w + g) 0)
-    go true true a b = here (is-equal _ _ a) (is-equal _ _ b)
-    go true false a b = there (λ h. is-apart gear g b (one-column from k w gear g (is-equal _ _ a) (sym h)))
-    go false b a c = there (λ h. is-apart from k a (one-row from k w gear g lg lh (sym h)))
+    go true true a b = here (eqb-true _ _ a) (eqb-true _ _ b)
+    go true false a b = there (λ h. eqb-false gear g b (one-column from k w gear g (eqb-true _ _ a) (sym h)))
+    go false b a c = there (λ h. eqb-false from k a (one-row from k w gear g lg lh (sym h)))
 
 pub brings-answer : (d : Deployed) (i : ℕ) (x : SiteSeen) (s : SiteState) (from gear n : ℕ) (p : Payload) → from < x.shape.sites → gear < x.shape.gears → n ≡ taken_of x from gear → StandsSite d i x s → ans.Brought p.label ≡ site_answer d i s (given.Bulk from gear n p)
 unfolding site_answer

@@ -1,5 +1,5 @@
 -- What the code read and wrote in an act. Here w is what the code found, and v the same by its name.
-use Rattle.std.specs.Prelude.{◌≡◌, ◌<◌, ◌≤◌, ◌+◌, ◌%◌, ◌^◌, ℕ, Bool, true, false, ◌&&◌, zero, suc, max, List, [], ◌∷◌, ◌++◌, length, map, set, get_or, Option, Some, None, MatchOption, SomeIff, refl}
+use Rattle.std.specs.Prelude.{◌≡◌, ◌<◌, ◌≤◌, ◌+◌, ◌%◌, ◌^◌, ℕ, Bool, true, false, ◌&&◌, zero, suc, max, List, [], ◌∷◌, ◌++◌, length, map, set, get_or, position, Option, Some, None, MatchOption, SomeIff, refl}
 use Rattle.std.specs.List.{flat_map}
 use Rattle.std.proofs.Common.{subst, ap, sym, ◌∙◌, arith}
 use Rattle.std.proofs.lemmas.Option.{slice_get_read}
@@ -14,9 +14,9 @@ use Rattle.sat_bulk.specs.declared.Payload.{Payload}
 use Rattle.sat_sites.specs.Interested.{is_for, keeps, IsLabelOf, IsKindOf}
 use Rattle.sat_sites.specs.declared.shape.Shape.{Shape}
 use Rattle.sat_store.specs.declared.store.Version.{Version}
-use Rattle.sat_gear.specs.Gear.{GearSeen, IsGear, IsItemOf, ticked, wrote, shown, stamped, is_spent, after_drain, drained_of, version_of}
+use Rattle.sat_gear.specs.Gear.{GearSeen, IsGear, IsItemOf, after_tick, after_write, after_show, stamped, is_spent, after_drain, drained_of, version_of}
 use Rattle.sat_sink.specs.Pending.{labels_of, promise_of, least}
-use Rattle.sat_sink.specs.Sink.{Sink, emitted, gathered, ready_of, stable_of, after_emit}
+use Rattle.sat_sink.specs.Sink.{Sink, after_emit_of, after_gather, ready_of, stable_of, after_emit}
 use Rattle.sat_act.specs.declared.answer.Answer.{Answer}
 use Rattle.sat_act.specs.declared.answer.Answer.TheVariants as ans
 use Rattle.sat_act.specs.declared.answer.Refusal.TheVariants as why
@@ -25,7 +25,7 @@ use Rattle.sat_machine.specs.Look.{label_of}
 use Rattle.sat_site.specs.declared.input.SiteInput as code
 use Rattle.sat_site.specs.declared.input.SiteInput.TheVariants as input
 use Rattle.sat_site.specs.declared.output.SiteOutput.{SiteOutput}
-use Rattle.sat_site.specs.Seen.{SiteSeen, IsSite, IsGearAt, IsGuest, IsUpdateHere, lane_place, taken_of}
+use Rattle.sat_site.specs.Seen.{SiteSeen, bears, IsSite, IsGearAt, IsGuest, IsUpdateHere, lane_place, taken_of}
 use Rattle.sat_site.specs.Changes.{with_gear, gathered_all, clocked, ticked_to, fresh_of, IsTaken, HasGear}
 use Rattle.sat_machine.specs.Input as given
 use Rattle.sat_machine.specs.Next.{site_next}
@@ -34,7 +34,8 @@ use Rattle.sat_site.specs.Gives.{IsLeaving, HasTarget, PromisesUpTo, StandsBy}
 use Rattle.sat_site.proofs.Still.{clocks-stand}
 use Rattle.std.proofs.lemmas.List.{get_or_default}
 use Rattle.sat_site.specs.Inputs.{IsFront}
-use Rattle.sat_site.specs.Does.{WritesAt, gear_spends, gear_writes, Does, ticks, gathers, idles, emits, brings, Writes, spends, writes, Reads, reads_none, reads, Turns, turns_none, takes, lacks, shows, keeps_item}
+use Rattle.sat_site.specs.Does.{WritesAt, gear_spends, gear_writes, Does, ticks, gathers, idles, emits, brings, Writes, spends, writes, Reads, reads_none, reads, Turns, turns_none, takes, lacks, shows}
+use Rattle.sat_site.specs.SiteSteps.{keeps_item}
 use Rattle.sat_site.proofs.Sound.{with-gear-site, ticked-gear, wrote-gear, shown-gear, gathered-site, sent-site, ready-here, label-here, brought-site, showed-site, clocked-site}
 
 pub at-place : (x : SiteSeen) (g : ℕ) (gear : GearSeen) → g < length x.gears → gear ≡ get_or x.gears g gear → HasGear x g gear
@@ -42,11 +43,11 @@ at-place x g gear lt e = slice_get_read x.gears (length x.gears) g gear refl lt 
 
 -- ---- tick
 
-pub tick-site : (w : SiteSeen) (g t : ℕ) (gear new : GearSeen) → IsSite w → g < length w.gears → gear ≡ get_or w.gears g gear → new ≡ ticked gear t → IsSite (with_gear w g new)
+pub tick-site : (w : SiteSeen) (g t : ℕ) (gear new : GearSeen) → IsSite w → g < length w.gears → gear ≡ get_or w.gears g gear → new ≡ after_tick gear t → IsSite (with_gear w g new)
 tick-site w g t gear new k lt e f =
-    subst (λ (y : GearSeen). IsSite (with_gear w g y)) (sym f) (with-gear-site w g (ticked gear t) k (ticked-gear w.shape w.sink g t gear (k.gears g gear (at-place w g gear lt e))))
+    subst (λ (y : GearSeen). IsSite (with_gear w g y)) (sym f) (with-gear-site w g (after_tick gear t) k (ticked-gear w.shape w.sink g t gear (k.gears g gear (at-place w g gear lt e))))
 
-pub did-tick : (w v : SiteSeen) (g t r : ℕ) (gear new : GearSeen) → w ≡ v → g < length w.gears → gear ≡ get_or w.gears g gear → r ≡ max gear.promise t → new ≡ ticked gear t → Does v (input.Tick g t) (ans.Ticked r) None (with_gear w g new)
+pub did-tick : (w v : SiteSeen) (g t r : ℕ) (gear new : GearSeen) → w ≡ v → g < length w.gears → gear ≡ get_or w.gears g gear → r ≡ max gear.promise t → new ≡ after_tick gear t → Does v (input.Tick g t) (ans.Ticked r) None (with_gear w g new)
 did-tick w v g t r gear new same lt e f h =
     subst (λ (x : SiteSeen). Does x (input.Tick g t) (ans.Ticked r) None (with_gear w g new)) same
     (subst (λ (m : ℕ). Does w (input.Tick g t) (ans.Ticked m) None (with_gear w g new)) (sym f)
@@ -64,20 +65,20 @@ item-here w g n gear k lt e item here f =
     }
 
 pub write-site : (w : SiteSeen) (g n : ℕ) (seen : Carried) (value : List ℕ) (gear new : GearSeen) (l : Label) → IsSite w → g < length w.gears → gear ≡ get_or w.gears g gear → IsGear gear → n < length w.shape.interest.replicas → keeps_item w n ≡ true → g ≡ n % w.shape.gears →
-    l ≡ stamped gear seen.point (Update n) → new ≡ wrote gear n (record { label = l; value = value }) → IsSite (with_gear w g new)
+    l ≡ stamped gear seen.point (Update n) → new ≡ after_write gear n (record { label = l; value = value }) → IsSite (with_gear w g new)
 write-site w g n seen value gear new l k lt e good item here f q r =
-    let whole : new ≡ wrote gear n (record { label = stamped gear seen.point (Update n); value = value }) = r ∙ ap (λ (l : Label). wrote gear n (record { label = l; value = value })) q in
+    let whole : new ≡ after_write gear n (record { label = stamped gear seen.point (Update n); value = value }) = r ∙ ap (λ (l : Label). after_write gear n (record { label = l; value = value })) q in
     subst (λ (y : GearSeen). IsSite (with_gear w g y)) (sym whole)
-    (with-gear-site w g (wrote gear n (record { label = stamped gear seen.point (Update n); value = value })) k (wrote-gear w.shape w.sink g n gear seen.point value good (k.gears g gear (at-place w g gear lt e)) item (sym f) here))
+    (with-gear-site w g (after_write gear n (record { label = stamped gear seen.point (Update n); value = value })) k (wrote-gear w.shape w.sink g n gear seen.point value good (k.gears g gear (at-place w g gear lt e)) item (sym f) here))
 
 pub did-write : (w v : SiteSeen) (g n : ℕ) (seen : Carried) (value : List ℕ) (gear new : GearSeen) (l : Label) → w ≡ v → g < length w.gears → gear ≡ get_or w.gears g gear → IsGear gear → keeps_item w n ≡ true → g ≡ n % w.shape.gears → is_spent gear seen.point ≡ false →
-    l ≡ stamped gear seen.point (Update n) → new ≡ wrote gear n (record { label = l; value = value }) → Writes v seen n value (ans.Wrote l) (with_gear w g new)
+    l ≡ stamped gear seen.point (Update n) → new ≡ after_write gear n (record { label = l; value = value }) → Writes v seen n value (ans.Wrote l) (with_gear w g new)
 did-write w v g n seen value gear new l same lt e good here f free q r =
-    let whole : new ≡ wrote gear n (record { label = stamped gear seen.point (Update n); value = value }) = r ∙ ap (λ (l : Label). wrote gear n (record { label = l; value = value })) q in
+    let whole : new ≡ after_write gear n (record { label = stamped gear seen.point (Update n); value = value }) = r ∙ ap (λ (l : Label). after_write gear n (record { label = l; value = value })) q in
     subst (λ (x : SiteSeen). Writes x seen n value (ans.Wrote l) (with_gear w g new)) same
     (subst (λ (l : Label). Writes w seen n value (ans.Wrote l) (with_gear w g new)) (sym q)
     (subst (λ (y : GearSeen). Writes w seen n value (ans.Wrote (stamped gear seen.point (Update n))) (with_gear w g y)) (sym whole)
-    (subst (λ (g : ℕ). Writes w seen n value (ans.Wrote (stamped gear seen.point (Update n))) (with_gear w g (wrote gear n (record { label = stamped gear seen.point (Update n); value = value })))) (sym f)
+    (subst (λ (g : ℕ). Writes w seen n value (ans.Wrote (stamped gear seen.point (Update n))) (with_gear w g (after_write gear n (record { label = stamped gear seen.point (Update n); value = value })))) (sym f)
     (writes gear here (subst (λ (g : ℕ). HasGear w g gear) f (at-place w g gear lt e)) good free))))
 
 -- nothing was written
@@ -105,10 +106,10 @@ unchanged w v g gear new same lt e f = same-gear w g gear new lt e f ∙ same
 pub gear-spent : (gear new : GearSeen) (seen : Carried) (n : ℕ) (value : List ℕ) → is_spent gear seen.point ≡ true → new ≡ gear → WritesAt gear seen n value (ans.Refused why.Spent) new
 gear-spent gear new seen n value e f = subst (λ (y : GearSeen). WritesAt gear seen n value (ans.Refused why.Spent) y) (sym f) (gear_spends e)
 
-pub gear-wrote : (gear new : GearSeen) (seen : Carried) (n : ℕ) (value : List ℕ) (l : Label) → is_spent gear seen.point ≡ false → l ≡ stamped gear seen.point (Update n) → new ≡ wrote gear n (record { label = l; value = value }) → WritesAt gear seen n value (ans.Wrote l) new
+pub gear-wrote : (gear new : GearSeen) (seen : Carried) (n : ℕ) (value : List ℕ) (l : Label) → is_spent gear seen.point ≡ false → l ≡ stamped gear seen.point (Update n) → new ≡ after_write gear n (record { label = l; value = value }) → WritesAt gear seen n value (ans.Wrote l) new
 gear-wrote gear new seen n value l e f h =
     subst (λ (y : GearSeen). WritesAt gear seen n value (ans.Wrote l) y) (sym h)
-    (subst (λ (l : Label). WritesAt gear seen n value (ans.Wrote l) (wrote gear n (record { label = l; value = value }))) (sym f) (gear_writes e))
+    (subst (λ (l : Label). WritesAt gear seen n value (ans.Wrote l) (after_write gear n (record { label = l; value = value }))) (sym f) (gear_writes e))
 
 pub written-site : (w : SiteSeen) (g n : ℕ) (seen : Carried) (value : List ℕ) (gear new : GearSeen) (r : Answer) → IsSite w → g < length w.gears → gear ≡ get_or w.gears g gear → IsGear gear → n < length w.shape.interest.replicas → keeps_item w n ≡ true → g ≡ n % w.shape.gears →
     WritesAt gear seen n value r new → IsSite (with_gear w g new)
@@ -122,10 +123,10 @@ did-writes w v g n seen value gear new r same lt e good here f (gear_writes a) =
 
 -- ---- gather
 
-pub gather-site : (w : SiteSeen) (gears : List GearSeen) (s : Sink) → IsSite w → gears ≡ map after_drain w.gears → s ≡ gathered w.sink (map drained_of w.gears) → IsSite (record w { gears = gears; sink = s })
+pub gather-site : (w : SiteSeen) (gears : List GearSeen) (s : Sink) → IsSite w → gears ≡ map after_drain w.gears → s ≡ after_gather w.sink (map drained_of w.gears) → IsSite (record w { gears = gears; sink = s })
 gather-site w gears s k e f = subst (λ (q : SiteSeen). IsSite q) (λ j. record w { gears = sym e j; sink = sym f j }) (gathered-site w k)
 
-pub did-gather : (w v : SiteSeen) (gears : List GearSeen) (s : Sink) (n t : ℕ) → w ≡ v → gears ≡ map after_drain w.gears → s ≡ gathered w.sink (map drained_of w.gears) → n ≡ length (flat_map labels_of (map drained_of w.gears)) → t ≡ stable_of s →
+pub did-gather : (w v : SiteSeen) (gears : List GearSeen) (s : Sink) (n t : ℕ) → w ≡ v → gears ≡ map after_drain w.gears → s ≡ after_gather w.sink (map drained_of w.gears) → n ≡ length (flat_map labels_of (map drained_of w.gears)) → t ≡ stable_of s →
     Does v input.Gather (ans.Gathered n t) None (record w { gears = gears; sink = s })
 did-gather w v gears s n t same e f h q =
     let count : n ≡ length (flat_map fresh_of w.gears) = h ∙ ap (λ (ls : List Label). length ls) (sym (all-labels w.gears)) in
@@ -143,12 +144,12 @@ did-gather w v gears s n t same e f h q =
 pub did-idle : (w v : SiteSeen) (s : Sink) (o : Option Label) → w ≡ v → o ≡ ready_of w.sink → o ≡ None → s ≡ after_emit w.sink → Does v input.Emit (ans.Refused why.Idle) None (record w { sink = s })
 did-idle w v s o same e f h =
     let none : ready_of w.sink ≡ None = sym e ∙ f in
-    let still : s ≡ w.sink = h ∙ ap (λ (o : Option Label). elim o [ None ↦ w.sink | Some l ↦ emitted w.sink l ]) none in
+    let still : s ≡ w.sink = h ∙ ap (λ (o : Option Label). elim o [ None ↦ w.sink | Some l ↦ after_emit_of w.sink l ]) none in
     subst (λ (x : SiteSeen). Does x input.Emit (ans.Refused why.Idle) None (record w { sink = s })) same
     (subst (λ (t : Sink). Does w input.Emit (ans.Refused why.Idle) None (record w { sink = t })) (sym still) (idles none))
 
-emitted-is : (w : SiteSeen) (s : Sink) (o : Option Label) (l : Label) → o ≡ ready_of w.sink → o ≡ Some l → s ≡ after_emit w.sink → s ≡ emitted w.sink l
-emitted-is w s o l e f h = h ∙ ap (λ (o : Option Label). elim o [ None ↦ w.sink | Some l ↦ emitted w.sink l ]) (sym e ∙ f)
+emitted-is : (w : SiteSeen) (s : Sink) (o : Option Label) (l : Label) → o ≡ ready_of w.sink → o ≡ Some l → s ≡ after_emit w.sink → s ≡ after_emit_of w.sink l
+emitted-is w s o l e f h = h ∙ ap (λ (o : Option Label). elim o [ None ↦ w.sink | Some l ↦ after_emit_of w.sink l ]) (sym e ∙ f)
 
 pub emit-site : (w : SiteSeen) (s : Sink) (o : Option Label) (l : Label) → IsSite w → o ≡ ready_of w.sink → o ≡ Some l → s ≡ after_emit w.sink → IsSite (record w { sink = s })
 emit-site w s o l k e f h = subst (λ (t : Sink). IsSite (record w { sink = t })) (sym (emitted-is w s o l e f h)) (sent-site w l k)
@@ -175,10 +176,10 @@ did-keep w v s o l same e f h t =
 pub lack-site : (w : SiteSeen) (ps : List Payload) → IsSite w → ps ≡ w.waiting → IsSite (record w { waiting = ps })
 lack-site w ps k e = subst IsSite (λ j. record w { waiting = sym e j }) k
 
-pub did-lack : (w v : SiteSeen) (l : Label) (n : ℕ) (ps : List Payload) → w ≡ v → l.kind ≡ Update n → has label_eq (map label_of w.waiting) l ≡ false → ps ≡ w.waiting → Turns v (Some l) (ans.Refused (why.NoPayload l)) (record w { waiting = ps })
-did-lack w v l n ps same kind none e =
+pub did-lack : (w v : SiteSeen) (l : Label) (n : ℕ) (ps : List Payload) → w ≡ v → l.kind ≡ Update n → has label_eq (map label_of w.waiting) l ≡ false → position (bears l) w.waiting ≡ None → ps ≡ w.waiting → Turns v (Some l) (ans.Refused (why.NoPayload l)) (record w { waiting = ps })
+did-lack w v l n ps same kind none nowhere e =
     subst (λ (x : SiteSeen). Turns x (Some l) (ans.Refused (why.NoPayload l)) (record w { waiting = ps })) same
-    (subst (λ (y : SiteSeen). Turns w (Some l) (ans.Refused (why.NoPayload l)) y) (λ j. record w { waiting = sym e j }) (lacks l (ap is_update kind) none))
+    (subst (λ (y : SiteSeen). Turns w (Some l) (ans.Refused (why.NoPayload l)) y) (λ j. record w { waiting = sym e j }) (lacks l (ap is_update kind) none nowhere))
 
 pub front-item : (w v : SiteSeen) (l : Label) (n : ℕ) → w ≡ v → IsFront v l → l.kind ≡ Update n → (n < length w.shape.interest.replicas) × (keeps_item w n ≡ true)
 unfolding is_for
@@ -195,19 +196,19 @@ pub show-item : (w : SiteSeen) (g n : ℕ) (l : Label) (p : Payload) (ps qs : Li
 show-item w g n l p ps qs gear k lt e item here f kind taken = (n, ap (λ (l : Label). l.kind) taken.label ∙ kind, item-here w g n gear k lt e item here f)
 
 pub show-site : (w : SiteSeen) (g n : ℕ) (l : Label) (p : Payload) (qs : List Payload) (gear new : GearSeen) → IsSite w → g < length w.gears → gear ≡ get_or w.gears g gear → IsGear gear → n < length w.shape.interest.replicas → keeps_item w n ≡ true → g ≡ n % w.shape.gears → l.kind ≡ Update n →
-    IsTaken w.waiting l p qs → ((x : ℕ) → p.label.kind ≡ Update x → new ≡ shown gear x p) → IsSite (record w { gears = set w.gears g new; waiting = qs })
+    IsTaken w.waiting l p qs → ((x : ℕ) → p.label.kind ≡ Update x → new ≡ after_show gear x p) → IsSite (record w { gears = set w.gears g new; waiting = qs })
 show-site w g n l p qs gear new k lt e good item here f kind taken h =
-    let whole : new ≡ shown gear n p = h n (ap (λ (l : Label). l.kind) taken.label ∙ kind) in
+    let whole : new ≡ after_show gear n p = h n (ap (λ (l : Label). l.kind) taken.label ∙ kind) in
     subst IsSite (λ j. record w { gears = set w.gears g (sym whole j); waiting = sym taken.rest j })
-    (showed-site w g taken.place (shown gear n p) k (shown-gear w.shape w.sink g n gear p good (k.gears g gear (at-place w g gear lt e)) item (sym f) here))
+    (showed-site w g taken.place (after_show gear n p) k (shown-gear w.shape w.sink g n gear p good (k.gears g gear (at-place w g gear lt e)) item (sym f) here))
 
 pub did-show : (w v : SiteSeen) (g n : ℕ) (l : Label) (p : Payload) (qs : List Payload) (gear new : GearSeen) → w ≡ v → g < length w.gears → gear ≡ get_or w.gears g gear → IsGear gear → g ≡ n % w.shape.gears → l.kind ≡ Update n →
-    IsTaken w.waiting l p qs → ((x : ℕ) → p.label.kind ≡ Update x → new ≡ shown gear x p) → Turns v (Some l) (ans.Shown l) (record w { gears = set w.gears g new; waiting = qs })
+    IsTaken w.waiting l p qs → ((x : ℕ) → p.label.kind ≡ Update x → new ≡ after_show gear x p) → Turns v (Some l) (ans.Shown l) (record w { gears = set w.gears g new; waiting = qs })
 did-show w v g n l p qs gear new same lt e good f kind taken h =
-    let whole : new ≡ shown gear n p = h n (ap (λ (l : Label). l.kind) taken.label ∙ kind) in
+    let whole : new ≡ after_show gear n p = h n (ap (λ (l : Label). l.kind) taken.label ∙ kind) in
     subst (λ (x : SiteSeen). Turns x (Some l) (ans.Shown l) (record w { gears = set w.gears g new; waiting = qs })) same
     (subst (λ (y : SiteSeen). Turns w (Some l) (ans.Shown l) y) (λ j. record w { gears = set w.gears (sym f j) (sym whole j); waiting = sym taken.rest j })
-    (shows l taken.place p gear n kind taken.label taken.at (subst (λ (g : ℕ). HasGear w g gear) f (at-place w g gear lt e)) good))
+    (shows l taken.place p gear n kind taken.label taken.at (subst (λ (g : ℕ). HasGear w g gear) f (at-place w g gear lt e)) good taken.first))
 
 -- ---- bulk
 

@@ -1,11 +1,12 @@
 -- A site at which nothing has happened.
-use Rattle.std.specs.Prelude.{◌≡◌, ◌⊎◌, ◌<◌, ◌+◌, ◌*◌, ◌/◌, ℕ, zero, suc, List, [], ◌∷◌, ◌++◌, length, map, replicate, get_or, Option, Some, None, slice_get, refl}
+use Rattle.std.specs.Prelude.{◌≡◌, ◌⊎◌, ◌<◌, ◌+◌, ◌*◌, ◌/◌, ◌^◌, ℕ, zero, suc, List, [], ◌∷◌, ◌++◌, length, map, replicate, get_or, Option, Some, None, slice_get, refl}
 use Rattle.std.proofs.Common.{subst, ap, sym, ◌∙◌, arith, inl, inr}
 use Rattle.std.proofs.lemmas.List.{length-map, length-replicate}
+use Rattle.sat_label.proofs.Numbers.{length-below}
 use Rattle.sat_label.specs.declared.label.Label.{Label}
 use Rattle.sat_label.specs.Words.{below}
 use Rattle.sat_bulk.specs.declared.Payload.{Payload}
-use Rattle.sat_bulk.specs.Drains.{In}
+use Rattle.sat_label.specs.Members.{In}
 use Rattle.sat_sites.specs.Interested.{IsInterest}
 use Rattle.sat_sites.specs.declared.shape.Shape.{Shape}
 use Rattle.sat_gear.specs.Gear.{GearSeen, IsShape, fresh_gear, version_of, places}
@@ -21,7 +22,7 @@ use Rattle.sat_act.specs.Parts.{tree_of}
 use Rattle.sat_machine.specs.State.{fresh_site}
 use Rattle.sat_site.specs.Seen.{SiteSeen, IsSite, IsGearAt}
 use Rattle.sat_site.specs.Changes.{fresh_seen, shape_for}
-use Rattle.sat_site.specs.Stands.{StandsSite, StandsGear, payload_of}
+use Rattle.sat_site.specs.Stands.{StandsSite, StandsGear, payload_of, replicas_of}
 use Rattle.sat_site.proofs.Lists.{map-cases, Mapped}
 
 always : {X : Type 0} (n i : ℕ) (x : X) → get_or (replicate n x) i x ≡ x
@@ -29,17 +30,9 @@ always zero i x = refl
 always (suc n) zero x = refl
 always (suc n) (suc i) x = always n i x
 
-below-length : (n : ℕ) → length (below n) ≡ n
-below-length zero = refl
-below-length (suc n) = length-more (below n) n ∙ (let e : length (below n) ≡ n = below-length n in omega arith)
-  where
-    length-more : (ns : List ℕ) (m : ℕ) → length (ns ++ m ∷ []) ≡ suc (length ns)
-    length-more [] m = refl
-    length-more (k ∷ ns) m = ap (λ (n : ℕ). suc n) (length-more ns m)
-
 below-at : (n g k : ℕ) → slice_get (below n) g ≡ Some k → k ≡ g
 below-at zero g k e = absurd (cc)
-below-at (suc n) g k e = elim (last (below n) n g k e) [ inl w ↦ below-at n g k w | inr w ↦ sym w.1 ∙ (sym (below-length n) ∙ sym w.0) ]
+below-at (suc n) g k e = elim (last (below n) n g k e) [ inl w ↦ below-at n g k w | inr w ↦ sym w.1 ∙ (sym (length-below n) ∙ sym w.0) ]
   where
     last : (ns : List ℕ) (m g k : ℕ) → slice_get (ns ++ m ∷ []) g ≡ Some k → (slice_get ns g ≡ Some k) ⊎ ((g ≡ length ns) × (m ≡ k))
     last [] m zero k e = inr (refl, cc)
@@ -72,7 +65,7 @@ fresh-gear-site shape g gear e = subst (IsGearAt shape (fresh_sink shape.site sh
 pub fresh-is : (shape : Shape) → IsShape shape → IsSite (fresh_seen shape)
 fresh-is shape k = record {
   shape = k;
-  count = length-map (below shape.gears) (fresh_gear shape) ∙ below-length shape.gears;
+  count = length-map (below shape.gears) (fresh_gear shape) ∙ length-below shape.gears;
   gears = λ g gear at. fresh-gear-site shape g gear (fresh-at shape g gear at);
   sink = refl;
   promises = length-replicate shape.gears 0;
@@ -126,6 +119,7 @@ shape-sound d i shape limits lt a e = record {
   sites = (λ j. (e j).interest.sites) ∙ (λ j. (sym e j).sites);
   site = subst (λ (s : Shape). s.site < s.sites) (sym e) lt;
   gears = subst (λ (s : Shape). 0 < s.gears) (sym e) limits.some_gear;
+  items = subst (λ (s : Shape). length s.interest.replicas < 2 ^ 16) (sym e) (let few = limits.few_items in omega (arith, length-map d.items replicas_of));
 }
 
 pub made-stands : (d : Deployed) (i : ℕ) (shape : Shape) (made : SiteSeen) → IsBuilt d → shape ≡ shape_for d i → made ≡ fresh_seen shape → StandsSite d i made (fresh_site i)

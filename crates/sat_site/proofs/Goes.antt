@@ -40,8 +40,8 @@ read-sent x n r (reads gear v e at f) = refl
 turn-sent : (x : SiteSeen) (front : Option Label) (r : Answer) (y : SiteSeen) → Turns x front r y → IsSent x.shape r None × (y.shape ≡ x.shape)
 turn-sent x front r y turns_none = (refl, refl)
 turn-sent x front r y (takes l e) = (refl, refl)
-turn-sent x front r y (lacks l e f) = (refl, refl)
-turn-sent x front r y (shows l n p gear k kind same here at good) = (refl, refl)
+turn-sent x front r y (lacks l e f none) = (refl, refl)
+turn-sent x front r y (shows l n p gear k kind same here at good first) = (refl, refl)
 
 front-of : (x : SiteSeen) (front : Option Label) → Fits x (input.Turn front) → (l : Label) → front ≡ Some l → IsFront x l
 front-of x None f l e = absurd (cc)

@@ -12,7 +12,7 @@ use Rattle.sat_act.specs.Parts.{replicates, is_target}
 use Rattle.sat_machine.specs.State.{SiteState}
 use Rattle.sat_site.specs.Seen.{SiteSeen}
 use Rattle.sat_site.specs.Stands.{StandsSite, interest_of, replicas_of}
-use Rattle.sat_site.specs.Does.{keeps_item}
+use Rattle.sat_site.specs.SiteSteps.{keeps_item}
 
 kept-at : (items : List Item) (x k : ℕ) → ◌≡◌ {A = Bool} (elim (slice_get (map replicas_of items) x) [ None ↦ false | Some set ↦ bit set.bits k ]) (elim (slice_get items x) [ None ↦ false | Some item ↦ bit item.replicas.bits k ])
 kept-at [] x k = refl

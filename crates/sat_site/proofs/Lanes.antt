@@ -1,7 +1,8 @@
 -- What was taken of a lane: the numbers below that of the next.
-use Rattle.std.specs.Prelude.{◌≡◌, ◌<◌, ℕ, zero, suc, ◌+◌, Bool, true, false, ◌||◌, ◌==◌, nat_lt, max, List, [], ◌∷◌, ◌++◌, if◌then◌else◌, refl}
+use Rattle.std.specs.Prelude.{◌≡◌, ℕ, zero, suc, ◌+◌, Bool, true, false, ◌||◌, ◌==◌, nat_lt, max, List, [], ◌∷◌, ◌++◌, if◌then◌else◌, refl}
 use Rattle.std.proofs.Common.{ap, ◌∙◌, arith}
 use Rattle.std.proofs.lemmas.Bool.Decides.{nat_tests}
+use Rattle.std.proofs.lemmas.Bool.{lt-ltb}
 use Rattle.sat_label.specs.Words.{below, has}
 use Rattle.sat_machine.specs.Look.{front_in, gap_from, top}
 
@@ -40,14 +41,11 @@ unfolding top
 top-below zero = refl
 top-below (suc m) = top-more (below m) m ∙ (ap (λ (n : ℕ). max n (m + 1)) (top-below m) ∙ (let k : max m (m + 1) ≡ suc m = omega arith in k))
 
-less : (k m : ℕ) → k < m → nat_lt k m ≡ true
-less k m e = grind (arith, nat_tests)
-
 gap-below : (m j k : ℕ) → m ≡ k + j → gap_from j (below m) k ≡ m
 unfolding gap_from
 gap-below m zero k e = omega arith
 gap-below m (suc j) k e =
-    ap (λ (b : Bool). if b then gap_from j (below m) (k + 1) else k) (has-below m k ∙ less k m (omega arith)) ∙ gap-below m j (k + 1) (omega arith)
+    ap (λ (b : Bool). if b then gap_from j (below m) (k + 1) else k) (has-below m k ∙ lt-ltb k m (omega arith)) ∙ gap-below m j (k + 1) (omega arith)
 
 -- the next number is how many were taken
 pub front-below : (m : ℕ) → front_in (below m) ≡ m

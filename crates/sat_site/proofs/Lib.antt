@@ -10,6 +10,8 @@ pub mod Interests
 pub mod Writes
 pub mod Turns
 pub mod Goes
+pub mod Determined
+pub mod Able
 pub mod Loops
 pub mod Sound
 pub mod Deeds

@@ -1,9 +1,8 @@
 -- Places of changed lists, and choices.
-use Rattle.std.specs.Prelude.{◌≡◌, ◌≢◌, ◌⊎◌, ◌<◌, ℕ, zero, suc, Bool, true, false, ◌==◌, List, [], ◌∷◌, length, map, set, get_or, Some, slice_get, if◌then◌else◌, refl}
+use Rattle.std.specs.Prelude.{◌≡◌, ◌≢◌, ◌⊎◌, ◌<◌, ℕ, zero, suc, Bool, true, false, List, [], ◌∷◌, length, map, set, get_or, Some, slice_get, if◌then◌else◌, refl}
 use Rattle.std.proofs.Common.{ap, sym, ◌∙◌, arith, inl, inr}
-use Rattle.std.proofs.lemmas.Bool.Decides.{nat_tests}
 use Rattle.sat_label.specs.declared.label.Label.{Label}
-use Rattle.sat_bulk.specs.Drains.{In}
+use Rattle.sat_label.specs.Members.{In}
 
 -- after a write at place i
 pub set-cases : {X : Type 0} (xs : List X) (i n : ℕ) (y x : X) → slice_get (set xs i y) n ≡ Some x → ((y ≡ x) × (n ≡ i)) ⊎ ((slice_get xs n ≡ Some x) × (n ≢ i))
@@ -45,13 +44,6 @@ get-within [] i x e = absurd (cc)
 get-within (y ∷ xs) zero x e = omega arith
 get-within (y ∷ xs) (suc i) x e = let k : i < length xs = get-within xs i x e in omega arith
 
--- choices
-pub equal : (m n : ℕ) → m ≡ n → (m == n) ≡ true
-equal m n e = grind (arith, nat_tests)
-
-pub apart : (m n : ℕ) → m ≢ n → (m == n) ≡ false
-apart m n e = grind (arith, nat_tests)
-
 pub chosen : {X : Type 0} (b : Bool) (x y : X) → b ≡ true → (if b then x else y) ≡ x
 chosen true x y e = refl
 chosen false x y e = absurd (cc)
@@ -64,11 +56,3 @@ pub In-at : (ls : List Label) (n : ℕ) (l : Label) → slice_get ls n ≡ Some 
 In-at [] n l e = absurd (cc)
 In-at (m ∷ ls) zero l e = inl (cc)
 In-at (m ∷ ls) (suc n) l e = inr (In-at ls n l e)
-
-pub not-so : (b : Bool) → (b ≡ true → ⊥) → b ≡ false
-not-so true f = absurd (f refl)
-not-so false f = refl
-
-pub so : (b : Bool) → (b ≡ false → ⊥) → b ≡ true
-so true f = refl
-so false f = absurd (f refl)

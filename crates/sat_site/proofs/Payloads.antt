@@ -6,11 +6,11 @@ use Rattle.std.proofs.lemmas.Bool.Decides.{nat_tests}
 use Rattle.sat_label.specs.declared.label.Label.{Label}
 use Rattle.sat_label.specs.Order.{label_eq}
 use Rattle.sat_label.specs.Words.{has}
-use Rattle.sat_laws.proofs.Members.{same-label, label-self}
 use Rattle.sat_bulk.specs.declared.Payload.{Payload}
 use Rattle.sat_machine.specs.Look.{label_of, payload_in}
 use Rattle.sat_site.specs.Changes.{IsTaken}
 use Rattle.sat_site.specs.Stands.{Different}
+use Rattle.sat_label.proofs.Orders.{same-label, label_eq-self}
 
 -- ---- what `position` finds
 
@@ -112,7 +112,7 @@ only (q ∷ ps) zero p d e =
     let same : q ≡ p = cc in
     subst (λ (r : Payload). Only (q ∷ ps) zero r) same
     (let apart : (n : ℕ) (r : Payload) → slice_get ps n ≡ Some r → q.label ≡ r.label → ⊥ = λ n r f w. (let k : 0 ≡ suc n = d 0 (suc n) q r refl f w in omega arith) in
-    let k = only-here q ps (label_eq q.label q.label) false refl (label-self q.label) (others q ps apart) in
+    let k = only-here q ps (label_eq q.label q.label) false refl (label_eq-self q.label) (others q ps apart) in
     record { waits = k.0; value = k.1; rest = k.2 })
 only (q ∷ ps) (suc n) p d e =
     let apart : q.label ≡ p.label → ⊥ = λ w. (let k : 0 ≡ suc n = d 0 (suc n) q p refl e w in omega arith) in
@@ -157,7 +157,7 @@ more-each P ps p new f k q e = elim (more-get ps p k q e) [ inl w ↦ f k q w | 
 
 has-at : (ps : List Payload) (n : ℕ) (p : Payload) → slice_get ps n ≡ Some p → has label_eq (map label_of ps) p.label ≡ true
 has-at [] n p e = absurd (cc)
-has-at (q ∷ ps) zero p e = let same : q ≡ p = cc in subst (λ (p : Payload). (label_eq q.label p.label || has label_eq (map label_of ps) p.label) ≡ true) same (ap (λ (b : Bool). b || has label_eq (map label_of ps) q.label) (label-self q.label))
+has-at (q ∷ ps) zero p e = let same : q ≡ p = cc in subst (λ (p : Payload). (label_eq q.label p.label || has label_eq (map label_of ps) p.label) ≡ true) same (ap (λ (b : Bool). b || has label_eq (map label_of ps) q.label) (label_eq-self q.label))
 has-at (q ∷ ps) (suc n) p e = go (label_eq q.label p.label) (has-at ps n p e)
   where
     go : (b : Bool) → has label_eq (map label_of ps) p.label ≡ true → (b || has label_eq (map label_of ps) p.label) ≡ true
@@ -187,4 +187,4 @@ get-at (q ∷ ps) (suc n) p lt e = get-at ps n p (omega arith) e
 pub taken-at : (l : Label) (ps qs : List Payload) (n : ℕ) (p : Payload) → position (λ p. label_eq p.label l) ps ≡ Some n → p ≡ get_or ps n p → qs ≡ remove ps n → IsTaken ps l p qs
 taken-at l ps qs n p e f g =
     let w : Found l ps n = found-at l ps n e in
-    record { place = n; at = get-at ps n p w.within f; label = same-label p.label l (subst (λ (q : Payload). label_eq q.label l ≡ true) (sym f) (w.label p)); rest = g }
+    record { place = n; first = e; at = get-at ps n p w.within f; label = same-label p.label l (subst (λ (q : Payload). label_eq q.label l ≡ true) (sym f) (w.label p)); rest = g }

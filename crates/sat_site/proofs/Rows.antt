@@ -1,12 +1,11 @@
 -- The sink's lists are the rows of the machine's tables.
-use Rattle.std.specs.Prelude.{◌≡◌, ◌<◌, ◌+◌, ℕ, suc, Bool, true, false, List, [], ◌∷◌, ◌++◌, length, get_or, Option, Some, None, min, fold, if◌then◌else◌, refl}
+use Rattle.std.specs.Prelude.{◌≡◌, ◌<◌, ◌+◌, ℕ, suc, List, [], ◌∷◌, ◌++◌, length, get_or, min, fold}
 use Rattle.std.proofs.Common.{arith, ap, subst, sym, ◌∙◌, append_assoc}
 use Rattle.std.proofs.lemmas.List.{append-nil}
 use Rattle.sat_label.specs.declared.label.Label.{Label}
-use Rattle.sat_label.specs.Order.{label_lt}
-use Rattle.sat_sink.specs.Pending.{all_of, is_up_to, least, lesser, least_label}
+use Rattle.sat_sink.specs.Pending.{all_of, is_up_to, least}
+use Rattle.sat_label.specs.Least.{least_label}
 use Rattle.sat_sink.specs.Sink as sink
-use Rattle.sat_act.specs.Parts.{least_label as least_of}
 use Rattle.sat_act.specs.Deployed.{Deployed}
 use Rattle.sat_machine.specs.State.{SiteState}
 use Rattle.sat_machine.specs.Look.{least_row, rows, stable_of, ready_of}
@@ -39,25 +38,10 @@ pub all-rows : (f : ℕ → List Label) (qs : List (List Label)) (n : ℕ) → l
 unfolding rows
 all-rows f qs n e h = rows-from f qs 0 n (omega arith) (λ g m w lt. let k : m ≡ g = omega arith in subst (λ (m : ℕ). get_or qs g [] ≡ f m) (sym k) (h g (omega arith)))
 
-lesser-is : (l : Label) (o : Option Label) → lesser (Some l) o ≡ elim o [ None ↦ Some l | Some m ↦ if label_lt l m then Some l else Some m ]
-lesser-is l None = refl
-lesser-is l (Some m) = refl
-
--- the two definitions of the least label agree
-pub same-least : (p : Label → Bool) (ls : List Label) → least_label p ls ≡ least_of p ls
-unfolding least_label least_of
-same-least p [] = refl
-same-least p (l ∷ ls) = go (p l) (least_label p ls) (least_of p ls) (same-least p ls)
-  where
-    go : (b : Bool) (o r : Option Label) → o ≡ r → (if b then lesser (Some l) o else o) ≡ (if b then elim r [ None ↦ Some l | Some m ↦ if label_lt l m then Some l else Some m ] else r)
-    go true o r e = lesser-is l o ∙ ap (λ (o : Option Label). elim o [ None ↦ Some l | Some m ↦ if label_lt l m then Some l else Some m ]) e
-    go false o r e = e
-
 pub stable-same : (d : Deployed) (i : ℕ) (x : SiteSeen) (s : SiteState) → IsSite x → StandsSite d i x s → sink.stable_of x.sink ≡ stable_of d s
 stable-same d i x s k st = least-rows s.sink.promises x.sink.promises d.gears (k.promises ∙ st.count) st.promises
 
 pub ready-same : (d : Deployed) (i : ℕ) (x : SiteSeen) (s : SiteState) → IsSite x → StandsSite d i x s → sink.ready_of x.sink ≡ ready_of d s
 ready-same d i x s k st =
-    same-least (is_up_to (sink.stable_of x.sink)) (all_of x.sink.pending) ∙
-    (ap (λ (t : ℕ). least_of (is_up_to t) (all_of x.sink.pending)) (stable-same d i x s k st) ∙
-    ap (λ (ls : List Label). least_of (is_up_to (stable_of d s)) ls) (all-rows s.sink.pending x.sink.pending d.gears (k.rows ∙ st.count) st.pending))
+    ap (λ (t : ℕ). least_label (is_up_to t) (all_of x.sink.pending)) (stable-same d i x s k st) ∙
+    ap (λ (ls : List Label). least_label (is_up_to (stable_of d s)) ls) (all-rows s.sink.pending x.sink.pending d.gears (k.rows ∙ st.count) st.pending)

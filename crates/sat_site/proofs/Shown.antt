@@ -13,7 +13,7 @@ use Rattle.sat_machine.specs.Look.{front_in, front_of}
 use Rattle.sat_site.specs.Seen.{SiteSeen, IsSite, IsGearAt, lane_place, taken_of}
 use Rattle.sat_site.specs.Stands.{StandsSite, payload_of}
 use Rattle.sat_site.specs.Changes.{HasGear, gear_at}
-use Rattle.sat_site.specs.Does.{keeps_item}
+use Rattle.sat_site.specs.SiteSteps.{keeps_item}
 use Rattle.sat_site.specs.Gives.{IsOfLane}
 use Rattle.sat_site.proofs.Lanes.{front-below}
 use Rattle.sat_site.proofs.Lists.{same-get}

@@ -1,9 +1,9 @@
 -- What is true of each site stays so.
 use Rattle.std.specs.Prelude.{◌≡◌, ◌<◌, ◌≤◌, ◌/◌, ◌%◌, ℕ, zero, suc, Bool, true, false, ◌==◌, not, List, [], ◌∷◌, length, map, set, get_or, filter, Option, Some, None, slice_get, if◌then◌else◌, refl}
 use Rattle.std.specs.List.{remove}
-use Rattle.std.proofs.Common.{subst, ap, sym, ◌∙◌, arith, inl, inr}
+use Rattle.std.proofs.Common.{subst, ap, sym, ◌∙◌, inl, inr}
 use Rattle.std.proofs.lemmas.List.{length-map, length-set}
-use Rattle.std.proofs.lemmas.Bool.Decides.{nat_tests}
+use Rattle.std.proofs.lemmas.Bool.{eqb-true}
 use Rattle.sat_label.specs.declared.label.Label.{Label}
 use Rattle.sat_label.specs.declared.label.Kind.{Kind}
 use Rattle.sat_label.specs.declared.label.Kind.TheVariants.{Update}
@@ -11,21 +11,23 @@ use Rattle.sat_label.specs.declared.point.Point.{Point}
 use Rattle.sat_label.specs.Order.{label_eq}
 use Rattle.sat_bulk.specs.declared.Drained.{Drained}
 use Rattle.sat_bulk.specs.declared.Payload.{Payload}
-use Rattle.sat_bulk.specs.Drains.{In, IsNew}
-use Rattle.sat_bulk.proofs.Members.{in-parts}
+use Rattle.sat_label.specs.Members.{In}
+use Rattle.sat_bulk.specs.Drains.{IsNew}
+use Rattle.sat_label.proofs.Members.{In-parts, In-filter}
 use Rattle.sat_sites.specs.declared.shape.Shape.{Shape}
 use Rattle.sat_sites.specs.Interested.{IsLabelOf, IsKindOf, keeps}
 use Rattle.sat_store.specs.declared.store.Version.{Version}
 use Rattle.sat_store.specs.Stored.{newer, version_at}
-use Rattle.sat_gear.specs.Gear.{GearSeen, IsGear, ticked, wrote, shown, stamped, after_drain, drained_of, version_of}
+use Rattle.sat_gear.specs.Gear.{GearSeen, IsGear, after_tick, after_write, after_show, stamped, after_drain, drained_of, version_of}
 use Rattle.sat_sink.specs.Pending.{labels_of, promise_of, is_up_to, all_of}
-use Rattle.sat_sink.specs.Sink.{Sink, IsDrain, IsDrainOf, gathered, ready_of, stable_of}
-use Rattle.sat_sink.proofs.Leasts.{IsLeast, least-is}
-use Rattle.sat_sink.proofs.Queues.{In-filter, In-all, Place, joined-get, length-joined, without-get}
+use Rattle.sat_sink.specs.Sink.{Sink, IsDrain, IsDrainOf, after_gather, ready_of, stable_of}
+use Rattle.sat_label.proofs.Least.{IsLeast, least-is}
+use Rattle.sat_sink.proofs.Queues.{In-all, Place, joined-get, length-joined, without-get}
 use Rattle.sat_site.specs.Seen.{SiteSeen, IsSite, IsGearAt, IsGuest, IsUpdateHere, lane_place}
 use Rattle.sat_site.specs.Changes.{with_gear, gathered_all, sent, showed, brought, clocked, ticked_to, AreGears, HasGear}
 use Rattle.sat_site.proofs.Lists.{set-cases, map-cases, Mapped, get-within}
-use Rattle.sat_site.proofs.Stores.{version-set, within-places, version_with}
+use Rattle.sat_site.proofs.Stores.{version-set, version_with}
+use Rattle.sat_gear.proofs.Places.{within_places}
 use Rattle.sat_site.proofs.Payloads.{left-each, more-each}
 use Rattle.sat_site.proofs.Gathers.{promise-at, labels-at, each-gear, length-drained}
 
@@ -46,23 +48,20 @@ with-gear-site x g new k a = record {
   waiting = λ n p at. let q : IsGuest x p = k.waiting n p at in record { item = q.item; target = q.target; from = q.from };
 }
 
-pub ticked-gear : (shape : Shape) (sink : Sink) (g t : ℕ) (gear : GearSeen) → IsGearAt shape sink g gear → IsGearAt shape sink g (ticked gear t)
+pub ticked-gear : (shape : Shape) (sink : Sink) (g t : ℕ) (gear : GearSeen) → IsGearAt shape sink g gear → IsGearAt shape sink g (after_tick gear t)
 ticked-gear shape sink g t gear a = record { shape = a.shape; number = a.number; gathered = a.gathered; fresh = a.fresh; pending = a.pending; absent = a.absent }
-
-same : (m n : ℕ) → (m == n) ≡ true → m ≡ n
-same m n e = grind (arith, nat_tests)
 
 -- a newer version of an item that the site keeps leaves those of the others
 absent-newer : (vs : List (Option Version)) (n m w : ℕ) (v : Option Version) (f : ℕ → Bool) → n / w < length vs → m % w ≡ n % w → f n ≡ true → f m ≡ false → version_at vs (m / w) ≡ None → version_at (set vs (n / w) v) (m / w) ≡ None
 absent-newer vs n m w v f lt e here there old = version-set vs n m w v lt e ∙ go (n == m) refl
   where
     go : (b : Bool) → (n == m) ≡ b → (if b then v else version_at vs (m / w)) ≡ None
-    go true q = absurd (let k : f n ≡ f m = ap f (same n m q) in cc)
+    go true q = absurd (let k : f n ≡ f m = ap f (eqb-true n m q) in cc)
     go false q = old
 
 pub place-of : (shape : Shape) (sink : Sink) (g n : ℕ) (gear : GearSeen) → IsGear gear → IsGearAt shape sink g gear → n < length shape.interest.replicas → n / gear.shape.gears < length gear.versions
 place-of shape sink g n gear good a item =
-    subst (λ (m : ℕ). n / gear.shape.gears < m) (sym good.versions) (within-places n (length gear.shape.interest.replicas) gear.shape.gears good.shape.gears (subst (λ (s : Shape). n < length s.interest.replicas) (sym a.shape) item))
+    subst (λ (m : ℕ). n / gear.shape.gears < m) (sym good.versions) (within_places n (length gear.shape.interest.replicas) gear.shape.gears good.shape.gears (subst (λ (s : Shape). n < length s.interest.replicas) (sym a.shape) item))
 
 newer-absent : (shape : Shape) (sink : Sink) (g n : ℕ) (gear : GearSeen) (v : Option Version) → IsGear gear → IsGearAt shape sink g gear → n < length shape.interest.replicas → n % shape.gears ≡ g → keeps shape.interest n shape.site ≡ true → (m : ℕ) → m % shape.gears ≡ g → keeps shape.interest m shape.site ≡ false →
     version_at (set gear.versions (n / gear.shape.gears) v) (m / gear.shape.gears) ≡ None
@@ -70,7 +69,7 @@ newer-absent shape sink g n gear v good a item e here m f there =
     absent-newer gear.versions n m gear.shape.gears v (λ n. keeps shape.interest n shape.site) (place-of shape sink g n gear good a item)
     (subst (λ (s : Shape). m % s.gears ≡ n % s.gears) (sym a.shape) (f ∙ sym e)) here there (a.absent m f there)
 
-pub shown-gear : (shape : Shape) (sink : Sink) (g n : ℕ) (gear : GearSeen) (p : Payload) → IsGear gear → IsGearAt shape sink g gear → n < length shape.interest.replicas → n % shape.gears ≡ g → keeps shape.interest n shape.site ≡ true → IsGearAt shape sink g (shown gear n p)
+pub shown-gear : (shape : Shape) (sink : Sink) (g n : ℕ) (gear : GearSeen) (p : Payload) → IsGear gear → IsGearAt shape sink g gear → n < length shape.interest.replicas → n % shape.gears ≡ g → keeps shape.interest n shape.site ≡ true → IsGearAt shape sink g (after_show gear n p)
 shown-gear shape sink g n gear p good a item e here = record {
   shape = a.shape;
   number = a.number;
@@ -81,12 +80,12 @@ shown-gear shape sink g n gear p good a item e here = record {
 }
 
 pub wrote-gear : (shape : Shape) (sink : Sink) (g n : ℕ) (gear : GearSeen) (seen : Point) (value : List ℕ) → IsGear gear → IsGearAt shape sink g gear → n < length shape.interest.replicas → n % shape.gears ≡ g → keeps shape.interest n shape.site ≡ true →
-    IsGearAt shape sink g (wrote gear n (record { label = stamped gear seen (Update n); value = value }))
+    IsGearAt shape sink g (after_write gear n (record { label = stamped gear seen (Update n); value = value }))
 wrote-gear shape sink g n gear seen value good a item e here = record {
   shape = a.shape;
   number = a.number;
   gathered = a.gathered;
-  fresh = λ l i. elim (in-parts gear.fresh (stamped gear seen (Update n) ∷ []) l i) [
+  fresh = λ l i. elim (In-parts gear.fresh (stamped gear seen (Update n) ∷ []) l i) [
     | inl old ↦ a.fresh l old
     | inr new ↦ elim new [
       | inl w ↦ subst (IsUpdateHere shape) w (record { site = (λ j. (a.shape j).site); item = (n, refl, item) })
@@ -126,10 +125,10 @@ drain-of : (x : SiteSeen) (g : ℕ) (gear : GearSeen) → IsSite x → HasGear x
 drain-of x g gear k at good =
     let a : IsGearAt x.shape x.sink g gear = k.gears g gear at in
     record {
-      promise = subst (λ (n : ℕ). n ≤ gear.promise) (sym a.gathered) good.drained;
+      promise = subst (λ (n : ℕ). n ≤ gear.promise) (sym a.gathered) good.drained_promise;
       rises = good.rises;
       labels = λ l i.
-          let n : IsNew gear.shape.site gear.gear gear.drained gear.promise l = (good.fresh l i).new in
+          let n : IsNew gear.shape.site gear.gear gear.drained_promise gear.promise l = (good.fresh l i).new in
           record {
             site = n.site ∙ ((λ j. (a.shape j).site) ∙ sym k.sink);
             gear = n.gear ∙ a.number;
@@ -155,12 +154,12 @@ gathered-site x k = record {
       let w : Mapped after_drain x.gears g gear = map-cases after_drain x.gears g gear at in
       let a : IsGearAt x.shape x.sink g w.old = k.gears g w.old w.at in
       let lt : g < length x.sink.pending = subst (λ (n : ℕ). g < n) (k.count ∙ sym k.rows) (get-within x.gears g w.old w.at) in
-      subst (IsGearAt x.shape (gathered x.sink (map drained_of x.gears)) g) w.is (record {
+      subst (IsGearAt x.shape (after_gather x.sink (map drained_of x.gears)) g) w.is (record {
         shape = a.shape;
         number = a.number;
         gathered = promise-at x.gears g w.old w.at;
         fresh = λ l i. absurd i;
-        pending = λ l i. elim (in-parts (get_or x.sink.pending g []) (get_or (map labels_of (map drained_of x.gears)) g []) l (subst (λ (ls : List Label). In ls l) (joined-get x.sink.pending (map labels_of (map drained_of x.gears)) g lt) i)) [
+        pending = λ l i. elim (In-parts (get_or x.sink.pending g []) (get_or (map labels_of (map drained_of x.gears)) g []) l (subst (λ (ls : List Label). In ls l) (joined-get x.sink.pending (map labels_of (map drained_of x.gears)) g lt) i)) [
           | inl old ↦ a.pending l old
           | inr new ↦ a.fresh l (subst (λ (ls : List Label). In ls l) (labels-at x.gears g w.old w.at) new)
         ];

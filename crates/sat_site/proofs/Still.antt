@@ -1,8 +1,9 @@
 -- Acts that leave all as it is, that raise promises, and that read.
 use Rattle.std.specs.Prelude.{◌≡◌, ◌≢◌, ◌≤◌, ℕ, ◌==◌, max, List}
 use Rattle.std.proofs.Common.{subst, ap, sym, ◌∙◌, arith, inl, inr}
+use Rattle.std.proofs.lemmas.Bool.{eq-eqb, ne_eqb}
 use Rattle.sat_label.specs.declared.label.Label.{Label}
-use Rattle.sat_gear.specs.Gear.{GearSeen, ticked, version_of}
+use Rattle.sat_gear.specs.Gear.{GearSeen, after_tick, version_of}
 use Rattle.sat_act.specs.declared.answer.Answer.TheVariants as ans
 use Rattle.sat_act.specs.declared.answer.Refusal.{Refusal}
 use Rattle.sat_act.specs.Answers.{gear_of}
@@ -16,7 +17,7 @@ use Rattle.sat_site.specs.Seen.{SiteSeen}
 use Rattle.sat_site.specs.Stands.{StandsSite, StandsGear, payload_of}
 use Rattle.sat_site.specs.Changes.{with_gear, clocked, ticked_to, HasGear}
 use Rattle.sat_site.specs.Gives.{PromisesUpTo}
-use Rattle.sat_site.proofs.Lists.{set-cases, map-cases, Mapped, equal, apart, chosen, passed}
+use Rattle.sat_site.proofs.Lists.{set-cases, map-cases, Mapped, chosen, passed}
 
 pub refuses : (d : Deployed) (i : ℕ) (x : SiteSeen) (s : SiteState) (input : SiteInput) (r : Refusal) → StandsSite d i x s → StandsSite d i x (site_next d i s input (ans.Refused r))
 unfolding site_next
@@ -30,24 +31,24 @@ pub reads-some : (d : Deployed) (i : ℕ) (x : SiteSeen) (s : SiteState) (input 
 unfolding site_next
 reads-some d i x s input l value st = st
 
-raised-gear : (d : Deployed) (gear : GearSeen) (s : GearState) (g k t : ℕ) → g ≡ k → StandsGear d gear s → StandsGear d (ticked gear t) (gear_next d k s (given.Tick g t) (ans.Ticked (max gear.promise t)))
-raised-gear d gear s g k t e st = record { promise = sym (chosen (g == k) (max gear.promise t) s.promise (equal g k e)); fresh = st.fresh; lanes = st.lanes }
+raised-gear : (d : Deployed) (gear : GearSeen) (s : GearState) (g k t : ℕ) → g ≡ k → StandsGear d gear s → StandsGear d (after_tick gear t) (gear_next d k s (given.Tick g t) (ans.Ticked (max gear.promise t)))
+raised-gear d gear s g k t e st = record { promise = sym (chosen (g == k) (max gear.promise t) s.promise (eq-eqb g k e)); fresh = st.fresh; lanes = st.lanes }
 
 kept-gear : (d : Deployed) (gear : GearSeen) (s : GearState) (g k t u : ℕ) → k ≢ g → StandsGear d gear s → StandsGear d gear (gear_next d k s (given.Tick g t) (ans.Ticked u))
-kept-gear d gear s g k t u e st = record { promise = st.promise ∙ sym (passed (g == k) u s.promise (apart g k (λ w. e (sym w)))); fresh = st.fresh; lanes = st.lanes }
+kept-gear d gear s g k t u e st = record { promise = st.promise ∙ sym (passed (g == k) u s.promise (ne_eqb g k (λ w. e (sym w)))); fresh = st.fresh; lanes = st.lanes }
 
 pub ticks-answer : (d : Deployed) (i : ℕ) (x : SiteSeen) (s : SiteState) (g t : ℕ) (gear : GearSeen) → HasGear x g gear → StandsSite d i x s → ans.Ticked (max gear.promise t) ≡ site_answer d i s (given.Tick g t)
 unfolding site_answer
 ticks-answer d i x s g t gear at st = ap (λ (p : ℕ). ans.Ticked (max p t)) (st.gears g gear at).promise
 
-pub ticks-stand : (d : Deployed) (i : ℕ) (x : SiteSeen) (s : SiteState) (g t : ℕ) (gear : GearSeen) → HasGear x g gear → StandsSite d i x s → StandsSite d i (with_gear x g (ticked gear t)) (site_next d i s (given.Tick g t) (ans.Ticked (max gear.promise t)))
+pub ticks-stand : (d : Deployed) (i : ℕ) (x : SiteSeen) (s : SiteState) (g t : ℕ) (gear : GearSeen) → HasGear x g gear → StandsSite d i x s → StandsSite d i (with_gear x g (after_tick gear t)) (site_next d i s (given.Tick g t) (ans.Ticked (max gear.promise t)))
 unfolding site_next
 ticks-stand d i x s g t gear at st = record {
   sites = st.sites;
   count = st.count;
   site = st.site;
   interest = st.interest;
-  gears = λ k new here. elim (set-cases x.gears g k (ticked gear t) new here) [
+  gears = λ k new here. elim (set-cases x.gears g k (after_tick gear t) new here) [
     | inl w ↦ subst (λ (y : GearSeen). StandsGear d y (gear_next d k (s.gears k) (given.Tick g t) (ans.Ticked (max gear.promise t)))) w.0
         (raised-gear d gear (s.gears k) g k t (sym w.1) (st.gears k gear (subst (λ (n : ℕ). HasGear x n gear) (sym w.1) at)))
     | inr w ↦ kept-gear d new (s.gears k) g k t (max gear.promise t) w.1 (st.gears k new w.0)
@@ -56,7 +57,7 @@ ticks-stand d i x s g t gear at st = record {
   pending = st.pending;
   last = st.last;
   pulse = st.pulse;
-  store = λ n new lt here. elim (set-cases x.gears g (gear_of d n) (ticked gear t) new here) [
+  store = λ n new lt here. elim (set-cases x.gears g (gear_of d n) (after_tick gear t) new here) [
     | inl w ↦ subst (λ (y : GearSeen). payload_of (version_of y n) ≡ s.store n) w.0 (st.store n gear lt (subst (λ (m : ℕ). HasGear x m gear) (sym w.1) at))
     | inr w ↦ st.store n new lt w.0
   ];

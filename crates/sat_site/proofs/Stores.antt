@@ -1,15 +1,13 @@
 -- Versions: those of the items of one gear.
-use Rattle.std.specs.Prelude.{◌≡◌, ◌≢◌, ◌<◌, ◌≤◌, ℕ, ◌+◌, ◌*◌, ◌/◌, ◌%◌, Bool, true, false, ◌==◌, List, length, set, Option, Some, None, if◌then◌else◌, refl}
-use Rattle.std.proofs.Common.{ap, sym, ◌∙◌, arith}
-use Rattle.std.proofs.lemmas.Bool.Decides.{nat_tests}
+use Rattle.std.specs.Prelude.{◌≡◌, ◌<◌, ℕ, ◌+◌, ◌*◌, ◌/◌, ◌%◌, Bool, true, false, ◌==◌, List, length, set, Option, Some, None, if◌then◌else◌, refl}
+use Rattle.std.proofs.Common.{ap, sym, ◌∙◌}
 use Rattle.std.proofs.lemmas.List.{get_or-set_same, get_or-set_other}
-use Rattle.std.proofs.Math.Nat.{div-add-mod, div-mul-le_self}
-use Rattle.std.proofs.lemmas.Nat.{le-div}
+use Rattle.std.proofs.Math.Nat.{div-add-mod}
+use Rattle.std.proofs.lemmas.Bool.{eqb-false, eqb-true}
 use Rattle.sat_label.specs.Order.{label_lt}
 use Rattle.sat_bulk.specs.declared.Payload.{Payload}
 use Rattle.sat_store.specs.declared.store.Version.{Version}
 use Rattle.sat_store.specs.Stored.{newer, version_at}
-use Rattle.sat_gear.specs.Gear.{places}
 use Rattle.sat_machine.specs.Next.{put}
 use Rattle.sat_site.specs.Stands.{payload_of}
 
@@ -17,19 +15,13 @@ use Rattle.sat_site.specs.Stands.{payload_of}
 one-place : (m n g : ℕ) → m % g ≡ n % g → m / g ≡ n / g → m ≡ n
 one-place m n g e f = sym (div-add-mod m g) ∙ (ap (λ (r : ℕ). g * (m / g) + r) e ∙ (ap (λ (q : ℕ). g * q + n % g) f ∙ div-add-mod n g))
 
-same : (m n : ℕ) → (m == n) ≡ true → m ≡ n
-same m n e = grind (arith, nat_tests)
-
-apart : (m n : ℕ) → (m == n) ≡ false → m ≢ n
-apart m n e f = grind (arith, nat_tests)
-
 -- what a new version of item x makes of that of item n
 pub version-set : (vs : List (Option Version)) (x n g : ℕ) (v : Option Version) → x / g < length vs → n % g ≡ x % g → version_at (set vs (x / g) v) (n / g) ≡ (if x == n then v else version_at vs (n / g))
 version-set vs x n g v lt e = go (x == n) refl
   where
     go : (b : Bool) → (x == n) ≡ b → version_at (set vs (x / g) v) (n / g) ≡ (if b then v else version_at vs (n / g))
-    go true w = ap (λ (k : ℕ). version_at (set vs (x / g) v) k) (ap (λ (k : ℕ). k / g) (sym (same x n w))) ∙ get_or-set_same vs (x / g) v None lt
-    go false w = get_or-set_other vs (x / g) (n / g) v None (λ f. apart x n w (one-place x n g (sym e) (sym f)))
+    go true w = ap (λ (k : ℕ). version_at (set vs (x / g) v) k) (ap (λ (k : ℕ). k / g) (sym (eqb-true x n w))) ∙ get_or-set_same vs (x / g) v None lt
+    go false w = get_or-set_other vs (x / g) (n / g) v None (λ f. eqb-false x n w (one-place x n g (sym e) (sym f)))
 
 abbrev pub version_with : Payload → Version
 version_with p = record { label = p.label; value = p.value }
@@ -43,22 +35,11 @@ newer-put (Some v) p = go (label_lt v.label p.label)
     go true = refl
     go false = refl
 
-pub within-places : (x items g : ℕ) → 0 < g → x < items → x / g < places items g
-within-places x items g pos lt =
-    let w : x / g * g ≤ x = div-mul-le_self x g in
-    let k : x / g ≤ items / g = le-div (x / g) items g pos (within (x / g * g) x items w lt) in less (x / g) (items / g) k
-  where
-    within : (a x items : ℕ) → a ≤ x → x < items → a ≤ items
-    within a x items w lt = omega arith
-
-    less : (a b : ℕ) → a ≤ b → a < b + 1
-    less a b e = omega arith
-
 -- the payloads of the versions of one gear, after a newer one of item n
 pub newer-stored : (vs : List (Option Version)) (n m g : ℕ) (p : Payload) (f : ℕ → Option Payload) → n / g < length vs → m % g ≡ n % g → payload_of (version_at vs (n / g)) ≡ f n → payload_of (version_at vs (m / g)) ≡ f m →
     payload_of (version_at (set vs (n / g) (newer (version_at vs (n / g)) (version_with p))) (m / g)) ≡ (if n == m then put (f m) p else f m)
 newer-stored vs n m g p f lt e here there = ap payload_of (version-set vs n m g (newer (version_at vs (n / g)) (version_with p)) lt e) ∙ go (n == m) refl
   where
     go : (b : Bool) → (n == m) ≡ b → payload_of (if b then newer (version_at vs (n / g)) (version_with p) else version_at vs (m / g)) ≡ (if b then put (f m) p else f m)
-    go true w = newer-put (version_at vs (n / g)) p ∙ (ap (λ (o : Option Payload). put o p) here ∙ ap (λ (k : ℕ). put (f k) p) (same n m w))
+    go true w = newer-put (version_at vs (n / g)) p ∙ (ap (λ (o : Option Payload). put o p) here ∙ ap (λ (k : ℕ). put (f k) p) (eqb-true n m w))
     go false w = there

@@ -1,7 +1,7 @@
 -- Whether a label has a target.
-use Rattle.std.specs.Prelude.{◌≡◌, ◌<◌, ℕ, Bool, true, false, ◌&&◌, ◌==◌, nat_lt, Option, Some, None, slice_get, refl}
-use Rattle.std.proofs.Common.{subst, sym, ◌∙◌, arith}
-use Rattle.std.proofs.lemmas.Bool.Decides.{nat_tests}
+use Rattle.std.specs.Prelude.{◌≡◌, ◌<◌, ℕ, Bool, true, false, ◌&&◌, Option, Some, None, slice_get, refl}
+use Rattle.std.proofs.Common.{subst, sym, ◌∙◌}
+use Rattle.std.proofs.lemmas.Bool.{eqb-true, ltb-true}
 use Rattle.sat_label.specs.declared.label.Label.{Label}
 use Rattle.sat_label.specs.declared.label.Kind.{Kind}
 use Rattle.sat_label.specs.declared.label.Kind.TheVariants.{Update, Move, Pulse, Close}
@@ -21,18 +21,12 @@ first-of : (a b : Bool) → (a && b) ≡ true → a ≡ true
 first-of true b e = refl
 first-of false b e = absurd (cc)
 
-less : (k n : ℕ) → nat_lt k n ≡ true → k < n
-less k n e = grind (arith, nat_tests)
-
-equal : (k n : ℕ) → (k == n) ≡ true → k ≡ n
-equal k n e = grind (arith, nat_tests)
-
 target-by : (a : Interested) (p : Point) (kind : Kind) (k : ℕ) → IsInterest a → IsKindOf a kind → is_for a (record { point = p; kind = kind }) k ≡ true → k < a.sites
 unfolding is_for
 target-by a p (Update x) k i own e = kept-within a x k (slice_get a.replicas x) i refl (first-of _ _ e)
-target-by a p (Move j) k i own e = subst (λ (n : ℕ). n < a.sites) (sym (equal k j e)) own
-target-by a p Pulse k i own e = less k a.sites (first-of _ _ e)
-target-by a p (Close f) k i own e = less k a.sites (first-of _ _ e)
+target-by a p (Move j) k i own e = subst (λ (n : ℕ). n < a.sites) (sym (eqb-true k j e)) own
+target-by a p Pulse k i own e = ltb-true k a.sites (first-of _ _ e)
+target-by a p (Close f) k i own e = ltb-true k a.sites (first-of _ _ e)
 
 -- a target is one of the sites
 target-within : (a : Interested) (l : Label) (k : ℕ) → IsInterest a → IsLabelOf a l → is_for a l k ≡ true → k < a.sites

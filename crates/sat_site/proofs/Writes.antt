@@ -1,6 +1,7 @@
 -- A client's write and read.
 use Rattle.std.specs.Prelude.{◌≡◌, ◌<◌, ◌+◌, ◌/◌, ◌%◌, ◌^◌, ℕ, Bool, true, ◌==◌, ◌&&◌, not, nat_le, max, List, [], ◌∷◌, ◌++◌, length, Option, Some, None, if◌then◌else◌}
 use Rattle.std.proofs.Common.{subst, ap, sym, ◌∙◌, inl, inr}
+use Rattle.std.proofs.lemmas.Bool.{eq-eqb, ne_eqb}
 use Rattle.sat_label.specs.declared.carried.Carried.{Carried}
 use Rattle.sat_label.specs.declared.label.Label.{Label}
 use Rattle.sat_label.specs.declared.label.Kind.TheVariants.{Update}
@@ -9,11 +10,11 @@ use Rattle.sat_label.specs.Order.{point_at}
 use Rattle.sat_bulk.specs.declared.Payload.{Payload}
 use Rattle.sat_sites.specs.Interested.{Interested, is_for}
 use Rattle.sat_store.specs.declared.store.Version.{Version}
-use Rattle.sat_gear.specs.Gear.{GearSeen, IsGear, EachLane, lane_to, stamped, is_spent, version_of, wrote}
+use Rattle.sat_gear.specs.Gear.{GearSeen, IsGear, EachLane, lane_to, stamped, is_spent, version_of, after_write}
 use Rattle.sat_act.specs.declared.answer.Answer.TheVariants as ans
 use Rattle.sat_act.specs.declared.answer.Answer.{Answer}
 use Rattle.sat_act.specs.declared.answer.Refusal.TheVariants as why
-use Rattle.sat_act.specs.Answers.{gear_of, unless}
+use Rattle.sat_act.specs.Answers.{gear_of, refused_if}
 use Rattle.sat_act.specs.Parts.{is_target}
 use Rattle.sat_act.specs.Deployed.{Deployed}
 use Rattle.sat_machine.specs.Input as given
@@ -24,8 +25,9 @@ use Rattle.sat_site.specs.Seen.{SiteSeen, IsSite}
 use Rattle.sat_site.specs.Stands.{StandsSite, StandsGear, payload_of, interest_of}
 use Rattle.sat_site.specs.Changes.{with_gear, gear_at, HasGear}
 use Rattle.sat_site.specs.Does.{Writes, write_not_here, spends, writes, Reads, read_not_here, reads_none, reads}
-use Rattle.sat_site.proofs.Lists.{set-cases, equal, apart, chosen, passed}
-use Rattle.sat_site.proofs.Stores.{newer-stored, within-places}
+use Rattle.sat_site.proofs.Lists.{set-cases, chosen, passed}
+use Rattle.sat_site.proofs.Stores.{newer-stored}
+use Rattle.sat_gear.proofs.Places.{within_places}
 use Rattle.sat_site.proofs.Interests.{keeps-here, target-is, items-are}
 use Rattle.sat_site.proofs.Still.{refuses, reads-nothing, reads-some}
 
@@ -50,16 +52,16 @@ spent-is d i x s n p gear at st =
 pub write-answer : (d : Deployed) (i : ℕ) (x : SiteSeen) (s : SiteState) (seen : Carried) (n : ℕ) (value : List ℕ) (r : Answer) (y : SiteSeen) → IsSite x → StandsSite d i x s → Writes x seen n value r y → r ≡ site_answer d i s (given.Write seen n value)
 unfolding site_answer
 write-answer d i x s seen n value r y k st (write_not_here e) =
-    ap (λ (b : Bool). unless (not b) why.NotHere (unless (nat_le (2 ^ 62) (max (s.gears (gear_of d n)).promise seen.point.ts)) why.Spent (ans.Wrote (record { point = point_at (max (s.gears (gear_of d n)).promise seen.point.ts + 1) i (gear_of d n); kind = Update n }))))
+    ap (λ (b : Bool). refused_if (not b) why.NotHere (refused_if (nat_le (2 ^ 62) (max (s.gears (gear_of d n)).promise seen.point.ts)) why.Spent (ans.Wrote (record { point = point_at (max (s.gears (gear_of d n)).promise seen.point.ts + 1) i (gear_of d n); kind = Update n }))))
     (sym e ∙ keeps-here d i x s n st)
 write-answer d i x s seen n value r y k st (spends gear e at f) =
-    ap (λ (b : Bool). unless b why.Spent (ans.Wrote (record { point = point_at (max (s.gears (gear_of d n)).promise seen.point.ts + 1) i (gear_of d n); kind = Update n }))) (sym f ∙ spent-is d i x s n seen.point gear at st) ∙
-    ap (λ (b : Bool). unless (not b) why.NotHere (unless (nat_le (2 ^ 62) (max (s.gears (gear_of d n)).promise seen.point.ts)) why.Spent (ans.Wrote (record { point = point_at (max (s.gears (gear_of d n)).promise seen.point.ts + 1) i (gear_of d n); kind = Update n }))))
+    ap (λ (b : Bool). refused_if b why.Spent (ans.Wrote (record { point = point_at (max (s.gears (gear_of d n)).promise seen.point.ts + 1) i (gear_of d n); kind = Update n }))) (sym f ∙ spent-is d i x s n seen.point gear at st) ∙
+    ap (λ (b : Bool). refused_if (not b) why.NotHere (refused_if (nat_le (2 ^ 62) (max (s.gears (gear_of d n)).promise seen.point.ts)) why.Spent (ans.Wrote (record { point = point_at (max (s.gears (gear_of d n)).promise seen.point.ts + 1) i (gear_of d n); kind = Update n }))))
     (sym e ∙ keeps-here d i x s n st)
 write-answer d i x s seen n value r y k st (writes gear e at good f) =
     ap ans.Wrote (stamped-is d i x s n seen.point gear k at st) ∙
-    (ap (λ (b : Bool). unless b why.Spent (ans.Wrote (record { point = point_at (max (s.gears (gear_of d n)).promise seen.point.ts + 1) i (gear_of d n); kind = Update n }))) (sym f ∙ spent-is d i x s n seen.point gear at st) ∙
-    ap (λ (b : Bool). unless (not b) why.NotHere (unless (nat_le (2 ^ 62) (max (s.gears (gear_of d n)).promise seen.point.ts)) why.Spent (ans.Wrote (record { point = point_at (max (s.gears (gear_of d n)).promise seen.point.ts + 1) i (gear_of d n); kind = Update n }))))
+    (ap (λ (b : Bool). refused_if b why.Spent (ans.Wrote (record { point = point_at (max (s.gears (gear_of d n)).promise seen.point.ts + 1) i (gear_of d n); kind = Update n }))) (sym f ∙ spent-is d i x s n seen.point gear at st) ∙
+    ap (λ (b : Bool). refused_if (not b) why.NotHere (refused_if (nat_le (2 ^ 62) (max (s.gears (gear_of d n)).promise seen.point.ts)) why.Spent (ans.Wrote (record { point = point_at (max (s.gears (gear_of d n)).promise seen.point.ts + 1) i (gear_of d n); kind = Update n }))))
     (sym e ∙ keeps-here d i x s n st))
 
 -- ---- the gear that wrote, and the others
@@ -72,28 +74,28 @@ lane-is d a p n j b ps qs q e f g =
     (λ k. if sym f k && is_target d (record { point = p; kind = Update n }) j then g k ++ q ∷ [] else g k))
 
 wrote-gear : (d : Deployed) (gear : GearSeen) (s : GearState) (k n : ℕ) (seen : Carried) (value : List ℕ) → EachLane → IsGear gear → gear.shape.sites ≡ d.sites → gear.shape.interest ≡ interest_of d → gear.gear ≡ k → StandsGear d gear s →
-    StandsGear d (wrote gear n (record { label = stamped gear seen.point (Update n); value = value })) (gear_next d k s (given.Write seen n value) (ans.Wrote (stamped gear seen.point (Update n))))
+    StandsGear d (after_write gear n (record { label = stamped gear seen.point (Update n); value = value })) (gear_next d k s (given.Write seen n value) (ans.Wrote (stamped gear seen.point (Update n))))
 wrote-gear d gear s k n seen value laws good sites interest e st = record {
-  promise = sym (chosen (gear.gear == k) (stamped gear seen.point (Update n)).point.ts s.promise (equal gear.gear k e));
+  promise = sym (chosen (gear.gear == k) (stamped gear seen.point (Update n)).point.ts s.promise (eq-eqb gear.gear k e));
   fresh =
       ap (λ (ls : List Label). ls ++ stamped gear seen.point (Update n) ∷ []) st.fresh ∙
-      sym (chosen (gear.gear == k) (s.fresh ++ stamped gear seen.point (Update n) ∷ []) s.fresh (equal gear.gear k e));
+      sym (chosen (gear.gear == k) (s.fresh ++ stamped gear seen.point (Update n) ∷ []) s.fresh (eq-eqb gear.gear k e));
   lanes = λ j lt.
       let p : Payload = record { label = stamped gear seen.point (Update n); value = value } in
       laws.lanes gear.shape.interest p gear.lanes j (subst (λ (m : ℕ). j < m) (sym (good.lanes ∙ sites)) lt) ∙
-      lane-is d gear.shape.interest (stamped gear seen.point (Update n)).point n j (gear.gear == k) (lane_to gear j) (s.lanes j) p interest (equal gear.gear k e) (st.lanes j lt);
+      lane-is d gear.shape.interest (stamped gear seen.point (Update n)).point n j (gear.gear == k) (lane_to gear j) (s.lanes j) p interest (eq-eqb gear.gear k e) (st.lanes j lt);
 }
 
 other-gear : (d : Deployed) (gear : GearSeen) (s : GearState) (k n : ℕ) (seen : Carried) (value : List ℕ) (l : Label) → (l.point.gear ≡ k → ⊥) → StandsGear d gear s → StandsGear d gear (gear_next d k s (given.Write seen n value) (ans.Wrote l))
 other-gear d gear s k n seen value l e st = record {
-  promise = st.promise ∙ sym (passed (l.point.gear == k) l.point.ts s.promise (apart l.point.gear k e));
-  fresh = st.fresh ∙ sym (passed (l.point.gear == k) (s.fresh ++ l ∷ []) s.fresh (apart l.point.gear k e));
+  promise = st.promise ∙ sym (passed (l.point.gear == k) l.point.ts s.promise (ne_eqb l.point.gear k e));
+  fresh = st.fresh ∙ sym (passed (l.point.gear == k) (s.fresh ++ l ∷ []) s.fresh (ne_eqb l.point.gear k e));
   lanes = λ j lt.
-      st.lanes j lt ∙ sym (ap (λ (b : Bool). if b && is_target d l j then s.lanes j ++ payload_at l value ∷ [] else s.lanes j) (apart l.point.gear k e));
+      st.lanes j lt ∙ sym (ap (λ (b : Bool). if b && is_target d l j then s.lanes j ++ payload_at l value ∷ [] else s.lanes j) (ne_eqb l.point.gear k e));
 }
 
 pub writes-stand : (d : Deployed) (i : ℕ) (x : SiteSeen) (s : SiteState) (seen : Carried) (n : ℕ) (value : List ℕ) (gear : GearSeen) → EachLane → IsSite x → n < length x.shape.interest.replicas → HasGear x (gear_at x n) gear → IsGear gear → StandsSite d i x s →
-    StandsSite d i (with_gear x (gear_at x n) (wrote gear n (record { label = stamped gear seen.point (Update n); value = value }))) (site_next d i s (given.Write seen n value) (ans.Wrote (stamped gear seen.point (Update n))))
+    StandsSite d i (with_gear x (gear_at x n) (after_write gear n (record { label = stamped gear seen.point (Update n); value = value }))) (site_next d i s (given.Write seen n value) (ans.Wrote (stamped gear seen.point (Update n))))
 unfolding site_next
 writes-stand d i x s seen n value gear laws k item at good st =
     let g : ℕ = gear_at x n in
@@ -103,13 +105,13 @@ writes-stand d i x s seen n value gear laws k item at good st =
     let shape : gear.shape ≡ x.shape = (k.gears g gear at).shape in
     let gears : gear.shape.gears ≡ x.shape.gears = (λ j. (shape j).gears) in
     let place : n / gear.shape.gears < length gear.versions =
-    subst (λ (m : ℕ). n / gear.shape.gears < m) (sym good.versions) (within-places n (length gear.shape.interest.replicas) gear.shape.gears good.shape.gears (subst (λ (m : ℕ). n < m) (λ j. length (sym shape j).interest.replicas) item)) in
+    subst (λ (m : ℕ). n / gear.shape.gears < m) (sym good.versions) (within_places n (length gear.shape.interest.replicas) gear.shape.gears good.shape.gears (subst (λ (m : ℕ). n < m) (λ j. length (sym shape j).interest.replicas) item)) in
     record {
       sites = st.sites;
       count = st.count;
       site = st.site;
       interest = st.interest;
-      gears = λ m new here. elim (set-cases x.gears g m (wrote gear n p) new here) [
+      gears = λ m new here. elim (set-cases x.gears g m (after_write gear n p) new here) [
         | inl w ↦ subst (λ (y : GearSeen). StandsGear d y (gear_next d m (s.gears m) (given.Write seen n value) (ans.Wrote l))) w.0
             (wrote-gear d gear (s.gears m) m n seen value laws good ((λ j. (shape j).sites) ∙ st.sites) ((λ j. (shape j).interest) ∙ st.interest) (number ∙ sym w.1)
             (st.gears m gear (subst (λ (q : ℕ). HasGear x q gear) (sym w.1) at)))
@@ -119,12 +121,12 @@ writes-stand d i x s seen n value gear laws k item at good st =
       pending = st.pending;
       last = st.last;
       pulse = st.pulse;
-      store = λ m new lt here. elim (set-cases x.gears g (gear_of d m) (wrote gear n p) new here) [
+      store = λ m new lt here. elim (set-cases x.gears g (gear_of d m) (after_write gear n p) new here) [
         | inl w ↦ subst (λ (y : GearSeen). payload_of (version_of y m) ≡ (if n == m then put (s.store m) p else s.store m)) w.0
             (newer-stored gear.versions n m gear.shape.gears p s.store place ((λ j. m % (gears ∙ st.count) j) ∙ (w.1 ∙ (λ j. n % sym gears j)))
             (st.store n gear (subst (λ (q : ℕ). n < q) ((λ j. length (st.interest j).replicas) ∙ items-are d) item) (subst (λ (q : ℕ). HasGear x q gear) (gear-of-is d i x s n st) at))
             (st.store m gear lt (subst (λ (q : ℕ). HasGear x q gear) (sym w.1) at)))
-        | inr w ↦ st.store m new lt w.0 ∙ sym (passed (n == m) (put (s.store m) p) (s.store m) (apart n m (λ e. w.1 (sym (ap (gear_of d) e) ∙ sym (gear-of-is d i x s n st)))))
+        | inr w ↦ st.store m new lt w.0 ∙ sym (passed (n == m) (put (s.store m) p) (s.store m) (ne_eqb n m (λ e. w.1 (sym (ap (gear_of d) e) ∙ sym (gear-of-is d i x s n st)))))
       ];
       taken = st.taken;
       waiting = st.waiting;
@@ -148,7 +150,7 @@ version-is d i x s n gear item at st =
     st.store n gear (subst (λ (q : ℕ). n < q) ((λ j. length (st.interest j).replicas) ∙ items-are d) item) (subst (λ (q : ℕ). HasGear x q gear) (gear-of-is d i x s n st) at)
 
 abbrev read_answer : Bool → Option Payload → Answer
-read_answer b o = unless (not b) why.NotHere (elim o [ None ↦ ans.ReadNone | Some p ↦ ans.ReadSome p.label p.value ])
+read_answer b o = refused_if (not b) why.NotHere (elim o [ None ↦ ans.ReadNone | Some p ↦ ans.ReadSome p.label p.value ])
 
 pub read-answer : (d : Deployed) (i : ℕ) (x : SiteSeen) (s : SiteState) (seen : Carried) (n : ℕ) (r : Answer) → n < length x.shape.interest.replicas → StandsSite d i x s → Reads x n r → r ≡ site_answer d i s (given.Read seen n)
 unfolding site_answer

@@ -1,21 +1,21 @@
 -- What the calls of a site make of what it keeps.
-use Rattle.std.specs.Prelude.{ℕ, ◌≡◌, ◌+◌, ◌*◌, ◌%◌, List, [], ◌∷◌, ◌++◌, map, replicate, set, slice_get, Some}
+use Rattle.std.specs.Prelude.{ℕ, ◌≡◌, ◌+◌, ◌*◌, ◌%◌, List, [], ◌∷◌, ◌++◌, map, replicate, set, slice_get, position, Some}
 use Rattle.std.specs.List.{remove}
 use Rattle.sat_label.specs.declared.label.Label.{Label}
 use Rattle.sat_label.specs.Words.{below}
 use Rattle.sat_bulk.specs.declared.Payload.{Payload}
 use Rattle.sat_sites.specs.declared.shape.Shape.{Shape}
-use Rattle.sat_gear.specs.Gear.{GearSeen, IsGear, after_drain, drained_of, fresh_gear, ticked}
-use Rattle.sat_sink.specs.Sink.{emitted, fresh_sink, gathered}
+use Rattle.sat_gear.specs.Gear.{GearSeen, IsGear, after_drain, drained_of, fresh_gear, after_tick}
+use Rattle.sat_sink.specs.Sink.{after_emit_of, fresh_sink, after_gather}
 use Rattle.sat_act.specs.Deployed.{Deployed}
-use Rattle.sat_site.specs.Seen.{SiteSeen, lane_place, taken_of}
+use Rattle.sat_site.specs.Seen.{SiteSeen, bears, lane_place, taken_of}
 use Rattle.sat_site.specs.Stands.{interest_of}
 
 abbrev pub with_gear : SiteSeen → ℕ → GearSeen → SiteSeen
 with_gear x g gear = record x { gears = set x.gears g gear }
 
 abbrev pub ticked_to : ℕ → GearSeen → GearSeen
-ticked_to t gear = ticked gear t
+ticked_to t gear = after_tick gear t
 
 -- each gear's promise is raised to a timestamp
 abbrev pub clocked : SiteSeen → ℕ → SiteSeen
@@ -26,10 +26,10 @@ fresh_of gear = gear.fresh
 
 -- the sink has what the gears made since the last gather
 abbrev pub gathered_all : SiteSeen → SiteSeen
-gathered_all x = record x { gears = map after_drain x.gears; sink = gathered x.sink (map drained_of x.gears) }
+gathered_all x = record x { gears = map after_drain x.gears; sink = after_gather x.sink (map drained_of x.gears) }
 
 abbrev pub sent : SiteSeen → Label → SiteSeen
-sent x l = record x { sink = emitted x.sink l }
+sent x l = record x { sink = after_emit_of x.sink l }
 
 -- the n-th waiting payload was handed to gear g
 abbrev pub showed : SiteSeen → ℕ → GearSeen → ℕ → SiteSeen
@@ -50,9 +50,10 @@ gear_at x n = n % x.shape.gears
 abbrev pub HasGear : SiteSeen → ℕ → GearSeen → Type 0
 HasGear x g gear = slice_get x.gears g ≡ Some gear
 
--- a payload with this label, one of a list, and the list without it
+-- the first payload with this label of a list, and the list without it
 pub record IsTaken (ps : List Payload) (l : Label) (p : Payload) (qs : List Payload) : Type 0 where
   pub place : ℕ
+  pub first : position (bears l) ps ≡ Some place
   pub at : slice_get ps place ≡ Some p
   pub label : p.label ≡ l
   pub rest : qs ≡ remove ps place

@@ -1,9 +1,10 @@
 -- What a site keeps, and what is true of each.
-use Rattle.std.specs.Prelude.{ℕ, ◌≡◌, ◌<◌, ◌*◌, ◌+◌, ◌%◌, true, false, List, [], length, get_or, slice_get, Some, None}
+use Rattle.std.specs.Prelude.{ℕ, ◌≡◌, ◌<◌, ◌*◌, ◌+◌, ◌%◌, Bool, true, false, List, [], length, get_or, slice_get, Some, None}
 use Rattle.sat_label.specs.declared.label.Kind.TheVariants.{Update}
 use Rattle.sat_label.specs.declared.label.Label.{Label}
+use Rattle.sat_label.specs.Order.{label_eq}
 use Rattle.sat_bulk.specs.declared.Payload.{Payload}
-use Rattle.sat_bulk.specs.Drains.{In}
+use Rattle.sat_label.specs.Members.{In}
 use Rattle.sat_sites.specs.Interested.{is_for, keeps}
 use Rattle.sat_sites.specs.declared.shape.Shape.{Shape}
 use Rattle.sat_gear.specs.Gear.{GearSeen, IsShape, version_of}
@@ -25,6 +26,10 @@ lane_place x from gear = from * x.shape.gears + gear
 abbrev pub taken_of : SiteSeen → ℕ → ℕ → ℕ
 taken_of x from gear = get_or x.taken (lane_place x from gear) 0
 
+-- whether a payload has a label
+abbrev pub bears : Label → Payload → Bool
+bears l p = label_eq p.label l
+
 -- an update that the site made, of an item that it keeps
 pub record IsUpdateHere (shape : Shape) (l : Label) : Type 0 where
   pub site : l.point.site ≡ shape.site
@@ -35,7 +40,7 @@ pub record IsUpdateHere (shape : Shape) (l : Label) : Type 0 where
 pub record IsGearAt (site : Shape) (sink : Sink) (g : ℕ) (gear : GearSeen) : Type 0 where
   pub shape : gear.shape ≡ site
   pub number : gear.gear ≡ g
-  pub gathered : get_or sink.promises g 0 ≡ gear.drained
+  pub gathered : get_or sink.promises g 0 ≡ gear.drained_promise
   pub fresh : (l : Label) → In gear.fresh l → IsUpdateHere site l
   pub pending : (l : Label) → In (get_or sink.pending g []) l → IsUpdateHere site l
   pub absent : (n : ℕ) → n % site.gears ≡ g → keeps site.interest n site.site ≡ false → version_of gear n ≡ None

@@ -19,7 +19,9 @@ ghost use Rattle.sat_site.specs.Inputs.{input_of, Fits};
 ghost use Rattle.sat_site.specs.Stands.{StandsSite, payload_of};
 ghost use Rattle.sat_site.specs.Gives.{AnswersBy, HasTarget, StandsBy, IsSent, PromisesUpTo, IsOfLane};
 ghost use Rattle.sat_site.specs.Changes.{clocked, fresh_seen, HasGear};
-ghost use Rattle.sat_site.specs.Does.{Does, keeps_item, Reads, Turns, Writes};
+ghost use Rattle.sat_site.specs.SiteSteps.{keeps_item, site_after, site_answers, site_sends};
+ghost use Rattle.sat_site.specs.Does.{Does, Reads, Turns, Writes};
+ghost use Rattle.sat_act.specs.Settling.{is_done};
 ghost use Rattle.sat_site.specs.Inputs.{IsFront, IsNext};
 
 use crate::gears::{
@@ -99,6 +101,10 @@ impl Site {
     /// site is as before.
     pub fn step(&mut self, input: SiteInput) -> Result<SiteOutput, AllocError>
         requires { Fits self.old input }
+        ensures function { IfOk result (λ out. out.answer ≡ site_answers self.old input) }
+        ensures sends { IfOk result (λ out. out.sent ≡ site_sends self.old input) }
+        ensures after { IfOk result (λ out. self.new ≡ site_after self.old input) }
+        ensures refused { IfOk result (λ out. is_done out.answer ≡ false → self.new ≡ self.old) }
         ensures answer { IfOk result (λ out. AnswersBy self.old (input_of input) out.answer) }
         ensures stands { IfOk result (λ out. StandsBy self.old (input_of input) out.answer self.new) }
         ensures sent { IfOk result (λ out. IsSent self.old.shape out.answer out.sent) }
@@ -108,6 +114,7 @@ impl Site {
         ensures turn { (front : Option Label) → input ≡ SiteInput.Turn front → IsOk result }
         ensures err { OnErr result (self.new ≡ self.old) }
     {
+        // Brings this law into the proof; it does nothing when it runs.
         sat_gear::lane_laws();
         let output = self.act(input)?;
         Ok(output)
@@ -348,6 +355,7 @@ impl Site {
     pub fn clock(&mut self, ts: u64)
         requires limit { ts ≤ 2 ^ 62 }
         requires promises { PromisesUpTo self.old ts }
+        ensures after { self.new ≡ clocked self.old ts }
         ensures stands { StandsBy self.old (given.Clock ts) (ans.Clocked ts) self.new }
         ensures shape { self.new.shape ≡ self.old.shape }
     {

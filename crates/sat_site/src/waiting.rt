@@ -1,9 +1,10 @@
 //! The payloads that wait for their labels.
-ghost use Rattle.std.specs.Prelude.{◌≡◌, false, map, IfNone, IfSome};
+ghost use Rattle.std.specs.Prelude.{◌≡◌, false, map, None, IfNone, IfSome};
 ghost use Rattle.std.specs.List.{position};
 ghost use Rattle.sat_label.specs.Order.{label_eq};
 ghost use Rattle.sat_label.specs.Words.{has};
 ghost use Rattle.sat_machine.specs.Look.{label_of};
+ghost use Rattle.sat_site.specs.Seen.{bears};
 ghost use Rattle.sat_site.specs.Changes.{IsTaken};
 
 use sat_bulk::Payload;
@@ -22,6 +23,7 @@ fn place_of(waiting: &VecDeque<Payload>, label: &Label) -> Option<usize>
 /// Takes the first with a label away.
 pub fn take(waiting: &mut VecDeque<Payload>, label: Label) -> Option<Payload>
     ensures none { IfNone result (has label_eq (map label_of waiting.old.items) label ≡ false) }
+    ensures place { IfNone result (position (bears label) waiting.old.items ≡ None) }
     ensures same { IfNone result (waiting.new ≡ waiting.old) }
     ensures taken { IfSome result (λ payload. IsTaken waiting.old.items label payload waiting.new.items) }
 {

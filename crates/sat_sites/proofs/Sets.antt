@@ -6,6 +6,7 @@ use Rattle.std.proofs.Math.Pow.{pow-lt, pow_pos}
 use Rattle.std.specs.List.{position_from}
 use Rattle.std.proofs.lemmas.Iterator.Adapters.{position_from-zero}
 use Rattle.std.proofs.Math.Nat.{eq-or-lt_of_le}
+use Rattle.std.proofs.lemmas.Bool.{and_parts, ltb-true, not-false}
 use Rattle.sat_label.specs.declared.site_set.SiteSet.{SiteSet}
 use Rattle.sat_label.proofs.Bits.{bit-some, bit-within}
 use Rattle.sat_sites.specs.Interested.{is_good_set, first_bad, IsInterest}
@@ -28,23 +29,12 @@ none-from p i (x ∷ sets) none zero set at =
     let same : x ≡ set = cc in subst (λ (s : SiteSet). p s ≡ false) same (none-cond (p x) i (position_from p (i + 1) sets) none).0
 none-from p i (x ∷ sets) none (suc n) set at = none-from p (i + 1) sets (none-cond (p x) i (position_from p (i + 1) sets) none).1 n set at
 
-not-false : (b : Bool) → not b ≡ false → b ≡ true
-not-false true e = refl
-not-false false e = absurd (cc)
-
-both : (a b : Bool) → (a && b) ≡ true → (a ≡ true) × (b ≡ true)
-both true b e = (refl, e)
-both false b e = absurd (cc)
-
 pub each-good : (sites : ℕ) (sets : List SiteSet) → first_bad sites sets ≡ None → (n : ℕ) (set : SiteSet) → slice_get sets n ≡ Some set → is_good_set sites set ≡ true
 each-good sites sets none n set at =
     not-false _ (none-from (λ s. not (is_good_set sites s)) 0 sets (sym (position_from-zero (λ s. not (is_good_set sites s)) sets) ∙ none) n set at)
 
 positive : (n : ℕ) → not (n == 0) ≡ true → 0 < n
 positive n e = grind (arith, nat_tests)
-
-is-less : (m n : ℕ) → nat_lt m n ≡ true → m < n
-is-less m n e = grind (arith, nat_tests)
 
 few-bits : (bits sites : ℕ) → bits < 2 ^ sites → sites ≤ 64 → bits < 2 ^ 64
 few-bits bits sites fits few = elim (eq-or-lt_of_le few) [
@@ -57,9 +47,9 @@ pub is_interest : (sites : ℕ) (sets : List SiteSet) → sites ≤ 64 → first
 is_interest sites sets few none = record {
   few = few;
   kept = λ x set at.
-      let good = both _ _ (each-good sites sets none x set at) in
-      bit-some set.bits (positive set.bits good.0) (few-bits set.bits sites (is-less _ _ good.1) few);
+      let good = and_parts _ _ (each-good sites sets none x set at) in
+      bit-some set.bits (positive set.bits good.0) (few-bits set.bits sites (ltb-true _ _ good.1) few);
   within = λ x k set at has.
-      let good = both _ _ (each-good sites sets none x set at) in
-      bit-within set.bits sites k (is-less _ _ good.1) has;
+      let good = and_parts _ _ (each-good sites sets none x set at) in
+      bit-within set.bits sites k (ltb-true _ _ good.1) has;
 }

@@ -1,5 +1,5 @@
 -- A fault that was told is the fault of what was read.
-use Rattle.std.proofs.Common.{◌≡◌, ℕ, List, [], Option, Some, None, IsNone, refl}
+use Rattle.std.proofs.Common.{◌≡◌, ℕ, [], Option, Some, None}
 use Rattle.sat_script.specs.Stream.{Came, meaning, kept, will_be, known_fault}
 use Rattle.sat_script.specs.declared.stream.Reading.{Reading}
 use Rattle.sat_script.specs.declared.fault.ScriptFault.{ScriptFault}

@@ -1,21 +1,18 @@
 -- Every good script has a good history.
-use Rattle.std.proofs.Common.{◌≡◌, ℕ, Bool, true, false, List, [], ◌∷◌, ◌++◌, Option, Some, None, refl, sym, ap, ◌∙◌}
+use Rattle.std.proofs.Common.{◌≡◌, ℕ, false, List, [], ◌∷◌, ◌++◌, Option, Some, None, refl, ◌∙◌}
 use Rattle.std.specs.Prelude.{reverse, slice_get, ◌<◌}
 use Rattle.std.specs.List.{AllByRecursion}
 use Rattle.std.proofs.lemmas.List.{reverse-append}
 use Rattle.sat_act.specs.declared.act.Act.{Act}
 use Rattle.sat_act.specs.declared.deployment.ClientLine.{ClientLine}
-use Rattle.sat_act.specs.declared.entry.Entry.{Entry}
 use Rattle.sat_act.specs.Deployed.{Deployed}
 use Rattle.sat_act.specs.Parts.{home}
 use Rattle.sat_act.specs.Goals.{IsValid}
 use Rattle.sat_act.specs.Headline.{IsGood}
 use Rattle.sat_act.specs.Limits.{IsDeployment}
-use Rattle.sat_act.specs.Ranges.{IsActOf}
-use Rattle.sat_act.specs.Built.{is_built_act}
 use Rattle.sat_act.specs.Runs.{IsRun}
 use Rattle.sat_act.specs.Settling.{run}
-use Rattle.sat_laws.specs.Claims.{EveryHistoryIsGood}
+use Rattle.sat_laws.specs.Laws.{EveryHistoryIsGood}
 use Rattle.sat_script.specs.Reading.{reading, AreBuiltActs}
 use Rattle.sat_script.specs.Spelled.{Spells}
 use Rattle.sat_script.specs.declared.stream.Reading.{Reading}

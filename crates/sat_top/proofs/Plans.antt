@@ -1,5 +1,5 @@
 -- What a text of delays comes to.
-use Rattle.std.proofs.Common.{◌≡◌, ℕ, ◌<◌, ◌≤◌, Bool, true, false, List, ◌++◌, length, Option, Some, None, Result, Ok, Err, refl, sym, ap, subst, ◌∙◌, arith}
+use Rattle.std.proofs.Common.{◌≡◌, ℕ, ◌<◌, ◌≤◌, Bool, true, false, List, ◌++◌, length, Option, Some, Result, Ok, Err, refl, sym, ap, subst, ◌∙◌, arith}
 use Rattle.std.specs.Prelude.{nat_lt}
 use Rattle.std.specs.Io.KnownBytes.{Consumes, IsAtEnd}
 use Rattle.std.proofs.lemmas.Bool.Decides.{nat_tests}
@@ -7,14 +7,13 @@ use Rattle.std.proofs.lemmas.List.{length-append}
 use Rattle.sat_delay.specs.declared.fault.DelayFault.{DelayFault}
 use Rattle.sat_delay.specs.declared.fault.DelayFault.TheVariants.{TooLong}
 use Rattle.sat_delay.specs.Table.{DelayTable}
-use Rattle.sat_delay.specs.Reading.{reading as delays_in, table_in, json_of}
+use Rattle.sat_delay.specs.Reading.{reading as delays_in}
 use Rattle.sat_delay.specs.Texts.{fault_text}
 use Rattle.sat_plan.specs.Config.{delayed}
 use Rattle.sat_plan.specs.Mismatch.{mismatch}
 use Rattle.sat_plan.specs.Steps.{built}
 use Rattle.sat_plan.specs.Texts.{config_text, plan_text, result_text}
 use Rattle.sat_top.specs.declared.words.Command.TheVariants.{Plan}
-use Rattle.sat_top.specs.Good.{IsBestPlan}
 use Rattle.sat_top.specs.Whole.{IsTextOf, IsPlanned, IsOutput, plan_status}
 use Rattle.sat_top.proofs.Progress.{at_end, rest_of}
 

@@ -1,11 +1,11 @@
 -- What a reading and its run come to.
-use Rattle.std.proofs.Common.{◌≡◌, ℕ, Bool, false, List, Option, Some, None, refl, sym, ap, subst, ◌∙◌}
+use Rattle.std.proofs.Common.{◌≡◌, ℕ, false, List, Option, Some, None, refl, sym, ap, subst, ◌∙◌}
 use Rattle.std.specs.Prelude.{IfSome}
 use Rattle.sat_act.specs.Deployed.{Deployed}
 use Rattle.sat_act.specs.Limits.{IsDeployment}
 use Rattle.sat_act.specs.Built.{IsBuilt}
 use Rattle.sat_act.specs.Headline.{IsGood}
-use Rattle.sat_laws.specs.Claims.{EveryHistoryIsGood}
+use Rattle.sat_laws.specs.Laws.{EveryHistoryIsGood}
 use Rattle.sat_script.specs.Spelled.{HaveNames}
 use Rattle.sat_script.specs.Reading.{reading, AreBuiltActs}
 use Rattle.sat_script.specs.declared.fault.ScriptFault.{ScriptFault}

@@ -3,3 +3,4 @@ pub mod Runs
 pub mod Running
 pub mod Good
 pub mod Whole
+pub mod Contract

@@ -10,6 +10,7 @@ use sat_script::one_spelling;
 pub fn good_scripts()
     ensures { EveryReadingIsGood }
 {
+    // Brings these two laws into the proof; they do nothing when they run.
     headline();
     one_spelling();
 }

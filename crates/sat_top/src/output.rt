@@ -5,6 +5,7 @@ ghost use Rattle.sat_outside.specs.Causes.{Rose};
 ghost use Rattle.sat_top.specs.declared.stream.Stop.TheVariants.{Memory};
 ghost use Rattle.sat_top.specs.Words.{command_of};
 ghost use Rattle.sat_top.specs.Whole.{refusal, reads, run_status, IsOutput};
+ghost use Rattle.sat_top.specs.Contract.{most_taken};
 
 use crate::law::good_scripts;
 use crate::planning::plan_of;
@@ -13,7 +14,7 @@ use crate::stream::{Stop, read_delay_text, read_script};
 use crate::words::{Command, command_of};
 use sat_laws::headline;
 use sat_outside::Source;
-use sat_script::{BYTES_END, Reading};
+use sat_script::Reading;
 use std::alloc::{AllocError, Global};
 
 impl From<AllocError> for Stop {
@@ -26,7 +27,7 @@ impl From<AllocError> for Stop {
 
 // What the program says of itself.
 const HELP: &str =
-    "saturn: causal order between sites that keep some items each\n\nusage: saturn COMMAND < INPUT\n\n  run        reads a script, and writes the report of its run\n  plan       reads a table of delays as JSON, and writes a tree of serializers\n  --help     writes this text\n  --version  writes the version\n";
+    "saturn: causal order between sites that keep some items each\n\nusage: saturn COMMAND < INPUT\n\n  run        reads a script, and writes the report of its run\n  plan       reads a table of delays as JSON, and writes a tree of serializers\n  --help     writes this text\n  --version  writes the version\n\nstatus: 0 done; 1 the input is refused, and the last line written says where; 2 no such command;\n        3 the input could not be read; 4 the output could not be written; 5 out of memory\n";
 
 const VERSION: &str = "saturn 0.1.0\n";
 
@@ -67,11 +68,12 @@ fn told(alloc: Global, text: &str) -> Result<Output, AllocError>
 fn run<S: Source>(alloc: Global, source: &mut S) -> Result<Output, Stop>
     ensures output { IfOk result (λ out. IsOutput (Some Command.Run) (S.left source.old) out.text.items out.status) }
     ensures end { IfOk result (λ out. out.status ≡ 0 → IsAtEnd (S.left source.new)) }
-    ensures bounded { (taken : List ℕ) × Consumes (S.left source.old) (S.left source.new) taken × (length taken ≤ BYTES_END) }
+    ensures bounded { (taken : List ℕ) × Consumes (S.left source.old) (S.left source.new) taken × (length taken ≤ most_taken (Some Command.Run)) }
     ensures later { S.faults source.old ≤ S.faults source.new }
     ensures failed { IsErrOf result Stop.Source → Rose (S.faults source.old) (S.faults source.new) }
 {
     let reading = read_script(alloc, source)?;
+    // Brings these two laws into the proof; they do nothing when they run.
     headline();
     good_scripts();
     let status = run_status(&reading);
@@ -83,7 +85,7 @@ fn run<S: Source>(alloc: Global, source: &mut S) -> Result<Output, Stop>
 fn plan<S: Source>(alloc: Global, source: &mut S) -> Result<Output, Stop>
     ensures output { IfOk result (λ out. IsOutput (Some Command.Plan) (S.left source.old) out.text.items out.status) }
     ensures end { IfOk result (λ out. out.status ≡ 0 → IsAtEnd (S.left source.new)) }
-    ensures bounded { (taken : List ℕ) × Consumes (S.left source.old) (S.left source.new) taken × (length taken ≤ BYTES_END) }
+    ensures bounded { (taken : List ℕ) × Consumes (S.left source.old) (S.left source.new) taken × (length taken ≤ most_taken (Some Command.Plan)) }
     ensures later { S.faults source.old ≤ S.faults source.new }
     ensures failed { IsErrOf result Stop.Source → Rose (S.faults source.old) (S.faults source.new) }
 {
@@ -100,7 +102,7 @@ pub(crate) fn make_output<S: Source>(
 ) -> Result<Output, Stop>
     ensures output { IfOk result (λ out. IsOutput (command_of (map string_bytes words.now)) (S.left source.old) out.text.items out.status) }
     ensures end { IfOk result (λ out. reads (command_of (map string_bytes words.now)) ≡ true → out.status ≡ 0 → IsAtEnd (S.left source.new)) }
-    ensures bounded { (taken : List ℕ) × Consumes (S.left source.old) (S.left source.new) taken × (length taken ≤ BYTES_END) }
+    ensures bounded { (taken : List ℕ) × Consumes (S.left source.old) (S.left source.new) taken × (length taken ≤ most_taken (command_of (map string_bytes words.now))) }
     ensures later { S.faults source.old ≤ S.faults source.new }
     ensures failed { IsErrOf result Stop.Source → Rose (S.faults source.old) (S.faults source.new) }
     ensures unasked { reads (command_of (map string_bytes words.now)) ≡ false → source.new ≡ source.old }

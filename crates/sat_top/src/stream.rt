@@ -1,5 +1,5 @@
 //! Reading a script from a source, and writing a text to a sink.
-ghost use Rattle.std.specs.Prelude.{◌≡◌, ℕ, ◌≤◌, false, List, length, IfOk, IfSome, OnOk, OnErr, IsErrOf, None};
+ghost use Rattle.std.specs.Prelude.{◌≡◌, ℕ, ◌≤◌, ◌+◌, false, List, length, IfOk, IfSome, OnOk, OnErr, IsErrOf, None};
 ghost use Rattle.std.specs.Io.KnownBytes.{Consumes, IsAtEnd};
 ghost use Rattle.sat_act.specs.Limits.{IsDeployment};
 ghost use Rattle.sat_act.specs.Built.{IsBuilt};
@@ -8,6 +8,9 @@ ghost use Rattle.sat_outside.specs.Streams.{Takes};
 ghost use Rattle.sat_script.specs.Spelled.{HaveNames};
 ghost use Rattle.sat_script.specs.Reading.{reading, AreBuiltActs};
 ghost use Rattle.sat_delay.specs.Reading.{reading as delays_in};
+ghost use Rattle.sat_script.specs.declared.limits.TheConstants.{MOST_BYTES as MOST_SCRIPT_BYTES};
+ghost use Rattle.sat_delay.specs.declared.read.TheConstants.{MOST_BYTES as MOST_DELAY_BYTES};
+ghost use Rattle.sat_top.specs.declared.stream.TheConstants.{BUFFER_BYTES};
 ghost use Rattle.sat_top.specs.Whole.{IsTextOf, TakesFront};
 
 use sat_delay::MOST_BYTES;
@@ -15,7 +18,8 @@ use sat_outside::{Failed, Sink, Source};
 use sat_script::{BYTES_END, Cause, MOST_ACTS, Reading, ScriptReader};
 use std::alloc::Global;
 
-const BUFFER_BYTES: usize = 65_536;
+/// The most bytes that one read takes.
+pub const BUFFER_BYTES: usize = 65_536;
 
 /// Why nothing is written.
 #[derive(Clone, Copy, Debug, PartialEq, Eq)]
@@ -29,7 +33,7 @@ pub fn read_script<S: Source>(alloc: Global, source: &mut S) -> Result<Reading, 
     ensures script { IfOk result (λ found. (text : List ℕ) × IsTextOf (S.left source.old) text × (reading false text ≡ found)) }
     ensures end { IfOk result (λ found. found.fault ≡ None → IsAtEnd (S.left source.new)) }
     // The bytes taken have a bound, however much the source has.
-    ensures bounded { (taken : List ℕ) × Consumes (S.left source.old) (S.left source.new) taken × (length taken ≤ BYTES_END) }
+    ensures bounded { (taken : List ℕ) × Consumes (S.left source.old) (S.left source.new) taken × (length taken ≤ MOST_SCRIPT_BYTES + BUFFER_BYTES) }
     ensures built { IfOk result (λ found. IfSome found.deployment (λ d. IsDeployment d × IsBuilt d × HaveNames d × AreBuiltActs d found.acts)) }
     ensures few { IfOk result (λ found. length found.acts ≤ MOST_ACTS) }
     ensures later { S.faults source.old ≤ S.faults source.new }
@@ -61,7 +65,7 @@ pub fn read_script<S: Source>(alloc: Global, source: &mut S) -> Result<Reading, 
 pub fn read_delay_text<S: Source>(alloc: Global, source: &mut S) -> Result<Vec<u8>, Stop>
     ensures text { IfOk result (λ found. (text : List ℕ) × IsTextOf (S.left source.old) text × (delays_in text ≡ delays_in found.items)) }
     ensures end { IfOk result (λ found. length found.items ≤ MOST_BYTES → IsAtEnd (S.left source.new)) }
-    ensures bounded { (taken : List ℕ) × Consumes (S.left source.old) (S.left source.new) taken × (length taken ≤ BYTES_END) }
+    ensures bounded { (taken : List ℕ) × Consumes (S.left source.old) (S.left source.new) taken × (length taken ≤ MOST_DELAY_BYTES + BUFFER_BYTES) }
     ensures later { S.faults source.old ≤ S.faults source.new }
     ensures failed { IsErrOf result Stop.Source → Rose (S.faults source.old) (S.faults source.new) }
 {
@@ -82,6 +86,7 @@ pub fn write_text<K: Sink>(sink: &mut K, text: &[u8]) -> Result<(), Failed>
     ensures ok { OnOk result (Takes (K.told sink.old) (K.told sink.new) text.now) }
     ensures err { OnErr result (TakesFront (K.told sink.old) (K.told sink.new) text.now) }
     ensures cause { HasCause (K.faults sink.old) (K.faults sink.new) result }
+    ensures later { K.faults sink.old ≤ K.faults sink.new }
 {
     let mut at = 0;
     while at < text.len() {

@@ -1,15 +1,12 @@
 //! The top call.
-ghost use Rattle.std.specs.Prelude.{◌≡◌, ◌⊎◌, [], ℕ, List, ◌≤◌, true, false, Some, None, length, map, string_bytes};
-ghost use Rattle.std.specs.Io.KnownBytes.{Consumes, IsAtEnd};
-ghost use Rattle.sat_outside.specs.Causes.{Rose};
-ghost use Rattle.sat_outside.specs.Streams.{Takes};
+ghost use Rattle.std.specs.Prelude.{◌≡◌, false, map, string_bytes};
 ghost use Rattle.sat_top.specs.Words.{command_of};
-ghost use Rattle.sat_top.specs.Whole.{IsTextOf, TakesFront, IsDone, IsRefused, reads, refusal, status_of, output_of};
+ghost use Rattle.sat_top.specs.Whole.{reads};
+ghost use Rattle.sat_top.specs.Contract.{Meets};
 
 use crate::output::make_output;
 use crate::stream::{Stop, write_text};
 use sat_outside::{Gate, Sink, Source};
-use sat_script::BYTES_END;
 use std::alloc::Global;
 
 /// Does the command that the words say, and answers its status:
@@ -22,36 +19,10 @@ pub fn still<S: Source, K: Sink>(
     source: &mut S,
     sink: &mut K,
 ) -> u8
-    // 0, 1 and 2 say what the words and the text are, and the sink took the whole output.
-    ensures written { result ≤ 2 → (text : List ℕ) × IsTextOf (S.left source.old) text
-        × (result ≡ status_of (map string_bytes words.now) text)
-        × Takes (K.told sink.old) (K.told sink.new) (output_of (map string_bytes words.now) text) }
-    ensures end { result ≡ 0 → reads (command_of (map string_bytes words.now)) ≡ true → IsAtEnd (S.left source.new) }
-
-    // The same, status by status and command by command.
-    ensures done { result ≡ 0 → IsDone (command_of (map string_bytes words.now)) (S.left source.old) (K.told sink.old) (K.told sink.new) }
-    ensures bad { result ≡ 1 → IsRefused (command_of (map string_bytes words.now)) (S.left source.old) (K.told sink.old) (K.told sink.new) }
-    ensures refused { result ≡ 2 → (command_of (map string_bytes words.now) ≡ None)
-        × Takes (K.told sink.old) (K.told sink.new) refusal }
-
-    ensures source { result ≡ 3 → Rose (S.faults source.old) (S.faults source.new)
-        × (reads (command_of (map string_bytes words.now)) ≡ true) × Takes (K.told sink.old) (K.told sink.new) [] }
-    ensures sink { result ≡ 4 → Rose (K.faults sink.old) (K.faults sink.new)
-        × ((text : List ℕ) × IsTextOf (S.left source.old) text
-        × TakesFront (K.told sink.old) (K.told sink.new) (output_of (map string_bytes words.now) text)) }
-    ensures memory { result ≡ 5 → Takes (K.told sink.old) (K.told sink.new) [] }
-    ensures status { result ≤ 5 }
-
-    // The bytes taken have a bound, however much the source has.
-    ensures bounded { (taken : List ℕ) × Consumes (S.left source.old) (S.left source.new) taken × (length taken ≤ BYTES_END) }
-
+    ensures meets { Meets (map string_bytes words.now) result (S.left source.old) (S.left source.new) (K.told sink.old) (K.told sink.new)
+        (S.faults source.old) (S.faults source.new) (K.faults sink.old) (K.faults sink.new) }
     // Words that ask for no input leave the source as it was.
     ensures unasked { reads (command_of (map string_bytes words.now)) ≡ false → source.new ≡ source.old }
-
-    // Where neither has failed, the status is that of the words and the text, unless memory ran out.
-    ensures complete { (text : List ℕ) → S.left source.old ≡ Some text
-        → ¬ Rose (S.faults source.old) (S.faults source.new) → ¬ Rose (K.faults sink.old) (K.faults sink.new)
-        → (result ≡ status_of (map string_bytes words.now) text) ⊎ (result ≡ 5) }
 {
     let output = match make_output(alloc, words, source) {
         Ok(output) => output,
@@ -72,36 +43,9 @@ pub fn saturn<R: AllocGlobal, S: Source, K: Sink, G: Gate>(
     sink: &mut K,
     _gate: &G,
 ) -> u8
-    // 0, 1 and 2 say what the words and the text are, and the sink took the whole output.
-    ensures written { result ≤ 2 → (text : List ℕ) × IsTextOf (S.left source.old) text
-        × (result ≡ status_of (map string_bytes words.now) text)
-        × Takes (K.told sink.old) (K.told sink.new) (output_of (map string_bytes words.now) text) }
-    ensures end { result ≡ 0 → reads (command_of (map string_bytes words.now)) ≡ true → IsAtEnd (S.left source.new) }
-
-    // The same, status by status and command by command.
-    ensures done { result ≡ 0 → IsDone (command_of (map string_bytes words.now)) (S.left source.old) (K.told sink.old) (K.told sink.new) }
-    ensures bad { result ≡ 1 → IsRefused (command_of (map string_bytes words.now)) (S.left source.old) (K.told sink.old) (K.told sink.new) }
-    ensures refused { result ≡ 2 → (command_of (map string_bytes words.now) ≡ None)
-        × Takes (K.told sink.old) (K.told sink.new) refusal }
-
-    ensures source { result ≡ 3 → Rose (S.faults source.old) (S.faults source.new)
-        × (reads (command_of (map string_bytes words.now)) ≡ true) × Takes (K.told sink.old) (K.told sink.new) [] }
-    ensures sink { result ≡ 4 → Rose (K.faults sink.old) (K.faults sink.new)
-        × ((text : List ℕ) × IsTextOf (S.left source.old) text
-        × TakesFront (K.told sink.old) (K.told sink.new) (output_of (map string_bytes words.now) text)) }
-    ensures memory { result ≡ 5 → Takes (K.told sink.old) (K.told sink.new) [] }
-    ensures status { result ≤ 5 }
-
-    // The bytes taken have a bound, however much the source has.
-    ensures bounded { (taken : List ℕ) × Consumes (S.left source.old) (S.left source.new) taken × (length taken ≤ BYTES_END) }
-
-    // Words that ask for no input leave the source as it was.
+    ensures meets { Meets (map string_bytes words.now) result (S.left source.old) (S.left source.new) (K.told sink.old) (K.told sink.new)
+        (S.faults source.old) (S.faults source.new) (K.faults sink.old) (K.faults sink.new) }
     ensures unasked { reads (command_of (map string_bytes words.now)) ≡ false → source.new ≡ source.old }
-
-    // Where neither has failed, the status is that of the words and the text, unless memory ran out.
-    ensures complete { (text : List ℕ) → S.left source.old ≡ Some text
-        → ¬ Rose (S.faults source.old) (S.faults source.new) → ¬ Rose (K.faults sink.old) (K.faults sink.new)
-        → (result ≡ status_of (map string_bytes words.now) text) ⊎ (result ≡ 5) }
 {
     still(rt.alloc(), words, source, sink)
 }

@@ -1,5 +1,6 @@
 -- The serializers above one.
 use Rattle.std.proofs.Common.{ℕ, ◌≡◌, ◌<◌, ◌≤◌, ◌==◌, Bool, true, false, List, Option, Some, None, length, ◌⊎◌, inl, inr, refl, sym, subst, ◌∙◌, arith}
+use Rattle.std.proofs.lemmas.Bool.{false_from_ne_true}
 use Rattle.std.proofs.lemmas.Bool.Decides.{nat_tests}
 use Rattle.sat_label.specs.Words.{has}
 use Rattle.sat_tree.specs.Shape.{TreeShape}
@@ -10,10 +11,6 @@ same-bool : (a b : Bool) → (a ≡ true → b ≡ true) → (b ≡ true → a �
 same-bool true b f g = sym (f refl)
 same-bool false true f g = g refl
 same-bool false false f g = refl
-
-no-bool : (a : Bool) → (a ≡ true → ⊥) → a ≡ false
-no-bool true f = absurd (f refl)
-no-bool false f = refl
 
 -- the way up is at its end, or goes on from the parent
 next : (ps : List (Option ℕ)) (c z : ℕ) → Chain ps c z → (c ≡ z) ⊎ ((q : ℕ) × (parent_of ps c ≡ Some q) × Chain ps q z)
@@ -35,7 +32,7 @@ above-step t tree z c p within less is =
 
 -- nothing is above the root
 pub above-end : (t : TreeShape) (z c : ℕ) → z < c → parent_of t.parents c ≡ None → has ◌==◌ (chain (length t.parents) t.parents c) z ≡ false
-above-end t z c less is = no-bool _ (λ e. elim (next t.parents c z (has-chain (length t.parents) t.parents c z e)) [
+above-end t z c less is = false_from_ne_true _ (λ e. elim (next t.parents c z (has-chain (length t.parents) t.parents c z e)) [
   | inl same ↦ omega arith
   | inr w ↦ absurd (let f : parent_of t.parents c ≡ Some w.0 = w.1 in cc)
 ])

@@ -1,6 +1,6 @@
 -- A path leads from each node to each other site, and beyond an edge lie the sites whose path begins with it.
 use Rattle.std.proofs.Common.{◌≡◌, ◌≢◌, inl, inr, ◌<◌, ◌≤◌, ◌+◌, ℕ, zero, suc, max, false, List, [], ◌∷◌, ◌++◌, length, Some, refl, sym, ap, subst, arith}
-use Rattle.std.proofs.lemmas.Bool.{cases_lt}
+use Rattle.std.proofs.lemmas.Bool.{cases_lt, ne_eqb}
 use Rattle.std.proofs.Math.Nat.{eq-or-lt_of_le}
 use Rattle.sat_label.specs.declared.node.NodeId.{NodeId}
 use Rattle.sat_label.specs.declared.node.NodeId.TheVariants.{Site, Serializer}
@@ -9,7 +9,7 @@ use Rattle.sat_label.specs.Words.{has}
 use Rattle.sat_tree.specs.Shape.{TreeShape}
 use Rattle.sat_tree.specs.Cut.{IsTree, IsNode, parent_of, seat_of}
 use Rattle.sat_tree.specs.Laws.{Path, stays, steps}
-use Rattle.sat_tree.proofs.Ways.{Lower, lower-more, lower-push, lower-free, lower-no-site, has-append, other-number, goes-on, parent-up, parent-down, seat-up, seat-down}
+use Rattle.sat_tree.proofs.Ways.{Lower, lower-more, lower-push, lower-free, lower-no-site, has-append, goes-on, parent-up, parent-down, seat-up, seat-down}
 
 -- a path between two serializers, over no greater number
 Joined : TreeShape → ℕ → ℕ → Type 0
@@ -61,7 +61,7 @@ module _ (t : TreeShape) (tree : IsTree t) where
       let way : Joined t z (seat_of t k) = joined (z + seat_of t k) z (seat_of t k) (omega arith) within (tree.seats k) in (
         way.0 ++ Site k ∷ [],
         goes-on t (Serializer z) (Serializer (seat_of t k)) (Site k) way.0 way.1 (seat-down t k) (lower-no-site _ k way.0 way.2),
-        λ i apart. rw (has-append way.0 (Site k) (Site i), lower-no-site _ i way.0 way.2) (other-number k i (λ e. apart (sym e))),
+        λ i apart. rw (has-append way.0 (Site k) (Site i), lower-no-site _ i way.0 way.2) (ne_eqb k i (λ e. apart (sym e))),
       )
 
   pub some-path : (u : NodeId) (k : ℕ) → IsNode t u → (u ≡ Site k → ⊥) → (nodes : List NodeId) × Path t u (Site k) nodes

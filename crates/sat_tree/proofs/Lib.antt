@@ -5,3 +5,4 @@ pub mod Rows
 pub mod Ways
 pub mod Everywhere
 pub mod Unique
+pub mod PlanLine

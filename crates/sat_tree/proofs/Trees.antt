@@ -1,7 +1,7 @@
 -- A tree of serializers can be cut at its edges.
-use Rattle.std.specs.Prelude.{◌≡◌, ◌+◌, ◌-◌, ◌⊎◌, ◌<◌, ◌≤◌, ℕ, zero, suc, Bool, true, false, ◌||◌, not, List, [], ◌∷◌, Option, Some, None, refl, ◌==◌, if◌then◌else◌, length}
+use Rattle.std.specs.Prelude.{◌≡◌, ◌+◌, ◌-◌, ◌⊎◌, ◌<◌, ◌≤◌, ℕ, zero, suc, Bool, true, false, not, List, [], ◌∷◌, Option, Some, None, refl, ◌==◌, if◌then◌else◌, length}
 use Rattle.std.proofs.Common.{sym, subst, arith, inl, inr, ap, ◌∙◌}
-use Rattle.std.proofs.lemmas.Bool.Decides.{nat_tests}
+use Rattle.std.proofs.lemmas.Bool.{eqb-true, eq-eqb, or_cases, or_left, or_right, not-true, not-false, false_from_ne_true, both_ways}
 use Rattle.sat_label.specs.declared.node.NodeId.{NodeId}
 use Rattle.sat_label.specs.declared.node.NodeId.TheVariants.{Site, Serializer}
 use Rattle.sat_label.specs.Order.{node_eq}
@@ -18,38 +18,13 @@ pub data Chain (ps : List (Option ℕ)) : ℕ → ℕ → Type 0 where
 pub some_is : {X : Type 0} (x y : X) → Some x ≡ Some y → x ≡ y
 some_is x y e = cc
 
-num_is : (a b : ℕ) → (a == b) ≡ true → a ≡ b
-num_is a b e = grind (arith, nat_tests)
-
-num_self : (a : ℕ) → (a == a) ≡ true
-num_self a = grind (arith, nat_tests)
-
-either_true : (a b : Bool) → (a || b) ≡ true → (a ≡ true) ⊎ (b ≡ true)
-either_true true b e = inl refl
-either_true false b e = inr e
-
-or-right : (a b : Bool) → b ≡ true → (a || b) ≡ true
-or-right true b e = refl
-or-right false b e = e
-
-or-left : (a b : Bool) → a ≡ true → (a || b) ≡ true
-or-left true b e = refl
-or-left false b e = absurd (cc)
-
-not_true : (b : Bool) → (b ≡ true → ⊥) → b ≡ false
-not_true true k = absurd (k refl)
-not_true false k = refl
-
-true_not : (b : Bool) → b ≡ true → b ≡ false → ⊥
-true_not b e f = cc
-
 -- the chain as a list holds just what the relation says
 pub has-chain : (f : ℕ) (ps : List (Option ℕ)) (z c : ℕ) → has ◌==◌ (chain f ps z) c ≡ true → Chain ps z c
 unfolding chain
-has-chain zero ps z c e = elim (either_true (z == c) false e) [ inl w ↦ subst (λ (y : ℕ). Chain ps z y) (num_is z c w) here | inr w ↦ absurd (cc) ]
+has-chain zero ps z c e = elim (or_cases (z == c) false e) [ inl w ↦ subst (λ (y : ℕ). Chain ps z y) (eqb-true z c w) here | inr w ↦ absurd (cc) ]
 has-chain (suc f) ps z c e =
-    elim (either_true (z == c) (has ◌==◌ (elim (parent_of ps z) [ None ↦ [] | Some p ↦ chain f ps p ]) c) e) [
-      | inl w ↦ subst (λ (y : ℕ). Chain ps z y) (num_is z c w) here
+    elim (or_cases (z == c) (has ◌==◌ (elim (parent_of ps z) [ None ↦ [] | Some p ↦ chain f ps p ]) c) e) [
+      | inl w ↦ subst (λ (y : ℕ). Chain ps z y) (eqb-true z c w) here
       | inr w ↦ go (parent_of ps z) refl w (λ p. has-chain f ps p c)
     ]
   where
@@ -59,11 +34,11 @@ has-chain (suc f) ps z c e =
 
 pub chain-has : (t : TreeShape) → IsTree t → (f z c : ℕ) → z ≤ f → Chain t.parents z c → has ◌==◌ (chain f t.parents z) c ≡ true
 unfolding chain
-chain-has t v zero z c le (here {z = y}) = or-left (y == y) false (num_self y)
+chain-has t v zero z c le (here {z = y}) = or_left (y == y) false (eq-eqb y y refl)
 chain-has t v zero z c le (up {z = y} p e k) = absurd (let w : p < y = v.down y p e in omega arith)
-chain-has t v (suc f) z c le (here {z = y}) = or-left (y == y) _ (num_self y)
+chain-has t v (suc f) z c le (here {z = y}) = or_left (y == y) _ (eq-eqb y y refl)
 chain-has t v (suc f) z c le (up {z = y} {c = c'} p e k) =
-    or-right (y == c') (has ◌==◌ (elim (parent_of t.parents y) [ None ↦ [] | Some p ↦ chain f t.parents p ]) c')
+    or_right (y == c') (has ◌==◌ (elim (parent_of t.parents y) [ None ↦ [] | Some p ↦ chain f t.parents p ]) c')
     (subst (λ (o : Option ℕ). has ◌==◌ (elim o [ None ↦ [] | Some p ↦ chain f t.parents p ]) c' ≡ true) (sym e) (chain-has t v f p c' (let w : p < y = v.down y p e in omega arith) k))
 
 pub rank : (t : TreeShape) → IsTree t → (z c : ℕ) → Chain t.parents z c → c ≤ z
@@ -190,11 +165,11 @@ hangs-of t v (Serializer z) e = go (over t v) refl e
   where
     go : (o : Option ℕ) → over t v ≡ o → has ◌==◌ (elim o [ None ↦ [] | Some p ↦ p ∷ [] ]) z ≡ true → Hangs t v (Serializer z)
     go None k e = absurd (cc)
-    go (Some p) k e = (z, refl, k ∙ ap (λ (n : ℕ). Some n) (num_is p z (elim (either_true (p == z) false e) [ inl w ↦ w | inr w ↦ absurd (cc) ])))
+    go (Some p) k e = (z, refl, k ∙ ap (λ (n : ℕ). Some n) (eqb-true p z (elim (or_cases (p == z) false e) [ inl w ↦ w | inr w ↦ absurd (cc) ])))
 
 of-hangs : (t : TreeShape) (v : NodeId) (z : ℕ) → over t v ≡ Some z → hangs_on t v (Serializer z) ≡ true
 unfolding hangs_on
-of-hangs t v z e = subst (λ (o : Option ℕ). has ◌==◌ (elim o [ None ↦ [] | Some p ↦ p ∷ [] ]) z ≡ true) (sym e) (or-left (z == z) false (num_self z))
+of-hangs t v z e = subst (λ (o : Option ℕ). has ◌==◌ (elim o [ None ↦ [] | Some p ↦ p ∷ [] ]) z ≡ true) (sym e) (or_left (z == z) false (eq-eqb z z refl))
 
 data Edge (t : TreeShape) (u v : NodeId) : Type 0 where
   to_child : (z : ℕ) → u ≡ Serializer z → over t v ≡ Some z → Edge t u v
@@ -203,18 +178,18 @@ data Edge (t : TreeShape) (u v : NodeId) : Type 0 where
 edge-of : (t : TreeShape) (u v : NodeId) → is_edge t u v ≡ true → Edge t u v
 unfolding is_edge
 edge-of t u v e =
-    elim (either_true (hangs_on t u v) (hangs_on t v u) e) [
+    elim (or_cases (hangs_on t u v) (hangs_on t v u) e) [
       | inl w ↦ (let h : Hangs t u v = hangs-of t u v w in to_parent h.0 h.1 h.2)
       | inr w ↦ (let h : Hangs t v u = hangs-of t v u w in to_child h.0 h.1 h.2)
     ]
 
 pub edge-down : (t : TreeShape) (v : NodeId) (z : ℕ) → over t v ≡ Some z → is_edge t (Serializer z) v ≡ true
 unfolding is_edge
-edge-down t v z e = or-right (hangs_on t (Serializer z) v) (hangs_on t v (Serializer z)) (of-hangs t v z e)
+edge-down t v z e = or_right (hangs_on t (Serializer z) v) (hangs_on t v (Serializer z)) (of-hangs t v z e)
 
 pub edge-up : (t : TreeShape) (v : NodeId) (z : ℕ) → over t v ≡ Some z → is_edge t v (Serializer z) ≡ true
 unfolding is_edge
-edge-up t v z e = or-left (hangs_on t v (Serializer z)) (hangs_on t (Serializer z) v) (of-hangs t v z e)
+edge-up t v z e = or_left (hangs_on t v (Serializer z)) (hangs_on t (Serializer z) v) (of-hangs t v z e)
 
 over-down : (t : TreeShape) → IsTree t → (a b : ℕ) → over t (Serializer a) ≡ Some b → b < a
 unfolding over
@@ -228,7 +203,7 @@ module _ (t : TreeShape) (w : IsTree t) where
   over-bound (Serializer y) z e = let a : z < y = w.down y z e in let b : y < length t.parents = w.inner y z e in (omega arith, b)
 
   no-both : (u v : NodeId) (z : ℕ) → v ≡ Serializer z → over t u ≡ Some z → hangs_on t v u ≡ false
-  no-both u v z e f = not_true (hangs_on t v u) (λ h. go (hangs-of t v u h))
+  no-both u v z e f = false_from_ne_true (hangs_on t v u) (λ h. go (hangs-of t v u h))
     where
       go : Hangs t v u → ⊥
       go h =
@@ -320,20 +295,12 @@ module _ (t : TreeShape) (w : IsTree t) where
           omega arith
       go (to_child z a b) (to_parent y c k) = absurd (n (a ∙ ap (λ (m : ℕ). Serializer m) (some_is z y (sym b ∙ k)) ∙ sym c))
 
-  not-is : (b : Bool) → not b ≡ true → b ≡ false
-  not-is true e = absurd (cc)
-  not-is false e = refl
-
-  not-off : (b : Bool) → not b ≡ false → b ≡ true
-  not-off true e = refl
-  not-off false e = absurd (cc)
-
   never : (n u : NodeId) → anchor t u < length t.parents → under t n u ≡ false → Under t n u → ⊥
-  never n u b e k = true_not (under t n u) (of-under t w n u b k) e
+  never n u b e k = both_ways (under t n u) e (of-under t w n u b k)
 
   law-far : (p q : NodeId) → Edge t p q → beyond t p q q ≡ true
   law-far p q (to_child z e f) = beyond-child p q q z e f ∙ of-under t w q q (over-bound q z f).1 (self-under t q)
-  law-far p q (to_parent z e f) = beyond-parent p q q z e f ∙ ap not (not_true (under t p q) (λ k. not-over t w p z f (subst (λ (n : NodeId). Under t p n) e (under-of t p q k))))
+  law-far p q (to_parent z e f) = beyond-parent p q q z e f ∙ ap not (false_from_ne_true (under t p q) (λ k. not-over t w p z f (subst (λ (n : NodeId). Under t p n) e (under-of t p q k))))
 
   same-over : (v : NodeId) (y z : ℕ) → over t v ≡ Some y → over t v ≡ Some z → Serializer y ≡ Serializer z
   same-over v y z a b = ap (λ (n : ℕ). Serializer n) (some_is y z (sym a ∙ b))
@@ -350,7 +317,7 @@ module _ (t : TreeShape) (w : IsTree t) where
           ]
       go (to_parent y i j) k n = absurd (n (over-under t q a y j (subst (λ (m : NodeId). Under t q m) i k)))
   law-parts a x p q g (to_parent r e f) b c =
-      go g (under-of t p a (not-off (under t p a) (sym (beyond-parent p q a r e f) ∙ c))) (never p x (edge-bound a x g).1 (not-is (under t p x) (sym (beyond-parent p q x r e f) ∙ b)))
+      go g (under-of t p a (not-false (under t p a) (sym (beyond-parent p q a r e f) ∙ c))) (never p x (edge-bound a x g).1 (not-true (under t p x) (sym (beyond-parent p q x r e f) ∙ b)))
     where
       go : Edge t a x → Under t p a → (Under t p x → ⊥) → (p ≡ a) × (q ≡ x)
       go (to_child y i j) k n = absurd (n (over-under t p x y j (subst (λ (m : NodeId). Under t p m) i k)))
@@ -367,16 +334,16 @@ module _ (t : TreeShape) (w : IsTree t) where
   law-through u v x k (to_child z e f) (to_parent y i j) n b = absurd (n (i ∙ same-over v y z j f ∙ sym e))
   law-through u v x k (to_parent z e f) (to_child y i j) n b =
       let s : Under t x (Site k) = under-of t x (Site k) (sym (beyond-child v x (Site k) y i j) ∙ b) in
-      beyond-parent u v (Site k) z e f ∙ ap not (not_true (under t u (Site k)) (λ q. n (apart t w x u (Site k) y j (f ∙ ap (λ (m : ℕ). Some m) (ser z y (sym e ∙ i))) s (under-of t u (Site k) q))))
+      beyond-parent u v (Site k) z e f ∙ ap not (false_from_ne_true (under t u (Site k)) (λ q. n (apart t w x u (Site k) y j (f ∙ ap (λ (m : ℕ). Some m) (ser z y (sym e ∙ i))) s (under-of t u (Site k) q))))
     where
       ser : (a b : ℕ) → Serializer a ≡ Serializer b → a ≡ b
       ser a b e = cc
   law-through u v x k (to_parent z e f) (to_parent y i j) n b =
-      beyond-parent u v (Site k) z e f ∙ ap not (not_true (under t u (Site k)) (λ q.
-      never v (Site k) (w.seats k) (not-is (under t v (Site k)) (sym (beyond-parent v x (Site k) y i j) ∙ b)) (subst (λ (m : NodeId). Under t m (Site k)) (sym e) (under-over t u (Site k) z f (under-of t u (Site k) q)))))
+      beyond-parent u v (Site k) z e f ∙ ap not (false_from_ne_true (under t u (Site k)) (λ q.
+      never v (Site k) (w.seats k) (not-true (under t v (Site k)) (sym (beyond-parent v x (Site k) y i j) ∙ b)) (subst (λ (m : NodeId). Under t m (Site k)) (sym e) (under-over t u (Site k) z f (under-of t u (Site k) q)))))
 
   law-leaf : (p : NodeId) (j k : ℕ) → Edge t p (Site j) → (k ≡ j → ⊥) → beyond t p (Site j) (Site k) ≡ false
-  law-leaf p j k (to_child z e f) n = beyond-child p (Site j) (Site k) z e f ∙ not_true (under t (Site j) (Site k)) (λ q. n (site k j (under-of t (Site j) (Site k) q)))
+  law-leaf p j k (to_child z e f) n = beyond-child p (Site j) (Site k) z e f ∙ false_from_ne_true (under t (Site j) (Site k)) (λ q. n (site k j (under-of t (Site j) (Site k) q)))
     where
       site : (a b : ℕ) → Site a ≡ Site b → a ≡ b
       site a b e = cc
@@ -396,7 +363,7 @@ module _ (t : TreeShape) (w : IsTree t) where
         c.0,
         edge-up t c.0 z c.1,
         beyond-parent c.0 (Serializer z) (Site s) z refl c.1 ∙ ap not (of-under t w c.0 (Site s) (w.seats s) c.2),
-        λ k b. beyond-parent c.0 (Serializer z) (Site k) z refl c.1 ∙ ap not (not_true (under t c.0 (Site k)) (λ u. off c.0 c.1 c.2 k b (under-of t c.0 (Site k) u))),
+        λ k b. beyond-parent c.0 (Serializer z) (Site k) z refl c.1 ∙ ap not (false_from_ne_true (under t c.0 (Site k)) (λ u. off c.0 c.1 c.2 k b (under-of t c.0 (Site k) u))),
       )
 
   first-down : (z s : ℕ) (y : NodeId) → over t y ≡ Some z → beyond t (Serializer z) y (Site s) ≡ false → First (Serializer z) y s
@@ -429,10 +396,10 @@ module _ (t : TreeShape) (w : IsTree t) where
       go false e = up_to_parent e
 
   first-up : (u y : NodeId) (r s : ℕ) → y ≡ Serializer r → over t u ≡ Some r → beyond t u y (Site s) ≡ false → (Site s ≡ u → ⊥) → First u y s
-  first-up (Site i) y r s e f b n = absurd (n (under-of t (Site i) (Site s) (not-off (under t (Site i) (Site s)) (sym (beyond-parent (Site i) y (Site s) r e f) ∙ b))))
+  first-up (Site i) y r s e f b n = absurd (n (under-of t (Site i) (Site s) (not-false (under t (Site i) (Site s)) (sym (beyond-parent (Site i) y (Site s) r e f) ∙ b))))
   first-up (Serializer z) y r s e f b n =
-      first-child z s y (under-of t (Serializer z) (Site s) (not-off (under t (Serializer z) (Site s)) (sym (beyond-parent (Serializer z) y (Site s) r e f) ∙ b)))
-      (λ c o u k b' v. never (Serializer z) (Site k) (w.seats k) (not-is (under t (Serializer z) (Site k)) (sym (beyond-parent (Serializer z) y (Site k) r e f) ∙ b')) (under-over t c (Site k) z o v))
+      first-child z s y (under-of t (Serializer z) (Site s) (not-false (under t (Serializer z) (Site s)) (sym (beyond-parent (Serializer z) y (Site s) r e f) ∙ b)))
+      (λ c o u k b' v. never (Serializer z) (Site k) (w.seats k) (not-true (under t (Serializer z) (Site k)) (sym (beyond-parent (Serializer z) y (Site k) r e f) ∙ b')) (under-over t c (Site k) z o v))
 
   law-first : (u y : NodeId) (s : ℕ) → Edge t u y → beyond t u y (Site s) ≡ false → (Site s ≡ u → ⊥) → First u y s
   law-first u y s (to_child z e f) b n = subst (λ (m : NodeId). First m y s) (sym e) (first-down z s y f (subst (λ (m : NodeId). beyond t m y (Site s) ≡ false) e b))

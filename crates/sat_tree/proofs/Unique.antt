@@ -1,5 +1,6 @@
 -- There is one path from a node to a site.
-use Rattle.std.proofs.Common.{◌≡◌, ℕ, Bool, true, false, not, ◌||◌, ◌⊎◌, inl, inr, List, [], ◌∷◌, refl, sym, ap, subst, ◌∙◌}
+use Rattle.std.proofs.lemmas.Bool.{both_ways, or_parts, or_right}
+use Rattle.std.proofs.Common.{◌≡◌, ℕ, Bool, true, false, not, ◌⊎◌, inl, inr, List, [], ◌∷◌, refl, sym, ap, subst, ◌∙◌}
 use Rattle.sat_label.specs.declared.node.NodeId.{NodeId}
 use Rattle.sat_label.specs.declared.node.NodeId.TheVariants.{Site}
 use Rattle.sat_label.specs.Order.{node_eq}
@@ -9,12 +10,7 @@ use Rattle.sat_tree.specs.Shape.{TreeShape}
 use Rattle.sat_tree.specs.Cut.{IsTree, IsNode, is_edge, beyond}
 use Rattle.sat_tree.specs.Laws.{IsCuttable, Path, stays, steps, EveryTreeIsWellCut}
 use Rattle.sat_tree.proofs.Trees.{cuttable, other-side}
-use Rattle.sat_tree.proofs.Ways.{both-false}
 use Rattle.sat_tree.proofs.Everywhere.{some-path}
-
-or-true : (b : Bool) → (b || true) ≡ true
-or-true true = refl
-or-true false = refl
 
 -- a path has its ends
 begins : (t : TreeShape) (u v : NodeId) (nodes : List NodeId) → Path t u v nodes → has node_eq nodes u ≡ true
@@ -23,7 +19,7 @@ begins t u v nodes (steps {u = y} e new rest) = rw (node-self y) refl
 
 ends : (t : TreeShape) (u v : NodeId) (nodes : List NodeId) → Path t u v nodes → has node_eq nodes v ≡ true
 ends t u v nodes (stays {v = y}) = rw (node-self y) refl
-ends t u v nodes (steps {u = y} {x = x} {nodes = ns} e new rest) = rw (ends t x v ns rest) (or-true (node_eq y v))
+ends t u v nodes (steps {u = y} {x = x} {nodes = ns} e new rest) = or_right (node_eq y v) _ (ends t x v ns rest)
 
 head-is : (t : TreeShape) (u v y : NodeId) (nodes others : List NodeId) → Path t u v nodes → nodes ≡ y ∷ others → u ≡ y
 head-is t u v y nodes others (stays {v = z}) e = cc
@@ -34,10 +30,7 @@ toward : (t : TreeShape) → IsCuttable t → (u x v : NodeId) (k : ℕ) (rest :
 toward t c u x v k rest (stays {v = z}) site e new = c.far u z e
 toward t c u x v k rest (steps {u = z} {x = y} {nodes = ns} f other path) site e new =
     let later = subst (λ (n : NodeId). beyond t z y n ≡ true) site (toward t c z y v k ns path site f other) in
-    subst (λ (n : NodeId). beyond t u z n ≡ true) (sym site) (c.through u z y k e f (λ same. not-both _ (ap (λ n. has node_eq ns n) (sym same) ∙ begins t y v ns path) (both-false _ _ new).1) later)
-  where
-    not-both : (b : Bool) → b ≡ true → b ≡ false → ⊥
-    not-both b e f = cc
+    subst (λ (n : NodeId). beyond t u z n ≡ true) (sym site) (c.through u z y k e f (λ same. both_ways _ (or_parts _ _ new).1 (ap (λ n. has node_eq ns n) (sym same) ∙ begins t y v ns path)) later)
 
 first-edge : (t : TreeShape) → IsCuttable t → (u x v : NodeId) (k : ℕ) (nodes rest : List NodeId) → Path t u v nodes → v ≡ Site k → nodes ≡ u ∷ x ∷ rest → beyond t u x v ≡ true
 first-edge t c u x v k nodes rest (stays {v = z}) site e = absurd (cc)
@@ -59,10 +52,7 @@ module _ (t : TreeShape) (tree : IsTree t) where
       let c = cuttable t tree in
       let back = c.through x u y k (c.back u x e) f apart b in
       let side = other-side t tree u x (Site k) e in
-      clash (beyond t u x (Site k)) (beyond t x u (Site k)) side a back
-    where
-      clash : (p q : Bool) → p ≡ not q → p ≡ true → q ≡ true → ⊥
-      clash p q e f g = let h : p ≡ false = e ∙ ap not g in cc
+      both_ways _ (side ∙ ap not back) a
 
   no-return : (u x v : NodeId) (rest : List NodeId) → has node_eq rest u ≡ false → Path t x v rest → v ≡ u → ⊥
   no-return u x v rest new path same = let e : has node_eq rest u ≡ true = ap (has node_eq rest) (sym same) ∙ ends t x v rest path in cc
@@ -88,10 +78,7 @@ module _ (t : TreeShape) (tree : IsTree t) where
   own-side u x v k e same far =
       let c = cuttable t tree in
       let here = subst (λ (n : NodeId). beyond t x u n ≡ true) same (c.far x u (c.back u x e)) in
-      clash (beyond t u x v) (beyond t x u v) (other-side t tree u x v e) far here
-    where
-      clash : (p q : Bool) → p ≡ not q → p ≡ true → q ≡ true → ⊥
-      clash p q e f g = let h : p ≡ false = e ∙ ap not g in cc
+      both_ways _ (other-side t tree u x v e ∙ ap not here) far
 
   begins-so : (u x v : NodeId) (k : ℕ) (nodes : List NodeId) → Path t u v nodes → v ≡ Site k → is_edge t u x ≡ true → beyond t u x v ≡ true → (more : List NodeId) × Path t u v (u ∷ x ∷ more)
   begins-so u x v k nodes (stays {v = z}) site edge far = absurd (own-side z x z k edge refl far)

@@ -1,5 +1,6 @@
 -- Paths that are made from both ends.
-use Rattle.std.proofs.Common.{◌≡◌, ◌≢◌, ◌<◌, ◌≤◌, ◌+◌, ℕ, max, Bool, true, false, ◌||◌, ◌==◌, List, [], ◌∷◌, ◌++◌, reverse, append_assoc, Some, refl, sym, ap, subst, ◌∙◌, arith}
+use Rattle.std.proofs.Common.{◌≡◌, ◌≢◌, ◌<◌, ◌≤◌, ◌+◌, ℕ, max, Bool, true, false, ◌||◌, List, [], ◌∷◌, ◌++◌, reverse, append_assoc, Some, refl, sym, ap, subst, ◌∙◌, arith}
+use Rattle.std.proofs.lemmas.Bool.{ne_eqb, or_parts}
 use Rattle.std.proofs.lemmas.Bool.Decides.{nat_tests}
 use Rattle.std.proofs.lemmas.List.{reverse-append}
 use Rattle.sat_label.specs.declared.node.NodeId.{NodeId}
@@ -29,16 +30,11 @@ node-sym (Serializer i) (Serializer k) = grind (arith, nat_tests)
 node-sym (Site i) (Serializer k) = refl
 node-sym (Serializer i) (Site k) = refl
 
-pub both-false : (a b : Bool) → (a || b) ≡ false → (a ≡ false) × (b ≡ false)
-both-false false false e = (refl, refl)
-both-false true b e = absurd (cc)
-both-false false true e = absurd (cc)
-
 -- a path goes on over an edge
 pub goes-on : (t : TreeShape) (u x v : NodeId) (nodes : List NodeId) → Path t u x nodes → is_edge t x v ≡ true → has node_eq nodes v ≡ false → Path t u v (nodes ++ v ∷ [])
-goes-on t u x v nodes (stays {v = y}) edge none = steps edge (rw (node-sym v y, or-false) ((both-false _ _ none).0)) stays
+goes-on t u x v nodes (stays {v = y}) edge none = steps edge (rw (node-sym v y, or-false) ((or_parts _ _ none).0)) stays
 goes-on t u x v nodes (steps {u = y} {x = z} {nodes = ns} first new rest) edge none =
-    let apart = both-false _ _ none in
+    let apart = or_parts _ _ none in
     steps first (rw (has-append ns v y, new, node-sym v y) apart.0) (goes-on t z x v ns rest edge apart.1)
 
 -- serializers of numbers below one
@@ -57,11 +53,8 @@ lower-push m z (n ∷ nodes) low less = (low.0, lower-push m z nodes low.1 less)
 pub lower-free : (m z : ℕ) (nodes : List NodeId) → Lower m nodes → m ≤ z → has node_eq nodes (Serializer z) ≡ false
 lower-free m z [] low most = refl
 lower-free m z (n ∷ nodes) low most =
-    let other : node_eq n (Serializer z) ≡ false = rw low.0.1 (apart (low.0.0) z (omega (arith, low.0.2))) in
+    let other : node_eq n (Serializer z) ≡ false = rw low.0.1 (ne_eqb low.0.0 z (omega (arith, low.0.2))) in
     rw (other, lower-free m z nodes low.1 most) refl
-  where
-    apart : (y z : ℕ) → y < z → (y == z) ≡ false
-    apart y z less = grind (arith, nat_tests)
 
 pub lower-no-site : (m i : ℕ) (nodes : List NodeId) → Lower m nodes → has node_eq nodes (Site i) ≡ false
 lower-no-site m i [] low = refl
@@ -85,9 +78,6 @@ pub parent-down : (t : TreeShape) (z p : ℕ) → parent_of t.parents z ≡ Some
 unfolding over
 parent-down t z p is = edge-down t (Serializer z) p is
 
-pub other-number : (a b : ℕ) → a ≢ b → (a == b) ≡ false
-other-number a b apart = grind (arith, nat_tests)
-
 pub reverse_push : (xs : List NodeId) (x : NodeId) → reverse (xs ++ x ∷ []) ≡ x ∷ reverse xs
 reverse_push xs x = reverse-append xs (x ∷ [])
 
@@ -101,7 +91,7 @@ begun t i k way back here there apart one other a b =
     rw (one, other, a, b) (record {
       whole = λ rest path low.
           let down = goes-on t (Serializer (seat_of t i)) (Serializer (seat_of t k)) (Site k) rest path (seat-down t k) (lower-no-site _ k rest low) in
-          let new : has node_eq (rest ++ Site k ∷ []) (Site i) ≡ false = rw (has-append rest (Site k) (Site i), lower-no-site _ i rest low) (other-number k i (λ e. apart (sym e))) in
+          let new : has node_eq (rest ++ Site k ∷ []) (Site i) ≡ false = rw (has-append rest (Site k) (Site i), lower-no-site _ i rest low) (ne_eqb k i (λ e. apart (sym e))) in
           steps (seat-up t i) new down;
     })
 

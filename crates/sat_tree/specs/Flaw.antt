@@ -1,5 +1,6 @@
 -- What keeps lists of parents and seats from being a tree.
 use Rattle.std.specs.Prelude.{ℕ, ◌+◌, ◌≤◌, ◌<◌, ◌==◌, ◌&&◌, Bool, nat_lt, nat_le, List, length, Option, Some, None, if◌then◌else◌}
+use Rattle.sat_label.specs.declared.limits.TheConstants.{MOST_SERIALIZERS, MOST_SITES}
 use Rattle.sat_label.specs.Words.{first_failing}
 use Rattle.sat_tree.specs.declared.fault.TreeFault.{TreeFault}
 use Rattle.sat_tree.specs.declared.fault.TreeFault.TheVariants.{TooMany, NotATree}
@@ -18,7 +19,7 @@ seat_fits t i = nat_lt (seat_of t i) (length t.parents)
 
 -- 1 to 15 serializers
 unfoldable pub few_serializers : List (Option ℕ) → Bool
-few_serializers parents = nat_lt 0 (length parents) && nat_le (length parents) 15
+few_serializers parents = nat_lt 0 (length parents) && nat_le (length parents) MOST_SERIALIZERS
 
 -- the first fault: too many or no serializers, then the first wrong parent, then the first wrong seat
 unfoldable pub tree_flaw : TreeShape → Option TreeFault
@@ -38,5 +39,5 @@ tree_flaw t =
 pub record IsSmallTree (t : TreeShape) : Type 0 where
   pub tree : IsTree t
   pub some_serializer : 0 < length t.parents
-  pub few_serializers : length t.parents ≤ 15
-  pub few_seats : length t.seats ≤ 16
+  pub few_serializers : length t.parents ≤ MOST_SERIALIZERS
+  pub few_seats : length t.seats ≤ MOST_SITES

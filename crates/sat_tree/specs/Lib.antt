@@ -2,3 +2,4 @@ pub mod Shape
 pub mod Cut
 pub mod Flaw
 pub mod Laws
+pub mod PlanLine

@@ -1,9 +1,11 @@
 //! What is asked of parents and seats.
 ghost use Rattle.std.specs.Prelude.{◌≡◌, ◌<◌, ◌≤◌, length, IfSome};
+ghost use Rattle.sat_label.specs.declared.limits.TheConstants.{MOST_SERIALIZERS, MOST_SITES};
 ghost use Rattle.sat_label.specs.Words.{first_failing};
 ghost use Rattle.sat_tree.specs.Flaw.{parent_fits, seat_fits, tree_flaw};
 
 use crate::TreeFault;
+use sat_label::MOST_SERIALIZERS;
 
 // Whether a serializer's parent is one that it may hang on.
 #[tactic(auto, unfolding(crate::specs::Flaw::parent_fits, crate::specs::Cut::parent_of))]
@@ -29,7 +31,7 @@ fn seat_fits(parents: &[Option<u16>], seats: &[u16], site: u16) -> bool
 // The first serializer whose parent is wrong.
 #[tactic(auto, using(sat_label::proofs::First::first_start, sat_label::proofs::First::first_more, sat_label::proofs::First::first_here))]
 fn first_wrong_parent(parents: &[Option<u16>]) -> Option<u16>
-    requires { length parents.now ≤ 15 }
+    requires { length parents.now ≤ MOST_SERIALIZERS }
     ensures { result ≡ first_failing (parent_fits parents.now) (length parents.now) }
 {
     for z in 0..parents.len() as u16 {
@@ -43,9 +45,9 @@ fn first_wrong_parent(parents: &[Option<u16>]) -> Option<u16>
 // The first site whose seat is no serializer.
 #[tactic(auto, using(sat_label::proofs::First::first_start, sat_label::proofs::First::first_more, sat_label::proofs::First::first_here))]
 fn first_wrong_seat(parents: &[Option<u16>], seats: &[u16]) -> Option<u16>
-    requires { length seats.now ≤ 16 }
+    requires { length seats.now ≤ MOST_SITES }
     ensures first { result ≡ first_failing (seat_fits (record { parents = parents.now; seats = seats.now })) (length seats.now) }
-    ensures within { IfSome result (λ site. site < 16) }
+    ensures within { IfSome result (λ site. site < MOST_SITES) }
 {
     for site in 0..seats.len() as u16 {
         if !seat_fits(parents, seats, site) {
@@ -58,14 +60,11 @@ fn first_wrong_seat(parents: &[Option<u16>], seats: &[u16]) -> Option<u16>
 /// The first fault of parents and seats.
 #[tactic(auto, unfolding(crate::specs::Flaw::tree_flaw, crate::specs::Flaw::few_serializers))]
 pub fn flaw_of(parents: &[Option<u16>], seats: &[u16]) -> Option<TreeFault>
-    requires { length seats.now ≤ 16 }
+    requires { length seats.now ≤ MOST_SITES }
     ensures { result ≡ tree_flaw (record { parents = parents.now; seats = seats.now }) }
 {
     let count = parents.len();
-    if count == 0 {
-        return Some(TreeFault::TooMany(count));
-    }
-    if count > 15 {
+    if count == 0 || count > MOST_SERIALIZERS as usize {
         return Some(TreeFault::TooMany(count));
     }
     if let Some(place) = first_wrong_parent(parents) {

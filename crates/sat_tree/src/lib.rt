@@ -4,9 +4,9 @@
 
 mod checks;
 mod fault;
+mod layout;
 mod neighbours;
 mod path;
-mod shape;
 mod sides;
 mod tree;
 

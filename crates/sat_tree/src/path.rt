@@ -3,7 +3,7 @@ ghost use Rattle.std.specs.Prelude.{◌≡◌, ◌≢◌, ◌<◌, ◌++◌, len
 ghost use Rattle.sat_label.specs.declared.node.NodeId.TheVariants.{Site};
 ghost use Rattle.sat_tree.specs.Laws.{Path};
 
-use crate::shape::Shape;
+use crate::layout::Layout;
 use sat_label::{NodeId, Nodes};
 use std::alloc::{AllocError, Global};
 
@@ -19,24 +19,24 @@ fn add_reversed(nodes: &mut Nodes, mut back: Vec<NodeId>) -> Result<(), AllocErr
 }
 
 /// The nodes of the path from one site to another, both included.
-pub fn path(alloc: Global, shape: &Shape, from: u16, to: u16) -> Result<Nodes, AllocError>
-    requires from { from < length shape.now.seats }
-    requires to { to < length shape.now.seats }
+pub fn path(alloc: Global, layout: &Layout, from: u16, to: u16) -> Result<Nodes, AllocError>
+    requires from { from < length layout.now.seats }
+    requires to { to < length layout.now.seats }
     requires apart { from ≢ to }
-    ensures { IfOk result (λ nodes. Path shape.now (Site from) (Site to) nodes) }
+    ensures { IfOk result (λ nodes. Path layout.now (Site from) (Site to) nodes) }
 {
     let mut way = Nodes::new(alloc);
     let mut back = Vec::new(alloc);
     way.push(NodeId::Site(from))?;
     back.push(NodeId::Site(to))?;
-    let (mut here, mut there) = (shape.seat(from), shape.seat(to));
+    let (mut here, mut there) = (layout.seat(from), layout.seat(to));
     while here != there {
         if there < here {
             way.push(NodeId::Serializer(here))?;
-            here = shape.above(here);
+            here = layout.above(here);
         } else {
             back.push(NodeId::Serializer(there))?;
-            there = shape.above(there);
+            there = layout.above(there);
         }
     }
     way.push(NodeId::Serializer(here))?;

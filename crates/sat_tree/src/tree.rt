@@ -1,15 +1,16 @@
 //! Trees.
 ghost use Rattle.std.specs.Prelude.{◌≡◌, ◌≢◌, ℕ, ◌<◌, ◌≤◌, ◌&&◌, nat_lt, true, length, IfOk, slice_get, Some, MatchOption, IsOkUnless, IsErrOf};
 ghost use Rattle.sat_label.specs.declared.node.NodeId.TheVariants.{Site};
+ghost use Rattle.sat_label.specs.declared.limits.TheConstants.{MOST_SITES};
 ghost use Rattle.sat_label.specs.Words.{bit};
 ghost use Rattle.sat_tree.specs.Cut.{beyond, is_edge, neighbours, IsNode};
 ghost use Rattle.sat_tree.specs.Flaw.{tree_flaw, IsSmallTree};
 ghost use Rattle.sat_tree.specs.Laws.{Path};
 
 use crate::checks::flaw_of;
+use crate::layout::Layout;
 use crate::neighbours::all_neighbours;
 use crate::path::path;
-use crate::shape::Shape;
 use crate::{TreeFault, sides};
 use sat_label::{NodeId, Nodes, SiteSet};
 use std::alloc::{AllocError, Global};
@@ -19,7 +20,7 @@ use std::marker::Model;
 /// at one of them. Contracts see the list of parents, None for the root, and the list of seats.
 #[derive(Drop)]
 pub struct Tree {
-    shape: Shape,
+    layout: Layout,
     // The neighbours of each serializer.
     adjacent: Vec<Nodes>,
 }
@@ -33,16 +34,16 @@ impl Model for Tree {
 
     ghost Value = { TreeShape };
 
-    ghost view = { λ a. a.shape };
+    ghost view = { λ a. a.layout };
 
-    ghost invariant = { λ a. (a.adjacent.items ≡ map (neighbours a.shape) (below (length a.shape.parents))) × IsSmallTree a.shape };
+    ghost invariant = { λ a. (a.adjacent.items ≡ map (neighbours a.layout) (below (length a.layout.parents))) × IsSmallTree a.layout };
 }
 
 impl Tree {
     /// The tree with these parents, None for the root, and these seats, one serializer a site. `TooMany` and `NotATree` say
     /// what is wrong with them, and `Memory` that there was no room for a tree that is right.
     pub fn new(alloc: Global, parents: &[Option<u16>], seats: &[u16]) -> Result<Tree, TreeFault>
-        requires { length seats.now ≤ 16 }
+        requires { length seats.now ≤ MOST_SITES }
         ensures tree { IfOk result (λ t. t ≡ record { parents = parents.now; seats = seats.now }) }
         ensures fault { MatchOption (tree_flaw (record { parents = parents.now; seats = seats.now }))
             (IsOkUnless result TreeFault.Memory)
@@ -51,18 +52,18 @@ impl Tree {
         match flaw_of(parents, seats) {
             Some(fault) => Err(fault),
             None => {
-                let shape = Shape::new(alloc, parents, seats)?;
-                Ok(Tree::of(shape)?)
+                let layout = Layout::new(alloc, parents, seats)?;
+                Ok(Tree::of(layout)?)
             }
         }
     }
 
-    // The tree of a shape.
-    fn of(shape: Shape) -> Result<Tree, AllocError>
-        ensures { IfOk result (λ t. t ≡ shape) }
+    // The tree of a layout.
+    fn of(layout: Layout) -> Result<Tree, AllocError>
+        ensures { IfOk result (λ t. t ≡ layout) }
     {
-        let adjacent = all_neighbours(shape.allocator(), &shape)?;
-        Ok(Tree { shape, adjacent })
+        let adjacent = all_neighbours(layout.allocator(), &layout)?;
+        Ok(Tree { layout, adjacent })
     }
 
     /// The same tree again.
@@ -70,8 +71,8 @@ impl Tree {
         ensures copy { IfOk result (λ t. t ≡ self.now) }
         ensures limits { IsSmallTree self.now }
     {
-        let shape = self.shape.copy()?;
-        let tree = Tree::of(shape)?;
+        let layout = self.layout.copy()?;
+        let tree = Tree::of(layout)?;
         Ok(tree)
     }
 
@@ -81,7 +82,7 @@ impl Tree {
         ensures seat { Some result ≡ slice_get self.now.seats site }
         ensures limits { IsSmallTree self.now }
     {
-        self.shape.seat(site)
+        self.layout.seat(site)
     }
 
     /// The number of sites, at most 16.
@@ -89,7 +90,7 @@ impl Tree {
         ensures sites { result ≡ length self.now.seats }
         ensures limits { IsSmallTree self.now }
     {
-        self.shape.sites()
+        self.layout.sites()
     }
 
     /// The number of serializers, 1 to 15.
@@ -97,7 +98,7 @@ impl Tree {
         ensures serializers { result ≡ length self.now.parents }
         ensures limits { IsSmallTree self.now }
     {
-        self.shape.serializers()
+        self.layout.serializers()
     }
 
     /// The serializer that one hangs on, None for the root.
@@ -106,7 +107,7 @@ impl Tree {
         ensures parent { Some result ≡ slice_get self.now.parents z }
         ensures limits { IsSmallTree self.now }
     {
-        self.shape.parent(z)
+        self.layout.parent(z)
     }
 
     /// The neighbours of a serializer, sites ascending and then serializers ascending.
@@ -125,7 +126,7 @@ impl Tree {
         ensures edge { result ≡ is_edge self.now u v }
         ensures limits { IsSmallTree self.now }
     {
-        self.shape.is_edge(u, v)
+        self.layout.is_edge(u, v)
     }
 
     /// The sites on v's side when the edge between u and v is cut.
@@ -136,7 +137,7 @@ impl Tree {
         ensures beyond { (k : ℕ) → bit result.bits k ≡ (nat_lt k (length self.now.seats) && beyond self.now u v (Site k)) }
         ensures limits { IsSmallTree self.now }
     {
-        sides::beyond(&self.shape, u, v)
+        sides::beyond(&self.layout, u, v)
     }
 
     /// The nodes of the path from one site to another, in order, both included.
@@ -147,7 +148,7 @@ impl Tree {
         ensures path { IfOk result (λ nodes. Path self.now (Site from) (Site to) nodes) }
         ensures limits { IsSmallTree self.now }
     {
-        let nodes = path(self.shape.allocator(), &self.shape, from, to)?;
+        let nodes = path(self.layout.allocator(), &self.layout, from, to)?;
         Ok(nodes)
     }
 }

@@ -1,8 +1,8 @@
 -- The edges of the one tree, and what a label on them is for.
-use Rattle.std.specs.Prelude.{◌≡◌, ◌≢◌, ◌⊎◌, ◌<◌, ◌≤◌, ◌-◌, ℕ, zero, suc, Bool, true, false, not, ◌&&◌, ◌||◌, ◌==◌, List, [], ◌∷◌, length, Option, Some, None, slice_get, if◌then◌else◌, unwrap_or, refl}
+use Rattle.std.specs.Prelude.{◌≡◌, ◌≢◌, ◌⊎◌, ◌<◌, ◌≤◌, ◌-◌, ℕ, zero, suc, Bool, true, false, not, ◌&&◌, ◌||◌, ◌==◌, List, [], ◌∷◌, length, Option, Some, None, slice_get, if◌then◌else◌, refl}
 use Rattle.std.proofs.Common.{sym, subst, ap, ◌∙◌, arith, inl, inr}
-use Rattle.std.proofs.lemmas.Bool.{cases_Bool, and_parts}
-use Rattle.std.proofs.lemmas.Bool.Decides.{nat_tests}
+use Rattle.std.proofs.lemmas.Bool.{and_parts, cases_Bool, eqb-true, ne_eqb, or_cases}
+use Rattle.sat_label.proofs.Truth.{or-false, same-number}
 use Rattle.sat_label.specs.declared.label.Kind.{Kind}
 use Rattle.sat_label.specs.declared.label.Kind.TheVariants as kind
 use Rattle.sat_label.specs.declared.label.Label.{Label}
@@ -20,19 +20,13 @@ use Rattle.sat_act.specs.Built.{IsBuilt}
 use Rattle.sat_act.specs.Limits.{IsDeployment}
 use Rattle.sat_act.specs.Ranges.{IsActOf}
 use Rattle.sat_act.specs.Parts.{tree_of}
+use Rattle.sat_act.proofs.Plans.{tree_from_plans}
 use Rattle.sat_serial.specs.Routes.{leads, IsNeighbour}
 use Rattle.sat_serial.proofs.Ways.{some-below, below-some}
 use Rattle.sat_world.specs.Seen.{tree_in}
 use Rattle.sat_world.specs.Orderly.{IsOnLink}
-use Rattle.sat_world.proofs.Lists.{self_num, num-apart, both-are}
+use Rattle.sat_world.proofs.Lists.{num-apart, both-are}
 use Rattle.sat_world.proofs.Fresh.{tree-one}
-
-pub same-num : (a b : ℕ) → (a == b) ≡ true → a ≡ b
-same-num a b e = grind (arith, nat_tests)
-
-or-no : (b : Bool) → (b || false) ≡ b
-or-no true = refl
-or-no false = refl
 
 or-swap : (a b : Bool) → (a || b) ≡ (b || a)
 or-swap true true = refl
@@ -49,38 +43,31 @@ turned-edge t u v = or-swap (hangs_on t u v) (hangs_on t v u)
 -- a site's edge is that to its seat
 pub site-edge : (t : TreeShape) (i z : ℕ) → is_edge t (Site i) (Serializer z) ≡ (seat_of t i == z)
 unfolding is_edge hangs_on over
-site-edge t i z = or-no ((seat_of t i == z) || false) ∙ or-no (seat_of t i == z)
+site-edge t i z = or-false ((seat_of t i == z) || false) ∙ or-false (seat_of t i == z)
 
 pub at-seat : (t : TreeShape) (i z : ℕ) → is_edge t (Site i) (Serializer z) ≡ true → seat_of t i ≡ z
-at-seat t i z e = same-num (seat_of t i) z (sym (site-edge t i z) ∙ e)
+at-seat t i z e = eqb-true (seat_of t i) z (sym (site-edge t i z) ∙ e)
 
 pub seat-edge : (t : TreeShape) (i : ℕ) → is_edge t (Serializer (seat_of t i)) (Site i) ≡ true
-seat-edge t i = turned-edge t (Serializer (seat_of t i)) (Site i) ∙ (site-edge t i (seat_of t i) ∙ self_num (seat_of t i))
+seat-edge t i = turned-edge t (Serializer (seat_of t i)) (Site i) ∙ (site-edge t i (seat_of t i) ∙ same-number (seat_of t i))
 
 pub seat-neighbour : (t : TreeShape) (i : ℕ) → i < length t.seats → IsNeighbour t (seat_of t i) (Site i)
 seat-neighbour t i lt = record { node = lt; edge = seat-edge t i }
 
 parent-edge : (t : TreeShape) (y z : ℕ) (o : Option ℕ) → parent_of t.parents y ≡ o → has ◌==◌ (elim o [ None ↦ [] | Some p ↦ p ∷ [] ]) z ≡ true → parent_of t.parents y ≡ Some z
 parent-edge t y z None e f = absurd (cc)
-parent-edge t y z (Some p) e f = e ∙ ap (λ (n : ℕ). Some n) (same-num p z (sym (or-no (p == z)) ∙ f))
+parent-edge t y z (Some p) e f = e ∙ ap (λ (n : ℕ). Some n) (eqb-true p z (sym (or-false (p == z)) ∙ f))
 
 hangs-parent : (t : TreeShape) (y z : ℕ) → hangs_on t (Serializer y) (Serializer z) ≡ true → parent_of t.parents y ≡ Some z
 unfolding hangs_on over
 hangs-parent t y z e = parent-edge t y z (parent_of t.parents y) refl e
 
-or-either : (a b : Bool) → (a || b) ≡ true → (a ≡ true) ⊎ (b ≡ true)
-or-either true b e = inl refl
-or-either false b e = inr e
-
 edge-parents : (t : TreeShape) (y z : ℕ) → is_edge t (Serializer y) (Serializer z) ≡ true → (parent_of t.parents y ≡ Some z) ⊎ (parent_of t.parents z ≡ Some y)
 unfolding is_edge
-edge-parents t y z e = elim (or-either (hangs_on t (Serializer y) (Serializer z)) (hangs_on t (Serializer z) (Serializer y)) e) [
+edge-parents t y z e = elim (or_cases (hangs_on t (Serializer y) (Serializer z)) (hangs_on t (Serializer z) (Serializer y)) e) [
   | inl f ↦ inl (hangs-parent t y z f)
   | inr f ↦ inr (hangs-parent t z y f)
 ]
-
-not-same : (y z : ℕ) → y ≢ z → (y == z) ≡ false
-not-same y z ne = grind (arith, nat_tests)
 
 -- the two ends of an edge between serializers differ, and both are serializers of the tree
 pub record AreApart (t : TreeShape) (y z : ℕ) : Type 0 where
@@ -90,8 +77,8 @@ pub record AreApart (t : TreeShape) (y z : ℕ) : Type 0 where
 
 pub apart : (t : TreeShape) (y z : ℕ) → IsTree t → is_edge t (Serializer y) (Serializer z) ≡ true → AreApart t y z
 apart t y z k e = elim (edge-parents t y z e) [
-  | inl f ↦ let d : z < y = k.down y z f in let i : y < length t.parents = k.inner y z f in record { apart = not-same y z (λ s. absurd (omega arith)); first = i; second = omega arith }
-  | inr f ↦ let d : y < z = k.down z y f in let i : z < length t.parents = k.inner z y f in record { apart = not-same y z (λ s. absurd (omega arith)); first = omega arith; second = i }
+  | inl f ↦ let d : z < y = k.down y z f in let i : y < length t.parents = k.inner y z f in record { apart = ne_eqb y z (λ s. absurd (omega arith)); first = i; second = omega arith }
+  | inr f ↦ let d : y < z = k.down z y f in let i : z < length t.parents = k.inner z y f in record { apart = ne_eqb y z (λ s. absurd (omega arith)); first = omega arith; second = i }
 ]
 
 -- ---- the built tree
@@ -110,8 +97,7 @@ one-plan ps p e t same low is = go (e - 1) refl
     go (suc n) w = absurd (let f : None ≡ Some t = sym ((λ i. elim (slice_get (same i) (w i)) [ None ↦ None | Some q ↦ elim q [ plan.Stamp ↦ None | plan.Tree u ↦ Some u ] ])) ∙ is in cc)
 
 pub first-epoch : (d : Deployed) (e : ℕ) (t : TreeShape) → IsBuilt d → 1 ≤ e → tree_of d e ≡ Some t → e ≡ 1
-unfolding tree_of
-first-epoch d e t b low is = one-plan d.plans (plan.Tree b.tree) e t b.plans low is
+first-epoch d e t b low is = one-plan d.plans (plan.Tree b.tree) e t b.plans low (sym (tree_from_plans d e low) ∙ is)
 
 -- a hop over an edge of the tree
 pub record IsHop (d : Deployed) (e : ℕ) (u : NodeId) (z : ℕ) : Type 0 where
@@ -186,7 +172,7 @@ unfolding leads
 comes-for a t z j l e f =
     let s : (k : ℕ) × (k < a.sites) × ((is_for a l k && beyond t (Serializer z) (Site j) (Site k)) ≡ true) = some-below (λ k. is_for a l k && beyond t (Serializer z) (Site j) (Site k)) a.sites f in
     let p : (is_for a l s.0 ≡ true) × (beyond t (Serializer z) (Site j) (Site s.0) ≡ true) = and_parts (is_for a l s.0) (beyond t (Serializer z) (Site j) (Site s.0)) s.2 in
-    let q : s.0 ≡ j = sym (same-num j s.0 (sym (beyond-in t z j s.0 e) ∙ p.1)) in
+    let q : s.0 ≡ j = sym (eqb-true j s.0 (sym (beyond-in t z j s.0 e) ∙ p.1)) in
     subst (λ (k : ℕ). is_for a l k ≡ true) q p.0
 
 -- and not the site's own

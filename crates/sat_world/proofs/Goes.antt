@@ -1,6 +1,7 @@
 -- What the code does in an act is the step of the machine, and so the answer and the entry of the history.
 use Rattle.std.specs.Prelude.{◌≡◌, ◌<◌, ℕ, Bool, false, List, [], ◌∷◌, set, Some, None, slice_get, if◌then◌else◌, refl}
 use Rattle.std.proofs.Common.{sym, subst, ap, ◌∙◌, inl}
+use Rattle.sat_label.proofs.Truth.{same-number}
 use Rattle.sat_label.specs.declared.label.Label.{Label}
 use Rattle.sat_label.specs.declared.node.NodeId.{NodeId}
 use Rattle.sat_label.specs.declared.node.NodeId.TheVariants.{Site, Serializer}
@@ -33,7 +34,6 @@ use Rattle.sat_world.specs.Seen.{WorldSeen, tree_in}
 use Rattle.sat_world.specs.Acts.{Acts, ticks, clocks, writes, reads, gathers, emits, finds_none, finds_nothing, hops_up, hops_on, turns, brings_none, brings}
 use Rattle.sat_world.specs.Orderly.{IsOrderly}
 use Rattle.sat_world.specs.Stands.{Stands, StandsFor}
-use Rattle.sat_world.proofs.Lists.{self_num}
 use Rattle.sat_world.proofs.Built.{in-range}
 use Rattle.sat_world.proofs.Edges.{at-seat, IsHop, is-hop, next-neighbour, seat-neighbour, all-seated}
 use Rattle.sat_world.proofs.Steps.{Steps, tick-steps, gather-steps, clock-steps, write-steps, read-steps}
@@ -44,7 +44,7 @@ abbrev AllFit : Deployed → WorldState → Act → Type 0
 AllFit d s a = (i : ℕ) (input : SiteInput) → world_given d s a i ≡ Some input → IsFit d i (s.sites i) input
 
 here-given : (j : ℕ) (input : SiteInput) → given_at j j input ≡ Some input
-here-given j input = ap (λ (b : Bool). if b then Some input else None) (self_num j)
+here-given j input = ap (λ (b : Bool). if b then Some input else None) (same-number j)
 
 at-first : (d : Deployed) (e : ℕ) (u : NodeId) (z : ℕ) (r : Answer) (s : WorldState) (v : WorldSeen) → IsHop d e u z → (IsHop d 1 u z → Steps d s (act.Hop 1 u z) r v) → Steps d s (act.Hop e u z) r v
 at-first d e u z r s v p f = subst (λ (n : ℕ). Steps d s (act.Hop n u z) r v) (sym p.epoch) (f (record { epoch = refl; node = p.node; edge = p.edge; within = p.within }))

@@ -4,6 +4,7 @@ use Rattle.std.proofs.Common.{sym, subst, ap, ◌∙◌, inl, inr}
 use Rattle.std.specs.Option.{option_to_list}
 use Rattle.std.proofs.lemmas.Bool.{cases_Bool}
 use Rattle.std.proofs.lemmas.List.{append-nil}
+use Rattle.sat_label.proofs.Truth.{same-number}
 use Rattle.sat_label.specs.declared.label.Label.{Label}
 use Rattle.sat_label.specs.declared.node.NodeId.{NodeId}
 use Rattle.sat_label.specs.declared.node.NodeId.TheVariants.{Site, Serializer}
@@ -20,7 +21,7 @@ use Rattle.sat_act.specs.declared.answer.Refusal.{Refusal}
 use Rattle.sat_act.specs.declared.answer.Refusal.TheVariants as why
 use Rattle.sat_act.specs.Deployed.{Deployed}
 use Rattle.sat_act.specs.Built.{IsBuilt}
-use Rattle.sat_act.specs.Answers.{unless, turned}
+use Rattle.sat_act.specs.Answers.{turned, refused_if}
 use Rattle.sat_act.specs.Parts.{Handling, tree_of, seat_in, goes_beyond, is_update}
 use Rattle.sat_machine.specs.State.{SiteState}
 use Rattle.sat_machine.specs.Input.{SiteInput}
@@ -31,7 +32,7 @@ use Rattle.sat_machine.specs.Reply.{site_answer}
 use Rattle.sat_machine.specs.Replay.{given_at}
 use Rattle.sat_machine.specs.World.{WorldState, world_given, world_answer, handled_by, front_at, hop_by, nodes_for}
 use Rattle.sat_serial.specs.Routes.{leads, goes, IsNeighbour}
-use Rattle.sat_serial.specs.Outboxes.{SerializerSeen, outbox, handled, shipped}
+use Rattle.sat_serial.specs.Outboxes.{SerializerSeen, outbox, after_handle, after_ship}
 use Rattle.sat_site.specs.Seen.{SiteSeen}
 use Rattle.sat_site.specs.Stands.{interest_of}
 use Rattle.sat_site.specs.Gives.{IsSent, HasTarget}
@@ -39,10 +40,10 @@ use Rattle.sat_world.specs.Seen.{WorldSeen, HasSite, HasSerializer, HasOutgoing,
 use Rattle.sat_world.specs.Acts.{StepsAt, HandsAt, ShipsAt, TakesAt, IsNumber, IsInLane}
 use Rattle.sat_world.specs.Orderly.{IsPlaced, IsOrderly}
 use Rattle.sat_world.specs.Stands.{Stands}
-use Rattle.sat_world.proofs.Lists.{self_num, num-apart, set-cases, set-there, both-are}
+use Rattle.sat_world.proofs.Lists.{num-apart, set-cases, set-there}
 use Rattle.sat_world.proofs.Fresh.{tree-one}
 use Rattle.sat_world.proofs.Targets.{leads-is, goes-is, routes-are}
-use Rattle.sat_world.proofs.Edges.{at-seat, apart, AreApart, is-tree, IsHop, next-neighbour, stays}
+use Rattle.sat_world.proofs.Edges.{at-seat, apart, is-tree, IsHop, next-neighbour, stays}
 use Rattle.sat_world.proofs.Kept.{outbox-handled, outbox-shipped, leaving-on}
 use Rattle.sat_world.proofs.Steps.{Steps, moves, next-stands, site-next, sites-same, told-by, local-steps, quiet-steps}
 
@@ -125,7 +126,7 @@ module _ (w : WorldSeen) (s : WorldState) (i : ℕ) (ls : List Label) (ys : List
       none q = stays (interest_of D) (tree_in D) i z l (λ n lt f. subst (λ (x : Shape). HasTarget x l → ⊥) shape q (n, lt, f))
 
       form : (b : Bool) → leads (interest_of D) (tree_in D) (Site i) (Serializer z) l ≡ b → ((i == i) && goes_beyond D (tree_in D) (Site i) (Serializer z) l) ≡ b
-      form b e = ap (λ (c : Bool). c && goes_beyond D (tree_in D) (Site i) (Serializer z) l) (self_num i) ∙ (sym (leads-is D (tree_in D) (Site i) (Serializer z) l) ∙ e)
+      form b e = ap (λ (c : Bool). c && goes_beyond D (tree_in D) (Site i) (Serializer z) l) (same-number i) ∙ (sym (leads-is D (tree_in D) (Site i) (Serializer z) l) ∙ e)
 
       here : (o : Option Label) → IsSent g.before.shape (ans.Emitted l) o → ls ++ option_to_list o ≡ moves D (sending 1 i l) (Site i) (Serializer z) (s.links 1 (Site i) (Serializer z))
       here None q = ap (λ (ms : List Label). ms ++ []) (st.up i ls h) ∙ ap (λ (b : Bool). link_by false b l (s.links 1 (Site i) (Serializer z))) (sym (form false (none q)))
@@ -158,7 +159,7 @@ abbrev hopping : NodeId → ℕ → Label → Option Handling
 hopping u z l = Some (record { epoch = 1; node = Serializer z; from = Some u; label = l })
 
 abbrev hop_form : Deployed → NodeId → ℕ → Bool → Option TreeShape → Option Label → Answer
-hop_form d u z b t o = unless b why.Dead (elim t [ None ↦ ans.Refused why.Empty | Some t ↦ hop_by d t u z o ])
+hop_form d u z b t o = refused_if b why.Dead (elim t [ None ↦ ans.Refused why.Empty | Some t ↦ hop_by d t u z o ])
 
 hop-answer : (d : Deployed) (s : WorldState) (u : NodeId) (z : ℕ) (o : Option Label) → IsBuilt d → s.dead 1 z ≡ false → slice_get (s.links 1 u (Serializer z)) 0 ≡ o → hop_by d (tree_in d) u z o ≡ world_answer d s (act.Hop 1 u z)
 unfolding world_answer
@@ -194,7 +195,7 @@ hop-hopped w s u z l nodes ts us out k st g e up down = record {
 
 -- what a serializer that handed a label on has for its neighbours
 handed-box : (w : WorldSeen) (s : WorldState) (u : NodeId) (z : ℕ) (l : Label) (nodes : List NodeId) (ts : List SerializerSeen) (v : NodeId) → IsOrderly w → Stands w s → (g : HandsAt w.serializers z w.interest u l nodes ts) → IsNeighbour (tree_in w.deployment) z v →
-    outbox (handled g.before w.interest u l) v ≡ (if not (node_eq u v) && goes_beyond w.deployment (tree_in w.deployment) (Serializer z) v l then s.links 1 (Serializer z) v ++ l ∷ [] else s.links 1 (Serializer z) v)
+    outbox (after_handle g.before w.interest u l) v ≡ (if not (node_eq u v) && goes_beyond w.deployment (tree_in w.deployment) (Serializer z) v l then s.links 1 (Serializer z) v ++ l ∷ [] else s.links 1 (Serializer z) v)
 handed-box w s u z l nodes ts v k st g nb =
     outbox-handled (tree_in w.deployment) z g.before w.interest u v l (k.placed z g.before g.at) g.limits nb ∙
     ((λ i. if goes (k.interest i) (tree_in w.deployment) z u l v then st.down z g.before v g.at nb i ++ l ∷ [] else st.down z g.before v g.at nb i) ∙
@@ -213,26 +214,26 @@ module _ (w : WorldSeen) (s : WorldState) (z : ℕ) (l : Label) (nodes : List No
   ]
     where
       at-end : (z == seat_of T i) ≡ true
-      at-end = ap (λ (n : ℕ). z == n) (at-seat T i z p.edge) ∙ self_num z
+      at-end = ap (λ (n : ℕ). z == n) (at-seat T i z p.edge) ∙ same-number z
 
       test : ((z == seat_of T i) && (i == i)) ≡ true
-      test = (λ j. at-end j && self_num i j)
+      test = (λ j. at-end j && same-number i j)
 
       here : ls ≡ moves w.deployment (hopping (Site i) z l) (Site i) (Serializer (seat_of T i)) (s.links 1 (Site i) (Serializer (seat_of T i)))
       here = ap (λ (ms : List Label). drop 1 ms) (st.up i (l ∷ ls) h) ∙ sym (link-gives ((z == seat_of T i) && (i == i)) false l (s.links 1 (Site i) (Serializer (seat_of T i))) refl ∙ same-if ((z == seat_of T i) && (i == i)) _ _ test)
 
   up-down : (i : ℕ) (g : HandsAt w.serializers z w.interest (Site i) l nodes ts) → (y : ℕ) (q : SerializerSeen) (v : NodeId) → slice_get ts y ≡ Some q → IsNeighbour T y v →
       outbox q v ≡ moves w.deployment (hopping (Site i) z l) (Serializer y) v (s.links 1 (Serializer y) v)
-  up-down i g y q v at nb = elim (set-cases w.serializers z y (handled g.before w.interest (Site i) l) q (subst (λ (ss : List SerializerSeen). slice_get ss y ≡ Some q) g.rest at)) [
+  up-down i g y q v at nb = elim (set-cases w.serializers z y (after_handle g.before w.interest (Site i) l) q (subst (λ (ss : List SerializerSeen). slice_get ss y ≡ Some q) g.rest at)) [
     | inl u ↦ sym (ap (λ (q : SerializerSeen). outbox q v) u.1) ∙ (here (subst (λ (y : ℕ). IsNeighbour T y v) (sym u.0) nb) ∙ (λ j. moves w.deployment (hopping (Site i) z l) (Serializer (u.0 j)) v (s.links 1 (Serializer (u.0 j)) v)))
     | inr u ↦ st.down y q v u.1 nb ∙ sym (link-still (node_eq (Serializer z) v && false) ((z == y) && (not (node_eq (Site i) v) && goes_beyond w.deployment T (Serializer y) v l)) l (s.links 1 (Serializer y) v) (and-no (node_eq (Serializer z) v)) (ap (λ (b : Bool). b && (not (node_eq (Site i) v) && goes_beyond w.deployment T (Serializer y) v l)) u.0))
   ]
     where
-      here : IsNeighbour T z v → outbox (handled g.before w.interest (Site i) l) v ≡ moves w.deployment (hopping (Site i) z l) (Serializer z) v (s.links 1 (Serializer z) v)
+      here : IsNeighbour T z v → outbox (after_handle g.before w.interest (Site i) l) v ≡ moves w.deployment (hopping (Site i) z l) (Serializer z) v (s.links 1 (Serializer z) v)
       here nb =
           handed-box w s (Site i) z l nodes ts v k st g nb ∙
           sym (link-gets (node_eq (Serializer z) v && false) ((z == z) && (not (node_eq (Site i) v) && goes_beyond w.deployment T (Serializer z) v l)) l (s.links 1 (Serializer z) v) (and-no (node_eq (Serializer z) v)) ∙
-          ap (λ (b : Bool). if b && (not (node_eq (Site i) v) && goes_beyond w.deployment T (Serializer z) v l) then s.links 1 (Serializer z) v ++ l ∷ [] else s.links 1 (Serializer z) v) (self_num z))
+          ap (λ (b : Bool). if b && (not (node_eq (Site i) v) && goes_beyond w.deployment T (Serializer z) v l) then s.links 1 (Serializer z) v ++ l ∷ [] else s.links 1 (Serializer z) v) (same-number z))
 
   pub hop-up-steps : (i : ℕ) (ls : List Label) → HasOutgoing w i (l ∷ ls) → HandsAt w.serializers z w.interest (Site i) l nodes ts → IsHop w.deployment 1 (Site i) z → Steps w.deployment s (act.Hop 1 (Site i) z) (ans.Hopped l nodes) (record w { serializers = ts; outgoing = set w.outgoing i ls })
   hop-up-steps i ls h g p =
@@ -246,9 +247,9 @@ module _ (w : WorldSeen) (s : WorldState) (z : ℕ) (l : Label) (nodes : List No
 
   on-down : (y : ℕ) (us : List SerializerSeen) (g : HandsAt w.serializers z w.interest (Serializer y) l nodes ts) (f : ShipsAt ts y (Serializer z) us) → (y == z) ≡ false → (x : ℕ) (q : SerializerSeen) (v : NodeId) → slice_get us x ≡ Some q → IsNeighbour T x v →
       outbox q v ≡ moves w.deployment (hopping (Serializer y) z l) (Serializer x) v (s.links 1 (Serializer x) v)
-  on-down y us g f ne x q v at nb = elim (set-cases ts y x (shipped f.before (Serializer z)) q (subst (λ (ss : List SerializerSeen). slice_get ss x ≡ Some q) f.rest at)) [
+  on-down y us g f ne x q v at nb = elim (set-cases ts y x (after_ship f.before (Serializer z)) q (subst (λ (ss : List SerializerSeen). slice_get ss x ≡ Some q) f.rest at)) [
     | inl u ↦ sym (ap (λ (q : SerializerSeen). outbox q v) u.1) ∙ (ships (subst (λ (x : ℕ). IsNeighbour T x v) (sym u.0) nb) ∙ (λ j. moves w.deployment (hopping (Serializer y) z l) (Serializer (u.0 j)) v (s.links 1 (Serializer (u.0 j)) v)))
-    | inr u ↦ elim (set-cases w.serializers z x (handled g.before w.interest (Serializer y) l) q (subst (λ (ss : List SerializerSeen). slice_get ss x ≡ Some q) g.rest u.1)) [
+    | inr u ↦ elim (set-cases w.serializers z x (after_handle g.before w.interest (Serializer y) l) q (subst (λ (ss : List SerializerSeen). slice_get ss x ≡ Some q) g.rest u.1)) [
       | inl t ↦ sym (ap (λ (q : SerializerSeen). outbox q v) t.1) ∙ (hands (subst (λ (x : ℕ). IsNeighbour T x v) (sym t.0) nb) ∙ (λ j. moves w.deployment (hopping (Serializer y) z l) (Serializer (t.0 j)) v (s.links 1 (Serializer (t.0 j)) v)))
       | inr t ↦ st.down x q v t.1 nb ∙ sym (link-still (node_eq (Serializer z) v && (y == x)) ((z == x) && (not (node_eq (Serializer y) v) && goes_beyond w.deployment T (Serializer x) v l)) l (s.links 1 (Serializer x) v)
           (ap (λ (b : Bool). node_eq (Serializer z) v && b) u.0 ∙ and-no (node_eq (Serializer z) v)) (ap (λ (b : Bool). b && (not (node_eq (Serializer y) v) && goes_beyond w.deployment T (Serializer x) v l)) t.0))
@@ -256,24 +257,24 @@ module _ (w : WorldSeen) (s : WorldState) (z : ℕ) (l : Label) (nodes : List No
   ]
     where
       old : slice_get w.serializers y ≡ Some f.before
-      old = sym (set-there w.serializers z y (handled g.before w.interest (Serializer y) l) (num-apart y z ne)) ∙ subst (λ (ss : List SerializerSeen). slice_get ss y ≡ Some f.before) g.rest f.at
+      old = sym (set-there w.serializers z y (after_handle g.before w.interest (Serializer y) l) (num-apart y z ne)) ∙ subst (λ (ss : List SerializerSeen). slice_get ss y ≡ Some f.before) g.rest f.at
 
-      ships : IsNeighbour T y v → outbox (shipped f.before (Serializer z)) v ≡ moves w.deployment (hopping (Serializer y) z l) (Serializer y) v (s.links 1 (Serializer y) v)
+      ships : IsNeighbour T y v → outbox (after_ship f.before (Serializer z)) v ≡ moves w.deployment (hopping (Serializer y) z l) (Serializer y) v (s.links 1 (Serializer y) v)
       ships nb =
           outbox-shipped f.before (Serializer z) v ∙
           (ap (λ (ms : List Label). if node_eq (Serializer z) v then drop 1 ms else ms) (st.down y f.before v old nb) ∙
           sym (link-gives (node_eq (Serializer z) v && (y == y)) ((z == y) && (not (node_eq (Serializer y) v) && goes_beyond w.deployment T (Serializer y) v l)) l (s.links 1 (Serializer y) v) (ap (λ (b : Bool). b && (not (node_eq (Serializer y) v) && goes_beyond w.deployment T (Serializer y) v l)) (num-apart y z ne)) ∙
-          ap (λ (b : Bool). if b then drop 1 (s.links 1 (Serializer y) v) else s.links 1 (Serializer y) v) (ap (λ (b : Bool). node_eq (Serializer z) v && b) (self_num y) ∙ and-yes (node_eq (Serializer z) v))))
+          ap (λ (b : Bool). if b then drop 1 (s.links 1 (Serializer y) v) else s.links 1 (Serializer y) v) (ap (λ (b : Bool). node_eq (Serializer z) v && b) (same-number y) ∙ and-yes (node_eq (Serializer z) v))))
         where
           and-yes : (b : Bool) → (b && true) ≡ b
           and-yes true = refl
           and-yes false = refl
 
-      hands : IsNeighbour T z v → outbox (handled g.before w.interest (Serializer y) l) v ≡ moves w.deployment (hopping (Serializer y) z l) (Serializer z) v (s.links 1 (Serializer z) v)
+      hands : IsNeighbour T z v → outbox (after_handle g.before w.interest (Serializer y) l) v ≡ moves w.deployment (hopping (Serializer y) z l) (Serializer z) v (s.links 1 (Serializer z) v)
       hands nb =
           handed-box w s (Serializer y) z l nodes ts v k st g nb ∙
           sym (link-gets (node_eq (Serializer z) v && (y == z)) ((z == z) && (not (node_eq (Serializer y) v) && goes_beyond w.deployment T (Serializer z) v l)) l (s.links 1 (Serializer z) v) (ap (λ (b : Bool). node_eq (Serializer z) v && b) ne ∙ and-no (node_eq (Serializer z) v)) ∙
-          ap (λ (b : Bool). if b && (not (node_eq (Serializer y) v) && goes_beyond w.deployment T (Serializer z) v l) then s.links 1 (Serializer z) v ++ l ∷ [] else s.links 1 (Serializer z) v) (self_num z))
+          ap (λ (b : Bool). if b && (not (node_eq (Serializer y) v) && goes_beyond w.deployment T (Serializer z) v l) then s.links 1 (Serializer z) v ++ l ∷ [] else s.links 1 (Serializer z) v) (same-number z))
 
   pub hop-on-steps : (y : ℕ) (us : List SerializerSeen) (q : SerializerSeen) → HasSerializer w y q → slice_get (outbox q (Serializer z)) 0 ≡ Some l → HandsAt w.serializers z w.interest (Serializer y) l nodes ts → ShipsAt ts y (Serializer z) us → IsHop w.deployment 1 (Serializer y) z →
       Steps w.deployment s (act.Hop 1 (Serializer y) z) (ans.Hopped l nodes) (record w { serializers = us })
@@ -304,7 +305,7 @@ data TurnTold (r : Answer) : Type 0 where
   shows : (l : Label) → r ≡ ans.Shown l → TurnTold r
   takes : (l : Label) → r ≡ ans.Took l → TurnTold r
 
-turn-forms : (b : Bool) (waiting : List Label) (o : Option Label) → TurnTold (unless b why.StampOrder (elim o [ None ↦ ans.Refused why.Empty | Some l ↦ turned waiting l ]))
+turn-forms : (b : Bool) (waiting : List Label) (o : Option Label) → TurnTold (refused_if b why.StampOrder (elim o [ None ↦ ans.Refused why.Empty | Some l ↦ turned waiting l ]))
 turn-forms true waiting o = refuses why.StampOrder refl
 turn-forms false waiting None = refuses why.Empty refl
 turn-forms false waiting (Some l) = go (is_update l.kind) (has label_eq waiting l)
@@ -353,13 +354,13 @@ module _ (w : WorldSeen) (s : WorldState) (j : ℕ) (q : SerializerSeen) (o : Op
       go : ((j == m) ≡ true) ⊎ ((j == m) ≡ false) → ((j == m) && (not (S == seat_of (tree_in w.deployment) m) && goes_beyond w.deployment (tree_in w.deployment) (Site m) (Serializer (seat_of (tree_in w.deployment) m)) l)) ≡ false
       go (inr e) = ap (λ (b : Bool). b && (not (S == seat_of (tree_in w.deployment) m) && goes_beyond w.deployment (tree_in w.deployment) (Site m) (Serializer (seat_of (tree_in w.deployment) m)) l)) e
       go (inl e) =
-          let same : j ≡ m = Rattle.sat_world.proofs.Edges.same-num j m e in
-          let seat : (S == seat_of (tree_in w.deployment) m) ≡ true = ap (λ (n : ℕ). S == seat_of (tree_in w.deployment) n) (sym same) ∙ self_num S in
+          let same : j ≡ m = Rattle.std.proofs.lemmas.Bool.eqb-true j m e in
+          let seat : (S == seat_of (tree_in w.deployment) m) ≡ true = ap (λ (n : ℕ). S == seat_of (tree_in w.deployment) n) (sym same) ∙ same-number S in
           (λ i. e i && (not (seat i) && goes_beyond w.deployment (tree_in w.deployment) (Site m) (Serializer (seat_of (tree_in w.deployment) m)) l))
 
   taken-down : (l : Label) → ShipsAt w.serializers S (Site j) ts → (z : ℕ) (p : SerializerSeen) (v : NodeId) → slice_get ts z ≡ Some p → IsNeighbour (tree_in w.deployment) z v →
       outbox p v ≡ moves w.deployment (taking 1 (Some (Serializer S)) j l) (Serializer z) v (s.links 1 (Serializer z) v)
-  taken-down l f z p v h n = elim (set-cases w.serializers S z (shipped f.before (Site j)) p (subst (λ (ss : List SerializerSeen). slice_get ss z ≡ Some p) f.rest h)) [
+  taken-down l f z p v h n = elim (set-cases w.serializers S z (after_ship f.before (Site j)) p (subst (λ (ss : List SerializerSeen). slice_get ss z ≡ Some p) f.rest h)) [
     | inl u ↦ sym (ap (λ (p : SerializerSeen). outbox p v) u.1) ∙ (here (subst (λ (z : ℕ). IsNeighbour (tree_in w.deployment) z v) (sym u.0) n) ∙ (λ i. moves w.deployment (taking 1 (Some (Serializer S)) j l) (Serializer (u.0 i)) v (s.links 1 (Serializer (u.0 i)) v)))
     | inr u ↦ st.down z p v u.1 n ∙ sym (link-still (node_eq (Site j) v && (S == z)) false l (s.links 1 (Serializer z) v) (ap (λ (b : Bool). node_eq (Site j) v && b) u.0 ∙ and-no (node_eq (Site j) v)) refl)
   ]
@@ -368,12 +369,12 @@ module _ (w : WorldSeen) (s : WorldState) (j : ℕ) (q : SerializerSeen) (o : Op
       and-yes true = refl
       and-yes false = refl
 
-      here : IsNeighbour (tree_in w.deployment) S v → outbox (shipped f.before (Site j)) v ≡ moves w.deployment (taking 1 (Some (Serializer S)) j l) (Serializer S) v (s.links 1 (Serializer S) v)
+      here : IsNeighbour (tree_in w.deployment) S v → outbox (after_ship f.before (Site j)) v ≡ moves w.deployment (taking 1 (Some (Serializer S)) j l) (Serializer S) v (s.links 1 (Serializer S) v)
       here n =
           outbox-shipped f.before (Site j) v ∙
           (ap (λ (ms : List Label). if node_eq (Site j) v then drop 1 ms else ms) (st.down S f.before v f.at n) ∙
           sym (link-gives (node_eq (Site j) v && (S == S)) false l (s.links 1 (Serializer S) v) refl ∙
-          ap (λ (b : Bool). if b then drop 1 (s.links 1 (Serializer S) v) else s.links 1 (Serializer S) v) (ap (λ (b : Bool). node_eq (Site j) v && b) (self_num S) ∙ and-yes (node_eq (Site j) v))))
+          ap (λ (b : Bool). if b then drop 1 (s.links 1 (Serializer S) v) else s.links 1 (Serializer S) v) (ap (λ (b : Bool). node_eq (Site j) v && b) (same-number S) ∙ and-yes (node_eq (Site j) v))))
 
   handling-is : (l : Label) (x : SiteSeen) → slice_get w.sites j ≡ Some x → taking (s.sites j).views.view (seat_in w.deployment (s.sites j).views.view j) j l ≡ taking 1 (Some (Serializer S)) j l
   handling-is l x h = ap (λ (v : ℕ). taking v (seat_in w.deployment v j) j l) (st.sites j x h).view ∙ ap (λ (z : Option NodeId). taking 1 z j l) (seat-is w.deployment j k.built)

@@ -21,7 +21,7 @@ use Rattle.sat_act.specs.Deployed.{Deployed}
 use Rattle.sat_act.specs.Ranges.{IsActOf}
 use Rattle.sat_machine.specs.Input.{SiteInput}
 use Rattle.sat_serial.specs.Routes.{leads, goes, IsNeighbour}
-use Rattle.sat_serial.specs.Outboxes.{SerializerSeen, IsSerializer, outbox, handled, shipped}
+use Rattle.sat_serial.specs.Outboxes.{SerializerSeen, IsSerializer, outbox, after_handle, after_ship}
 use Rattle.sat_serial.proofs.Boxes.{each-outbox}
 use Rattle.sat_site.specs.Seen.{SiteSeen}
 use Rattle.sat_site.specs.Stands.{interest_of}
@@ -47,12 +47,12 @@ push-on a t u v ls l on o = λ n m at. elim (push-cases ls l m n at) [ inl w ↦
 
 -- a serializer of the tree that handed a label on
 pub outbox-handled : (t : TreeShape) (z : ℕ) (s : SerializerSeen) (a : Interested) (u v : NodeId) (l : Label) → IsPlaced t z s → IsSerializer s → IsNeighbour t z v →
-    outbox (handled s a u l) v ≡ (if goes a t z u l v then outbox s v ++ l ∷ [] else outbox s v)
+    outbox (after_handle s a u l) v ≡ (if goes a t z u l v then outbox s v ++ l ∷ [] else outbox s v)
 outbox-handled t z s a u v l p lim n =
     let m : IsNeighbour s.tree s.number v = subst (λ (x : TreeShape). IsNeighbour x s.number v) (sym p.tree) (subst (λ (y : ℕ). IsNeighbour t y v) (sym p.number) n) in
     each-outbox.handles s a u v l lim m ∙ (λ i. if goes a (p.tree i) (p.number i) u l v then outbox s v ++ l ∷ [] else outbox s v)
 
-pub outbox-shipped : (s : SerializerSeen) (to v : NodeId) → outbox (shipped s to) v ≡ (if node_eq to v then drop 1 (outbox s v) else outbox s v)
+pub outbox-shipped : (s : SerializerSeen) (to v : NodeId) → outbox (after_ship s to) v ≡ (if node_eq to v then drop 1 (outbox s v) else outbox s v)
 outbox-shipped s to v = each-outbox.ships s to v
 
 -- ---- each part
@@ -176,7 +176,7 @@ hands-kept w z u l nodes ts k h lab upd =
     let t : TreeShape = tree_in w.deployment in
     let p : IsPlaced t z h.before = k.placed z h.before h.at in
     subst (λ (ts : List SerializerSeen). IsOrderly (record w { serializers = ts })) (sym h.rest)
-    (serializer-kept w z (handled h.before w.interest u l) k (record { tree = p.tree; number = p.number; alive = p.alive })
+    (serializer-kept w z (after_handle h.before w.interest u l) k (record { tree = p.tree; number = p.number; alive = p.alive })
     (λ v nb. subst (λ (ls : List Label). AreOnLink w.interest t (Serializer z) v ls) (sym (outbox-handled t z h.before w.interest u v l p h.limits nb))
     (if-on w.interest t (Serializer z) v (goes w.interest t z u l v) (outbox h.before v ++ l ∷ []) (outbox h.before v)
     (λ e. push-on w.interest t (Serializer z) v (outbox h.before v) l (k.down z h.before v h.at nb) (record { label = lab; update = upd; target = (and_parts (not (node_eq u v)) (leads w.interest t (Serializer z) v l) e).1 }))
@@ -187,7 +187,7 @@ ships-kept w z to ts k h =
     let t : TreeShape = tree_in w.deployment in
     let p : IsPlaced t z h.before = k.placed z h.before h.at in
     subst (λ (ts : List SerializerSeen). IsOrderly (record w { serializers = ts })) (sym h.rest)
-    (serializer-kept w z (shipped h.before to) k (record { tree = p.tree; number = p.number; alive = p.alive })
+    (serializer-kept w z (after_ship h.before to) k (record { tree = p.tree; number = p.number; alive = p.alive })
     (λ v nb. subst (λ (ls : List Label). AreOnLink w.interest t (Serializer z) v ls) (sym (outbox-shipped h.before to v))
     (if-on w.interest t (Serializer z) v (node_eq to v) (drop 1 (outbox h.before v)) (outbox h.before v)
     (λ e. drop-on w.interest t (Serializer z) v (outbox h.before v) (k.down z h.before v h.at nb))

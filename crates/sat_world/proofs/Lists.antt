@@ -3,16 +3,11 @@ use Rattle.std.specs.Prelude.{◌≡◌, ◌≢◌, ◌⊎◌, ◌<◌, ℕ, zer
 use Rattle.std.proofs.Common.{sym, subst, ap, ◌∙◌, arith, inl, inr}
 use Rattle.std.proofs.lemmas.Bool.Decides.{nat_tests}
 use Rattle.std.proofs.lemmas.Option.{slice_get_within}
+use Rattle.sat_label.proofs.Truth.{same-number}
 use Rattle.sat_laws.proofs.Labels.{some_is}
-
-pub self_num : (i : ℕ) → (i == i) ≡ true
-self_num i = grind (arith, nat_tests)
 
 pub num-apart : (i k : ℕ) → (i == k) ≡ false → (k == i) ≡ false
 num-apart i k e = grind (arith, nat_tests)
-
-pub apart-num : (i k : ℕ) → (i == k) ≡ false → i ≢ k
-apart-num i k e = λ same. let t : (i == k) ≡ true = ap (λ (n : ℕ). i == n) (sym same) ∙ self_num i in cc
 
 pub get-is : {X : Type 0} (xs : List X) (i : ℕ) (d : X) → i < length xs → slice_get xs i ≡ Some (get_or xs i d)
 get-is [] i d lt = absurd (omega arith)
@@ -41,7 +36,7 @@ set-cases {X = X} (z ∷ xs) (suc i) (suc k) x y e = elim (set-cases xs i k x y 
 
 pub set-there : {X : Type 0} (xs : List X) (i k : ℕ) (x : X) → (i == k) ≡ false → slice_get (set xs i x) k ≡ slice_get xs k
 set-there [] i k x ne = refl
-set-there (z ∷ xs) zero zero x ne = absurd (let t : (0 == 0) ≡ true = self_num 0 in cc)
+set-there (z ∷ xs) zero zero x ne = absurd (let t : (0 == 0) ≡ true = same-number 0 in cc)
 set-there (z ∷ xs) zero (suc k) x ne = refl
 set-there (z ∷ xs) (suc i) zero x ne = refl
 set-there (z ∷ xs) (suc i) (suc k) x ne = set-there xs i k x (less i k ne)

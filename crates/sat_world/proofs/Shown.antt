@@ -26,9 +26,8 @@ use Rattle.sat_machine.specs.World.{world_state}
 use Rattle.sat_machine.proofs.Worlds.{world-starts}
 use Rattle.sat_machine.proofs.Simple.{view-agrees, emission-agrees}
 use Rattle.sat_machine.proofs.Raising.{mode-agrees}
-use Rattle.sat_machine.proofs.Lanes.{payload_of}
 use Rattle.sat_machine.proofs.Pools.{pool-agrees}
-use Rattle.sat_machine.proofs.Stores.{stored, store-agrees}
+use Rattle.sat_machine.proofs.Stores.{store-agrees}
 use Rattle.sat_serial.specs.Outboxes.{SerializerSeen, fresh, outbox, box_of}
 use Rattle.sat_site.specs.Seen.{SiteSeen}
 use Rattle.sat_site.specs.Stands.{StandsSite, interest_of, payload_of as of_version}
@@ -41,6 +40,7 @@ use Rattle.sat_world.specs.Shows.{IsVersion}
 use Rattle.sat_world.specs.Stands.{Stands, StandsFor}
 use Rattle.sat_world.proofs.Lists.{push-cases, length-push, map-get}
 use Rattle.sat_world.proofs.Built.{home-is}
+use Rattle.sat_machine.specs.Parts.{valued, valued_version}
 
 -- ---- what a world shows
 
@@ -63,16 +63,16 @@ module _ (w : WorldSeen) (h : List Entry) (i : ℕ) (x : SiteSeen) (v : SiteView
 
   pub shows-waiting : IsDeployment w.deployment → v.waiting ≡ length (waiting h i)
   unfolding world_state
-  shows-waiting k = ap (λ (v : SiteView). v.waiting) (is _ _ _ (st.sites i x at)) ∙ (ap (λ (ps : List Payload). length ps) (pool-agrees w.deployment h i (is_valid w.deployment k) run) ∙ length-map (waiting h i) (payload_of h))
+  shows-waiting k = ap (λ (v : SiteView). v.waiting) (is _ _ _ (st.sites i x at)) ∙ (ap (λ (ps : List Payload). length ps) (pool-agrees w.deployment h i (is_valid w.deployment k) run) ∙ length-map (waiting h i) (valued h))
 
-none-stored : (h : List Entry) (o : Option Label) → stored h o ≡ None → o ≡ None
+none-stored : (h : List Entry) (o : Option Label) → valued_version h o ≡ None → o ≡ None
 none-stored h None e = refl
 none-stored h (Some l) e = absurd (cc)
 
-some-stored : (h : List Entry) (o : Option Label) (v : Version) → stored h o ≡ of_version (Some v) → (o ≡ Some v.label) × (value_of h v.label ≡ v.value)
+some-stored : (h : List Entry) (o : Option Label) (v : Version) → valued_version h o ≡ of_version (Some v) → (o ≡ Some v.label) × (value_of h v.label ≡ v.value)
 some-stored h None v e = absurd (cc)
 some-stored h (Some l) v e =
-    let p : payload_of h l ≡ record { label = v.label; value = v.value } = some_is _ _ e in
+    let p : valued h l ≡ record { label = v.label; value = v.value } = some_is _ _ e in
     let q : l ≡ v.label = ap (λ (p : Payload). p.label) p in
     (ap (λ (l : Label). Some l) q, sym (ap (value_of h) q) ∙ ap (λ (p : Payload). p.value) p)
 

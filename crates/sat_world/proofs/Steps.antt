@@ -3,6 +3,7 @@ use Rattle.std.specs.Prelude.{◌≡◌, ◌⊎◌, ◌<◌, ◌≤◌, ◌^◌,
 use Rattle.std.proofs.Common.{sym, subst, ap, ◌∙◌, arith, inl, inr}
 use Rattle.std.proofs.lemmas.Bool.{cases_lt}
 use Rattle.std.proofs.lemmas.Bool.Decides.{nat_tests}
+use Rattle.sat_label.proofs.Truth.{same-number}
 use Rattle.sat_label.specs.declared.label.Label.{Label}
 use Rattle.sat_label.specs.declared.label.Kind.TheVariants as kind
 use Rattle.sat_label.specs.declared.carried.Carried.{Carried}
@@ -23,8 +24,8 @@ use Rattle.sat_act.specs.declared.answer.Refusal.TheVariants as why
 use Rattle.sat_act.specs.Deployed.{Deployed}
 use Rattle.sat_act.specs.Built.{IsBuilt}
 use Rattle.sat_act.specs.Limits.{IsDeployment}
-use Rattle.sat_act.specs.Answers.{unless, at_seat, gear_of}
-use Rattle.sat_act.specs.Parts.{Handling, replicates}
+use Rattle.sat_act.specs.Answers.{at_seat, gear_of, refused_if}
+use Rattle.sat_act.specs.Parts.{Handling, replicates, is_taken, is_put}
 use Rattle.sat_machine.specs.State.{SiteState}
 use Rattle.sat_machine.specs.Input.{SiteInput}
 use Rattle.sat_machine.specs.Input as given
@@ -32,7 +33,7 @@ use Rattle.sat_machine.specs.Fits.{IsFit}
 use Rattle.sat_machine.specs.Next.{site_next}
 use Rattle.sat_machine.specs.Reply.{site_answer, write_by, read_by}
 use Rattle.sat_machine.specs.Replay.{after, given_at, given_seat}
-use Rattle.sat_machine.specs.World.{ClientState, WorldState, world_given, world_answer, world_next, link_next, handled_by, client_next, dead_next, takes, puts, clock_of, payload_from}
+use Rattle.sat_machine.specs.World.{ClientState, WorldState, world_given, world_answer, world_next, link_next, handled_by, client_next, dead_next, clock_of}
 use Rattle.sat_serial.specs.Routes.{IsNeighbour}
 use Rattle.sat_serial.specs.Outboxes.{SerializerSeen, outbox}
 use Rattle.sat_site.specs.Seen.{SiteSeen}
@@ -43,7 +44,7 @@ use Rattle.sat_world.specs.Clocks.{IsGreatest, AreClocked}
 use Rattle.sat_world.specs.Acts.{StepsAt, seen_by, clients_told}
 use Rattle.sat_world.specs.Orderly.{IsOrderly}
 use Rattle.sat_world.specs.Stands.{StandsClient, Stands}
-use Rattle.sat_world.proofs.Lists.{self_num, set-cases, set-same}
+use Rattle.sat_world.proofs.Lists.{set-cases, set-same}
 use Rattle.sat_world.proofs.Fresh.{tree-one}
 use Rattle.sat_world.proofs.Greatest.{greatest-is}
 use Rattle.sat_world.proofs.Kept.{old-site}
@@ -56,11 +57,11 @@ pub record Steps (d : Deployed) (s : WorldState) (a : Act) (r : Answer) (v : Wor
 -- ---- the links of the first epoch
 
 abbrev pub moves : Deployed → Option Handling → NodeId → NodeId → List Label → List Label
-moves d o u v ls = elim o [ None ↦ ls | Some x ↦ (if takes 1 u v x then drop 1 ls else ls) ++ (if puts d 1 (tree_in d) u v x then x.label ∷ [] else []) ]
+moves d o u v ls = elim o [ None ↦ ls | Some x ↦ (if is_taken 1 u v x then drop 1 ls else ls) ++ (if is_put d 1 (tree_in d) u v x then x.label ∷ [] else []) ]
 
 link-one : (d : Deployed) (o : Option Handling) (u v : NodeId) (ls : List Label) → IsBuilt d → link_next d o 1 u v ls ≡ moves d o u v ls
 link-one d o u v ls b =
-    ap (λ (t : Option TreeShape). elim t [ None ↦ [] | Some t ↦ elim o [ None ↦ ls | Some x ↦ (if takes 1 u v x then drop 1 ls else ls) ++ (if puts d 1 t u v x then x.label ∷ [] else []) ] ]) (tree-one d b)
+    ap (λ (t : Option TreeShape). elim t [ None ↦ [] | Some t ↦ elim o [ None ↦ ls | Some x ↦ (if is_taken 1 u v x then drop 1 ls else ls) ++ (if is_put d 1 t u v x then x.label ∷ [] else []) ] ]) (tree-one d b)
 
 -- the label that an act handled
 abbrev pub handling_of : Deployed → WorldState → Act → Answer → Option Handling
@@ -91,7 +92,7 @@ next-stands d t s a r o xs ss out cl b h sites up down dead clients = record {
 
 after-here : (d : Deployed) (i : ℕ) (s : SiteState) (input : SiteInput) (r : Answer) → site_next d i s input r ≡ after d i s (given_at i i input) r
 unfolding after
-after-here d i s input r = sym (ap (λ (b : Bool). after d i s (if b then Some input else None) r) (self_num i))
+after-here d i s input r = sym (ap (λ (b : Bool). after d i s (if b then Some input else None) r) (same-number i))
 
 after-there : (d : Deployed) (i k : ℕ) (s : SiteState) (input : SiteInput) (r : Answer) → (i == k) ≡ false → s ≡ after d k s (given_at i k input) r
 unfolding after
@@ -205,7 +206,7 @@ pub raised-clients : (cl : List Client) (C : ℕ → ClientState) (c : ℕ) (x :
     StandsClient y (record { carried = record { point = if c == n then greater_point p (C n).carried.point else (C n).carried.point; moving = (C n).carried.moving }; seat = (C n).seat })
 raised-clients cl C c x p h st n y at = elim (set-cases cl c n (record x { carried = greater_point p x.carried }) y at) [
   | inl u ↦ subst (λ (y : Client). StandsClient y (next n)) u.1 (subst (λ (n : ℕ). StandsClient (record x { carried = greater_point p x.carried }) (next n)) u.0 (record {
-    carried = ap (greater_point p) (st c x h).carried ∙ sym (ap (λ (b : Bool). if b then greater_point p (C c).carried.point else (C c).carried.point) (self_num c));
+    carried = ap (greater_point p) (st c x h).carried ∙ sym (ap (λ (b : Bool). if b then greater_point p (C c).carried.point else (C c).carried.point) (same-number c));
     seat = (st c x h).seat;
   }))
   | inr u ↦ record { carried = (st n y u.1).carried ∙ sym (ap (λ (b : Bool). if b then greater_point p (C n).carried.point else (C n).carried.point) u.0); seat = (st n y u.1).seat }
@@ -217,8 +218,8 @@ raised-clients cl C c x p h st n y at = elim (set-cases cl c n (record x { carri
 same-clients : (cl : List Client) (C : ℕ → ClientState) (c : ℕ) (x : Client) → slice_get cl c ≡ Some x → ((n : ℕ) (y : Client) → slice_get cl n ≡ Some y → StandsClient y (C n)) → (n : ℕ) (y : Client) → slice_get (set cl c x) n ≡ Some y → StandsClient y (C n)
 same-clients cl C c x h st n y at = st n y (subst (λ (xs : List Client). slice_get xs n ≡ Some y) (set-same cl c x h) at)
 
-same-unless : (b : Bool) (y : Refusal) (r q : Answer) → r ≡ q → unless b y r ≡ unless b y q
-same-unless b y r q e = ap (unless b y) e
+same-unless : (b : Bool) (y : Refusal) (r q : Answer) → r ≡ q → refused_if b y r ≡ refused_if b y q
+same-unless b y r q e = ap (refused_if b y) e
 
 most : (p t : ℕ) → 2 ^ 62 ≤ t → nat_le (2 ^ 62) (max p t) ≡ true
 most p t e = grind (arith, nat_tests)
@@ -236,8 +237,8 @@ same-write d i x p t = elim (cases_lt t (2 ^ 62)) [
   | inr more ↦ ap (write_by d i x p) (greatest-of t (2 ^ 62) more) ∙ same-unless (not (replicates d x i)) why.NotHere _ _ (spent (2 ^ 62) (omega arith) ∙ sym (spent t more))
 ]
   where
-    spent : (t : ℕ) → 2 ^ 62 ≤ t → unless (nat_le (2 ^ 62) (max p t)) why.Spent (ans.Wrote (record { point = point_at (max p t + 1) i (gear_of d x); kind = kind.Update x })) ≡ ans.Refused why.Spent
-    spent t e = ap (λ (b : Bool). unless b why.Spent (ans.Wrote (record { point = point_at (max p t + 1) i (gear_of d x); kind = kind.Update x }))) (most p t e)
+    spent : (t : ℕ) → 2 ^ 62 ≤ t → refused_if (nat_le (2 ^ 62) (max p t)) why.Spent (ans.Wrote (record { point = point_at (max p t + 1) i (gear_of d x); kind = kind.Update x })) ≡ ans.Refused why.Spent
+    spent t e = ap (λ (b : Bool). refused_if b why.Spent (ans.Wrote (record { point = point_at (max p t + 1) i (gear_of d x); kind = kind.Update x }))) (most p t e)
 
 -- what a client's site answers is what the machine answers the client
 seat-answer : (d : Deployed) (s : WorldState) (c i : ℕ) (f : ℕ → Answer) → (s.clients c).seat ≡ Some i → f i ≡ at_seat (s.clients c).seat f
@@ -255,12 +256,12 @@ data ReadTold (r : Answer) : Type 0 where
   lacks : r ≡ ans.ReadNone → ReadTold r
   shows : (l : Label) (v : List ℕ) → r ≡ ans.ReadSome l v → ReadTold r
 
-write-forms : (b c : Bool) (l : Label) → WriteTold (unless b why.NotHere (unless c why.Spent (ans.Wrote l)))
+write-forms : (b c : Bool) (l : Label) → WriteTold (refused_if b why.NotHere (refused_if c why.Spent (ans.Wrote l)))
 write-forms true c l = refuses why.NotHere refl
 write-forms false true l = refuses why.Spent refl
 write-forms false false l = wrote l refl
 
-read-forms : (b : Bool) (o : Option Payload) → ReadTold (unless b why.NotHere (elim o [ None ↦ ans.ReadNone | Some p ↦ ans.ReadSome p.label p.value ]))
+read-forms : (b : Bool) (o : Option Payload) → ReadTold (refused_if b why.NotHere (elim o [ None ↦ ans.ReadNone | Some p ↦ ans.ReadSome p.label p.value ]))
 read-forms true o = hides why.NotHere refl
 read-forms false None = lacks refl
 read-forms false (Some p) = shows p.label p.value refl

@@ -1,9 +1,9 @@
 -- The targets of a label, as the world's interest and as the deployment have them.
-use Rattle.std.specs.Prelude.{◌≡◌, ◌<◌, ℕ, zero, suc, Bool, true, false, not, ◌&&◌, ◌||◌, ◌==◌, nat_lt, List, [], ◌∷◌, map, filter, Some, None, slice_get, refl}
+use Rattle.std.specs.Prelude.{◌≡◌, ◌<◌, ℕ, zero, suc, Bool, false, not, ◌&&◌, ◌||◌, ◌==◌, nat_lt, List, [], ◌∷◌, map, filter, Some, None, slice_get, refl}
 use Rattle.std.proofs.Common.{sym, ap, ◌∙◌, arith}
 use Rattle.std.specs.List.{list_any}
-use Rattle.std.proofs.lemmas.Bool.Decides.{nat_tests}
 use Rattle.std.proofs.lemmas.List.Folds.{list_any-append}
+use Rattle.std.proofs.lemmas.Bool.{lt-ltb}
 use Rattle.sat_label.specs.declared.label.Kind.{Kind}
 use Rattle.sat_label.specs.declared.label.Kind.TheVariants as kind
 use Rattle.sat_label.specs.declared.label.Label.{Label}
@@ -30,9 +30,6 @@ pub keeps-is : (d : Deployed) (x k : ℕ) → keeps (interest_of d) x k ≡ repl
 unfolding replicates
 keeps-is d x k = keeps-in d.items x k
 
-within-all : (k n : ℕ) → k < n → nat_lt k n ≡ true
-within-all k n lt = grind (arith, nat_tests)
-
 -- the label is for the sites that are its targets
 pub is-for-target : (d : Deployed) (l : Label) (k : ℕ) → k < d.sites → is_for (interest_of d) l k ≡ is_target d l k
 unfolding is_for is_target
@@ -43,8 +40,8 @@ is-for-target d l k lt = go l.kind
         (elim j [ kind.Update x ↦ replicates d x k && not (k == l.point.site) | kind.Move j ↦ k == j | kind.Pulse ↦ not (k == l.point.site) | kind.Close e ↦ not (k == l.point.site) ])
     go (kind.Update x) = ap (λ (b : Bool). b && not (k == l.point.site)) (keeps-is d x k)
     go (kind.Move j) = refl
-    go kind.Pulse = ap (λ (b : Bool). b && not (k == l.point.site)) (within-all k d.sites lt)
-    go (kind.Close e) = ap (λ (b : Bool). b && not (k == l.point.site)) (within-all k d.sites lt)
+    go kind.Pulse = ap (λ (b : Bool). b && not (k == l.point.site)) (lt-ltb k d.sites lt)
+    go (kind.Close e) = ap (λ (b : Bool). b && not (k == l.point.site)) (lt-ltb k d.sites lt)
 
 any-below : (f g : ℕ → Bool) (n : ℕ) → ((k : ℕ) → k < n → f k ≡ g k) → list_any f (below n) ≡ list_any g (below n)
 any-below f g zero same = refl

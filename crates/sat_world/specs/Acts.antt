@@ -21,7 +21,7 @@ use Rattle.sat_machine.specs.Input.{SiteInput}
 use Rattle.sat_machine.specs.Input as given
 use Rattle.sat_machine.specs.Look.{front_of}
 use Rattle.sat_serial.specs.Routes.{routes}
-use Rattle.sat_serial.specs.Outboxes.{SerializerSeen, IsSerializer, outbox, handled, shipped}
+use Rattle.sat_serial.specs.Outboxes.{SerializerSeen, IsSerializer, outbox, after_handle, after_ship}
 use Rattle.sat_site.specs.Seen.{SiteSeen}
 use Rattle.sat_site.specs.Stands.{StandsSite}
 use Rattle.sat_site.specs.Gives.{AnswersBy, StandsBy, IsSent}
@@ -58,13 +58,13 @@ pub record HandsAt (ss : List SerializerSeen) (z : ℕ) (a : Interested) (u : No
   pub at : slice_get ss z ≡ Some before
   pub limits : IsSerializer before
   pub routed : nodes ≡ routes a before.tree before.number u l
-  pub rest : ts ≡ set ss z (handled before a u l)
+  pub rest : ts ≡ set ss z (after_handle before a u l)
 
 -- the oldest label for v leaves serializer z
 pub record ShipsAt (ss : List SerializerSeen) (z : ℕ) (v : NodeId) (ts : List SerializerSeen) : Type 0 where
   pub before : SerializerSeen
   pub at : slice_get ss z ≡ Some before
-  pub rest : ts ≡ set ss z (shipped before v)
+  pub rest : ts ≡ set ss z (after_ship before v)
 
 -- it leaves where a site showed it or took it
 abbrev pub TakesAt : Answer → List SerializerSeen → ℕ → NodeId → List SerializerSeen → Type 0

@@ -5,8 +5,6 @@ mod client;
 mod clocks;
 mod places;
 mod start;
-#[cfg(test)]
-mod tests;
 mod world;
 
 pub use sat_site::SiteView;

@@ -11,6 +11,18 @@ use std::{env, io};
 // The status of the top call for want of memory.
 const NO_MEMORY: u8 = 5;
 
+// What a status means, for the person who started the program.
+fn meaning(status: u8) -> Option<&'static str> {
+    match status {
+        1 => Some("the input is refused; the last line written says where and why"),
+        2 => Some("no such command; the input comes on standard input: saturn --help"),
+        3 => Some("standard input could not be read"),
+        4 => Some("standard output could not be written"),
+        5 => Some("out of memory"),
+        _ => None,
+    }
+}
+
 // The words after the program's name.
 fn words<R: Env + AllocGlobal>(rt: &R) -> io::Result<Vec<String>> {
     Ok(env::args(rt)?.skip(1).collect(rt.alloc())?)
@@ -26,5 +38,9 @@ fn main(rt: HostRuntime) -> ExitCode {
     let mut source = StdSource::new(rt.stdin().reader());
     let mut sink = StdSink::new(rt.stdout());
     let status = saturn(&rt, words.as_slice(), &mut source, &mut sink, &FreeGate);
+    if let Some(text) = meaning(status) {
+        // Where standard error is closed too, nobody can be told.
+        let _ = eprintln!(rt; "saturn: {text}");
+    }
     ExitCode::from(status)
 }

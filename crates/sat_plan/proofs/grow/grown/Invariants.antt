@@ -1,5 +1,6 @@
 use Rattle.std.proofs.Common.{◌-◌, length}
-use Rattle.sat_plan.specs.Drafts.{draft_config, IsGrowing}
+use Rattle.sat_plan.specs.Drafts.{draft_config}
+use Rattle.sat_plan.proofs.Loops.{IsGrowing}
 use Rattle.sat_plan.proofs.grow.grown.Given as goal
 
 abbrev pub invariant-growing : goal.invariant-growing

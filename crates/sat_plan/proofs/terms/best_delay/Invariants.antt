@@ -1,4 +1,4 @@
-use Rattle.sat_plan.specs.Drafts.{IsBestOf}
+use Rattle.sat_plan.proofs.Loops.{IsBestOf}
 use Rattle.sat_plan.proofs.terms.best_delay.Given as goal
 
 abbrev pub invariant-loop-term : goal.invariant-loop-term

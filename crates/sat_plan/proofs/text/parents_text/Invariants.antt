@@ -1,5 +1,5 @@
 use Rattle.std.proofs.Common.{◌≡◌, map, take}
-use Rattle.sat_plan.specs.Texts.{spaced, parent_text}
+use Rattle.sat_tree.specs.PlanLine.{spaced, parent_text}
 use Rattle.sat_plan.proofs.text.parents_text.Given as goal
 
 abbrev pub invariant-loop-z : goal.invariant-loop-z

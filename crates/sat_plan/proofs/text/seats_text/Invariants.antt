@@ -1,6 +1,6 @@
 use Rattle.std.proofs.Common.{◌≡◌, map, take}
 use Rattle.std.specs.Fmt.{decimal}
-use Rattle.sat_plan.specs.Texts.{spaced}
+use Rattle.sat_tree.specs.PlanLine.{spaced}
 use Rattle.sat_plan.proofs.text.seats_text.Given as goal
 
 abbrev pub invariant-loop-site : goal.invariant-loop-site

@@ -1,4 +1,5 @@
-use Rattle.sat_plan.specs.Drafts.{draft_config, IsPassing}
+use Rattle.sat_plan.specs.Drafts.{draft_config}
+use Rattle.sat_plan.proofs.Loops.{IsPassing}
 use Rattle.sat_plan.proofs.tune.pass.Given as goal
 
 abbrev pub invariant-loop-edge : goal.invariant-loop-edge

@@ -1,4 +1,5 @@
-use Rattle.sat_plan.specs.Drafts.{draft_config, IsSettling}
+use Rattle.sat_plan.specs.Drafts.{draft_config}
+use Rattle.sat_plan.proofs.Loops.{IsSettling}
 use Rattle.sat_plan.proofs.tune.settle.Given as goal
 
 abbrev pub invariant-settling : goal.invariant-settling

@@ -2,9 +2,9 @@ use Rattle.std.proofs.Common.{rules, ◌≡◌, ◌∙◌, ap, true, ◌∷◌, 
 use Rattle.std.specs.List.{list_all}
 use Rattle.std.specs.Prelude.{codes}
 use Rattle.std.specs.Str.{bytes_eq}
+use Rattle.std.proofs.lemmas.Bool.{and_parts}
 use Rattle.sat_script.specs.Words.{is_number}
 use Rattle.sat_script.specs.Grammar.{are_parents, is_tree, tree_in}
-use Rattle.sat_script.proofs.Choices.{both}
 use Rattle.sat_script.proofs.Lookup.{length_by}
 use Rattle.sat_script.proofs.Trees.{long_line, empty_line}
 use Rattle.sat_script.proofs.header_lines.tree_in.Goals as goal
@@ -17,7 +17,7 @@ returns-then-parents-gt15 c = long_line c.args.sites (texts c.args.parents.now) 
 
 rest_numbers : (parents : List (Bor (List ℕ))) (root : Bor (List ℕ)) (words : List (Bor (List ℕ))) → parents ≡ root ∷ words → are_parents (texts parents) ≡ true → list_all is_number (texts words) ≡ true
 unfolding are_parents
-rest_numbers parents root words e h = (both (bytes_eq root.now (codes "-")) (list_all is_number (texts words)) (subst (λ (ps : List (Bor (List ℕ))). are_parents (texts ps) ≡ true) e h)).1
+rest_numbers parents root words e h = (and_parts (bytes_eq root.now (codes "-")) (list_all is_number (texts words)) (subst (λ (ps : List (Bor (List ℕ))). are_parents (texts ps) ≡ true) e h)).1
 
 pub tree_on-requires-clause-words : goal.tree_on-requires-clause-words
 tree_on-requires-clause-words c = rest_numbers c.args.parents.now c.in-Some.field-0-0.now c.in-Some.words.now c.in-Some.ensures.cases.0 c.requires.parents

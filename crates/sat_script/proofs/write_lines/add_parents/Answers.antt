@@ -1,7 +1,7 @@
 use Rattle.std.proofs.Common.{rules, sym, ap, ◌∙◌, ◌++◌, ◌≡◌, ◌∷◌, map, take}
 use Rattle.std.proofs.lemmas.List.{append_assoc}
-use Rattle.sat_script.specs.Spelled.{spaced, parent_text}
-use Rattle.sat_script.proofs.Written.{spaced_more}
+use Rattle.sat_tree.specs.PlanLine.{spaced, parent_text}
+use Rattle.sat_tree.proofs.PlanLine.{spaced_more}
 use Rattle.sat_script.proofs.write_lines.add_parents.Goals as goal
 
 pub loop-z-preserved : goal.loop-z-preserved

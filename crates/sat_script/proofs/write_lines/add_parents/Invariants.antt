@@ -1,5 +1,5 @@
 use Rattle.std.proofs.Common.{◌≡◌, ◌++◌, map, take}
-use Rattle.sat_script.specs.Spelled.{spaced, parent_text}
+use Rattle.sat_tree.specs.PlanLine.{spaced, parent_text}
 use Rattle.sat_script.proofs.write_lines.add_parents.Given as goal
 
 abbrev pub invariant-loop-z : goal.invariant-loop-z

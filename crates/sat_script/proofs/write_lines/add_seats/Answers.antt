@@ -1,8 +1,8 @@
 use Rattle.std.proofs.Common.{rules, sym, ap, ◌∙◌, ◌++◌, ◌≡◌, ◌∷◌, map, take}
 use Rattle.std.specs.Fmt.{decimal}
 use Rattle.std.proofs.lemmas.List.{append_assoc}
-use Rattle.sat_script.specs.Spelled.{spaced}
-use Rattle.sat_script.proofs.Written.{spaced_more}
+use Rattle.sat_tree.specs.PlanLine.{spaced}
+use Rattle.sat_tree.proofs.PlanLine.{spaced_more}
 use Rattle.sat_script.proofs.write_lines.add_seats.Goals as goal
 
 pub loop-site-preserved : goal.loop-site-preserved

@@ -1,7 +1,7 @@
 use Rattle.std.proofs.Common.{rules, sym, ◌∙◌, ◌++◌, ◌≡◌, ◌∷◌, map}
 use Rattle.std.specs.Fmt.{decimal}
 use Rattle.std.specs.Prelude.{codes}
-use Rattle.sat_script.specs.Spelled.{spaced, parent_text}
+use Rattle.sat_tree.specs.PlanLine.{spaced, parent_text}
 use Rattle.sat_script.proofs.Written.{tree_line}
 use Rattle.sat_script.proofs.write_lines.plan_line.Goals as goal
 

@@ -1,6 +1,7 @@
 use Rattle.std.proofs.Common.{sym, ◌∙◌}
-use Rattle.sat_sink.specs.Pending.{is_up_to, lesser}
-use Rattle.sat_sink.proofs.Leasts.{least-nil}
+use Rattle.sat_sink.specs.Pending.{is_up_to}
+use Rattle.sat_label.specs.Least.{lesser}
+use Rattle.sat_label.proofs.Least.{least-nil}
 use Rattle.sat_sink.proofs.Fronts.{least-more}
 use Rattle.sat_sink.proofs.queue.least_up_to.Goals as goal
 

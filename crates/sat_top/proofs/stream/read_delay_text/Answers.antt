@@ -1,4 +1,4 @@
-use Rattle.std.proofs.Common.{◌++◌, length, take, arith}
+use Rattle.std.proofs.Common.{◌++◌, take, arith}
 use Rattle.std.proofs.lemmas.List.{length-append}
 use Rattle.sat_top.proofs.Plans.{enough_delays}
 use Rattle.sat_top.proofs.Progress.{consumes_more}

@@ -2,6 +2,7 @@ use Rattle.sat_top.proofs.Faults.{has_fault}
 use Rattle.std.proofs.Common.{rules, arith, take, ◌+◌}
 use Rattle.sat_script.specs.Stream.{will_be}
 use Rattle.sat_top.proofs.Progress.{read_start, read_more, read_bounded, read_enough}
+use Rattle.sat_script.specs.declared.limits.TheConstants.{MOST_BYTES}
 use Rattle.sat_top.proofs.stream.read_script.Goals as goal
 
 pub loop-taken-init : goal.loop-taken-init
@@ -22,12 +23,12 @@ loop-taken-preserved g c =
 pub returns-then-eq-clause-bounded : goal.returns-then-eq-clause-bounded
 returns-then-eq-clause-bounded g c =
     let had = c.loop-taken.invariant in
-    read_bounded (g.S.Source.left c.args.source.now) (g.S.Source.left c.loop-taken.source) (g.S.Source.left c.read.new.self) (will_be c.loop-taken.reader) (take c.in-Ok.count c.read.new.into) c.loop-taken.taken 268435456 had.2 c.in-Ok.ensures.bytes.0 (omega (arith, c.in-Ok.ensures.count.1, c.in-Ok.ensures.count.0))
+    read_bounded (g.S.Source.left c.args.source.now) (g.S.Source.left c.loop-taken.source) (g.S.Source.left c.read.new.self) (will_be c.loop-taken.reader) (take c.in-Ok.count c.read.new.into) c.loop-taken.taken (MOST_BYTES + 65536) had.2 c.in-Ok.ensures.bytes.0 (omega (arith, c.in-Ok.ensures.count.1, c.in-Ok.ensures.count.0))
 
 pub returns-in-Err-feed-clause-bounded : goal.returns-in-Err-feed-clause-bounded
 returns-in-Err-feed-clause-bounded g c =
     let had = c.loop-taken.invariant in
-    read_bounded (g.S.Source.left c.args.source.now) (g.S.Source.left c.loop-taken.source) (g.S.Source.left c.read.new.self) (will_be c.loop-taken.reader) (take c.in-Ok.count c.read.new.into) c.loop-taken.taken 268435456 had.2 c.in-Ok.ensures.bytes.0 (omega (arith, c.in-Ok.ensures.count.1, c.in-Ok.ensures.count.0))
+    read_bounded (g.S.Source.left c.args.source.now) (g.S.Source.left c.loop-taken.source) (g.S.Source.left c.read.new.self) (will_be c.loop-taken.reader) (take c.in-Ok.count c.read.new.into) c.loop-taken.taken (MOST_BYTES + 65536) had.2 c.in-Ok.ensures.bytes.0 (omega (arith, c.in-Ok.ensures.count.1, c.in-Ok.ensures.count.0))
 
 pub returns-in-Err-feed-clause-end : goal.returns-in-Err-feed-clause-end
 returns-in-Err-feed-clause-end g c = has_fault c.feed.new.self c.in-Err-feed.fault c.finish-in-Err-feed.result _ (c.in-Err-feed.ensures.fault) c.finish-in-Err-feed.ensures.script

@@ -6,4 +6,4 @@ use Rattle.sat_tree.proofs.neighbours.neighbours_of.Given as goal
 
 abbrev pub invariant-loop-y : goal.invariant-loop-y
 invariant-loop-y l =
-    l.nodes ≡ filter (is_edge l.shape (Serializer l.z)) (map Site (below (length l.shape.seats)) ++ map Serializer (below l.y))
+    l.nodes ≡ filter (is_edge l.layout (Serializer l.z)) (map Site (below (length l.layout.seats)) ++ map Serializer (below l.y))

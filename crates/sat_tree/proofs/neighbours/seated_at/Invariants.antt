@@ -5,4 +5,4 @@ use Rattle.sat_tree.specs.Cut.{is_edge}
 use Rattle.sat_tree.proofs.neighbours.seated_at.Given as goal
 
 abbrev pub invariant-loop-site : goal.invariant-loop-site
-invariant-loop-site l = l.nodes ≡ filter (is_edge l.shape (Serializer l.z)) (map Site (below l.site))
+invariant-loop-site l = l.nodes ≡ filter (is_edge l.layout (Serializer l.z)) (map Site (below l.site))

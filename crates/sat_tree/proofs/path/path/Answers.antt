@@ -9,7 +9,7 @@ loop-here-init c =
     let other : c.push-2.new.self.items ≡ Site c.args.to ∷ [] = c.in_ok-push-2.ensures.items ∙ ap (λ l. l ++ Site c.args.to ∷ []) c.new-back.ensures.items in (
       rw c.seat-here.ensures.at (c.seat-here.ensures.limits.tree.seats c.args.from),
       rw c.seat-there.ensures.at (c.seat-there.ensures.limits.tree.seats c.args.to),
-      begun c.args.shape.now c.args.from c.args.to _ _ _ _ c.requires.apart one other c.seat-here.ensures.at c.seat-there.ensures.at,
+      begun c.args.layout.now c.args.from c.args.to _ _ _ _ c.requires.apart one other c.seat-here.ensures.at c.seat-there.ensures.at,
     )
 
 pub loop-here-preserved-then-there-here : goal.loop-here-preserved-then-there-here
@@ -18,7 +18,7 @@ loop-here-preserved-then-there-here c =
     let falls = tree.down _ _ (sym c.above-here.ensures.above) in (
       omega arith,
       c.loop-here.invariant.1,
-      up-here c.args.shape.now _ _ _ _ _ _ _ _ c.loop-here.invariant.2 c.if-there-here.true (sym c.above-here.ensures.above) falls c.in_ok-push-3.ensures.ok,
+      up-here c.args.layout.now _ _ _ _ _ _ _ _ c.loop-here.invariant.2 c.if-there-here.true (sym c.above-here.ensures.above) falls c.in_ok-push-3.ensures.ok,
     )
 
 pub loop-here-preserved : goal.loop-here-preserved
@@ -28,8 +28,8 @@ loop-here-preserved c =
     let less : c.loop-here.here < c.loop-here.there = omega arith in (
       c.loop-here.invariant.0,
       omega arith,
-      up-there c.args.shape.now _ _ _ _ _ _ _ _ c.loop-here.invariant.2 less (sym c.above-there.ensures.above) falls c.in_ok-push-4.ensures.items,
+      up-there c.args.layout.now _ _ _ _ _ _ _ _ c.loop-here.invariant.2 less (sym c.above-there.ensures.above) falls c.in_ok-push-4.ensures.items,
     )
 
 pub returns : goal.returns
-returns c = met c.args.shape.now _ _ _ _ _ _ _ _ c.loop-here.invariant.2 c.loop-here-test.false c.in_ok-push-5.ensures.ok c.in_ok-add_reversed.ensures
+returns c = met c.args.layout.now _ _ _ _ _ _ _ _ c.loop-here.invariant.2 c.loop-here-test.false c.in_ok-push-5.ensures.ok c.in_ok-add_reversed.ensures

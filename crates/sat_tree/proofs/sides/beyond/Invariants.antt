@@ -5,4 +5,4 @@ use Rattle.sat_tree.specs.Cut.{beyond}
 use Rattle.sat_tree.proofs.sides.beyond.Given as goal
 
 abbrev pub invariant-loop-site : goal.invariant-loop-site
-invariant-loop-site l = (k : ℕ) → bit l.sites.bits k ≡ (nat_lt k l.site && beyond l.shape l.u l.v (Site k))
+invariant-loop-site l = (k : ℕ) → bit l.sites.bits k ≡ (nat_lt k l.site && beyond l.layout l.u l.v (Site k))

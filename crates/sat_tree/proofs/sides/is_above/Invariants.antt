@@ -5,7 +5,7 @@ use Rattle.sat_tree.proofs.sides.is_above.Given as goal
 
 abbrev pub invariant-loop-at : goal.invariant-loop-at
 invariant-loop-at l =
-    (l.at < length l.shape.parents) × (has ◌==◌ (chain (length l.shape.parents) l.shape.parents l.at) l.z ≡ has ◌==◌ (chain (length l.shape.parents) l.shape.parents l.from) l.z)
+    (l.at < length l.layout.parents) × (has ◌==◌ (chain (length l.layout.parents) l.layout.parents l.at) l.z ≡ has ◌==◌ (chain (length l.layout.parents) l.layout.parents l.from) l.z)
 
 abbrev pub decreases-loop-at : goal.decreases-loop-at
 decreases-loop-at l = l.at

@@ -1,5 +1,5 @@
 use Rattle.std.proofs.Common.{◌∙◌}
-use Rattle.sat_script.specs.Grammar.{has_client}
+use Rattle.sat_script.specs.Causes.{has_client}
 use Rattle.sat_script.proofs.Lookup.{client_any}
 use Rattle.sat_script.proofs.header.Header.add_client.Goals as goal
 

@@ -1,5 +1,5 @@
 use Rattle.std.proofs.Common.{◌∙◌}
-use Rattle.sat_script.specs.Grammar.{has_item}
+use Rattle.sat_script.specs.Causes.{has_item}
 use Rattle.sat_script.proofs.Lookup.{item_any}
 use Rattle.sat_script.proofs.header.Header.add_item.Goals as goal
 

@@ -1,5 +1,5 @@
 use Rattle.std.proofs.Common.{◌∙◌, sym}
-use Rattle.sat_script.specs.Grammar.{client_of}
+use Rattle.sat_script.specs.Causes.{client_of}
 use Rattle.sat_script.proofs.Lookup.{client_place}
 use Rattle.sat_script.proofs.header.Header.client_of.Goals as goal
 

@@ -1,5 +1,5 @@
 use Rattle.std.proofs.Common.{◌∙◌, sym}
-use Rattle.sat_script.specs.Grammar.{item_of}
+use Rattle.sat_script.specs.Causes.{item_of}
 use Rattle.sat_script.proofs.Lookup.{item_place}
 use Rattle.sat_script.proofs.header.Header.item_of.Goals as goal
 

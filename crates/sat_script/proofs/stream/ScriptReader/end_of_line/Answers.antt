@@ -21,10 +21,10 @@ invariant_of-self-then-is_err c =
     let fresh = rw (← c.self.view_is) at c.requires.fresh in
     let takes = rw c.as_slice.ensures.value at c.in-Ok.ensures in
     let keeps : kept c.keep.new.deployment c.keep.new.acts ≡ kept c.self.inside.deployment c.self.inside.acts = search rules in
-    unkept_coming c.self.inside.reader c.line.new.self c.fail.new.self c.self.inside.deployment c.keep.new.deployment c.self.inside.acts c.keep.new.acts c.self.inside.begun.items c.in-Ok.line c.fail.result c.self.invariant takes fresh keeps c.fail.ensures.new
+    unkept_coming c.self.inside.reader c.line.new.self c.fail_at.new.self c.self.inside.deployment c.keep.new.deployment c.self.inside.acts c.keep.new.acts c.self.inside.begun.items c.in-Ok.line c.fail_at.result c.self.invariant takes fresh keeps c.fail_at.ensures.new
 
 pub returns-then-is_err-clause-settled : goal.returns-then-is_err-clause-settled
-returns-then-is_err-clause-settled c = after_fault (came c.fail.new.self c.keep.new.deployment c.keep.new.acts c.self.inside.begun.items) c.fail.result (search rules)
+returns-then-is_err-clause-settled c = after_fault (came c.fail_at.new.self c.keep.new.deployment c.keep.new.acts c.self.inside.begun.items) c.fail_at.result (search rules)
 
 pub invariant_of-self-2 : goal.invariant_of-self-2
 invariant_of-self-2 c =

@@ -2,7 +2,7 @@ use Rattle.sat_site.proofs.Deeds.{did-lack, front-item, show-item, show-site, di
 use Rattle.sat_site.proofs.site.Site.show.Goals as goal
 
 pub returns-in_default : goal.returns-in_default
-returns-in_default c = did-lack _ _ _ _ _ c.self.view_is c.requires.kind c.in_default.ensures.none (λ j. (c.in_default.ensures.same j).items)
+returns-in_default c = did-lack _ _ _ _ _ c.self.view_is c.requires.kind c.in_default.ensures.none c.in_default.ensures.place (λ j. (c.in_default.ensures.same j).items)
 
 pub show-requires : goal.show-requires
 show-requires c =

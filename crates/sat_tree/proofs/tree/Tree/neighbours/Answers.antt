@@ -5,8 +5,8 @@ use Rattle.sat_tree.proofs.tree.Tree.neighbours.Goals as goal
 
 pub index-requires : goal.index-requires
 index-requires c =
-    let within : c.args.z < length c.self.inside.adjacent.items = row-within _ _ (length c.self.inside.shape.parents) c.args.z c.self.invariant.0 (rw c.self.view_is c.requires) in
+    let within : c.args.z < length c.self.inside.adjacent.items = row-within _ _ (length c.self.inside.layout.parents) c.args.z c.self.invariant.0 (rw c.self.view_is c.requires) in
     omega (arith, c.self.inside.adjacent.ok.0)
 
 pub returns-clause-neighbours : goal.returns-clause-neighbours
-returns-clause-neighbours c = c.as_slice.ensures ∙ rw (← c.self.view_is) (row-is (neighbours c.self.inside.shape) _ (length c.self.inside.shape.parents) c.args.z _ c.self.invariant.0 (rw c.self.view_is c.requires) c.index.ensures)
+returns-clause-neighbours c = c.as_slice.ensures ∙ rw (← c.self.view_is) (row-is (neighbours c.self.inside.layout) _ (length c.self.inside.layout.parents) c.args.z _ c.self.invariant.0 (rw c.self.view_is c.requires) c.index.ensures)

@@ -1,0 +1,40 @@
+//! The limits and the special numbers that code and contracts cite.
+
+/// The greatest timestamp: no event that has it is followed by another.
+pub const TS_END: u64 = 1 << 62;
+
+/// The gear of a pulse's point: above that of each gear.
+pub const PULSE_GEAR: u16 = 65534;
+
+/// The gear of a mark: above that of each gear and of a pulse.
+pub const MARK_GEAR: u16 = 65535;
+
+/// The most sites of a deployment.
+pub const MOST_SITES: u16 = 16;
+
+/// The most gears of a site.
+pub const MOST_GEARS: u16 = 8;
+
+/// The most items of a deployment.
+pub const MOST_ITEMS: usize = 4096;
+
+/// The most clients of a deployment.
+pub const MOST_CLIENTS: usize = 1024;
+
+/// The most serializers of a tree.
+pub const MOST_SERIALIZERS: u16 = 15;
+
+/// The most epochs of a deployment: one for each plan.
+pub const MOST_EPOCHS: usize = 16;
+
+/// The most acts of a script, each `settle` among them.
+pub const MOST_ACTS: u32 = 200_000;
+
+/// The most `settle` of a script.
+pub const MOST_SETTLES: u32 = 64;
+
+/// The most bytes of a name.
+pub const NAME_BYTES: usize = 32;
+
+/// The most bytes of a value.
+pub const VALUE_BYTES: usize = 256;

@@ -1,0 +1,9 @@
+//! Queues that take their room beforehand: what is put in later takes no memory.
+#![tactic(auto)]
+
+mod queue;
+
+pub use queue::{Queue, empty_queues, reserve_each};
+
+#[cfg(test)]
+mod tests;

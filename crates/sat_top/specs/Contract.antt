@@ -1,0 +1,39 @@
+-- The one contract of the top call, over plain values: the words, the status, and what source and sink told before and after.
+use Rattle.std.specs.Prelude.{ℕ, ◌≡◌, ◌≤◌, ◌+◌, ◌⊎◌, true, List, [], Option, Some, None, length}
+use Rattle.std.specs.Io.KnownBytes.{Consumes, IsAtEnd}
+use Rattle.sat_outside.specs.Causes.{Rose}
+use Rattle.sat_outside.specs.Streams.{Told, Takes}
+use Rattle.sat_script.specs.declared.limits.TheConstants.{MOST_BYTES}
+use Rattle.sat_delay.specs.declared.read.TheConstants.{MOST_BYTES as MOST_DELAY_BYTES}
+use Rattle.sat_top.specs.declared.stream.TheConstants.{BUFFER_BYTES}
+use Rattle.sat_top.specs.declared.words.Command.{Command}
+use Rattle.sat_top.specs.declared.words.Command.TheVariants.{Run, Plan}
+use Rattle.sat_top.specs.Words.{command_of}
+use Rattle.sat_top.specs.Whole.{IsTextOf, TakesFront, IsDone, IsRefused, reads, refusal, status_of, output_of}
+
+-- how many bytes a command takes at the most, however many the source has: its longest input, and one piece
+abbrev pub most_taken : Option Command → ℕ
+most_taken (Some Run) = MOST_BYTES + BUFFER_BYTES
+most_taken (Some Plan) = MOST_DELAY_BYTES + BUFFER_BYTES
+most_taken _ = 0
+
+-- What the top call does with these words. `left` is what the source tells that it still gives, `told` what the sink tells that
+-- it holds, `failed` and `refused` are the counts of faults of the source and of the sink; each before the call and after it.
+pub record Meets (words : List (List ℕ)) (status : ℕ) (left left_after : Option (List ℕ)) (told told_after : Told) (failed failed_after refused refused_after : ℕ) : Type 0 where
+  -- 0, 1 and 2 say what the words and the text are, and the sink took the whole output
+  pub written : status ≤ 2 → (text : List ℕ) × IsTextOf left text × (status ≡ status_of words text) × Takes told told_after (output_of words text)
+  pub end : status ≡ 0 → reads (command_of words) ≡ true → IsAtEnd left_after
+  -- the same, status by status and command by command
+  pub done : status ≡ 0 → IsDone (command_of words) left told told_after
+  pub bad : status ≡ 1 → IsRefused (command_of words) left told told_after
+  pub no_command : status ≡ 2 → (command_of words ≡ None) × Takes told told_after refusal
+  pub no_source : status ≡ 3 → Rose failed failed_after × (reads (command_of words) ≡ true) × Takes told told_after []
+  pub no_sink : status ≡ 4 → Rose refused refused_after × ((text : List ℕ) × IsTextOf left text × TakesFront told told_after (output_of words text))
+  pub no_memory : status ≡ 5 → Takes told told_after []
+  pub statuses : status ≤ 5
+  -- the bytes taken have a bound
+  pub bounded : (taken : List ℕ) × Consumes left left_after taken × (length taken ≤ most_taken (command_of words))
+  -- no count of faults falls
+  pub later : (failed ≤ failed_after) × (refused ≤ refused_after)
+  -- where neither has failed, the status is that of the words and the text, unless memory ran out
+  pub complete : (text : List ℕ) → left ≡ Some text → ¬ Rose failed failed_after → ¬ Rose refused refused_after → (status ≡ status_of words text) ⊎ (status ≡ 5)
