@@ -10,5 +10,4 @@ pub mod Goals
 pub mod Headline
 pub mod Limits
 pub mod Ranges
-pub mod Built
 pub mod Flaw

@@ -1,0 +1,5 @@
+pub mod Complete
+pub mod Newest
+pub mod Passed
+pub mod Rising
+pub mod Rows

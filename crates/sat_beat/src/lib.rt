@@ -3,6 +3,10 @@
 
 ghost use Rattle.std.specs.Prelude.{◌≡◌, IfOk};
 
+mod beats;
+mod taken;
+
+pub use beats::{BeatTake, Beats};
 use sat_label::{Counts, Point, Points};
 use std::alloc::AllocError;
 

@@ -13,5 +13,10 @@ pub mod SiteSteps
 pub mod Worlds
 pub mod Local
 pub mod Runs
+pub mod Ranges
+pub mod Times
 pub mod Parts
+pub mod OnLinks
+pub mod Fits
+pub mod WorkedFits
 pub mod Unmoved

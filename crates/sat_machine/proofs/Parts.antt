@@ -53,7 +53,7 @@ view-agreed d h j v run = record {
   beats = λ k. made-agrees d h j k v run;
 }
 
-link-agrees : (d : Deployed) (h : List Entry) (e : ℕ) (t : TreeShape) (u v : NodeId) → tree_of d e ≡ Some t → link_left d h e u v ≡ drop (taken d h e u v) (entered d h e t u v)
+pub link-agrees : (d : Deployed) (h : List Entry) (e : ℕ) (t : TreeShape) (u v : NodeId) → tree_of d e ≡ Some t → link_left d h e u v ≡ drop (taken d h e u v) (entered d h e t u v)
 link-agrees d h e t u v is = ap (λ (o : Option TreeShape). elim o [ None ↦ [] | Some t ↦ drop (taken d h e u v) (entered d h e t u v) ]) is
 
 client-agrees : (d : Deployed) (h : List Entry) (c : ℕ) → ClientAgrees d h c (world_state d h)

@@ -1,30 +1,118 @@
--- What a site may ask of an input beyond ranges: it holds of all that a world hands, by the history alone.
-use Rattle.std.specs.Prelude.{◌≡◌, ℕ, true, false, ◌==◌, Some}
-use Rattle.sat_label.specs.declared.label.Label.{Label}
+-- What fits a site: tests of an input by the deployment and the site's state, which all that a world hands to it passes.
+use Rattle.std.specs.Prelude.{ℕ, ◌+◌, Bool, true, false, ◌&&◌, ◌||◌, not, ◌==◌, nat_le, nat_lt, List, length, Option, Some, None}
+use Rattle.std.specs.List.{list_all, list_any}
+use Rattle.sat_label.specs.declared.carried.Carried.{Carried}
+use Rattle.sat_label.specs.declared.label.Kind.{Kind}
 use Rattle.sat_label.specs.declared.label.Kind.TheVariants as kind
-use Rattle.sat_label.specs.Words.{has}
+use Rattle.sat_label.specs.declared.label.Label.{Label}
+use Rattle.sat_label.specs.declared.limits.TheConstants.{TS_END}
+use Rattle.sat_label.specs.declared.point.Point.{Point}
+use Rattle.sat_label.specs.Order.{point_eq}
+use Rattle.sat_label.specs.Words.{below, has}
 use Rattle.sat_act.specs.Deployed.{Deployed}
-use Rattle.sat_act.specs.Parts.{is_target, is_update}
+use Rattle.sat_act.specs.Parts.{BeatNote, replicates}
 use Rattle.sat_bulk.specs.declared.Payload.{Payload}
 use Rattle.sat_machine.specs.State.{SiteState}
 use Rattle.sat_machine.specs.Input.{SiteInput}
 use Rattle.sat_machine.specs.Input as given
 use Rattle.sat_machine.specs.Look.{waiting_of}
 
--- a payload of a lane, whose point no waiting payload has where its number is new
-pub record BulkFits (d : Deployed) (i : ℕ) (s : SiteState) (from gear number : ℕ) (p : Payload) : Type 0 where
-  pub made_at : p.label.point.site ≡ from
-  pub by_gear : p.label.point.gear ≡ gear
-  pub update : is_update p.label.kind ≡ true
-  pub target : is_target d p.label i ≡ true
-  pub alone : has ◌==◌ (s.proxy.taken from gear) number ≡ false → (q : Label) → has Rattle.sat_label.specs.Order.label_eq (waiting_of s) q ≡ true → q.point ≡ p.label.point → ⊥
+-- ---- numbers and points of a deployment
 
--- a close that is taken is one of the view's epoch
-pub record FrontFits (s : SiteState) (l : Label) : Type 0 where
-  pub epoch : (closed : ℕ) → l.kind ≡ kind.Close closed → closed ≡ s.views.view
+-- a number of a site
+abbrev pub is_site : Deployed → ℕ → Bool
+is_site d i = nat_lt i d.sites
 
--- what is asked of an input at a state, beyond ranges
-abbrev pub IsFit : Deployed → ℕ → SiteState → SiteInput → Type 0
-IsFit d i s (given.Bulk from gear n p) = BulkFits d i s from gear n p
-IsFit d i s (given.Turn (Some l)) = FrontFits s l
-IsFit d i s _ = Unit {0}
+-- a number of an item
+abbrev pub is_item : Deployed → ℕ → Bool
+is_item d x = nat_lt x (length d.items)
+
+-- a number of a gear
+abbrev pub is_gear : Deployed → ℕ → Bool
+is_gear d g = nat_lt g d.gears
+
+-- a timestamp, of which `TS_END` is the last
+abbrev pub is_time : ℕ → Bool
+is_time ts = nat_le ts TS_END
+
+-- a point with such a timestamp, and of one of the sites
+abbrev pub is_point : Deployed → Point → Bool
+is_point d p = is_time p.ts && is_site d p.site
+
+-- a site other than i
+abbrev pub is_other : Deployed → ℕ → ℕ → Bool
+is_other d i k = is_site d k && not (k == i)
+
+-- where a client is moving to: nowhere, or to a site
+abbrev pub is_goal : Deployed → Option ℕ → Bool
+is_goal d o = elim o [ None ↦ true | Some j ↦ is_site d j ]
+
+-- what a client carries: a point, and where it is moving to
+abbrev pub is_carried : Deployed → Carried → Bool
+is_carried d seen = is_point d seen.point && is_goal d seen.moving
+
+-- ---- the front of a link
+
+-- a kind that names an item or a site, and of closes one of the view's epoch
+abbrev pub is_kind : Deployed → ℕ → Kind → Bool
+is_kind d view (kind.Update x) = is_item d x
+is_kind d view (kind.Move j) = is_site d j
+is_kind d view kind.Pulse = true
+is_kind d view (kind.Close e) = e == view
+
+-- a label that another site sent, which site i finds at the front of its link
+abbrev pub is_front : Deployed → ℕ → SiteState → Label → Bool
+is_front d i s l = is_time l.point.ts && (is_other d i l.point.site && is_kind d s.views.view l.kind)
+
+-- ---- payloads
+
+-- an update of an item that site i keeps
+abbrev pub is_kept_kind : Deployed → ℕ → Kind → Bool
+is_kept_kind d i (kind.Update x) = is_item d x && replicates d x i
+is_kept_kind d i _ = false
+
+-- a point that none of these labels has
+abbrev pub is_new_point : List Label → Point → Bool
+is_new_point labels p = not (list_any (λ l. point_eq l.point p) labels)
+
+-- a payload of a lane of another site for site i: an update that it made of an item that site i keeps. Where its number was not
+-- taken before, its point is that of no update that waits
+abbrev pub is_bulk : Deployed → ℕ → SiteState → ℕ → ℕ → ℕ → Payload → Bool
+is_bulk d i s from gear number p =
+    (is_other d i from && is_gear d gear)
+    && (((is_time p.label.point.ts && (p.label.point.site == from)) && is_kept_kind d i p.label.kind)
+    && (has ◌==◌ (s.proxy.taken from gear) number || is_new_point (waiting_of s) p.label.point))
+
+-- ---- beats
+
+-- the close cut of an epoch in a beat, if it has one
+abbrev pub is_close_cut : Deployed → Option Point → Bool
+is_close_cut d o = elim o [ None ↦ true | Some p ↦ is_point d p ]
+
+-- a beat whose cut, and close cut of each epoch, if any, are points. Epochs count from 1
+abbrev pub is_note : Deployed → BeatNote → Bool
+is_note d note = is_point d note.cut && list_all (λ n. is_close_cut d (note.closes (n + 1))) (below (length d.plans))
+
+-- ---- inputs
+
+-- whether an input fits a site in this state. Nothing is asked of the number of a payload or of a beat, of a value, or of whom
+-- the front of a link is for
+unfoldable pub fits : Deployed → ℕ → SiteState → SiteInput → Bool
+fits d i s (given.Tick g ts) = is_gear d g && is_time ts
+fits d i s (given.Clock ts) = is_time ts
+fits d i s (given.Write seen x value) = is_carried d seen && is_item d x
+fits d i s (given.Read seen x) = is_carried d seen && is_item d x
+fits d i s (given.Move seen j) = is_carried d seen && is_site d j
+fits d i s (given.Attach seen) = is_carried d seen
+fits d i s given.Gather = true
+fits d i s given.Emit = true
+fits d i s given.Pulse = true
+fits d i s (given.Turn None) = true
+fits d i s (given.Turn (Some l)) = is_front d i s l
+fits d i s (given.Bulk from gear number p) = is_bulk d i s from gear number p
+fits d i s (given.Beat j) = is_other d i j
+fits d i s (given.BeatIn from number note) = is_other d i from && is_note d note
+fits d i s given.Stamp = true
+fits d i s given.Close = true
+fits d i s given.Fall = true
+fits d i s given.Advance = true

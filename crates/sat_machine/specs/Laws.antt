@@ -1,11 +1,17 @@
 -- What this crate proves of sites and worlds without the past.
 use Rattle.std.specs.Prelude.{◌≡◌, ℕ, Bool, true, false, not, List, [], ◌∷◌, Some, None}
+use Rattle.sat_label.specs.declared.label.Label.{Label}
+use Rattle.sat_label.specs.declared.node.NodeId.{NodeId}
+use Rattle.sat_label.specs.Members.{In}
+use Rattle.sat_tree.specs.Shape.{TreeShape}
 use Rattle.sat_act.specs.declared.act.Act.{Act}
 use Rattle.sat_act.specs.declared.answer.Answer.{Answer}
 use Rattle.sat_act.specs.declared.answer.Answer.TheVariants as ans
 use Rattle.sat_act.specs.declared.entry.Entry.{Entry}
 use Rattle.sat_act.specs.Deployed.{Deployed}
+use Rattle.sat_act.specs.Parts.{tree_of}
 use Rattle.sat_act.specs.Answers.{InRange, answer}
+use Rattle.sat_act.specs.Ranges.{IsActOf}
 use Rattle.sat_act.specs.Settling.{is_done}
 use Rattle.sat_act.specs.Runs.{IsRun, is_settle}
 use Rattle.sat_act.specs.Goals.{IsValid}
@@ -13,9 +19,11 @@ use Rattle.sat_machine.specs.Input.{SiteInput}
 use Rattle.sat_machine.specs.Reply.{site_answer, site_step}
 use Rattle.sat_machine.specs.Replay.{handed, site_state}
 use Rattle.sat_machine.specs.Journal.{journal, replay, IsJournal}
-use Rattle.sat_machine.specs.Fits.{IsFit}
+use Rattle.sat_machine.specs.Fits.{fits}
+use Rattle.sat_machine.specs.Times.{HasTimes}
+use Rattle.sat_machine.specs.OnLinks.{IsOnLink}
 use Rattle.sat_machine.specs.Parts.{PartsAgree}
-use Rattle.sat_machine.specs.World.{world_step, world_state, fresh_world}
+use Rattle.sat_machine.specs.World.{world_step, world_state, fresh_world, link_left}
 
 -- the site that is handed something answers as the entry does, and then stands for the history with the entry
 abbrev pub SitesStep : Type 0
@@ -29,11 +37,21 @@ abbrev pub OthersStay : Type 0
 OthersStay =
     (d : Deployed) (h : List Entry) (e : Entry) (i : ℕ) → handed d h e.act i ≡ None → site_state d (e ∷ h) i ≡ site_state d h i
 
--- what is handed fits
+-- what is handed by an act whose numbers name what they should fits: a run alone asks nothing of the items of writes and reads
 abbrev pub InputsFit : Type 0
 InputsFit =
     (d : Deployed) (h : List Entry) (a : Act) (i : ℕ) (input : SiteInput) →
-    IsValid d → IsRun d h → handed d h a i ≡ Some input → IsFit d i (site_state d h i) input
+    IsValid d → IsRun d h → IsActOf d a → handed d h a i ≡ Some input → fits d i (site_state d h i) input ≡ true
+
+-- no timestamp of a run is past the last
+abbrev pub TimesEnd : Type 0
+TimesEnd = (d : Deployed) (h : List Entry) → IsValid d → IsRun d h → HasTimes d h
+
+-- each label that stands on a link is one that the link leads on
+abbrev pub LinksLead : Type 0
+LinksLead =
+    (d : Deployed) (h : List Entry) (epoch : ℕ) (tree : TreeShape) (u v : NodeId) (l : Label) →
+    IsValid d → IsRun d h → tree_of d epoch ≡ Some tree → In (link_left d h epoch u v) l → IsOnLink d tree u v l
 
 -- a site's state is the replay of its journal, whose answers are its machine's
 abbrev pub JournalsReplay : Type 0

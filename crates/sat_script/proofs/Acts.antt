@@ -9,7 +9,8 @@ use Rattle.sat_label.specs.declared.node.NodeId.{NodeId}
 use Rattle.sat_label.specs.declared.node.NodeId.TheVariants.{Site, Serializer}
 use Rattle.sat_tree.specs.Shape.{TreeShape}
 use Rattle.sat_tree.specs.Cut.{is_edge, IsNode}
-use Rattle.sat_act.specs.Built.{is_built_act}
+use Rattle.sat_script.specs.Dialect.{limits_of}
+use Rattle.sat_script.specs.Built.{is_built_act}
 use Rattle.sat_act.specs.Deployed.{Deployed}
 use Rattle.sat_act.specs.Limits.{IsDeployment}
 use Rattle.sat_act.specs.Parts.{tree_of}
@@ -18,7 +19,7 @@ use Rattle.sat_act.specs.declared.act.Act.{Act}
 use Rattle.sat_act.specs.declared.act.Act.TheVariants as act
 use Rattle.sat_script.specs.Causes.{bar, is_built, has_room, client_of, item_of, given, barred}
 use Rattle.sat_script.specs.Laws.{ActsAreSpelled}
-use Rattle.sat_script.specs.State.{State, most_acts}
+use Rattle.sat_script.specs.State.{State}
 use Rattle.sat_script.specs.Table.{Said, place, num, bytes, at, word_of, kinds_of, act_forms, act_of, form_of, args_of, shape, says, text, shapes, all_known, onto, in_tree, all_say, no_tree, has_node, joins, edge_cause, unfit, said_act, found_form, form_line, act_line, texts, act_words}
 use Rattle.sat_script.specs.Words.{number_below, number_to, number_up_to, node_in, serializer_in, is_node, is_serializer, is_number}
 use Rattle.sat_script.specs.declared.fault.Cause.{Cause}
@@ -27,7 +28,6 @@ use Rattle.sat_script.specs.declared.form.Form.{Form}
 use Rattle.sat_script.specs.declared.form.Form.TheVariants as form
 use Rattle.sat_script.specs.declared.form.Kind.{Kind}
 use Rattle.sat_script.specs.declared.form.Kind.TheVariants as kind
-use Rattle.sat_script.specs.declared.limits.TheConstants.{MOST_SETTLES}
 use Rattle.sat_script.proofs.Bars.{free, bars_nothing}
 use Rattle.sat_script.proofs.Choices.{passed, unbarred, found, same_ok, word_is}
 use Rattle.sat_script.proofs.Digits.{below_is, to_is, up_to_is}
@@ -292,10 +292,10 @@ act_fits d act.Settle h u = tt
 
 form_is : (word : List ℕ) (n : ℕ) (fs : List Form) (f : Form) → found_form word n fs ≡ Some f → word ≡ word_of f
 form_is word n [] f h = absurd (cc)
-form_is word n (g ∷ fs) f h = go (bytes_eq word (word_of g) && eqb (length (kinds_of g)) n) refl h (form_is word n fs f)
+form_is word n (g ∷ fs) f h = go (eqb (length (kinds_of g)) n && bytes_eq word (word_of g)) refl h (form_is word n fs f)
   where
-    go : (b : Bool) → (bytes_eq word (word_of g) && eqb (length (kinds_of g)) n) ≡ b → cond b (Some g) (found_form word n fs) ≡ Some f → (found_form word n fs ≡ Some f → word ≡ word_of f) → word ≡ word_of f
-    go true e h later = let same : g ≡ f = cc in word_is word (word_of g) (and_parts (bytes_eq word (word_of g)) (eqb (length (kinds_of g)) n) e).0 ∙ ap word_of same
+    go : (b : Bool) → (eqb (length (kinds_of g)) n && bytes_eq word (word_of g)) ≡ b → cond b (Some g) (found_form word n fs) ≡ Some f → (found_form word n fs ≡ Some f → word ≡ word_of f) → word ≡ word_of f
+    go true e h later = let same : g ≡ f = cc in word_is word (word_of g) (and_parts (eqb (length (kinds_of g)) n) (bytes_eq word (word_of g)) e).1 ∙ ap word_of same
     go false e h later = later h
 
 -- ---- a line
@@ -338,9 +338,9 @@ form_built d (act.Bulk i g j None) = refl
 form_built d (act.Bulk i g j (Some n)) = refl
 form_built d _ = refl
 
-form_room : (s : State) (a : Act) → has_room s (form_of a) ≡ true → ltb s.acts (most_acts s.live) ≡ true
+form_room : (s : State) (a : Act) → has_room s (form_of a) ≡ true → ltb s.acts (limits_of s.dialect).acts ≡ true
 unfolding has_room
-form_room s act.Settle h = (and_parts (ltb s.acts (most_acts s.live)) (ltb s.settles MOST_SETTLES) h).0
+form_room s act.Settle h = (and_parts (ltb s.acts (limits_of s.dialect).acts) (ltb s.settles (limits_of s.dialect).settles) h).0
 form_room s (act.Bulk i g j None) h = h
 form_room s (act.Bulk i g j (Some n)) h = h
 form_room s _ h = h
@@ -349,9 +349,9 @@ form_room s _ h = h
 pub form_stands : (s : State) (a : Act) → IsActOf s.header a → bar s (form_of a) ≡ None → ActStands s a
 form_stands s a fits none =
     let is = free s (form_of a) none in
-    record { fits = fits; built = sym (form_built s.header a) ∙ is.built; live = is.live; room = ltb-true s.acts (most_acts s.live) (form_room s a is.room) }
+    record { fits = fits; built = sym (form_built s.header a) ∙ is.built; has = is.has; room = ltb-true s.acts (limits_of s.dialect).acts (form_room s a is.room) }
 
-room_again : (s : State) (a : Act) → is_built_act a ≡ true → ltb s.acts (most_acts s.live) ≡ true → has_room s (form_of a) ≡ true
+room_again : (s : State) (a : Act) → is_built_act a ≡ true → ltb s.acts (limits_of s.dialect).acts ≡ true → has_room s (form_of a) ≡ true
 unfolding has_room
 room_again s act.Settle built h = absurd (cc)
 room_again s (act.Bulk i g j None) built h = h
@@ -359,4 +359,4 @@ room_again s (act.Bulk i g j (Some n)) built h = h
 room_again s _ built h = h
 
 pub stands_free : (s : State) (a : Act) → ActStands s a → bar s (form_of a) ≡ None
-stands_free s a st = bars_nothing s (form_of a) (form_built s.header a ∙ st.built) st.live (room_again s a st.built (lt-ltb s.acts (most_acts s.live) st.room))
+stands_free s a st = bars_nothing s (form_of a) (form_built s.header a ∙ st.built) st.has (room_again s a st.built (lt-ltb s.acts (limits_of s.dialect).acts st.room))

@@ -1,174 +1,290 @@
 -- What a reader of pieces keeps.
-use Rattle.std.proofs.Common.{◌≡◌, ◌≢◌, ℕ, ◌+◌, ◌≤◌, inr, Bool, List, [], ◌∷◌, ◌++◌, length, Option, Some, None, Result, Ok, Err, sym, ap, ◌∙◌, subst, arith}
+use Rattle.std.proofs.Common.{◌≡◌, ◌≢◌, ℕ, ◌+◌, ◌≤◌, ◌<◌, Bool, true, false, List, [], ◌∷◌, ◌++◌, length, Option, Some, None, Result, Ok, Err, cond, eqb, ltb, ◌&&◌, ◌⊎◌, sym, ap, ◌∙◌, refl, subst, arith, inl, inr, OnOk, OnErr, IfErr, MatchResult}
+use Rattle.std.proofs.lemmas.Bool.{eqb-true, ltb-true, ltb-false}
 use Rattle.std.specs.Option.{IfSome}
-use Rattle.std.proofs.lemmas.List.{append-nil, length-append}
+use Rattle.std.proofs.lemmas.List.{append-nil, append_assoc, length-append}
 use Rattle.sat_act.specs.declared.act.Act.{Act}
 use Rattle.sat_act.specs.Deployed.{Deployed}
-use Rattle.sat_script.specs.Grammar.{after, with_act}
-use Rattle.sat_script.specs.Kept.{IsFit, IsWhole, HasHeader, HasSaid, IsComing}
+use Rattle.sat_script.specs.declared.dialect.Dialect.{Dialect}
+use Rattle.sat_script.specs.Grammar.{line_at, after, is_ended}
+use Rattle.sat_script.specs.Kept.{IsFit, IsWhole, HasHeader, HasSaid, AreWhole}
 use Rattle.sat_script.specs.Laws.{IsRead}
-use Rattle.sat_script.specs.Lines.{Takes, Closes, running, failed}
-use Rattle.sat_script.specs.Reading.{reading, AreBuiltActs, with_line, told_line, fault_at}
+use Rattle.sat_script.specs.Lines.{running, failed}
+use Rattle.sat_script.specs.Reading.{reading, AreBuiltActs, with_line, told_line, fault_at, stopped, bad}
 use Rattle.sat_script.specs.Spelled.{Spells}
 use Rattle.sat_script.specs.State.{State, Seen, number_of}
-use Rattle.sat_script.specs.Stream.{Came, will_be, bytes_of, kept, meaning}
-use Rattle.sat_script.specs.declared.fault.Cause.TheVariants.{Memory}
+use Rattle.sat_script.specs.Stream.{WholeLines, Came, means, will_be, bytes_of, known_fault, kept, meaning, stopped_at, stuck_with, GoesOn, StopsAt, HasTaken, HasStopped, TakesPiece, goes_on}
+use Rattle.sat_script.specs.Words.{HasNo, IsCut}
+use Rattle.sat_script.specs.declared.fault.Cause.{Cause}
+use Rattle.sat_script.specs.declared.fault.Cause.TheVariants.{Memory, AfterEnd, LongLine}
 use Rattle.sat_script.specs.declared.fault.ScriptFault.{ScriptFault}
 use Rattle.sat_script.specs.declared.limits.TheConstants.{LONGEST_LINE, MOST_BYTES}
-use Rattle.sat_script.specs.declared.line.Line.{Line}
 use Rattle.sat_script.specs.declared.line.Parsed.{Parsed}
-use Rattle.sat_script.specs.declared.line.Parsed.TheVariants as parsed
 use Rattle.sat_script.specs.declared.line.Stage.{Stage}
 use Rattle.sat_script.specs.declared.line.Stage.TheVariants as stage
 use Rattle.sat_script.specs.declared.stream.Reading.{Reading}
 use Rattle.sat_script.proofs.Fits.{line_is, fit_after}
-use Rattle.sat_script.proofs.Meaning.{IsStuck, stuck_cause}
-use Rattle.sat_script.proofs.Pieces.{byte_keeps, byte_stops, stops, settled, line_fails, line_goes, good_of}
+use Rattle.sat_script.proofs.Meaning.{IsStuck, stuck_cause, goes_on-stuck}
+use Rattle.sat_script.proofs.Pieces.{settled, fresh, part_keeps, line_fails, line_goes}
 use Rattle.sat_script.proofs.Whole.{read_spells, line_counted, lines_counted, said_after, few_after}
-
-abbrev pub came : Seen → Option Deployed → List Act → List ℕ → Came
-came seen deployment acts begun = record { seen = seen; deployment = deployment; acts = acts; begun = begun }
 
 -- ---- a fault that is known
 
-failed_fault : (new : Seen) (s : State) (told : ScriptFault) → new ≡ failed s told → new.fault ≡ Some told
-failed_fault new s told e = ap (λ (seen : Seen). seen.fault) e
-
-pub after_fault : (r : Came) (told : ScriptFault) → r.seen.fault ≡ Some told → (more : List ℕ) → will_be r more ≡ will_be r []
+pub after_fault : (r : Came) (told : ScriptFault) → known_fault r ≡ Some told → (more : List ℕ) → will_be r more ≡ will_be r []
 unfolding will_be
-after_fault r told e more = settled r.seen (kept r.deployment r.acts) r.begun more told e
+after_fault r told e more = settled r.lines.seen (kept r.lines.deployment r.lines.acts) r.begun more told e
 
--- what the reader keeps where it fails
-pub fails_coming : (old new : Seen) (deployment : Option Deployed) (acts : List Act) (begun now : List ℕ) (told : ScriptFault) → IsComing old deployment acts begun → new ≡ failed old.state told → length now ≤ LONGEST_LINE + 1 → IsComing new deployment acts now
-fails_coming old new deployment acts begun now told coming e short =
-    subst (λ (seen : Seen). IsComing seen deployment acts now) (sym e)
-    (record { fit = coming.fit; whole = coming.whole; none = coming.none; few = coming.few; short = short; going = λ never. absurd (cc) })
+pub stopped_whole : (old new : WholeLines) (told : ScriptFault) → AreWhole old → new ≡ stopped_at old told → AreWhole new
+stopped_whole old new told whole e = subst AreWhole (sym e) (record { fit = whole.fit; whole = whole.whole; none = whole.none; few = whole.few; said = λ never. absurd (cc) })
 
--- ---- a byte of a line
+-- ---- a whole line
 
-pub byte_will : (seen : Seen) (deployment : Option Deployed) (acts : List Act) (begun now : List ℕ) (b : ℕ) → seen.fault ≡ None → now ≡ begun ++ b ∷ [] → b ≢ 10
-    → (more : List ℕ) → will_be (came seen deployment acts now) more ≡ will_be (came seen deployment acts begun) (b ∷ more)
-unfolding will_be
-byte_will seen deployment acts begun now b none is other more = byte_keeps seen (kept deployment acts) begun now b none is other more
+pub bad_stops : (old new : WholeLines) (line : List ℕ) (told : ScriptFault) (cause : Cause) → new ≡ stopped_at old told → told ≡ fault_at old.seen.state cause → old.seen.fault ≡ None
+    → (cause ≢ Memory → line_at old.seen.state line ≡ Err cause) → StopsAt old new line told
+bad_stops old new line told cause e is none bad = record {
+  stays = e;
+  line = ap (λ (f : ScriptFault). f.line) is;
+  same = λ not_memory more.
+      let other : cause ≢ Memory = λ memory. not_memory (ap (λ (f : ScriptFault). f.cause) is ∙ memory) in
+      ap (λ (l : WholeLines). means l line more) e
+      ∙ ap (stopped (kept old.deployment old.acts)) is
+      ∙ sym (line_fails old.seen.state (kept old.deployment old.acts) line cause (bad other) more)
+      ∙ sym (fresh old.seen (kept old.deployment old.acts) line (10 ∷ more) none);
+}
 
-pub byte_counted : (seen : Seen) (deployment : Option Deployed) (acts : List Act) (begun now : List ℕ) (b : ℕ) → now ≡ begun ++ b ∷ [] → bytes_of (came seen deployment acts begun) + 1 ≤ bytes_of (came seen deployment acts now)
-unfolding bytes_of
-byte_counted seen deployment acts begun now b is = omega (arith, ap length is, length-append begun (b ∷ []))
+whole_said : (dialect : Dialect) (here : Stage) (d : Deployed) (deployment : Option Deployed) (acts : List Act) → HasHeader here d → HasSaid dialect here d deployment acts → IfSome deployment (λ d. IsWhole d × AreBuiltActs d acts) × (deployment ≡ None → acts ≡ [])
+whole_said dialect stage.Start d deployment acts kept h = (subst (λ (o : Option Deployed). IfSome o (λ d. IsWhole d × AreBuiltActs d acts)) (sym h.0) tt, λ _. h.1)
+whole_said dialect stage.Sites d deployment acts kept h = (subst (λ (o : Option Deployed). IfSome o (λ d. IsWhole d × AreBuiltActs d acts)) (sym h.0) tt, λ _. h.1)
+whole_said dialect stage.Gears d deployment acts kept h = (subst (λ (o : Option Deployed). IfSome o (λ d. IsWhole d × AreBuiltActs d acts)) (sym h.0) tt, λ _. h.1)
+whole_said dialect stage.Header d deployment acts kept h = (subst (λ (o : Option Deployed). IfSome o (λ d. IsWhole d × AreBuiltActs d acts)) (sym h.0) tt, λ _. h.1)
+whole_said dialect stage.Body d deployment acts kept h = (subst (λ (o : Option Deployed). IfSome o (λ d. IsWhole d × AreBuiltActs d acts)) (sym h.0) (kept, h.1), λ e. absurd (let never : Some d ≡ None = sym h.0 ∙ e in cc))
+whole_said dialect stage.Ended d deployment acts kept h = (subst (λ (o : Option Deployed). IfSome o (λ d. IsWhole d × AreBuiltActs d acts)) (sym h.0) (kept, h.1), λ e. absurd (let never : Some d ≡ None = sym h.0 ∙ e in cc))
 
--- what a call of `close` does at a line that can't go on
-pub record Stops (old new : Seen) (result : Result (Unit {0}) ScriptFault) (deployment : Option Deployed) (acts : List Act) (begun now : List ℕ) (b : ℕ) : Type 0 where
-  pub told : ScriptFault
-  pub is : result ≡ Err told
-  pub coming : IsComing new deployment acts now
-  pub knows : new.fault ≡ Some told
-  pub will : (more : List ℕ) → will_be (came new deployment acts now) more ≡ will_be (came old deployment acts begun) (b ∷ more)
+pub good_goes : (old new : WholeLines) (line : List ℕ) (p : Parsed) → AreWhole old → old.seen.fault ≡ None → line_at old.seen.state line ≡ Ok p
+    → new.seen ≡ running (after old.seen.state p) → kept new.deployment new.acts ≡ with_line (kept old.deployment old.acts) (told_line old.seen.state.header p) → GoesOn old new line
+good_goes old new line p whole none good goes keeps = record {
+  fresh = ap (λ (seen : Seen). seen.fault) goes;
+  same = λ more.
+      ap (λ (seen : Seen). meaning seen.fault seen.state (kept new.deployment new.acts) [] more) goes
+      ∙ ap (λ (r : Reading). meaning None (after old.seen.state p) r [] more) keeps
+      ∙ sym (line_goes old.seen.state (kept old.deployment old.acts) line p good more)
+      ∙ sym (fresh old.seen (kept old.deployment old.acts) line (10 ∷ more) none);
+  counted =
+      let more = line_counted old.seen.state line p whole.fit good in
+      let at : number_of new.seen.state ≡ number_of (after old.seen.state p) = ap (λ (seen : Seen). number_of seen.state) goes in
+      omega arith;
+}
 
-stops_will : (old new : Seen) (deployment : Option Deployed) (acts : List Act) (begun now : List ℕ) (b : ℕ) (told : ScriptFault) → new ≡ failed old.state told → fault_at old.state (stuck_cause old.state.stage) ≡ told → old.fault ≡ None → now ≡ begun ++ b ∷ [] → b ≢ 10 → IsStuck old.state now
-    → (more : List ℕ) → will_be (came new deployment acts now) more ≡ will_be (came old deployment acts begun) (b ∷ more)
-unfolding will_be
-stops_will old new deployment acts begun now b told fails at none is other stuck more = byte_stops old new (kept deployment acts) begun now b told fails at none is other stuck more
+pub good_whole : (old new : WholeLines) (line : List ℕ) (p : Parsed) → AreWhole old → old.seen.fault ≡ None → line_at old.seen.state line ≡ Ok p
+    → new.seen ≡ running (after old.seen.state p) → kept new.deployment new.acts ≡ with_line (kept old.deployment old.acts) (told_line old.seen.state.header p) → AreWhole new
+good_whole old new line p whole none good goes keeps =
+    let is = line_is old.seen.state line p whole.fit good in
+    let r : Reading = kept old.deployment old.acts in
+    let fit = fit_after old.seen.state line p whole.fit good in
+    let said = said_after old.seen.state.stage old.seen.state p r is.stands (whole.said none) in
+    let few = few_after old.seen.state.header old.seen.state.acts p r whole.few in
+    let now_said = subst (λ (r : Reading). HasSaid old.seen.state.dialect (after old.seen.state p).stage (after old.seen.state p).header r.deployment r.acts) (sym keeps) said in
+    let now_few = subst (λ (r : Reading). length r.acts ≤ (after old.seen.state p).acts) (sym keeps) few in
+    let w = whole_said old.seen.state.dialect (after old.seen.state p).stage (after old.seen.state p).header new.deployment new.acts fit.header now_said in
+    let here : AreWhole (record { seen = running (after old.seen.state p); deployment = new.deployment; acts = new.acts }) = record { fit = fit; whole = w.0; none = w.1; few = now_few; said = λ _. now_said } in
+    subst (λ (seen : Seen). AreWhole (record { seen = seen; deployment = new.deployment; acts = new.acts })) (sym goes) here
 
-pub byte_closes : (old new : Seen) (result : Result (Unit {0}) ScriptFault) (deployment : Option Deployed) (acts : List Act) (begun now : List ℕ) (b : ℕ) → IsComing old deployment acts begun → Closes old.fault old.state new result now
-    → old.fault ≡ None → now ≡ begun ++ b ∷ [] → b ≢ 10 → IsStuck old.state now → Stops old new result deployment acts begun now b
-byte_closes old new result deployment acts begun now b coming closes none is other stuck =
-    let s = stops old new result now closes none stuck in
-    let short = (coming.going none).short in
-    record {
-      told = s.0;
-      is = s.1;
-      coming = fails_coming old new deployment acts begun now s.0 coming s.2 (omega (arith, ap length is, length-append begun (b ∷ [])));
-      knows = failed_fault new old.state s.0 s.2;
-      will = stops_will old new deployment acts begun now b s.0 s.2 s.3 none is other stuck;
+-- what comes of a line that says this, where it is kept or memory runs out
+pub record KeptLine (old new : WholeLines) (line : List ℕ) (result : Result (Unit {0}) ScriptFault) : Type 0 where
+  pub takes : MatchResult result (λ _. GoesOn old new line) (λ fault. StopsAt old new line fault)
+  pub whole : AreWhole new
+
+lines_same : (l : WholeLines) (seen : Seen) (deployment : Option Deployed) (acts : List Act) → l.seen ≡ seen → kept l.deployment l.acts ≡ kept deployment acts → l ≡ record { seen = seen; deployment = deployment; acts = acts }
+lines_same l seen deployment acts e k =
+    ap (λ (s : Seen). (let w : WholeLines = record { seen = s; deployment = l.deployment; acts = l.acts } in w)) e
+    ∙ ap (λ (r : Reading). (let w : WholeLines = record { seen = seen; deployment = r.deployment; acts = r.acts } in w)) k
+
+running_on : (f : Option ScriptFault) (s : State) → f ≡ None → (let seen : Seen = record { state = s; fault = f } in seen) ≡ running s
+running_on f s e = ap (λ (f : Option ScriptFault). (let seen : Seen = record { state = s; fault = f } in seen)) e
+
+pub kept_line : (old new : WholeLines) (line : List ℕ) (p : Parsed) (result : Result (Unit {0}) ScriptFault) → AreWhole old → old.seen.fault ≡ None → line_at old.seen.state line ≡ Ok p
+    → OnOk result ((new.seen ≡ record { state = after old.seen.state p; fault = old.seen.fault }) × (kept new.deployment new.acts ≡ with_line (kept old.deployment old.acts) (told_line old.seen.state.header p)))
+    → IfErr result (λ fault. (fault ≡ fault_at old.seen.state Memory) × (new.seen ≡ failed old.seen.state fault) × (kept new.deployment new.acts ≡ kept old.deployment old.acts))
+    → KeptLine old new line result
+kept_line old new line p (Ok x) whole none good ok err =
+    let goes = ok.0 ∙ running_on old.seen.fault (after old.seen.state p) none in
+    record { takes = good_goes old new line p whole none good goes ok.1; whole = good_whole old new line p whole none good goes ok.1 }
+kept_line old new line p (Err told) whole none good ok err =
+    let stays = lines_same new (failed old.seen.state told) old.deployment old.acts err.1 err.2 in
+    record { takes = bad_stops old new line told Memory stays err.0 none (λ other. absurd (other refl)); whole = stopped_whole old new told whole stays }
+
+-- ---- pieces
+
+-- after a fault it matters not what has begun
+stopped_same : (l : WholeLines) (begun now more later : List ℕ) (told : ScriptFault) → l.seen.fault ≡ Some told → means l begun more ≡ means l now later
+stopped_same l begun now more later told e =
+    ap (λ (f : Option ScriptFault). meaning f l.seen.state (kept l.deployment l.acts) begun more) e ∙ sym (ap (λ (f : Option ScriptFault). meaning f l.seen.state (kept l.deployment l.acts) now later) e)
+
+-- one piece after another
+pub taken_on : (old mid new : Came) (a b : List ℕ) (result : Result (Unit {0}) ScriptFault) → HasTaken old mid a → TakesPiece mid new result b → TakesPiece old new result (a ++ b)
+taken_on old mid new a b (Ok x) first then = record {
+  fresh = then.fresh;
+  same = λ more. then.same more ∙ first.same (b ++ more) ∙ ap (will_be old) (sym (append_assoc a b more));
+  counted = omega (arith, first.counted, then.counted, length-append a b);
+}
+taken_on old mid new a b (Err told) first then = record {
+  knows = then.knows;
+  line = then.line;
+  same = λ other more. then.same other more ∙ first.same (b ++ more) ∙ ap (will_be old) (sym (append_assoc a b more));
+}
+
+pub stopped_on : (old new : Came) (a b : List ℕ) (told : ScriptFault) → HasStopped old new a told → HasStopped old new (a ++ b) told
+stopped_on old new a b told stops = record {
+  knows = stops.knows;
+  line = stops.line;
+  same = λ other more.
+      after_fault new told stops.knows more ∙ sym (after_fault new told stops.knows (b ++ more)) ∙ stops.same other (b ++ more) ∙ ap (will_be old) (sym (append_assoc a b more));
+}
+
+part_means : (l : WholeLines) (begun part more : List ℕ) → l.seen.fault ≡ None → HasNo 10 part → means l (begun ++ part) (10 ∷ more) ≡ means l begun ((part ++ 10 ∷ []) ++ more)
+part_means l begun part more none other =
+    fresh l.seen (kept l.deployment l.acts) (begun ++ part) (10 ∷ more) none
+    ∙ sym (part_keeps l.seen.state (kept l.deployment l.acts) begun part (10 ∷ more) other)
+    ∙ ap (goes_on l.seen.state (kept l.deployment l.acts) begun) (sym (append_assoc part (10 ∷ []) more))
+    ∙ sym (fresh l.seen (kept l.deployment l.acts) begun ((part ++ 10 ∷ []) ++ more) none)
+
+-- the rest of a line and the byte that ends it
+line_takes : (old new : Came) (part now : List ℕ) (result : Result (Unit {0}) ScriptFault) → known_fault old ≡ None → HasNo 10 part → now ≡ old.begun ++ part → OnOk result (new.begun ≡ [])
+    → MatchResult result (λ _. GoesOn old.lines new.lines now) (λ fault. StopsAt old.lines new.lines now fault) → TakesPiece old new result (part ++ 10 ∷ [])
+unfolding will_be bytes_of
+line_takes old new part now (Ok x) none other is empty goes = record {
+  fresh = goes.fresh;
+  same = λ more.
+      ap (λ bs. means new.lines bs more) empty ∙ goes.same more ∙ ap (λ bs. means old.lines bs (10 ∷ more)) is ∙ part_means old.lines old.begun part more none other;
+  counted = omega (arith, goes.counted, ap length is, ap length empty, length-append old.begun part, length-append part (10 ∷ []));
+}
+line_takes old new part now (Err told) none other is empty stops =
+    let knows : new.lines.seen.fault ≡ Some told = ap (λ (l : WholeLines). l.seen.fault) stops.stays in record {
+      knows = knows;
+      line = stops.line ∙ sym (ap (λ (l : WholeLines). number_of l.seen.state) stops.stays);
+      same = λ not_memory more.
+          stopped_same new.lines new.begun now more more told knows ∙ stops.same not_memory more ∙ ap (λ bs. means old.lines bs (10 ∷ more)) is ∙ part_means old.lines old.begun part more none other;
     }
 
-pub ended_stuck : (s : State) (begun now : List ℕ) (b : ℕ) → s.stage ≡ stage.Ended → now ≡ begun ++ b ∷ [] → IsStuck s now
-ended_stuck s begun now b e is = inr (e, omega (arith, ap length is, length-append begun (b ∷ [])))
+-- where nothing of the line had come before
+pub whole_takes : (old new : Came) (part : List ℕ) (result : Result (Unit {0}) ScriptFault) → known_fault old ≡ None → HasNo 10 part → true ≡ eqb (length old.begun) 0 → new.begun ≡ old.begun
+    → MatchResult result (λ _. GoesOn old.lines new.lines part) (λ fault. StopsAt old.lines new.lines part fault) → TakesPiece old new result (part ++ 10 ∷ [])
+whole_takes old new part result none other empty same takes =
+    let nothing : old.begun ≡ [] = nil old.begun empty in
+    line_takes old new part part result none other (sym (ap (λ bs. bs ++ part) nothing)) (kept_so result (same ∙ nothing)) takes
+  where
+    nil : (bs : List ℕ) → true ≡ eqb (length bs) 0 → bs ≡ []
+    nil [] e = refl
+    nil (b ∷ bs) e = absurd (let some : length (b ∷ bs) ≡ 0 = eqb-true (length (b ∷ bs)) 0 (sym e) in omega arith)
 
--- ---- the end of a line
+    kept_so : (result : Result (Unit {0}) ScriptFault) → new.begun ≡ [] → OnOk result (new.begun ≡ [])
+    kept_so (Ok x) e = e
+    kept_so (Err told) e = tt
 
-whole_said : (live : Bool) (here : Stage) (d : Deployed) (deployment : Option Deployed) (acts : List Act) → HasHeader here d → HasSaid live here d deployment acts → IfSome deployment (λ d. IsWhole d × AreBuiltActs d acts) × (deployment ≡ None → acts ≡ [])
-whole_said live stage.Start d deployment acts kept h = (subst (λ (o : Option Deployed). IfSome o (λ d. IsWhole d × AreBuiltActs d acts)) (sym h.0) tt, λ _. h.1)
-whole_said live stage.Sites d deployment acts kept h = (subst (λ (o : Option Deployed). IfSome o (λ d. IsWhole d × AreBuiltActs d acts)) (sym h.0) tt, λ _. h.1)
-whole_said live stage.Gears d deployment acts kept h = (subst (λ (o : Option Deployed). IfSome o (λ d. IsWhole d × AreBuiltActs d acts)) (sym h.0) tt, λ _. h.1)
-whole_said live stage.Header d deployment acts kept h = (subst (λ (o : Option Deployed). IfSome o (λ d. IsWhole d × AreBuiltActs d acts)) (sym h.0) tt, λ _. h.1)
-whole_said live stage.Body d deployment acts kept h = (subst (λ (o : Option Deployed). IfSome o (λ d. IsWhole d × AreBuiltActs d acts)) (sym h.0) (kept, h.1), λ e. absurd (let never : Some d ≡ None = sym h.0 ∙ e in cc))
-whole_said live stage.Ended d deployment acts kept h = (subst (λ (o : Option Deployed). IfSome o (λ d. IsWhole d × AreBuiltActs d acts)) (sym h.0) (kept, h.1), λ e. absurd (let never : Some d ≡ None = sym h.0 ∙ e in cc))
+-- where the line had come but for the byte that ends it
+pub begun_takes : (old new : Came) (result : Result (Unit {0}) ScriptFault) → known_fault old ≡ None → OnOk result (new.begun ≡ [])
+    → MatchResult result (λ _. GoesOn old.lines new.lines old.begun) (λ fault. StopsAt old.lines new.lines old.begun fault) → TakesPiece old new result (10 ∷ [])
+begun_takes old new result none empty takes = line_takes old new [] old.begun result none (λ k d inside. absurd (omega arith)) (sym (append-nil old.begun)) empty takes
 
-going_coming : (s : State) (deployment : Option Deployed) (acts : List Act) (begun : List ℕ) → IsFit s → HasSaid s.live s.stage s.header deployment acts → length acts ≤ s.acts → length begun ≤ LONGEST_LINE → IsComing (running s) deployment acts begun
-going_coming s deployment acts begun fit said few short =
-    let w = whole_said s.live s.stage s.header deployment acts fit.header said in
-    record { fit = fit; whole = w.0; none = w.1; few = few; short = omega arith; going = λ _. record { said = said; short = short } }
+-- a line that can't go on
+long_at : (n : ℕ) (cause : Cause) → cond (ltb LONGEST_LINE n) (Some LongLine) None ≡ Some cause → (LONGEST_LINE < n) × (LongLine ≡ cause)
+long_at n cause h = go (ltb LONGEST_LINE n) refl h
+  where
+    go : (l : Bool) → ltb LONGEST_LINE n ≡ l → cond l (Some LongLine) None ≡ Some cause → (LONGEST_LINE < n) × (LongLine ≡ cause)
+    go true e h = (ltb-true LONGEST_LINE n e, cc)
+    go false e h = absurd (cc)
 
-pub line_coming : (old new : Seen) (deployment now_deployment : Option Deployed) (acts now_acts : List Act) (begun now : List ℕ) (line : Line) → IsComing old deployment acts begun → Takes old.fault old.state new (Ok line) begun → old.fault ≡ None
-    → kept now_deployment now_acts ≡ with_line (kept deployment acts) line → now ≡ [] → IsComing new now_deployment now_acts now
-line_coming old new deployment now_deployment acts now_acts begun now line coming takes none keeps empty =
-    let good = good_of old new begun line takes none in
-    let is = line_is old.state begun good.says coming.fit good.good in
-    let r : Reading = kept deployment acts in
-    let same : kept now_deployment now_acts ≡ with_line r (told_line old.state.header good.says) = keeps ∙ ap (with_line r) good.told in
-    let said = said_after old.state.stage old.state good.says r is.stands (coming.going none).said in
-    let few = few_after old.state.header old.state.acts good.says r coming.few in
-    let now_said = subst (λ (r : Reading). HasSaid old.state.live (after old.state good.says).stage (after old.state good.says).header r.deployment r.acts) (sym same) said in
-    let now_few = subst (λ (r : Reading). length r.acts ≤ (after old.state good.says).acts) (sym same) few in
-    subst (λ (seen : Seen). IsComing seen now_deployment now_acts now) (sym good.goes)
-    (going_coming (after old.state good.says) now_deployment now_acts now (fit_after old.state begun good.says coming.fit good.good) now_said now_few (omega (arith, ap length empty)))
+abbrev Stuck : Stage → ℕ → ℕ → Cause → Type 0
+Stuck here n m cause = ((LONGEST_LINE < n) ⊎ ((here ≡ stage.Ended) × (0 < m))) × (stuck_cause here ≡ cause)
 
-more_acts : (n : ℕ) (p : Parsed) → n ≤ with_act n p
-more_acts n (parsed.Act a) = omega arith
-more_acts n parsed.Format = omega arith
-more_acts n (parsed.Sites k) = omega arith
-more_acts n (parsed.Gears k) = omega arith
-more_acts n (parsed.Item item) = omega arith
-more_acts n (parsed.Client line) = omega arith
-more_acts n (parsed.Plan p) = omega arith
-more_acts n parsed.Begin = omega arith
-more_acts n parsed.End = omega arith
+stuck_long : (here : Stage) (n m : ℕ) (cause : Cause) → LongLine ≡ stuck_cause here → cond (ltb LONGEST_LINE n) (Some LongLine) None ≡ Some cause → Stuck here n m cause
+stuck_long here n m cause is h = let l = long_at n cause h in (inl l.0, sym is ∙ l.1)
 
--- where what the line said can't be kept
-pub unkept_coming : (old mid new : Seen) (deployment now_deployment : Option Deployed) (acts now_acts : List Act) (begun : List ℕ) (line : Line) (told : ScriptFault) → IsComing old deployment acts begun → Takes old.fault old.state mid (Ok line) begun → old.fault ≡ None
-    → kept now_deployment now_acts ≡ kept deployment acts → new ≡ failed mid.state told → IsComing new now_deployment now_acts begun
-unkept_coming old mid new deployment now_deployment acts now_acts begun line told coming takes none keeps fails =
-    let good = good_of old mid begun line takes none in
-    let more = more_acts old.state.acts good.says in
-    let fit = fit_after old.state begun good.says coming.fit good.good in
-    let at : new ≡ failed (after old.state good.says) told = fails ∙ ap (λ (seen : Seen). failed seen.state told) good.goes in
-    let here : IsComing (failed (after old.state good.says) told) deployment acts begun = record { fit = fit; whole = coming.whole; none = coming.none; few = omega (arith, coming.few); short = coming.short; going = λ never. absurd (cc) } in
-    subst (λ (seen : Seen). IsComing seen now_deployment now_acts begun) (sym at)
-    (subst (λ (r : Reading). IsComing (failed (after old.state good.says) told) r.deployment r.acts begun) (sym keeps) here)
+stuck_at : (here : Stage) (n m : ℕ) (cause : Cause) → n ≤ LONGEST_LINE + m → cond (is_ended here && ltb 0 m) (Some AfterEnd) (cond (ltb LONGEST_LINE n) (Some LongLine) None) ≡ Some cause → Stuck here n m cause
+stuck_at stage.Ended n m cause few h = go (ltb 0 m) refl h
+  where
+    go : (b : Bool) → ltb 0 m ≡ b → cond b (Some AfterEnd) (cond (ltb LONGEST_LINE n) (Some LongLine) None) ≡ Some cause → Stuck stage.Ended n m cause
+    go true e h = (inr (refl, ltb-true 0 m e), cc)
+    go false e h =
+        let long = (long_at n cause h).0 in
+        let none : m ≤ 0 = ltb-false 0 m e in
+        absurd (omega (arith, long))
+stuck_at stage.Start n m cause few h = stuck_long stage.Start n m cause refl h
+stuck_at stage.Sites n m cause few h = stuck_long stage.Sites n m cause refl h
+stuck_at stage.Gears n m cause few h = stuck_long stage.Gears n m cause refl h
+stuck_at stage.Header n m cause few h = stuck_long stage.Header n m cause refl h
+stuck_at stage.Body n m cause few h = stuck_long stage.Body n m cause refl h
 
-pub bad_will : (old new : Seen) (deployment : Option Deployed) (acts : List Act) (begun : List ℕ) (told : ScriptFault) → Takes old.fault old.state new (Err told) begun → old.fault ≡ None → told.cause ≢ Memory
-    → (more : List ℕ) → will_be (came new deployment acts begun) more ≡ will_be (came old deployment acts begun) (10 ∷ more)
+-- as long as the line is with the part, it can't go on
+grown_stuck : (s : State) (begun part : List ℕ) → (LONGEST_LINE < length begun + length part) ⊎ ((s.stage ≡ stage.Ended) × (0 < length part)) → IsStuck s (begun ++ part)
+grown_stuck s begun part (inl long) = inl (omega (arith, length-append begun part))
+grown_stuck s begun part (inr (e, some)) = inr (e, omega (arith, length-append begun part))
+
+pub front_stops : (old new : Came) (part : List ℕ) (told : ScriptFault) (cause : Cause) → known_fault old ≡ None → HasNo 10 part → length old.begun ≤ LONGEST_LINE → new.lines ≡ stopped_at old.lines told
+    → told ≡ fault_at old.lines.seen.state cause → (cause ≢ Memory → stuck_with old.lines.seen.state (length old.begun + length part) (length part) ≡ Some cause) → HasStopped old new part told
 unfolding will_be
-bad_will old new deployment acts begun told takes none not_memory more = line_fails old new (kept deployment acts) begun told takes none not_memory more
+front_stops old new part told cause none other short stays is stuck =
+    let s = old.lines.seen.state in
+    let r : Reading = kept old.lines.deployment old.lines.acts in
+    let knows : new.lines.seen.fault ≡ Some told = ap (λ (l : WholeLines). l.seen.fault) stays in record {
+      knows = knows;
+      line = ap (λ (f : ScriptFault). f.line) is ∙ sym (ap (λ (l : WholeLines). number_of l.seen.state) stays);
+      same = λ not_memory more.
+          let at = stuck_at s.stage (length old.begun + length part) (length part) cause (omega (arith, short)) (stuck (λ memory. not_memory (ap (λ (f : ScriptFault). f.cause) is ∙ memory))) in
+          ap (λ (l : WholeLines). means l new.begun more) stays
+          ∙ ap (stopped r) is
+          ∙ ap (λ (c : Cause). bad s r c) (sym at.1)
+          ∙ sym (goes_on-stuck s r (old.begun ++ part) more (grown_stuck s old.begun part at.0))
+          ∙ sym (part_keeps s r old.begun part more other)
+          ∙ sym (fresh old.lines.seen r old.begun (part ++ more) none);
+    }
 
-pub line_will : (old new : Seen) (deployment now_deployment : Option Deployed) (acts now_acts : List Act) (begun now : List ℕ) (line : Line) → Takes old.fault old.state new (Ok line) begun → old.fault ≡ None
-    → kept now_deployment now_acts ≡ with_line (kept deployment acts) line → now ≡ [] → (more : List ℕ) → will_be (came new now_deployment now_acts now) more ≡ will_be (came old deployment acts begun) (10 ∷ more)
-unfolding will_be
-line_will old new deployment now_deployment acts now_acts begun now line takes none keeps empty more = line_goes old new (kept deployment acts) (kept now_deployment now_acts) begun now line takes none keeps empty more
+-- a piece whose first part has come, and whose next line is bad
+pub stopped_within : (first old new : Came) (piece rest line later : List ℕ) (told : ScriptFault) → IsCut 10 rest line later → ((more : List ℕ) → will_be old (rest ++ more) ≡ will_be first (piece ++ more))
+    → HasStopped old new (line ++ 10 ∷ []) told → HasStopped first new piece told
+stopped_within first old new piece rest line later told c same stops = record {
+  knows = stops.knows;
+  line = stops.line;
+  same = λ not_memory more.
+      after_fault new told stops.knows more ∙ sym (after_fault new told stops.knows (later ++ more)) ∙ stops.same not_memory (later ++ more)
+      ∙ ap (will_be old) (append_assoc line (10 ∷ []) (later ++ more) ∙ sym (append_assoc line (10 ∷ later) more) ∙ ap (λ bs. bs ++ more) (sym c.whole))
+      ∙ same more;
+}
 
-pub line_adds : (old new : Seen) (deployment now_deployment : Option Deployed) (acts now_acts : List Act) (begun now : List ℕ) (line : Line) → IsComing old deployment acts begun → Takes old.fault old.state new (Ok line) begun → old.fault ≡ None → now ≡ []
-    → bytes_of (came old deployment acts begun) + 1 ≤ bytes_of (came new now_deployment now_acts now)
-unfolding bytes_of
-line_adds old new deployment now_deployment acts now_acts begun now line coming takes none empty =
-    let good = good_of old new begun line takes none in
-    let more = line_counted old.state begun good.says coming.fit good.good in
-    let at : number_of new.state ≡ number_of (after old.state good.says) = ap (λ (seen : Seen). number_of seen.state) good.goes in
-    omega (arith, ap length empty)
+-- bytes that are kept make the line longer
+pub front_takes : (old new : Came) (part : List ℕ) → known_fault old ≡ None → HasNo 10 part → new.lines ≡ old.lines → new.begun ≡ old.begun ++ part → HasTaken old new part
+unfolding will_be bytes_of
+front_takes old new part none other same longer = record {
+  fresh = ap (λ (l : WholeLines). l.seen.fault) same ∙ none;
+  same = λ more.
+      ap (λ (l : WholeLines). means l new.begun more) same
+      ∙ ap (λ bs. means old.lines bs more) longer
+      ∙ fresh old.lines.seen (kept old.lines.deployment old.lines.acts) (old.begun ++ part) more none
+      ∙ sym (part_keeps old.lines.seen.state (kept old.lines.deployment old.lines.acts) old.begun part more other)
+      ∙ sym (fresh old.lines.seen (kept old.lines.deployment old.lines.acts) old.begun (part ++ more) none);
+  counted =
+      let at : number_of new.lines.seen.state ≡ number_of old.lines.seen.state = ap (λ (l : WholeLines). number_of l.seen.state) same in
+      omega (arith, ap length longer, length-append old.begun part);
+}
+
+pub settled_after : (new : Came) (result : Result (Unit {0}) ScriptFault) (old : Came) (piece : List ℕ) → TakesPiece old new result piece → OnErr result ((more : List ℕ) → will_be new more ≡ will_be new [])
+settled_after new (Ok x) old piece takes = tt
+settled_after new (Err told) old piece takes = after_fault new told takes.knows
 
 -- ---- bounds
 
-pub few_bytes : (r : Came) → IsComing r.seen r.deployment r.acts r.begun → bytes_of r ≤ MOST_BYTES
+pub few_bytes : (r : Came) → IsFit r.lines.seen.state → length r.begun ≤ LONGEST_LINE → bytes_of r ≤ MOST_BYTES
 unfolding bytes_of
-few_bytes r coming = omega (arith, lines_counted r.seen.state coming.fit, coming.short)
+few_bytes r fit short = omega (arith, lines_counted r.lines.seen.state fit)
 
 -- ---- a text read at once
 
-pub read_fault : (old new : Came) (live : Bool) (bytes : List ℕ) (told : ScriptFault) → ((text : List ℕ) → will_be old text ≡ reading live text) → ((more : List ℕ) → will_be new more ≡ will_be old (bytes ++ more)) → new.seen.fault ≡ Some told
+pub read_fault : (old new : Came) (live : Bool) (bytes : List ℕ) (told : ScriptFault) → ((text : List ℕ) → will_be old text ≡ reading live text) → ((more : List ℕ) → will_be new more ≡ will_be old (bytes ++ more)) → new.lines.seen.fault ≡ Some told
     → (reading live bytes).fault ≡ Some told
 unfolding will_be
 read_fault old new live bytes told begins goes known =
     let whole = sym (begins bytes) ∙ ap (will_be old) (sym (append-nil bytes)) ∙ sym (goes []) in
-    ap (λ (r : Reading). r.fault) whole ∙ ap (λ (f : Option ScriptFault). (meaning f new.seen.state (kept new.deployment new.acts) new.begun []).fault) known
+    ap (λ (r : Reading). r.fault) whole ∙ ap (λ (f : Option ScriptFault). (meaning f new.lines.seen.state (kept new.lines.deployment new.lines.acts) new.begun []).fault) known
 
 pub read_whole : (old new : Came) (live : Bool) (bytes : List ℕ) (found : Reading) → ((text : List ℕ) → will_be old text ≡ reading live text) → ((more : List ℕ) → will_be new more ≡ will_be old (bytes ++ more)) → found ≡ will_be new [] → reading live bytes ≡ found
 read_whole old new live bytes found begins goes is = sym (begins bytes) ∙ ap (will_be old) (sym (append-nil bytes)) ∙ sym (goes []) ∙ sym is

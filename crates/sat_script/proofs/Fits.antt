@@ -11,7 +11,7 @@ use Rattle.sat_label.specs.Words.{first_failing}
 use Rattle.sat_label.proofs.First.{first_more, first_none, first_start}
 use Rattle.sat_tree.specs.Shape.{TreeShape}
 use Rattle.sat_tree.specs.Flaw.{IsSmallTree}
-use Rattle.sat_act.specs.Built.{is_built_act}
+use Rattle.sat_script.specs.Built.{is_built_act}
 use Rattle.sat_act.specs.Deployed.{Deployed}
 use Rattle.sat_act.specs.Flaw.{flaw, wrong_size, is_within, are_sites, item_fits, client_fits, plan_fits}
 use Rattle.sat_act.specs.Limits.{IsDeployment, HaveTrees}
@@ -26,9 +26,13 @@ use Rattle.sat_script.specs.Grammar.{is_end, is_ended, body_line, words_line, li
 use Rattle.sat_script.specs.Causes.{bar, has_client, has_item}
 use Rattle.sat_script.specs.Table.{act_line}
 use Rattle.sat_script.specs.Grammar.{of_act}
+use Rattle.sat_script.specs.declared.dialect.Dialect.{Dialect}
+use Rattle.sat_script.specs.declared.dialect.Dialect.TheVariants as dialect
+use Rattle.sat_script.specs.declared.dialect.Limits.{Limits}
 use Rattle.sat_script.specs.declared.fault.Cause.{Cause}
 use Rattle.sat_script.specs.Kept.{IsSited, AreBuiltPlans, IsOpened, IsWhole, HasHeader, IsFit}
-use Rattle.sat_script.specs.State.{State, start, most_sites, most_clients, most_acts}
+use Rattle.sat_script.specs.Dialect.{limits_of}
+use Rattle.sat_script.specs.State.{State, start}
 use Rattle.sat_script.specs.Words.{words_of, is_text}
 use Rattle.sat_script.specs.declared.limits.TheConstants.{LONGEST_LINE, MOST_GEARS, MOST_ITEMS, MOST_PLANS, MOST_ACTS, MOST_SETTLES}
 use Rattle.sat_script.specs.declared.line.Parsed.{Parsed}
@@ -44,17 +48,17 @@ use Rattle.sat_script.proofs.Trees.{tree_small}
 
 -- ---- limits
 
-pub few_sites : (live : Bool) → most_sites live ≤ 16
-few_sites true = omega arith
-few_sites false = omega arith
+-- no dialect has higher limits than these
+pub record AreFew (l : Limits) : Type 0 where
+  pub sites : l.sites ≤ 16
+  pub items : l.items ≤ MOST_ITEMS
+  pub clients : l.clients ≤ 1024
+  pub acts : l.acts ≤ MOST_ACTS
+  pub settles : l.settles ≤ MOST_SETTLES
 
-pub few_clients : (live : Bool) → most_clients live ≤ 1024
-few_clients true = omega arith
-few_clients false = omega arith
-
-pub few_acts : (live : Bool) → most_acts live ≤ MOST_ACTS
-few_acts true = omega arith
-few_acts false = omega arith
+pub limits_few : (dialect : Dialect) → AreFew (limits_of dialect)
+limits_few dialect.Run = record { sites = omega arith; items = omega arith; clients = omega arith; acts = omega arith; settles = omega arith }
+limits_few dialect.Live = record { sites = omega arith; items = omega arith; clients = omega arith; acts = omega arith; settles = omega arith }
 
 -- ---- any line
 
@@ -282,7 +286,7 @@ opened s n is some few =
 header_after : (here : Stage) (s : State) (p : Parsed) → HasHeader here s.header → length s.header.items ≤ 4096 → length s.header.clients ≤ 1024 → length s.header.plans ≤ 16 → Stands here s p → HasHeader (next_stage here p) (with_parsed s.header p)
 header_after stage.Start s parsed.Format kept a b c h = kept
 header_after stage.Sites s (parsed.Sites n) kept a b c h =
-    let few = few_sites s.live in record {
+    let most = (limits_few s.dialect).sites in record {
       some = omega (arith, h.0);
       few = omega (arith, h.1);
       items = ap (λ (d : Deployed). d.items) kept;
@@ -299,21 +303,21 @@ header_after stage.Body s parsed.End kept a b c h = kept
 header_after _ s _ kept a b c h = absurd h
 
 record Counts (s : State) (p : Parsed) : Type 0 where
-  sites : (with_parsed s.header p).sites ≤ most_sites s.live
-  items : length (with_parsed s.header p).items ≤ MOST_ITEMS
-  clients : length (with_parsed s.header p).clients ≤ most_clients s.live
+  sites : (with_parsed s.header p).sites ≤ (limits_of s.dialect).sites
+  items : length (with_parsed s.header p).items ≤ (limits_of s.dialect).items
+  clients : length (with_parsed s.header p).clients ≤ (limits_of s.dialect).clients
   plans : length (with_parsed s.header p).plans ≤ MOST_PLANS
-  acts : with_act s.acts p ≤ most_acts s.live
-  settles : with_settle s.settles p ≤ MOST_SETTLES
+  acts : with_act s.acts p ≤ (limits_of s.dialect).acts
+  settles : with_settle s.settles p ≤ (limits_of s.dialect).settles
 
-same_counts : (s : State) → IsFit s → (p : Parsed) → with_parsed s.header p ≡ s.header → with_act s.acts p ≤ most_acts s.live → with_settle s.settles p ≡ s.settles → Counts s p
+same_counts : (s : State) → IsFit s → (p : Parsed) → with_parsed s.header p ≡ s.header → with_act s.acts p ≤ (limits_of s.dialect).acts → with_settle s.settles p ≡ s.settles → Counts s p
 same_counts s fit p header acts settles = record {
-  sites = subst (λ (d : Deployed). d.sites ≤ most_sites s.live) (sym header) fit.sites;
-  items = subst (λ (d : Deployed). length d.items ≤ MOST_ITEMS) (sym header) fit.items;
-  clients = subst (λ (d : Deployed). length d.clients ≤ most_clients s.live) (sym header) fit.clients;
+  sites = subst (λ (d : Deployed). d.sites ≤ (limits_of s.dialect).sites) (sym header) fit.sites;
+  items = subst (λ (d : Deployed). length d.items ≤ (limits_of s.dialect).items) (sym header) fit.items;
+  clients = subst (λ (d : Deployed). length d.clients ≤ (limits_of s.dialect).clients) (sym header) fit.clients;
   plans = subst (λ (d : Deployed). length d.plans ≤ MOST_PLANS) (sym header) fit.plans;
   acts = acts;
-  settles = subst (λ (n : ℕ). n ≤ MOST_SETTLES) (sym settles) fit.settles;
+  settles = subst (λ (n : ℕ). n ≤ (limits_of s.dialect).settles) (sym settles) fit.settles;
 }
 
 built_settles : (n : ℕ) (a : Act) → is_built_act a ≡ true → with_settle n (parsed.Act a) ≡ n
@@ -337,9 +341,9 @@ counts _ s _ fit h = absurd h
 pub stands_after : (s : State) (p : Parsed) → IsFit s → Stands s.stage s p → IsFit (after s p)
 stands_after s p fit h =
     let n = counts s.stage s p fit h in
-    let clients = few_clients s.live in
+    let most = limits_few s.dialect in
     record {
-      header = header_after s.stage s p fit.header fit.items (omega (arith, fit.clients)) fit.plans h;
+      header = header_after s.stage s p fit.header (omega (arith, fit.items, most.items)) (omega (arith, fit.clients, most.clients)) fit.plans h;
       sites = n.sites;
       items = n.items;
       clients = n.clients;
@@ -367,5 +371,5 @@ new_of _ s _ h = absurd h
 pub new_after : (s : State) (line : List ℕ) (p : Parsed) → IsFit s → line_at s line ≡ Ok p → IsNew s.header p
 new_after s line p fit h = new_of s.stage s p (line_is s line p fit h).stands
 
-pub fit_start : (live : Bool) → IsFit (start live)
-fit_start live = record { header = refl; sites = omega arith; items = omega arith; clients = omega arith; plans = omega arith; acts = omega arith; settles = omega arith }
+pub fit_start : (dialect : Dialect) → IsFit (start dialect)
+fit_start dialect = record { header = refl; sites = omega arith; items = omega arith; clients = omega arith; plans = omega arith; acts = omega arith; settles = omega arith }

@@ -15,16 +15,19 @@ use Rattle.sat_label.specs.declared.site_set.SiteSet.{SiteSet}
 use Rattle.sat_tree.specs.Shape.{TreeShape}
 use Rattle.sat_act.specs.declared.deployment.Plan.TheVariants as plan
 use Rattle.sat_act.specs.Flaw.{are_sites}
+use Rattle.sat_script.specs.Dialect.{limits_of}
+use Rattle.sat_script.specs.declared.dialect.Dialect.{Dialect}
+use Rattle.sat_script.specs.declared.dialect.Dialect.TheVariants as dialect
 use Rattle.sat_script.specs.Causes.{bar, is_built, has_room, has_client, has_item}
 use Rattle.sat_script.specs.Grammar.{format_line, counted, of_count, sites_line, gears_line, item_line, client_line, begin_line, are_parents, parent_number, tree_on, tree_in, is_tree, tree_line, is_slash, parted_line, stamp_line, plan_line, named_line, header_form, header_line}
 use Rattle.sat_script.specs.Spelled.{sites_text}
 use Rattle.sat_tree.specs.PlanLine.{parent_text}
-use Rattle.sat_script.specs.State.{State, most_sites, most_clients}
+use Rattle.sat_script.specs.State.{State}
 use Rattle.sat_script.specs.Words.{is_number, value_of, is_comma, parts_of, is_rising, are_rising, is_list, set_of, are_below, sites_among, number_below, number_to}
 use Rattle.sat_script.specs.declared.fault.Cause.{Cause}
 use Rattle.sat_script.specs.declared.fault.Cause.TheVariants.{OutOfRange, BadTree}
 use Rattle.sat_script.specs.declared.form.Form.TheVariants as form
-use Rattle.sat_script.specs.declared.limits.TheConstants.{MOST_GEARS, MOST_ITEMS}
+use Rattle.sat_script.specs.declared.limits.TheConstants.{MOST_GEARS}
 use Rattle.sat_script.specs.declared.line.Parsed.{Parsed}
 use Rattle.sat_script.specs.declared.line.Parsed.TheVariants as parsed
 use Rattle.sat_script.proofs.Bars.{free}
@@ -156,18 +159,18 @@ of_count_is : (says : ℕ → Parsed) (r : Result ℕ Cause) (p : Parsed) → of
 of_count_is says (Ok n) p h = (n, refl, same_ok (says n) p h)
 of_count_is says (Err cause) p h = absurd (cc)
 
-small_sites : (live : Bool) → most_sites live ≤ 16
-small_sites true = omega arith
-small_sites false = omega arith
+small_sites : (dialect : Dialect) → (limits_of dialect).sites ≤ 16
+small_sites dialect.Run = omega arith
+small_sites dialect.Live = omega arith
 
-pub sites_is : (s : State) (words : List (List ℕ)) (p : Parsed) → sites_line s.live words ≡ Ok p → IsGood stage.Sites s words p
+pub sites_is : (s : State) (words : List (List ℕ)) (p : Parsed) → sites_line s.dialect words ≡ Ok p → IsGood stage.Sites s words p
 unfolding sites_line
 sites_is s [] p h = absurd (cc)
 sites_is s (word ∷ []) p h = absurd (cc)
 sites_is s (word ∷ number ∷ []) p h =
-    let few = small_sites s.live in
-    let c = of_count_is parsed.Sites (counted (codes "sites") (most_sites s.live) word number) p h in
-    let is = counted_is (codes "sites") (most_sites s.live) word number c.0 (omega arith) c.1 in
+    let few = small_sites s.dialect in
+    let c = of_count_is parsed.Sites (counted (codes "sites") (limits_of s.dialect).sites word number) p h in
+    let is = counted_is (codes "sites") (limits_of s.dialect).sites word number c.0 (omega arith) c.1 in
     subst (λ (p : Parsed). IsGood stage.Sites s (word ∷ number ∷ []) p) c.2 (record { spelled = two_words word number _ _ is.0 is.1; stands = (is.2, is.3) })
 sites_is s (word ∷ number ∷ other ∷ words) p h = absurd (cc)
 
@@ -198,7 +201,7 @@ item_says s word name sites p few is h =
     subst (λ (p : Parsed). IsGood stage.Header s (word ∷ name ∷ sites ∷ []) p) (same_ok _ p set.2)
     (record {
       spelled = three_words word name sites _ _ _ is refl list.0;
-      stands = record { name = shapes.0; sites = list.1; clients = empty s.header.clients places.0; plans = empty s.header.plans places.1; room = ltb-true (length s.header.items) MOST_ITEMS room; new = new.0 };
+      stands = record { name = shapes.0; sites = list.1; clients = empty s.header.clients places.0; plans = empty s.header.plans places.1; room = ltb-true (length s.header.items) (limits_of s.dialect).items room; new = new.0 };
     })
 
 client_says : (s : State) (word name site : List ℕ) (p : Parsed) → s.header.sites ≤ 16 → word ≡ codes "client" → client_line s name site ≡ Ok p → IsGood stage.Header s (word ∷ name ∷ site ∷ []) p
@@ -215,7 +218,7 @@ client_says s word name site p few is h =
     subst (λ (p : Parsed). IsGood stage.Header s (word ∷ name ∷ site ∷ []) p) (same_ok _ p home.2)
     (record {
       spelled = three_words word name site _ _ _ is refl at.1;
-      stands = record { name = shapes.0; home = at.0; plans = empty s.header.plans t.0; room = ltb-true (length s.header.clients) (most_clients s.live) room; new = new.0 };
+      stands = record { name = shapes.0; home = at.0; plans = empty s.header.plans t.0; room = ltb-true (length s.header.clients) (limits_of s.dialect).clients room; new = new.0 };
     })
 
 -- ---- plans

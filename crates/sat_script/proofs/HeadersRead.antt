@@ -1,5 +1,5 @@
 -- The spelling of a header's line is read as what it says.
-use Rattle.std.proofs.Common.{◌≡◌, ℕ, ◌<◌, ◌≤◌, ◌^◌, Bool, true, false, not, ◌||◌, eqb, ltb, List, [], ◌∷◌, length, map, filter, Some, None, Ok, sym, ap, ◌∙◌, refl, subst, arith}
+use Rattle.std.proofs.Common.{◌≡◌, ℕ, ◌<◌, ◌≤◌, ◌^◌, Bool, true, false, ◌||◌, eqb, ltb, List, [], ◌∷◌, length, map, filter, Some, None, Ok, sym, ap, ◌∙◌, refl, subst, arith}
 use Rattle.std.specs.Str.{bytes_eq}
 use Rattle.std.specs.Prelude.{codes}
 use Rattle.std.specs.Fmt.{decimal}
@@ -13,13 +13,17 @@ use Rattle.sat_label.specs.declared.site_set.SiteSet.{SiteSet}
 use Rattle.sat_act.specs.declared.deployment.Item.{Item}
 use Rattle.sat_act.specs.declared.deployment.ClientLine.{ClientLine}
 use Rattle.sat_act.specs.declared.deployment.Plan.{Plan}
-use Rattle.sat_script.specs.Causes.{bar, is_built, is_live, has_room}
+use Rattle.sat_script.specs.Dialect.{is_live, limits_of, has_form}
+use Rattle.sat_script.specs.declared.dialect.Dialect.{Dialect}
+use Rattle.sat_script.specs.declared.dialect.Dialect.TheVariants as dialect
+use Rattle.sat_script.specs.Causes.{bar, is_built, has_room}
 use Rattle.sat_script.specs.Grammar.{format_line, counted, of_count, sites_line, gears_line, item_line, client_line, begin_line, named_line, header_form, header_line}
 use Rattle.sat_script.specs.Spelled.{item_words, client_words, sites_text}
-use Rattle.sat_script.specs.State.{State, most_sites, most_clients}
+use Rattle.sat_script.specs.State.{State}
 use Rattle.sat_script.specs.Words.{is_number, value_of, is_comma, parts_of, is_rising, are_rising, is_list, set_of, are_below, sites_among}
+use Rattle.sat_script.specs.declared.form.Form.{Form}
 use Rattle.sat_script.specs.declared.form.Form.TheVariants as form
-use Rattle.sat_script.specs.declared.limits.TheConstants.{MOST_GEARS, MOST_ITEMS, MOST_PLANS}
+use Rattle.sat_script.specs.declared.limits.TheConstants.{MOST_GEARS, MOST_PLANS}
 use Rattle.sat_script.specs.declared.line.Parsed.TheVariants as parsed
 use Rattle.sat_script.proofs.Bars.{bars_nothing}
 use Rattle.sat_script.proofs.Digits.{decimal_number, decimal_value, decimal_between, below_reads, to_reads}
@@ -131,33 +135,33 @@ counted_reads : (keyword : List ℕ) (limit n : ℕ) → bytes_eq keyword keywor
 unfolding counted
 counted_reads keyword limit n same some few small = rw (to_reads limit n some few small, same, decimal_number n (omega arith)) refl
 
-small_sites : (live : Bool) → most_sites live ≤ 16
-small_sites true = omega arith
-small_sites false = omega arith
+small_sites : (dialect : Dialect) → (limits_of dialect).sites ≤ 16
+small_sites dialect.Run = omega arith
+small_sites dialect.Live = omega arith
 
-pub sites_reads : (live : Bool) (n : ℕ) → 1 ≤ n → n ≤ most_sites live → sites_line live (codes "sites" ∷ decimal n ∷ []) ≡ Ok (parsed.Sites n)
+pub sites_reads : (dialect : Dialect) (n : ℕ) → 1 ≤ n → n ≤ (limits_of dialect).sites → sites_line dialect (codes "sites" ∷ decimal n ∷ []) ≡ Ok (parsed.Sites n)
 unfolding sites_line
-sites_reads live n some few = let most = small_sites live in ap (of_count parsed.Sites) (counted_reads (codes "sites") (most_sites live) n refl some few (omega arith))
+sites_reads dialect n some few = let most = small_sites dialect in ap (of_count parsed.Sites) (counted_reads (codes "sites") (limits_of dialect).sites n refl some few (omega arith))
 
 pub gears_reads : (n : ℕ) → 1 ≤ n → n ≤ MOST_GEARS → gears_line (codes "gears" ∷ decimal n ∷ []) ≡ Ok (parsed.Gears n)
 unfolding gears_line
 gears_reads n some few = ap (of_count parsed.Gears) (counted_reads (codes "gears") MOST_GEARS n refl some few (omega arith))
 
-or_true : (b : Bool) → (not b || true) ≡ true
-or_true true = refl
-or_true false = refl
+any_live : (dialect : Dialect) (f : Form) → is_live f ≡ true → has_form dialect f ≡ true
+any_live dialect.Run f h = refl
+any_live dialect.Live f h = h
 
-item_free : (s : State) → length s.header.items < MOST_ITEMS → bar s form.Item ≡ None
+item_free : (s : State) → length s.header.items < (limits_of s.dialect).items → bar s form.Item ≡ None
 unfolding is_built is_live has_room
-item_free s room = bars_nothing s form.Item refl (or_true s.live) (lt-ltb (length s.header.items) MOST_ITEMS room)
+item_free s room = bars_nothing s form.Item refl (any_live s.dialect form.Item refl) (lt-ltb (length s.header.items) (limits_of s.dialect).items room)
 
-client_free : (s : State) → length s.header.clients < most_clients s.live → bar s form.Client ≡ None
+client_free : (s : State) → length s.header.clients < (limits_of s.dialect).clients → bar s form.Client ≡ None
 unfolding is_built is_live has_room
-client_free s room = bars_nothing s form.Client refl (or_true s.live) (lt-ltb (length s.header.clients) (most_clients s.live) room)
+client_free s room = bars_nothing s form.Client refl (any_live s.dialect form.Client refl) (lt-ltb (length s.header.clients) (limits_of s.dialect).clients room)
 
 pub tree_free : (s : State) → s.header.plans ≡ [] → bar s form.PlanTree ≡ None
 unfolding is_built is_live has_room
-tree_free s none = bars_nothing s form.PlanTree (ap (λ (ps : List Plan). eqb (length ps) 0) none) (or_true s.live) (ap (λ (ps : List Plan). ltb (length ps) MOST_PLANS) none)
+tree_free s none = bars_nothing s form.PlanTree (ap (λ (ps : List Plan). eqb (length ps) 0) none) (any_live s.dialect form.PlanTree refl) (ap (λ (ps : List Plan). ltb (length ps) MOST_PLANS) none)
 
 item_said : (s : State) (item : Item) → s.header.sites ≤ 16 → IsSites s.header.sites item.replicas → ItemStands s item → item_line s item.name (sites_text item.replicas) ≡ Ok (parsed.Item item)
 unfolding item_line

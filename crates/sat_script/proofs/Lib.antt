@@ -1,5 +1,7 @@
 pub mod Numbers
 pub mod Choices
+pub mod Cuts
+pub mod First
 pub mod Digits
 pub mod Lookup
 pub mod Meaning

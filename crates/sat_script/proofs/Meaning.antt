@@ -1,9 +1,10 @@
 -- What one more byte does to a script of which only a front has come.
-use Rattle.std.proofs.Common.{◌≡◌, ◌≢◌, ◌⊎◌, inl, inr, ℕ, ◌<◌, Bool, true, false, ltb, List, [], ◌∷◌, ◌++◌, length, Some, Result, Err, sym, ap, ◌∙◌, refl, arith}
+use Rattle.std.proofs.Common.{◌≡◌, ◌⊎◌, inl, inr, ℕ, ◌<◌, Bool, true, false, ltb, List, [], ◌∷◌, ◌++◌, length, Some, Result, Err, sym, ap, ◌∙◌, refl, arith}
 use Rattle.std.specs.List.{slice_split, onto_first}
 use Rattle.std.proofs.lemmas.List.{append-nil, append_assoc, length-append}
 use Rattle.std.proofs.lemmas.List.Splits.{slice_split-cons_no, length-slice_split}
 use Rattle.std.proofs.lemmas.Bool.Decides.{nat_tests}
+use Rattle.sat_script.specs.Dialect.{dialect_of}
 use Rattle.sat_script.specs.Causes.{refused}
 use Rattle.sat_script.specs.Grammar.{is_ended, line_at, close_at, close_in}
 use Rattle.sat_script.specs.Reading.{script_from, reading, nothing, after_line, bad, closed}
@@ -30,16 +31,15 @@ front_onto_first begun b [] = refl
 front_onto_first begun b (part ∷ parts) = ap (λ front. front ∷ parts) (sym (append_assoc begun (b ∷ []) part))
 
 -- nothing has come
-pub goes_on-none : (live : Bool) (more : List ℕ) → goes_on (start live) nothing [] more ≡ reading live more
+pub goes_on-none : (live : Bool) (more : List ℕ) → goes_on (start (dialect_of live)) nothing [] more ≡ reading live more
 unfolding goes_on reading
 goes_on-none live more = let p = first_part more in rw p.2 refl
 
 -- a byte of the line
-pub goes_on-byte : (s : State) (r : Reading) (begun : List ℕ) (b : ℕ) (more : List ℕ) → b ≢ 10 → goes_on s r begun (b ∷ more) ≡ goes_on s r (begun ++ b ∷ []) more
+pub goes_on-byte : (s : State) (r : Reading) (begun : List ℕ) (b : ℕ) (more : List ℕ) → is_newline b ≡ false → goes_on s r begun (b ∷ more) ≡ goes_on s r (begun ++ b ∷ []) more
 unfolding goes_on
 goes_on-byte s r begun b more other =
-    let no : is_newline b ≡ false = grind (arith, nat_tests) in
-    ap (λ parts. script_from s r (onto_front begun parts)) (slice_split-cons_no is_newline b more no)
+    ap (λ parts. script_from s r (onto_front begun parts)) (slice_split-cons_no is_newline b more other)
     ∙ ap (script_from s r) (front_onto_first begun b (slice_split is_newline more))
 
 line_then : (s : State) (r : Reading) (begun : List ℕ) (parts : List (List ℕ)) → 0 < length parts

@@ -1,94 +1,52 @@
 -- What the calls of a reader of lines do to what a script will be.
-use Rattle.std.proofs.Common.{◌≡◌, ◌≢◌, ℕ, List, [], ◌∷◌, ◌++◌, Option, Some, None, Result, Ok, Err, sym, ap, ◌∙◌, refl, subst}
+use Rattle.std.proofs.Common.{◌≡◌, ℕ, false, eqb, List, [], ◌∷◌, ◌++◌, Option, Some, None, Result, Ok, Err, sym, ap, ◌∙◌, arith}
+use Rattle.std.proofs.lemmas.List.{append-nil, append_assoc}
+use Rattle.std.proofs.lemmas.List.Elements.{All-tail}
 use Rattle.sat_act.specs.declared.act.Act.{Act}
 use Rattle.sat_act.specs.Deployed.{Deployed}
-use Rattle.sat_script.specs.Grammar.{after}
-use Rattle.sat_script.specs.Lines.{Takes, TakesFresh, Closes, ClosesFresh, IsGoodLine, failed}
+use Rattle.sat_script.specs.Grammar.{line_at, after}
+use Rattle.sat_script.specs.Lines.{Closes}
 use Rattle.sat_script.specs.Reading.{after_line, bad, stopped, closed, fault_at, told_line, with_line}
 use Rattle.sat_script.specs.State.{State, Seen, number_of}
 use Rattle.sat_script.specs.Stream.{goes_on, meaning}
-use Rattle.sat_script.specs.declared.fault.Cause.TheVariants.{Memory}
+use Rattle.sat_script.specs.Words.{HasNo}
+use Rattle.sat_script.specs.declared.fault.Cause.{Cause}
 use Rattle.sat_script.specs.declared.fault.ScriptFault.{ScriptFault}
-use Rattle.sat_script.specs.declared.line.Line.{Line}
+use Rattle.sat_script.specs.declared.line.Parsed.{Parsed}
 use Rattle.sat_script.specs.declared.stream.Reading.{Reading}
-use Rattle.sat_script.proofs.Meaning.{goes_on-byte, goes_on-line, goes_on-end, goes_on-stuck, stuck_end, stuck_cause, IsStuck}
+use Rattle.sat_script.proofs.Meaning.{goes_on-byte, goes_on-line, goes_on-end}
 
 abbrev means : Seen → Reading → List ℕ → List ℕ → Reading
 means seen r begun more = meaning seen.fault seen.state r begun more
 
-fresh : (seen : Seen) (r : Reading) (begun more : List ℕ) → seen.fault ≡ None → means seen r begun more ≡ goes_on seen.state r begun more
+pub fresh : (seen : Seen) (r : Reading) (begun more : List ℕ) → seen.fault ≡ None → means seen r begun more ≡ goes_on seen.state r begun more
 fresh seen r begun more e = ap (λ (f : Option ScriptFault). meaning f seen.state r begun more) e
 
 fault_is : (s : State) (told : ScriptFault) → told.line ≡ number_of s → fault_at s told.cause ≡ told
 fault_is s told line = ap (λ (n : ℕ). (let f : ScriptFault = record { line = n; cause = told.cause } in f)) (sym line)
-
-halted : (seen : Seen) (r : Reading) (begun more : List ℕ) (s : State) (told : ScriptFault) → seen ≡ failed s told → told.line ≡ number_of s → means seen r begun more ≡ bad s r told.cause
-halted seen r begun more s told e line = ap (λ (seen : Seen). means seen r begun more) e ∙ ap (stopped r) (sym (fault_is s told line))
 
 -- what comes after a fault changes nothing
 pub settled : (seen : Seen) (r : Reading) (begun more : List ℕ) (told : ScriptFault) → seen.fault ≡ Some told → means seen r begun more ≡ means seen r begun []
 settled seen r begun more told e =
     ap (λ (f : Option ScriptFault). meaning f seen.state r begun more) e ∙ sym (ap (λ (f : Option ScriptFault). meaning f seen.state r begun []) e)
 
--- ---- a byte of a line
+-- ---- bytes of a line
 
-pub byte_keeps : (seen : Seen) (r : Reading) (begun now : List ℕ) (b : ℕ) → seen.fault ≡ None → now ≡ begun ++ b ∷ [] → b ≢ 10 → (more : List ℕ) → means seen r now more ≡ means seen r begun (b ∷ more)
-byte_keeps seen r begun now b none is other more =
-    fresh seen r now more none ∙ ap (λ bs. goes_on seen.state r bs more) is ∙ sym (goes_on-byte seen.state r begun b more other)
-    ∙ sym (fresh seen r begun (b ∷ more) none)
+-- they make it longer
+pub part_keeps : (s : State) (r : Reading) (begun part more : List ℕ) → HasNo 10 part → goes_on s r begun (part ++ more) ≡ goes_on s r (begun ++ part) more
+part_keeps s r begun [] more none = ap (λ bs. goes_on s r bs more) (sym (append-nil begun))
+part_keeps s r begun (b ∷ part) more none =
+    goes_on-byte s r begun b (part ++ more) (none 0 b (omega arith))
+    ∙ part_keeps s r (begun ++ b ∷ []) part more (All-tail (λ other. eqb other 10 ≡ false) b part none)
+    ∙ ap (λ bs. goes_on s r bs more) (append_assoc begun (b ∷ []) part)
 
-closes_fresh : (f : Option ScriptFault) (s : State) (new : Seen) (result : Result (Unit {0}) ScriptFault) (rest : List ℕ) → f ≡ None → Closes f s new result rest → ClosesFresh s new result rest
-closes_fresh f s new result rest e h = subst (λ (f : Option ScriptFault). Closes f s new result rest) e h
+-- ---- a whole line
 
--- a line that can't go on is refused
-pub stops : (old new : Seen) (result : Result (Unit {0}) ScriptFault) (now : List ℕ) → Closes old.fault old.state new result now → old.fault ≡ None → IsStuck old.state now
-    → (told : ScriptFault) × (result ≡ Err told) × (new ≡ failed old.state told) × (fault_at old.state (stuck_cause old.state.stage) ≡ told)
-stops old new (Ok x) now closes none stuck =
-    let c = closes_fresh old.fault old.state new (Ok x) now none closes in
-    let never : None ≡ Some (stuck_cause old.state.stage) = sym c.0 ∙ stuck_end old.state now stuck in absurd (cc)
-stops old new (Err told) now closes none stuck =
-    let c = closes_fresh old.fault old.state new (Err told) now none closes in
-    let same : told.cause ≡ stuck_cause old.state.stage = (let e : Some told.cause ≡ Some (stuck_cause old.state.stage) = sym c.1 ∙ stuck_end old.state now stuck in cc) in
-    (told, refl, c.2, ap (fault_at old.state) (sym same) ∙ fault_is old.state told c.0)
+pub line_fails : (s : State) (r : Reading) (begun : List ℕ) (cause : Cause) → line_at s begun ≡ Err cause → (more : List ℕ) → goes_on s r begun (10 ∷ more) ≡ bad s r cause
+line_fails s r begun cause e more = goes_on-line s r begun more ∙ ap (after_line s r (λ later kept. goes_on later kept [] more)) e
 
-pub byte_stops : (old new : Seen) (r : Reading) (begun now : List ℕ) (b : ℕ) (told : ScriptFault) → new ≡ failed old.state told → fault_at old.state (stuck_cause old.state.stage) ≡ told → old.fault ≡ None → now ≡ begun ++ b ∷ [] → b ≢ 10 → IsStuck old.state now
-    → (more : List ℕ) → means new r now more ≡ means old r begun (b ∷ more)
-byte_stops old new r begun now b told fails at none is other stuck more =
-    ap (λ (seen : Seen). means seen r now more) fails
-    ∙ ap (stopped r) (sym at)
-    ∙ sym (goes_on-stuck old.state r now more stuck)
-    ∙ ap (λ bs. goes_on old.state r bs more) is
-    ∙ sym (goes_on-byte old.state r begun b more other)
-    ∙ sym (fresh old r begun (b ∷ more) none)
-
--- ---- the end of a line
-
-takes_fresh : (f : Option ScriptFault) (s : State) (new : Seen) (result : Result Line ScriptFault) (bytes : List ℕ) → f ≡ None → Takes f s new result bytes → TakesFresh s new result bytes
-takes_fresh f s new result bytes e h = subst (λ (f : Option ScriptFault). Takes f s new result bytes) e h
-
-pub line_fails : (old new : Seen) (r : Reading) (begun : List ℕ) (told : ScriptFault) → Takes old.fault old.state new (Err told) begun → old.fault ≡ None → told.cause ≢ Memory
-    → (more : List ℕ) → means new r begun more ≡ means old r begun (10 ∷ more)
-line_fails old new r begun told takes none not_memory more =
-    let fails = takes_fresh old.fault old.state new (Err told) begun none takes in
-    halted new r begun more old.state told fails.1 fails.0.line
-    ∙ sym (ap (after_line old.state r (λ later kept. goes_on later kept [] more)) (fails.0.cause not_memory))
-    ∙ sym (goes_on-line old.state r begun more)
-    ∙ sym (fresh old r begun (10 ∷ more) none)
-
-pub good_of : (old new : Seen) (begun : List ℕ) (line : Line) → Takes old.fault old.state new (Ok line) begun → old.fault ≡ None → IsGoodLine old.state begun line new
-good_of old new begun line takes none = takes_fresh old.fault old.state new (Ok line) begun none takes
-
-pub line_goes : (old new : Seen) (r kept : Reading) (begun now : List ℕ) (line : Line) → Takes old.fault old.state new (Ok line) begun → old.fault ≡ None → kept ≡ with_line r line → now ≡ []
-    → (more : List ℕ) → means new kept now more ≡ means old r begun (10 ∷ more)
-line_goes old new r kept begun now line takes none keeps empty more =
-    let good = good_of old new begun line takes none in
-    let line_is : with_line r line ≡ with_line r (told_line old.state.header good.says) = ap (with_line r) good.told in
-    ap (λ (seen : Seen). means seen kept now more) good.goes
-    ∙ ap (λ (kept : Reading). goes_on (after old.state good.says) kept now more) (keeps ∙ line_is)
-    ∙ ap (λ bs. goes_on (after old.state good.says) (with_line r (told_line old.state.header good.says)) bs more) empty
-    ∙ sym (ap (after_line old.state r (λ later kept. goes_on later kept [] more)) good.good)
-    ∙ sym (goes_on-line old.state r begun more)
-    ∙ sym (fresh old r begun (10 ∷ more) none)
+pub line_goes : (s : State) (r : Reading) (begun : List ℕ) (p : Parsed) → line_at s begun ≡ Ok p → (more : List ℕ) → goes_on s r begun (10 ∷ more) ≡ goes_on (after s p) (with_line r (told_line s.header p)) [] more
+line_goes s r begun p e more = goes_on-line s r begun more ∙ ap (after_line s r (λ later kept. goes_on later kept [] more)) e
 
 -- ---- the end of the text
 

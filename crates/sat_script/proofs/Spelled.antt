@@ -19,15 +19,18 @@ use Rattle.sat_act.specs.declared.deployment.Item.{Item}
 use Rattle.sat_act.specs.declared.deployment.ClientLine.{ClientLine}
 use Rattle.sat_act.specs.declared.deployment.Plan.{Plan}
 use Rattle.sat_act.specs.declared.deployment.Plan.TheVariants as plan
+use Rattle.sat_script.specs.Dialect.{limits_of, dialect_of}
+use Rattle.sat_script.specs.declared.dialect.Dialect.{Dialect}
+use Rattle.sat_script.specs.declared.dialect.Dialect.TheVariants as dialect
 use Rattle.sat_script.specs.Causes.{bar, has_client, has_item}
 use Rattle.sat_script.specs.Grammar.{is_ended, body_line, words_line, line_at, close_in, after, with_settle}
 use Rattle.sat_script.specs.Table.{act_line, act_words}
 use Rattle.sat_script.specs.Kept.{IsWhole, IsFit}
-use Rattle.sat_script.specs.Reading.{script_from, reading, nothing, after_line, good, told_line, with_line, AreBuiltActs, AreAllowed, IsAllowed}
+use Rattle.sat_script.specs.Reading.{script_from, reading, nothing, after_line, good, told_line, with_line, AreBuiltActs, AreAllowed, IsAllowed, IsWithin}
 use Rattle.sat_script.specs.Spelled.{line_text, item_words, client_words, plan_words, ended, items_text, clients_text, plans_text, acts_text, header_text, spelling, HaveNames, Spells}
-use Rattle.sat_script.specs.State.{State, start, most_sites, most_clients, most_acts}
+use Rattle.sat_script.specs.State.{State, start}
 use Rattle.sat_script.specs.Words.{is_newline}
-use Rattle.sat_script.specs.declared.limits.TheConstants.{MOST_ACTS}
+use Rattle.sat_script.specs.declared.limits.TheConstants.{MOST_ACTS, MOST_ITEMS}
 use Rattle.sat_script.specs.declared.line.Parsed.{Parsed}
 use Rattle.sat_script.specs.declared.line.Parsed.TheVariants as parsed
 use Rattle.sat_script.specs.declared.line.Stage.{Stage}
@@ -71,22 +74,22 @@ act_line_reads s a here is st =
 abbrev with_acts : Reading → List Act → Reading
 with_acts r acts = record { deployment = r.deployment; acts = acts; fault = r.fault }
 
-end_reads : (live : Bool) (d : Deployed) (n m : ℕ) (r : Reading) → IsWhole d → script_from (record { live = live; stage = stage.Body; header = d; acts = n; settles = m }) r (slice_split is_newline (ended (codes "end" ∷ []))) ≡ r
+end_reads : (dialect : Dialect) (d : Deployed) (n m : ℕ) (r : Reading) → IsWhole d → script_from (record { dialect = dialect; stage = stage.Body; header = d; acts = n; settles = m }) r (slice_split is_newline (ended (codes "end" ∷ []))) ≡ r
 unfolding words_line body_line script_from close_in
-end_reads live d n m r is =
-    let s : State = record { live = live; stage = stage.Body; header = d; acts = n; settles = m } in
+end_reads dialect d n m r is =
+    let s : State = record { dialect = dialect; stage = stage.Body; header = d; acts = n; settles = m } in
     ap (λ (bs : List ℕ). script_from s r (slice_split is_newline bs)) (sym (append-nil (ended (codes "end" ∷ []))))
     ∙ line_step s r (codes "end" ∷ []) [] parsed.End (line_fits stage.Body s parsed.End is is.deployment.few_sites tt) refl refl
 
-body_reads : (live : Bool) (d : Deployed) (more : List Act) (n m : ℕ) (r : Reading) → IsWhole d → AreBuiltActs d more → AreAllowed live more → n + length more ≤ most_acts live
-    → script_from (record { live = live; stage = stage.Body; header = d; acts = n; settles = m }) r (slice_split is_newline (acts_text d more ++ ended (codes "end" ∷ []))) ≡ with_acts r (r.acts ++ more)
-body_reads live d [] n m r is each free few = end_reads live d n m r is ∙ ap (with_acts r) (sym (append-nil r.acts))
-body_reads live d (a ∷ more) n m r is each free few =
-    let s : State = record { live = live; stage = stage.Body; header = d; acts = n; settles = m } in
-    let st : ActStands s a = record { fits = each.0.0; built = each.0.1; live = free.0; room = omega (arith, few) } in
+body_reads : (dialect : Dialect) (d : Deployed) (more : List Act) (n m : ℕ) (r : Reading) → IsWhole d → AreBuiltActs d more → AreAllowed dialect more → n + length more ≤ (limits_of dialect).acts
+    → script_from (record { dialect = dialect; stage = stage.Body; header = d; acts = n; settles = m }) r (slice_split is_newline (acts_text d more ++ ended (codes "end" ∷ []))) ≡ with_acts r (r.acts ++ more)
+body_reads dialect d [] n m r is each free few = end_reads dialect d n m r is ∙ ap (with_acts r) (sym (append-nil r.acts))
+body_reads dialect d (a ∷ more) n m r is each free few =
+    let s : State = record { dialect = dialect; stage = stage.Body; header = d; acts = n; settles = m } in
+    let st : ActStands s a = record { fits = each.0.0; built = each.0.1; has = free.0; room = omega (arith, few) } in
     ap (λ (bs : List ℕ). script_from s r (slice_split is_newline bs)) (append_assoc (ended (act_words d a)) (acts_text d more) (ended (codes "end" ∷ [])))
     ∙ line_step s r (act_words d a) (acts_text d more ++ ended (codes "end" ∷ [])) (parsed.Act a) (line_fits stage.Body s (parsed.Act a) is is.deployment.few_sites st) refl (act_line_reads s a refl is st)
-    ∙ body_reads live d more (n + 1) (with_settle m (parsed.Act a)) (with_acts r (r.acts ++ a ∷ [])) is each.1 free.1 (omega (arith, few))
+    ∙ body_reads dialect d more (n + 1) (with_settle m (parsed.Act a)) (with_acts r (r.acts ++ a ∷ [])) is each.1 free.1 (omega (arith, few))
     ∙ ap (with_acts r) (append_assoc r.acts (a ∷ []) more)
 
 -- ---- places in lists
@@ -114,8 +117,8 @@ any_at {X = X} p (x ∷ xs) h = go (p x) refl h (λ later. any_at p xs later)
 
 -- ---- the items
 
-abbrev lines : Bool → Deployed → State
-lines live d = record { live = live; stage = stage.Header; header = d; acts = 0; settles = 0 }
+abbrev lines : Dialect → Deployed → State
+lines dialect d = record { dialect = dialect; stage = stage.Header; header = d; acts = 0; settles = 0 }
 
 abbrev of_items : Deployed → List Item → Deployed
 of_items d items = record { sites = d.sites; gears = d.gears; items = items; clients = []; plans = [] }
@@ -138,8 +141,12 @@ item_new d done todo item is e = false_from_ne_true (list_any (λ (other : Item)
     let same = is.item_names at.0 (length done) at.1 item early here (word_is at.1.name item.name at.3) in
     omega (arith, at.4))
 
-item_stands : (live : Bool) (d : Deployed) (done todo : List Item) (item : Item) → IsDeployment d → HaveNames d → d.items ≡ done ++ item ∷ todo → ItemStands (lines live (of_items d done)) item
-item_stands live d done todo item is names e =
+all_items : (dialect : Dialect) → (limits_of dialect).items ≡ MOST_ITEMS
+all_items dialect.Run = refl
+all_items dialect.Live = refl
+
+item_stands : (dialect : Dialect) (d : Deployed) (done todo : List Item) (item : Item) → IsDeployment d → HaveNames d → d.items ≡ done ++ item ∷ todo → ItemStands (lines dialect (of_items d done)) item
+item_stands dialect d done todo item is names e =
     let here : slice_get d.items (length done) ≡ Some item = ap (λ (xs : List Item). slice_get xs (length done)) e ∙ get_mid done todo item in
     let sites = item_sites d item (length done) is here in
     let few = is.few_items in
@@ -149,7 +156,7 @@ item_stands live d done todo item is names e =
       sites = sites_are d.sites item.replicas.bits sites.some sites.inside;
       clients = refl;
       plans = refl;
-      room = omega (arith, length-append done (item ∷ todo));
+      room = omega (arith, all_items dialect, length-append done (item ∷ todo));
       new = item_new d done todo item is e;
     }
 
@@ -157,17 +164,17 @@ header_line_reads : (s : State) (words : List (List ℕ)) (p : Parsed) → s.sta
 unfolding words_line
 header_line_reads s words p here h = ap (λ (at : Stage). words_line at s words) here ∙ h
 
-items_read : (live : Bool) (d : Deployed) (done todo : List Item) (r : Reading) (rest : List ℕ) → IsDeployment d → HaveNames d → IsFit (lines live (of_items d done)) → d.items ≡ done ++ todo
-    → (script_from (lines live (of_items d done)) r (slice_split is_newline (items_text todo ++ rest)) ≡ script_from (lines live (of_items d d.items)) r (slice_split is_newline rest)) × IsFit (lines live (of_items d d.items))
-items_read live d done [] r rest is names fit e =
+items_read : (dialect : Dialect) (d : Deployed) (done todo : List Item) (r : Reading) (rest : List ℕ) → IsDeployment d → HaveNames d → IsFit (lines dialect (of_items d done)) → d.items ≡ done ++ todo
+    → (script_from (lines dialect (of_items d done)) r (slice_split is_newline (items_text todo ++ rest)) ≡ script_from (lines dialect (of_items d d.items)) r (slice_split is_newline rest)) × IsFit (lines dialect (of_items d d.items))
+items_read dialect d done [] r rest is names fit e =
     let same : done ≡ d.items = sym (append-nil done) ∙ sym e in
-    (ap (λ (xs : List Item). script_from (lines live (of_items d xs)) r (slice_split is_newline rest)) same, subst (λ (xs : List Item). IsFit (lines live (of_items d xs))) same fit)
-items_read live d done (item ∷ todo) r rest is names fit e =
-    let s : State = lines live (of_items d done) in
-    let st = item_stands live d done todo item is names e in
+    (ap (λ (xs : List Item). script_from (lines dialect (of_items d xs)) r (slice_split is_newline rest)) same, subst (λ (xs : List Item). IsFit (lines dialect (of_items d xs))) same fit)
+items_read dialect d done (item ∷ todo) r rest is names fit e =
+    let s : State = lines dialect (of_items d done) in
+    let st = item_stands dialect d done todo item is names e in
     let here : slice_get d.items (length done) ≡ Some item = ap (λ (xs : List Item). slice_get xs (length done)) e ∙ get_mid done todo item in
     let reads = item_reads s item is.few_sites (item_sites d item (length done) is here) st in
-    let more = items_read live d (done ++ item ∷ []) todo r rest is names (stands_after s (parsed.Item item) fit st) (e ∙ sym (append_assoc done (item ∷ []) todo)) in (
+    let more = items_read dialect d (done ++ item ∷ []) todo r rest is names (stands_after s (parsed.Item item) fit st) (e ∙ sym (append_assoc done (item ∷ []) todo)) in (
       ap (λ (bs : List ℕ). script_from s r (slice_split is_newline bs)) (append_assoc (ended (item_words item)) (items_text todo) rest)
           ∙ line_step s r (item_words item) (items_text todo ++ rest) (parsed.Item item) (line_fits stage.Header s (parsed.Item item) fit.header is.few_sites st) refl (header_line_reads s (item_words item) (parsed.Item item) refl reads)
           ∙ more.0,
@@ -188,8 +195,8 @@ client_new d done todo line is e = false_from_ne_true (list_any (λ (other : Cli
     let same = is.client_names at.0 (length done) at.1 line early here (word_is at.1.name line.name at.3) in
     omega (arith, at.4))
 
-client_stands : (live : Bool) (d : Deployed) (done todo : List ClientLine) (line : ClientLine) → IsDeployment d → HaveNames d → length d.clients ≤ most_clients live → d.clients ≡ done ++ line ∷ todo → ClientStands (lines live (of_clients d done)) line
-client_stands live d done todo line is names few e =
+client_stands : (dialect : Dialect) (d : Deployed) (done todo : List ClientLine) (line : ClientLine) → IsDeployment d → HaveNames d → length d.clients ≤ (limits_of dialect).clients → d.clients ≡ done ++ line ∷ todo → ClientStands (lines dialect (of_clients d done)) line
+client_stands dialect d done todo line is names few e =
     let here : slice_get d.clients (length done) ≡ Some line = ap (λ (xs : List ClientLine). slice_get xs (length done)) e ∙ get_mid done todo line in
     let count : length d.clients ≡ length (done ++ line ∷ todo) = ap length e in
     record {
@@ -200,16 +207,16 @@ client_stands live d done todo line is names few e =
       new = client_new d done todo line is e;
     }
 
-clients_read : (live : Bool) (d : Deployed) (done todo : List ClientLine) (r : Reading) (rest : List ℕ) → IsDeployment d → HaveNames d → length d.clients ≤ most_clients live → IsFit (lines live (of_clients d done)) → d.clients ≡ done ++ todo
-    → (script_from (lines live (of_clients d done)) r (slice_split is_newline (clients_text todo ++ rest)) ≡ script_from (lines live (of_clients d d.clients)) r (slice_split is_newline rest)) × IsFit (lines live (of_clients d d.clients))
-clients_read live d done [] r rest is names few fit e =
+clients_read : (dialect : Dialect) (d : Deployed) (done todo : List ClientLine) (r : Reading) (rest : List ℕ) → IsDeployment d → HaveNames d → length d.clients ≤ (limits_of dialect).clients → IsFit (lines dialect (of_clients d done)) → d.clients ≡ done ++ todo
+    → (script_from (lines dialect (of_clients d done)) r (slice_split is_newline (clients_text todo ++ rest)) ≡ script_from (lines dialect (of_clients d d.clients)) r (slice_split is_newline rest)) × IsFit (lines dialect (of_clients d d.clients))
+clients_read dialect d done [] r rest is names few fit e =
     let same : done ≡ d.clients = sym (append-nil done) ∙ sym e in
-    (ap (λ (xs : List ClientLine). script_from (lines live (of_clients d xs)) r (slice_split is_newline rest)) same, subst (λ (xs : List ClientLine). IsFit (lines live (of_clients d xs))) same fit)
-clients_read live d done (line ∷ todo) r rest is names few fit e =
-    let s : State = lines live (of_clients d done) in
-    let st = client_stands live d done todo line is names few e in
+    (ap (λ (xs : List ClientLine). script_from (lines dialect (of_clients d xs)) r (slice_split is_newline rest)) same, subst (λ (xs : List ClientLine). IsFit (lines dialect (of_clients d xs))) same fit)
+clients_read dialect d done (line ∷ todo) r rest is names few fit e =
+    let s : State = lines dialect (of_clients d done) in
+    let st = client_stands dialect d done todo line is names few e in
     let reads = client_reads s line is.few_sites st in
-    let more = clients_read live d (done ++ line ∷ []) todo r rest is names few (stands_after s (parsed.Client line) fit st) (e ∙ sym (append_assoc done (line ∷ []) todo)) in (
+    let more = clients_read dialect d (done ++ line ∷ []) todo r rest is names few (stands_after s (parsed.Client line) fit st) (e ∙ sym (append_assoc done (line ∷ []) todo)) in (
       ap (λ (bs : List ℕ). script_from s r (slice_split is_newline bs)) (append_assoc (ended (client_words line)) (clients_text todo) rest)
           ∙ line_step s r (client_words line) (clients_text todo ++ rest) (parsed.Client line) (line_fits stage.Header s (parsed.Client line) fit.header is.few_sites st) refl (header_line_reads s (client_words line) (parsed.Client line) refl reads)
           ∙ more.0,
@@ -222,41 +229,35 @@ tree_at : (d : Deployed) (t : TreeShape) → d.plans ≡ plan.Tree t ∷ [] → 
 unfolding tree_of
 tree_at d t e = ap (λ (ps : List Plan). elim (slice_get ps 0) [ None ↦ None | Some p ↦ elim p [ plan.Stamp ↦ None | plan.Tree t ↦ Some t ] ]) e
 
-all_free : (acts : List Act) → AreAllowed false acts
+all_free : (acts : List Act) → AreAllowed dialect.Run acts
 all_free [] = tt
 all_free (a ∷ acts) = (refl, all_free acts)
 
-record Limits (live : Bool) (d : Deployed) (acts : List Act) : Type 0 where
-  sites : d.sites ≤ most_sites live
-  clients : length d.clients ≤ most_clients live
-  few : length acts ≤ most_acts live
-  each : AreAllowed live acts
-
-limits : (live : Bool) (d : Deployed) (acts : List Act) → IsDeployment d → length acts ≤ MOST_ACTS → IsAllowed live d acts → Limits live d acts
-limits true d acts is few h = record { sites = h.sites; clients = h.clients; few = h.few; each = h.each }
+limits : (live : Bool) (d : Deployed) (acts : List Act) → IsDeployment d → length acts ≤ MOST_ACTS → IsAllowed live d acts → IsWithin (dialect_of live) d acts
+limits true d acts is few h = h
 limits false d acts is few h = record { sites = is.few_sites; clients = is.few_clients; few = few; each = all_free acts }
 
 spelled_flat : (a b c i f p e rest : List ℕ) → (a ++ (b ++ (c ++ (i ++ (f ++ (p ++ [])))))) ++ (e ++ rest) ≡ a ++ (b ++ (c ++ (i ++ (f ++ (p ++ (e ++ rest))))))
 spelled_flat a b c i f p e rest = simp (append_assoc, append-nil)
 
-first_lines : (live : Bool) (d : Deployed) (rest : List ℕ) → IsDeployment d → d.sites ≤ most_sites live
-    → (script_from (start live) nothing (slice_split is_newline (ended (codes "saturn" ∷ codes "1" ∷ []) ++ (ended (codes "sites" ∷ decimal d.sites ∷ []) ++ (ended (codes "gears" ∷ decimal d.gears ∷ []) ++ rest))))
-    ≡ script_from (lines live (of_items d [])) nothing (slice_split is_newline rest)) × IsFit (lines live (of_items d []))
+first_lines : (dialect : Dialect) (d : Deployed) (rest : List ℕ) → IsDeployment d → d.sites ≤ (limits_of dialect).sites
+    → (script_from (start dialect) nothing (slice_split is_newline (ended (codes "saturn" ∷ codes "1" ∷ []) ++ (ended (codes "sites" ∷ decimal d.sites ∷ []) ++ (ended (codes "gears" ∷ decimal d.gears ∷ []) ++ rest))))
+    ≡ script_from (lines dialect (of_items d [])) nothing (slice_split is_newline rest)) × IsFit (lines dialect (of_items d []))
 unfolding words_line
-first_lines live d rest is few =
-    let s0 : State = start live in
+first_lines dialect d rest is few =
+    let s0 : State = start dialect in
     let s1 : State = after s0 parsed.Format in
     let s2 : State = after s1 (parsed.Sites d.sites) in
-    let f0 = fit_start live in
+    let f0 = fit_start dialect in
     let f1 = stands_after s0 parsed.Format f0 tt in
-    let site_stands : (1 ≤ d.sites) × (d.sites ≤ most_sites live) = (omega (arith, is.some_site), few) in
+    let site_stands : (1 ≤ d.sites) × (d.sites ≤ (limits_of dialect).sites) = (omega (arith, is.some_site), few) in
     let f2 = stands_after s1 (parsed.Sites d.sites) f1 site_stands in
     let gear_stands : (1 ≤ d.gears) × (d.gears ≤ 8) = (omega (arith, is.some_gear), is.few_gears) in
     let f3 = stands_after s2 (parsed.Gears d.gears) f2 gear_stands in
     let gears_text : List ℕ = ended (codes "gears" ∷ decimal d.gears ∷ []) ++ rest in
     let sites_text : List ℕ = ended (codes "sites" ∷ decimal d.sites ∷ []) ++ gears_text in (
       line_step s0 nothing (codes "saturn" ∷ codes "1" ∷ []) sites_text parsed.Format (line_fits stage.Start s0 parsed.Format f0.header (omega arith) tt) refl format_reads
-          ∙ line_step s1 nothing (codes "sites" ∷ decimal d.sites ∷ []) gears_text (parsed.Sites d.sites) (line_fits stage.Sites s1 (parsed.Sites d.sites) f1.header (omega arith) site_stands) refl (sites_reads live d.sites site_stands.0 few)
+          ∙ line_step s1 nothing (codes "sites" ∷ decimal d.sites ∷ []) gears_text (parsed.Sites d.sites) (line_fits stage.Sites s1 (parsed.Sites d.sites) f1.header (omega arith) site_stands) refl (sites_reads dialect d.sites site_stands.0 few)
           ∙ line_step s2 nothing (codes "gears" ∷ decimal d.gears ∷ []) rest (parsed.Gears d.gears) (line_fits stage.Gears s2 (parsed.Gears d.gears) f2.header is.few_sites gear_stands) refl (gears_reads d.gears gear_stands.0 gear_stands.1),
       f3,
     )
@@ -264,10 +265,10 @@ first_lines live d rest is few =
 abbrev of_plan : Deployed → TreeShape → Deployed
 of_plan d t = record { sites = d.sites; gears = d.gears; items = d.items; clients = d.clients; plans = plan.Tree t ∷ [] }
 
-last_lines : (live : Bool) (d : Deployed) (t : TreeShape) (acts : List Act) → IsDeployment d → d.plans ≡ plan.Tree t ∷ [] → IsFit (lines live (of_clients d d.clients)) → AreBuiltActs d acts → AreAllowed live acts → length acts ≤ most_acts live
-    → script_from (lines live (of_clients d d.clients)) nothing (slice_split is_newline (ended (plan_words (plan.Tree t)) ++ (ended (codes "begin" ∷ []) ++ (acts_text d acts ++ ended (codes "end" ∷ []))))) ≡ good d acts
-last_lines live d t acts is one fit each free few =
-    let s : State = lines live (of_clients d d.clients) in
+last_lines : (dialect : Dialect) (d : Deployed) (t : TreeShape) (acts : List Act) → IsDeployment d → d.plans ≡ plan.Tree t ∷ [] → IsFit (lines dialect (of_clients d d.clients)) → AreBuiltActs d acts → AreAllowed dialect acts → length acts ≤ (limits_of dialect).acts
+    → script_from (lines dialect (of_clients d d.clients)) nothing (slice_split is_newline (ended (plan_words (plan.Tree t)) ++ (ended (codes "begin" ∷ []) ++ (acts_text d acts ++ ended (codes "end" ∷ []))))) ≡ good d acts
+last_lines dialect d t acts is one fit each free few =
+    let s : State = lines dialect (of_clients d d.clients) in
     let at = tree_at d t one in
     let tree = is.trees 1 t at in
     let serializers = is.few_serializers 1 t at in
@@ -275,7 +276,7 @@ last_lines live d t acts is one fit each free few =
     let root = tree.seats 0 in
     let st : PlanStands s (plan.Tree t) = record { tree = t; is = refl; small = tree_fits d.sites t tree (omega arith) serializers seats; first = refl } in
     let fit1 = stands_after s (parsed.Plan (plan.Tree t)) fit st in
-    let s1 : State = lines live (of_plan d t) in
+    let s1 : State = lines dialect (of_plan d t) in
     let some : 0 < length s1.header.plans = omega arith in
     let fit2 = stands_after s1 parsed.Begin fit1 some in
     let same : of_plan d t ≡ d = ap (λ (ps : List Plan). (let e : Deployed = record { sites = d.sites; gears = d.gears; items = d.items; clients = d.clients; plans = ps } in e)) (sym one) in
@@ -284,8 +285,8 @@ last_lines live d t acts is one fit each free few =
     line_step s nothing (plan_words (plan.Tree t)) (ended (codes "begin" ∷ []) ++ rest) (parsed.Plan (plan.Tree t)) (line_fits stage.Header s (parsed.Plan (plan.Tree t)) fit.header is.few_sites st) refl
     (header_line_reads s (plan_words (plan.Tree t)) (parsed.Plan (plan.Tree t)) refl (plan_reads s t tree (omega arith) serializers seats refl))
     ∙ line_step s1 nothing (codes "begin" ∷ []) rest parsed.Begin (line_fits stage.Header s1 parsed.Begin fit1.header is.few_sites some) refl (header_line_reads s1 (codes "begin" ∷ []) parsed.Begin refl (begin_reads s1 some))
-    ∙ ap (λ (e : Deployed). script_from (record { live = live; stage = stage.Body; header = e; acts = 0; settles = 0 }) (record { deployment = Some e; acts = []; fault = None }) (slice_split is_newline rest)) same
-    ∙ body_reads live d acts 0 0 (record { deployment = Some d; acts = []; fault = None }) whole each free (omega (arith, few))
+    ∙ ap (λ (e : Deployed). script_from (record { dialect = dialect; stage = stage.Body; header = e; acts = 0; settles = 0 }) (record { deployment = Some e; acts = []; fault = None }) (slice_split is_newline rest)) same
+    ∙ body_reads dialect d acts 0 0 (record { deployment = Some d; acts = []; fault = None }) whole each free (omega (arith, few))
 
 pub spelled_reads : (live : Bool) (text : List ℕ) (d : Deployed) (acts : List Act) → Spells text d acts → IsAllowed live d acts → reading live text ≡ good d acts
 unfolding reading spelling header_text
@@ -295,14 +296,14 @@ spelled_reads live text d acts s free =
     let t = s.built.tree in
     let body_text : List ℕ = acts_text d acts ++ ended (codes "end" ∷ []) in
     let plan_text : List ℕ = ended (plan_words (plan.Tree t)) ++ (ended (codes "begin" ∷ []) ++ body_text) in
-    let first = first_lines live d (items_text d.items ++ (clients_text d.clients ++ plan_text)) is most.sites in
-    let items = items_read live d [] d.items nothing (clients_text d.clients ++ plan_text) is s.names first.1 refl in
-    let clients = clients_read live d [] d.clients nothing plan_text is s.names most.clients items.1 refl in
-    ap (λ (bs : List ℕ). script_from (start live) nothing (slice_split is_newline bs))
+    let first = first_lines (dialect_of live) d (items_text d.items ++ (clients_text d.clients ++ plan_text)) is most.sites in
+    let items = items_read (dialect_of live) d [] d.items nothing (clients_text d.clients ++ plan_text) is s.names first.1 refl in
+    let clients = clients_read (dialect_of live) d [] d.clients nothing plan_text is s.names most.clients items.1 refl in
+    ap (λ (bs : List ℕ). script_from (start (dialect_of live)) nothing (slice_split is_newline bs))
     (s.spelled
     ∙ ap (λ (ps : List Plan). (ended (codes "saturn" ∷ codes "1" ∷ []) ++ (ended (codes "sites" ∷ decimal d.sites ∷ []) ++ (ended (codes "gears" ∷ decimal d.gears ∷ []) ++ (items_text d.items ++ (clients_text d.clients ++ plans_text ps))))) ++ (ended (codes "begin" ∷ []) ++ body_text)) s.built.plans
     ∙ spelled_flat (ended (codes "saturn" ∷ codes "1" ∷ [])) (ended (codes "sites" ∷ decimal d.sites ∷ [])) (ended (codes "gears" ∷ decimal d.gears ∷ [])) (items_text d.items) (clients_text d.clients) (ended (plan_words (plan.Tree t))) (ended (codes "begin" ∷ [])) body_text)
     ∙ first.0
     ∙ items.0
     ∙ clients.0
-    ∙ last_lines live d t acts is s.built.plans clients.1 s.each most.each most.few
+    ∙ last_lines (dialect_of live) d t acts is s.built.plans clients.1 s.each most.each most.few

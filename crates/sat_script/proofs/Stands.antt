@@ -1,10 +1,11 @@
 -- What a good line says, where it may stand.
-use Rattle.std.proofs.Common.{◌≡◌, ℕ, ◌<◌, ◌≤◌, true, false, not, ◌||◌, List, [], ◌∷◌, length}
+use Rattle.std.proofs.Common.{◌≡◌, ℕ, ◌<◌, ◌≤◌, true, false, List, [], ◌∷◌, length}
 use Rattle.std.specs.Prelude.{codes}
 use Rattle.std.specs.Fmt.{decimal}
 use Rattle.sat_label.specs.Text.{is_name}
 use Rattle.sat_tree.specs.Shape.{TreeShape}
-use Rattle.sat_act.specs.Built.{is_built_act}
+use Rattle.sat_script.specs.Dialect.{limits_of, has_form}
+use Rattle.sat_script.specs.Built.{is_built_act}
 use Rattle.sat_act.specs.Deployed.{Deployed}
 use Rattle.sat_act.specs.Flaw.{are_sites}
 use Rattle.sat_act.specs.Ranges.{IsActOf}
@@ -15,11 +16,10 @@ use Rattle.sat_act.specs.declared.deployment.Plan.{Plan}
 use Rattle.sat_act.specs.declared.deployment.Plan.TheVariants as plan
 use Rattle.sat_script.specs.Causes.{has_client, has_item}
 use Rattle.sat_script.specs.Grammar.{is_tree}
-use Rattle.sat_script.specs.Reading.{is_live_act}
 use Rattle.sat_script.specs.Spelled.{item_words, client_words, plan_words}
-use Rattle.sat_script.specs.Table.{act_words}
-use Rattle.sat_script.specs.State.{State, most_sites, most_clients, most_acts}
-use Rattle.sat_script.specs.declared.limits.TheConstants.{MOST_GEARS, MOST_ITEMS}
+use Rattle.sat_script.specs.Table.{form_of, act_words}
+use Rattle.sat_script.specs.State.{State}
+use Rattle.sat_script.specs.declared.limits.TheConstants.{MOST_GEARS}
 use Rattle.sat_script.specs.declared.line.Parsed.{Parsed}
 use Rattle.sat_script.specs.declared.line.Parsed.TheVariants as parsed
 use Rattle.sat_script.specs.declared.line.Stage.{Stage}
@@ -42,14 +42,14 @@ pub record ItemStands (s : State) (item : Item) : Type 0 where
   pub sites : are_sites s.header.sites item.replicas.bits ≡ true
   pub clients : s.header.clients ≡ []
   pub plans : s.header.plans ≡ []
-  pub room : length s.header.items < MOST_ITEMS
+  pub room : length s.header.items < (limits_of s.dialect).items
   pub new : has_item s.header item.name ≡ false
 
 pub record ClientStands (s : State) (line : ClientLine) : Type 0 where
   pub name : is_name line.name ≡ true
   pub home : line.site < s.header.sites
   pub plans : s.header.plans ≡ []
-  pub room : length s.header.clients < most_clients s.live
+  pub room : length s.header.clients < (limits_of s.dialect).clients
   pub new : has_client s.header line.name ≡ false
 
 pub record PlanStands (s : State) (p : Plan) : Type 0 where
@@ -61,13 +61,13 @@ pub record PlanStands (s : State) (p : Plan) : Type 0 where
 pub record ActStands (s : State) (a : Act) : Type 0 where
   pub fits : IsActOf s.header a
   pub built : is_built_act a ≡ true
-  pub live : (not s.live || is_live_act a) ≡ true
-  pub room : s.acts < most_acts s.live
+  pub has : has_form s.dialect (form_of a) ≡ true
+  pub room : s.acts < (limits_of s.dialect).acts
 
 -- where it stands, and after what
 abbrev pub Stands : Stage → State → Parsed → Type 0
 Stands stage.Start s parsed.Format = Unit {0}
-Stands stage.Sites s (parsed.Sites n) = (1 ≤ n) × (n ≤ most_sites s.live)
+Stands stage.Sites s (parsed.Sites n) = (1 ≤ n) × (n ≤ (limits_of s.dialect).sites)
 Stands stage.Gears s (parsed.Gears n) = (1 ≤ n) × (n ≤ MOST_GEARS)
 Stands stage.Header s (parsed.Item item) = ItemStands s item
 Stands stage.Header s (parsed.Client line) = ClientStands s line

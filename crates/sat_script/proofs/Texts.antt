@@ -19,7 +19,7 @@ use Rattle.sat_tree.specs.Shape.{TreeShape}
 use Rattle.sat_tree.specs.Cut.{IsNode, parent_of, seat_of}
 use Rattle.sat_tree.specs.Flaw.{IsSmallTree}
 use Rattle.std.specs.Prelude.{unwrap_or}
-use Rattle.sat_script.proofs.Fits.{few_sites}
+use Rattle.sat_script.proofs.Fits.{limits_few}
 use Rattle.sat_act.specs.Deployed.{Deployed}
 use Rattle.sat_act.specs.Ranges.{IsActOf}
 use Rattle.sat_act.specs.declared.act.Act.{Act}
@@ -317,7 +317,7 @@ tree_line_fits t is =
 
 pub line_fits : (here : Stage) (s : State) (p : Parsed) → HasHeader here s.header → s.header.sites ≤ 16 → Stands here s p → IsLine (parsed_words s.header p)
 line_fits stage.Start s parsed.Format kept few h = record { each = (refl, (refl, tt)); some = omega arith; short = omega arith }
-line_fits stage.Sites s (parsed.Sites n) kept few h = let most = few_sites s.live in let w = number_word n (omega (arith, h.1)) in record { each = (refl, (w.0, tt)); some = omega arith; short = omega (arith, w.1) }
+line_fits stage.Sites s (parsed.Sites n) kept few h = let most = (limits_few s.dialect).sites in let w = number_word n (omega (arith, h.1)) in record { each = (refl, (w.0, tt)); some = omega arith; short = omega (arith, w.1) }
 line_fits stage.Gears s (parsed.Gears n) kept few h = let w = number_word n (omega (arith, h.1)) in record { each = (refl, (w.0, tt)); some = omega arith; short = omega (arith, w.1) }
 line_fits stage.Header s (parsed.Item item) kept few h = item_line_fits s item h
 line_fits stage.Header s (parsed.Client line) kept few h =

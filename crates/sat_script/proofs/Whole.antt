@@ -1,11 +1,11 @@
 -- A text has no fault exactly where it is the spelling of its deployment and its acts.
-use Rattle.std.proofs.Common.{◌≡◌, ℕ, ◌+◌, ◌-◌, ◌*◌, ◌≤◌, Bool, true, false, not, ◌||◌, cond, ltb, List, [], ◌∷◌, ◌++◌, length, Option, Some, None, Result, Ok, Err, sym, ap, ◌∙◌, refl, subst, arith}
+use Rattle.std.proofs.Common.{◌≡◌, ℕ, ◌+◌, ◌-◌, ◌*◌, ◌≤◌, Bool, true, false, cond, ltb, List, [], ◌∷◌, ◌++◌, length, Option, Some, None, Result, Ok, Err, sym, ap, ◌∙◌, refl, subst, arith}
 use Rattle.std.specs.List.{slice_split, join_with_byte}
 use Rattle.std.specs.Prelude.{codes}
 use Rattle.std.specs.Fmt.{decimal}
 use Rattle.std.proofs.lemmas.List.{append-nil, append_assoc, length-append}
 use Rattle.std.proofs.lemmas.List.Splits.{join_with_byte-slice_split}
-use Rattle.sat_act.specs.Built.{is_built_act}
+use Rattle.sat_script.specs.Built.{is_built_act}
 use Rattle.sat_act.specs.Deployed.{Deployed}
 use Rattle.sat_act.specs.Ranges.{IsActOf}
 use Rattle.sat_act.specs.declared.act.Act.{Act}
@@ -15,11 +15,13 @@ use Rattle.sat_act.specs.declared.deployment.Plan.{Plan}
 use Rattle.sat_script.specs.Grammar.{line_at, close_at, close_in, after, next_stage, with_parsed, with_act}
 use Rattle.sat_script.specs.Laws.{IsRead}
 use Rattle.sat_script.specs.Kept.{IsFit, HasHeader, HasSaid}
-use Rattle.sat_script.specs.Reading.{script_from, reading, nothing, after_line, closed, told_line, with_line, AreBuiltActs, AreAllowed, IsAllowed, is_live_act}
-use Rattle.sat_script.specs.Spelled.{line_text, item_words, client_words, plan_words, ended, items_text, clients_text, plans_text, acts_text, header_text, spelling}
-use Rattle.sat_script.specs.Table.{act_words}
-use Rattle.sat_script.specs.State.{State, start, number_of, header_lines, first_of, most_sites, most_clients, most_acts}
+use Rattle.sat_script.specs.Reading.{script_from, reading, nothing, after_line, closed, told_line, with_line, AreBuiltActs, AreAllowed, IsAllowed, IsWithin}
+use Rattle.sat_script.specs.Spelled.{line_text, item_words, client_words, plan_words, ended, items_text, clients_text, plans_text, acts_text, header_text, spelling, Spells}
+use Rattle.sat_script.specs.Table.{act_words, form_of}
+use Rattle.sat_script.specs.Dialect.{has_form, dialect_of}
+use Rattle.sat_script.specs.State.{State, start, number_of, header_lines, first_of}
 use Rattle.sat_script.specs.Words.{is_newline}
+use Rattle.sat_script.specs.declared.dialect.Dialect.{Dialect}
 use Rattle.sat_script.specs.declared.fault.Cause.{Cause}
 use Rattle.sat_script.specs.declared.fault.Cause.TheVariants.{LongLine, NoEnd}
 use Rattle.sat_script.specs.declared.limits.TheConstants.{LONGEST_LINE, LINE_BYTES}
@@ -30,7 +32,7 @@ use Rattle.sat_script.specs.declared.line.Stage.TheVariants as stage
 use Rattle.sat_script.specs.declared.stream.Reading.{Reading}
 use Rattle.sat_script.proofs.Lists.{all_more}
 use Rattle.sat_script.proofs.Stands.{parsed_words, Stands}
-use Rattle.sat_script.proofs.Fits.{line_is, fit_start, fit_after, few_sites, few_clients, few_acts}
+use Rattle.sat_script.proofs.Fits.{line_is, fit_start, fit_after, limits_few}
 use Rattle.sat_script.proofs.Texts.{line_fits, line_size, line_text-words}
 
 -- ---- counting lines and bytes
@@ -69,7 +71,7 @@ pub line_counted : (s : State) (line : List ℕ) (p : Parsed) → IsFit s → li
 unfolding number_of
 line_counted s line p fit h =
     let is = line_is s line p fit h in
-    let sites = few_sites s.live in
+    let most = (limits_few s.dialect).sites in
     let fits = line_fits s.stage s p fit.header (omega (arith, fit.sites)) is.stands in
     let text : line ≡ line_text (parsed_words s.header p) = sym (line_text-words line) ∙ ap line_text is.spelled in
     let few = line_size (parsed_words s.header p) fits in
@@ -81,24 +83,23 @@ line_counted s line p fit h =
 pub lines_counted : (s : State) → IsFit s → LINE_BYTES * (number_of s - 1) ≤ 123120000
 unfolding number_of
 lines_counted s fit =
-    let few = first_few s.stage in
-    let clients = few_clients s.live in
-    let acts = few_acts s.live in
-    omega (arith, fit.items, fit.clients, fit.plans, fit.acts)
+    let first = first_few s.stage in
+    let most = limits_few s.dialect in
+    omega (arith, most.items, most.clients, most.acts, fit.items, fit.clients, fit.plans, fit.acts)
 
 -- ---- what good lines said
 
-pub said_after : (here : Stage) (s : State) (p : Parsed) (r : Reading) → Stands here s p → HasSaid s.live here s.header r.deployment r.acts
-    → HasSaid s.live (next_stage here p) (with_parsed s.header p) (with_line r (told_line s.header p)).deployment (with_line r (told_line s.header p)).acts
+pub said_after : (here : Stage) (s : State) (p : Parsed) (r : Reading) → Stands here s p → HasSaid s.dialect here s.header r.deployment r.acts
+    → HasSaid s.dialect (next_stage here p) (with_parsed s.header p) (with_line r (told_line s.header p)).deployment (with_line r (told_line s.header p)).acts
 said_after stage.Start s parsed.Format r h said = said
 said_after stage.Sites s (parsed.Sites k) r h said = said
 said_after stage.Gears s (parsed.Gears k) r h said = said
 said_after stage.Header s (parsed.Item item) r h said = said
 said_after stage.Header s (parsed.Client line) r h said = said
 said_after stage.Header s (parsed.Plan p) r h said = said
-said_after stage.Header s parsed.Begin r h said = (refl, subst (λ (acts : List Act). AreBuiltActs s.header acts) (sym said.1) tt, subst (λ (acts : List Act). AreAllowed s.live acts) (sym said.1) tt)
+said_after stage.Header s parsed.Begin r h said = (refl, subst (λ (acts : List Act). AreBuiltActs s.header acts) (sym said.1) tt, subst (λ (acts : List Act). AreAllowed s.dialect acts) (sym said.1) tt)
 said_after stage.Body s (parsed.Act a) r h said =
-    (said.0, all_more (λ (a : Act). IsActOf s.header a × (is_built_act a ≡ true)) r.acts a said.1 (h.fits, h.built), all_more (λ (a : Act). (not s.live || is_live_act a) ≡ true) r.acts a said.2 h.live)
+    (said.0, all_more (λ (a : Act). IsActOf s.header a × (is_built_act a ≡ true)) r.acts a said.1 (h.fits, h.built), all_more (λ (a : Act). has_form s.dialect (form_of a) ≡ true) r.acts a said.2 h.has)
 said_after stage.Body s parsed.End r h said = said
 said_after _ s _ r h said = absurd h
 
@@ -155,7 +156,7 @@ plan_front a b c items clients plans e = simp append_assoc
 body_front : (h b acts e : List ℕ) → h ++ (b ++ (acts ++ e)) ≡ (h ++ (b ++ acts)) ++ e
 body_front h b acts e = simp append_assoc
 
-front-after : (here : Stage) (s : State) (p : Parsed) (r : Reading) → HasHeader here s.header → Stands here s p → HasSaid s.live here s.header r.deployment r.acts
+front-after : (here : Stage) (s : State) (p : Parsed) (r : Reading) → HasHeader here s.header → Stands here s p → HasSaid s.dialect here s.header r.deployment r.acts
     → front (next_stage here p) (with_parsed s.header p) (with_line r (told_line s.header p)).acts ≡ front here s.header r.acts ++ ended (parsed_words s.header p)
 unfolding header_text
 front-after stage.Start s parsed.Format r kept h said = refl
@@ -184,7 +185,7 @@ front-after _ s _ r kept h said = absurd h
 -- good lines came, and this is their text
 record IsSo (s : State) (r : Reading) (text : List ℕ) : Type 0 where
   fit : IsFit s
-  said : HasSaid s.live s.stage s.header r.deployment r.acts
+  said : HasSaid s.dialect s.stage s.header r.deployment r.acts
   few : length r.acts ≤ s.acts
   spelled : text ≡ front s.stage s.header r.acts
 
@@ -202,9 +203,13 @@ so_after s r text line p so h =
           ∙ sym (front-after s.stage s p r so.fit.header is.stands so.said);
     }
 
-allowed : (live : Bool) (d : Deployed) (acts : List Act) → d.sites ≤ most_sites live → length d.clients ≤ most_clients live → length acts ≤ most_acts live → AreAllowed live acts → IsAllowed live d acts
-allowed true d acts sites clients few each = record { sites = sites; clients = clients; few = few; each = each }
-allowed false d acts sites clients few each = tt
+-- what is read in a dialect
+abbrev IsReadIn : Dialect → Reading → List ℕ → Type 0
+IsReadIn dialect found text = (d : Deployed) × (found.deployment ≡ Some d) × Spells text d found.acts × IsWithin dialect d found.acts
+
+allowed : (live : Bool) (d : Deployed) (acts : List Act) → IsWithin (dialect_of live) d acts → IsAllowed live d acts
+allowed true d acts h = h
+allowed false d acts h = tt
 
 never_none : (b : Bool) (x y : Cause) → cond b (Some x) (Some y) ≡ None → ⊥
 never_none true x y h = cc
@@ -220,11 +225,11 @@ close_ends stage.Gears rest h = absurd (never_none (ltb LONGEST_LINE (length res
 close_ends stage.Header rest h = absurd (never_none (ltb LONGEST_LINE (length rest)) LongLine NoEnd h)
 close_ends stage.Body rest h = absurd (never_none (ltb LONGEST_LINE (length rest)) LongLine NoEnd h)
 
-read_ended : (s : State) (r : Reading) (text rest : List ℕ) → IsSo s r text → s.stage ≡ stage.Ended → rest ≡ [] → IsRead s.live r (text ++ rest)
+read_ended : (s : State) (r : Reading) (text rest : List ℕ) → IsSo s r text → s.stage ≡ stage.Ended → rest ≡ [] → IsReadIn s.dialect r (text ++ rest)
 unfolding spelling
 read_ended s r text rest so e none =
-    let said = subst (λ (here : Stage). HasSaid s.live here s.header r.deployment r.acts) e so.said in
-    let most = few_acts s.live in
+    let said = subst (λ (here : Stage). HasSaid s.dialect here s.header r.deployment r.acts) e so.said in
+    let most = (limits_few s.dialect).acts in
     let kept = subst (λ (here : Stage). HasHeader here s.header) e so.fit.header in (
       s.header,
       said.0,
@@ -236,23 +241,23 @@ read_ended s r text rest so e none =
         each = said.1;
         few = omega (arith, so.few, so.fit.acts);
       },
-      allowed s.live s.header r.acts so.fit.sites so.fit.clients (omega (arith, so.few, so.fit.acts)) said.2,
+      record { sites = so.fit.sites; clients = so.fit.clients; few = omega (arith, so.few, so.fit.acts); each = said.2 },
     )
 
-read_end : (s : State) (r : Reading) (text rest : List ℕ) → IsSo s r text → (o : Option Cause) → close_at s rest ≡ o → (closed s r o).fault ≡ None → IsRead s.live (closed s r o) (text ++ rest)
+read_end : (s : State) (r : Reading) (text rest : List ℕ) → IsSo s r text → (o : Option Cause) → close_at s rest ≡ o → (closed s r o).fault ≡ None → IsReadIn s.dialect (closed s r o) (text ++ rest)
 read_end s r text rest so None e none = let c = close_ends s.stage rest e in read_ended s r text rest so c.0 c.1
 read_end s r text rest so (Some cause) e none = absurd (cc)
 
 read_line : (s : State) (r : Reading) (text line rest : List ℕ) (go_on : State → Reading → Reading) → IsSo s r text
     → ((p : Parsed) → IsSo (after s p) (with_line r (told_line s.header p)) (text ++ (line ++ 10 ∷ [])) → (go_on (after s p) (with_line r (told_line s.header p))).fault ≡ None
-    → IsRead s.live (go_on (after s p) (with_line r (told_line s.header p))) ((text ++ (line ++ 10 ∷ [])) ++ rest))
-    → (result : Result Parsed Cause) → line_at s line ≡ result → (after_line s r go_on result).fault ≡ None → IsRead s.live (after_line s r go_on result) (text ++ (line ++ 10 ∷ rest))
+    → IsReadIn s.dialect (go_on (after s p) (with_line r (told_line s.header p))) ((text ++ (line ++ 10 ∷ [])) ++ rest))
+    → (result : Result Parsed Cause) → line_at s line ≡ result → (after_line s r go_on result).fault ≡ None → IsReadIn s.dialect (after_line s r go_on result) (text ++ (line ++ 10 ∷ rest))
 read_line s r text line rest go_on so goes (Ok p) e none =
     let same : (text ++ (line ++ 10 ∷ [])) ++ rest ≡ text ++ (line ++ 10 ∷ rest) = append_assoc text (line ++ 10 ∷ []) rest ∙ ap (λ (bs : List ℕ). text ++ bs) (append_assoc line (10 ∷ []) rest) in
-    subst (λ (bs : List ℕ). IsRead s.live (go_on (after s p) (with_line r (told_line s.header p))) bs) same (goes p (so_after s r text line p so e) none)
+    subst (λ (bs : List ℕ). IsReadIn s.dialect (go_on (after s p) (with_line r (told_line s.header p))) bs) same (goes p (so_after s r text line p so e) none)
 read_line s r text line rest go_on so goes (Err cause) e none = absurd (cc)
 
-read_parts : (s : State) (r : Reading) (text : List ℕ) (parts : List (List ℕ)) → IsSo s r text → (script_from s r parts).fault ≡ None → IsRead s.live (script_from s r parts) (text ++ join_with_byte 10 parts)
+read_parts : (s : State) (r : Reading) (text : List ℕ) (parts : List (List ℕ)) → IsSo s r text → (script_from s r parts).fault ≡ None → IsReadIn s.dialect (script_from s r parts) (text ++ join_with_byte 10 parts)
 unfolding script_from
 read_parts s r text [] so none = read_end s r text [] so (close_at s []) refl none
 read_parts s r text (rest ∷ []) so none = read_end s r text rest so (close_at s rest) refl none
@@ -261,11 +266,13 @@ read_parts s r text (line ∷ part ∷ parts) so none =
     (λ p next good. read_parts (after s p) (with_line r (told_line s.header p)) (text ++ (line ++ 10 ∷ [])) (part ∷ parts) next good)
     (line_at s line) refl none
 
-so_far : (live : Bool) → IsSo (start live) nothing []
-so_far live = record { fit = fit_start live; said = (refl, refl); few = omega arith; spelled = refl }
+so_far : (dialect : Dialect) → IsSo (start dialect) nothing []
+so_far dialect = record { fit = fit_start dialect; said = (refl, refl); few = omega arith; spelled = refl }
 
 pub read_spells : (live : Bool) (text : List ℕ) → (reading live text).fault ≡ None → IsRead live (reading live text) text
 unfolding reading
 read_spells live text none =
-    subst (λ (bs : List ℕ). IsRead live (script_from (start live) nothing (slice_split is_newline text)) bs) (join_with_byte-slice_split 10 text)
-    (read_parts (start live) nothing [] (slice_split is_newline text) (so_far live) none)
+    let is =
+    subst (λ (bs : List ℕ). IsReadIn (dialect_of live) (script_from (start (dialect_of live)) nothing (slice_split is_newline text)) bs) (join_with_byte-slice_split 10 text)
+    (read_parts (start (dialect_of live)) nothing [] (slice_split is_newline text) (so_far (dialect_of live)) none) in
+    (is.0, is.1, is.2, allowed live is.0 (script_from (start (dialect_of live)) nothing (slice_split is_newline text)).acts is.3)

@@ -5,12 +5,13 @@ use Rattle.std.specs.declared.result.Result.{Result}
 use Rattle.std.specs.List.{list_any}
 use Rattle.std.specs.Str.{bytes_eq}
 use Rattle.sat_act.specs.Deployed.{Deployed}
-use Rattle.sat_script.specs.State.{State, most_clients, most_acts}
+use Rattle.sat_script.specs.Dialect.{limits_of, has_form}
+use Rattle.sat_script.specs.State.{State}
 use Rattle.sat_script.specs.declared.fault.Cause.{Cause}
 use Rattle.sat_script.specs.declared.fault.Cause.TheVariants.{Unbuilt, NotLive, TooMany}
 use Rattle.sat_script.specs.declared.form.Form.{Form}
 use Rattle.sat_script.specs.declared.form.Form.TheVariants as form
-use Rattle.sat_script.specs.declared.limits.TheConstants.{MOST_ITEMS, MOST_PLANS, MOST_SETTLES}
+use Rattle.sat_script.specs.declared.limits.TheConstants.{MOST_PLANS}
 
 -- goes on where the test is passed, and stops with the cause where it isn't
 abbrev pub needs : {Y : Type 0} → Cause → Bool → Result Y Cause → Result Y Cause
@@ -48,37 +49,21 @@ is_built d form.Turn = true
 is_built d form.Bulk = true
 is_built d _ = false
 
--- the forms of a script for nodes on threads
-unfoldable pub is_live : Form → Bool
-is_live form.Item = true
-is_live form.Client = true
-is_live form.PlanStamp = true
-is_live form.PlanTree = true
-is_live form.Write = true
-is_live form.Read = true
-is_live form.Move = true
-is_live form.Leave = true
-is_live form.Attach = true
-is_live form.Close = true
-is_live form.Fall = true
-is_live form.Kill = true
-is_live _ = false
-
 -- whether one more line of the form is within the limits
 unfoldable pub has_room : State → Form → Bool
-has_room s form.Item = nat_lt (length s.header.items) MOST_ITEMS
-has_room s form.Client = nat_lt (length s.header.clients) (most_clients s.live)
+has_room s form.Item = nat_lt (length s.header.items) (limits_of s.dialect).items
+has_room s form.Client = nat_lt (length s.header.clients) (limits_of s.dialect).clients
 has_room s form.PlanStamp = nat_lt (length s.header.plans) MOST_PLANS
 has_room s form.PlanTree = nat_lt (length s.header.plans) MOST_PLANS
-has_room s form.Settle = nat_lt s.acts (most_acts s.live) && nat_lt s.settles MOST_SETTLES
-has_room s _ = nat_lt s.acts (most_acts s.live)
+has_room s form.Settle = nat_lt s.acts (limits_of s.dialect).acts && nat_lt s.settles (limits_of s.dialect).settles
+has_room s _ = nat_lt s.acts (limits_of s.dialect).acts
 
 -- why a line of the form may not stand here whatever its words say
 unfoldable pub bar : State → Form → Option Cause
-unfolding is_built is_live has_room
+unfolding is_built has_room
 bar s f =
     if not (is_built s.header f) then Some Unbuilt else
-    if s.live && not (is_live f) then Some NotLive else
+    if not (has_form s.dialect f) then Some NotLive else
     if not (has_room s f) then Some TooMany else
     None
 

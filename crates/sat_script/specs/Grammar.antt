@@ -14,9 +14,11 @@ use Rattle.sat_act.specs.declared.act.Act.{Act}
 use Rattle.sat_act.specs.declared.act.Act.TheVariants as act
 use Rattle.sat_act.specs.declared.deployment.Plan.TheVariants as plan
 use Rattle.sat_script.specs.Causes.{needs, refused, barred, given, bar, has_client, has_item}
-use Rattle.sat_script.specs.State.{State, most_sites}
+use Rattle.sat_script.specs.Dialect.{limits_of}
+use Rattle.sat_script.specs.State.{State}
 use Rattle.sat_script.specs.Table.{act_line}
 use Rattle.sat_script.specs.Words.{is_text, is_number, is_list, are_rising, words_of, value_of, number_below, number_to, sites_in, sites_among}
+use Rattle.sat_script.specs.declared.dialect.Dialect.{Dialect}
 use Rattle.sat_script.specs.declared.fault.Cause.{Cause}
 use Rattle.sat_script.specs.declared.fault.Cause.TheVariants.{AfterEnd, LongLine, NoEnd, NotText, BadHeader, SameName, OutOfRange, BadTree}
 use Rattle.sat_script.specs.declared.form.Form.TheVariants as form
@@ -46,10 +48,10 @@ of_count says (Ok n) = Ok (says n)
 of_count says (Err cause) = Err cause
 
 -- `sites N`
-unfoldable pub sites_line : Bool → List (List ℕ) → Result Parsed Cause
+unfoldable pub sites_line : Dialect → List (List ℕ) → Result Parsed Cause
 unfolding counted
-sites_line live (word ∷ number ∷ []) = of_count parsed.Sites (counted (codes "sites") (most_sites live) word number)
-sites_line live _ = Err BadHeader
+sites_line dialect (word ∷ number ∷ []) = of_count parsed.Sites (counted (codes "sites") (limits_of dialect).sites word number)
+sites_line dialect _ = Err BadHeader
 
 -- `gears N`
 unfoldable pub gears_line : List (List ℕ) → Result Parsed Cause
@@ -175,7 +177,7 @@ body_line s words = if is_end words then Ok parsed.End else of_act (act_line (ba
 unfoldable pub words_line : Stage → State → List (List ℕ) → Result Parsed Cause
 unfolding format_line sites_line gears_line header_line body_line
 words_line stage.Start s words = format_line words
-words_line stage.Sites s words = sites_line s.live words
+words_line stage.Sites s words = sites_line s.dialect words
 words_line stage.Gears s words = gears_line words
 words_line stage.Header s words = header_line s words
 words_line stage.Body s words = body_line s words
@@ -237,7 +239,7 @@ with_settle settles _ = settles
 -- the state at the next line
 abbrev pub after : State → Parsed → State
 after s p =
-    record { live = s.live; stage = next_stage s.stage p; header = with_parsed s.header p; acts = with_act s.acts p; settles = with_settle s.settles p }
+    record { dialect = s.dialect; stage = next_stage s.stage p; header = with_parsed s.header p; acts = with_act s.acts p; settles = with_settle s.settles p }
 
 -- what a good line says has a name of its own
 abbrev pub IsNew : Deployed → Parsed → Type 0

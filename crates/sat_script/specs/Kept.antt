@@ -1,5 +1,5 @@
 -- What readers keep of a script of which a front has come.
-use Rattle.std.specs.Prelude.{ℕ, ◌≡◌, ◌≤◌, ◌<◌, ◌+◌, Bool, List, [], ◌∷◌, length, Some, None, IfSome}
+use Rattle.std.specs.Prelude.{ℕ, ◌≡◌, ◌≤◌, ◌<◌, List, [], ◌∷◌, length, Some, None, IfSome}
 use Rattle.std.specs.declared.option.Option.{Option}
 use Rattle.sat_label.specs.Words.{first_failing}
 use Rattle.sat_act.specs.declared.act.Act.{Act}
@@ -8,13 +8,16 @@ use Rattle.sat_act.specs.declared.deployment.Plan.TheVariants as plan
 use Rattle.sat_act.specs.Deployed.{Deployed}
 use Rattle.sat_act.specs.Flaw.{flaw, item_fits, client_fits, plan_fits}
 use Rattle.sat_act.specs.Limits.{IsDeployment, HaveTrees}
-use Rattle.sat_act.specs.Built.{IsBuilt}
+use Rattle.sat_script.specs.Built.{IsBuilt}
 use Rattle.sat_script.specs.Reading.{AreBuiltActs, AreAllowed}
 use Rattle.sat_script.specs.Spelled.{HaveNames}
-use Rattle.sat_script.specs.State.{State, Seen, no_header, most_sites, most_clients, most_acts}
+use Rattle.sat_script.specs.Stream.{WholeLines}
+use Rattle.sat_script.specs.Dialect.{limits_of}
+use Rattle.sat_script.specs.State.{State, no_header}
+use Rattle.sat_script.specs.declared.dialect.Dialect.{Dialect}
 use Rattle.sat_script.specs.declared.line.Stage.{Stage}
 use Rattle.sat_script.specs.declared.line.Stage.TheVariants as stage
-use Rattle.sat_script.specs.declared.limits.TheConstants.{LONGEST_LINE, MOST_SITES, MOST_GEARS, MOST_ITEMS, MOST_PLANS, MOST_SETTLES}
+use Rattle.sat_script.specs.declared.limits.TheConstants.{LONGEST_LINE, MOST_SITES, MOST_GEARS, MOST_PLANS}
 
 -- 1 to 16 sites, and no more yet
 pub record IsSited (d : Deployed) : Type 0 where
@@ -62,32 +65,31 @@ HasHeader stage.Ended d = IsWhole d
 -- what holds after good lines
 pub record IsFit (s : State) : Type 0 where
   pub header : HasHeader s.stage s.header
-  pub sites : s.header.sites ≤ most_sites s.live
-  pub items : length s.header.items ≤ MOST_ITEMS
-  pub clients : length s.header.clients ≤ most_clients s.live
+  pub sites : s.header.sites ≤ (limits_of s.dialect).sites
+  pub items : length s.header.items ≤ (limits_of s.dialect).items
+  pub clients : length s.header.clients ≤ (limits_of s.dialect).clients
   pub plans : length s.header.plans ≤ MOST_PLANS
-  pub acts : s.acts ≤ most_acts s.live
-  pub settles : s.settles ≤ MOST_SETTLES
+  pub acts : s.acts ≤ (limits_of s.dialect).acts
+  pub settles : s.settles ≤ (limits_of s.dialect).settles
 
 -- what good lines said: nothing before `begin`, and then a deployment and acts of it
-abbrev pub HasSaid : Bool → Stage → Deployed → Option Deployed → List Act → Type 0
-HasSaid live stage.Start d said acts = (said ≡ None) × (acts ≡ [])
-HasSaid live stage.Sites d said acts = (said ≡ None) × (acts ≡ [])
-HasSaid live stage.Gears d said acts = (said ≡ None) × (acts ≡ [])
-HasSaid live stage.Header d said acts = (said ≡ None) × (acts ≡ [])
-HasSaid live stage.Body d said acts = (said ≡ Some d) × AreBuiltActs d acts × AreAllowed live acts
-HasSaid live stage.Ended d said acts = (said ≡ Some d) × AreBuiltActs d acts × AreAllowed live acts
+abbrev pub HasSaid : Dialect → Stage → Deployed → Option Deployed → List Act → Type 0
+HasSaid dialect stage.Start d said acts = (said ≡ None) × (acts ≡ [])
+HasSaid dialect stage.Sites d said acts = (said ≡ None) × (acts ≡ [])
+HasSaid dialect stage.Gears d said acts = (said ≡ None) × (acts ≡ [])
+HasSaid dialect stage.Header d said acts = (said ≡ None) × (acts ≡ [])
+HasSaid dialect stage.Body d said acts = (said ≡ Some d) × AreBuiltActs d acts × AreAllowed dialect acts
+HasSaid dialect stage.Ended d said acts = (said ≡ Some d) × AreBuiltActs d acts × AreAllowed dialect acts
 
--- a reader of pieces while no fault is known: the lines so far said this, and the line that has begun isn't too long
-pub record IsGoing (s : State) (deployment : Option Deployed) (acts : List Act) (begun : List ℕ) : Type 0 where
-  pub said : HasSaid s.live s.stage s.header deployment acts
+-- whole lines: while no fault is known, they said this
+pub record AreWhole (l : WholeLines) : Type 0 where
+  pub fit : IsFit l.seen.state
+  pub whole : IfSome l.deployment (λ d. IsWhole d × AreBuiltActs d l.acts)
+  pub none : l.deployment ≡ None → l.acts ≡ []
+  pub few : length l.acts ≤ l.seen.state.acts
+  pub said : l.seen.fault ≡ None → HasSaid l.seen.state.dialect l.seen.state.stage l.seen.state.header l.deployment l.acts
+
+-- a reader of pieces: the line that has begun isn't too long
+pub record IsComing (l : WholeLines) (begun : List ℕ) : Type 0 where
+  pub fit : IsFit l.seen.state
   pub short : length begun ≤ LONGEST_LINE
-
--- a reader of pieces
-pub record IsComing (seen : Seen) (deployment : Option Deployed) (acts : List Act) (begun : List ℕ) : Type 0 where
-  pub fit : IsFit seen.state
-  pub whole : IfSome deployment (λ d. IsWhole d × AreBuiltActs d acts)
-  pub none : deployment ≡ None → acts ≡ []
-  pub few : length acts ≤ seen.state.acts
-  pub short : length begun ≤ LONGEST_LINE + 1
-  pub going : seen.fault ≡ None → IsGoing seen.state deployment acts begun

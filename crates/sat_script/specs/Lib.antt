@@ -1,6 +1,8 @@
 pub mod Words
 pub mod Names
+pub mod Dialect
 pub mod State
+pub mod Built
 pub mod Causes
 pub mod Table
 pub mod Grammar

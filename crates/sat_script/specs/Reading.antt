@@ -1,21 +1,21 @@
 -- What a text is: the deployment and the acts of the lines before the first bad line, and that line with its cause.
-use Rattle.std.specs.Prelude.{ℕ, ◌≡◌, ◌≢◌, ◌≤◌, true, false, Bool, not, ◌||◌, List, [], ◌∷◌, ◌++◌, length, Some, None, Ok, Err}
+use Rattle.std.specs.Prelude.{ℕ, ◌≡◌, ◌≢◌, ◌≤◌, true, false, Bool, List, [], ◌∷◌, ◌++◌, length, Some, None, Ok, Err}
 use Rattle.std.specs.declared.option.Option.{Option}
 use Rattle.std.specs.declared.result.Result.{Result}
 use Rattle.std.specs.List.{AllByRecursion, slice_split}
 use Rattle.sat_act.specs.declared.act.Act.{Act}
 use Rattle.sat_act.specs.Deployed.{Deployed}
 use Rattle.sat_act.specs.Ranges.{IsActOf}
-use Rattle.sat_act.specs.Built.{is_built_act}
-use Rattle.sat_script.specs.Causes.{is_live}
+use Rattle.sat_script.specs.Built.{is_built_act}
+use Rattle.sat_script.specs.Dialect.{dialect_of, limits_of, has_form}
 use Rattle.sat_script.specs.Table.{form_of}
 use Rattle.sat_script.specs.Grammar.{line_at, close_at, after}
 use Rattle.sat_script.specs.State.{State, start, number_of}
 use Rattle.sat_script.specs.Words.{is_newline}
+use Rattle.sat_script.specs.declared.dialect.Dialect.{Dialect}
 use Rattle.sat_script.specs.declared.fault.Cause.{Cause}
 use Rattle.sat_script.specs.declared.fault.Cause.TheVariants.{Memory}
 use Rattle.sat_script.specs.declared.fault.ScriptFault.{ScriptFault}
-use Rattle.sat_script.specs.declared.limits.TheConstants.{LIVE_SITES, LIVE_CLIENTS, LIVE_ACTS}
 use Rattle.sat_script.specs.declared.line.Line.{Line}
 use Rattle.sat_script.specs.declared.line.Line.TheVariants as line
 use Rattle.sat_script.specs.declared.line.Parsed.{Parsed}
@@ -71,7 +71,7 @@ nothing = record { deployment = None; acts = []; fault = None }
 -- what a text is
 unfoldable pub reading : Bool → List ℕ → Reading
 unfolding script_from
-reading live text = script_from (start live) nothing (slice_split is_newline text)
+reading live text = script_from (start (dialect_of live)) nothing (slice_split is_newline text)
 
 -- a text with no fault
 abbrev pub good : Deployed → List Act → Reading
@@ -81,24 +81,21 @@ good d acts = record { deployment = Some d; acts = acts; fault = None }
 abbrev pub AreBuiltActs : Deployed → List Act → Type 0
 AreBuiltActs d acts = AllByRecursion (λ a. IsActOf d a × (is_built_act a ≡ true)) acts
 
--- the acts of a script for nodes on threads
-abbrev pub is_live_act : Act → Bool
-is_live_act a = is_live (form_of a)
+-- acts of forms that a dialect has
+abbrev pub AreAllowed : Dialect → List Act → Type 0
+AreAllowed dialect acts = AllByRecursion (λ a. has_form dialect (form_of a) ≡ true) acts
 
-abbrev pub AreAllowed : Bool → List Act → Type 0
-AreAllowed live acts = AllByRecursion (λ a. (not live || is_live_act a) ≡ true) acts
+-- within the limits of a dialect
+pub record IsWithin (dialect : Dialect) (d : Deployed) (acts : List Act) : Type 0 where
+  pub sites : d.sites ≤ (limits_of dialect).sites
+  pub clients : length d.clients ≤ (limits_of dialect).clients
+  pub few : length acts ≤ (limits_of dialect).acts
+  pub each : AreAllowed dialect acts
 
--- within the limits of a script for nodes on threads
-pub record IsForNodes (d : Deployed) (acts : List Act) : Type 0 where
-  pub sites : d.sites ≤ LIVE_SITES
-  pub clients : length d.clients ≤ LIVE_CLIENTS
-  pub few : length acts ≤ LIVE_ACTS
-  pub each : AreAllowed true acts
-
--- the same where the script is for nodes on threads, and else nothing
+-- the same where the script is for nodes on threads; every deployment and its acts are within the limits of the others
 abbrev pub IsAllowed : Bool → Deployed → List Act → Type 0
 IsAllowed false d acts = Unit {0}
-IsAllowed true d acts = IsForNodes d acts
+IsAllowed true d acts = IsWithin (dialect_of true) d acts
 
 -- want of memory is told, or this holds
 abbrev pub UnlessMemory : {T : Type 0} → Result T ScriptFault → Type 0 → Type 0

@@ -13,7 +13,7 @@ use Rattle.sat_act.specs.declared.deployment.Plan.{Plan}
 use Rattle.sat_act.specs.declared.deployment.Plan.TheVariants as plan
 use Rattle.sat_act.specs.Deployed.{Deployed}
 use Rattle.sat_act.specs.Limits.{IsDeployment}
-use Rattle.sat_act.specs.Built.{IsBuilt}
+use Rattle.sat_script.specs.Built.{IsBuilt}
 use Rattle.sat_script.specs.Reading.{AreBuiltActs}
 use Rattle.sat_script.specs.Table.{act_words}
 use Rattle.sat_script.specs.declared.limits.TheConstants.{MOST_ACTS}

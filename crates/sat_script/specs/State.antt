@@ -1,15 +1,15 @@
 -- What the lines so far say.
-use Rattle.std.specs.Prelude.{ℕ, ◌+◌, Bool, true, false, [], length}
+use Rattle.std.specs.Prelude.{ℕ, ◌+◌, [], length}
 use Rattle.std.specs.declared.option.Option.{Option}
 use Rattle.sat_act.specs.Deployed.{Deployed}
+use Rattle.sat_script.specs.declared.dialect.Dialect.{Dialect}
 use Rattle.sat_script.specs.declared.fault.ScriptFault.{ScriptFault}
-use Rattle.sat_script.specs.declared.limits.TheConstants.{MOST_SITES, MOST_CLIENTS, MOST_ACTS, LIVE_SITES, LIVE_CLIENTS, LIVE_ACTS}
 use Rattle.sat_script.specs.declared.line.Stage.{Stage}
 use Rattle.sat_script.specs.declared.line.Stage.TheVariants as stage
 
 -- where the next line stands, the header as far as it has come, and how many acts have come, `settle` among them
 pub record State : Type 0 where
-  pub live : Bool
+  pub dialect : Dialect
   pub stage : Stage
   pub header : Deployed
   pub acts : ℕ
@@ -25,21 +25,8 @@ abbrev pub no_header : Deployed
 no_header = record { sites = 0; gears = 0; items = []; clients = []; plans = [] }
 
 -- before the first line
-abbrev pub start : Bool → State
-start live = record { live = live; stage = stage.Start; header = no_header; acts = 0; settles = 0 }
-
--- the limits, which are lower for nodes on threads
-abbrev pub most_sites : Bool → ℕ
-most_sites true = LIVE_SITES
-most_sites false = MOST_SITES
-
-abbrev pub most_clients : Bool → ℕ
-most_clients true = LIVE_CLIENTS
-most_clients false = MOST_CLIENTS
-
-abbrev pub most_acts : Bool → ℕ
-most_acts true = LIVE_ACTS
-most_acts false = MOST_ACTS
+abbrev pub start : Dialect → State
+start dialect = record { dialect = dialect; stage = stage.Start; header = no_header; acts = 0; settles = 0 }
 
 -- the number of lines of items, clients and plans
 abbrev pub header_lines : Deployed → ℕ

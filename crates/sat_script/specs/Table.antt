@@ -83,7 +83,7 @@ kinds_of _ = []
 
 -- the forms of acts, in the order in which they are tried
 abbrev pub act_forms : List Form
-act_forms = form.Write ∷ form.Read ∷ form.Hop ∷ form.Bulk ∷ form.NumberedBulk ∷ form.Turn ∷ form.Gather ∷ form.Emit ∷ form.Tick ∷ form.Pulse ∷ form.Beat ∷ form.BeatIn ∷ form.Stamp ∷ form.Move ∷ form.Leave ∷ form.Attach ∷ form.Clock ∷ form.Close ∷ form.Fall ∷ form.Advance ∷ form.Kill ∷ form.Settle ∷ []
+act_forms = form.Hop ∷ form.Bulk ∷ form.Turn ∷ form.Tick ∷ form.Write ∷ form.Read ∷ form.Emit ∷ form.Gather ∷ form.NumberedBulk ∷ form.Pulse ∷ form.Beat ∷ form.BeatIn ∷ form.Stamp ∷ form.Move ∷ form.Leave ∷ form.Attach ∷ form.Clock ∷ form.Close ∷ form.Fall ∷ form.Advance ∷ form.Kill ∷ form.Settle ∷ []
 
 -- the words at their places; 0 or nothing where there is no such word
 abbrev pub place_in : Option Said → ℕ
@@ -302,7 +302,7 @@ unfit d _ = None
 -- the first form with this word and so many more
 abbrev pub found_form : List ℕ → ℕ → List Form → Option Form
 found_form word n [] = None
-found_form word n (f ∷ fs) = if bytes_eq word (word_of f) && (length (kinds_of f) == n) then Some f else found_form word n fs
+found_form word n (f ∷ fs) = if (length (kinds_of f) == n) && bytes_eq word (word_of f) then Some f else found_form word n fs
 
 -- the act that the words say, unless its parts do not go together
 abbrev pub said_act : Deployed → Form → Result (List Said) Cause → Result Act Cause

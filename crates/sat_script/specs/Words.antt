@@ -1,8 +1,8 @@
 -- The words of a line: its bytes, numbers, lists of sites, and nodes.
-use Rattle.std.specs.Prelude.{ℕ, ◌^◌, List, [], ◌∷◌, Bool, true, false, not, ◌&&◌, ◌||◌, ◌==◌, nat_lt, nat_le, length, map, slice_index, bit_or, Some, None, if◌then◌else◌}
+use Rattle.std.specs.Prelude.{ℕ, ◌≡◌, ◌^◌, List, [], ◌∷◌, ◌++◌, Bool, true, false, not, ◌&&◌, ◌||◌, ◌==◌, nat_lt, nat_le, ◌≤◌, length, map, take, drop, slice_index, bit_or, Some, None, if◌then◌else◌}
 use Rattle.std.specs.declared.option.Option.{Option}
 use Rattle.std.specs.Option.{option_map}
-use Rattle.std.specs.List.{slice_split, list_all}
+use Rattle.std.specs.List.{All, slice_split, list_all}
 use Rattle.std.specs.Str.{all_ascii_digits}
 use Rattle.std.specs.Str.Parse.{digits_value}
 use Rattle.sat_label.specs.Text.{is_between}
@@ -27,6 +27,21 @@ is_text line = list_all (is_between 32 126) line
 -- the parts of a line between its blanks
 abbrev pub words_of : List ℕ → List (List ℕ)
 words_of line = slice_split is_blank line
+
+-- a byte stands nowhere in a text
+abbrev pub HasNo : ℕ → List ℕ → Type 0
+HasNo byte text = All (λ other. other == byte ≡ false) text
+
+-- what stands before the first place of a byte, and what behind it
+pub record IsCut (byte : ℕ) (text front rest : List ℕ) : Type 0 where
+  pub none : HasNo byte front
+  pub whole : text ≡ front ++ byte ∷ rest
+
+-- the bytes up to a place can be seen, and no byte can that stands there
+pub record IsSeenFront (text : List ℕ) (place : ℕ) : Type 0 where
+  pub within : place ≤ length text
+  pub seen : list_all (is_between 33 126) (take place text) ≡ true
+  pub stops : (byte : ℕ) (rest : List ℕ) → drop place text ≡ byte ∷ rest → is_between 33 126 byte ≡ false
 
 -- a word of bytes that can be seen
 abbrev pub is_token : List ℕ → Bool

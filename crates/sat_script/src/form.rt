@@ -1,6 +1,6 @@
 //! The forms of lines, and the table of the acts: the word that an act begins with, and the kinds of the words after it.
 ghost use Rattle.std.specs.Prelude.{◌≡◌, ◌≤◌, length};
-ghost use Rattle.sat_script.specs.Causes.{is_live};
+ghost use Rattle.sat_script.specs.Dialect.{is_live};
 ghost use Rattle.sat_script.specs.Table.{word_of, kinds_of, act_forms, found_form};
 
 /// The form of a line whose number is limited, or that may not be built yet: of the header's lines those that come any number of
@@ -117,20 +117,20 @@ pub fn kinds_of(form: Form) -> &'static [Kind]
     }
 }
 
-/// The forms of acts.
+/// The forms of acts, those first that stand in scripts most often.
 pub fn act_forms() -> &'static [Form]
     ensures { result.now ≡ act_forms }
 {
     &[
-        Form::Write,
-        Form::Read,
         Form::Hop,
         Form::Bulk,
-        Form::NumberedBulk,
         Form::Turn,
-        Form::Gather,
-        Form::Emit,
         Form::Tick,
+        Form::Write,
+        Form::Read,
+        Form::Emit,
+        Form::Gather,
+        Form::NumberedBulk,
         Form::Pulse,
         Form::Beat,
         Form::BeatIn,
@@ -151,17 +151,16 @@ pub fn act_forms() -> &'static [Form]
 pub fn found_form(word: &[u8], count: usize, forms: &[Form]) -> Option<Form>
     ensures { result ≡ found_form word.now count forms.now }
 {
-    let Some((form, forms)) = forms.split_first() else {
-        return None;
-    };
-    if word == word_of(*form) && kinds_of(*form).len() == count {
-        return Some(*form);
+    for form in forms {
+        if kinds_of(*form).len() == count && word == word_of(*form) {
+            return Some(*form);
+        }
     }
-    found_form(word, count, forms)
+    None
 }
 
 /// Whether a script for nodes on threads may have lines of a form.
-#[tactic(auto, unfolding(crate::specs::Causes::is_live))]
+#[tactic(auto, unfolding(crate::specs::Dialect::is_live))]
 pub fn is_live(form: Form) -> bool
     ensures { result ≡ is_live form }
 {

@@ -1,7 +1,7 @@
 //! The lines of the header, by their words.
-ghost use Rattle.std.specs.Prelude.{◌≡◌, ◌<◌, ◌≤◌, ◌∷◌, map, true, None, Some, length, position, IfOk, IfSome};
+ghost use Rattle.std.specs.Prelude.{◌≡◌, ◌<◌, ◌≤◌, ◌∷◌, take, drop, map, true, None, Some, length, position, IfOk, IfSome};
 ghost use Rattle.std.specs.List.{list_all};
-ghost use Rattle.sat_script.specs.Words.{are_rising, is_number, sites_among};
+ghost use Rattle.sat_script.specs.Words.{are_rising, is_number, sites_among, words_of};
 ghost use Rattle.sat_script.specs.Grammar.{format_line, counted, sites_line, gears_line, item_line, client_line, begin_line, is_slash, are_parents, tree_on, tree_in, tree_line, parted_line, stamp_line, plan_line, named_line, header_form, header_line};
 ghost use Rattle.sat_script.specs.Lines.{Gives, IsTreeOf};
 
@@ -13,7 +13,7 @@ use crate::line::Parsed;
 use crate::list::{is_rising, numbers_below, parts_of, set_of};
 use crate::number::{is_number, number_below, number_to};
 use crate::place::Place;
-use crate::words::are_numbers;
+use crate::words::{are_numbers, words_of};
 use sat_act::{ClientLine, Item, Plan};
 use sat_label::{Name, SiteSet, spells_name};
 use sat_tree::{Tree, TreeFault};
@@ -53,7 +53,7 @@ fn counted(keyword: &[u8], limit: u16, word: &[u8], number: &[u8]) -> Result<u16
 /// `sites N`
 #[tactic(auto, unfolding(crate::specs::Grammar::sites_line))]
 pub fn sites_line(place: &Place, words: &[&[u8]]) -> Result<Parsed, Cause>
-    ensures { Gives result (sites_line place.now.live (map (λ word. word.now) words.now)) }
+    ensures { Gives result (sites_line place.now.dialect (map (λ word. word.now) words.now)) }
 {
     match words {
         [word, number] => {
@@ -305,7 +305,7 @@ fn stamp_line(place: &Place) -> Result<Parsed, Cause>
 }
 
 #[tactic(auto, unfolding(crate::specs::Grammar::plan_line))]
-fn plan_line(alloc: Global, place: &Place, words: &[&[u8]]) -> Result<Parsed, Cause>
+fn plan_form(alloc: Global, place: &Place, words: &[&[u8]]) -> Result<Parsed, Cause>
     ensures { Gives result (plan_line place.now (map (λ word. word.now) words.now)) }
 {
     match words {
@@ -319,6 +319,20 @@ fn plan_line(alloc: Global, place: &Place, words: &[&[u8]]) -> Result<Parsed, Ca
                 Err(Cause::BadHeader)
             }
         }
+    }
+}
+
+// A plan, which may have more words than the other lines.
+#[tactic(auto, unfolding(crate::specs::Grammar::plan_line))]
+fn plan_line(alloc: Global, place: &Place, line: &[u8]) -> Result<Parsed, Cause>
+    ensures { Gives result (plan_line place.now (drop 1 (words_of line.now))) }
+{
+    let Ok(words) = words_of(alloc, line) else {
+        return Err(Cause::Memory);
+    };
+    match words.as_slice() {
+        [] => Err(Cause::BadHeader),
+        [_, words @ ..] => plan_form(alloc, place, words),
     }
 }
 
@@ -359,18 +373,22 @@ fn header_form(alloc: Global, place: &Place, word: &[u8], words: &[&[u8]]) -> Re
 }
 
 /// An item, a client, a plan, or `begin`.
-#[tactic(auto, unfolding(crate::specs::Grammar::header_line))]
-pub fn header_line(alloc: Global, place: &Place, words: &[&[u8]]) -> Result<Parsed, Cause>
-    ensures { Gives result (header_line place.now (map (λ word. word.now) words.now)) }
+#[tactic(auto, using(crate::proofs::First::form_first), unfolding(crate::specs::Grammar::header_line))]
+pub fn header_line(
+    alloc: Global,
+    place: &Place,
+    line: &[u8],
+    words: &[&[u8]],
+) -> Result<Parsed, Cause>
+    requires { map (λ word. word.now) words.now ≡ take 6 (words_of line.now) }
+    ensures { Gives result (header_line place.now (words_of line.now)) }
 {
-    match words {
-        [] => Err(Cause::BadHeader),
-        [word, words @ ..] => {
-            if *word == b"plan".as_slice() {
-                plan_line(alloc, place, words)
-            } else {
-                header_form(alloc, place, word, words)
-            }
-        }
+    let Some((word, more)) = words.split_first() else {
+        return Err(Cause::BadHeader);
+    };
+    if *word == b"plan".as_slice() {
+        plan_line(alloc, place, line)
+    } else {
+        header_form(alloc, place, word, more)
     }
 }

@@ -2,12 +2,14 @@
 #![tactic(auto)]
 
 mod act_lines;
+mod dialect;
 mod fault;
 mod form;
 mod header;
 mod header_lines;
 mod limits;
 mod line;
+mod lines;
 mod list;
 mod names;
 mod nodes;
@@ -21,6 +23,7 @@ mod words;
 mod write;
 mod write_lines;
 
+pub use dialect::{Dialect, Limits};
 pub use fault::{Cause, ScriptFault};
 pub use limits::{
     BYTES_END, LIVE_ACTS, LIVE_CLIENTS, LIVE_SITES, LONGEST_LINE, MOST_ACTS, MOST_BYTES,

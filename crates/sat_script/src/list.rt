@@ -3,7 +3,7 @@ ghost use Rattle.std.specs.Prelude.{◌≡◌, ◌≤◌, ◌<◌, true, false, 
 ghost use Rattle.std.specs.List.{list_all};
 ghost use Rattle.sat_script.specs.Words.{is_number, value_of, is_rising, set_of, are_below, parts_of};
 
-use crate::number::number_below;
+use crate::number::{is_less, number_below};
 use sat_label::SiteSet;
 use std::alloc::{AllocError, Global};
 
@@ -12,19 +12,6 @@ pub fn parts_of(alloc: Global, list: &[u8]) -> Result<Vec<&[u8]>, AllocError>
     ensures { IfOk result (λ parts. map (λ part. part.now) parts.items ≡ parts_of list.now) }
 {
     list.split(|byte| *byte == b',').collect(alloc)
-}
-
-// Whether a number is below another, both of any length: the shorter one is, and of two as long the one that is first by its bytes.
-fn is_less(a: &[u8], b: &[u8]) -> bool
-    requires a { is_number a.now ≡ true }
-    requires b { is_number b.now ≡ true }
-    ensures { result ≡ nat_lt (value_of a.now) (value_of b.now) }
-{
-    if a.len() == b.len() {
-        a.cmp(b).is_lt()
-    } else {
-        a.len() < b.len()
-    }
 }
 
 /// Whether each number is above the one before it.

@@ -1,45 +1,26 @@
 //! What the lines so far say: where the next line stands, and what may stand there.
-ghost use Rattle.std.specs.Prelude.{◌≡◌, ◌≤◌, ◌↔◌, IsTrue, IfOk, OnErr, MatchResult, Some, None, length};
-ghost use Rattle.sat_script.specs.State.{start, number_of, most_sites, most_clients, most_acts};
+ghost use Rattle.std.specs.Prelude.{◌≡◌, ◌≤◌, ◌↔◌, ◌++◌, [], ◌∷◌, IsTrue, IfOk, OnOk, OnErr, MatchResult, Some, None, length};
+ghost use Rattle.sat_script.specs.Dialect.{limits_of};
+ghost use Rattle.sat_script.specs.State.{start, number_of};
 ghost use Rattle.sat_script.specs.Causes.{is_built, has_room, bar};
 ghost use Rattle.sat_script.specs.Grammar.{after, IsNew};
 ghost use Rattle.sat_script.specs.Reading.{told_line};
 ghost use Rattle.sat_script.specs.Kept.{IsFit};
+ghost use Rattle.sat_script.specs.declared.line.Parsed.TheVariants as parsed;
 
-use crate::Cause;
-use crate::form::{Form, is_live};
+use crate::form::Form;
 use crate::header::Header;
-use crate::limits::{
-    LIVE_ACTS, LIVE_CLIENTS, LIVE_SITES, MOST_ACTS, MOST_CLIENTS, MOST_ITEMS, MOST_PLANS,
-    MOST_SETTLES, MOST_SITES,
-};
+use crate::limits::MOST_PLANS;
 use crate::line::{Line, Parsed, Stage};
-use sat_act::Act;
+use crate::{Cause, Dialect};
+use sat_act::{Act, Acts};
 use std::alloc::{AllocError, Global};
 use std::marker::Model;
-
-fn most_sites(live: bool) -> u16
-    ensures { result ≡ most_sites live }
-{
-    if live { LIVE_SITES } else { MOST_SITES }
-}
-
-fn most_clients(live: bool) -> usize
-    ensures { result ≡ most_clients live }
-{
-    if live { LIVE_CLIENTS } else { MOST_CLIENTS }
-}
-
-fn most_acts(live: bool) -> u32
-    ensures { result ≡ most_acts live }
-{
-    if live { LIVE_ACTS } else { MOST_ACTS }
-}
 
 /// What the lines so far say.
 #[derive(Drop)]
 pub struct Place {
-    live: bool,
+    dialect: Dialect,
     stage: Stage,
     header: Header,
     acts: u32,
@@ -52,18 +33,18 @@ impl Model for Place {
 
     ghost Value = { State };
 
-    ghost view = { λ a. record { live = a.live; stage = a.stage; header = a.header; acts = a.acts; settles = a.settles } };
+    ghost view = { λ a. record { dialect = a.dialect; stage = a.stage; header = a.header; acts = a.acts; settles = a.settles } };
 
-    ghost invariant = { λ a. IsFit (record { live = a.live; stage = a.stage; header = a.header; acts = a.acts; settles = a.settles }) };
+    ghost invariant = { λ a. IsFit (record { dialect = a.dialect; stage = a.stage; header = a.header; acts = a.acts; settles = a.settles }) };
 }
 
 impl Place {
     /// Before the first line.
-    pub fn new(alloc: Global, live: bool) -> Place
-        ensures { result ≡ start live }
+    pub fn new(alloc: Global, dialect: Dialect) -> Place
+        ensures { result ≡ start dialect }
     {
         Place {
-            live,
+            dialect,
             stage: Stage::Start,
             header: Header::new(alloc),
             acts: 0,
@@ -95,9 +76,9 @@ impl Place {
 
     /// The most sites.
     pub fn most_sites(&self) -> u16
-        ensures { result ≡ most_sites self.now.live }
+        ensures { result ≡ (limits_of self.now.dialect).sites }
     {
-        most_sites(self.live)
+        self.dialect.limits().sites
     }
 
     /// The number of the next line, from 1.
@@ -141,13 +122,14 @@ impl Place {
     fn has_room(&self, form: Form) -> bool
         ensures { result ≡ has_room self.now form }
     {
+        let limits = self.dialect.limits();
         match form {
-            Form::Item => self.header.items() < MOST_ITEMS,
-            Form::Client => usize::from(self.header.clients()) < most_clients(self.live),
+            Form::Item => self.header.items() < limits.items,
+            Form::Client => usize::from(self.header.clients()) < limits.clients,
             Form::PlanStamp => usize::from(self.header.plans()) < MOST_PLANS,
             Form::PlanTree => usize::from(self.header.plans()) < MOST_PLANS,
-            Form::Settle => self.acts < most_acts(self.live) && self.settles < MOST_SETTLES,
-            _ => self.acts < most_acts(self.live),
+            Form::Settle => self.acts < limits.acts && self.settles < limits.settles,
+            _ => self.acts < limits.acts,
         }
     }
 
@@ -159,12 +141,27 @@ impl Place {
         if !self.is_built(form) {
             return Err(Cause::Unbuilt);
         }
-        if self.live && !is_live(form) {
+        if !self.dialect.has(form) {
             return Err(Cause::NotLive);
         }
         if !self.has_room(form) {
             return Err(Cause::TooMany);
         }
+        Ok(())
+    }
+
+    /// Takes an act, and adds it to others. For want of memory all is as before.
+    pub fn keep_act(&mut self, act: Act, acts: &mut Acts) -> Result<(), AllocError>
+        requires fits { IsFit (after self.old (parsed.Act act)) }
+        ensures ok { OnOk result ((self.new ≡ after self.old (parsed.Act act)) × (acts.new ≡ acts.old ++ act ∷ [])) }
+        ensures err { OnErr result ((self.new ≡ self.old) × (acts.new ≡ acts.old)) }
+    {
+        let settles = matches!(act, Act::Settle);
+        acts.push(act)?;
+        if settles {
+            self.settles += 1;
+        }
+        self.acts += 1;
         Ok(())
     }
 

@@ -1,28 +1,36 @@
 //! A reader of lines.
-ghost use Rattle.std.specs.Prelude.{◌≡◌, ◌↔◌, IsTrue, map, None, Some};
+ghost use Rattle.std.specs.Prelude.{◌≡◌, ◌↔◌, IsTrue, IfErr, OnOk, None, Some, map, take};
+ghost use Rattle.sat_script.specs.Dialect.{dialect_of};
 ghost use Rattle.sat_script.specs.State.{start, number_of};
-ghost use Rattle.sat_script.specs.Grammar.{words_line, line_at, close_in};
-ghost use Rattle.sat_script.specs.Lines.{Gives, Takes, Closes, running};
+ghost use Rattle.sat_script.specs.Grammar.{words_line, line_at, close_in, after, IsNew};
+ghost use Rattle.sat_script.specs.Kept.{IsFit};
+ghost use Rattle.sat_script.specs.Lines.{Gives, Takes, Closes, running, failed};
+ghost use Rattle.sat_script.specs.Reading.{told_line, with_line, fault_at};
+ghost use Rattle.sat_script.specs.Stream.{kept};
+ghost use Rattle.sat_script.specs.Words.{words_of};
 
 use crate::act_lines::body_line;
 use crate::header_lines::{format_line, gears_line, header_line, sites_line};
 use crate::limits::LONGEST_LINE;
 use crate::line::{Line, Parsed, Stage};
 use crate::place::Place;
-use crate::words::{is_text, words_of};
-use crate::{Cause, ScriptFault};
+use crate::words::first_words;
+use crate::{Cause, Dialect, ScriptFault};
+use sat_act::{Acts, Deployment};
 use std::alloc::Global;
 use std::marker::Model;
 
-#[tactic(auto, unfolding(crate::specs::Grammar::words_line))]
-fn words_line(alloc: Global, place: &Place, words: &[&[u8]]) -> Result<Parsed, Cause>
-    ensures { Gives result (words_line place.now.stage place.now (map (λ word. word.now) words.now)) }
+// What the words of a line say, by the stage in which it stands.
+#[tactic(auto, using(crate::proofs::First::format_first, crate::proofs::First::sites_first, crate::proofs::First::gears_first, crate::proofs::First::body_first), unfolding(crate::specs::Grammar::words_line))]
+fn words_line(alloc: Global, place: &Place, line: &[u8], words: &[&[u8]]) -> Result<Parsed, Cause>
+    requires { map (λ word. word.now) words.now ≡ take 6 (words_of line.now) }
+    ensures { Gives result (words_line place.now.stage place.now (words_of line.now)) }
 {
     match place.stage() {
         Stage::Start => format_line(words),
         Stage::Sites => sites_line(place, words),
         Stage::Gears => gears_line(words),
-        Stage::Header => header_line(alloc, place, words),
+        Stage::Header => header_line(alloc, place, line, words),
         Stage::Body => body_line(alloc, place, words),
         Stage::Ended => Err(Cause::AfterEnd),
     }
@@ -39,13 +47,10 @@ fn line_at(alloc: Global, place: &Place, line: &[u8]) -> Result<Parsed, Cause>
     if line.len() > LONGEST_LINE {
         return Err(Cause::LongLine);
     }
-    if !is_text(line) {
+    let Some(words) = first_words(line) else {
         return Err(Cause::NotText);
-    }
-    let Ok(words) = words_of(alloc, line) else {
-        return Err(Cause::Memory);
     };
-    words_line(alloc, place, words.as_slice())
+    words_line(alloc, place, line, words.as_slice())
 }
 
 #[tactic(auto, unfolding(crate::specs::Grammar::close_in))]
@@ -92,30 +97,13 @@ impl Model for Reader {
 impl Reader {
     /// A reader at the first line. With `live` the script is one for nodes on threads.
     pub fn new(alloc: Global, live: bool) -> Reader
-        ensures { result ≡ running (start live) }
+        ensures { result ≡ running (start (dialect_of live)) }
     {
         Reader {
             alloc,
-            place: Place::new(alloc, live),
+            place: Place::new(alloc, Dialect::of(live)),
             fault: None,
         }
-    }
-
-    // The number of the next line.
-    pub(crate) fn number(&self) -> u64
-        ensures { result ≡ number_of self.now.state }
-    {
-        self.place.number()
-    }
-
-    // Fails at a line.
-    pub(crate) fn fail_at(&mut self, line: u64, cause: Cause) -> ScriptFault
-        ensures fault { result ≡ record { line = line; cause = cause } }
-        ensures new { self.new ≡ record { state = self.old.state; fault = Some result } }
-    {
-        let fault = ScriptFault { line, cause };
-        self.fault = Some(fault);
-        fault
     }
 
     // Fails at the next line.
@@ -123,8 +111,12 @@ impl Reader {
         ensures fault { result ≡ record { line = number_of self.old.state; cause = cause } }
         ensures new { self.new ≡ record { state = self.old.state; fault = Some result } }
     {
-        let line = self.place.number();
-        self.fail_at(line, cause)
+        let fault = ScriptFault {
+            line: self.place.number(),
+            cause,
+        };
+        self.fault = Some(fault);
+        fault
     }
 
     /// The fault that it answered, if it answered one.
@@ -141,6 +133,45 @@ impl Reader {
         self.place.stage() == Stage::Ended
     }
 
+    // What the next line says.
+    pub(crate) fn parse(&self, bytes: &[u8]) -> Result<Parsed, Cause>
+        ensures { Gives result (line_at self.now.state bytes.now) }
+    {
+        line_at(self.alloc, &self.place, bytes)
+    }
+
+    // Takes what a good line says, and keeps a deployment and an act. For want of memory it fails at that line.
+    pub(crate) fn keep_in(
+        &mut self,
+        parsed: Parsed,
+        deployment: &mut Option<Deployment>,
+        acts: &mut Acts,
+    ) -> Result<(), ScriptFault>
+        requires fits { IsFit (after self.old.state parsed) }
+        requires new { IsNew self.old.state.header parsed }
+        ensures ok { OnOk result ((self.new ≡ record { state = after self.old.state parsed; fault = self.old.fault })
+            × (kept deployment.new acts.new ≡ with_line (kept deployment.old acts.old) (told_line self.old.state.header parsed))) }
+        ensures err { IfErr result (λ fault. (fault ≡ fault_at self.old.state Cause.Memory) × (self.new ≡ failed self.old.state fault)
+            × (kept deployment.new acts.new ≡ kept deployment.old acts.old)) }
+    {
+        if let Parsed::Act(act) = parsed {
+            return match self.place.keep_act(act, acts) {
+                Ok(()) => Ok(()),
+                Err(_) => Err(self.fail(Cause::Memory)),
+            };
+        }
+        match self.place.keep(self.alloc, parsed) {
+            Ok(Line::Begin(said)) => {
+                *deployment = Some(said);
+                Ok(())
+            }
+            Ok(Line::Act(_)) => unreachable!(),
+            Ok(Line::Header) => Ok(()),
+            Ok(Line::End) => Ok(()),
+            Err(_) => Err(self.fail(Cause::Memory)),
+        }
+    }
+
     /// Takes the next line, without its byte 10. After `end` every line is refused with `AfterEnd`. After a fault every call answers
     /// that fault; a fault for want of memory is one.
     pub fn line(&mut self, bytes: &[u8]) -> Result<Line, ScriptFault>
@@ -149,7 +180,7 @@ impl Reader {
         if let Some(fault) = self.fault {
             return Err(fault);
         }
-        let parsed = match line_at(self.alloc, &self.place, bytes) {
+        let parsed = match self.parse(bytes) {
             Ok(parsed) => parsed,
             Err(cause) => return Err(self.fail(cause)),
         };

@@ -1,16 +1,17 @@
 //! A reader that takes a script in pieces.
 ghost use Rattle.std.specs.Prelude.{◌≡◌, ◌≢◌, ℕ, ◌+◌, ◌≤◌, true, List, [], ◌∷◌, ◌++◌, length, None, IfSome, IfErr, OnOk, OnErr};
-ghost use Rattle.sat_script.specs.Reading.{reading, with_line, UnlessMemory, AreBuiltActs};
-ghost use Rattle.sat_script.specs.State.{number_of};
-ghost use Rattle.sat_script.specs.Stream.{kept};
-ghost use Rattle.sat_act.specs.Built.{IsBuilt};
+ghost use Rattle.sat_script.specs.Reading.{reading, UnlessMemory, AreBuiltActs};
+ghost use Rattle.sat_script.specs.Words.{HasNo};
+ghost use Rattle.sat_script.specs.Built.{IsBuilt};
 ghost use Rattle.sat_script.specs.Spelled.{HaveNames};
 ghost use Rattle.sat_act.specs.Limits.{IsDeployment};
 
 use crate::limits::{LONGEST_LINE, MOST_ACTS, MOST_BYTES};
-use crate::{Cause, Line, Reader, ScriptFault};
+use crate::lines::Lines;
+use crate::words::cut_at;
+use crate::{Cause, ScriptFault};
 use sat_act::{Acts, Deployment};
-use std::alloc::{AllocError, Global};
+use std::alloc::Global;
 use std::marker::Model;
 
 /// What a text is: its deployment, where its header is good, the acts before its first bad line, and the fault, if any.
@@ -21,12 +22,10 @@ pub struct Reading {
     pub fault: Option<ScriptFault>,
 }
 
-/// Reads a script piece by piece.
+/// Reads a script piece by piece. Of a piece it keeps no more than the beginning of its last line.
 #[derive(Drop)]
 pub struct ScriptReader {
-    reader: Reader,
-    deployment: Option<Deployment>,
-    acts: Acts,
+    lines: Lines,
     begun: Vec<u8>,
 }
 
@@ -36,28 +35,13 @@ impl Model for ScriptReader {
 
     ghost Value = { Came };
 
-    ghost view = { λ r. record { seen = r.reader; deployment = r.deployment; acts = r.acts; begun = r.begun.items } };
+    ghost view = { λ r. record { lines = r.lines; begun = r.begun.items } };
 
-    ghost invariant = { λ r. IsComing r.reader r.deployment r.acts r.begun.items };
-}
-
-// Keeps what a good line says.
-fn keep(deployment: &mut Option<Deployment>, acts: &mut Acts, line: Line) -> Result<(), AllocError>
-    ensures ok { OnOk result (kept deployment.new acts.new ≡ with_line (kept deployment.old acts.old) line) }
-    ensures err { OnErr result (kept deployment.new acts.new ≡ kept deployment.old acts.old) }
-{
-    match line {
-        Line::Begin(said) => {
-            *deployment = Some(said);
-            Ok(())
-        }
-        Line::Act(act) => acts.push(act),
-        _ => Ok(()),
-    }
+    ghost invariant = { λ r. IsComing r.lines r.begun.items };
 }
 
 impl ScriptReader {
-    ghost use Rattle.sat_script.specs.Stream.{will_be, known_fault, Knows, bytes_of};
+    ghost use Rattle.sat_script.specs.Stream.{will_be, known_fault, Knows, bytes_of, line_of, stuck_with, TakesPiece};
 
     /// A reader at the beginning of a script.
     pub fn new(alloc: Global, live: bool) -> ScriptReader
@@ -66,72 +50,81 @@ impl ScriptReader {
         ensures counted { bytes_of result ≡ 0 }
     {
         ScriptReader {
-            reader: Reader::new(alloc, live),
-            deployment: None,
-            acts: Acts::new(alloc),
+            lines: Lines::new(alloc, live),
             begun: Vec::new(alloc),
         }
     }
 
-    // A byte that doesn't end a line.
-    fn byte(&mut self, byte: u8) -> Result<(), ScriptFault>
-        requires fresh { known_fault self.old ≡ None }
-        requires other { byte ≢ 10 }
-        ensures script { UnlessMemory result ((more : List ℕ) → will_be self.new more ≡ will_be self.old (byte ∷ more)) }
-        ensures fault { Knows self.new result }
-        ensures settled { OnErr result ((more : List ℕ) → will_be self.new more ≡ will_be self.new []) }
-        ensures counted { OnOk result (bytes_of self.old + 1 ≤ bytes_of self.new) }
+    // Why the line that has begun can't go on with so many bytes more: it stands behind the end, or is too long.
+    fn stuck(&self, more: usize) -> Option<Cause>
+        ensures { result ≡ stuck_with self.now.lines.seen.state (length self.now.begun + more) more }
     {
-        if self.begun.push(byte).is_err() {
-            return Err(self.reader.fail(Cause::Memory));
+        if self.lines.have_ended() && 0 < more {
+            return Some(Cause::AfterEnd);
         }
-        if self.begun.len() > LONGEST_LINE {
-            return self.reader.close(self.begun.as_slice());
+        if more > LONGEST_LINE - self.begun.len() {
+            return Some(Cause::LongLine);
         }
-        if self.reader.has_ended() {
-            return self.reader.close(self.begun.as_slice());
+        None
+    }
+
+    // Takes bytes of a line that don't end it.
+    fn front(&mut self, part: &[u8]) -> Result<(), ScriptFault>
+        requires fresh { known_fault self.old ≡ None }
+        requires none { HasNo 10 part.now }
+        ensures { TakesPiece self.old self.new result part.now }
+    {
+        if let Some(cause) = self.stuck(part.len()) {
+            return Err(self.lines.fail(cause));
+        }
+        if self.begun.extend_from_slice(part).is_err() {
+            return Err(self.lines.fail(Cause::Memory));
         }
         Ok(())
     }
 
-    // The byte that ends a line.
-    fn end_of_line(&mut self) -> Result<(), ScriptFault>
+    // Takes the byte that ends the line that has begun.
+    fn begun_line(&mut self) -> Result<(), ScriptFault>
         requires fresh { known_fault self.old ≡ None }
-        ensures script { UnlessMemory result ((more : List ℕ) → will_be self.new more ≡ will_be self.old (10 ∷ more)) }
-        ensures fault { Knows self.new result }
-        ensures settled { OnErr result ((more : List ℕ) → will_be self.new more ≡ will_be self.new []) }
-        ensures counted { OnOk result (bytes_of self.old + 1 ≤ bytes_of self.new) }
-        // A fault is this line's, for want of memory too.
-        ensures line { IfErr result (λ fault. fault.line ≡ number_of self.old.seen.state) }
+        ensures { TakesPiece self.old self.new result (10 ∷ []) }
     {
-        let number = self.reader.number();
-        let line = match self.reader.line(self.begun.as_slice()) {
-            Ok(line) => line,
-            Err(fault) => return Err(fault),
-        };
-        if keep(&mut self.deployment, &mut self.acts, line).is_err() {
-            return Err(self.reader.fail_at(number, Cause::Memory));
+        match self.lines.line(self.begun.as_slice()) {
+            Ok(()) => {
+                self.begun.clear();
+                Ok(())
+            }
+            Err(fault) => Err(fault),
         }
-        self.begun.clear();
-        Ok(())
     }
 
-    // Takes the bytes of a piece, one after another.
+    // Takes the last bytes of a line, and the byte that ends it. A line that lies whole in a piece is copied nowhere.
+    fn end_of_line(&mut self, part: &[u8]) -> Result<(), ScriptFault>
+        requires fresh { known_fault self.old ≡ None }
+        requires none { HasNo 10 part.now }
+        ensures { TakesPiece self.old self.new result (part.now ++ 10 ∷ []) }
+    {
+        if self.begun.as_slice().is_empty() {
+            return self.lines.line(part);
+        }
+        match self.front(part) {
+            Ok(()) => self.begun_line(),
+            Err(fault) => Err(fault),
+        }
+    }
+
+    // Takes a piece, line by line.
     fn take(&mut self, piece: &[u8]) -> Result<(), ScriptFault>
         requires fresh { known_fault self.old ≡ None }
-        ensures script { UnlessMemory result ((more : List ℕ) → will_be self.new more ≡ will_be self.old (piece.now ++ more)) }
-        ensures fault { Knows self.new result }
-        ensures settled { OnErr result ((more : List ℕ) → will_be self.new more ≡ will_be self.new []) }
-        ensures counted { OnOk result (bytes_of self.old + length piece.now ≤ bytes_of self.new) }
+        ensures { TakesPiece self.old self.new result piece.now }
     {
-        for byte in piece {
-            if *byte == b'\n' {
-                self.end_of_line()?;
-            } else {
-                self.byte(*byte)?;
+        let mut rest = piece;
+        'lines: while let Some((line, more)) = cut_at(b'\n', rest) {
+            if let Err(fault) = self.end_of_line(line) {
+                return Err(fault);
             }
+            rest = more;
         }
-        Ok(())
+        self.front(rest)
     }
 
     /// Takes the next piece. The fault of the first bad line comes as soon as it is known.
@@ -144,31 +137,24 @@ impl ScriptReader {
         // The text that came while no fault is known is no longer than the longest good script.
         ensures counted { OnOk result (bytes_of self.old + length piece.now ≤ bytes_of self.new) }
         ensures few { bytes_of self.new ≤ MOST_BYTES }
+        // A fault stands at the line at which the reader stops, also for want of memory, and all before it is kept.
+        ensures line { IfErr result (λ fault. fault.line ≡ line_of self.new) }
     {
         let taken = self.take(piece);
-        // What a reader keeps bounds what has come.
+        // The bound holds by what a reader keeps, so it is named.
         let _ = &self.begun;
         taken
     }
 
     /// What the text is that came, at its end.
+    #[tactic(auto, unfolding(crate::specs::Stream::will_be))]
     pub fn finish(self) -> Reading
         ensures script { result ≡ will_be self [] }
         ensures built { IfSome result.deployment (λ d. IsDeployment d × IsBuilt d × HaveNames d × AreBuiltActs d result.acts) }
         ensures none { result.deployment ≡ None → result.acts ≡ [] }
         ensures few { length result.acts ≤ MOST_ACTS }
     {
-        let ScriptReader {
-            mut reader,
-            deployment,
-            acts,
-            begun,
-        } = self;
-        let _ = reader.close(begun.as_slice());
-        Reading {
-            deployment,
-            acts,
-            fault: reader.fault(),
-        }
+        let ScriptReader { lines, begun } = self;
+        lines.finish(begun.as_slice())
     }
 }

@@ -1,10 +1,12 @@
 //! The words of a line.
-ghost use Rattle.std.specs.Prelude.{◌≡◌, IfOk, map};
+ghost use Rattle.std.specs.Prelude.{◌≡◌, true, false, IfOk, MatchOption, map, take};
 ghost use Rattle.sat_label.specs.Text.{is_between};
 ghost use Rattle.std.specs.List.{list_all};
-ghost use Rattle.sat_script.specs.Words.{is_text, is_token, is_number, is_node, is_serializer, words_of};
+ghost use Rattle.sat_script.specs.Words.{is_text, is_token, is_number, is_node, is_serializer, words_of, HasNo, IsCut, IsSeenFront};
 
 use crate::number::is_number;
+use arrayvec::ArrayVec;
+use memchr::memchr;
 use std::alloc::{AllocError, Global};
 
 /// The parts of a line between its blanks.
@@ -12,6 +14,55 @@ pub fn words_of(alloc: Global, line: &[u8]) -> Result<Vec<&[u8]>, AllocError>
     ensures { IfOk result (λ words. map (λ word. word.now) words.items ≡ words_of line.now) }
 {
     line.split(|byte| *byte == b' ').collect(alloc)
+}
+
+/// A text before and behind the first place of a byte, where the byte stands in it.
+#[inline(always)]
+pub fn cut_at(byte: u8, text: &[u8]) -> Option<(&[u8], &[u8])>
+    ensures { MatchOption result (HasNo byte text.now) (λ parts. IsCut byte text.now parts.0.now parts.1.now) }
+{
+    match memchr(byte, text) {
+        Some(at) => Some((&text[..at], &text[at + 1..])),
+        None => None,
+    }
+}
+
+/// The first words of a line.
+pub type FirstWords<'a> = ArrayVec<&'a [u8], 6>;
+
+// The length of the front of a text that can be seen.
+#[inline(always)]
+fn seen_front(text: &[u8]) -> usize
+    ensures { IsSeenFront text.now result }
+{
+    for place in 0..text.len() {
+        if !(33 <= text[place] && text[place] <= 126) {
+            return place;
+        }
+    }
+    text.len()
+}
+
+/// The first six parts of a line between its blanks, or all where there are fewer; None where the line is no text.
+/// No act has as many.
+#[inline(always)]
+pub fn first_words(line: &[u8]) -> Option<FirstWords>
+    ensures { MatchOption result (is_text line.now ≡ false) (λ words. (is_text line.now ≡ true) × (map (λ word. word.now) words.items ≡ take 6 (words_of line.now))) }
+{
+    let mut words = ArrayVec::new();
+    let mut rest = line;
+    for _ in 0..6usize {
+        let (word, more) = rest.split_at(seen_front(rest));
+        words.push(word);
+        let Some((byte, later)) = more.split_first() else {
+            return Some(words);
+        };
+        if *byte != b' ' {
+            return None;
+        }
+        rest = later;
+    }
+    if is_text(rest) { Some(words) } else { None }
 }
 
 /// Whether a line has bytes from 32 to 126 only.

@@ -119,6 +119,14 @@ impl Serializer {
         self.outboxes[place].take()
     }
 
+    /// Whether it was killed.
+    pub fn is_dead(&self) -> bool
+        ensures dead { result ≡ self.now.killed }
+        ensures limits { IsSerializer self.now }
+    {
+        self.killed
+    }
+
     /// Kills the serializer: it handles nothing from now on. `Already` says that it was killed before. It takes no memory.
     pub fn kill(&mut self) -> Result<(), KillFault>
         ensures killed { self.new ≡ record self.old { killed = true } }

@@ -90,8 +90,8 @@ impl LabelSink {
         Ok(())
     }
 
-    // The label that would be emitted next.
-    fn next(&self) -> Option<Label>
+    /// The label that would be emitted next.
+    pub fn next(&self) -> Option<Label>
         ensures { result ≡ ready_of self.now }
     {
         least_up_to(&self.pending, least(&self.promises))

@@ -1,5 +1,5 @@
 -- A site at which nothing has happened.
-use Rattle.std.specs.Prelude.{◌≡◌, ◌⊎◌, ◌<◌, ◌+◌, ◌*◌, ◌/◌, ◌^◌, ℕ, zero, suc, List, [], ◌∷◌, ◌++◌, length, map, replicate, get_or, Option, Some, None, slice_get, refl}
+use Rattle.std.specs.Prelude.{◌≡◌, ◌⊎◌, ◌<◌, ◌≤◌, ◌-◌, ◌*◌, ◌/◌, ◌^◌, ℕ, zero, suc, Bool, true, false, ◌||◌, ◌==◌, nat_lt, if◌then◌else◌, is_none, List, [], ◌∷◌, ◌++◌, length, map, replicate, get_or, Option, Some, None, slice_get, refl}
 use Rattle.std.proofs.Common.{subst, ap, sym, ◌∙◌, arith, inl, inr}
 use Rattle.std.proofs.lemmas.List.{length-map, length-replicate}
 use Rattle.sat_label.proofs.Numbers.{length-below}
@@ -15,14 +15,19 @@ use Rattle.sat_tree.specs.Shape.{TreeShape}
 use Rattle.sat_act.specs.declared.deployment.Plan.{Plan}
 use Rattle.sat_act.specs.declared.deployment.Plan.TheVariants as plan
 use Rattle.sat_act.specs.Answers.{gear_of}
-use Rattle.sat_act.specs.Built.{IsBuilt}
 use Rattle.sat_act.specs.Deployed.{Deployed}
 use Rattle.sat_act.specs.Limits.{IsDeployment}
-use Rattle.sat_act.specs.Parts.{tree_of}
+use Rattle.sat_act.specs.Parts.{planned_tree, tree_of}
 use Rattle.sat_machine.specs.State.{fresh_site}
-use Rattle.sat_site.specs.Seen.{SiteSeen, IsSite, IsGearAt}
-use Rattle.sat_site.specs.Changes.{fresh_seen, shape_for}
-use Rattle.sat_site.specs.Stands.{StandsSite, StandsGear, payload_of, replicas_of}
+use Rattle.std.proofs.lemmas.Bool.{ne_eqb}
+use Rattle.std.proofs.lemmas.Bool.Decides.{nat_tests}
+use Rattle.sat_label.specs.declared.point.Point.{Point}
+use Rattle.sat_bulk.specs.Windows.{Numbers, has_number}
+use Rattle.sat_epoch.specs.Epochs.{Epochs, IsEpochs, first_epochs}
+use Rattle.sat_machine.specs.Interests.{replicas_of}
+use Rattle.sat_site.specs.Seen.{SiteSeen, AreGears, IsSite, IsGearAt, lane_place, no_numbers}
+use Rattle.sat_site.specs.Changes.{fresh_seen, is_stamp_plan, shape_for}
+use Rattle.sat_site.specs.Stands.{StandsSite, StandsGear, payload_of}
 use Rattle.sat_site.proofs.Lists.{map-cases, Mapped}
 
 always : {X : Type 0} (n i : ℕ) (x : X) → get_or (replicate n x) i x ≡ x
@@ -62,56 +67,81 @@ fresh-gear-site shape g gear e = subst (IsGearAt shape (fresh_sink shape.site sh
   absent = λ n f there. no-version shape g n;
 })
 
-pub fresh-is : (shape : Shape) → IsShape shape → IsSite (fresh_seen shape)
-fresh-is shape k = record {
+pub fresh-is : (shape : Shape) (stamp : List Bool) → IsShape shape → AreGears (map (fresh_gear shape) (below shape.gears)) → IsEpochs (first_epochs shape.sites shape.site stamp) → IsSite (fresh_seen shape stamp)
+fresh-is shape stamp k good epochs = record {
   shape = k;
   count = length-map (below shape.gears) (fresh_gear shape) ∙ length-below shape.gears;
   gears = λ g gear at. fresh-gear-site shape g gear (fresh-at shape g gear at);
+  gears_are = good;
   sink = refl;
   promises = length-replicate shape.gears 0;
   rows = length-replicate shape.gears [];
-  taken = length-replicate (shape.sites * shape.gears) 0;
+  epochs = epochs;
+  own = refl;
+  heard = length-replicate shape.sites false;
+  windows = length-replicate (shape.sites * shape.gears) no_numbers;
   waiting = λ n p at. absurd (cc);
 }
 
-pub fresh-site : (shape : Shape) (gears : List GearSeen) (s : Sink) (taken : List ℕ) (waiting : List Payload) → IsShape shape → gears ≡ map (fresh_gear shape) (below shape.gears) → s ≡ fresh_sink shape.site shape.gears → taken ≡ replicate (shape.sites * shape.gears) 0 → waiting ≡ [] →
-    IsSite (record { shape = shape; gears = gears; sink = s; taken = taken; waiting = waiting })
-fresh-site shape gears s taken waiting k e f g h = subst IsSite (λ j. record { shape = shape; gears = sym e j; sink = sym f j; taken = sym g j; waiting = sym h j }) (fresh-is shape k)
-
-pub fresh-same : (shape : Shape) (gears : List GearSeen) (s : Sink) (taken : List ℕ) (waiting : List Payload) → gears ≡ map (fresh_gear shape) (below shape.gears) → s ≡ fresh_sink shape.site shape.gears → taken ≡ replicate (shape.sites * shape.gears) 0 → waiting ≡ [] →
-    record { shape = shape; gears = gears; sink = s; taken = taken; waiting = waiting } ≡ fresh_seen shape
-fresh-same shape gears s taken waiting e f g h = λ j. record { shape = shape; gears = e j; sink = f j; taken = g j; waiting = h j }
+pub fresh-site : (shape : Shape) (stamp : List Bool) (gears : List GearSeen) (s : Sink) (views : Epochs) (windows : List Numbers) (waiting : List Payload) → IsShape shape → AreGears gears → IsEpochs views →
+    gears ≡ map (fresh_gear shape) (below shape.gears) → s ≡ fresh_sink shape.site shape.gears → views ≡ first_epochs shape.sites shape.site stamp → windows ≡ replicate (shape.sites * shape.gears) no_numbers → waiting ≡ [] →
+    IsSite (record { shape = shape; gears = gears; sink = s; views = views; windows = windows; waiting = waiting })
+fresh-site shape stamp gears s views windows waiting k good epochs e f v g h =
+    subst IsSite (λ j. record { shape = shape; gears = sym e j; sink = sym f j; views = sym v j; windows = sym g j; waiting = sym h j }) (fresh-is shape stamp k (subst AreGears e good) (subst IsEpochs v epochs))
 
 fresh-stands-gear : (d : Deployed) (shape : Shape) (g : ℕ) (gear : GearSeen) → fresh_gear shape g ≡ gear → StandsGear d gear (record { promise = 0; fresh = []; lanes = λ j. [] })
 fresh-stands-gear d shape g gear e = subst (λ (y : GearSeen). StandsGear d y (record { promise = 0; fresh = []; lanes = λ j. [] })) e (record { promise = refl; fresh = refl; lanes = λ j lt. always shape.sites j [] })
 
-tree-first : (d : Deployed) (t : TreeShape) → d.plans ≡ plan.Tree t ∷ [] → tree_of d 1 ≡ Some t
-unfolding tree_of
-tree-first d t e = ap tree_by e
-  where
-    tree_by : List Plan → Option TreeShape
-    tree_by plans = elim (slice_get plans 0) [ None ↦ None | Some p ↦ elim p [ plan.Stamp ↦ None | plan.Tree t ↦ Some t ] ]
+-- ---- plans
 
-pub fresh-stands : (d : Deployed) (i : ℕ) (shape : Shape) → IsBuilt d → shape ≡ shape_for d i → StandsSite d i (fresh_seen shape) (fresh_site i)
-fresh-stands d i shape built e = record {
-  sites = (λ j. (e j).sites);
-  count = (λ j. (e j).gears);
-  site = (λ j. (e j).site);
-  interest = (λ j. (e j).interest);
-  gears = λ g gear at. fresh-stands-gear d shape g gear (fresh-at shape g gear at);
-  promises = λ g lt. always shape.gears g 0;
-  pending = λ g lt. always shape.gears g [];
-  last = (λ j. record { ts = 0; site = (e j).site; gear = 0 });
-  pulse = refl;
-  store = λ n gear lt at. subst (λ (y : GearSeen). payload_of (version_of y n) ≡ None) (fresh-at shape (gear_of d n) gear at) (ap payload_of (no-version shape (gear_of d n) n));
-  taken = λ k g lk lg. ap below (sym (always (shape.sites * shape.gears) (k * shape.gears + g) 0));
-  waiting = refl;
-  different = λ m n p q f g w. absurd (cc);
-  tree = (built.tree, tree-first d built.tree built.plans);
-  view = refl;
-  emission = refl;
-  fallen = refl;
+-- the flag at a place says whether there is no tree
+stamp-at : (plans : List Plan) (n : ℕ) → n < length plans → get_or (map is_stamp_plan plans) n false ≡ is_none (planned_tree plans n)
+stamp-at [] n lt = absurd (omega arith)
+stamp-at (p ∷ plans) zero lt = go p
+  where
+    go : (p : Plan) → is_stamp_plan p ≡ is_none {T = TreeShape} (elim p [ plan.Stamp ↦ None | plan.Tree tree ↦ Some tree ])
+    go plan.Stamp = refl
+    go (plan.Tree tree) = refl
+stamp-at (p ∷ plans) (suc n) lt = stamp-at plans n (omega arith)
+
+plans-are : (d : Deployed) (e : ℕ) → 1 ≤ e → e ≤ length d.plans → get_or (map is_stamp_plan d.plans) (e - 1) false ≡ is_none (tree_of d e)
+unfolding tree_of
+plans-are d e low high =
+    stamp-at d.plans (e - 1) (omega arith) ∙ ap (λ (b : Bool). is_none (if b then None else planned_tree d.plans (e - 1))) (sym (ne_eqb e 0 (λ f. omega arith)))
+
+no-close : (e : ℕ) (b : Bool) → ◌≡◌ {A = Option Point} None (if b then None else slice_get [] (e - 1))
+no-close e true = refl
+no-close e false = refl
+
+pub fresh-stands : (d : Deployed) (i : ℕ) (shape : Shape) → shape ≡ shape_for d i → StandsSite d i (fresh_seen shape (map is_stamp_plan d.plans)) (fresh_site i)
+fresh-stands d i shape e = record {
+  shape = e;
+  gears = record { each = λ g gear at. fresh-stands-gear d shape g gear (fresh-at shape g gear at) };
+  sink = record {
+    promises = λ g lt. always shape.gears g 0;
+    pending = λ g lt. always shape.gears g [];
+    last = (λ j. record { ts = 0; site = (e j).site; gear = 0 });
+    pulse = refl;
+  };
+  views = record {
+    view = refl;
+    emission = refl;
+    fallen = refl;
+    closes = λ n. no-close n (n == 0);
+    heard = λ k lt other. sym (always shape.sites k false);
+    plans = λ n low high. plans-are d n low high;
+    count = length-map d.plans is_stamp_plan;
+  };
+  proxy = record {
+    taken = λ k g n lk lg. none-taken n ∙ ap (λ (w : Numbers). has_number w n) (sym (always (shape.sites * shape.gears) (lane_place shape k g) no_numbers));
+    pool = refl;
+    different = λ m n p q f g w. absurd (cc);
+  };
+  store = record { each = λ n gear lt at. subst (λ (y : GearSeen). payload_of (version_of y n) ≡ None) (fresh-at shape (gear_of d n) gear at) (ap payload_of (no-version shape (gear_of d n) n)) };
 }
+  where
+    none-taken : (n : ℕ) → false ≡ (nat_lt n 0 || false)
+    none-taken n = grind (arith, nat_tests)
 
 pub shape-sound : (d : Deployed) (i : ℕ) (shape : Shape) → IsDeployment d → i < d.sites → IsInterest shape.interest → shape ≡ shape_for d i → IsShape shape
 shape-sound d i shape limits lt a e = record {
@@ -122,5 +152,6 @@ shape-sound d i shape limits lt a e = record {
   items = subst (λ (s : Shape). length s.interest.replicas < 2 ^ 16) (sym e) (let few = limits.few_items in omega (arith, length-map d.items replicas_of));
 }
 
-pub made-stands : (d : Deployed) (i : ℕ) (shape : Shape) (made : SiteSeen) → IsBuilt d → shape ≡ shape_for d i → made ≡ fresh_seen shape → StandsSite d i made (fresh_site i)
-made-stands d i shape made built e f = subst (λ (x : SiteSeen). StandsSite d i x (fresh_site i)) (sym f) (fresh-stands d i shape built e)
+pub made-stands : (d : Deployed) (i : ℕ) (shape : Shape) (stamp : List Bool) (made : SiteSeen) → shape ≡ shape_for d i → stamp ≡ map is_stamp_plan d.plans → made ≡ fresh_seen shape stamp → StandsSite d i made (fresh_site i)
+made-stands d i shape stamp made e f g =
+    subst (λ (x : SiteSeen). StandsSite d i x (fresh_site i)) (sym (g ∙ ap (fresh_seen shape) f)) (fresh-stands d i shape e)

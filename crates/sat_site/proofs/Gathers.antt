@@ -6,14 +6,13 @@ use Rattle.std.proofs.lemmas.List.{length-map}
 use Rattle.sat_label.specs.declared.label.Label.{Label}
 use Rattle.sat_label.specs.Order.{label_eq}
 use Rattle.sat_bulk.specs.declared.Drained.{Drained}
-use Rattle.sat_gear.specs.Gear.{GearSeen, after_drain, drained_of, version_of}
+use Rattle.sat_gear.specs.Gear.{GearSeen, after_drain, drained_of}
 use Rattle.sat_sink.specs.Pending.{all_of, labels_of, promise_of, least}
 use Rattle.sat_sink.specs.Sink as sink
 use Rattle.sat_sink.proofs.Queues.{joined-get, without-get}
 use Rattle.sat_act.specs.declared.answer.Answer.TheVariants as ans
 use Rattle.sat_act.specs.declared.answer.Refusal.TheVariants as why
 use Rattle.sat_act.specs.declared.answer.Answer.{Answer}
-use Rattle.sat_act.specs.Answers.{gear_of}
 use Rattle.sat_act.specs.Deployed.{Deployed}
 use Rattle.sat_machine.specs.Input as given
 use Rattle.sat_machine.specs.State.{SiteState, GearState}
@@ -21,9 +20,9 @@ use Rattle.sat_machine.specs.Next.{site_next, gear_next}
 use Rattle.sat_machine.specs.Reply.{site_answer}
 use Rattle.sat_machine.specs.Look.{least_row, rows}
 use Rattle.sat_site.specs.Seen.{SiteSeen, IsSite}
-use Rattle.sat_site.specs.Stands.{StandsSite, StandsGear, payload_of}
+use Rattle.sat_site.specs.Stands.{StandsSite, StandsGear}
 use Rattle.sat_site.specs.Changes.{gathered_all, fresh_of, sent, HasGear}
-use Rattle.sat_site.proofs.Lists.{map-cases, Mapped}
+use Rattle.sat_site.proofs.Parts.{count-is, gears-map, store-map}
 use Rattle.sat_site.proofs.Rows.{least-rows, all-rows, ready-same}
 
 -- what is drained of each gear, by place
@@ -50,13 +49,13 @@ each-gear x g lt = go x.gears g lt
     go (y ∷ gears) (suc g) lt = go gears g (omega arith)
 
 within : (d : Deployed) (i : ℕ) (x : SiteSeen) (s : SiteState) (g : ℕ) → IsSite x → StandsSite d i x s → g < d.gears → g < length x.gears
-within d i x s g k st lt = subst (λ (n : ℕ). g < n) (sym (k.count ∙ st.count)) lt
+within d i x s g k st lt = subst (λ (n : ℕ). g < n) (sym (k.count ∙ count-is d i x s st)) lt
 
 drained-promises : (d : Deployed) (i : ℕ) (x : SiteSeen) (s : SiteState) → IsSite x → StandsSite d i x s → (g : ℕ) → g < d.gears → get_or (map promise_of (map drained_of x.gears)) g 0 ≡ (s.gears g).promise
-drained-promises d i x s k st g lt = let y = each-gear x g (within d i x s g k st lt) in promise-at x.gears g y.0 y.1 ∙ (st.gears g y.0 y.1).promise
+drained-promises d i x s k st g lt = let y = each-gear x g (within d i x s g k st lt) in promise-at x.gears g y.0 y.1 ∙ (st.gears.each g y.0 y.1).promise
 
 drained-labels : (d : Deployed) (i : ℕ) (x : SiteSeen) (s : SiteState) → IsSite x → StandsSite d i x s → (g : ℕ) → g < d.gears → get_or (map labels_of (map drained_of x.gears)) g [] ≡ (s.gears g).fresh
-drained-labels d i x s k st g lt = let y = each-gear x g (within d i x s g k st lt) in labels-at x.gears g y.0 y.1 ∙ (st.gears g y.0 y.1).fresh
+drained-labels d i x s k st g lt = let y = each-gear x g (within d i x s g k st lt) in labels-at x.gears g y.0 y.1 ∙ (st.gears.each g y.0 y.1).fresh
 
 pub length-drained : {X : Type 0} (f : Drained → X) (gears : List GearSeen) → length (map f (map drained_of gears)) ≡ length gears
 length-drained f gears = length-map (map drained_of gears) f ∙ length-map gears drained_of
@@ -65,9 +64,9 @@ pub gathers-answer : (d : Deployed) (i : ℕ) (x : SiteSeen) (s : SiteState) →
 unfolding site_answer
 gathers-answer d i x s k st =
     let n : flat_map fresh_of x.gears ≡ rows (λ g. (s.gears g).fresh) d.gears =
-    all-fresh x.gears ∙ all-rows (λ g. (s.gears g).fresh) (map labels_of (map drained_of x.gears)) d.gears (length-drained labels_of x.gears ∙ (k.count ∙ st.count)) (drained-labels d i x s k st) in
+    all-fresh x.gears ∙ all-rows (λ g. (s.gears g).fresh) (map labels_of (map drained_of x.gears)) d.gears (length-drained labels_of x.gears ∙ (k.count ∙ count-is d i x s st)) (drained-labels d i x s k st) in
     let t : least (map promise_of (map drained_of x.gears)) ≡ least_row (λ g. (s.gears g).promise) d.gears =
-    least-rows (λ g. (s.gears g).promise) (map promise_of (map drained_of x.gears)) d.gears (length-drained promise_of x.gears ∙ (k.count ∙ st.count)) (drained-promises d i x s k st) in
+    least-rows (λ g. (s.gears g).promise) (map promise_of (map drained_of x.gears)) d.gears (length-drained promise_of x.gears ∙ (k.count ∙ count-is d i x s st)) (drained-promises d i x s k st) in
     λ j. ans.Gathered (length (n j)) (t j)
 
 drained-gear : (d : Deployed) (gear : GearSeen) (s : GearState) (k n t : ℕ) → StandsGear d gear s → StandsGear d (after_drain gear) (gear_next d k s given.Gather (ans.Gathered n t))
@@ -76,30 +75,20 @@ drained-gear d gear s k n t st = record { promise = st.promise; fresh = refl; la
 pub gathers-stand : (d : Deployed) (i : ℕ) (x : SiteSeen) (s : SiteState) (n t : ℕ) → IsSite x → StandsSite d i x s → StandsSite d i (gathered_all x) (site_next d i s given.Gather (ans.Gathered n t))
 unfolding site_next
 gathers-stand d i x s n t k st = record {
-  sites = st.sites;
-  count = st.count;
-  site = st.site;
-  interest = st.interest;
-  gears = λ g new here.
-      let w : Mapped after_drain x.gears g new = map-cases after_drain x.gears g new here in
-      subst (λ (y : GearSeen). StandsGear d y (gear_next d g (s.gears g) given.Gather (ans.Gathered n t))) w.is (drained-gear d w.old (s.gears g) g n t (st.gears g w.old w.at));
-  promises = drained-promises d i x s k st;
-  pending = λ g lt.
-      joined-get x.sink.pending (map labels_of (map drained_of x.gears)) g (subst (λ (m : ℕ). g < m) (sym (k.rows ∙ st.count)) lt) ∙
-      (ap (λ (ls : List Label). ls ++ get_or (map labels_of (map drained_of x.gears)) g []) (st.pending g lt) ∙
-      ap (λ (ls : List Label). s.sink.pending g ++ ls) (drained-labels d i x s k st g lt));
-  last = st.last;
-  pulse = st.pulse;
-  store = λ m new lt here.
-      let w : Mapped after_drain x.gears (gear_of d m) new = map-cases after_drain x.gears (gear_of d m) new here in
-      subst (λ (y : GearSeen). payload_of (version_of y m) ≡ s.store m) w.is (st.store m w.old lt w.at);
-  taken = st.taken;
-  waiting = st.waiting;
-  different = st.different;
-  tree = st.tree;
-  view = st.view;
-  emission = st.emission;
-  fallen = st.fallen;
+  shape = st.shape;
+  gears = gears-map d after_drain x.gears s.gears (λ g. gear_next d g (s.gears g) given.Gather (ans.Gathered n t)) st.gears (λ g gear at old. drained-gear d gear (s.gears g) g n t old);
+  sink = record {
+    promises = drained-promises d i x s k st;
+    pending = λ g lt.
+        joined-get x.sink.pending (map labels_of (map drained_of x.gears)) g (subst (λ (m : ℕ). g < m) (sym (k.rows ∙ count-is d i x s st)) lt) ∙
+        (ap (λ (ls : List Label). ls ++ get_or (map labels_of (map drained_of x.gears)) g []) (st.sink.pending g lt) ∙
+        ap (λ (ls : List Label). s.sink.pending g ++ ls) (drained-labels d i x s k st g lt));
+    last = st.sink.last;
+    pulse = st.sink.pulse;
+  };
+  views = st.views;
+  proxy = st.proxy;
+  store = store-map d after_drain x.gears s.store st.store (λ gear n. refl);
 }
 
 -- ---- emission
@@ -118,21 +107,15 @@ emits-answer d i x s l e k st = ap emit_answer (sym e ∙ ready-same d i x s k s
 pub emits-stand : (d : Deployed) (i : ℕ) (x : SiteSeen) (s : SiteState) (l : Label) → StandsSite d i x s → StandsSite d i (sent x l) (site_next d i s given.Emit (ans.Emitted l))
 unfolding site_next
 emits-stand d i x s l st = record {
-  sites = st.sites;
-  count = st.count;
-  site = st.site;
-  interest = st.interest;
+  shape = st.shape;
   gears = st.gears;
-  promises = st.promises;
-  pending = λ g lt. without-get l x.sink.pending g ∙ ap (filter (λ m. not (label_eq l m))) (st.pending g lt);
-  last = refl;
-  pulse = st.pulse;
+  sink = record {
+    promises = st.sink.promises;
+    pending = λ g lt. without-get l x.sink.pending g ∙ ap (filter (λ m. not (label_eq l m))) (st.sink.pending g lt);
+    last = refl;
+    pulse = st.sink.pulse;
+  };
+  views = st.views;
+  proxy = st.proxy;
   store = st.store;
-  taken = st.taken;
-  waiting = st.waiting;
-  different = st.different;
-  tree = st.tree;
-  view = st.view;
-  emission = st.emission;
-  fallen = st.fallen;
 }

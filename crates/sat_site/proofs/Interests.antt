@@ -11,7 +11,9 @@ use Rattle.sat_act.specs.Deployed.{Deployed}
 use Rattle.sat_act.specs.Parts.{replicates, is_target}
 use Rattle.sat_machine.specs.State.{SiteState}
 use Rattle.sat_site.specs.Seen.{SiteSeen}
-use Rattle.sat_site.specs.Stands.{StandsSite, interest_of, replicas_of}
+use Rattle.sat_machine.specs.Interests.{interest_of, replicas_of}
+use Rattle.sat_sites.specs.declared.shape.Shape.{Shape}
+use Rattle.sat_site.specs.Stands.{StandsSite}
 use Rattle.sat_site.specs.SiteSteps.{keeps_item}
 
 kept-at : (items : List Item) (x k : ℕ) → ◌≡◌ {A = Bool} (elim (slice_get (map replicas_of items) x) [ None ↦ false | Some set ↦ bit set.bits k ]) (elim (slice_get items x) [ None ↦ false | Some item ↦ bit item.replicas.bits k ])
@@ -24,7 +26,7 @@ unfolding replicates
 keeps-is d x k = kept-at d.items x k
 
 pub keeps-here : (d : Deployed) (i : ℕ) (x : SiteSeen) (s : SiteState) (n : ℕ) → StandsSite d i x s → keeps_item x n ≡ replicates d n i
-keeps-here d i x s n st = (λ j. keeps (st.interest j) n (st.site j)) ∙ keeps-is d n i
+keeps-here d i x s n st = ap (λ (shape : Shape). keeps shape.interest n shape.site) st.shape ∙ keeps-is d n i
 
 pub target-is : (d : Deployed) (p : Point) (n k : ℕ) → is_for (interest_of d) (record { point = p; kind = Update n }) k ≡ is_target d (record { point = p; kind = Update n }) k
 unfolding is_for is_target

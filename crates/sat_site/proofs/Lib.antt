@@ -3,6 +3,8 @@ pub mod Payloads
 pub mod Lanes
 pub mod Stores
 pub mod Lists
+pub mod Parts
+pub mod Fitting
 pub mod Still
 pub mod Brings
 pub mod Gathers
@@ -15,6 +17,7 @@ pub mod Able
 pub mod Loops
 pub mod Sound
 pub mod Deeds
+pub mod Sending
 pub mod Targets
 pub mod Shown
 pub mod Sets

@@ -9,7 +9,7 @@ use Rattle.std.proofs.lemmas.List.Folds.{length-flat_map-take}
 use Rattle.sat_label.specs.Words.{below}
 use Rattle.sat_label.specs.declared.label.Label.{Label}
 use Rattle.sat_bulk.specs.declared.Drained.{Drained}
-use Rattle.sat_gear.specs.Gear.{GearSeen, IsGear, fresh_gear, drained_of}
+use Rattle.sat_gear.specs.Gear.{GearSeen, IsGear, fresh_gear}
 use Rattle.sat_sites.specs.declared.shape.Shape.{Shape}
 use Rattle.sat_sink.specs.Pending.{labels_of}
 use Rattle.sat_site.proofs.Lists.{get-default}
@@ -23,11 +23,6 @@ count_more ds i d lt e =
     ap (λ (xs : List Drained). flat_map labels_of xs) (take_more ds i d lt) ∙ (flat_map-append labels_of (take i ds) (get_or ds i d ∷ []) ∙
     (ap (λ (x : Drained). flat_map labels_of (take i ds) ++ (x.labels ++ [])) (sym e) ∙ ap (λ (ls : List Label). flat_map labels_of (take i ds) ++ ls) (append-nil d.labels))) in
     ap (λ (ls : List Label). length ls) more ∙ length-append (flat_map labels_of (take i ds)) d.labels
-
-pub drained_more : (gears : List GearSeen) (i : ℕ) (gear : GearSeen) (all next : List Drained) (d : Drained) → i < length gears → gear ≡ get_or gears i gear → all ≡ map drained_of (take i gears) → d ≡ drained_of gear → next ≡ all ++ d ∷ [] → next ≡ map drained_of (take (i + 1) gears)
-drained_more gears i gear all next d lt e f g h =
-    h ∙ ((λ j. f j ++ g j ∷ []) ∙ (ap (λ (x : GearSeen). map drained_of (take i gears) ++ drained_of x ∷ []) e ∙
-    (sym (map-append drained_of (take i gears) (get_or gears i gear ∷ [])) ∙ ap (map drained_of) (sym (take_more gears i gear lt)))))
 
 pub limits-more : (gears : List GearSeen) (i : ℕ) (gear : GearSeen) → i < length gears → gear ≡ get_or gears i gear → ((g : ℕ) (x : GearSeen) → g < i → slice_get gears g ≡ Some x → IsGear x) → IsGear gear → (g : ℕ) (x : GearSeen) → g < i + 1 → slice_get gears g ≡ Some x → IsGear x
 limits-more gears i gear lt e f new g x h at = elim (eq-or-lt_of_le (let k : g ≤ i = omega arith in k)) [

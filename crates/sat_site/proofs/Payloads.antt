@@ -4,11 +4,14 @@ use Rattle.std.specs.List.{position, position_or_len, remove}
 use Rattle.std.proofs.Common.{subst, ap, sym, ◌∙◌, arith, inl, inr}
 use Rattle.std.proofs.lemmas.Bool.Decides.{nat_tests}
 use Rattle.sat_label.specs.declared.label.Label.{Label}
-use Rattle.sat_label.specs.Order.{label_eq}
+use Rattle.sat_label.specs.Order.{label_eq, point_eq}
 use Rattle.sat_label.specs.Words.{has}
 use Rattle.sat_bulk.specs.declared.Payload.{Payload}
 use Rattle.sat_machine.specs.Look.{label_of, payload_in}
+use Rattle.sat_label.specs.declared.point.Point.{Point}
+use Rattle.std.proofs.lemmas.Bool.{both_ways, or_left, or_right}
 use Rattle.sat_site.specs.Changes.{IsTaken}
+use Rattle.sat_site.specs.Inputs.{point_waits}
 use Rattle.sat_site.specs.Stands.{Different}
 use Rattle.sat_label.proofs.Orders.{same-label, label_eq-self}
 
@@ -155,25 +158,28 @@ more-get (r ∷ ps) p (suc k) q e = elim (more-get ps p k q e) [ inl w ↦ inl w
 pub more-each : (P : Payload → Type 0) (ps : List Payload) (p : Payload) → P p → ((k : ℕ) (q : Payload) → slice_get ps k ≡ Some q → P q) → (k : ℕ) (q : Payload) → slice_get (ps ++ p ∷ []) k ≡ Some q → P q
 more-each P ps p new f k q e = elim (more-get ps p k q e) [ inl w ↦ f k q w | inr w ↦ subst P w.1 new ]
 
-has-at : (ps : List Payload) (n : ℕ) (p : Payload) → slice_get ps n ≡ Some p → has label_eq (map label_of ps) p.label ≡ true
-has-at [] n p e = absurd (cc)
-has-at (q ∷ ps) zero p e = let same : q ≡ p = cc in subst (λ (p : Payload). (label_eq q.label p.label || has label_eq (map label_of ps) p.label) ≡ true) same (ap (λ (b : Bool). b || has label_eq (map label_of ps) q.label) (label_eq-self q.label))
-has-at (q ∷ ps) (suc n) p e = go (label_eq q.label p.label) (has-at ps n p e)
-  where
-    go : (b : Bool) → has label_eq (map label_of ps) p.label ≡ true → (b || has label_eq (map label_of ps) p.label) ≡ true
-    go true k = refl
-    go false k = k
+point_eq-self : (p : Point) → point_eq p p ≡ true
+point_eq-self p = grind (arith, nat_tests)
+
+-- the point of a payload that waits
+waits-at : (ps : List Payload) (n : ℕ) (p : Payload) → slice_get ps n ≡ Some p → point_waits ps p.label.point ≡ true
+waits-at [] n p e = absurd (cc)
+waits-at (q ∷ ps) zero p e = let same : q ≡ p = cc in subst (λ (r : Payload). (point_eq q.label.point r.label.point || point_waits ps r.label.point) ≡ true) same (or_left (point_eq q.label.point q.label.point) _ (point_eq-self q.label.point))
+waits-at (q ∷ ps) (suc n) p e = or_right (point_eq q.label.point p.label.point) _ (waits-at ps n p e)
+
+pub none-waits : (ps : List Payload) (q : Point) → point_waits ps q ≡ false → (n : ℕ) (p : Payload) → slice_get ps n ≡ Some p → p.label.point ≡ q → ⊥
+none-waits ps q none n p at same = both_ways (point_waits ps q) none (subst (λ (r : Point). point_waits ps r ≡ true) same (waits-at ps n p at))
 
 -- a payload of which no other waiting one has the point
-pub more-different : (ps : List Payload) (p : Payload) → Different ps → ((l : Label) → has label_eq (map label_of ps) l ≡ true → l.point ≡ p.label.point → ⊥) → Different (ps ++ p ∷ [])
+pub more-different : (ps : List Payload) (p : Payload) → Different ps → ((n : ℕ) (q : Payload) → slice_get ps n ≡ Some q → q.label.point ≡ p.label.point → ⊥) → Different (ps ++ p ∷ [])
 more-different ps p d alone j k a b e f w =
     elim (more-get ps p j a e) [
       | inl u ↦ elim (more-get ps p k b f) [
         | inl v ↦ d j k a b u v w
-        | inr v ↦ absurd (alone a.label (has-at ps j a u) (ap (λ (l : Label). l.point) (w ∙ ap (λ (q : Payload). q.label) (sym v.1))))
+        | inr v ↦ absurd (alone j a u (ap (λ (l : Label). l.point) (w ∙ ap (λ (q : Payload). q.label) (sym v.1))))
       ]
       | inr u ↦ elim (more-get ps p k b f) [
-        | inl v ↦ absurd (alone b.label (has-at ps k b v) (ap (λ (l : Label). l.point) (sym w ∙ ap (λ (q : Payload). q.label) (sym u.1))))
+        | inl v ↦ absurd (alone k b v (ap (λ (l : Label). l.point) (sym w ∙ ap (λ (q : Payload). q.label) (sym u.1))))
         | inr v ↦ u.0 ∙ sym v.0
       ]
     ]

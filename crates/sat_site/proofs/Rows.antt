@@ -11,6 +11,7 @@ use Rattle.sat_machine.specs.State.{SiteState}
 use Rattle.sat_machine.specs.Look.{least_row, rows, stable_of, ready_of}
 use Rattle.sat_site.specs.Seen.{SiteSeen, IsSite}
 use Rattle.sat_site.specs.Stands.{StandsSite}
+use Rattle.sat_site.proofs.Parts.{count-is}
 
 least-from : (p : ℕ → ℕ) (a : ℕ) (ps : List ℕ) (k n : ℕ) → n ≡ k + length ps → ((g m : ℕ) → m ≡ k + suc g → g < length ps → get_or ps g 0 ≡ p m) → a ≡ least_row p (suc k) → fold min a ps ≡ least_row p (suc n)
 unfolding least_row
@@ -39,9 +40,9 @@ unfolding rows
 all-rows f qs n e h = rows-from f qs 0 n (omega arith) (λ g m w lt. let k : m ≡ g = omega arith in subst (λ (m : ℕ). get_or qs g [] ≡ f m) (sym k) (h g (omega arith)))
 
 pub stable-same : (d : Deployed) (i : ℕ) (x : SiteSeen) (s : SiteState) → IsSite x → StandsSite d i x s → sink.stable_of x.sink ≡ stable_of d s
-stable-same d i x s k st = least-rows s.sink.promises x.sink.promises d.gears (k.promises ∙ st.count) st.promises
+stable-same d i x s k st = least-rows s.sink.promises x.sink.promises d.gears (k.promises ∙ count-is d i x s st) st.sink.promises
 
 pub ready-same : (d : Deployed) (i : ℕ) (x : SiteSeen) (s : SiteState) → IsSite x → StandsSite d i x s → sink.ready_of x.sink ≡ ready_of d s
 ready-same d i x s k st =
     ap (λ (t : ℕ). least_label (is_up_to t) (all_of x.sink.pending)) (stable-same d i x s k st) ∙
-    ap (λ (ls : List Label). least_label (is_up_to (stable_of d s)) ls) (all-rows s.sink.pending x.sink.pending d.gears (k.rows ∙ st.count) st.pending)
+    ap (λ (ls : List Label). least_label (is_up_to (stable_of d s)) ls) (all-rows s.sink.pending x.sink.pending d.gears (k.rows ∙ count-is d i x s st) st.sink.pending)

@@ -14,7 +14,7 @@ use Rattle.sat_sites.specs.declared.interest.InterestFault.{InterestFault}
 use Rattle.sat_sites.specs.declared.interest.InterestFault.TheVariants.{BadItem, Memory}
 use Rattle.sat_act.specs.Deployed.{Deployed}
 use Rattle.sat_act.specs.Limits.{IsDeployment}
-use Rattle.sat_site.specs.Stands.{replicas_of}
+use Rattle.sat_machine.specs.Interests.{replicas_of}
 use Rattle.sat_site.proofs.Lists.{map-cases, Mapped}
 
 -- a bit of the upper part of a number is one of the number

@@ -1,7 +1,6 @@
 -- What a site shows is what the machine keeps.
-use Rattle.std.specs.Prelude.{◌≡◌, ◌<◌, ◌%◌, ℕ, true, false, List, length, get_or, Option, Some, None, slice_get, IfSome, MatchOption, refl}
+use Rattle.std.specs.Prelude.{◌≡◌, ◌<◌, ◌%◌, ℕ, true, false, List, length, Option, Some, None, slice_get, IfSome, MatchOption, refl}
 use Rattle.std.proofs.Common.{Bor, subst, ap, sym, ◌∙◌}
-use Rattle.std.proofs.lemmas.List.{get_or_default}
 use Rattle.sat_bulk.specs.declared.Payload.{Payload}
 use Rattle.sat_sites.specs.declared.shape.Shape.{Shape}
 use Rattle.sat_sites.specs.Interested.{is_for}
@@ -9,19 +8,22 @@ use Rattle.sat_store.specs.declared.store.Version.{Version}
 use Rattle.sat_gear.specs.Gear.{GearSeen, IsGear, IsInLane, lane_to, version_of}
 use Rattle.sat_act.specs.Deployed.{Deployed}
 use Rattle.sat_machine.specs.State.{SiteState}
-use Rattle.sat_machine.specs.Look.{front_in, front_of}
-use Rattle.sat_site.specs.Seen.{SiteSeen, IsSite, IsGearAt, lane_place, taken_of}
+use Rattle.sat_bulk.specs.Windows.{Numbers, has_number, IsWindow}
+use Rattle.sat_machine.specs.Look.{front_of}
+use Rattle.sat_site.specs.Seen.{SiteSeen, IsSite, IsGearAt, window_of}
 use Rattle.sat_site.specs.Stands.{StandsSite, payload_of}
 use Rattle.sat_site.specs.Changes.{HasGear, gear_at}
 use Rattle.sat_site.specs.SiteSteps.{keeps_item}
 use Rattle.sat_site.specs.Gives.{IsOfLane}
-use Rattle.sat_site.proofs.Lanes.{front-below}
+use Rattle.sat_site.proofs.Lanes.{window-front}
+use Rattle.sat_site.proofs.Parts.{count-is, sites-are}
 use Rattle.sat_site.proofs.Lists.{same-get}
 use Rattle.sat_site.proofs.Writes.{shows-none, shows-some}
 
-pub front-is : (d : Deployed) (i : ℕ) (x : SiteSeen) (s : SiteState) (from gear n : ℕ) → from < x.shape.sites → gear < x.shape.gears → n ≡ taken_of x from gear → StandsSite d i x s → n ≡ front_of s from gear
-front-is d i x s from gear n lf lg e st =
-    e ∙ sym (ap front_in (st.taken from gear (subst (λ (m : ℕ). from < m) st.sites lf) (subst (λ (m : ℕ). gear < m) st.count lg)) ∙ front-below (taken_of x from gear))
+pub front-is : (d : Deployed) (i : ℕ) (x : SiteSeen) (s : SiteState) (from gear n : ℕ) (w : Numbers) → from < x.shape.sites → gear < x.shape.gears → w ≡ window_of x from gear → n ≡ w.front → IsWindow w → StandsSite d i x s → n ≡ front_of s from gear
+front-is d i x s from gear n w lf lg e f window st =
+    f ∙ sym (window-front (s.proxy.taken from gear) w window (λ m.
+    st.proxy.taken from gear m (subst (λ (k : ℕ). from < k) (sites-are d i x s st) lf) (subst (λ (k : ℕ). gear < k) (count-is d i x s st) lg) ∙ ap (λ (w : Numbers). has_number w m) (sym e)))
 
 pub absent-version : (d : Deployed) (i : ℕ) (x : SiteSeen) (s : SiteState) (g n : ℕ) (gear : GearSeen) → IsSite x → HasGear x g gear → g ≡ n % x.shape.gears → n < length x.shape.interest.replicas → keeps_item x n ≡ false → StandsSite d i x s → s.store n ≡ None
 absent-version d i x s g n gear k at e item unkept st =
@@ -36,7 +38,7 @@ some-version d i x s g n gear v at e item st some = shows-some d i x s n gear v 
 
 -- the lane of a gear is the machine's
 pub lane-same : (d : Deployed) (i : ℕ) (x : SiteSeen) (s : SiteState) (g to n : ℕ) (gear : GearSeen) (o : Option Payload) → HasGear x g gear → to < x.shape.sites → StandsSite d i x s → slice_get (lane_to gear to) n ≡ o → slice_get ((s.gears g).lanes to) n ≡ o
-lane-same d i x s g to n gear o at lt st e = ap (λ (ps : List Payload). slice_get ps n) (sym ((st.gears g gear at).lanes to (subst (λ (m : ℕ). to < m) st.sites lt))) ∙ e
+lane-same d i x s g to n gear o at lt st e = ap (λ (ps : List Payload). slice_get ps n) (sym ((st.gears.each g gear at).lanes to (subst (λ (m : ℕ). to < m) (sites-are d i x s st) lt))) ∙ e
 
 pub of-lane : (x : SiteSeen) (g to n : ℕ) (gear : GearSeen) (p : Payload) → IsSite x → HasGear x g gear → IsGear gear → slice_get (lane_to gear to) n ≡ Some p → IsOfLane x.shape g to p
 of-lane x g to n gear p k at good e =
@@ -65,7 +67,3 @@ payload-lane x g to n gear (Some p) k at good h = of-lane x g to n gear p.now k 
 
 pub promise-same : (x : SiteSeen) (g n : ℕ) (gear new : GearSeen) → HasGear x g gear → n ≡ gear.promise → HasGear x g new → n ≡ new.promise
 promise-same x g n gear new at e there = e ∙ ap (λ (y : GearSeen). y.promise) (same-get x.gears g gear new at there)
-
-pub taken-same : (w v : SiteSeen) (from gear place n : ℕ) → w ≡ v → place < length v.taken → n ≡ get_or w.taken place n → place ≡ lane_place v from gear → n ≡ taken_of v from gear
-taken-same w v from gear place n same lt e f =
-    e ∙ (ap (λ (x : SiteSeen). get_or x.taken place n) same ∙ (get_or_default v.taken place n 0 lt ∙ ap (λ (m : ℕ). get_or v.taken m 0) f))

@@ -23,8 +23,8 @@ use Rattle.sat_sink.specs.Pending.{labels_of, promise_of, is_up_to, all_of}
 use Rattle.sat_sink.specs.Sink.{Sink, IsDrain, IsDrainOf, after_gather, ready_of, stable_of}
 use Rattle.sat_label.proofs.Least.{IsLeast, least-is}
 use Rattle.sat_sink.proofs.Queues.{In-all, Place, joined-get, length-joined, without-get}
-use Rattle.sat_site.specs.Seen.{SiteSeen, IsSite, IsGearAt, IsGuest, IsUpdateHere, lane_place}
-use Rattle.sat_site.specs.Changes.{with_gear, gathered_all, sent, showed, brought, clocked, ticked_to, AreGears, HasGear}
+use Rattle.sat_site.specs.Seen.{SiteSeen, AreGears, IsSite, IsGearAt, IsGuest, IsUpdateHere, lane_place}
+use Rattle.sat_site.specs.Changes.{with_gear, gathered_all, sent, showed, brought, clocked, ticked_to, HasGear}
 use Rattle.sat_site.proofs.Lists.{set-cases, map-cases, Mapped, get-within}
 use Rattle.sat_site.proofs.Stores.{version-set, version_with}
 use Rattle.sat_gear.proofs.Places.{within_places}
@@ -33,19 +33,26 @@ use Rattle.sat_site.proofs.Gathers.{promise-at, labels-at, each-gear, length-dra
 
 -- ---- one gear
 
-pub with-gear-site : (x : SiteSeen) (g : ℕ) (new : GearSeen) → IsSite x → IsGearAt x.shape x.sink g new → IsSite (with_gear x g new)
-with-gear-site x g new k a = record {
+set-gears : (gears : List GearSeen) (g : ℕ) (new : GearSeen) → AreGears gears → IsGear new → AreGears (set gears g new)
+set-gears gears g new old good m gear at = elim (set-cases gears g m new gear at) [ inl w ↦ subst IsGear w.0 good | inr w ↦ old m gear w.0 ]
+
+pub with-gear-site : (x : SiteSeen) (g : ℕ) (new : GearSeen) → IsSite x → IsGearAt x.shape x.sink g new → IsGear new → IsSite (with_gear x g new)
+with-gear-site x g new k a good = record {
   shape = k.shape;
   count = length-set x.gears g new ∙ k.count;
   gears = λ m gear at. elim (set-cases x.gears g m new gear at) [
     | inl w ↦ subst (λ (y : GearSeen). IsGearAt x.shape x.sink m y) w.0 (subst (λ (n : ℕ). IsGearAt x.shape x.sink n new) (sym w.1) a)
     | inr w ↦ k.gears m gear w.0
   ];
+  gears_are = set-gears x.gears g new k.gears_are good;
   sink = k.sink;
   promises = k.promises;
   rows = k.rows;
-  taken = k.taken;
-  waiting = λ n p at. let q : IsGuest x p = k.waiting n p at in record { item = q.item; target = q.target; from = q.from };
+  epochs = k.epochs;
+  own = k.own;
+  heard = k.heard;
+  windows = k.windows;
+  waiting = k.waiting;
 }
 
 pub ticked-gear : (shape : Shape) (sink : Sink) (g t : ℕ) (gear : GearSeen) → IsGearAt shape sink g gear → IsGearAt shape sink g (after_tick gear t)
@@ -98,18 +105,22 @@ wrote-gear shape sink g n gear seen value good a item e here = record {
 
 -- ---- all gears
 
-pub clocked-site : (x : SiteSeen) (t : ℕ) → IsSite x → IsSite (clocked x t)
-clocked-site x t k = record {
+pub clocked-site : (x : SiteSeen) (t : ℕ) → IsSite x → AreGears (map (ticked_to t) x.gears) → IsSite (clocked x t)
+clocked-site x t k good = record {
   shape = k.shape;
   count = length-map x.gears (ticked_to t) ∙ k.count;
   gears = λ m gear at.
       let w : Mapped (ticked_to t) x.gears m gear = map-cases (ticked_to t) x.gears m gear at in
       subst (IsGearAt x.shape x.sink m) w.is (ticked-gear x.shape x.sink m t w.old (k.gears m w.old w.at));
+  gears_are = good;
   sink = k.sink;
   promises = k.promises;
   rows = k.rows;
-  taken = k.taken;
-  waiting = λ n p at. let q : IsGuest x p = k.waiting n p at in record { item = q.item; target = q.target; from = q.from };
+  epochs = k.epochs;
+  own = k.own;
+  heard = k.heard;
+  windows = k.windows;
+  waiting = k.waiting;
 }
 
 drained-at : (gears : List GearSeen) (g : ℕ) (gear : GearSeen) (d : Drained) → slice_get gears g ≡ Some gear → get_or (map drained_of gears) g d ≡ drained_of gear
@@ -138,16 +149,16 @@ drain-of x g gear k at good =
           };
     }
 
-pub drains : (x : SiteSeen) → IsSite x → AreGears x.gears → IsDrain x.sink (map drained_of x.gears)
-drains x k good = record {
+pub drains : (x : SiteSeen) → IsSite x → IsDrain x.sink (map drained_of x.gears)
+drains x k = record {
   count = length-map x.gears drained_of ∙ (k.count ∙ sym k.promises);
   each = λ g d lt.
       let y = each-gear x g (subst (λ (n : ℕ). g < n) (length-map x.gears drained_of) lt) in
-      subst (IsDrainOf x.sink g) (sym (drained-at x.gears g y.0 d y.1)) (drain-of x g y.0 k y.1 (good g y.0 y.1));
+      subst (IsDrainOf x.sink g) (sym (drained-at x.gears g y.0 d y.1)) (drain-of x g y.0 k y.1 (k.gears_are g y.0 y.1));
 }
 
-pub gathered-site : (x : SiteSeen) → IsSite x → IsSite (gathered_all x)
-gathered-site x k = record {
+pub gathered-site : (x : SiteSeen) → IsSite x → AreGears (map after_drain x.gears) → IsSite (gathered_all x)
+gathered-site x k good = record {
   shape = k.shape;
   count = length-map x.gears after_drain ∙ k.count;
   gears = λ g gear at.
@@ -165,11 +176,15 @@ gathered-site x k = record {
         ];
         absent = a.absent;
       });
+  gears_are = good;
   sink = k.sink;
   promises = length-drained promise_of x.gears ∙ k.count;
   rows = length-joined x.sink.pending (map labels_of (map drained_of x.gears)) ∙ k.rows;
-  taken = k.taken;
-  waiting = λ n p at. let q : IsGuest x p = k.waiting n p at in record { item = q.item; target = q.target; from = q.from };
+  epochs = k.epochs;
+  own = k.own;
+  heard = k.heard;
+  windows = k.windows;
+  waiting = k.waiting;
 }
 
 -- ---- emission
@@ -188,11 +203,15 @@ sent-site x l k = record {
         pending = λ m i. a.pending m (In-filter (λ m. not (label_eq l m)) (get_or x.sink.pending g []) m (subst (λ (ls : List Label). In ls m) (without-get l x.sink.pending g) i)).0;
         absent = a.absent;
       };
+  gears_are = k.gears_are;
   sink = k.sink;
   promises = k.promises;
   rows = length-map x.sink.pending (filter (λ m. not (label_eq l m))) ∙ k.rows;
-  taken = k.taken;
-  waiting = λ n p at. let q : IsGuest x p = k.waiting n p at in record { item = q.item; target = q.target; from = q.from };
+  epochs = k.epochs;
+  own = k.own;
+  heard = k.heard;
+  windows = k.windows;
+  waiting = k.waiting;
 }
 
 -- a pending label is an update of the site
@@ -214,29 +233,37 @@ label-here x l k u = record {
 
 -- ---- payloads
 
-pub brought-site : (x : SiteSeen) (from gear : ℕ) (p : Payload) → IsSite x → IsGuest x p → IsSite (brought x from gear p)
-brought-site x from gear p k guest = record {
+pub brought-site : (x : SiteSeen) (from gear n : ℕ) (p : Payload) → IsSite x → IsGuest x.shape p → IsSite (brought x from gear n p)
+brought-site x from gear n p k guest = record {
   shape = k.shape;
   count = k.count;
   gears = k.gears;
+  gears_are = k.gears_are;
   sink = k.sink;
   promises = k.promises;
   rows = k.rows;
-  taken = length-set x.taken (lane_place x from gear) _ ∙ k.taken;
-  waiting = more-each (IsGuest (brought x from gear p)) x.waiting p (record { item = guest.item; target = guest.target; from = guest.from }) (λ n p at. let q : IsGuest x p = k.waiting n p at in record { item = q.item; target = q.target; from = q.from });
+  epochs = k.epochs;
+  own = k.own;
+  heard = k.heard;
+  windows = length-set x.windows (lane_place x.shape from gear) _ ∙ k.windows;
+  waiting = more-each (IsGuest x.shape) x.waiting p guest k.waiting;
 }
 
-pub left-site : (x : SiteSeen) (n : ℕ) → IsSite x → IsSite (record x { waiting = remove x.waiting n })
+left-site : (x : SiteSeen) (n : ℕ) → IsSite x → IsSite (record x { waiting = remove x.waiting n })
 left-site x n k = record {
   shape = k.shape;
   count = k.count;
   gears = k.gears;
+  gears_are = k.gears_are;
   sink = k.sink;
   promises = k.promises;
   rows = k.rows;
-  taken = k.taken;
-  waiting = left-each (IsGuest (record x { waiting = remove x.waiting n })) x.waiting n (λ n p at. let q : IsGuest x p = k.waiting n p at in record { item = q.item; target = q.target; from = q.from });
+  epochs = k.epochs;
+  own = k.own;
+  heard = k.heard;
+  windows = k.windows;
+  waiting = left-each (IsGuest x.shape) x.waiting n k.waiting;
 }
 
-pub showed-site : (x : SiteSeen) (g n : ℕ) (new : GearSeen) → IsSite x → IsGearAt x.shape x.sink g new → IsSite (showed x g new n)
-showed-site x g n new k a = with-gear-site (record x { waiting = remove x.waiting n }) g new (left-site x n k) a
+pub showed-site : (x : SiteSeen) (g n : ℕ) (new : GearSeen) → IsSite x → IsGearAt x.shape x.sink g new → IsGear new → IsSite (showed x g new n)
+showed-site x g n new k a good = with-gear-site (record x { waiting = remove x.waiting n }) g new (left-site x n k) a good

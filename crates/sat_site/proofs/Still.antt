@@ -1,12 +1,11 @@
 -- Acts that leave all as it is, that raise promises, and that read.
-use Rattle.std.specs.Prelude.{◌≡◌, ◌≢◌, ◌≤◌, ℕ, ◌==◌, max, List}
-use Rattle.std.proofs.Common.{subst, ap, sym, ◌∙◌, arith, inl, inr}
+use Rattle.std.specs.Prelude.{◌≡◌, ◌≢◌, ◌≤◌, ℕ, ◌==◌, max, List, refl}
+use Rattle.std.proofs.Common.{ap, sym, ◌∙◌, arith}
 use Rattle.std.proofs.lemmas.Bool.{eq-eqb, ne_eqb}
 use Rattle.sat_label.specs.declared.label.Label.{Label}
-use Rattle.sat_gear.specs.Gear.{GearSeen, after_tick, version_of}
+use Rattle.sat_gear.specs.Gear.{GearSeen, after_tick}
 use Rattle.sat_act.specs.declared.answer.Answer.TheVariants as ans
 use Rattle.sat_act.specs.declared.answer.Refusal.{Refusal}
-use Rattle.sat_act.specs.Answers.{gear_of}
 use Rattle.sat_act.specs.Deployed.{Deployed}
 use Rattle.sat_machine.specs.Input.{SiteInput}
 use Rattle.sat_machine.specs.Input as given
@@ -14,14 +13,19 @@ use Rattle.sat_machine.specs.State.{SiteState, GearState}
 use Rattle.sat_machine.specs.Next.{site_next, gear_next}
 use Rattle.sat_machine.specs.Reply.{site_answer}
 use Rattle.sat_site.specs.Seen.{SiteSeen}
-use Rattle.sat_site.specs.Stands.{StandsSite, StandsGear, payload_of}
+use Rattle.sat_site.specs.Stands.{StandsSite, StandsGear}
 use Rattle.sat_site.specs.Changes.{with_gear, clocked, ticked_to, HasGear}
 use Rattle.sat_site.specs.Gives.{PromisesUpTo}
-use Rattle.sat_site.proofs.Lists.{set-cases, map-cases, Mapped, chosen, passed}
+use Rattle.sat_site.proofs.Lists.{chosen, passed}
+use Rattle.sat_site.proofs.Parts.{gears-set, gears-map, store-set, store-map}
 
 pub refuses : (d : Deployed) (i : ℕ) (x : SiteSeen) (s : SiteState) (input : SiteInput) (r : Refusal) → StandsSite d i x s → StandsSite d i x (site_next d i s input (ans.Refused r))
 unfolding site_next
 refuses d i x s input r st = st
+
+pub repeats : (d : Deployed) (i : ℕ) (x : SiteSeen) (s : SiteState) (input : SiteInput) → StandsSite d i x s → StandsSite d i x (site_next d i s input ans.Again)
+unfolding site_next
+repeats d i x s input st = st
 
 pub reads-nothing : (d : Deployed) (i : ℕ) (x : SiteSeen) (s : SiteState) (input : SiteInput) → StandsSite d i x s → StandsSite d i x (site_next d i s input ans.ReadNone)
 unfolding site_next
@@ -39,35 +43,19 @@ kept-gear d gear s g k t u e st = record { promise = st.promise ∙ sym (passed 
 
 pub ticks-answer : (d : Deployed) (i : ℕ) (x : SiteSeen) (s : SiteState) (g t : ℕ) (gear : GearSeen) → HasGear x g gear → StandsSite d i x s → ans.Ticked (max gear.promise t) ≡ site_answer d i s (given.Tick g t)
 unfolding site_answer
-ticks-answer d i x s g t gear at st = ap (λ (p : ℕ). ans.Ticked (max p t)) (st.gears g gear at).promise
+ticks-answer d i x s g t gear at st = ap (λ (p : ℕ). ans.Ticked (max p t)) (st.gears.each g gear at).promise
 
 pub ticks-stand : (d : Deployed) (i : ℕ) (x : SiteSeen) (s : SiteState) (g t : ℕ) (gear : GearSeen) → HasGear x g gear → StandsSite d i x s → StandsSite d i (with_gear x g (after_tick gear t)) (site_next d i s (given.Tick g t) (ans.Ticked (max gear.promise t)))
 unfolding site_next
 ticks-stand d i x s g t gear at st = record {
-  sites = st.sites;
-  count = st.count;
-  site = st.site;
-  interest = st.interest;
-  gears = λ k new here. elim (set-cases x.gears g k (after_tick gear t) new here) [
-    | inl w ↦ subst (λ (y : GearSeen). StandsGear d y (gear_next d k (s.gears k) (given.Tick g t) (ans.Ticked (max gear.promise t)))) w.0
-        (raised-gear d gear (s.gears k) g k t (sym w.1) (st.gears k gear (subst (λ (n : ℕ). HasGear x n gear) (sym w.1) at)))
-    | inr w ↦ kept-gear d new (s.gears k) g k t (max gear.promise t) w.1 (st.gears k new w.0)
-  ];
-  promises = st.promises;
-  pending = st.pending;
-  last = st.last;
-  pulse = st.pulse;
-  store = λ n new lt here. elim (set-cases x.gears g (gear_of d n) (after_tick gear t) new here) [
-    | inl w ↦ subst (λ (y : GearSeen). payload_of (version_of y n) ≡ s.store n) w.0 (st.store n gear lt (subst (λ (m : ℕ). HasGear x m gear) (sym w.1) at))
-    | inr w ↦ st.store n new lt w.0
-  ];
-  taken = st.taken;
-  waiting = st.waiting;
-  different = st.different;
-  tree = st.tree;
-  view = st.view;
-  emission = st.emission;
-  fallen = st.fallen;
+  shape = st.shape;
+  gears = gears-set d x.gears g (after_tick gear t) s.gears (λ k. gear_next d k (s.gears k) (given.Tick g t) (ans.Ticked (max gear.promise t))) st.gears
+      (raised-gear d gear (s.gears g) g g t refl (st.gears.each g gear at))
+      (λ k y e old. kept-gear d y (s.gears k) g k t (max gear.promise t) e old);
+  sink = st.sink;
+  views = st.views;
+  proxy = st.proxy;
+  store = store-set d x.gears g gear (after_tick gear t) s.store s.store at st.store (λ n e old. old) (λ n e. refl);
 }
 
 clocked-gear : (d : Deployed) (gear : GearSeen) (s : GearState) (k t : ℕ) → gear.promise ≤ t → StandsGear d gear s → StandsGear d (ticked_to t gear) (gear_next d k s (given.Clock t) (ans.Clocked t))
@@ -76,25 +64,10 @@ clocked-gear d gear s k t le st = record { promise = (let e : max gear.promise t
 pub clocks-stand : (d : Deployed) (i : ℕ) (x : SiteSeen) (s : SiteState) (t : ℕ) → PromisesUpTo x t → StandsSite d i x s → StandsSite d i (clocked x t) (site_next d i s (given.Clock t) (ans.Clocked t))
 unfolding site_next
 clocks-stand d i x s t up st = record {
-  sites = st.sites;
-  count = st.count;
-  site = st.site;
-  interest = st.interest;
-  gears = λ k new here.
-      let w : Mapped (ticked_to t) x.gears k new = map-cases (ticked_to t) x.gears k new here in
-      subst (λ (y : GearSeen). StandsGear d y (gear_next d k (s.gears k) (given.Clock t) (ans.Clocked t))) w.is (clocked-gear d w.old (s.gears k) k t (up k w.old w.at) (st.gears k w.old w.at));
-  promises = st.promises;
-  pending = st.pending;
-  last = st.last;
-  pulse = st.pulse;
-  store = λ n new lt here.
-      let w : Mapped (ticked_to t) x.gears (gear_of d n) new = map-cases (ticked_to t) x.gears (gear_of d n) new here in
-      subst (λ (y : GearSeen). payload_of (version_of y n) ≡ s.store n) w.is (st.store n w.old lt w.at);
-  taken = st.taken;
-  waiting = st.waiting;
-  different = st.different;
-  tree = st.tree;
-  view = st.view;
-  emission = st.emission;
-  fallen = st.fallen;
+  shape = st.shape;
+  gears = gears-map d (ticked_to t) x.gears s.gears (λ k. gear_next d k (s.gears k) (given.Clock t) (ans.Clocked t)) st.gears (λ k gear at old. clocked-gear d gear (s.gears k) k t (up k gear at) old);
+  sink = st.sink;
+  views = st.views;
+  proxy = st.proxy;
+  store = store-map d (ticked_to t) x.gears s.store st.store (λ gear n. refl);
 }

@@ -1,6 +1,6 @@
 -- A client's write and read.
 use Rattle.std.specs.Prelude.{◌≡◌, ◌<◌, ◌+◌, ◌/◌, ◌%◌, ◌^◌, ℕ, Bool, true, ◌==◌, ◌&&◌, not, nat_le, max, List, [], ◌∷◌, ◌++◌, length, Option, Some, None, if◌then◌else◌}
-use Rattle.std.proofs.Common.{subst, ap, sym, ◌∙◌, inl, inr}
+use Rattle.std.proofs.Common.{subst, ap, sym, ◌∙◌}
 use Rattle.std.proofs.lemmas.Bool.{eq-eqb, ne_eqb}
 use Rattle.sat_label.specs.declared.carried.Carried.{Carried}
 use Rattle.sat_label.specs.declared.label.Label.{Label}
@@ -22,31 +22,30 @@ use Rattle.sat_machine.specs.State.{SiteState, GearState}
 use Rattle.sat_machine.specs.Next.{site_next, gear_next, payload_at, put}
 use Rattle.sat_machine.specs.Reply.{site_answer}
 use Rattle.sat_site.specs.Seen.{SiteSeen, IsSite}
-use Rattle.sat_site.specs.Stands.{StandsSite, StandsGear, payload_of, interest_of}
+use Rattle.sat_machine.specs.Interests.{interest_of}
+use Rattle.sat_site.specs.Stands.{StandsSite, StandsGear, payload_of}
 use Rattle.sat_site.specs.Changes.{with_gear, gear_at, HasGear}
 use Rattle.sat_site.specs.Does.{Writes, write_not_here, spends, writes, Reads, read_not_here, reads_none, reads}
-use Rattle.sat_site.proofs.Lists.{set-cases, chosen, passed}
+use Rattle.sat_site.proofs.Lists.{chosen, passed}
+use Rattle.sat_site.proofs.Parts.{count-is, gear-of-is, gears-set, interest-is, item-known, site-is, sites-are, store-set}
 use Rattle.sat_site.proofs.Stores.{newer-stored}
 use Rattle.sat_gear.proofs.Places.{within_places}
-use Rattle.sat_site.proofs.Interests.{keeps-here, target-is, items-are}
+use Rattle.sat_site.proofs.Interests.{keeps-here, target-is}
 use Rattle.sat_site.proofs.Still.{refuses, reads-nothing, reads-some}
-
-pub gear-of-is : (d : Deployed) (i : ℕ) (x : SiteSeen) (s : SiteState) (n : ℕ) → StandsSite d i x s → gear_at x n ≡ gear_of d n
-gear-of-is d i x s n st = ap (λ (g : ℕ). n % g) st.count
 
 -- the label that is stamped is the machine's
 stamped-is : (d : Deployed) (i : ℕ) (x : SiteSeen) (s : SiteState) (n : ℕ) (p : Point) (gear : GearSeen) → IsSite x → HasGear x (gear_at x n) gear → StandsSite d i x s →
     stamped gear p (Update n) ≡ record { point = point_at (max (s.gears (gear_of d n)).promise p.ts + 1) i (gear_of d n); kind = Update n }
 stamped-is d i x s n p gear k at st =
     let g : gear_at x n ≡ gear_of d n = gear-of-is d i x s n st in
-    let a : gear.promise ≡ (s.gears (gear_of d n)).promise = (st.gears (gear_at x n) gear at).promise ∙ ap (λ (g : ℕ). (s.gears g).promise) g in
-    let b : gear.shape.site ≡ i = (λ j. ((k.gears (gear_at x n) gear at).shape j).site) ∙ st.site in
+    let a : gear.promise ≡ (s.gears (gear_of d n)).promise = (st.gears.each (gear_at x n) gear at).promise ∙ ap (λ (g : ℕ). (s.gears g).promise) g in
+    let b : gear.shape.site ≡ i = (λ j. ((k.gears (gear_at x n) gear at).shape j).site) ∙ site-is d i x s st in
     let c : gear.gear ≡ gear_of d n = (k.gears (gear_at x n) gear at).number ∙ g in
     λ j. record { point = point_at (max (a j) p.ts + 1) (b j) (c j); kind = Update n }
 
 spent-is : (d : Deployed) (i : ℕ) (x : SiteSeen) (s : SiteState) (n : ℕ) (p : Point) (gear : GearSeen) → HasGear x (gear_at x n) gear → StandsSite d i x s → is_spent gear p ≡ nat_le (2 ^ 62) (max (s.gears (gear_of d n)).promise p.ts)
 spent-is d i x s n p gear at st =
-    let a : gear.promise ≡ (s.gears (gear_of d n)).promise = (st.gears (gear_at x n) gear at).promise ∙ ap (λ (g : ℕ). (s.gears g).promise) (gear-of-is d i x s n st) in
+    let a : gear.promise ≡ (s.gears (gear_of d n)).promise = (st.gears.each (gear_at x n) gear at).promise ∙ ap (λ (g : ℕ). (s.gears g).promise) (gear-of-is d i x s n st) in
     ap (λ (q : ℕ). nat_le (2 ^ 62) (max q p.ts)) a
 
 pub write-answer : (d : Deployed) (i : ℕ) (x : SiteSeen) (s : SiteState) (seen : Carried) (n : ℕ) (value : List ℕ) (r : Answer) (y : SiteSeen) → IsSite x → StandsSite d i x s → Writes x seen n value r y → r ≡ site_answer d i s (given.Write seen n value)
@@ -94,6 +93,10 @@ other-gear d gear s k n seen value l e st = record {
       st.lanes j lt ∙ sym (ap (λ (b : Bool). if b && is_target d l j then s.lanes j ++ payload_at l value ∷ [] else s.lanes j) (ne_eqb l.point.gear k e));
 }
 
+-- the version of an item
+pub version-is : (d : Deployed) (i : ℕ) (x : SiteSeen) (s : SiteState) (n : ℕ) (gear : GearSeen) → n < length x.shape.interest.replicas → HasGear x (gear_at x n) gear → StandsSite d i x s → payload_of (version_of gear n) ≡ s.store n
+version-is d i x s n gear item at st = st.store.each n gear (item-known d i x s n st item) (subst (λ (q : ℕ). HasGear x q gear) (gear-of-is d i x s n st) at)
+
 pub writes-stand : (d : Deployed) (i : ℕ) (x : SiteSeen) (s : SiteState) (seen : Carried) (n : ℕ) (value : List ℕ) (gear : GearSeen) → EachLane → IsSite x → n < length x.shape.interest.replicas → HasGear x (gear_at x n) gear → IsGear gear → StandsSite d i x s →
     StandsSite d i (with_gear x (gear_at x n) (after_write gear n (record { label = stamped gear seen.point (Update n); value = value }))) (site_next d i s (given.Write seen n value) (ans.Wrote (stamped gear seen.point (Update n))))
 unfolding site_next
@@ -107,34 +110,16 @@ writes-stand d i x s seen n value gear laws k item at good st =
     let place : n / gear.shape.gears < length gear.versions =
     subst (λ (m : ℕ). n / gear.shape.gears < m) (sym good.versions) (within_places n (length gear.shape.interest.replicas) gear.shape.gears good.shape.gears (subst (λ (m : ℕ). n < m) (λ j. length (sym shape j).interest.replicas) item)) in
     record {
-      sites = st.sites;
-      count = st.count;
-      site = st.site;
-      interest = st.interest;
-      gears = λ m new here. elim (set-cases x.gears g m (after_write gear n p) new here) [
-        | inl w ↦ subst (λ (y : GearSeen). StandsGear d y (gear_next d m (s.gears m) (given.Write seen n value) (ans.Wrote l))) w.0
-            (wrote-gear d gear (s.gears m) m n seen value laws good ((λ j. (shape j).sites) ∙ st.sites) ((λ j. (shape j).interest) ∙ st.interest) (number ∙ sym w.1)
-            (st.gears m gear (subst (λ (q : ℕ). HasGear x q gear) (sym w.1) at)))
-        | inr w ↦ other-gear d new (s.gears m) m n seen value l (λ e. w.1 (sym e ∙ number)) (st.gears m new w.0)
-      ];
-      promises = st.promises;
-      pending = st.pending;
-      last = st.last;
-      pulse = st.pulse;
-      store = λ m new lt here. elim (set-cases x.gears g (gear_of d m) (after_write gear n p) new here) [
-        | inl w ↦ subst (λ (y : GearSeen). payload_of (version_of y m) ≡ (if n == m then put (s.store m) p else s.store m)) w.0
-            (newer-stored gear.versions n m gear.shape.gears p s.store place ((λ j. m % (gears ∙ st.count) j) ∙ (w.1 ∙ (λ j. n % sym gears j)))
-            (st.store n gear (subst (λ (q : ℕ). n < q) ((λ j. length (st.interest j).replicas) ∙ items-are d) item) (subst (λ (q : ℕ). HasGear x q gear) (gear-of-is d i x s n st) at))
-            (st.store m gear lt (subst (λ (q : ℕ). HasGear x q gear) (sym w.1) at)))
-        | inr w ↦ st.store m new lt w.0 ∙ sym (passed (n == m) (put (s.store m) p) (s.store m) (ne_eqb n m (λ e. w.1 (sym (ap (gear_of d) e) ∙ sym (gear-of-is d i x s n st)))))
-      ];
-      taken = st.taken;
-      waiting = st.waiting;
-      different = st.different;
-      tree = st.tree;
-      view = st.view;
-      emission = st.emission;
-      fallen = st.fallen;
+      shape = st.shape;
+      gears = gears-set d x.gears g (after_write gear n p) s.gears (λ k. gear_next d k (s.gears k) (given.Write seen n value) (ans.Wrote l)) st.gears
+          (wrote-gear d gear (s.gears g) g n seen value laws good ((λ j. (shape j).sites) ∙ sites-are d i x s st) ((λ j. (shape j).interest) ∙ interest-is d i x s st) number (st.gears.each g gear at))
+          (λ m y e old. other-gear d y (s.gears m) m n seen value l (λ f. e (sym f ∙ number)) old);
+      sink = st.sink;
+      views = st.views;
+      proxy = record { taken = st.proxy.taken; pool = st.proxy.pool; different = st.proxy.different };
+      store = store-set d x.gears g gear (after_write gear n p) s.store (λ m. if n == m then put (s.store m) p else s.store m) at st.store
+          (λ m e old. newer-stored gear.versions n m gear.shape.gears p s.store place ((λ j. m % (gears ∙ count-is d i x s st) j) ∙ (e ∙ (λ j. n % sym gears j))) (version-is d i x s n gear item at st) old)
+          (λ m e. sym (passed (n == m) (put (s.store m) p) (s.store m) (ne_eqb n m (λ f. e (sym (ap (gear_of d) f) ∙ sym (gear-of-is d i x s n st))))));
     }
 
 pub write-stand : (d : Deployed) (i : ℕ) (x : SiteSeen) (s : SiteState) (seen : Carried) (n : ℕ) (value : List ℕ) (r : Answer) (y : SiteSeen) → EachLane → IsSite x → n < length x.shape.interest.replicas → StandsSite d i x s → Writes x seen n value r y →
@@ -144,10 +129,6 @@ write-stand d i x s seen n value r y laws k item st (spends gear e at f) = refus
 write-stand d i x s seen n value r y laws k item st (writes gear e at good f) = writes-stand d i x s seen n value gear laws k item at good st
 
 -- ---- reads
-
-version-is : (d : Deployed) (i : ℕ) (x : SiteSeen) (s : SiteState) (n : ℕ) (gear : GearSeen) → n < length x.shape.interest.replicas → HasGear x (gear_at x n) gear → StandsSite d i x s → payload_of (version_of gear n) ≡ s.store n
-version-is d i x s n gear item at st =
-    st.store n gear (subst (λ (q : ℕ). n < q) ((λ j. length (st.interest j).replicas) ∙ items-are d) item) (subst (λ (q : ℕ). HasGear x q gear) (gear-of-is d i x s n st) at)
 
 abbrev read_answer : Bool → Option Payload → Answer
 read_answer b o = refused_if (not b) why.NotHere (elim o [ None ↦ ans.ReadNone | Some p ↦ ans.ReadSome p.label p.value ])

@@ -1,15 +1,19 @@
 -- What the calls of a site make of what it keeps.
-use Rattle.std.specs.Prelude.{ℕ, ◌≡◌, ◌+◌, ◌*◌, ◌%◌, List, [], ◌∷◌, ◌++◌, map, replicate, set, slice_get, position, Some}
+use Rattle.std.specs.Prelude.{ℕ, ◌≡◌, ◌*◌, ◌%◌, Bool, true, false, List, [], ◌∷◌, ◌++◌, map, replicate, set, slice_get, position, Some}
 use Rattle.std.specs.List.{remove}
 use Rattle.sat_label.specs.declared.label.Label.{Label}
 use Rattle.sat_label.specs.Words.{below}
 use Rattle.sat_bulk.specs.declared.Payload.{Payload}
+use Rattle.sat_bulk.specs.Windows.{after_take}
 use Rattle.sat_sites.specs.declared.shape.Shape.{Shape}
-use Rattle.sat_gear.specs.Gear.{GearSeen, IsGear, after_drain, drained_of, fresh_gear, after_tick}
+use Rattle.sat_gear.specs.Gear.{GearSeen, after_drain, drained_of, fresh_gear, after_tick}
 use Rattle.sat_sink.specs.Sink.{after_emit_of, fresh_sink, after_gather}
 use Rattle.sat_act.specs.Deployed.{Deployed}
-use Rattle.sat_site.specs.Seen.{SiteSeen, bears, lane_place, taken_of}
-use Rattle.sat_site.specs.Stands.{interest_of}
+use Rattle.sat_act.specs.declared.deployment.Plan.{Plan}
+use Rattle.sat_act.specs.declared.deployment.Plan.TheVariants as plan
+use Rattle.sat_epoch.specs.Epochs.{after_hear, first_epochs}
+use Rattle.sat_machine.specs.Interests.{interest_of}
+use Rattle.sat_site.specs.Seen.{SiteSeen, bears, lane_place, no_numbers, window_of}
 
 abbrev pub with_gear : SiteSeen → ℕ → GearSeen → SiteSeen
 with_gear x g gear = record x { gears = set x.gears g gear }
@@ -35,13 +39,13 @@ sent x l = record x { sink = after_emit_of x.sink l }
 abbrev pub showed : SiteSeen → ℕ → GearSeen → ℕ → SiteSeen
 showed x g gear n = record x { gears = set x.gears g gear; waiting = remove x.waiting n }
 
--- one payload more waits, and one more of its lane was taken
-abbrev pub brought : SiteSeen → ℕ → ℕ → Payload → SiteSeen
-brought x from gear p = record x { taken = set x.taken (lane_place x from gear) (taken_of x from gear + 1); waiting = x.waiting ++ p ∷ [] }
+-- one payload more waits, and its number of its lane was taken
+abbrev pub brought : SiteSeen → ℕ → ℕ → ℕ → Payload → SiteSeen
+brought x from gear number p = record x { windows = set x.windows (lane_place x.shape from gear) (after_take (window_of x from gear) number); waiting = x.waiting ++ p ∷ [] }
 
--- what is true of each gear of a list
-abbrev pub AreGears : List GearSeen → Type 0
-AreGears gears = (g : ℕ) (gear : GearSeen) → slice_get gears g ≡ Some gear → IsGear gear
+-- the close of a site, for the view, was taken
+abbrev pub heard : SiteSeen → ℕ → SiteSeen
+heard x from = record x { views = after_hear x.views from }
 
 -- the gear of an item
 abbrev pub gear_at : SiteSeen → ℕ → ℕ
@@ -62,12 +66,18 @@ pub record IsTaken (ps : List Payload) (l : Label) (p : Payload) (qs : List Payl
 abbrev pub shape_for : Deployed → ℕ → Shape
 shape_for d i = record { sites = d.sites; gears = d.gears; site = i; interest = interest_of d }
 
--- a site of a shape, at which nothing has happened
-abbrev pub fresh_seen : Shape → SiteSeen
-fresh_seen shape = record {
+-- whether the plan of an epoch is stamp order
+abbrev pub is_stamp_plan : Plan → Bool
+is_stamp_plan plan.Stamp = true
+is_stamp_plan (plan.Tree tree) = false
+
+-- a site of a shape, at which nothing has happened, by whether the plan of each epoch is stamp order
+abbrev pub fresh_seen : Shape → List Bool → SiteSeen
+fresh_seen shape stamp = record {
   shape = shape;
   gears = map (fresh_gear shape) (below shape.gears);
   sink = fresh_sink shape.site shape.gears;
-  taken = replicate (shape.sites * shape.gears) 0;
+  views = first_epochs shape.sites shape.site stamp;
+  windows = replicate (shape.sites * shape.gears) no_numbers;
   waiting = [];
 }

@@ -1,8 +1,9 @@
 -- What the calls of a site promise.
-use Rattle.std.specs.Prelude.{ℕ, ◌≡◌, ◌≤◌, ◌<◌, true, length, slice_get, Option, Some, None}
+use Rattle.std.specs.Prelude.{ℕ, ◌≡◌, ◌≤◌, ◌<◌, true, false, length, slice_get, Option, Some, None}
 use Rattle.sat_label.specs.declared.label.Kind.TheVariants.{Update}
 use Rattle.sat_label.specs.declared.label.Label.{Label}
 use Rattle.sat_bulk.specs.declared.Payload.{Payload}
+use Rattle.sat_epoch.specs.Epochs.{Epochs, is_stamp}
 use Rattle.sat_sites.specs.Interested.{is_for, IsLabelOf}
 use Rattle.sat_sites.specs.declared.shape.Shape.{Shape}
 use Rattle.sat_gear.specs.Gear.{GearSeen}
@@ -12,7 +13,6 @@ use Rattle.sat_act.specs.Deployed.{Deployed}
 use Rattle.sat_act.specs.Limits.{IsDeployment}
 use Rattle.sat_machine.specs.Input.{SiteInput}
 use Rattle.sat_machine.specs.State.{SiteState}
-use Rattle.sat_machine.specs.Fits.{IsFit}
 use Rattle.sat_machine.specs.Reply.{site_answer}
 use Rattle.sat_machine.specs.Next.{site_next}
 use Rattle.sat_site.specs.Seen.{SiteSeen}
@@ -20,11 +20,11 @@ use Rattle.sat_site.specs.Stands.{StandsSite}
 
 -- the answer is the machine's, at each state that the site stands for
 abbrev pub AnswersBy : SiteSeen → SiteInput → Answer → Type 0
-AnswersBy x input answer = (d : Deployed) (i : ℕ) (s : SiteState) → IsDeployment d → StandsSite d i x s → IsFit d i s input → answer ≡ site_answer d i s input
+AnswersBy x input answer = (d : Deployed) (i : ℕ) (s : SiteState) → IsDeployment d → StandsSite d i x s → answer ≡ site_answer d i s input
 
 -- the site then stands for what the answer makes of that state
 abbrev pub StandsBy : SiteSeen → SiteInput → Answer → SiteSeen → Type 0
-StandsBy x input answer y = (d : Deployed) (i : ℕ) (s : SiteState) → IsDeployment d → StandsSite d i x s → IsFit d i s input → StandsSite d i y (site_next d i s input answer)
+StandsBy x input answer y = (d : Deployed) (i : ℕ) (s : SiteState) → IsDeployment d → StandsSite d i x s → StandsSite d i y (site_next d i s input answer)
 
 -- some other site is a target of the label
 abbrev pub HasTarget : Shape → Label → Type 0
@@ -37,11 +37,12 @@ pub record IsLeaving (shape : Shape) (l : Label) : Type 0 where
   pub update : (x : ℕ) × (l.kind ≡ Update x)
   pub target : HasTarget shape l
 
--- an emitted label is sent exactly where it has a target, and no other answer sends one
-abbrev pub IsSent : Shape → Answer → Option Label → Type 0
-IsSent shape (ans.Emitted l) None = HasTarget shape l → ⊥
-IsSent shape (ans.Emitted l) (Some m) = (m ≡ l) × IsLeaving shape l
-IsSent shape answer o = o ≡ None
+-- an emitted label is sent exactly where the plan of the emission epoch is a tree and the label has a target, and no other answer
+-- sends one
+abbrev pub IsSent : Shape → Epochs → Answer → Option Label → Type 0
+IsSent shape views (ans.Emitted l) None = is_stamp views views.emission ≡ false → HasTarget shape l → ⊥
+IsSent shape views (ans.Emitted l) (Some m) = (m ≡ l) × (is_stamp views views.emission ≡ false) × IsLeaving shape l
+IsSent shape views answer o = o ≡ None
 
 abbrev pub PromisesUpTo : SiteSeen → ℕ → Type 0
 PromisesUpTo x ts = (g : ℕ) (gear : GearSeen) → slice_get x.gears g ≡ Some gear → gear.promise ≤ ts

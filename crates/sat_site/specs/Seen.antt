@@ -4,27 +4,38 @@ use Rattle.sat_label.specs.declared.label.Kind.TheVariants.{Update}
 use Rattle.sat_label.specs.declared.label.Label.{Label}
 use Rattle.sat_label.specs.Order.{label_eq}
 use Rattle.sat_bulk.specs.declared.Payload.{Payload}
+use Rattle.sat_bulk.specs.Windows.{Numbers}
 use Rattle.sat_label.specs.Members.{In}
-use Rattle.sat_sites.specs.Interested.{is_for, keeps}
+use Rattle.sat_sites.specs.Interested.{keeps}
 use Rattle.sat_sites.specs.declared.shape.Shape.{Shape}
-use Rattle.sat_gear.specs.Gear.{GearSeen, IsShape, version_of}
+use Rattle.sat_gear.specs.Gear.{GearSeen, IsGear, IsShape, version_of}
 use Rattle.sat_sink.specs.Sink.{Sink}
+use Rattle.sat_epoch.specs.Epochs.{Epochs, IsEpochs}
 
--- what the site was made from; its gears; its sink; by sending site and gear, how many payloads of that lane it took; and the
--- payloads that wait here, in the order in which they came
+-- what the site was made from; its gears; its sink; its epochs; by sending site and gear, which numbers of that lane it took; and
+-- the payloads that wait here, in the order in which they came
 pub record SiteSeen : Type 0 where
   pub shape : Shape
   pub gears : List GearSeen
   pub sink : Sink
-  pub taken : List ℕ
+  pub views : Epochs
+  pub windows : List Numbers
   pub waiting : List Payload
 
--- the place of a lane among all those to the site
-abbrev pub lane_place : SiteSeen → ℕ → ℕ → ℕ
-lane_place x from gear = from * x.shape.gears + gear
+-- the place of a lane among all those to a site of this shape
+abbrev pub lane_place : Shape → ℕ → ℕ → ℕ
+lane_place shape from gear = from * shape.gears + gear
 
-abbrev pub taken_of : SiteSeen → ℕ → ℕ → ℕ
-taken_of x from gear = get_or x.taken (lane_place x from gear) 0
+-- before the first payload of a lane
+abbrev pub no_numbers : Numbers
+no_numbers = record { front = 0; above = [] }
+
+-- the numbers of a lane that were taken
+abbrev pub window_at : Shape → List Numbers → ℕ → ℕ → Numbers
+window_at shape windows from gear = get_or windows (lane_place shape from gear) no_numbers
+
+abbrev pub window_of : SiteSeen → ℕ → ℕ → Numbers
+window_of x from gear = window_at x.shape x.windows from gear
 
 -- whether a payload has a label
 abbrev pub bears : Label → Payload → Bool
@@ -45,18 +56,25 @@ pub record IsGearAt (site : Shape) (sink : Sink) (g : ℕ) (gear : GearSeen) : T
   pub pending : (l : Label) → In (get_or sink.pending g []) l → IsUpdateHere site l
   pub absent : (n : ℕ) → n % site.gears ≡ g → keeps site.interest n site.site ≡ false → version_of gear n ≡ None
 
--- an update of another site for this one
-pub record IsGuest (x : SiteSeen) (p : Payload) : Type 0 where
-  pub item : (n : ℕ) × (p.label.kind ≡ Update n) × (n < length x.shape.interest.replicas)
-  pub target : is_for x.shape.interest p.label x.shape.site ≡ true
-  pub from : p.label.point.site < x.shape.sites
+-- what is true of each gear of a list
+abbrev pub AreGears : List GearSeen → Type 0
+AreGears gears = (g : ℕ) (gear : GearSeen) → slice_get gears g ≡ Some gear → IsGear gear
+
+-- an update of a site, of an item that this one keeps
+pub record IsGuest (shape : Shape) (p : Payload) : Type 0 where
+  pub item : (n : ℕ) × (p.label.kind ≡ Update n) × (n < length shape.interest.replicas) × (keeps shape.interest n shape.site ≡ true)
+  pub from : p.label.point.site < shape.sites
 
 pub record IsSite (x : SiteSeen) : Type 0 where
   pub shape : IsShape x.shape
   pub count : length x.gears ≡ x.shape.gears
   pub gears : (g : ℕ) (gear : GearSeen) → slice_get x.gears g ≡ Some gear → IsGearAt x.shape x.sink g gear
+  pub gears_are : AreGears x.gears
   pub sink : x.sink.site ≡ x.shape.site
   pub promises : length x.sink.promises ≡ x.shape.gears
   pub rows : length x.sink.pending ≡ x.shape.gears
-  pub taken : length x.taken ≡ x.shape.sites * x.shape.gears
-  pub waiting : (n : ℕ) (p : Payload) → slice_get x.waiting n ≡ Some p → IsGuest x p
+  pub epochs : IsEpochs x.views
+  pub own : x.views.site ≡ x.shape.site
+  pub heard : length x.views.heard ≡ x.shape.sites
+  pub windows : length x.windows ≡ x.shape.sites * x.shape.gears
+  pub waiting : (n : ℕ) (p : Payload) → slice_get x.waiting n ≡ Some p → IsGuest x.shape p

@@ -1,55 +1,77 @@
--- The state of the model's machine that a site stands for, row by row.
-use Rattle.std.specs.Prelude.{ℕ, ◌≡◌, ◌<◌, false, List, [], length, map, get_or, slice_get, Option, Some, None}
-use Rattle.sat_label.specs.declared.site_set.SiteSet.{SiteSet}
-use Rattle.sat_label.specs.Words.{below}
+-- The state of the model's machine that a site stands for, part by part.
+use Rattle.std.specs.Prelude.{ℕ, ◌≡◌, ◌≢◌, ◌≤◌, ◌<◌, ◌==◌, false, List, [], length, get_or, slice_get, Option, Some, None, is_none}
+use Rattle.sat_label.specs.Words.{has}
 use Rattle.sat_bulk.specs.declared.Payload.{Payload}
-use Rattle.sat_sites.specs.Interested.{Interested}
+use Rattle.sat_bulk.specs.Windows.{Numbers, has_number}
+use Rattle.sat_epoch.specs.Epochs.{Epochs, close_cut, is_stamp}
+use Rattle.sat_sites.specs.declared.shape.Shape.{Shape}
 use Rattle.sat_store.specs.declared.store.Version.{Version}
 use Rattle.sat_gear.specs.Gear.{GearSeen, lane_to, version_of}
-use Rattle.sat_act.specs.declared.deployment.Item.{Item}
+use Rattle.sat_sink.specs.Sink.{Sink}
 use Rattle.sat_act.specs.Deployed.{Deployed}
 use Rattle.sat_act.specs.Answers.{gear_of}
 use Rattle.sat_act.specs.Parts.{tree_of}
-use Rattle.sat_tree.specs.Shape.{TreeShape}
-use Rattle.sat_machine.specs.State.{SiteState, GearState}
-use Rattle.sat_site.specs.Seen.{SiteSeen, taken_of}
-
-abbrev pub replicas_of : Item → SiteSet
-replicas_of item = item.replicas
-
--- which sites of a deployment keep which items
-abbrev pub interest_of : Deployed → Interested
-interest_of d = record { sites = d.sites; replicas = map replicas_of d.items }
+use Rattle.sat_machine.specs.State.{SiteState, GearState, SinkState, ViewState, ProxyState}
+use Rattle.sat_site.specs.Changes.{shape_for}
+use Rattle.sat_site.specs.Seen.{SiteSeen, window_at}
 
 abbrev pub payload_of : Option Version → Option Payload
 payload_of None = None
 payload_of (Some v) = Some (record { label = v.label; value = v.value })
+
+-- ---- gears
 
 pub record StandsGear (d : Deployed) (gear : GearSeen) (s : GearState) : Type 0 where
   pub promise : gear.promise ≡ s.promise
   pub fresh : gear.fresh ≡ s.fresh
   pub lanes : (j : ℕ) → j < d.sites → lane_to gear j ≡ s.lanes j
 
+pub record StandsGears (d : Deployed) (gears : List GearSeen) (s : ℕ → GearState) : Type 0 where
+  pub each : (g : ℕ) (gear : GearSeen) → slice_get gears g ≡ Some gear → StandsGear d gear (s g)
+
+-- ---- the sink. No clause speaks of what it counted of the lanes: no act that a site does reads it
+
+pub record StandsSink (d : Deployed) (sink : Sink) (s : SinkState) : Type 0 where
+  pub promises : (g : ℕ) → g < d.gears → get_or sink.promises g 0 ≡ s.promises g
+  pub pending : (g : ℕ) → g < d.gears → get_or sink.pending g [] ≡ s.pending g
+  pub last : sink.last ≡ s.last
+  pub pulse : sink.pulse ≡ s.pulse
+
+-- ---- views: of the closes that were taken, those of the view by the other sites
+
+pub record StandsViews (d : Deployed) (i : ℕ) (views : Epochs) (s : ViewState) : Type 0 where
+  pub view : views.view ≡ s.view
+  pub emission : views.emission ≡ s.emission
+  pub fallen : views.fallen ≡ s.fallen
+  pub closes : (e : ℕ) → s.closes e ≡ close_cut views e
+  pub heard : (k : ℕ) → k < d.sites → k ≢ i → s.heard k s.view ≡ get_or views.heard k false
+  pub plans : (e : ℕ) → 1 ≤ e → e ≤ length d.plans → is_stamp views e ≡ is_none (tree_of d e)
+  pub count : length views.stamp ≡ length d.plans
+
+-- ---- what the site has of others. No clause speaks of beats, nor of the point up to which each site is known: no act that a
+-- site does reads them
+
 -- no label stands twice
 abbrev pub Different : List Payload → Type 0
 Different ps = (m n : ℕ) (p q : Payload) → slice_get ps m ≡ Some p → slice_get ps n ≡ Some q → p.label ≡ q.label → m ≡ n
 
+pub record StandsProxy (d : Deployed) (shape : Shape) (windows : List Numbers) (waiting : List Payload) (s : ProxyState) : Type 0 where
+  pub taken : (k g n : ℕ) → k < d.sites → g < d.gears → has ◌==◌ (s.taken k g) n ≡ has_number (window_at shape windows k g) n
+  pub pool : waiting ≡ s.pool
+  pub different : Different waiting
+
+-- ---- the store
+
+pub record StandsStore (d : Deployed) (gears : List GearSeen) (store : ℕ → Option Payload) : Type 0 where
+  pub each : (n : ℕ) (gear : GearSeen) → n < length d.items → slice_get gears (gear_of d n) ≡ Some gear → payload_of (version_of gear n) ≡ store n
+
+-- ---- the site
+
 -- site i of the deployment stands for a state of the machine's
 pub record StandsSite (d : Deployed) (i : ℕ) (x : SiteSeen) (s : SiteState) : Type 0 where
-  pub sites : x.shape.sites ≡ d.sites
-  pub count : x.shape.gears ≡ d.gears
-  pub site : x.shape.site ≡ i
-  pub interest : x.shape.interest ≡ interest_of d
-  pub gears : (g : ℕ) (gear : GearSeen) → slice_get x.gears g ≡ Some gear → StandsGear d gear (s.gears g)
-  pub promises : (g : ℕ) → g < d.gears → get_or x.sink.promises g 0 ≡ s.sink.promises g
-  pub pending : (g : ℕ) → g < d.gears → get_or x.sink.pending g [] ≡ s.sink.pending g
-  pub last : x.sink.last ≡ s.sink.last
-  pub pulse : x.sink.pulse ≡ s.sink.pulse
-  pub store : (n : ℕ) (gear : GearSeen) → n < length d.items → slice_get x.gears (gear_of d n) ≡ Some gear → payload_of (version_of gear n) ≡ s.store n
-  pub taken : (k g : ℕ) → k < d.sites → g < d.gears → s.proxy.taken k g ≡ below (taken_of x k g)
-  pub waiting : x.waiting ≡ s.proxy.pool
-  pub different : Different x.waiting
-  pub tree : (t : TreeShape) × (tree_of d 1 ≡ Some t)
-  pub view : s.views.view ≡ 1
-  pub emission : s.views.emission ≡ 1
-  pub fallen : s.views.fallen ≡ false
+  pub shape : x.shape ≡ shape_for d i
+  pub gears : StandsGears d x.gears s.gears
+  pub sink : StandsSink d x.sink s.sink
+  pub views : StandsViews d i x.views s.views
+  pub proxy : StandsProxy d x.shape x.windows x.waiting s.proxy
+  pub store : StandsStore d x.gears s.store

@@ -1,10 +1,11 @@
 //! All gears of a site at once.
-ghost use Rattle.std.specs.Prelude.{ℕ, ◌≡◌, ◌≤◌, ◌^◌, length, map, IfOk, OnErr, MatchOption};
+ghost use Rattle.std.specs.Prelude.{◌≡◌, ◌≤◌, ◌^◌, length, map, IfOk, OnErr, MatchOption};
 ghost use Rattle.std.specs.List.{flat_map};
 ghost use Rattle.sat_label.specs.Words.{below};
 ghost use Rattle.sat_gear.specs.Gear.{after_drain, drained_of, fresh_gear, IsGear, IsItemOf, IsShape};
 ghost use Rattle.sat_sink.specs.Pending.{labels_of};
-ghost use Rattle.sat_site.specs.Changes.{ticked_to, AreGears};
+ghost use Rattle.sat_site.specs.Changes.{ticked_to};
+ghost use Rattle.sat_site.specs.Seen.{AreGears};
 ghost use Rattle.sat_site.specs.Does.{WritesAt};
 
 use sat_act::{Answer, Refusal};
@@ -35,6 +36,15 @@ pub fn limits(gear: &Gear)
     let _ = gear.promise();
 }
 
+/// What is true of each gear.
+pub fn all_limits(gears: &[Gear])
+    ensures { AreGears gears.now }
+{
+    for gear in gears {
+        limits(gear);
+    }
+}
+
 /// Hands a client's write to the gear of its item.
 pub fn write_at(
     gear: &mut Gear,
@@ -44,10 +54,8 @@ pub fn write_at(
 ) -> Result<Answer, AllocError>
     requires { IsItemOf gear.old item }
     ensures writes { IfOk result (λ answer. WritesAt gear.old carried item value answer gear.new) }
-    ensures limits { IsGear gear.old }
     ensures err { OnErr result (gear.new ≡ gear.old) }
 {
-    limits(gear);
     match gear.write(carried.point, item, value) {
         Ok(stamped) => Ok(Answer::Wrote(stamped.label)),
         Err(GearFault::Spent) => Ok(Answer::Refused(Refusal::Spent)),
@@ -67,8 +75,7 @@ pub fn tick_all(gears: &mut [Gear], ts: u64)
 
 /// What a drain of each gear would give.
 pub fn undrained_all(alloc: Global, gears: &[Gear]) -> Result<Vec<Drained>, AllocError>
-    ensures drained { IfOk result (λ drained. drained.items ≡ map drained_of gears.now) }
-    ensures limits { IfOk result (λ drained. AreGears gears.now) }
+    ensures { IfOk result (λ drained. drained.items ≡ map drained_of gears.now) }
 {
     let mut all = Vec::with_capacity(alloc, gears.len())?;
     for gear in gears {

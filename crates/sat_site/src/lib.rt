@@ -1,7 +1,7 @@
 //! A site: one machine without the past, which answers each act by what it keeps (Bravo, Rodrigues and Van Roy, EuroSys 2017).
 #![tactic(auto)]
 
-ghost use Rattle.sat_site.specs.Laws.{EachStep};
+ghost use Rattle.sat_site.specs.Laws.{EachClock, EachFits, EachStep};
 
 mod gears;
 mod input;
@@ -14,9 +14,13 @@ pub use input::SiteInput;
 pub use output::{SiteOutput, SiteView};
 pub use site::Site;
 
-/// The machine's states commute with each step of a site: the law of all that a site keeps and all that it is handed.
+/// Of all that a site keeps and all that it is handed: a site answers as the machine of the model does at each state that it
+/// stands for, and then stands for what the machine makes of that state; so does a tick of each gear; and what it asks of an input
+/// is what the machine asks, and that a window can take the number.
 pub fn site_laws()
-    ensures { EachStep }
+    ensures steps { EachStep }
+    ensures clocks { EachClock }
+    ensures fits { EachFits }
 {
     // Brings this law into the proof; it does nothing when it runs.
     sat_gear::lane_laws();

@@ -1,11 +1,11 @@
 //! What the parts of a site of a deployment are made from.
 ghost use Rattle.std.specs.Prelude.{◌≡◌, ◌<◌, map, IfOk};
+ghost use Rattle.sat_machine.specs.Interests.{replicas_of};
 ghost use Rattle.sat_sites.specs.Interested.{IsInterest};
 ghost use Rattle.sat_act.specs.Limits.{IsDeployment};
-ghost use Rattle.sat_site.specs.Changes.{shape_for};
-ghost use Rattle.sat_site.specs.Stands.{replicas_of};
+ghost use Rattle.sat_site.specs.Changes.{is_stamp_plan, shape_for};
 
-use sat_act::{Deployment, Item};
+use sat_act::{Deployment, Item, Plan};
 use sat_label::SiteSet;
 use sat_sites::{Interest, InterestFault, Shape};
 use std::alloc::{AllocError, Global};
@@ -41,5 +41,25 @@ pub fn shape_of(alloc: Global, d: &Deployment, site: u16) -> Result<Shape, Alloc
         }
         Err(InterestFault::Memory) => Err(AllocError),
         Err(InterestFault::BadItem(_)) => unreachable!(),
+    }
+}
+
+/// Of each plan whether it is stamp order.
+pub fn stamp_plans(alloc: Global, plans: &[Plan]) -> Result<Vec<bool>, AllocError>
+    ensures { IfOk result (λ stamp. stamp.items ≡ map is_stamp_plan plans.now) }
+{
+    let mut stamp = Vec::with_capacity(alloc, plans.len())?;
+    for plan in plans {
+        stamp.push(is_stamp(plan))?;
+    }
+    Ok(stamp)
+}
+
+fn is_stamp(plan: &Plan) -> bool
+    ensures { result ≡ is_stamp_plan plan.now }
+{
+    match plan {
+        Plan::Stamp => true,
+        Plan::Tree(_) => false,
     }
 }

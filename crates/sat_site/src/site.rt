@@ -1,37 +1,34 @@
 //! Sites.
-ghost use Rattle.std.specs.Prelude.{ℕ, ◌%◌, IsTrue, ◌≡◌, ◌≤◌, ◌<◌, ◌↔◌, ◌==◌, ◌^◌, length, true, false, slice_get, Some, None, Option, IfOk, IfSome, OnErr, IsOk, MatchOption};
-ghost use Rattle.std.specs.List.{list_any};
+ghost use Rattle.std.specs.Prelude.{ℕ, ◌%◌, ◌*◌, ◌≡◌, ◌≤◌, ◌<◌, ◌==◌, ◌^◌, ◌&&◌, length, replicate, true, false, slice_get, Some, None, Option, IfOk, IfSome, OnErr, IsOk, MatchOption};
 ghost use Rattle.sat_label.specs.declared.label.Label.{Label};
-ghost use Rattle.sat_label.specs.Words.{below};
-ghost use Rattle.sat_sites.specs.Interested.{is_for, IsKindOf, IsLabelOf};
-ghost use Rattle.sat_gear.specs.Gear.{GearSeen, IsItemOf, IsShape};
+ghost use Rattle.sat_sites.specs.Interested.{IsLabelOf};
+ghost use Rattle.sat_bulk.specs.Windows.{has_number};
+ghost use Rattle.sat_epoch.specs.Epochs.{in_stamp, is_stamp};
+ghost use Rattle.sat_gear.specs.Gear.{GearSeen, IsShape};
+ghost use Rattle.sat_sink.specs.Sink.{ready_of};
+ghost use Rattle.sat_label.specs.declared.limits.TheConstants.{MOST_EPOCHS};
 ghost use Rattle.sat_act.specs.Deployed.{Deployed};
-ghost use Rattle.sat_act.specs.Built.{IsBuilt};
 ghost use Rattle.sat_act.specs.declared.answer.Answer.TheVariants as ans;
-ghost use Rattle.sat_machine.specs.Input as given;
 ghost use Rattle.sat_machine.specs.State.{SiteState, fresh_site};
+ghost use Rattle.sat_machine.specs.Fits.{is_time};
 ghost use Rattle.sat_machine.specs.Look.{front_of, mode_of};
-ghost use Rattle.sat_machine.specs.Fits.{IsFit};
-ghost use Rattle.sat_machine.specs.Reply.{site_answer};
-ghost use Rattle.sat_machine.specs.Next.{site_next};
-ghost use Rattle.sat_site.specs.Seen.{IsSite, IsGuest, lane_place, taken_of};
-ghost use Rattle.sat_site.specs.Inputs.{input_of, Fits};
+ghost use Rattle.sat_site.specs.Seen.{IsSite, IsGuest, lane_place, no_numbers, window_of};
+ghost use Rattle.sat_site.specs.Inputs.{fits_here, fits_in, is_bulk_here, is_carried_here, is_front_here, is_gear_here, is_goal_here, is_guest_here, is_item_here, is_kept_here, is_kind_here, is_other_here, is_small, IsFront};
 ghost use Rattle.sat_site.specs.Stands.{StandsSite, payload_of};
-ghost use Rattle.sat_site.specs.Gives.{AnswersBy, HasTarget, StandsBy, IsSent, PromisesUpTo, IsOfLane};
+ghost use Rattle.sat_site.specs.Gives.{PromisesUpTo, IsOfLane};
 ghost use Rattle.sat_site.specs.Changes.{clocked, fresh_seen, HasGear};
-ghost use Rattle.sat_site.specs.SiteSteps.{keeps_item, site_after, site_answers, site_sends};
+ghost use Rattle.sat_site.specs.SiteSteps.{emit_sends, has_target, keeps_item, site_after, site_answers, site_epoch, site_sends, write_refusal};
 ghost use Rattle.sat_site.specs.Does.{Does, Reads, Turns, Writes};
-ghost use Rattle.sat_act.specs.Settling.{is_done};
-ghost use Rattle.sat_site.specs.Inputs.{IsFront, IsNext};
 
 use crate::gears::{
-    count_labels, drain_all, fresh_gears, limits, tick_all, undrained_all, write_at,
+    all_limits, count_labels, drain_all, fresh_gears, limits, tick_all, undrained_all, write_at,
 };
-use crate::shape::shape_of;
-use crate::waiting::take;
+use crate::shape::{shape_of, stamp_plans};
+use crate::waiting::{has_point, take};
 use crate::{SiteInput, SiteOutput, SiteView};
 use sat_act::{Answer, Deployment, Refusal};
-use sat_bulk::Payload;
+use sat_bulk::{Payload, Take, Window};
+use sat_epoch::Views;
 use sat_gear::Gear;
 use sat_label::{Carried, Kind, Label, TS_END, Value};
 use sat_sink::LabelSink;
@@ -41,18 +38,17 @@ use std::alloc::{AllocError, Global};
 use std::collections::VecDeque;
 use std::marker::Model;
 
-// No act that is built leaves the first epoch.
-const FIRST_EPOCH: u16 = 1;
-
-/// One site of a deployment. It keeps no past. Contracts see its parts as the plain records of these, and say what it answers
-/// and becomes by the machine of the model, for each state that it stands for.
+/// One site of a deployment. It keeps no past. Contracts see its parts as the plain records of these. What it answers, what it
+/// sends and what it then keeps are functions of these and of what it is handed; `site_laws` says that the machine of the model
+/// does the same.
 #[derive(Drop)]
 pub struct Site {
     alloc: Global,
     shape: Shape,
     gears: Vec<Gear>,
     sink: LabelSink,
-    taken: Vec<u64>,
+    views: Views,
+    windows: Vec<Window>,
     waiting: VecDeque<Payload>,
 }
 
@@ -61,121 +57,170 @@ impl Model for Site {
 
     ghost Value = { SiteSeen };
 
-    ghost view = { λ a. record { shape = a.shape; gears = a.gears.items; sink = a.sink; taken = a.taken.items; waiting = a.waiting.items } };
+    ghost view = { λ a. record { shape = a.shape; gears = a.gears.items; sink = a.sink; views = a.views; windows = a.windows.items; waiting = a.waiting.items } };
 
-    ghost invariant = { λ a. IsSite (record { shape = a.shape; gears = a.gears.items; sink = a.sink; taken = a.taken.items; waiting = a.waiting.items }) };
+    ghost invariant = { λ a. IsSite (record { shape = a.shape; gears = a.gears.items; sink = a.sink; views = a.views; windows = a.windows.items; waiting = a.waiting.items }) };
+}
+
+// So many lanes of which no payload was taken.
+fn fresh_windows(alloc: Global, lanes: usize) -> Result<Vec<Window>, AllocError>
+    ensures { IfOk result (λ windows. windows.items ≡ replicate lanes no_numbers) }
+{
+    let mut windows = Vec::with_capacity(alloc, lanes)?;
+    for _ in 0..lanes {
+        windows.push(Window::new(alloc))?;
+    }
+    Ok(windows)
 }
 
 impl Site {
     /// The site with this number of a deployment, at which nothing has happened.
     pub fn new(alloc: Global, d: &Deployment, site: u16) -> Result<Site, AllocError>
-        requires site { site < d.now.sites }
-        requires built { IsBuilt d.now }
+        requires { site < d.now.sites }
         ensures { IfOk result (λ made. StandsSite d.now site made (fresh_site site)) }
     {
         let shape = shape_of(alloc, d, site)?;
-        let made = Site::fresh(alloc, shape)?;
+        let stamp = stamp_plans(alloc, d.plans())?;
+        let made = Site::fresh(alloc, shape, &stamp)?;
         Ok(made)
     }
 
-    // A site of a shape, at which nothing has happened.
-    fn fresh(alloc: Global, shape: Shape) -> Result<Site, AllocError>
-        requires { IsShape shape }
-        ensures { IfOk result (λ made. made ≡ fresh_seen shape) }
+    // A site of a shape, at which nothing has happened, by whether the plan of each epoch is stamp order.
+    fn fresh(alloc: Global, shape: Shape, stamp: &[bool]) -> Result<Site, AllocError>
+        requires shape { IsShape shape }
+        requires some { 0 < length stamp.now }
+        requires few { length stamp.now ≤ MOST_EPOCHS }
+        ensures { IfOk result (λ made. made ≡ fresh_seen shape stamp.now) }
     {
         let gears = fresh_gears(alloc, &shape)?;
+        all_limits(&gears);
         let sink = LabelSink::new(alloc, shape.site, shape.gears)?;
-        let lanes = shape.sites as usize * shape.gears as usize;
-        let taken = vec![in alloc; 0; lanes]?;
+        let views = Views::new(alloc, shape.sites, shape.site, stamp)?;
+        let _ = views.view();
+        let windows = fresh_windows(alloc, shape.sites as usize * shape.gears as usize)?;
         Ok(Site {
             alloc,
             shape,
             gears,
             sink,
-            taken,
+            views,
+            windows,
             waiting: VecDeque::new(alloc),
         })
     }
 
-    /// Does one act, by what it is handed, and answers it. It takes no memory for a Tick or a Turn; for want of memory the
-    /// site is as before.
+    /// Does one act, by what it is handed, and answers it. It takes no memory for a Tick, an Emit or a Turn, nor where it
+    /// answers Again; for want of memory the site is as before.
     pub fn step(&mut self, input: SiteInput) -> Result<SiteOutput, AllocError>
-        requires { Fits self.old input }
+        requires { fits_in self.old input ≡ true }
         ensures function { IfOk result (λ out. out.answer ≡ site_answers self.old input) }
         ensures sends { IfOk result (λ out. out.sent ≡ site_sends self.old input) }
+        ensures epoch { IfOk result (λ out. out.epoch ≡ site_epoch self.old input) }
         ensures after { IfOk result (λ out. self.new ≡ site_after self.old input) }
-        ensures refused { IfOk result (λ out. is_done out.answer ≡ false → self.new ≡ self.old) }
-        ensures answer { IfOk result (λ out. AnswersBy self.old (input_of input) out.answer) }
-        ensures stands { IfOk result (λ out. StandsBy self.old (input_of input) out.answer self.new) }
-        ensures sent { IfOk result (λ out. IsSent self.old.shape out.answer out.sent) }
-        ensures epoch { IfOk result (λ out. MatchOption out.sent (out.epoch ≡ (elim input [ SiteInput.Turn front ↦ 1 | _ ↦ 0 ])) (λ l. out.epoch ≡ 1)) }
-        ensures shape { self.new.shape ≡ self.old.shape }
-        ensures tick { (g t : ℕ) → input ≡ SiteInput.Tick g t → IsOk result }
-        ensures turn { (front : Option Label) → input ≡ SiteInput.Turn front → IsOk result }
-        ensures err { OnErr result (self.new ≡ self.old) }
-    {
-        // Brings this law into the proof; it does nothing when it runs.
-        sat_gear::lane_laws();
-        let output = self.act(input)?;
-        Ok(output)
-    }
-
-    // Does one act on the lists. The calls below do one kind of act each.
-    fn act(&mut self, input: SiteInput) -> Result<SiteOutput, AllocError>
-        requires { Fits self.old input }
-        ensures does { IfOk result (λ out. Does self.old input out.answer out.sent self.new) }
-        ensures epoch { IfOk result (λ out. MatchOption out.sent (out.epoch ≡ (elim input [ SiteInput.Turn front ↦ 1 | _ ↦ 0 ])) (λ l. out.epoch ≡ 1)) }
         ensures site { IsSite self.old }
         ensures tick { (g t : ℕ) → input ≡ SiteInput.Tick g t → IsOk result }
         ensures turn { (front : Option Label) → input ≡ SiteInput.Turn front → IsOk result }
+        ensures emit { input ≡ SiteInput.Emit → IsOk result }
+        ensures err { OnErr result (self.new ≡ self.old) }
+    {
+        let sent = self.sends(&input);
+        let epoch = self.epoch(&input, &sent);
+        let answer = self.act(input)?;
+        Ok(SiteOutput {
+            answer,
+            sent,
+            epoch,
+        })
+    }
+
+    /// The label that a step would send. It takes no memory.
+    pub fn sends(&self, input: &SiteInput) -> Option<Label>
+        ensures { result ≡ site_sends self.now input.now }
+    {
+        match input {
+            SiteInput::Emit => self.leaving(),
+            _ => None,
+        }
+    }
+
+    // The label that an emission would send: the sink's next, where it has a target and the plan of the epoch is a tree.
+    fn leaving(&self) -> Option<Label>
+        ensures { result ≡ emit_sends (is_stamp self.now.views self.now.views.emission) self.now.shape (ready_of self.now.sink) }
+    {
+        if self.views.is_stamp(self.views.emission()) {
+            return None;
+        }
+        let label = self.sink.next()?;
+        if !self.has_target(&label) {
+            return None;
+        }
+        Some(label)
+    }
+
+    // Whether a label is for some site.
+    fn has_target(&self, label: &Label) -> bool
+        requires { IsLabelOf self.now.shape.interest label.now }
+        ensures { result ≡ has_target self.now.shape label.now }
+    {
+        let targets = self.shape.interest.targets(label);
+        targets.meets(&targets)
+    }
+
+    // The epoch of what a step would send, in a turn that of what it takes.
+    fn epoch(&self, input: &SiteInput, sent: &Option<Label>) -> u16
+        requires { sent.now ≡ site_sends self.now input.now }
+        ensures { result ≡ site_epoch self.now input.now }
+    {
+        match input {
+            SiteInput::Emit => match sent {
+                None => 0,
+                Some(_) => self.views.emission(),
+            },
+            SiteInput::Turn { .. } => self.views.view(),
+            _ => 0,
+        }
+    }
+
+    // Does one act. The calls below do one kind of act each.
+    fn act(&mut self, input: SiteInput) -> Result<Answer, AllocError>
+        requires { fits_in self.old input ≡ true }
+        ensures does { IfOk result (λ answer. Does self.old input answer self.new) }
+        ensures site { IsSite self.old }
+        ensures tick { (g t : ℕ) → input ≡ SiteInput.Tick g t → IsOk result }
+        ensures turn { (front : Option Label) → input ≡ SiteInput.Turn front → IsOk result }
+        ensures emit { input ≡ SiteInput.Emit → IsOk result }
         ensures err { OnErr result (self.new ≡ self.old) }
     {
         let _ = &self.shape;
         match input {
-            SiteInput::Tick { gear, ts } => {
-                let promise = self.tick(gear, ts);
-                Ok(quiet(Answer::Ticked(promise), 0))
-            }
+            SiteInput::Tick { gear, ts } => Ok(Answer::Ticked(self.tick(gear, ts))),
             SiteInput::Write {
                 carried,
                 item,
                 value,
-            } => {
-                let answer = self.write(carried, item, value)?;
-                Ok(quiet(answer, 0))
-            }
-            SiteInput::Read { carried: _, item } => {
-                let answer = self.read(item)?;
-                Ok(quiet(answer, 0))
-            }
-            SiteInput::Gather => {
-                let answer = self.gather()?;
-                Ok(quiet(answer, 0))
-            }
+            } => self.write(carried, item, value),
+            SiteInput::Read { carried: _, item } => self.read(item),
+            SiteInput::Gather => self.gather(),
             SiteInput::Emit => Ok(self.emit()),
-            SiteInput::Turn { front } => {
-                let answer = self.turn(front);
-                Ok(quiet(answer, FIRST_EPOCH))
-            }
+            SiteInput::Turn { front } => Ok(self.turn(front)),
             SiteInput::Bulk {
                 from,
                 gear,
-                number: _,
+                number,
                 payload,
-            } => {
-                let answer = self.bulk(from, gear, payload)?;
-                Ok(quiet(answer, 0))
-            }
+            } => self.bulk(from, gear, number, payload),
         }
     }
 
     fn tick(&mut self, gear: u16, ts: u64) -> u64
         requires gear { gear < self.old.shape.gears }
         requires limit { ts ≤ 2 ^ 62 }
-        ensures { Does self.old (SiteInput.Tick gear ts) (ans.Ticked result) None self.new }
+        ensures { Does self.old (SiteInput.Tick gear ts) (ans.Ticked result) self.new }
     {
         let gear = &mut self.gears[gear as usize];
-        gear.tick(ts)
+        let promise = gear.tick(ts);
+        limits(gear);
+        promise
     }
 
     // Whether the site keeps an item.
@@ -230,7 +275,9 @@ impl Site {
         ensures err { OnErr result (self.new ≡ self.old) }
     {
         let gear = &mut self.gears[number as usize];
+        limits(gear);
         let answer = write_at(gear, carried, item, value)?;
+        limits(gear);
         Ok(answer)
     }
 
@@ -255,73 +302,79 @@ impl Site {
     // Takes what all gears made into the sink. All memory is taken before anything changes; no memory holds labels whose
     // number is none of 64 bits.
     fn gather(&mut self) -> Result<Answer, AllocError>
-        ensures does { IfOk result (λ answer. Does self.old SiteInput.Gather answer None self.new) }
+        ensures does { IfOk result (λ answer. Does self.old SiteInput.Gather answer self.new) }
         ensures err { OnErr result (self.new ≡ self.old) }
     {
         let drained = undrained_all(self.alloc, &self.gears)?;
         let labels = count_labels(&drained).ok_or(AllocError)?;
         self.sink.gather(&drained)?;
         drain_all(&mut self.gears);
+        all_limits(&self.gears);
         Ok(Answer::Gathered {
             labels,
             stable: self.sink.stable(),
         })
     }
 
-    fn emit(&mut self) -> SiteOutput
-        ensures does { Does self.old SiteInput.Emit result.answer result.sent self.new }
-        ensures epoch { MatchOption result.sent (result.epoch ≡ 0) (λ l. result.epoch ≡ 1) }
+    fn emit(&mut self) -> Answer
+        ensures { Does self.old SiteInput.Emit result self.new }
     {
         let Some(label) = self.sink.emit() else {
-            return quiet(Answer::Refused(Refusal::Idle), 0);
+            return Answer::Refused(Refusal::Idle);
         };
-        if self.has_target(&label) {
-            SiteOutput {
-                answer: Answer::Emitted(label),
-                sent: Some(label),
-                epoch: FIRST_EPOCH,
-            }
-        } else {
-            quiet(Answer::Emitted(label), 0)
-        }
-    }
-
-    // Whether a label is for some site.
-    fn has_target(&self, label: &Label) -> bool
-        requires { IsLabelOf self.now.shape.interest label.now }
-        ensures { IsTrue result ↔ HasTarget self.now.shape label.now }
-    {
-        let targets = self.shape.interest.targets(label);
-        targets.meets(&targets)
+        Answer::Emitted(label)
     }
 
     fn turn(&mut self, front: Option<Label>) -> Answer
+        requires { (l : Label) → front ≡ Some l → IsFront self.old l }
+        ensures { Does self.old (SiteInput.Turn front) result self.new }
+    {
+        if self.views.in_stamp_mode() {
+            return Answer::Refused(Refusal::StampOrder);
+        }
+        self.turn_by_tree(front)
+    }
+
+    // Takes the front of the link to the site.
+    fn turn_by_tree(&mut self, front: Option<Label>) -> Answer
         requires { (l : Label) → front ≡ Some l → IsFront self.old l }
         ensures { Turns self.old front result self.new }
     {
         let Some(label) = front else {
             return Answer::Refused(Refusal::Empty);
         };
-        let Kind::Update(item) = label.kind else {
-            return Answer::Took(label);
-        };
-        let number = self.gear_of(item);
-        self.show(number, label, item)
+        match label.kind {
+            Kind::Update(item) => self.show(label, item),
+            Kind::Close(epoch) => self.hear(label, epoch),
+            Kind::Move(_) => Answer::Took(label),
+            Kind::Pulse => Answer::Took(label),
+        }
+    }
+
+    // Takes a close of the view.
+    fn hear(&mut self, label: Label, epoch: u16) -> Answer
+        requires front { IsFront self.old label }
+        requires kind { label.kind ≡ Kind.Close epoch }
+        ensures { Turns self.old (Some label) result self.new }
+    {
+        self.views.hear_close(label.point.site, epoch);
+        let _ = self.views.view();
+        Answer::Took(label)
     }
 
     // Shows the update of a label, if its payload waits.
-    fn show(&mut self, number: u16, label: Label, item: u16) -> Answer
-        requires front { IsFront self.old label }
-        requires kind { label.kind ≡ Kind.Update item }
-        requires gear { number ≡ item % self.old.shape.gears }
+    fn show(&mut self, label: Label, item: u16) -> Answer
+        requires { label.kind ≡ Kind.Update item }
         ensures { Turns self.old (Some label) result self.new }
     {
+        let number = self.gear_of(item);
         let Some(payload) = take(&mut self.waiting, label) else {
             return Answer::Refused(Refusal::NoPayload(label));
         };
         let gear = &mut self.gears[number as usize];
         limits(gear);
         let _ = gear.show(payload);
+        limits(gear);
         Answer::Shown(label)
     }
 
@@ -329,26 +382,83 @@ impl Site {
     fn lane(&self, from: u16, gear: u16) -> usize
         requires from { from < self.now.shape.sites }
         requires gear { gear < self.now.shape.gears }
-        ensures place { result ≡ lane_place self.now from gear }
-        ensures within { result < length self.now.taken }
+        ensures place { result ≡ lane_place self.now.shape from gear }
+        ensures within { result < length self.now.windows }
     {
         from as usize * self.shape.gears as usize + gear as usize
     }
 
-    // No memory holds so many payloads that their number is none of 64 bits.
-    fn bulk(&mut self, from: u16, gear: u16, payload: Payload) -> Result<Answer, AllocError>
+    // The numbers of a lane.
+    fn window(&self, from: u16, gear: u16) -> &Window
+        requires from { from < self.now.shape.sites }
+        requires gear { gear < self.now.shape.gears }
+        ensures { result.now ≡ window_of self.now from gear }
+    {
+        let place = self.lane(from, gear);
+        &self.windows[place]
+    }
+
+    fn bulk(
+        &mut self,
+        from: u16,
+        gear: u16,
+        number: u64,
+        payload: Payload,
+    ) -> Result<Answer, AllocError>
         requires from { from < self.old.shape.sites }
         requires gear { gear < self.old.shape.gears }
-        requires guest { IsGuest self.old payload }
-        ensures does { IfOk result (λ answer. (number : ℕ) → Does self.old (SiteInput.Bulk from gear number payload) answer None self.new) }
+        requires small { number < 2 ^ 63 }
+        requires guest { IsGuest self.old.shape payload }
+        ensures does { IfOk result (λ answer. Does self.old (SiteInput.Bulk from gear number payload) answer self.new) }
+        ensures err { OnErr result (self.new ≡ self.old) }
+    {
+        if self.window(from, gear).has(number) {
+            return Ok(Answer::Again);
+        }
+        self.bring(from, gear, number, payload)
+    }
+
+    // Takes a payload whose number is new. All memory is taken before anything changes.
+    fn bring(
+        &mut self,
+        from: u16,
+        gear: u16,
+        number: u64,
+        payload: Payload,
+    ) -> Result<Answer, AllocError>
+        requires from { from < self.old.shape.sites }
+        requires gear { gear < self.old.shape.gears }
+        requires small { number < 2 ^ 63 }
+        requires new { has_number (window_of self.old from gear) number ≡ false }
+        requires guest { IsGuest self.old.shape payload }
+        ensures does { IfOk result (λ answer. Does self.old (SiteInput.Bulk from gear number payload) answer self.new) }
         ensures err { OnErr result (self.new ≡ self.old) }
     {
         let place = self.lane(from, gear);
-        let taken = self.taken[place].checked_add(1).ok_or(AllocError)?;
         let label = payload.label;
-        self.waiting.push_back(payload)?;
-        self.taken[place] = taken;
+        self.waiting.reserve(1)?;
+        let _ = self.windows[place].take(number)?;
+        self.waiting.push_back_reserved(payload);
         Ok(Answer::Brought(label))
+    }
+
+    /// Why a client's write would be refused, None where it would not. It takes no memory, so a caller can ask before it copies
+    /// a value.
+    pub fn write_refusal(&self, carried: &Carried, item: u16) -> Option<Refusal>
+        requires { item < length self.now.shape.interest.replicas }
+        ensures refusal { result ≡ write_refusal self.now carried.now item }
+        ensures sound { IsSite self.now }
+    {
+        let _ = &self.shape;
+        if !self.keeps(item) {
+            return Some(Refusal::NotHere);
+        }
+        let gear = self.gear(self.gear_of(item));
+        if gear.promise().max(carried.point.ts) < TS_END {
+            None
+        } else {
+            Some(Refusal::Spent)
+        }
     }
 
     /// Raises the promise of each gear to a timestamp that none of them is above. It takes no memory.
@@ -356,23 +466,22 @@ impl Site {
         requires limit { ts ≤ 2 ^ 62 }
         requires promises { PromisesUpTo self.old ts }
         ensures after { self.new ≡ clocked self.old ts }
-        ensures stands { StandsBy self.old (given.Clock ts) (ans.Clocked ts) self.new }
-        ensures shape { self.new.shape ≡ self.old.shape }
-    {
-        self.raise(ts);
-    }
-
-    // Raises the promise of each gear.
-    fn raise(&mut self, ts: u64)
-        requires { ts ≤ 2 ^ 62 }
-        ensures { self.new ≡ clocked self.old ts }
+        ensures site { IsSite self.old }
     {
         tick_all(&mut self.gears, ts);
+        all_limits(&self.gears);
     }
 
     /// Whether `step` may be handed an input. It takes no memory.
     pub fn fits(&self, input: &SiteInput) -> bool
-        ensures { IsTrue result ↔ Fits self.now input.now }
+        ensures { result ≡ fits_in self.now input.now }
+    {
+        self.fits_here(input) && is_small(input)
+    }
+
+    // Whether an input is one that the machine of the model may be handed.
+    fn fits_here(&self, input: &SiteInput) -> bool
+        ensures { result ≡ fits_here self.now input.now }
     {
         match input {
             SiteInput::Tick { gear, ts } => self.is_tick(*gear, *ts),
@@ -389,94 +498,113 @@ impl Site {
                 gear,
                 number,
                 payload,
-            } => self.is_next(*from, *gear, *number, payload),
+            } => self.is_bulk(*from, *gear, *number, payload),
         }
     }
 
-    fn is_tick(&self, gear: u16, ts: u64) -> bool
-        ensures { IsTrue result ↔ ((gear < self.now.shape.gears) × (ts ≤ 2 ^ 62)) }
+    fn is_gear(&self, gear: u16) -> bool
+        ensures { result ≡ is_gear_here self.now.shape gear }
     {
-        gear < self.shape.gears && ts <= TS_END
+        gear < self.shape.gears
+    }
+
+    fn is_tick(&self, gear: u16, ts: u64) -> bool
+        ensures { result ≡ (is_gear_here self.now.shape gear && is_time ts) }
+    {
+        self.is_gear(gear) && ts <= TS_END
+    }
+
+    fn is_item(&self, item: u16) -> bool
+        ensures { result ≡ is_item_here self.now.shape item }
+    {
+        (item as usize) < self.shape.interest.items()
+    }
+
+    fn is_other(&self, site: u16) -> bool
+        ensures { result ≡ is_other_here self.now.shape site }
+    {
+        site < self.shape.sites && site != self.shape.site
+    }
+
+    fn is_goal(&self, goal: Option<u16>) -> bool
+        ensures { result ≡ is_goal_here self.now.shape goal }
+    {
+        match goal {
+            None => true,
+            Some(site) => site < self.shape.sites,
+        }
+    }
+
+    fn is_carried(&self, carried: &Carried) -> bool
+        ensures { result ≡ is_carried_here self.now.shape carried.now }
+    {
+        carried.point.ts <= TS_END
+            && carried.point.site < self.shape.sites
+            && self.is_goal(carried.moving)
     }
 
     // An act of a client on an item.
     fn is_act_on(&self, carried: &Carried, item: u16) -> bool
-        ensures { IsTrue result ↔ ((item < length self.now.shape.interest.replicas) × (carried.now.point.ts ≤ 2 ^ 62)) }
+        ensures { result ≡ (is_carried_here self.now.shape carried.now && is_item_here self.now.shape item) }
     {
-        (item as usize) < self.shape.interest.items() && carried.point.ts <= TS_END
+        self.is_carried(carried) && self.is_item(item)
     }
 
     fn is_kind(&self, kind: Kind) -> bool
-        ensures { IsTrue result ↔ IsKindOf self.now.shape.interest kind }
+        ensures { result ≡ is_kind_here self.now.shape self.now.views.view kind }
     {
-        let _ = &self.shape;
         match kind {
-            Kind::Update(item) => (item as usize) < self.shape.interest.items(),
+            Kind::Update(item) => self.is_item(item),
             Kind::Move(site) => site < self.shape.sites,
             Kind::Pulse => true,
-            Kind::Close(_) => true,
+            Kind::Close(epoch) => epoch == self.views.view(),
         }
     }
 
-    // A label of another site for this one.
     fn is_front(&self, label: &Label) -> bool
-        ensures { IsTrue result ↔ IsFront self.now label.now }
+        ensures { result ≡ is_front_here self.now.shape self.now.views.view label.now }
     {
-        if label.point.site >= self.shape.sites {
-            return false;
-        }
-        if label.point.site == self.shape.site {
-            return false;
-        }
-        if !self.is_kind(label.kind) {
-            return false;
-        }
-        self.shape.interest.targets(label).has(self.shape.site)
+        label.point.ts <= TS_END && self.is_other(label.point.site) && self.is_kind(label.kind)
     }
 
-    // The next payload of a lane.
-    fn is_next(&self, from: u16, gear: u16, number: u64, payload: &Payload) -> bool
-        ensures { IsTrue result ↔ IsNext self.now from gear number payload.now }
+    // An update of an item that the site keeps.
+    fn is_kept(&self, kind: Kind) -> bool
+        ensures { result ≡ is_kept_here self.now.shape kind }
     {
-        if from >= self.shape.sites || gear >= self.shape.gears {
-            return false;
+        match kind {
+            Kind::Update(item) => self.is_item(item) && self.keeps(item),
+            _ => false,
         }
-        if payload.label.point.site != from || payload.label.point.gear != gear {
-            return false;
-        }
-        if self.front(from, gear) != number {
-            return false;
-        }
-        self.is_guest(payload)
     }
 
-    // An update of another site for this one.
-    fn is_guest(&self, payload: &Payload) -> bool
-        ensures { IsTrue result ↔ IsGuest self.now payload.now }
+    fn is_guest(&self, from: u16, label: &Label) -> bool
+        ensures { result ≡ is_guest_here self.now.shape from label.now }
     {
-        if payload.label.point.site >= self.shape.sites {
+        label.point.ts <= TS_END && label.point.site == from && self.is_kept(label.kind)
+    }
+
+    fn is_bulk(&self, from: u16, gear: u16, number: u64, payload: &Payload) -> bool
+        ensures { result ≡ is_bulk_here self.now.shape (window_of self.now from gear) self.now.waiting from gear number payload.now }
+    {
+        if !self.is_other(from) || !self.is_gear(gear) {
             return false;
         }
-        let Kind::Update(item) = payload.label.kind else {
-            return false;
-        };
-        if (item as usize) >= self.shape.interest.items() {
+        if !self.is_guest(from, &payload.label) {
             return false;
         }
-        self.shape
-            .interest
-            .targets(&payload.label)
-            .has(self.shape.site)
+        self.window(from, gear).has(number) || !has_point(&self.waiting, &payload.label.point)
     }
 
     /// What the site shows of itself.
     pub fn view(&self) -> SiteView
-        ensures { (d : Deployed) (i : ℕ) (s : SiteState) → StandsSite d i self.now s → result ≡ record { view = s.views.view; emission = s.views.emission; stamp = mode_of d s; waiting = length s.proxy.pool } }
+        ensures sound { IsSite self.now }
+        ensures seen { result ≡ record { view = self.now.views.view; emission = self.now.views.emission; stamp = in_stamp self.now.views; waiting = length self.now.waiting } }
+        ensures stands { (d : Deployed) (i : ℕ) (s : SiteState) → StandsSite d i self.now s → result ≡ record { view = s.views.view; emission = s.views.emission; stamp = mode_of d s; waiting = length s.proxy.pool } }
     {
         SiteView {
-            view: FIRST_EPOCH,
-            emission: FIRST_EPOCH,
-            stamp: false,
+            view: self.views.view(),
+            emission: self.views.emission(),
+            stamp: self.views.in_stamp_mode(),
             waiting: self.waiting.len() as u64,
         }
     }
@@ -516,25 +644,23 @@ impl Site {
         gear.promise()
     }
 
-    /// How many payloads of the lane from a site and a gear were taken here: the number of the next.
+    /// The front of the lane from a site and a gear: the least number that was not taken here.
     pub fn front(&self, from: u16, gear: u16) -> u64
         requires from { from < self.now.shape.sites }
         requires gear { gear < self.now.shape.gears }
         ensures front { (d : Deployed) (i : ℕ) (s : SiteState) → StandsSite d i self.now s → result ≡ front_of s from gear }
-        ensures taken { result ≡ taken_of self.now from gear }
+        ensures seen { result ≡ (window_of self.now from gear).front }
     {
-        let place = self.lane(from, gear);
-        self.taken[place]
+        self.window(from, gear).front()
     }
 }
 
-// An output that sends nothing.
-fn quiet(answer: Answer, epoch: u16) -> SiteOutput
-    ensures { result ≡ record { answer = answer; sent = None; epoch = epoch } }
+// Whether a window can take the number of an input.
+fn is_small(input: &SiteInput) -> bool
+    ensures { result ≡ is_small input.now }
 {
-    SiteOutput {
-        answer,
-        sent: None,
-        epoch,
+    match input {
+        SiteInput::Bulk { number, .. } => *number < (1 << 63),
+        _ => true,
     }
 }

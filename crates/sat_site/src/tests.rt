@@ -1,12 +1,10 @@
 //! Whole paths of a site, input by input, and each public call on its happy path.
-ghost use Rattle.std.specs.Prelude.{◌≡◌, ◌∷◌, [], length, IfOk};
-ghost use Rattle.sat_act.specs.Built.{IsBuilt};
-ghost use Rattle.sat_act.specs.Deployed.{Deployed};
+ghost use Rattle.std.specs.Prelude.{◌≡◌, length, IfOk};
 
-use crate::{Site, SiteInput, SiteView};
+use crate::{Site, SiteInput};
 use sat_act::{Answer, ClientLine, Deployment, Item, Plan, Refusal};
 use sat_bulk::Payload;
-use sat_label::{Carried, Kind, Label, Name, Point, SiteSet, Value};
+use sat_label::{Carried, Kind, Label, Name, Point, SiteSet, TS_END, Value};
 use sat_tree::Tree;
 use std::alloc::Global;
 use std::test::Fail;
@@ -29,24 +27,20 @@ fn items(alloc: Global) -> Result<Vec<Item>, Fail>
     Ok(items)
 }
 
-// One epoch, whose tree has one serializer.
-fn plans(alloc: Global) -> Result<Vec<Plan>, Fail>
-    ensures { IfOk result (λ plans. plans.items ≡ Plan.Tree (record { parents = None ∷ []; seats = 0 ∷ 0 ∷ [] }) ∷ []) }
-{
-    let mut plans = Vec::new(alloc);
-    plans.push(Plan::Tree(Tree::new(alloc, &[None], &[0, 0])?))?;
-    Ok(plans)
+// A tree of one serializer.
+fn tree(alloc: Global) -> Result<Plan, Fail> {
+    Ok(Plan::Tree(Tree::new(alloc, &[None], &[0, 0])?))
 }
 
-// Two sites of two gears each, which keep two items.
-fn deployment(alloc: Global) -> Result<Deployment, Fail>
-    ensures built { IfOk result (λ d. IsBuilt d) }
+// Two sites of two gears each, which keep two items, and one epoch.
+fn deployment(alloc: Global, plan: Plan) -> Result<Deployment, Fail>
     ensures sites { IfOk result (λ d. d.sites ≡ 2) }
     ensures gears { IfOk result (λ d. d.gears ≡ 2) }
     ensures items { IfOk result (λ d. length d.items ≡ 2) }
 {
     let items = items(alloc)?;
-    let plans = plans(alloc)?;
+    let mut plans = Vec::new(alloc);
+    plans.push(plan)?;
     let clients: Vec<ClientLine> = Vec::new(alloc);
     let deployment = Deployment::new(alloc, 2, 2, items, clients, plans)?;
     Ok(deployment)
@@ -63,12 +57,20 @@ fn update(ts: u64, site: u16, gear: u16, item: u16) -> Label {
     }
 }
 
-// What a site is handed. A client is told by the point that it saw, a value by its one byte.
+// What a client carries that is moving nowhere.
+fn seen(point: Point) -> Carried {
+    Carried {
+        point,
+        moving: None,
+    }
+}
+
+// What a site is handed. A value is told by its one byte.
 #[derive(Clone, Copy)]
 enum Deed {
     Tick(u16, u64),
     Write(u16, u8),
-    Read(Point, u16),
+    Read(Carried, u16),
     Gather,
     Emit,
     Turn(Option<Label>),
@@ -87,6 +89,7 @@ enum Outcome {
     Shown(Label),
     Took(Label),
     Brought(Label),
+    Again,
     Refused(Refusal),
     Other,
 }
@@ -100,20 +103,11 @@ fn input_of(alloc: Global, deed: Deed) -> Result<SiteInput, Fail> {
     match deed {
         Deed::Tick(gear, ts) => Ok(SiteInput::Tick { gear, ts }),
         Deed::Write(item, byte) => Ok(SiteInput::Write {
-            carried: Carried {
-                point: Point::zero(),
-                moving: None,
-            },
+            carried: seen(Point::zero()),
             item,
             value: value(alloc, byte)?,
         }),
-        Deed::Read(point, item) => Ok(SiteInput::Read {
-            carried: Carried {
-                point,
-                moving: None,
-            },
-            item,
-        }),
+        Deed::Read(carried, item) => Ok(SiteInput::Read { carried, item }),
         Deed::Gather => Ok(SiteInput::Gather),
         Deed::Emit => Ok(SiteInput::Emit),
         Deed::Turn(front) => Ok(SiteInput::Turn { front }),
@@ -140,6 +134,7 @@ fn outcome_of(answer: &Answer, sent: Option<Label>) -> Outcome {
         Answer::Shown(label) => Outcome::Shown(*label),
         Answer::Took(label) => Outcome::Took(*label),
         Answer::Brought(label) => Outcome::Brought(*label),
+        Answer::Again => Outcome::Again,
         Answer::Refused(refusal) => Outcome::Refused(*refusal),
         _ => Outcome::Other,
     }
@@ -162,8 +157,8 @@ fn play(alloc: Global, site: &mut Site, deeds: &[Deed]) -> Result<Vec<Outcome>, 
 #[test]
 fn equal_timestamps_go_by_gear(rt: HostRuntime) -> Result<(), Fail> {
     let alloc = rt.alloc();
-    let d = deployment(alloc)?;
-    let (first, second, own) = (update(1, 0, 0, 0), update(1, 0, 1, 1), update(1, 1, 0, 0));
+    let d = deployment(alloc, tree(alloc)?)?;
+    let (first, second) = (update(1, 0, 0, 0), update(1, 0, 1, 1));
     let mut site = Site::new(alloc, &d, 0)?;
     let deeds = [
         Deed::Write(0, b'1'),
@@ -182,30 +177,13 @@ fn equal_timestamps_go_by_gear(rt: HostRuntime) -> Result<(), Fail> {
         Outcome::Refused(Refusal::Idle),
     ];
     assert_eq!(rt; play(alloc, &mut site, &deeds)?.as_slice(), want.as_slice());
-    let mut other = Site::new(alloc, &d, 1)?;
-    let deeds = [
-        Deed::Write(0, b'3'),
-        Deed::Bulk(0, first, b'1'),
-        Deed::Turn(Some(first)),
-        Deed::Read(own.point, 0),
-    ];
-    let want = [
-        Outcome::Wrote(own),
-        Outcome::Brought(first),
-        Outcome::Shown(first),
-        Outcome::Read(own, Some(b'3')),
-    ];
-    assert_eq!(rt;
-        play(alloc, &mut other, &deeds)?.as_slice(),
-        want.as_slice()
-    );
     Ok(())
 }
 
 #[test]
 fn a_gear_that_promises_nothing_holds_all_back(rt: HostRuntime) -> Result<(), Fail> {
     let alloc = rt.alloc();
-    let d = deployment(alloc)?;
+    let d = deployment(alloc, tree(alloc)?)?;
     let first = update(1, 0, 0, 0);
     let mut site = Site::new(alloc, &d, 0)?;
     let deeds = [
@@ -233,22 +211,28 @@ fn a_gear_that_promises_nothing_holds_all_back(rt: HostRuntime) -> Result<(), Fa
 #[test]
 fn a_label_waits_for_its_payload(rt: HostRuntime) -> Result<(), Fail> {
     let alloc = rt.alloc();
-    let d = deployment(alloc)?;
+    let d = deployment(alloc, tree(alloc)?)?;
     let first = update(1, 0, 0, 0);
+    let close = Label {
+        point: point(2, 0, 0),
+        kind: Kind::Close(1),
+    };
     let mut site = Site::new(alloc, &d, 1)?;
     let deeds = [
-        Deed::Read(Point::zero(), 0),
+        Deed::Read(seen(Point::zero()), 0),
         Deed::Turn(Some(first)),
         Deed::Bulk(0, first, b'v'),
         Deed::Turn(Some(first)),
+        Deed::Turn(Some(close)),
         Deed::Turn(None),
-        Deed::Read(Point::zero(), 0),
+        Deed::Read(seen(Point::zero()), 0),
     ];
     let want = [
         Outcome::ReadNone,
         Outcome::Refused(Refusal::NoPayload(first)),
         Outcome::Brought(first),
         Outcome::Shown(first),
+        Outcome::Took(close),
         Outcome::Refused(Refusal::Empty),
         Outcome::Read(first, Some(b'v')),
     ];
@@ -257,31 +241,116 @@ fn a_label_waits_for_its_payload(rt: HostRuntime) -> Result<(), Fail> {
 }
 
 #[test]
-fn a_site_shows_what_it_keeps(rt: HostRuntime) -> Result<(), Fail> {
+fn payloads_come_in_any_order_and_again(rt: HostRuntime) -> Result<(), Fail> {
     let alloc = rt.alloc();
-    let d = deployment(alloc)?;
-    let first = update(8, 0, 1, 1);
-    let mut site = Site::new(alloc, &d, 0)?;
-    assert!(rt; site.version(1).is_none() && site.payload(1, 1, 0).is_none());
-    site.clock(7);
-    let input = input_of(alloc, Deed::Write(1, b'w'))?;
-    assert!(rt; site.fits(&input));
-    let output = site.step(input)?;
-    assert_eq!(rt;
-        outcome_of(&output.answer, output.sent),
-        Outcome::Wrote(first)
-    );
-    assert_eq!(rt; site.promise(0), 7);
-    assert_eq!(rt; site.promise(1), 8);
-    assert_eq!(rt; site.front(1, 0), 0);
-    assert_eq!(rt; site.version(1).ok_or("no version")?.label, first);
-    assert_eq!(rt; site.payload(1, 1, 0).ok_or("no payload")?.label, first);
-    let view = SiteView {
-        view: 1,
-        emission: 1,
-        stamp: false,
-        waiting: 0,
+    let d = deployment(alloc, tree(alloc)?)?;
+    let (first, second, third) = (update(1, 0, 0, 0), update(2, 0, 0, 0), update(3, 0, 0, 0));
+    let mut site = Site::new(alloc, &d, 1)?;
+    let deeds = [
+        Deed::Bulk(2, third, b'3'),
+        Deed::Bulk(0, first, b'1'),
+        Deed::Bulk(2, third, b'3'),
+        Deed::Turn(Some(first)),
+        Deed::Bulk(0, first, b'1'),
+        Deed::Bulk(1, second, b'2'),
+        Deed::Turn(Some(second)),
+        Deed::Turn(Some(third)),
+        Deed::Read(seen(Point::zero()), 0),
+    ];
+    let want = [
+        Outcome::Brought(third),
+        Outcome::Brought(first),
+        Outcome::Again,
+        Outcome::Shown(first),
+        Outcome::Again,
+        Outcome::Brought(second),
+        Outcome::Shown(second),
+        Outcome::Shown(third),
+        Outcome::Read(third, Some(b'3')),
+    ];
+    assert_eq!(rt; play(alloc, &mut site, &deeds)?.as_slice(), want.as_slice());
+    assert_eq!(rt; site.front(0, 0), 3);
+    Ok(())
+}
+
+#[test]
+fn stamp_order_has_no_links(rt: HostRuntime) -> Result<(), Fail> {
+    let alloc = rt.alloc();
+    let d = deployment(alloc, Plan::Stamp)?;
+    let (own, other) = (update(1, 1, 0, 0), update(1, 0, 0, 0));
+    let mut site = Site::new(alloc, &d, 1)?;
+    let deeds = [
+        Deed::Write(0, b'1'),
+        Deed::Tick(1, 1),
+        Deed::Gather,
+        Deed::Emit,
+        Deed::Turn(None),
+        Deed::Turn(Some(other)),
+    ];
+    let want = [
+        Outcome::Wrote(own),
+        Outcome::Ticked(1),
+        Outcome::Gathered(1, 1),
+        Outcome::Emitted(own, None),
+        Outcome::Refused(Refusal::StampOrder),
+        Outcome::Refused(Refusal::StampOrder),
+    ];
+    assert_eq!(rt; play(alloc, &mut site, &deeds)?.as_slice(), want.as_slice());
+    Ok(())
+}
+
+// How many of these fit.
+fn count_fits(alloc: Global, site: &Site, deeds: &[Deed]) -> Result<usize, Fail> {
+    let mut count: usize = 0;
+    for deed in deeds {
+        let input = input_of(alloc, *deed)?;
+        if site.fits(&input) && count < 1000 {
+            count += 1;
+        }
+    }
+    Ok(count)
+}
+
+#[test]
+fn what_a_site_is_handed_fits(rt: HostRuntime) -> Result<(), Fail> {
+    let alloc = rt.alloc();
+    let d = deployment(alloc, tree(alloc)?)?;
+    let mut site = Site::new(alloc, &d, 1)?;
+    let (first, second) = (update(1, 0, 0, 0), update(2, 0, 1, 0));
+    play(alloc, &mut site, &[Deed::Bulk(1, first, b'1')])?;
+    let close = Label {
+        point: point(5, 0, 0),
+        kind: Kind::Close(1),
     };
-    assert_eq!(rt; site.view(), view);
+    let fitting = [
+        Deed::Turn(Some(close)),
+        Deed::Turn(Some(update(TS_END, 0, 0, 1))),
+        Deed::Read(seen(point(TS_END, 1, 0)), 1),
+        Deed::Bulk(1, update(1, 0, 0, 1), b'2'),
+        Deed::Bulk(7, second, b'2'),
+    ];
+    assert_eq!(rt; count_fits(alloc, &site, &fitting)?, 5);
+    let later = Label {
+        point: point(5, 0, 0),
+        kind: Kind::Close(2),
+    };
+    let moving = Carried {
+        point: Point::zero(),
+        moving: Some(2),
+    };
+    let unfit = [
+        Deed::Tick(2, 1),
+        Deed::Tick(0, TS_END + 1),
+        Deed::Read(seen(Point::zero()), 2),
+        Deed::Read(seen(point(1, 2, 0)), 0),
+        Deed::Read(moving, 0),
+        Deed::Turn(Some(later)),
+        Deed::Turn(Some(update(TS_END + 1, 0, 0, 0))),
+        Deed::Turn(Some(update(1, 1, 0, 0))),
+        Deed::Bulk(0, update(1, 0, 0, 1), b'2'),
+        Deed::Bulk(0, update(1, 1, 0, 0), b'2'),
+        Deed::Bulk(1 << 63, second, b'2'),
+    ];
+    assert_eq!(rt; count_fits(alloc, &site, &unfit)?, 0);
     Ok(())
 }

@@ -6,9 +6,10 @@ ghost use Rattle.sat_label.specs.Words.{has};
 ghost use Rattle.sat_machine.specs.Look.{label_of};
 ghost use Rattle.sat_site.specs.Seen.{bears};
 ghost use Rattle.sat_site.specs.Changes.{IsTaken};
+ghost use Rattle.sat_site.specs.Inputs.{point_waits};
 
 use sat_bulk::Payload;
-use sat_label::Label;
+use sat_label::{Label, Point};
 use std::collections::VecDeque;
 
 // The place of the first with a label.
@@ -30,4 +31,13 @@ pub fn take(waiting: &mut VecDeque<Payload>, label: Label) -> Option<Payload>
     let place = place_of(waiting, &label)?;
     let payload = waiting.remove(place)?;
     Some(payload)
+}
+
+/// Whether a payload with a point waits.
+pub fn has_point(waiting: &VecDeque<Payload>, point: &Point) -> bool
+    ensures { result ≡ point_waits waiting.now.items point.now }
+{
+    waiting
+        .iter()
+        .any(|payload| payload.label.point.is_same(point))
 }

@@ -3,7 +3,7 @@ use Rattle.std.proofs.Common.{◌≡◌, ℕ, false, List, Option, Some, None, r
 use Rattle.std.specs.Prelude.{IfSome}
 use Rattle.sat_act.specs.Deployed.{Deployed}
 use Rattle.sat_act.specs.Limits.{IsDeployment}
-use Rattle.sat_act.specs.Built.{IsBuilt}
+use Rattle.sat_script.specs.Built.{IsBuilt}
 use Rattle.sat_act.specs.Headline.{IsGood}
 use Rattle.sat_laws.specs.Laws.{EveryHistoryIsGood}
 use Rattle.sat_script.specs.Spelled.{HaveNames}

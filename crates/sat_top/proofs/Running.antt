@@ -1,18 +1,19 @@
 -- One act more.
 use Rattle.std.proofs.Common.{◌≡◌, ℕ, ◌+◌, true, false, List, [], ◌∷◌, ◌++◌, length, refl, sym, ap, ◌∙◌, inl}
-use Rattle.std.specs.Prelude.{reverse}
+use Rattle.std.specs.Prelude.{reverse, None}
 use Rattle.std.proofs.lemmas.List.{reverse-append, length-append}
 use Rattle.sat_act.specs.declared.act.Act.{Act}
 use Rattle.sat_act.specs.declared.act.Act.TheVariants as act
 use Rattle.sat_act.specs.declared.answer.Answer.{Answer}
 use Rattle.sat_act.specs.declared.entry.Entry.{Entry}
 use Rattle.sat_act.specs.Deployed.{Deployed}
-use Rattle.sat_act.specs.Built.{is_built_act}
+use Rattle.sat_script.specs.Built.{is_built_act}
 use Rattle.sat_act.specs.Ranges.{IsActOf}
 use Rattle.sat_act.specs.Answers.{answer, InRange}
 use Rattle.sat_world.proofs.Built.{in-range}
 use Rattle.sat_act.specs.Runs.{IsRun, is_settle}
 use Rattle.sat_act.specs.Settling.{run, answer_of, with_inner}
+use Rattle.sat_world.specs.Built.{is_built_act as is_world_act}
 use Rattle.sat_world.specs.Seen.{WorldSeen}
 use Rattle.sat_world.specs.Stands.{StandsFor}
 use Rattle.sat_report.specs.Answers.{answers, answer_line, printed_count}
@@ -21,6 +22,19 @@ use Rattle.sat_top.specs.Running.{IsRunning}
 
 abbrev entry : Act → Answer → Entry
 entry a r = record { act = a; answer = r; inner = false }
+
+-- a world does each act that a script may have today
+pub world_does : (a : Act) → is_built_act a ≡ true → is_world_act a ≡ true
+world_does (act.Tick i g ts) b = refl
+world_does act.Clock b = refl
+world_does (act.Write c x value) b = refl
+world_does (act.Read c x) b = refl
+world_does (act.Gather i) b = refl
+world_does (act.Emit i) b = refl
+world_does (act.Hop epoch u z) b = refl
+world_does (act.Turn j) b = refl
+world_does (act.Bulk i g j None) b = refl
+world_does _ b = absurd (cc)
 
 -- a built act has no inner entries
 plain_answer : (d : Deployed) (h : List Entry) (a : Act) → is_built_act a ≡ true → answer_of d h a ≡ answer d h a

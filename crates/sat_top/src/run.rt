@@ -2,7 +2,7 @@
 ghost use Rattle.std.specs.Prelude.{◌≡◌, ◌+◌, ◌++◌, [], ◌∷◌, true, List, ◌≤◌, IfOk, IfSome, OnOk, length};
 ghost use Rattle.sat_act.specs.declared.act.Act.{Act};
 ghost use Rattle.sat_act.specs.Ranges.{IsActOf};
-ghost use Rattle.sat_act.specs.Built.{IsBuilt, is_built_act};
+ghost use Rattle.sat_script.specs.Built.{IsBuilt, is_built_act};
 ghost use Rattle.sat_act.specs.Limits.{IsDeployment};
 ghost use Rattle.sat_world.specs.Stands.{StandsFor};
 ghost use Rattle.sat_script.specs.Spelled.{HaveNames};

@@ -2,7 +2,7 @@
 ghost use Rattle.std.specs.Prelude.{◌≡◌, ℕ, ◌≤◌, ◌+◌, false, List, length, IfOk, IfSome, OnOk, OnErr, IsErrOf, None};
 ghost use Rattle.std.specs.Io.KnownBytes.{Consumes, IsAtEnd};
 ghost use Rattle.sat_act.specs.Limits.{IsDeployment};
-ghost use Rattle.sat_act.specs.Built.{IsBuilt};
+ghost use Rattle.sat_script.specs.Built.{IsBuilt};
 ghost use Rattle.sat_outside.specs.Causes.{Rose, HasCause};
 ghost use Rattle.sat_outside.specs.Streams.{Takes};
 ghost use Rattle.sat_script.specs.Spelled.{HaveNames};

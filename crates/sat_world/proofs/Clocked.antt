@@ -1,17 +1,16 @@
 -- The loops over promises and clocks.
 use Rattle.std.specs.Prelude.{◌≡◌, ◌⊎◌, ◌<◌, ◌≤◌, ◌+◌, ℕ, suc, false, ◌==◌, max, List, length, set, get_or, Some, slice_get, refl}
-use Rattle.std.proofs.Common.{sym, subst, ap, ◌∙◌, arith, inl, inr}
+use Rattle.std.proofs.Common.{sym, subst, ◌∙◌, arith, inl, inr}
 use Rattle.std.proofs.Math.Numerals.{add-one}
 use Rattle.std.proofs.lemmas.Bool.Decides.{nat_tests}
 use Rattle.sat_gear.specs.Gear.{GearSeen}
 use Rattle.sat_act.specs.Deployed.{Deployed}
-use Rattle.sat_act.specs.declared.answer.Answer.TheVariants as ans
 use Rattle.sat_machine.specs.State.{SiteState}
-use Rattle.sat_machine.specs.Input as given
-use Rattle.sat_site.specs.Seen.{SiteSeen}
+use Rattle.sat_site.specs.Seen.{SiteSeen, IsSite}
+use Rattle.sat_site.specs.Changes.{clocked}
 use Rattle.sat_site.specs.Stands.{StandsSite}
-use Rattle.sat_site.specs.Gives.{StandsBy, PromisesUpTo}
-use Rattle.sat_world.specs.Clocks.{greatest_of, IsTop, IsGreatestOf, AreUpTo, AreClocked}
+use Rattle.sat_site.specs.Gives.{PromisesUpTo}
+use Rattle.sat_world.specs.Clocks.{greatest_of, IsTop, IsGreatestOf, AreUpTo, IsClocked, AreClocked}
 use Rattle.sat_world.proofs.Lists.{get-is, set-cases, set-there, length-set, within, both-are}
 
 -- ---- the greatest promise
@@ -68,40 +67,31 @@ all-up-to-more xs n m p y long is old new i x at lt = λ g gear has. elim (split
 
 pub record RaisedTo (n ts : ℕ) (xs ys : List SiteSeen) : Type 0 where
   pub count : length ys ≡ length xs
-  pub stands : (i : ℕ) (x y : SiteSeen) → i < n → slice_get xs i ≡ Some x → slice_get ys i ≡ Some y → StandsBy x (given.Clock ts) (ans.Clocked ts) y
-  pub shapes : (i : ℕ) (x y : SiteSeen) → i < n → slice_get xs i ≡ Some x → slice_get ys i ≡ Some y → y.shape ≡ x.shape
+  pub each : (i : ℕ) (x y : SiteSeen) → i < n → slice_get xs i ≡ Some x → slice_get ys i ≡ Some y → IsClocked ts x y
   pub left : (i : ℕ) → n ≤ i → slice_get ys i ≡ slice_get xs i
 
 pub raised-none : (ts : ℕ) (xs : List SiteSeen) → RaisedTo 0 ts xs xs
 raised-none ts xs = record {
   count = refl;
-  stands = λ i x y lt. absurd (omega arith);
-  shapes = λ i x y lt. absurd (omega arith);
+  each = λ i x y lt. absurd (omega arith);
   left = λ i le. refl;
 }
 
-pub raised-more : (n ts : ℕ) (xs ys : List SiteSeen) (e z : SiteSeen) → RaisedTo n ts xs ys → n < length ys → StandsBy (get_or ys n e) (given.Clock ts) (ans.Clocked ts) z → z.shape ≡ (get_or ys n e).shape → RaisedTo (n + 1) ts xs (set ys n z)
-raised-more n ts xs ys e z r lt st sh = record {
+pub raised-more : (n ts : ℕ) (xs ys : List SiteSeen) (e z : SiteSeen) → RaisedTo n ts xs ys → n < length ys → IsSite (get_or ys n e) → z ≡ clocked (get_or ys n e) ts → RaisedTo (n + 1) ts xs (set ys n z)
+raised-more n ts xs ys e z r lt sound is = record {
   count = length-set ys n z ∙ r.count;
-  stands = λ i x w low at now. elim (set-cases ys n i z w now) [
-    | inl u ↦ subst (λ (w : SiteSeen). StandsBy x (given.Clock ts) (ans.Clocked ts) w) u.1 (subst (λ (x : SiteSeen). StandsBy x (given.Clock ts) (ans.Clocked ts) z) (old i x u.0 at) st)
-    | inr u ↦ r.stands i x w (less i u.0 low) at u.1
-  ];
-  shapes = λ i x w low at now. elim (set-cases ys n i z w now) [
-    | inl u ↦ subst (λ (w : SiteSeen). w.shape ≡ x.shape) u.1 (sh ∙ ap (λ (s : SiteSeen). s.shape) (old i x u.0 at))
-    | inr u ↦ r.shapes i x w (less i u.0 low) at u.1
+  each = λ i x w low at now. elim (set-cases ys n i z w now) [
+    | inl u ↦ subst (λ (w : SiteSeen). IsClocked ts x w) u.1 (subst (λ (x : SiteSeen). IsClocked ts x z) (old i x u.0 at) (record { sound = sound; after = is }))
+    | inr u ↦ r.each i x w (less i u.0 low) at u.1
   ];
   left = λ i le. set-there ys n i z (apart i le) ∙ r.left i (omega arith);
 }
   where
-    y : SiteSeen
-    y = get_or ys n e
-
-    here : slice_get ys n ≡ Some y
+    here : slice_get ys n ≡ Some (get_or ys n e)
     here = get-is ys n e lt
 
-    old : (i : ℕ) (x : SiteSeen) → n ≡ i → slice_get xs i ≡ Some x → y ≡ x
-    old i x f at = both-are (slice_get ys n) y x here (r.left n (omega arith) ∙ subst (λ (i : ℕ). slice_get xs i ≡ Some x) (sym f) at)
+    old : (i : ℕ) (x : SiteSeen) → n ≡ i → slice_get xs i ≡ Some x → get_or ys n e ≡ x
+    old i x f at = both-are (slice_get ys n) (get_or ys n e) x here (r.left n (omega arith) ∙ subst (λ (i : ℕ). slice_get xs i ≡ Some x) (sym f) at)
 
     less : (i : ℕ) → (n == i) ≡ false → i < n + 1 → i < n
     less i ne low = grind (arith, nat_tests)
@@ -112,8 +102,7 @@ raised-more n ts xs ys e z r lt st sh = record {
 pub raised-all : (n ts : ℕ) (xs ys : List SiteSeen) → RaisedTo n ts xs ys → length xs ≤ n → AreClocked ts xs ys
 raised-all n ts xs ys r long = record {
   count = r.count;
-  stands = λ i x y at now. let lt : i < length xs = within xs i x at in r.stands i x y (omega arith) at now;
-  shapes = λ i x y at now. let lt : i < length xs = within xs i x at in r.shapes i x y (omega arith) at now;
+  each = λ i x y at now. let lt : i < length xs = within xs i x at in r.each i x y (omega arith) at now;
 }
 
 pub left-up-to : (n ts : ℕ) (xs ys : List SiteSeen) (e : SiteSeen) → RaisedTo n ts xs ys → n < length ys → AreUpTo xs ts → PromisesUpTo (get_or ys n e) ts

@@ -1,83 +1,257 @@
 -- From what the code knows of its fields to what an act does to a world.
-use Rattle.std.specs.Prelude.{◌≡◌, ◌<◌, ◌++◌, ℕ, ◌==◌, List, [], ◌∷◌, length, set, get_or, take, drop, Option, Some, None, slice_get, unwrap_or, refl}
+use Rattle.std.specs.Prelude.{◌≡◌, ◌<◌, ◌≤◌, ◌+◌, ◌-◌, ◌^◌, ℕ, true, List, [], ◌∷◌, ◌++◌, length, set, get_or, take, drop, Option, Some, None, IsSome, slice_get, refl}
 use Rattle.std.proofs.Common.{sym, subst, ap, ◌∙◌, arith}
-use Rattle.std.specs.Option.{option_to_list}
-use Rattle.sat_label.specs.declared.label.Label.{Label}
+use Rattle.std.proofs.lemmas.List.{length-map}
 use Rattle.sat_label.specs.declared.carried.Carried.{Carried}
-use Rattle.sat_label.specs.declared.point.Point.{Point}
+use Rattle.sat_label.specs.declared.label.Kind.{Kind}
+use Rattle.sat_label.specs.declared.label.Kind.TheVariants as kind
+use Rattle.sat_label.specs.declared.label.Label.{Label}
 use Rattle.sat_label.specs.declared.node.NodeId.{NodeId}
-use Rattle.sat_label.specs.declared.node.NodeId.TheVariants.{Site, Serializer}
+use Rattle.sat_label.specs.declared.node.NodeId.TheVariants.{Serializer}
+use Rattle.sat_label.specs.Members.{In}
+use Rattle.sat_label.proofs.Members.{In-get}
 use Rattle.sat_bulk.specs.declared.Payload.{Payload}
-use Rattle.sat_sites.specs.Interested.{is_for}
+use Rattle.sat_sites.specs.Interested.{Interested, IsLabelOf, IsKindOf}
 use Rattle.sat_sites.specs.declared.shape.Shape.{Shape}
 use Rattle.sat_tree.specs.Shape.{TreeShape}
-use Rattle.sat_tree.specs.Cut.{seat_of}
-use Rattle.sat_act.specs.declared.act.Act.{Act}
+use Rattle.sat_tree.specs.Cut.{is_edge, IsNode}
 use Rattle.sat_act.specs.declared.act.Act.TheVariants as act
-use Rattle.sat_act.specs.declared.answer.Answer.TheVariants as ans
-use Rattle.sat_act.specs.declared.answer.Refusal.TheVariants as why
-use Rattle.sat_act.specs.Limits.{IsDeployment}
-use Rattle.sat_machine.specs.Input as given
-use Rattle.sat_serial.specs.Routes.{Arrives, IsNeighbour}
-use Rattle.sat_serial.specs.Outboxes.{SerializerSeen, outbox}
-use Rattle.sat_site.specs.Seen.{SiteSeen, IsGuest, taken_of}
-use Rattle.sat_site.specs.Inputs.{Fits}
-use Rattle.sat_site.specs.declared.input.SiteInput.TheVariants as input
-use Rattle.sat_site.specs.Gives.{IsOfLane}
 use Rattle.sat_act.specs.declared.answer.Answer.{Answer}
+use Rattle.sat_act.specs.declared.answer.Answer.TheVariants as ans
+use Rattle.sat_act.specs.declared.answer.Refusal.{Refusal}
+use Rattle.sat_act.specs.declared.answer.Refusal.TheVariants as why
+use Rattle.sat_act.specs.Settling.{is_done}
+use Rattle.sat_laws.proofs.Labels.{some_is}
+use Rattle.sat_act.specs.Deployed.{Deployed}
+use Rattle.sat_act.specs.Limits.{IsDeployment}
+use Rattle.sat_act.specs.Parts.{tree_of}
 use Rattle.sat_act.specs.Ranges.{IsActOf}
-use Rattle.sat_world.specs.declared.client.Client.{Client}
-use Rattle.sat_world.specs.Clocks.{IsGreatest, AreClocked}
-use Rattle.sat_world.specs.Seen.{WorldSeen, HasSite, HasSerializer, HasOutgoing, HasClient, tree_in, shape_of}
-use Rattle.sat_world.specs.Acts.{Acts, StepsAt, HandsAt, ShipsAt, TakesAt, IsNumber, IsInLane, seen_by, told, clients_told, clocks, writes, reads, emits, finds_none, finds_nothing, hops_up, hops_on, turns, brings_none, brings}
-use Rattle.sat_world.specs.Orderly.{IsOnLink, IsPlaced, IsOrderly}
-use Rattle.sat_world.proofs.Lists.{index-at, both-are, get-is, within, length-set, none-empty}
-use Rattle.sat_world.proofs.Edges.{IsHop, is-hop, hop-neighbour, next-neighbour, seat-neighbour, at-seat, all-seated, is-tree, comes-for, comes-from}
-use Rattle.sat_world.proofs.Kept.{kept, hands-kept}
+use Rattle.sat_act.proofs.Plans.{tree_in_plans}
+use Rattle.sat_act.proofs.Valid.{is_valid}
+use Rattle.sat_client.specs.declared.client.Client.{Client}
+use Rattle.sat_machine.specs.Interests.{interest_of, replicas_of}
+use Rattle.sat_machine.specs.OnLinks.{HasKind, IsOnLink}
+use Rattle.sat_machine.specs.World.{world_state, link_left}
+use Rattle.sat_machine.proofs.OnLinks.{links-lead}
+use Rattle.sat_net.specs.Nets.{NetSeen, link_of, MayHop}
+use Rattle.sat_net.specs.NetStands.{IsNetOf}
+use Rattle.sat_site.specs.declared.input.SiteInput.TheVariants as input
+use Rattle.sat_site.specs.Seen.{SiteSeen, IsSite}
+use Rattle.sat_site.specs.Changes.{gear_at, shape_for}
+use Rattle.sat_site.specs.Inputs.{fits_in}
+use Rattle.sat_site.specs.SiteSteps.{keeps_item, refusal_of, site_answers, site_sends, write_answer, write_refusal}
+use Rattle.sat_world.specs.Clocks.{IsGreatest, AreUpTo, AreClocked}
+use Rattle.sat_world.specs.Seen.{WorldSeen, HasSite, HasClient}
+use Rattle.sat_world.specs.Steps.{Goes, StepsAt, Hands, told, net_sent, net_taken, front_to, NetAt, HopsAt}
+use Rattle.sat_world.specs.Worlds.{IsWorld}
+use Rattle.sat_world.proofs.Laws.{each-step, leads-to}
+use Rattle.sat_world.proofs.Lists.{both-are, get-is, set-same, within}
+use Rattle.sat_world.proofs.Goes.{quiet-goes, use-goes, emit-goes, turn-goes, turn-hands, front-found}
+use Rattle.sat_world.proofs.Hands.{fit-here, site-within, site-at, write-hands, read-hands, write-none, read-none, write-told, read-told, bulk-hands, bulk-none, small-bulk, IsNext, IsInLane}
+use Rattle.sat_world.proofs.Hops.{IsEdge, hop-goes, clock-goes}
 
--- what an act does to w it does to the same world v
-pub seen-as : (w v u : WorldSeen) (a : Act) (r : Answer) → w ≡ v → Acts w a r u → Acts v a r u
-seen-as w v u a r e k = subst (λ (v : WorldSeen). Acts v a r u) e k
+-- what stands at a place
+pub there : {X : Type 0} (xs : List X) (n : ℕ) → n < length xs → (x : X) × (slice_get xs n ≡ Some x)
+there [] n lt = absurd (omega arith)
+there (x ∷ xs) n lt = (get_or (x ∷ xs) n x, get-is (x ∷ xs) n x lt)
 
--- what holds all along holds after it
-pub stays : (w v u : WorldSeen) (a : Act) (r : Answer) → w ≡ v → IsOrderly w → IsActOf v.deployment a → Acts w a r u → IsOrderly u
-stays w v u a r e k b f = kept w u a r k (subst (λ (v : WorldSeen). IsActOf v.deployment a) (sym e) b) f
+-- the world that the code sees is the one of its fields
+same-sites : (w v : WorldSeen) (i : ℕ) → w ≡ v → i < v.deployment.sites → i < w.deployment.sites
+same-sites w v i e lt = subst (λ (v : WorldSeen). i < v.deployment.sites) (sym e) lt
 
--- ---- what the code reads of a world
+-- ---- epochs
 
-pub deployment-of : (w v : WorldSeen) → w ≡ v → IsOrderly w → IsDeployment v.deployment
-deployment-of w v e k = (subst IsOrderly e k).deployment
+-- the place of an epoch's net
+pub record Placed (w : WorldSeen) (m : ℕ) : Type 0 where
+  pub within : m - 1 < length w.nets
+  pub above : m ≡ (m - 1) + 1
 
-pub site-at : (w v : WorldSeen) (i : ℕ) (x : SiteSeen) → w ≡ v → IsOrderly w → i < v.deployment.sites → x ≡ get_or w.sites i x → HasSite v i x
-site-at w v i x e k lt is = subst (λ (v : WorldSeen). HasSite v i x) e (index-at w.sites i x (site-within w v i e k lt) is)
-  where
-    site-within : (w v : WorldSeen) (i : ℕ) → w ≡ v → IsOrderly w → i < v.deployment.sites → i < length w.sites
-    site-within w v i e k lt = let a : length w.sites ≡ w.deployment.sites = k.sites in let b : w.deployment.sites ≡ v.deployment.sites = ap (λ (w : WorldSeen). w.deployment.sites) e in omega arith
+epoch-placed : (w : WorldSeen) (i m : ℕ) (x : SiteSeen) → IsWorld w → HasSite w i x → 1 ≤ m → m ≤ length x.views.stamp → Placed w m
+epoch-placed w i m x k at low high =
+    let st = k.stands.sites i x at in
+    let a : length x.views.stamp ≡ length w.deployment.plans = st.views.count in
+    let b : length w.nets ≡ length w.deployment.plans = k.frame.nets in
+    record { within = omega arith; above = omega arith }
 
-client-at : (w v : WorldSeen) (c : ℕ) (x : Client) → w ≡ v → IsOrderly w → c < length v.deployment.clients → x ≡ get_or w.clients c x → HasClient w c x
-client-at w v c x e k lt is =
-    let a : length w.clients ≡ length w.deployment.clients = k.clients in
-    let b : length w.deployment.clients ≡ length v.deployment.clients = ap (λ (w : WorldSeen). length w.deployment.clients) e in
-    index-at w.clients c x (omega arith) is
+-- that of a site's emission epoch, and of its view
+pub emission-placed : (w : WorldSeen) (i m : ℕ) (x : SiteSeen) → IsWorld w → HasSite w i x → IsSite x → m ≡ x.views.emission → Placed w m
+emission-placed w i m x k at sound e =
+    let a : 1 ≤ x.views.view = sound.epochs.start in let b : x.views.view ≤ x.views.emission = sound.epochs.low in let c : x.views.emission ≤ length x.views.stamp = sound.epochs.last in
+    epoch-placed w i m x k at (omega arith) (omega arith)
+
+pub view-placed : (w : WorldSeen) (i m : ℕ) (x : SiteSeen) → IsWorld w → HasSite w i x → IsSite x → m ≡ x.views.view → Placed w m
+view-placed w i m x k at sound e =
+    let a : 1 ≤ x.views.view = sound.epochs.start in let b : x.views.view ≤ x.views.emission = sound.epochs.low in let c : x.views.emission ≤ length x.views.stamp = sound.epochs.last in
+    epoch-placed w i m x k at (omega arith) (omega arith)
+
+-- each site has a seat in each net
+pub net-seat : (w v : WorldSeen) (i n : ℕ) (net : NetSeen) → w ≡ v → IsWorld w → i < v.deployment.sites → slice_get w.nets n ≡ Some (Some net) → i < length net.tree.seats
+net-seat w v i n net e k lt at =
+    let of : IsNetOf w.deployment (n + 1) net = k.frame.planted n (Some net) at in
+    let a : length net.tree.seats ≡ w.deployment.sites = of.deployment.all_seated (n + 1) net.tree of.tree in
+    let b : i < w.deployment.sites = same-sites w v i e lt in omega arith
+
+-- ---- emit
+
+pub did-emit : (w v : WorldSeen) (i m : ℕ) (x : SiteSeen) (sent : Option Label) (r : Answer) (o : Option Label) (ys : List SiteSeen) (nets : List (Option NetSeen)) → w ≡ v → IsWorld w → i < v.deployment.sites → x ≡ get_or w.sites i x → IsSite x → m ≡ x.views.emission →
+    sent ≡ site_sends x input.Emit → ((q : Option NetSeen) → slice_get w.nets (m - 1) ≡ Some q → NetAt w.nets (m - 1) q (net_sent q i sent) nets) → StepsAt w.sites i input.Emit r o ys → Goes w (act.Emit i) r (record w { sites = ys; nets = nets })
+did-emit w v i m x sent r o ys nets e k lt is sound epoch s net h =
+    let at : HasSite w i x = site-at w v i x e k lt is in
+    let place : Placed w m = emission-placed w i m x k at sound epoch in
+    let q = there w.nets (m - 1) place.within in
+    let few : m - 1 < length w.deployment.plans = (let b : length w.nets ≡ length w.deployment.plans = k.frame.nets in let a : m - 1 < length w.nets = place.within in omega arith) in
+    let same : sent ≡ o = s ∙ (ap (λ (x : SiteSeen). site_sends x input.Emit) (both-are (slice_get w.sites i) x h.before at h.at) ∙ sym h.sends) in
+    emit-goes w i (m - 1) q.0 r o ys nets k.frame (same-sites w v i e lt)
+    (λ y here. ap (λ (z : SiteSeen). z.views.emission) (both-are (slice_get w.sites i) y x here at) ∙ (sym epoch ∙ place.above)) few h
+    (subst (λ (o : Option Label). NetAt w.nets (m - 1) q.0 (net_sent q.0 i o) nets) same (net q.0 q.1))
+
+-- ---- turn
+
+-- what the code finds at the front
+abbrev pub IsFrontIn : List (Option NetSeen) → ℕ → ℕ → Option Label → Type 0
+IsFrontIn nets m j front = (q : Option NetSeen) → slice_get nets (m - 1) ≡ Some q → front ≡ front_to q j
+
+pub seen-front : (nets : List (Option NetSeen)) (m j : ℕ) (front : Option Label) (ns : List (Option NetSeen)) → ns ≡ nets → ((q : Option NetSeen) → slice_get ns (m - 1) ≡ Some q → front ≡ front_to q j) → IsFrontIn nets m j front
+seen-front nets m j front ns e f = λ q at. f q (ap (λ (ns : List (Option NetSeen)). slice_get ns (m - 1)) e ∙ at)
+
+pub turn-handed : (w v : WorldSeen) (j m : ℕ) (x : SiteSeen) (front : Option Label) → w ≡ v → IsWorld w → j < v.deployment.sites → x ≡ get_or w.sites j x → IsSite x → m ≡ x.views.view → IsFrontIn w.nets m j front → Hands w (act.Turn j) j (input.Turn front)
+turn-handed w v j m x front e k lt is sound view f =
+    let at : HasSite w j x = site-at w v j x e k lt is in
+    let place : Placed w m = view-placed w j m x k at sound view in
+    let q = there w.nets (m - 1) place.within in
+    record {
+      hands = λ s st. turn-hands w.deployment s j front (front-found w.deployment s j (m - 1) q.0 (same-sites w v j e lt) (sym (st.sites j x at).views.view ∙ (sym view ∙ place.above)) (k.frame.planted (m - 1) q.0 q.1) (λ n is. st.nets (m - 1) n (q.1 ∙ ap (λ (o : Option NetSeen). Some o) is)) ∙ sym (f q.0 q.1));
+      small = refl;
+    }
+
+pub did-turn : (w v : WorldSeen) (j m : ℕ) (x : SiteSeen) (front : Option Label) (r : Answer) (o : Option Label) (ys : List SiteSeen) (nets : List (Option NetSeen)) → w ≡ v → IsWorld w → j < v.deployment.sites → x ≡ get_or w.sites j x → IsSite x → m ≡ x.views.view → IsFrontIn w.nets m j front →
+    StepsAt w.sites j (input.Turn front) r o ys → ((q : Option NetSeen) → slice_get w.nets (m - 1) ≡ Some q → NetAt w.nets (m - 1) q (net_taken r q j) nets) → Goes w (act.Turn j) r (record w { sites = ys; nets = nets })
+did-turn w v j m x front r o ys nets e k lt is sound view f h net =
+    let at : HasSite w j x = site-at w v j x e k lt is in
+    let place : Placed w m = view-placed w j m x k at sound view in
+    let q = there w.nets (m - 1) place.within in
+    turn-goes w j (m - 1) q.0 r o ys nets k.frame (same-sites w v j e lt)
+    (λ y here. ap (λ (z : SiteSeen). z.views.view) (both-are (slice_get w.sites j) y x here at) ∙ (sym view ∙ place.above))
+    (subst (λ (front : Option Label). StepsAt w.sites j (input.Turn front) r o ys) (f q.0 q.1) h) (net q.0 q.1)
+
+-- ---- hop
+
+-- a hop that has a line: its epoch has a place, with a net that has the edge
+pub hop-placed : (w v : WorldSeen) (e : ℕ) (u : NodeId) (z : ℕ) → w ≡ v → IsWorld w → IsActOf v.deployment (act.Hop e u z) → Placed w e
+hop-placed w v e u z is k b =
+    let a : IsActOf w.deployment (act.Hop e u z) = subst (λ (v : WorldSeen). IsActOf v.deployment (act.Hop e u z)) (sym is) b in
+    let p = tree_in_plans w.deployment e a.0 a.2 in
+    let lt : e - 1 < length w.deployment.plans = within w.deployment.plans (e - 1) _ p.1 in
+    let n : length w.nets ≡ length w.deployment.plans = k.frame.nets in
+    let low : 1 ≤ e = p.0 in
+    record { within = omega arith; above = omega arith }
+
+-- the tree that the hop's line speaks of is that of the net at the place
+hop-tree : (w : WorldSeen) (e : ℕ) (u : NodeId) (z : ℕ) (o : Option NetSeen) → IsWorld w → IsActOf w.deployment (act.Hop e u z) → Placed w e → slice_get w.nets (e - 1) ≡ Some o → (net : NetSeen) × (o ≡ Some net)
+hop-tree w e u z None k a p at = absurd (let f : tree_of w.deployment ((e - 1) + 1) ≡ None = k.frame.planted (e - 1) None at in let g : tree_of w.deployment ((e - 1) + 1) ≡ Some a.0 = ap (tree_of w.deployment) (sym p.above) ∙ a.2 in cc)
+hop-tree w e u z (Some net) k a p at = (net, refl)
+
+pub hop-there : (w v : WorldSeen) (e : ℕ) (u : NodeId) (z : ℕ) (o : Option NetSeen) → w ≡ v → IsWorld w → IsActOf v.deployment (act.Hop e u z) → slice_get w.nets (e - 1) ≡ Some o → IsSome o
+hop-there w v e u z o is k b at =
+    let a : IsActOf w.deployment (act.Hop e u z) = subst (λ (v : WorldSeen). IsActOf v.deployment (act.Hop e u z)) (sym is) b in
+    let q = hop-tree w e u z o k a (hop-placed w v e u z is k b) at in subst IsSome (sym q.1) refl
+
+same-net-tree : (w : WorldSeen) (e : ℕ) (u : NodeId) (z : ℕ) (net : NetSeen) → (a : IsActOf w.deployment (act.Hop e u z)) → Placed w e → IsNetOf w.deployment ((e - 1) + 1) net → a.0 ≡ net.tree
+same-net-tree w e u z net a p of = both-are (tree_of w.deployment e) a.0 net.tree a.2 (ap (tree_of w.deployment) p.above ∙ of.tree)
+
+pub hop-edge : (w v : WorldSeen) (e : ℕ) (u : NodeId) (z : ℕ) (net : NetSeen) → w ≡ v → IsWorld w → IsActOf v.deployment (act.Hop e u z) → slice_get w.nets (e - 1) ≡ Some (Some net) → IsEdge w.deployment (e - 1) net u z
+hop-edge w v e u z net is k b at =
+    let a : IsActOf w.deployment (act.Hop e u z) = subst (λ (v : WorldSeen). IsActOf v.deployment (act.Hop e u z)) (sym is) b in
+    let p : Placed w e = hop-placed w v e u z is k b in
+    let of : IsNetOf w.deployment ((e - 1) + 1) net = k.frame.planted (e - 1) (Some net) at in
+    let t : a.0 ≡ net.tree = same-net-tree w e u z net a p of in
+    let edge : is_edge net.tree u (Serializer z) ≡ true = subst (λ (t : TreeShape). is_edge t u (Serializer z) ≡ true) t a.4 in
+    record { node = subst (λ (t : TreeShape). IsNode t u) t a.3; end = Rattle.sat_net.proofs.Edges.edge-within net.tree u z of.net.tree edge; edge = edge }
+
+has-kind : (d : Deployed) (k : Kind) → HasKind d k → IsKindOf (interest_of d) k
+has-kind d (kind.Update x) h = subst (λ (n : ℕ). x < n) (sym (length-map d.items replicas_of)) h
+has-kind d (kind.Move j) h = h
+has-kind d kind.Pulse h = h
+has-kind d (kind.Close e) h = h
+
+-- a label at the front of a link of a world
+front-on : (w : WorldSeen) (n : ℕ) (net : NetSeen) (u : NodeId) (z : ℕ) (l : Label) → IsWorld w → slice_get w.nets n ≡ Some (Some net) → IsEdge w.deployment n net u z → slice_get (link_of net u (Serializer z)) 0 ≡ Some l → IsOnLink w.deployment net.tree u (Serializer z) l
+unfolding world_state
+front-on w n net u z l k at edge front =
+    let of : IsNetOf w.deployment (n + 1) net = k.frame.planted n (Some net) at in
+    let same : link_of net u (Serializer z) ≡ link_left w.deployment k.history (n + 1) u (Serializer z) = (k.stands.nets n net at).each u (Serializer z) edge.node edge.end edge.edge in
+    links-lead w.deployment k.history (n + 1) net.tree u (Serializer z) l (is_valid w.deployment k.frame.deployment) k.run of.tree
+    (subst (λ (ls : List Label). In ls l) same (In-get (link_of net u (Serializer z)) 0 l front))
+
+pub hop-may : (w v : WorldSeen) (e : ℕ) (u : NodeId) (z : ℕ) (net : NetSeen) → w ≡ v → IsWorld w → IsActOf v.deployment (act.Hop e u z) → slice_get w.nets (e - 1) ≡ Some (Some net) → MayHop net w.interest u z
+hop-may w v e u z net is k b at =
+    let edge : IsEdge w.deployment (e - 1) net u z = hop-edge w v e u z net is k b at in
+    let of : IsNetOf w.deployment ((e - 1) + 1) net = k.frame.planted (e - 1) (Some net) at in
+    record {
+      sites = ap (λ (a : Interested). a.sites) k.frame.interest ∙ sym (of.deployment.all_seated ((e - 1) + 1) net.tree of.tree);
+      node = edge.node;
+      edge = edge.edge;
+      label = λ l alive front. let o : IsOnLink w.deployment net.tree u (Serializer z) l = front-on w (e - 1) net u z l k at edge front in
+          subst (λ (a : Interested). IsLabelOf a l) (sym k.frame.interest) (record { own = o.site; kind = has-kind w.deployment l.kind o.kind });
+      target = λ l alive front. leads-to w.deployment w.interest net.tree u (Serializer z) l k.frame.interest ∙ (front-on w (e - 1) net u z l k at edge front).target;
+    }
+
+pub did-hop : (w v : WorldSeen) (e : ℕ) (u : NodeId) (z : ℕ) (r : Answer) (nets : List (Option NetSeen)) → w ≡ v → IsWorld w → IsActOf v.deployment (act.Hop e u z) → HopsAt w.nets (e - 1) w.interest u z r nets → Goes w (act.Hop e u z) r (record w { nets = nets })
+did-hop w v e u z r nets is k b h =
+    subst (λ (m : ℕ). Goes w (act.Hop m u z) r (record w { nets = nets })) (sym (hop-placed w v e u z is k b).above)
+    (hop-goes w (e - 1) u z r nets k.frame h (hop-edge w v e u z h.before is k b h.at))
 
 -- ---- write and read
 
-client-told : (w : WorldSeen) (c : ℕ) (k m : Client) (r : Answer) (p : Point) → HasClient w c k → HasClient w c m → p ≡ told r k.carried → clients_told w c k r ≡ set w.clients c (record { carried = p; seat = m.seat })
-client-told w c k m r p h g e = λ i. set w.clients c (record { carried = sym e i; seat = (both-are (slice_get w.clients c) k m h g i).seat })
+pub write-handed : (w v : WorldSeen) (c i n : ℕ) (value copy : List ℕ) (x : Client) → w ≡ v → IsWorld w → c < length v.deployment.clients → x ≡ get_or w.clients c x → x.seat ≡ Some i → copy ≡ value → Hands w (act.Write c n value) i (input.Write x.carried n copy)
+write-handed w v c i n value copy x e k lt is seat same =
+    subst (λ (u : List ℕ). Hands w (act.Write c n value) i (input.Write x.carried n u)) (sym same) (write-hands w c x i (Rattle.sat_world.proofs.Hands.client-at w v c x e k lt is) seat n value)
 
-pub did-write : (w v : WorldSeen) (c x : ℕ) (value copy : List ℕ) (k m : Client) (seen : Carried) (r : Answer) (o : Option Label) (ys : List SiteSeen) (p : Point) → w ≡ v → IsOrderly w → c < length v.deployment.clients → k ≡ get_or w.clients c k → m ≡ get_or w.clients c m → seen ≡ seen_by k → copy ≡ value → p ≡ told r k.carried →
-    StepsAt w.sites k.seat (given.Write seen x copy) r o ys → Acts w (act.Write c x value) r (record w { sites = ys; clients = set w.clients c (record { carried = p; seat = m.seat }) })
-did-write w v c x value copy k m seen r o ys p e ord lt is also se ce pe st =
-    let h : HasClient w c k = client-at w v c k e ord lt is in
-    subst (λ (cl : List Client). Acts w (act.Write c x value) r (record w { sites = ys; clients = cl })) (client-told w c k m r p h (client-at w v c m e ord lt also) pe)
-    (writes k h (subst (λ (y : Carried). StepsAt w.sites k.seat (given.Write y x value) r o ys) se (subst (λ (u : List ℕ). StepsAt w.sites k.seat (given.Write seen x u) r o ys) ce st)))
+pub did-write : (w v : WorldSeen) (c i n : ℕ) (value copy : List ℕ) (x : Client) (r : Answer) (o : Option Label) (ys : List SiteSeen) (now : List Client) → w ≡ v → IsWorld w → c < length v.deployment.clients → x ≡ get_or w.clients c x → x.seat ≡ Some i → copy ≡ value →
+    StepsAt w.sites i (input.Write x.carried n copy) r o ys → ((y : Client) → slice_get w.clients c ≡ Some y → now ≡ set w.clients c (told r y)) → Goes w (act.Write c n value) r (record w { sites = ys; clients = now })
+did-write w v c i n value copy x r o ys now e k lt is seat same h tells =
+    let at : HasClient w c x = Rattle.sat_world.proofs.Hands.client-at w v c x e k lt is in
+    let g : StepsAt w.sites i (input.Write x.carried n value) r o ys = subst (λ (u : List ℕ). StepsAt w.sites i (input.Write x.carried n u) r o ys) same h in
+    use-goes w (act.Write c n value) c x i (input.Write x.carried n value) r o ys now k.frame refl refl at (write-told w.sites ys i x.carried n value r o g) (write-hands w c x i at seat n value) g (tells x at)
 
-pub did-read : (w v : WorldSeen) (c x : ℕ) (k m : Client) (seen : Carried) (r : Answer) (o : Option Label) (ys : List SiteSeen) (p : Point) → w ≡ v → IsOrderly w → c < length v.deployment.clients → k ≡ get_or w.clients c k → m ≡ get_or w.clients c m → seen ≡ seen_by k → p ≡ told r k.carried →
-    StepsAt w.sites k.seat (given.Read seen x) r o ys → Acts w (act.Read c x) r (record w { sites = ys; clients = set w.clients c (record { carried = p; seat = m.seat }) })
-did-read w v c x k m seen r o ys p e ord lt is also se pe st =
-    let h : HasClient w c k = client-at w v c k e ord lt is in
-    subst (λ (cl : List Client). Acts w (act.Read c x) r (record w { sites = ys; clients = cl })) (client-told w c k m r p h (client-at w v c m e ord lt also) pe)
-    (reads k h (subst (λ (y : Carried). StepsAt w.sites k.seat (given.Read y x) r o ys) se st))
+pub did-read : (w v : WorldSeen) (c i n : ℕ) (x : Client) (r : Answer) (o : Option Label) (ys : List SiteSeen) (now : List Client) → w ≡ v → IsWorld w → c < length v.deployment.clients → x ≡ get_or w.clients c x → x.seat ≡ Some i →
+    StepsAt w.sites i (input.Read x.carried n) r o ys → ((y : Client) → slice_get w.clients c ≡ Some y → now ≡ set w.clients c (told r y)) → Goes w (act.Read c n) r (record w { sites = ys; clients = now })
+did-read w v c i n x r o ys now e k lt is seat h tells =
+    let at : HasClient w c x = Rattle.sat_world.proofs.Hands.client-at w v c x e k lt is in
+    use-goes w (act.Read c n) c x i (input.Read x.carried n) r o ys now k.frame refl refl at (read-told w.sites ys i x.carried n r o h) (read-hands w c x i at seat n) h (tells x at)
+
+pub did-not-write : (w v : WorldSeen) (c n : ℕ) (value : List ℕ) (x : Client) → w ≡ v → IsWorld w → c < length v.deployment.clients → x ≡ get_or w.clients c x → x.seat ≡ None → Goes v (act.Write c n value) (ans.Refused why.NoSession) v
+did-not-write w v c n value x e k lt is none =
+    let at : HasClient w c x = Rattle.sat_world.proofs.Hands.client-at w v c x e k lt is in
+    subst (λ (v : WorldSeen). Goes v (act.Write c n value) (ans.Refused why.NoSession) v) e (quiet-goes w (act.Write c n value) why.NoSession k.frame (write-none w c x at none n value))
+
+pub did-not-read : (w v : WorldSeen) (c n : ℕ) (x : Client) → w ≡ v → IsWorld w → c < length v.deployment.clients → x ≡ get_or w.clients c x → x.seat ≡ None → Goes v (act.Read c n) (ans.Refused why.NoSession) v
+did-not-read w v c n x e k lt is none =
+    let at : HasClient w c x = Rattle.sat_world.proofs.Hands.client-at w v c x e k lt is in
+    subst (λ (v : WorldSeen). Goes v (act.Read c n) (ans.Refused why.NoSession) v) e (quiet-goes w (act.Read c n) why.NoSession k.frame (read-none w c x at none n))
+
+-- ---- bulk
+
+-- what a site was made from
+pub shape-at : (w v : WorldSeen) (i : ℕ) (x : SiteSeen) → w ≡ v → IsWorld w → i < v.deployment.sites → x ≡ get_or w.sites i x → x.shape ≡ shape_for v.deployment i
+shape-at w v i x e k lt is = subst (λ (v : WorldSeen). x.shape ≡ shape_for v.deployment i) e (k.stands.sites i x (site-at w v i x e k lt is)).shape
+
+-- numbers of sites and gears of the deployment are numbers of theirs for it
+pub lane-site : (w v : WorldSeen) (i j : ℕ) (x : SiteSeen) → w ≡ v → IsWorld w → i < v.deployment.sites → x ≡ get_or w.sites i x → j < v.deployment.sites → j < x.shape.sites
+lane-site w v i j x e k lt is m = subst (λ (s : Shape). j < s.sites) (sym (shape-at w v i x e k lt is)) m
+
+pub lane-gear : (w v : WorldSeen) (i g : ℕ) (x : SiteSeen) → w ≡ v → IsWorld w → i < v.deployment.sites → x ≡ get_or w.sites i x → g < v.deployment.gears → g < x.shape.gears
+lane-gear w v i g x e k lt is m = subst (λ (s : Shape). g < s.gears) (sym (shape-at w v i x e k lt is)) m
+
+pub did-not-bulk : (w v : WorldSeen) (i g j n : ℕ) (x y : SiteSeen) → w ≡ v → IsWorld w → i < v.deployment.sites → j < v.deployment.sites → x ≡ get_or w.sites i x → y ≡ get_or w.sites j y → IsNext y i g n → IsInLane x g j n None → Goes v (act.Bulk i g j None) (ans.Refused why.NoSuch) v
+did-not-bulk w v i g j n x y e k li lj ix iy next lane =
+    subst (λ (v : WorldSeen). Goes v (act.Bulk i g j None) (ans.Refused why.NoSuch) v) e
+    (quiet-goes w (act.Bulk i g j None) why.NoSuch k.frame (bulk-none w i g j n x y (site-at w v i x e k li ix) (site-at w v j y e k lj iy) next lane))
+
+pub bulk-handed : (w v : WorldSeen) (i g j n : ℕ) (p q : Payload) (x y : SiteSeen) → w ≡ v → IsWorld w → i < v.deployment.sites → j < v.deployment.sites → x ≡ get_or w.sites i x → y ≡ get_or w.sites j y → IsNext y i g n → IsInLane x g j n (Some q) → p ≡ q → n < 2 ^ 63 →
+    Hands w (act.Bulk i g j None) j (input.Bulk i g n p)
+bulk-handed w v i g j n p q x y e k li lj ix iy next lane same small =
+    bulk-hands w i g j n p x y (site-at w v i x e k li ix) (site-at w v j y e k lj iy) next (subst (λ (m : Payload). IsInLane x g j n (Some m)) (sym same) lane) (small-bulk i g n p small)
 
 -- ---- clock
 
@@ -86,218 +260,82 @@ take-all [] zs = refl
 take-all {X = X} (y ∷ ys) zs = ap (λ (xs : List X). y ∷ xs) (take-all ys zs)
 
 -- a list that was written whole
-pub written : {X : Type 0} (n : ℕ) (xs ys : List X) → n ≡ length ys → take n (ys ++ drop (length ys) xs) ≡ ys
+written : {X : Type 0} (n : ℕ) (xs ys : List X) → n ≡ length ys → take n (ys ++ drop (length ys) xs) ≡ ys
 written {X = X} n xs ys e = ap (λ (m : ℕ). take m (ys ++ drop (length ys) xs)) e ∙ take-all ys (drop (length ys) xs)
 
-pub did-clock : (w : WorldSeen) (ts g n : ℕ) (xs ys : List SiteSeen) → xs ≡ w.sites → g ≡ w.deployment.gears → n ≡ length ys → IsGreatest xs g ts → AreClocked ts xs ys → Acts w act.Clock (ans.Clocked ts) (record w { sites = take n (ys ++ drop (length ys) w.sites) })
-did-clock w ts g n xs ys e f long top c =
-    subst (λ (zs : List SiteSeen). Acts w act.Clock (ans.Clocked ts) (record w { sites = zs })) (sym (written n w.sites ys long))
-    (clocks (subst (λ (g : ℕ). IsGreatest w.sites g ts) f (subst (λ (xs : List SiteSeen). IsGreatest xs g ts) e top)) (subst (λ (xs : List SiteSeen). AreClocked ts xs ys) e c))
+-- the gears of each site are the deployment's
+pub gears-are : (w : WorldSeen) (g : ℕ) (xs : List SiteSeen) → IsWorld w → g ≡ w.deployment.gears → xs ≡ w.sites → (i : ℕ) (x : SiteSeen) → slice_get xs i ≡ Some x → x.shape.gears ≡ g
+gears-are w g xs k e f i x at = ap (λ (s : Shape). s.gears) (k.stands.sites i x (subst (λ (xs : List SiteSeen). slice_get xs i ≡ Some x) f at)).shape ∙ sym e
 
--- ---- emit
+pub did-clock : (w : WorldSeen) (ts g n : ℕ) (xs zs ys : List SiteSeen) → IsWorld w → xs ≡ w.sites → zs ≡ w.sites → g ≡ w.deployment.gears → n ≡ length ys → IsGreatest xs g ts → AreUpTo xs ts → AreClocked ts zs ys → Goes w act.Clock (ans.Clocked ts) (record w { sites = take n (ys ++ drop (length ys) w.sites) })
+did-clock w ts g n xs zs ys k e a f long top up c =
+    subst (λ (zs : List SiteSeen). Goes w act.Clock (ans.Clocked ts) (record w { sites = zs })) (sym (written n w.sites ys long))
+    (clock-goes w ts ys k.frame (subst (λ (g : ℕ). IsGreatest w.sites g ts) f (subst (λ (xs : List SiteSeen). IsGreatest xs g ts) e top)) (subst (λ (xs : List SiteSeen). AreUpTo xs ts) e up) (subst (λ (xs : List SiteSeen). AreClocked ts xs ys) a c))
 
-pub did-emit : (w v : WorldSeen) (i : ℕ) (r : Answer) (o : Option Label) (ys : List SiteSeen) (out : List (List Label)) → w ≡ v → IsOrderly w → i < v.deployment.sites → StepsAt w.sites i given.Emit r o ys → out ≡ set w.outgoing i (get_or w.outgoing i [] ++ option_to_list o) →
-    Acts w (act.Emit i) r (record w { sites = ys; outgoing = out })
-did-emit w v i r o ys out e k lt st is =
-    let a : length w.outgoing ≡ w.deployment.sites = k.outgoing in
-    let b : w.deployment.sites ≡ v.deployment.sites = ap (λ (w : WorldSeen). w.deployment.sites) e in
-    subst (λ (out : List (List Label)). Acts w (act.Emit i) r (record w { sites = ys; outgoing = out })) (sym is) (emits (get_or w.outgoing i []) (get-is w.outgoing i [] (omega arith)) st)
+-- ---- what a world shows
 
-pub link-within : (w v : WorldSeen) (i : ℕ) → w ≡ v → IsOrderly w → i < v.deployment.sites → i < length w.outgoing
-link-within w v i e k lt = let a : length w.outgoing ≡ w.deployment.sites = k.outgoing in let b : w.deployment.sites ≡ v.deployment.sites = ap (λ (w : WorldSeen). w.deployment.sites) e in omega arith
+pub deployment-of : (w v : WorldSeen) → w ≡ v → IsWorld w → IsDeployment v.deployment
+deployment-of w v e k = (subst IsWorld e k).frame.deployment
 
--- ---- hop
+pub seen-site : (w v : WorldSeen) (i : ℕ) (x : SiteSeen) → w ≡ v → IsWorld w → i < v.deployment.sites → x ≡ get_or w.sites i x → HasSite v i x
+seen-site w v i x e k lt is = subst (λ (v : WorldSeen). HasSite v i x) e (site-at w v i x e k lt is)
 
-pub hop-of : (w v : WorldSeen) (e : ℕ) (u : NodeId) (z : ℕ) → w ≡ v → IsOrderly w → IsActOf v.deployment (act.Hop e u z) → IsHop w.deployment e u z
-hop-of w v e u z is k a = is-hop w.deployment e u z k.deployment k.built (subst (λ (v : WorldSeen). IsActOf v.deployment (act.Hop e u z)) (sym is) a)
+pub seen-items : (w v : WorldSeen) (i n : ℕ) (x : SiteSeen) → w ≡ v → IsWorld w → i < v.deployment.sites → x ≡ get_or w.sites i x → n < length v.deployment.items → n < length x.shape.interest.replicas
+seen-items w v i n x e k lt is m = subst (λ (s : Shape). n < length s.interest.replicas) (sym (shape-at w v i x e k lt is)) (subst (λ (l : ℕ). n < l) (sym (length-map v.deployment.items replicas_of)) m)
 
-pub hop-link : (w : WorldSeen) (e i z : ℕ) → IsOrderly w → IsHop w.deployment e (Site i) z → i < length w.outgoing
-hop-link w e i z k h =
-    let a : length w.outgoing ≡ w.deployment.sites = k.outgoing in
-    let b : length (tree_in w.deployment).seats ≡ w.deployment.sites = all-seated w.deployment k.deployment k.built in
-    let c : i < length (tree_in w.deployment).seats = h.node in omega arith
+-- ---- a write that the site would refuse
 
-pub hop-end : (w : WorldSeen) (e : ℕ) (u : NodeId) (z : ℕ) → IsOrderly w → IsHop w.deployment e u z → z < length w.serializers
-hop-end w e u z k h = let a : length w.serializers ≡ length (tree_in w.deployment).parents = k.serializers in let b : z < length (tree_in w.deployment).parents = h.within in omega arith
+-- an answer that is this refusal
+refused-is : (r : Answer) (y : Refusal) → Some y ≡ refusal_of r → ans.Refused y ≡ r
+refused-is (ans.Refused z) y e = ap (λ (z : Refusal). ans.Refused z) (some_is y z e)
+refused-is _ y e = absurd (cc)
 
-pub hop-start : (w : WorldSeen) (e y z : ℕ) → IsOrderly w → IsHop w.deployment e (Serializer y) z → y < length w.serializers
-hop-start w e y z k h = let a : length w.serializers ≡ length (tree_in w.deployment).parents = k.serializers in let b : y < length (tree_in w.deployment).parents = h.node in omega arith
+write-refused : (z : SiteSeen) (seen : Carried) (n : ℕ) (value : List ℕ) (y : Refusal) → Some y ≡ write_refusal z seen n → ans.Refused y ≡ site_answers z (input.Write seen n value)
+unfolding site_answers
+write-refused z seen n value y e = refused-is (write_answer (keeps_item z n) (slice_get z.gears (gear_at z n)) seen n) y e
 
-placed-neighbour : (t : TreeShape) (z : ℕ) (s : SerializerSeen) (v : NodeId) → IsPlaced t z s → IsNeighbour t z v → IsNeighbour s.tree s.number v
-placed-neighbour t z s v p n = subst (λ (x : TreeShape). IsNeighbour x s.number v) (sym p.tree) (subst (λ (y : ℕ). IsNeighbour t y v) (sym p.number) n)
-
-arrives : (w : WorldSeen) (e : ℕ) (u : NodeId) (z : ℕ) (l : Label) → IsOrderly w → IsHop w.deployment e u z → IsOnLink w.interest (tree_in w.deployment) u (Serializer z) l → (s : SerializerSeen) → HasSerializer w z s → Arrives w.interest s.tree s.number u l
-arrives w e u z l k h on s at =
-    let p : IsPlaced (tree_in w.deployment) z s = k.placed z s at in
-    subst (λ (x : TreeShape). Arrives w.interest x s.number u l) (sym p.tree) (subst (λ (y : ℕ). Arrives w.interest (tree_in w.deployment) y u l) (sym p.number) (record {
-      sites = ap (λ (a : Rattle.sat_sites.specs.Interested.Interested). a.sites) k.interest ∙ sym (all-seated w.deployment k.deployment k.built);
-      label = on.label;
-      neighbour = hop-neighbour w.deployment e u z h;
-      target = on.target;
-    }))
-
-first-rest : (ls : List Label) (l : Label) → slice_get ls 0 ≡ Some l → ls ≡ l ∷ drop 1 ls
-first-rest [] l e = absurd (cc)
-first-rest (m ∷ ls) l e = ap (λ (n : Label). n ∷ ls) (Rattle.sat_laws.proofs.Labels.some_is m l e)
-
-pub arrives-up : (w : WorldSeen) (e i z : ℕ) (l : Label) → IsOrderly w → IsHop w.deployment e (Site i) z → slice_get (get_or w.outgoing i []) 0 ≡ Some l → (s : SerializerSeen) → HasSerializer w z s → Arrives w.interest s.tree s.number (Site i) l
-arrives-up w e i z l k h f =
-    arrives w e (Site i) z l k h (subst (λ (n : ℕ). IsOnLink w.interest (tree_in w.deployment) (Site i) (Serializer n) l) (at-seat (tree_in w.deployment) i z h.edge)
-    (k.up i (get_or w.outgoing i []) (get-is w.outgoing i [] (hop-link w e i z k h)) 0 l f))
-
-pub did-find-none : (w v : WorldSeen) (e i z : ℕ) → w ≡ v → IsOrderly w → IsActOf v.deployment (act.Hop e (Site i) z) → slice_get (get_or w.outgoing i []) 0 ≡ None → Acts v (act.Hop e (Site i) z) (ans.Refused why.Empty) v
-did-find-none w v e i z is k a f =
-    subst (λ (v : WorldSeen). Acts v (act.Hop e (Site i) z) (ans.Refused why.Empty) v) is
-    (finds_none (subst (λ (ls : List Label). HasOutgoing w i ls) (none-empty (get_or w.outgoing i []) f) (get-is w.outgoing i [] (hop-link w e i z k (hop-of w v e (Site i) z is k a)))))
-
-pub did-hop-up : (w v : WorldSeen) (e i z : ℕ) (l : Label) (nodes : List NodeId) (ts : List SerializerSeen) (out : List (List Label)) → w ≡ v → IsOrderly w → IsActOf v.deployment (act.Hop e (Site i) z) → slice_get (get_or w.outgoing i []) 0 ≡ Some l → HandsAt w.serializers z w.interest (Site i) l nodes ts →
-    out ≡ set w.outgoing i (drop 1 (get_or w.outgoing i [])) → Acts w (act.Hop e (Site i) z) (ans.Hopped l nodes) (record w { serializers = ts; outgoing = out })
-did-hop-up w v e i z l nodes ts out is k a f g o =
-    subst (λ (out : List (List Label)). Acts w (act.Hop e (Site i) z) (ans.Hopped l nodes) (record w { serializers = ts; outgoing = out })) (sym o)
-    (hops_up l (drop 1 (get_or w.outgoing i [])) (subst (λ (ls : List Label). HasOutgoing w i ls) (first-rest (get_or w.outgoing i []) l f) (get-is w.outgoing i [] (hop-link w e i z k (hop-of w v e (Site i) z is k a)))) g)
-
--- what the code reads of a serializer, in a list that is the world's
-abbrev pub IsFrontOf : List SerializerSeen → ℕ → NodeId → Option Label → Type 0
-IsFrontOf ss z v o = (s : SerializerSeen) → slice_get ss z ≡ Some s → o ≡ slice_get (outbox s v) 0
-
-there : {X : Type 0} (xs : List X) (n : ℕ) → n < length xs → (x : X) × (slice_get xs n ≡ Some x)
-there [] n lt = absurd (omega arith)
-there (x ∷ xs) n lt = (get_or (x ∷ xs) n x, get-is (x ∷ xs) n x lt)
-
-pub start-within : (w v : WorldSeen) (e y z : ℕ) (ss : List SerializerSeen) → w ≡ v → IsOrderly w → IsActOf v.deployment (act.Hop e (Serializer y) z) → ss ≡ w.serializers → y < length ss
-start-within w v e y z ss is k a f = subst (λ (ss : List SerializerSeen). y < length ss) (sym f) (hop-start w e y z k (hop-of w v e (Serializer y) z is k a))
-
-pub start-neighbour : (w v : WorldSeen) (e y z : ℕ) (ss : List SerializerSeen) → w ≡ v → IsOrderly w → IsActOf v.deployment (act.Hop e (Serializer y) z) → ss ≡ w.serializers → (s : SerializerSeen) → slice_get ss y ≡ Some s → IsNeighbour s.tree s.number (Serializer z)
-start-neighbour w v e y z ss is k a f s at =
-    placed-neighbour (tree_in w.deployment) y s (Serializer z) (k.placed y s (subst (λ (ss : List SerializerSeen). slice_get ss y ≡ Some s) f at)) (next-neighbour w.deployment e y z (hop-of w v e (Serializer y) z is k a))
-
-pub did-find-nothing : (w v : WorldSeen) (e y z : ℕ) (ss : List SerializerSeen) (o : Option Label) → w ≡ v → IsOrderly w → IsActOf v.deployment (act.Hop e (Serializer y) z) → ss ≡ w.serializers → IsFrontOf ss y (Serializer z) o → o ≡ None → Acts v (act.Hop e (Serializer y) z) (ans.Refused why.Empty) v
-did-find-nothing w v e y z ss o is k a f g n =
-    let q = there w.serializers y (hop-start w e y z k (hop-of w v e (Serializer y) z is k a)) in
-    subst (λ (v : WorldSeen). Acts v (act.Hop e (Serializer y) z) (ans.Refused why.Empty) v) is
-    (finds_nothing q.0 q.1 (sym (g q.0 (subst (λ (ss : List SerializerSeen). slice_get ss y ≡ Some q.0) (sym f) q.1)) ∙ n))
-
--- the label at the front, and where it stands
-pub record FrontOf (w : WorldSeen) (e y z : ℕ) (l : Label) : Type 0 where
-  pub hop : IsHop w.deployment e (Serializer y) z
-  pub from : SerializerSeen
-  pub at : HasSerializer w y from
-  pub first : slice_get (outbox from (Serializer z)) 0 ≡ Some l
-  pub on : IsOnLink w.interest (tree_in w.deployment) (Serializer y) (Serializer z) l
-
-pub front-of : (w v : WorldSeen) (e y z : ℕ) (ss : List SerializerSeen) (o : Option Label) (l : Label) → w ≡ v → IsOrderly w → IsActOf v.deployment (act.Hop e (Serializer y) z) → ss ≡ w.serializers → IsFrontOf ss y (Serializer z) o → o ≡ Some l → FrontOf w e y z l
-front-of w v e y z ss o l is k a f g n =
-    let h : IsHop w.deployment e (Serializer y) z = hop-of w v e (Serializer y) z is k a in
-    let q = there w.serializers y (hop-start w e y z k h) in
-    let first : slice_get (outbox q.0 (Serializer z)) 0 ≡ Some l = sym (g q.0 (subst (λ (ss : List SerializerSeen). slice_get ss y ≡ Some q.0) (sym f) q.1)) ∙ n in
-    record { hop = h; from = q.0; at = q.1; first = first; on = k.down y q.0 (Serializer z) q.1 (next-neighbour w.deployment e y z h) 0 l first }
-
-pub arrives-on : (w : WorldSeen) (e y z : ℕ) (l : Label) → IsOrderly w → FrontOf w e y z l → (s : SerializerSeen) → HasSerializer w z s → Arrives w.interest s.tree s.number (Serializer y) l
-arrives-on w e y z l k f = arrives w e (Serializer y) z l k f.hop f.on
-
-pub handed-within : (w : WorldSeen) (e y z : ℕ) (l : Label) (nodes : List NodeId) (ts : List SerializerSeen) → IsOrderly w → FrontOf w e y z l → HandsAt w.serializers z w.interest (Serializer y) l nodes ts → y < length ts
-handed-within w e y z l nodes ts k f h =
-    let a : length ts ≡ length w.serializers = ap (λ (ss : List SerializerSeen). length ss) h.rest ∙ length-set w.serializers z _ in
-    let b : y < length w.serializers = hop-start w e y z k f.hop in omega arith
-
-pub handed-neighbour : (w : WorldSeen) (e y z : ℕ) (l : Label) (nodes : List NodeId) (ts : List SerializerSeen) → IsOrderly w → FrontOf w e y z l → HandsAt w.serializers z w.interest (Serializer y) l nodes ts → (s : SerializerSeen) → slice_get ts y ≡ Some s → IsNeighbour s.tree s.number (Serializer z)
-handed-neighbour w e y z l nodes ts k f h s at =
-    placed-neighbour (tree_in w.deployment) y s (Serializer z) ((hands-kept w z (Serializer y) l nodes ts k h f.on.label f.on.update).placed y s at) (next-neighbour w.deployment e y z f.hop)
-
-pub did-hop-on : (w : WorldSeen) (e y z : ℕ) (l : Label) (nodes : List NodeId) (ts us : List SerializerSeen) → FrontOf w e y z l → HandsAt w.serializers z w.interest (Serializer y) l nodes ts → ShipsAt ts y (Serializer z) us →
-    Acts w (act.Hop e (Serializer y) z) (ans.Hopped l nodes) (record w { serializers = us })
-did-hop-on w e y z l nodes ts us f h g = hops_on f.from l f.at f.first h g
-
--- ---- turn
-
-some-seat : (t : TreeShape) (i n : ℕ) → Some n ≡ slice_get t.seats i → n ≡ seat_of t i
-unfolding seat_of
-some-seat t i n e = ap (λ (o : Option ℕ). unwrap_or o 0) e
-
-pub seat-at : (d : Rattle.sat_act.specs.Deployed.Deployed) (t : TreeShape) (i n : ℕ) → t ≡ tree_in d → Some n ≡ slice_get t.seats i → n ≡ seat_of (tree_in d) i
-seat-at d t i n e f = some-seat t i n f ∙ ap (λ (t : TreeShape). seat_of t i) e
-
-pub seated-in : (w v : WorldSeen) (t : TreeShape) (j : ℕ) → w ≡ v → IsOrderly w → j < v.deployment.sites → t ≡ tree_in w.deployment → j < length t.seats
-seated-in w v t j e k lt f =
-    let a : length (tree_in w.deployment).seats ≡ w.deployment.sites = all-seated w.deployment k.deployment k.built in
-    let b : w.deployment.sites ≡ v.deployment.sites = ap (λ (w : WorldSeen). w.deployment.sites) e in
-    subst (λ (t : TreeShape). j < length t.seats) (sym f) (omega arith)
-
--- the seat of a site, where what comes to it stands
-pub record SeatOf (w : WorldSeen) (j z : ℕ) : Type 0 where
-  pub seat : z ≡ seat_of (tree_in w.deployment) j
-  pub neighbour : IsNeighbour (tree_in w.deployment) z (Site j)
-  pub holder : SerializerSeen
-  pub at : HasSerializer w z holder
-
-pub seat-holder : (w v : WorldSeen) (t : TreeShape) (j z : ℕ) → w ≡ v → IsOrderly w → j < v.deployment.sites → t ≡ tree_in w.deployment → Some z ≡ slice_get t.seats j → SeatOf w j z
-seat-holder w v t j z e k lt f g =
-    let s : z ≡ seat_of (tree_in w.deployment) j = seat-at w.deployment t j z f g in
-    let a : length w.serializers ≡ length (tree_in w.deployment).parents = k.serializers in
-    let b : seat_of (tree_in w.deployment) j < length (tree_in w.deployment).parents = (is-tree w.deployment k.deployment k.built).seats j in
-    let q = there w.serializers z (omega arith) in
-    record { seat = s; neighbour = subst (λ (n : ℕ). IsNeighbour (tree_in w.deployment) n (Site j)) (sym s) (seat-neighbour (tree_in w.deployment) j (seated-in w v (tree_in w.deployment) j e k lt refl)); holder = q.0; at = q.1 }
-
-pub seat-within : (w : WorldSeen) (j z : ℕ) (ss : List SerializerSeen) → SeatOf w j z → ss ≡ w.serializers → z < length ss
-seat-within w j z ss s f = subst (λ (ss : List SerializerSeen). z < length ss) (sym f) (within w.serializers z s.holder s.at)
-
-pub seat-next : (w : WorldSeen) (j z : ℕ) (ss : List SerializerSeen) → IsOrderly w → SeatOf w j z → ss ≡ w.serializers → (q : SerializerSeen) → slice_get ss z ≡ Some q → IsNeighbour q.tree q.number (Site j)
-seat-next w j z ss k s f q at = placed-neighbour (tree_in w.deployment) z q (Site j) (k.placed z q (subst (λ (ss : List SerializerSeen). slice_get ss z ≡ Some q) f at)) s.neighbour
-
-pub front-is : (w : WorldSeen) (j z : ℕ) (ss : List SerializerSeen) (o : Option Label) → (s : SeatOf w j z) → ss ≡ w.serializers → IsFrontOf ss z (Site j) o → o ≡ slice_get (outbox s.holder (Site j)) 0
-front-is w j z ss o s f g = g s.holder (subst (λ (ss : List SerializerSeen). slice_get ss z ≡ Some s.holder) (sym f) s.at)
-
-pub turn-fits : (w : WorldSeen) (j z : ℕ) (ss : List SerializerSeen) (o : Option Label) → IsOrderly w → SeatOf w j z → ss ≡ w.serializers → IsFrontOf ss z (Site j) o → (x : SiteSeen) → HasSite w j x → Fits x (input.Turn o)
-turn-fits w j z ss None k s f g x at = tt
-turn-fits w j z ss (Some l) k s f g x at =
-    let on : IsOnLink w.interest (tree_in w.deployment) (Serializer z) (Site j) l = k.down z s.holder (Site j) s.at s.neighbour 0 l (sym (front-is w j z ss (Some l) s f g)) in
-    let e : w.interest ≡ x.shape.interest = k.interest ∙ sym (ap (λ (h : Shape). h.interest) (k.shapes j x at)) in
-    let n : x.shape.site ≡ j = ap (λ (h : Shape). h.site) (k.shapes j x at) in
-    record {
-      label = subst (λ (a : Rattle.sat_sites.specs.Interested.Interested). Rattle.sat_sites.specs.Interested.IsLabelOf a l) e on.label;
-      target = (λ i. is_for (sym e i) l (n i)) ∙ comes-for w.interest (tree_in w.deployment) z j l s.neighbour.edge on.target;
-      from = ap (λ (m : ℕ). l.point.site == m) n ∙ comes-from w.interest (tree_in w.deployment) z j l s.neighbour.edge on;
-    }
-
-pub did-turn : (w : WorldSeen) (j z : ℕ) (ss : List SerializerSeen) (o sent : Option Label) (r : Answer) (ys : List SiteSeen) (ts : List SerializerSeen) → SeatOf w j z → ss ≡ w.serializers → IsFrontOf ss z (Site j) o → StepsAt w.sites j (given.Turn o) r sent ys → TakesAt r w.serializers z (Site j) ts →
-    Acts w (act.Turn j) r (record w { sites = ys; serializers = ts })
-did-turn w j z ss o sent r ys ts s f g st t =
-    turns s.holder (subst (λ (n : ℕ). HasSerializer w n s.holder) s.seat s.at) (subst (λ (o : Option Label). StepsAt w.sites j (given.Turn o) r sent ys) (front-is w j z ss o s f g) st) (subst (λ (n : ℕ). TakesAt r w.serializers n (Site j) ts) s.seat t)
-
--- ---- bulk
-
-pub did-bulk-none : (w v : WorldSeen) (i g j n : ℕ) (x y : SiteSeen) → w ≡ v → HasSite v i x → HasSite v j y → IsNumber y i g n → IsInLane x g j n None → Acts v (act.Bulk i g j None) (ans.Refused why.NoSuch) v
-did-bulk-none w v i g j n x y e a b number lane = brings_none n x y a b number lane
-
-pub did-bulk : (w v : WorldSeen) (i g j n : ℕ) (p q : Payload) (x y : SiteSeen) (r : Answer) (o : Option Label) (ys : List SiteSeen) → w ≡ v → HasSite v i x → HasSite v j y → IsNumber y i g n → IsInLane x g j n (Some q) → p ≡ q → StepsAt w.sites j (given.Bulk i g n p) r o ys →
-    Acts w (act.Bulk i g j None) r (record w { sites = ys })
-did-bulk w v i g j n p q x y r o ys e a b number lane same st =
-    brings n p x y (subst (λ (v : WorldSeen). HasSite v i x) (sym e) a) (subst (λ (v : WorldSeen). HasSite v j y) (sym e) b) number (subst (λ (m : Payload). IsInLane x g j n (Some m)) (sym same) lane) st
-
-pub bulk-fits : (w v : WorldSeen) (i g j n : ℕ) (p q : Payload) (x y : SiteSeen) → w ≡ v → IsOrderly w → i < v.deployment.sites → g < v.deployment.gears → HasSite v i x → HasSite v j y → n ≡ taken_of y i g → IsOfLane x.shape g j q → p ≡ q → (z : SiteSeen) → HasSite w j z → Fits z (input.Bulk i g n p)
-bulk-fits w v i g j n p q x y e k li lg a b number lane same z at = subst (λ (z : SiteSeen). Fits z (input.Bulk i g n p)) (both-are (slice_get w.sites j) y z here at) (subst (λ (m : Payload). Fits y (input.Bulk i g n m)) (sym same) fits)
+-- it is handed to no gear, and all stays
+pub did-refuse : (w v : WorldSeen) (c i n : ℕ) (value : List ℕ) (x : Client) (z : SiteSeen) (y : Refusal) → w ≡ v → IsWorld w → IsActOf v.deployment (act.Write c n value) → x ≡ get_or w.clients c x → x.seat ≡ Some i → HasSite w i z → IsSite z → Some y ≡ write_refusal z x.carried n →
+    Goes v (act.Write c n value) (ans.Refused y) v
+did-refuse w v c i n value x z y e k b is seat here sound refused =
+    subst (λ (v : WorldSeen). Goes v (act.Write c n value) (ans.Refused y) v) e
+    (subst (λ (cl : List Client). Goes w (act.Write c n value) (ans.Refused y) (record w { clients = cl })) (set-same w.clients c x at)
+    (use-goes w (act.Write c n value) c x i (input.Write x.carried n value) (ans.Refused y) (site_sends z (input.Write x.carried n value)) w.sites (set w.clients c x) k.frame refl refl at refl hands stepped refl))
   where
-    here : HasSite w j y
-    here = subst (λ (v : WorldSeen). HasSite v j y) (sym e) b
+    at : HasClient w c x
+    at = Rattle.sat_world.proofs.Hands.client-at w v c x e k b.0 is
 
-    from-shape : x.shape ≡ shape_of w.deployment i
-    from-shape = k.shapes i x (subst (λ (v : WorldSeen). HasSite v i x) (sym e) a)
+    hands : Hands w (act.Write c n value) i (input.Write x.carried n value)
+    hands = write-hands w c x i at seat n value
 
-    to-shape : y.shape ≡ shape_of w.deployment j
-    to-shape = k.shapes j y here
+    answers : ans.Refused y ≡ site_answers z (input.Write x.carried n value)
+    answers = write-refused z x.carried n value y refused
 
-    of : IsOfLane (shape_of w.deployment i) g j q
-    of = subst (λ (h : Shape). IsOfLane h g j q) from-shape lane
+    fits : fits_in z (input.Write x.carried n value) ≡ true
+    fits = fit-here w v (act.Write c n value) i (input.Write x.carried n value) e k b hands z here sound
 
-    sites-in : i < y.shape.sites
-    sites-in = subst (λ (h : Shape). i < h.sites) (sym to-shape) (subst (λ (v : WorldSeen). i < v.deployment.sites) (sym e) li)
-
-    guest : IsGuest y q
-    guest = record {
-      item = (of.item.0, of.item.1, subst (λ (h : Shape). of.item.0 < length h.interest.replicas) (sym to-shape) of.item.2);
-      target = ap (λ (h : Shape). is_for h.interest q.label h.site) to-shape ∙ of.target;
-      from = subst (λ (m : ℕ). m < y.shape.sites) (sym of.made_at) sites-in;
+    stepped : StepsAt w.sites i (input.Write x.carried n value) (ans.Refused y) (site_sends z (input.Write x.carried n value)) w.sites
+    stepped = record {
+      before = z;
+      at = here;
+      sound = sound;
+      fits = fits;
+      answers = answers;
+      sends = refl;
+      rest = sym (ap (set w.sites i) ((each-step z (input.Write x.carried n value) sound fits).refused (ap is_done (sym answers))) ∙ set-same w.sites i z here);
     }
 
-    fits : Fits y (input.Bulk i g n q)
-    fits = (sites-in, subst (λ (h : Shape). g < h.gears) (sym to-shape) (subst (λ (v : WorldSeen). g < v.deployment.gears) (sym e) lg), of.made_at, of.made_by, guest, number)
+-- the site of a seat, and what is asked of it
+pub seat-items : (w v : WorldSeen) (i n : ℕ) (xs : List SiteSeen) (z : SiteSeen) → w ≡ v → IsWorld w → n < length v.deployment.items → xs ≡ w.sites → slice_get xs i ≡ Some z → n < length z.shape.interest.replicas
+seat-items w v i n xs z e k b same at =
+    let here : HasSite w i z = subst (λ (xs : List SiteSeen). slice_get xs i ≡ Some z) same at in
+    let lt : n < length w.deployment.items = subst (λ (v : WorldSeen). n < length v.deployment.items) (sym e) b in
+    subst (λ (s : Shape). n < length s.interest.replicas) (sym (k.stands.sites i z here).shape) (subst (λ (l : ℕ). n < l) (sym (length-map w.deployment.items replicas_of)) lt)
+
+-- the refusal that the code found is that of the client's seat
+pub did-refuse-at : (w v : WorldSeen) (c i n : ℕ) (value : List ℕ) (x : Client) (xs : List SiteSeen) (y : Refusal) (o : Option Refusal) → w ≡ v → IsWorld w → IsActOf v.deployment (act.Write c n value) → x ≡ get_or w.clients c x → x.seat ≡ Some i → xs ≡ w.sites →
+    ((z : SiteSeen) → slice_get xs i ≡ Some z → o ≡ write_refusal z x.carried n) → ((z : SiteSeen) → slice_get xs i ≡ Some z → IsSite z) → o ≡ Some y → Goes v (act.Write c n value) (ans.Refused y) v
+did-refuse-at w v c i n value x xs y o e k b is seat same refuses sound found =
+    let q = there w.sites i (Rattle.sat_world.proofs.Hands.seat-within w c i x k (Rattle.sat_world.proofs.Hands.client-at w v c x e k b.0 is) seat) in
+    let at : slice_get xs i ≡ Some q.0 = subst (λ (xs : List SiteSeen). slice_get xs i ≡ Some q.0) (sym same) q.1 in
+    did-refuse w v c i n value x q.0 y e k b is seat q.1 (sound q.0 at) (sym found ∙ refuses q.0 at)

@@ -1,5 +1,5 @@
 -- The parts of a world in which nothing has happened.
-use Rattle.std.specs.Prelude.{◌≡◌, ◌<◌, ◌≤◌, ◌+◌, ◌*◌, ◌/◌, ◌%◌, ◌^◌, ℕ, zero, suc, Bool, true, false, not, ◌&&◌, ◌==◌, nat_lt, List, [], ◌∷◌, ◌++◌, length, map, Option, Some, None, slice_get, refl}
+use Rattle.std.specs.Prelude.{◌≡◌, ◌<◌, ◌≤◌, ◌+◌, ◌*◌, ◌/◌, ◌%◌, ◌^◌, ℕ, zero, suc, Bool, true, false, not, ◌&&◌, ◌==◌, nat_lt, List, [], ◌∷◌, ◌++◌, map, Option, Some, None, slice_get, refl}
 use Rattle.std.proofs.Common.{sym, subst, ap, ◌∙◌, arith, inl, inr}
 use Rattle.std.specs.List.{position_from}
 use Rattle.std.specs.Option.{MatchOption}
@@ -13,42 +13,17 @@ use Rattle.std.proofs.lemmas.Iterator.Adapters.{position_from-zero}
 use Rattle.sat_label.specs.declared.site_set.SiteSet.{SiteSet}
 use Rattle.sat_label.specs.Words.{bit}
 use Rattle.sat_sites.specs.Interested.{is_good_set, first_bad}
-use Rattle.sat_tree.specs.Shape.{TreeShape}
 use Rattle.sat_act.specs.declared.deployment.Item.{Item}
-use Rattle.sat_act.specs.declared.deployment.Plan.{Plan}
-use Rattle.sat_act.specs.declared.deployment.Plan.TheVariants as plan
 use Rattle.sat_act.specs.Deployed.{Deployed}
-use Rattle.sat_act.specs.Built.{IsBuilt}
 use Rattle.sat_act.specs.Limits.{IsDeployment}
-use Rattle.sat_act.specs.Parts.{tree_of}
 use Rattle.sat_machine.specs.State.{fresh_site}
-use Rattle.sat_serial.specs.Outboxes.{SerializerSeen, fresh}
 use Rattle.sat_site.specs.Seen.{SiteSeen}
-use Rattle.sat_site.specs.Stands.{StandsSite, replicas_of, interest_of}
-use Rattle.sat_world.specs.Seen.{tree_in}
-use Rattle.sat_world.specs.Starts.{AreFresh, fresh_serializers}
+use Rattle.sat_machine.specs.Interests.{replicas_of, interest_of}
+use Rattle.sat_site.specs.Stands.{StandsSite}
+use Rattle.sat_world.specs.Starts.{AreFresh}
 use Rattle.sat_world.proofs.Lists.{push-cases, length-push, map-get}
 
--- ---- the tree
-
-pub tree-first : (d : Deployed) (t : TreeShape) → d.plans ≡ plan.Tree t ∷ [] → tree_of d 1 ≡ Some t
-unfolding tree_of
-tree-first d t e = ap (λ (ps : List Plan). elim (slice_get ps 0) [ None ↦ None | Some p ↦ elim p [ plan.Stamp ↦ None | plan.Tree t ↦ Some t ] ]) e
-
-pub tree-is : (d : Deployed) (t : TreeShape) → d.plans ≡ plan.Tree t ∷ [] → tree_in d ≡ t
-unfolding tree_in
-tree-is d t e = ap (λ (o : Option TreeShape). elim o [ None ↦ record { parents = []; seats = [] } | Some t ↦ t ]) (tree-first d t e)
-
-pub tree-one : (d : Deployed) → IsBuilt d → tree_of d 1 ≡ Some (tree_in d)
-tree-one d b = tree-first d b.tree b.plans ∙ ap (λ (t : TreeShape). Some t) (sym (tree-is d b.tree b.plans))
-
-first-of : (ps : List Plan) (t u : TreeShape) (p : Plan) → ps ≡ plan.Tree t ∷ [] → slice_get ps 0 ≡ Some p → p ≡ plan.Tree u → u ≡ t
-first-of ps t u p e f g = cc
-
-pub read-tree : (d : Deployed) (u : TreeShape) (p : Plan) → IsBuilt d → slice_get d.plans 0 ≡ Some p → p ≡ plan.Tree u → u ≡ tree_in d
-read-tree d u p b f g = first-of d.plans b.tree u p b.plans f g ∙ sym (tree-is d b.tree b.plans)
-
--- ---- sites and serializers
+-- ---- sites
 
 pub sites-more : (d : Deployed) (n : ℕ) (xs : List SiteSeen) (x : SiteSeen) → AreFresh d n xs → StandsSite d n x (fresh_site n) → AreFresh d (n + 1) (xs ++ x ∷ [])
 sites-more d n xs x old st = record {
@@ -58,17 +33,6 @@ sites-more d n xs x old st = record {
     | inr w ↦ let e : n ≡ i = sym (w.0 ∙ old.count) in subst (λ (i : ℕ). StandsSite d i y (fresh_site i)) e (subst (λ (y : SiteSeen). StandsSite d n y (fresh_site n)) w.1 st)
   ];
 }
-
-pub serializers-none : (t : TreeShape) → [] ≡ fresh_serializers t 0
-unfolding fresh_serializers
-serializers-none t = refl
-
-serializers-suc : (t : TreeShape) (n : ℕ) → fresh_serializers t n ++ fresh t n ∷ [] ≡ fresh_serializers t (suc n)
-unfolding fresh_serializers
-serializers-suc t n = refl
-
-pub serializers-more : (t : TreeShape) (n : ℕ) (ss : List SerializerSeen) (s : SerializerSeen) → ss ≡ fresh_serializers t n → s ≡ fresh t n → ss ++ s ∷ [] ≡ fresh_serializers t (n + 1)
-serializers-more t n ss s e f = rw add-one ((λ i. e i ++ f i ∷ []) ∙ serializers-suc t n)
 
 -- ---- the interest
 
@@ -130,9 +94,6 @@ no-bad d k = from-zero ∙ position-none (λ set. not (is_good_set d.sites set))
 
     each : (n : ℕ) (set : SiteSet) → slice_get (map replicas_of d.items) n ≡ Some set → not (is_good_set d.sites set) ≡ false
     each n set at = let m = map-get replicas_of d.items n set at in subst (λ (s : SiteSet). not (is_good_set d.sites s) ≡ false) m.2 (here n m.0 m.1)
-
-pub some-plans : (d : Deployed) (ps : List Plan) → IsDeployment d → ps ≡ d.plans → 0 < length ps
-some-plans d ps k e = subst (λ (qs : List Plan). 0 < length qs) (sym e) k.some_plan
 
 pub match-none : (o : Option ℕ) (A : Type 0) (B : ℕ → Type 0) → o ≡ None → MatchOption o A B → A
 match-none None A B e m = m

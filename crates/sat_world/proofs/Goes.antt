@@ -1,157 +1,388 @@
--- What the code does in an act is the step of the machine, and so the answer and the entry of the history.
-use Rattle.std.specs.Prelude.{◌≡◌, ◌<◌, ℕ, Bool, false, List, [], ◌∷◌, set, Some, None, slice_get, if◌then◌else◌, refl}
-use Rattle.std.proofs.Common.{sym, subst, ap, ◌∙◌, inl}
+-- Acts by their shape: at one site, a client's write or read, an emission, a turn, a hop, and what is refused at once.
+use Rattle.std.specs.Prelude.{◌≡◌, ◌⊎◌, ◌<◌, ◌≤◌, ◌+◌, ◌-◌, ℕ, Bool, true, false, not, ◌&&◌, ◌==◌, List, [], length, set, Option, Some, None, is_none, slice_get, if◌then◌else◌, refl}
+use Rattle.std.proofs.Common.{sym, subst, ap, ◌∙◌, arith, inl, inr}
 use Rattle.sat_label.proofs.Truth.{same-number}
+use Rattle.sat_label.specs.declared.label.Kind.{Kind}
+use Rattle.sat_label.specs.declared.label.Kind.TheVariants as kind
 use Rattle.sat_label.specs.declared.label.Label.{Label}
 use Rattle.sat_label.specs.declared.node.NodeId.{NodeId}
 use Rattle.sat_label.specs.declared.node.NodeId.TheVariants.{Site, Serializer}
+use Rattle.sat_sites.specs.Interested.{Interested, is_for, keeps as kept}
+use Rattle.sat_sites.specs.declared.shape.Shape.{Shape}
+use Rattle.sat_tree.specs.Shape.{TreeShape}
+use Rattle.sat_tree.specs.Cut.{seat_of, IsNode}
 use Rattle.sat_act.specs.declared.act.Act.{Act}
 use Rattle.sat_act.specs.declared.act.Act.TheVariants as act
 use Rattle.sat_act.specs.declared.answer.Answer.{Answer}
 use Rattle.sat_act.specs.declared.answer.Answer.TheVariants as ans
-use Rattle.sat_act.specs.declared.answer.Refusal.TheVariants as why
-use Rattle.sat_act.specs.declared.entry.Entry.{Entry}
+use Rattle.sat_act.specs.declared.answer.Refusal.{Refusal}
 use Rattle.sat_act.specs.Deployed.{Deployed}
-use Rattle.sat_act.specs.Ranges.{IsActOf}
-use Rattle.sat_act.specs.Answers.{answer}
-use Rattle.sat_act.specs.Runs.{IsRun, is_settle}
-use Rattle.sat_act.specs.Headline.{IsGood}
-use Rattle.sat_act.specs.Limits.{IsDeployment}
-use Rattle.sat_act.proofs.Valid.{is_valid, has_trees}
-use Rattle.sat_laws.proofs.Headlines.{good}
-use Rattle.sat_tree.specs.Cut.{seat_of}
-use Rattle.sat_serial.specs.Outboxes.{outbox}
+use Rattle.sat_act.specs.Done.{is_of, of_client}
+use Rattle.sat_act.specs.Settling.{is_done}
+use Rattle.sat_act.specs.Parts.{Handling, tree_of, seat_in}
+use Rattle.sat_laws.proofs.Labels.{some_is}
+use Rattle.sat_client.specs.declared.client.Client.{Client}
+use Rattle.sat_machine.specs.Interests.{interest_of}
 use Rattle.sat_machine.specs.Input.{SiteInput}
 use Rattle.sat_machine.specs.Input as given
-use Rattle.sat_machine.specs.Fits.{IsFit}
-use Rattle.sat_machine.specs.Look.{front_of}
-use Rattle.sat_machine.specs.Replay.{given_at}
-use Rattle.sat_machine.specs.World.{WorldState, world_given, world_answer, world_next, world_step, world_state, front_at}
-use Rattle.sat_machine.proofs.Runs.{step-on}
-use Rattle.sat_machine.proofs.Worlds.{gives-as-handed}
-use Rattle.sat_machine.proofs.Local.{given-fits}
-use Rattle.sat_world.specs.Seen.{WorldSeen, tree_in}
-use Rattle.sat_world.specs.Acts.{Acts, ticks, clocks, writes, reads, gathers, emits, finds_none, finds_nothing, hops_up, hops_on, turns, brings_none, brings}
-use Rattle.sat_world.specs.Orderly.{IsOrderly}
-use Rattle.sat_world.specs.Stands.{Stands, StandsFor}
-use Rattle.sat_world.proofs.Built.{in-range}
-use Rattle.sat_world.proofs.Edges.{at-seat, IsHop, is-hop, next-neighbour, seat-neighbour, all-seated}
-use Rattle.sat_world.proofs.Steps.{Steps, tick-steps, gather-steps, clock-steps, write-steps, read-steps}
-use Rattle.sat_world.proofs.Hops.{emit-steps, hop-none, hop-up-steps, hop-on-steps, front-is, turn-given, turn-steps, bulk-given, bulk-none, bulk-steps}
+use Rattle.sat_machine.specs.Next.{site_next}
+use Rattle.sat_machine.specs.Reply.{site_answer}
+use Rattle.sat_machine.specs.Replay.{after, given_at}
+use Rattle.sat_machine.specs.World.{WorldState, world_given, world_answer, handled_by, front_at, first, dead_next}
+use Rattle.sat_net.specs.Nets.{NetSeen, after_send, after_take}
+use Rattle.sat_net.specs.NetStands.{IsNetOf, StandsNet, handled_at, links_next}
+use Rattle.sat_world.proofs.Laws.{sends, keeps, takes, leaves, stays, net-send, net-give}
+use Rattle.sat_site.specs.declared.input.SiteInput as code
+use Rattle.sat_site.specs.declared.input.SiteInput.TheVariants as input
+use Rattle.sat_site.specs.Seen.{SiteSeen}
+use Rattle.sat_site.specs.Inputs.{input_of}
+use Rattle.sat_site.specs.Gives.{IsSent}
+use Rattle.sat_site.specs.Laws.{StepHolds}
+use Rattle.sat_site.specs.SiteSteps.{site_answers, site_after, site_sends}
+use Rattle.sat_site.specs.Stands.{StandsSite}
+use Rattle.sat_epoch.specs.Epochs.{Epochs, is_stamp}
+use Rattle.sat_world.proofs.Laws.{each-step}
+use Rattle.sat_world.specs.Seen.{WorldSeen, HasClient}
+use Rattle.sat_world.specs.Stands.{Stands}
+use Rattle.sat_world.specs.Steps.{Goes, StepsAt, HandsIn, Hands, is_local, told, net_sent, net_taken, front_to, NetAt}
+use Rattle.sat_world.specs.Worlds.{IsFrame, IsPlanted}
+use Rattle.sat_world.proofs.Handles.{is_still, handles-none, kills-none, same-dead, local-still, local-client, is_told, told-client, told-none}
+use Rattle.sat_world.proofs.Lists.{set-cases, set-same, length-set}
+use Rattle.sat_world.proofs.Parts.{handling_of, SitesStand, NetsStand, next-stands, one-site, no-site, no-net, one-net, no-client, one-client}
 
--- what the machine is handed fits
-abbrev AllFit : Deployed → WorldState → Act → Type 0
-AllFit d s a = (i : ℕ) (input : SiteInput) → world_given d s a i ≡ Some input → IsFit d i (s.sites i) input
+-- ---- one site
 
-here-given : (j : ℕ) (input : SiteInput) → given_at j j input ≡ Some input
-here-given j input = ap (λ (b : Bool). if b then Some input else None) (same-number j)
+-- what the site's law says of its step
+pub holds : (xs ys : List SiteSeen) (i : ℕ) (given : code.SiteInput) (r : Answer) (o : Option Label) → (h : StepsAt xs i given r o ys) → StepHolds h.before given
+holds xs ys i given r o h = each-step h.before given h.sound h.fits
 
-at-first : (d : Deployed) (e : ℕ) (u : NodeId) (z : ℕ) (r : Answer) (s : WorldState) (v : WorldSeen) → IsHop d e u z → (IsHop d 1 u z → Steps d s (act.Hop 1 u z) r v) → Steps d s (act.Hop e u z) r v
-at-first d e u z r s v p f = subst (λ (n : ℕ). Steps d s (act.Hop n u z) r v) (sym p.epoch) (f (record { epoch = refl; node = p.node; edge = p.edge; within = p.within }))
+pub told-by : (w : WorldSeen) (s : WorldState) (i : ℕ) (given : code.SiteInput) (r : Answer) (o : Option Label) (ys : List SiteSeen) → IsFrame w → Stands w s → StepsAt w.sites i given r o ys →
+    r ≡ site_answer w.deployment i (s.sites i) (input_of given)
+told-by w s i given r o ys k st h = h.answers ∙ (holds w.sites ys i given r o h).answers w.deployment i (s.sites i) k.deployment (st.sites i h.before h.at)
 
--- what the code did in an act that has a line is the machine's step
-pub steps : (w v : WorldSeen) (s : WorldState) (a : Act) (r : Answer) → IsOrderly w → IsActOf w.deployment a → AllFit w.deployment s a → Stands w s → Acts w a r v → Steps w.deployment s a r v
-steps w v s a r k b fit st (ticks {i = i} {g = g} {t = t} {r = q} {o = o} {ys = ys} h) = tick-steps w s i g t q o ys k st h
-steps w v s a r k b fit st (clocks {ts = ts} {ys = ys} top c) = clock-steps w s ts ys k st top c
-steps w v s a r k b fit st (writes {c = c} {x = x} {value = value} {r = q} {o = o} {ys = ys} u h g) = write-steps w s c x u o ys k st h value q g
-steps w v s a r k b fit st (reads {c = c} {x = x} {r = q} {o = o} {ys = ys} u h g) = read-steps w s c x u o ys k st h q g
-steps w v s a r k b fit st (gathers {i = i} {r = q} {o = o} {ys = ys} h) = gather-steps w s i q o ys k st h
-steps w v s a r k b fit st (emits {i = i} {r = q} {o = o} {ys = ys} ls h g) = emit-steps w s i ls ys k st h q o g
-steps w v s a r k b fit st (finds_none {e = e} {i = i} {z = z} h) =
-    at-first w.deployment e (Site i) z (ans.Refused why.Empty) s w (is-hop w.deployment e (Site i) z k.deployment k.built b)
-    (λ p. hop-none w s (Site i) z k st (ap (λ (n : ℕ). slice_get (s.links 1 (Site i) (Serializer n)) 0) (sym (at-seat (tree_in w.deployment) i z p.edge)) ∙ sym (ap (λ (ms : List Label). slice_get ms 0) (st.up i [] h))))
-steps w v s a r k b fit st (finds_nothing {e = e} {y = y} {z = z} q h n) =
-    at-first w.deployment e (Serializer y) z (ans.Refused why.Empty) s w (is-hop w.deployment e (Serializer y) z k.deployment k.built b)
-    (λ p. hop-none w s (Serializer y) z k st (sym (ap (λ (ms : List Label). slice_get ms 0) (st.down y q (Serializer z) h (next-neighbour w.deployment 1 y z p))) ∙ n))
-steps w v s a r k b fit st (hops_up {e = e} {i = i} {z = z} {nodes = nodes} {ts = ts} l ls h g) =
-    at-first w.deployment e (Site i) z (ans.Hopped l nodes) s (record w { serializers = ts; outgoing = set w.outgoing i ls }) (is-hop w.deployment e (Site i) z k.deployment k.built b)
-    (λ p. hop-up-steps w s z l nodes ts k st i ls h g p)
-steps w v s a r k b fit st (hops_on {e = e} {y = y} {z = z} {nodes = nodes} {ts = ts} {us = us} q l h n g f) =
-    at-first w.deployment e (Serializer y) z (ans.Hopped l nodes) s (record w { serializers = us }) (is-hop w.deployment e (Serializer y) z k.deployment k.built b)
-    (λ p. hop-on-steps w s z l nodes ts k st y us q h n g f p)
-steps w v s a r k b fit st (turns {j = j} {r = q} {o = o} {ys = ys} {ts = ts} x h g f) =
-    let nb = seat-neighbour (tree_in w.deployment) j (subst (λ (n : ℕ). j < n) (sym (all-seated w.deployment k.deployment k.built)) b) in
-    let is : front_at w.deployment s j ≡ slice_get (outbox x (Site j)) 0 = front-is w s j x k (st.sites j g.before g.at).view (st.down (seat_of (tree_in w.deployment) j) x (Site j) h nb) in
-    turn-steps w s j x o ys ts k st h nb (fit j (given.Turn (slice_get (outbox x (Site j)) 0)) (turn-given w.deployment s j j (slice_get (outbox x (Site j)) 0) is ∙ here-given j (given.Turn (slice_get (outbox x (Site j)) 0)))) q g f
-steps w v s a r k b fit st (brings_none {i = i} {g = g} {j = j} n x y p q e f) = bulk-none w s i g j n x y k st p q e f
-steps w v s a r k b fit st (brings {i = i} {g = g} {j = j} {r = t} {o = o} {ys = ys} n m x y p q e f h) =
-    let number : n ≡ front_of (s.sites j) i g = e w.deployment j (s.sites j) (st.sites j y q) in
-    let lane : slice_get (((s.sites i).gears g).lanes j) n ≡ Some m = f w.deployment i (s.sites i) (st.sites i x p) in
-    bulk-steps w s i g j n m x y o ys k st p q e f (fit j (given.Bulk i g n m) (bulk-given w.deployment s i g j j n (Some m) number lane ∙ here-given j (given.Bulk i g n m))) t h
+-- the sites after it
+pub stepped : (w : WorldSeen) (s : WorldState) (gives : ℕ → Option SiteInput) (i : ℕ) (given : code.SiteInput) (r : Answer) (o : Option Label) (ys : List SiteSeen) → IsFrame w → Stands w s → StepsAt w.sites i given r o ys →
+    ((k : ℕ) → gives k ≡ given_at i k (input_of given)) → SitesStand w.deployment ys (λ k. after w.deployment k (s.sites k) (gives k) r)
+stepped w s gives i given r o ys k st h is =
+    one-site w.deployment s.sites gives r i (input_of given) w.sites ys (site_after h.before given) st.sites h.rest
+    (subst (λ (r : Answer). StandsSite w.deployment i (site_after h.before given) (site_next w.deployment i (s.sites i) (input_of given) r)) (sym h.answers)
+    ((holds w.sites ys i given r o h).stands w.deployment i (s.sites i) k.deployment (st.sites i h.before h.at))) is
 
--- ---- the history
+-- where it is refused they are as before
+pub unmoved : (xs ys : List SiteSeen) (i : ℕ) (given : code.SiteInput) (r : Answer) (o : Option Label) → StepsAt xs i given r o ys → is_done r ≡ false → ys ≡ xs
+unmoved xs ys i given r o h f =
+    h.rest ∙ (ap (set xs i) ((holds xs ys i given r o h).refused (ap is_done (sym h.answers) ∙ f)) ∙ set-same xs i h.before h.at)
 
--- by the machine's law, the answer is the history's, and the world then stands for the history with the entry
-pub record Goes (w v : WorldSeen) (h : List Entry) (a : Act) (r : Answer) : Type 0 where
-  pub answer : r ≡ answer w.deployment h a
-  pub stands : StandsFor v (record { act = a; answer = r; inner = false } ∷ h)
-  pub good : IsGood w.deployment (record { act = a; answer = r; inner = false } ∷ h)
+with-sites : (w : WorldSeen) (i : ℕ) (given : code.SiteInput) (r : Answer) (o : Option Label) (ys : List SiteSeen) → StepsAt w.sites i given r o ys → length ys ≡ length w.sites
+with-sites w i given r o ys h = ap (λ (xs : List SiteSeen). length xs) h.rest ∙ length-set w.sites i (site_after h.before given)
 
--- no act changes the deployment
-pub deployed : (w v : WorldSeen) (a : Act) (r : Answer) → Acts w a r v → v.deployment ≡ w.deployment
-deployed w v a r (ticks h) = refl
-deployed w v a r (clocks top c) = refl
-deployed w v a r (writes u h g) = refl
-deployed w v a r (reads u h g) = refl
-deployed w v a r (gathers h) = refl
-deployed w v a r (emits ls h g) = refl
-deployed w v a r (finds_none h) = refl
-deployed w v a r (finds_nothing q h n) = refl
-deployed w v a r (hops_up l ls h g) = refl
-deployed w v a r (hops_on q l h n g f) = refl
-deployed w v a r (turns x h g f) = refl
-deployed w v a r (brings_none n x y p q e f) = refl
-deployed w v a r (brings n m x y p q e f h) = refl
+-- an act at one site that moves no label and is no client's
+pub local-goes : (w : WorldSeen) (a : Act) (i : ℕ) (given : code.SiteInput) (r : Answer) (o : Option Label) (ys : List SiteSeen) → IsFrame w → is_local a ≡ true → Hands w a i given → StepsAt w.sites i given r o ys → Goes w a r (record w { sites = ys })
+local-goes w a i given r o ys k l g h = record {
+  deployment = refl;
+  frame = record { deployment = k.deployment; interest = k.interest; sites = with-sites w i given r o ys h ∙ k.sites; nets = k.nets; planted = k.planted; clients = k.clients };
+  answer = λ s st. told-by w s i given r o ys k st h ∙ sym (g.hands s st).answer;
+  stands = λ s st. next-stands w s a r ys w.nets w.clients
+      (stepped w s (world_given w.deployment s a) i given r o ys k st h (g.hands s st).given)
+      (no-net w (handling_of w.deployment s a r) s.links s.dead (λ e z. dead_next e z (s.dead e z) a r) k (handles-none w.deployment (λ i. (s.sites i).views.emission) (λ i. (s.sites i).views.view) a r (local-still a l)) (λ e z. kills-none e z (s.dead e z) a r (local-still a l)) st.nets)
+      (no-client w.clients s.clients a r (λ c. local-client a c l) st.clients);
+  refused = λ f. λ j. record w { sites = unmoved w.sites ys i given r o h f j };
+}
 
--- no act is a settle
-plain : (w v : WorldSeen) (a : Act) (r : Answer) → Acts w a r v → is_settle a ≡ false
-plain w v a r (ticks h) = refl
-plain w v a r (clocks top c) = refl
-plain w v a r (writes u h g) = refl
-plain w v a r (reads u h g) = refl
-plain w v a r (gathers h) = refl
-plain w v a r (emits ls h g) = refl
-plain w v a r (finds_none h) = refl
-plain w v a r (finds_nothing q h n) = refl
-plain w v a r (hops_up l ls h g) = refl
-plain w v a r (hops_on q l h n g f) = refl
-plain w v a r (turns x h g f) = refl
-plain w v a r (brings_none n x y p q e f) = refl
-plain w v a r (brings n m x y p q e f h) = refl
+-- ---- a client
 
-abbrev entry_of : Act → Answer → Entry
-entry_of a r = record { act = a; answer = r; inner = false }
+of-other : (a : Act) (c b : ℕ) → of_client a ≡ Some c → (c == b) ≡ false → is_of a b ≡ false
+of-other a c b e f = ap (λ (o : Option ℕ). elim o [ None ↦ false | Some n ↦ n == b ]) e ∙ f
 
-all-fit : (d : Deployed) (h : List Entry) (a : Act) → IsDeployment d → IsRun d h → AllFit d (world_state d h) a
-unfolding world_state
-all-fit d h a k run i input e = given-fits d h a i input (is_valid d k) run (sym (gives-as-handed d h a i (is_valid d k) run) ∙ e)
+of-this : (a : Act) (c : ℕ) → of_client a ≡ Some c → is_of a c ≡ true
+of-this a c e = ap (λ (o : Option ℕ). elim o [ None ↦ false | Some n ↦ n == c ]) e ∙ same-number c
 
-step-parts : (d : Deployed) (h : List Entry) (a : Act) → IsDeployment d → IsActOf d a → IsRun d h → is_settle a ≡ false →
-    (world_answer d (world_state d h) a ≡ answer d h a) × (world_next d (world_state d h) a (world_answer d (world_state d h) a) ≡ world_state d (entry_of a (answer d h a) ∷ h))
-unfolding world_step
-step-parts d h a k b run p =
-    let e : world_step d (world_state d h) a ≡ (answer d h a, world_state d (entry_of a (answer d h a) ∷ h)) = step-on d h a (is_valid d k) run (in-range d a b) p in
-    (ap (λ (p : Answer × WorldState). p.0) e, ap (λ (p : Answer × WorldState). p.1) e)
+-- a client's write or read at its seat
+pub use-goes : (w : WorldSeen) (a : Act) (c : ℕ) (x : Client) (i : ℕ) (given : code.SiteInput) (r : Answer) (o : Option Label) (ys : List SiteSeen) (now : List Client) → IsFrame w → is_still a ≡ true → of_client a ≡ Some c → HasClient w c x → is_told r ≡ true →
+    Hands w a i given → StepsAt w.sites i given r o ys → now ≡ set w.clients c (told r x) → Goes w a r (record w { sites = ys; clients = now })
+use-goes w a c x i given r o ys now k l e at t g h n = record {
+  deployment = refl;
+  frame = record { deployment = k.deployment; interest = k.interest; sites = with-sites w i given r o ys h ∙ k.sites; nets = k.nets; planted = k.planted; clients = ap (λ (cl : List Client). length cl) n ∙ (length-set w.clients c (told r x) ∙ k.clients) };
+  answer = λ s st. told-by w s i given r o ys k st h ∙ sym (g.hands s st).answer;
+  stands = λ s st. next-stands w s a r ys w.nets now
+      (stepped w s (world_given w.deployment s a) i given r o ys k st h (g.hands s st).given)
+      (no-net w (handling_of w.deployment s a r) s.links s.dead (λ e z. dead_next e z (s.dead e z) a r) k (handles-none w.deployment (λ i. (s.sites i).views.emission) (λ i. (s.sites i).views.view) a r l) (λ e z. kills-none e z (s.dead e z) a r l) st.nets)
+      (one-client w.clients now s.clients a r c (told r x) (λ b ne. of-other a c b e ne) n (told-client c x (s.clients c) a r (of-this a c e) t (st.clients c x at)) st.clients);
+  refused = λ f. λ j. record w {
+    sites = unmoved w.sites ys i given r o h f j;
+    clients = (n ∙ (ap (set w.clients c) (told-none r x t f) ∙ set-same w.clients c x at)) j;
+  };
+}
 
-goes-on-run : (d : Deployed) (h : List Entry) (a : Act) (r : Answer) → IsActOf d a → IsRun d h → is_settle a ≡ false → r ≡ answer d h a → IsRun d (entry_of a r ∷ h)
-unfolding IsRun
-goes-on-run d h a r b run p e = (run, in-range d a b, inl (p, e))
+-- ---- refused at once
 
-pub goes : (w v : WorldSeen) (h : List Entry) (a : Act) (r : Answer) → IsOrderly w → IsActOf w.deployment a → IsRun w.deployment h → StandsFor w h → Acts w a r v → Goes w v h a r
-goes w v h a r k b run st f = record {
-  answer = told;
-  stands = subst (λ (d : Deployed). Stands v (world_state d (entry_of a r ∷ h))) (sym (deployed w v a r f)) (subst (Stands v) next t.stands);
-  good = good d (entry_of a r ∷ h) (is_valid d k.deployment) (has_trees d k.deployment) (goes-on-run d h a r b run (plain w v a r f) told);
+-- nothing is handed to a site, and nothing changes
+pub quiet-goes : (w : WorldSeen) (a : Act) (y : Refusal) → IsFrame w → ((s : WorldState) → Stands w s → (ans.Refused y ≡ world_answer w.deployment s a) × ((k : ℕ) → world_given w.deployment s a k ≡ None)) → Goes w a (ans.Refused y) w
+unfolding handled_by
+quiet-goes w a y k h = record {
+  deployment = refl;
+  frame = k;
+  answer = λ s st. (h s st).0;
+  stands = λ s st. next-stands w s a (ans.Refused y) w.sites w.nets w.clients
+      (no-site w.deployment s.sites (world_given w.deployment s a) (ans.Refused y) w.sites st.sites (h s st).1)
+      (no-net w (handling_of w.deployment s a (ans.Refused y)) s.links s.dead (λ e z. dead_next e z (s.dead e z) a (ans.Refused y)) k refl (λ e z. refl) st.nets)
+      st.clients;
+  refused = λ f. refl;
+}
+
+-- ---- an emission
+
+-- a net after what was sent is one of the same epoch
+planted-sent : (d : Deployed) (e : ℕ) (p : Option NetSeen) (i : ℕ) (sent : Option Label) → IsPlanted d e p → IsPlanted d e (net_sent p i sent)
+planted-sent d e None i sent k = k
+planted-sent d e (Some net) i None k = k
+planted-sent d e (Some net) i (Some l) k = record { deployment = k.deployment; tree = k.tree; net = net-send net i l k.net }
+
+-- the nets after one of them became another one
+pub planted-at : (w : WorldSeen) (n : ℕ) (p q : Option NetSeen) (nets : List (Option NetSeen)) → IsFrame w → slice_get w.nets n ≡ Some p → (IsPlanted w.deployment (n + 1) p → IsPlanted w.deployment (n + 1) q) → nets ≡ set w.nets n q →
+    (m : ℕ) (o : Option NetSeen) → slice_get nets m ≡ Some o → IsPlanted w.deployment (m + 1) o
+planted-at w n p q nets k at new rest m o has = go (set-cases w.nets n m q o (subst (λ (ns : List (Option NetSeen)). slice_get ns m ≡ Some o) rest has))
+  where
+    go : ((n ≡ m) × (q ≡ o)) ⊎ (((n == m) ≡ false) × (slice_get w.nets m ≡ Some o)) → IsPlanted w.deployment (m + 1) o
+    go (inl u) = subst (λ (o : Option NetSeen). IsPlanted w.deployment (m + 1) o) u.1 (subst (λ (m : ℕ). IsPlanted w.deployment (m + 1) q) u.0 (new (k.planted n p at)))
+    go (inr u) = k.planted m o u.1
+
+-- an update is not for the site that made it
+own-not : (a : Interested) (l : Label) (x i : ℕ) → l.kind ≡ kind.Update x → l.point.site ≡ i → is_for a l i ≡ false
+unfolding is_for
+own-not a l x i e f = ap (λ (k : Kind). elim k [ kind.Update x ↦ kept a x i && not (i == l.point.site) | kind.Move j ↦ i == j | kind.Pulse ↦ Rattle.std.specs.Prelude.nat_lt i a.sites && not (i == l.point.site) | kind.Close e ↦ Rattle.std.specs.Prelude.nat_lt i a.sites && not (i == l.point.site) ]) e ∙
+    (ap (λ (j : ℕ). kept a x i && not (i == j)) f ∙ (ap (λ (b : Bool). kept a x i && not b) (same-number i) ∙ and-no (kept a x i)))
+  where
+    and-no : (b : Bool) → (b && false) ≡ false
+    and-no true = refl
+    and-no false = refl
+
+-- what the net of the emission epoch becomes is what the history's links become
+sent-stands : (d : Deployed) (i n : ℕ) (shape : Shape) (views : Epochs) (l : Label) (sent : Option Label) (p : Option NetSeen) (net : NetSeen) (links : NodeId → NodeId → List Label) (dead : ℕ → Bool) → shape.interest ≡ interest_of d → shape.sites ≡ d.sites → shape.site ≡ i → i < d.sites →
+    IsSent shape views (ans.Emitted l) sent → is_stamp views views.emission ≡ is_none (tree_of d (n + 1)) → IsPlanted d (n + 1) p → ((m : NetSeen) → p ≡ Some m → StandsNet m links dead) → net_sent p i sent ≡ Some net →
+    StandsNet net (links_next d (Some (handled_at (n + 1) (Site i) None l)) (n + 1) links) dead
+sent-stands d i n shape views l sent None net links dead a b own lt s f k st e = absurd (let g : None ≡ Some net = e in cc)
+sent-stands d i n shape views l None (Some m) net links dead a b own lt s f k st e =
+    subst (λ (net : NetSeen). StandsNet net (links_next d (Some (handled_at (n + 1) (Site i) None l)) (n + 1) links) dead) (some_is m net e)
+    (keeps d (n + 1) m shape.interest links dead i l k a (st m refl) lt
+    (stays shape.interest m.tree (Site i) (Serializer (seat_of m.tree i)) l (λ j lt for. s (f ∙ ap is_none k.tree) (j, subst (λ (n : ℕ). j < n) (ap (λ (x : Interested). x.sites) a ∙ sym b) lt, for))))
+sent-stands d i n shape views l (Some m) (Some before) net links dead a b own lt s f k st e =
+    subst (λ (net : NetSeen). StandsNet net (links_next d (Some (handled_at (n + 1) (Site i) None l)) (n + 1) links) dead) (ap (after_send before i) (sym s.0) ∙ some_is (after_send before i m) net e)
+    (sends d (n + 1) before shape.interest links dead i l k a (st before refl) lt
+    (leaves shape.interest before.tree i (seat_of before.tree i) s.2.target.0 l (own-not shape.interest l s.2.update.0 i s.2.update.1 (s.2.own ∙ own)) (subst (λ (n : ℕ). s.2.target.0 < n) (b ∙ sym (ap (λ (x : Interested). x.sites) a)) s.2.target.1) s.2.target.2))
+
+-- what an emission answers
+abbrev emit_by : Option Label → Answer
+emit_by None = ans.Refused Rattle.sat_act.specs.declared.answer.Refusal.TheVariants.Idle
+emit_by (Some l) = ans.Emitted l
+
+emit-told : (x : SiteSeen) → site_answers x input.Emit ≡ emit_by (Rattle.sat_sink.specs.Sink.ready_of x.sink)
+unfolding site_answers
+emit-told x = go (Rattle.sat_sink.specs.Sink.ready_of x.sink)
+  where
+    go : (o : Option Label) → Rattle.sat_site.specs.SiteSteps.emit_answer o ≡ emit_by o
+    go None = refl
+    go (Some l) = refl
+
+module _ (w : WorldSeen) (i n : ℕ) (p : Option NetSeen) (ys : List SiteSeen) (nets : List (Option NetSeen)) (k : IsFrame w) where
+  abbrev W : WorldSeen
+  W = record w { sites = ys; nets = nets }
+
+  -- nothing was sent, and all stays
+  emit-idle : (y : Refusal) (o : Option Label) → StepsAt w.sites i input.Emit (ans.Refused y) o ys → NetAt w.nets n p (net_sent p i o) nets →
+      ((s : WorldState) → HandsIn w.deployment s (act.Emit i) i given.Emit) → Goes w (act.Emit i) (ans.Refused y) W
+  unfolding handled_by
+  emit-idle y o h g hands = record {
+    deployment = refl;
+    frame = record { deployment = k.deployment; interest = k.interest; sites = with-sites w i input.Emit (ans.Refused y) o ys h ∙ k.sites; nets = ap (λ (ns : List (Option NetSeen)). length ns) same ∙ k.nets; planted = λ m q at. k.planted m q (subst (λ (ns : List (Option NetSeen)). slice_get ns m ≡ Some q) same at); clients = k.clients };
+    answer = λ s st. told-by w s i input.Emit (ans.Refused y) o ys k st h ∙ sym (hands s).answer;
+    stands = λ s st. next-stands w s (act.Emit i) (ans.Refused y) ys nets w.clients
+        (stepped w s (world_given w.deployment s (act.Emit i)) i input.Emit (ans.Refused y) o ys k st h (hands s).given)
+        (subst (λ (ns : List (Option NetSeen)). NetsStand ns (λ e. links_next w.deployment None e (s.links e)) s.dead) (sym same) (no-net w None s.links s.dead s.dead k refl (λ e z. refl) st.nets))
+        st.clients;
+    refused = λ f. λ j. record w { sites = unmoved w.sites ys i input.Emit (ans.Refused y) o h f j; nets = same j };
+  }
+    where
+      none : o ≡ None
+      none = subst (λ (r : Answer). IsSent h.before.shape h.before.views r o) (sym h.answers) (subst (λ (o : Option Label). IsSent h.before.shape h.before.views (site_answers h.before input.Emit) o) (sym h.sends) (holds w.sites ys i input.Emit (ans.Refused y) o h).sent)
+
+      sent-none : (p : Option NetSeen) → net_sent p i None ≡ p
+      sent-none None = refl
+      sent-none (Some net) = refl
+
+      same : nets ≡ w.nets
+      same = g.rest ∙ (ap (λ (o : Option Label). set w.nets n (net_sent p i o)) none ∙ (ap (set w.nets n) (sent-none p) ∙ set-same w.nets n p g.at))
+
+  emit-emitted : (l : Label) (o : Option Label) → i < w.deployment.sites → ((x : SiteSeen) → slice_get w.sites i ≡ Some x → x.views.emission ≡ n + 1) → n < length w.deployment.plans → StepsAt w.sites i input.Emit (ans.Emitted l) o ys → NetAt w.nets n p (net_sent p i o) nets →
+      ((s : WorldState) → HandsIn w.deployment s (act.Emit i) i given.Emit) → Goes w (act.Emit i) (ans.Emitted l) W
+  unfolding handled_by
+  emit-emitted l o lt epoch few h g hands = record {
+    deployment = refl;
+    frame = record { deployment = k.deployment; interest = k.interest; sites = with-sites w i input.Emit (ans.Emitted l) o ys h ∙ k.sites; nets = ap (λ (ns : List (Option NetSeen)). length ns) g.rest ∙ (length-set w.nets n (net_sent p i o) ∙ k.nets); planted = planted-at w n p (net_sent p i o) nets k g.at (λ q. planted-sent w.deployment (n + 1) p i o q) g.rest; clients = k.clients };
+    answer = λ s st. told-by w s i input.Emit (ans.Emitted l) o ys k st h ∙ sym (hands s).answer;
+    stands = λ s st.
+        let site : StandsSite w.deployment i h.before (s.sites i) = st.sites i h.before h.at in
+        let at : (s.sites i).views.emission ≡ n + 1 = sym site.views.emission ∙ epoch h.before h.at in
+        next-stands w s (act.Emit i) (ans.Emitted l) ys nets w.clients
+        (stepped w s (world_given w.deployment s (act.Emit i)) i input.Emit (ans.Emitted l) o ys k st h (hands s).given)
+        (one-net w (handled_at (s.sites i).views.emission (Site i) None l) s.links s.dead s.dead n (net_sent p i o) nets k at (λ e z. refl) g.rest
+        (λ net e. subst (λ (m : ℕ). StandsNet net (links_next w.deployment (Some (handled_at m (Site i) None l)) (n + 1) (s.links (n + 1))) (s.dead (n + 1))) (sym at)
+        (sent-stands w.deployment i n h.before.shape h.before.views l o p net (s.links (n + 1)) (s.dead (n + 1))
+        (ap (λ (x : Shape). x.interest) site.shape) (ap (λ (x : Shape). x.sites) site.shape) (ap (λ (x : Shape). x.site) site.shape) lt
+        (subst (λ (r : Answer). IsSent h.before.shape h.before.views r o) (sym h.answers) (subst (λ (o : Option Label). IsSent h.before.shape h.before.views (site_answers h.before input.Emit) o) (sym h.sends) (holds w.sites ys i input.Emit (ans.Emitted l) o h).sent))
+        (ap (is_stamp h.before.views) (epoch h.before h.at) ∙ site.views.plans (n + 1) (omega arith) (omega arith))
+        (k.planted n p g.at) (λ m e. st.nets n m (subst (λ (q : Option NetSeen). slice_get w.nets n ≡ Some q) e g.at)) e))
+        st.nets)
+        st.clients;
+    refused = λ f. absurd (cc);
+  }
+
+emit-hands : (d : Deployed) (s : WorldState) (i : ℕ) → HandsIn d s (act.Emit i) i given.Emit
+unfolding world_given world_answer
+emit-hands d s i = record { given = λ k. refl; answer = refl }
+
+-- a site emits, and what it sends enters the net of its emission epoch
+pub emit-goes : (w : WorldSeen) (i n : ℕ) (p : Option NetSeen) (r : Answer) (o : Option Label) (ys : List SiteSeen) (nets : List (Option NetSeen)) → IsFrame w → i < w.deployment.sites → ((x : SiteSeen) → slice_get w.sites i ≡ Some x → x.views.emission ≡ n + 1) → n < length w.deployment.plans →
+    StepsAt w.sites i input.Emit r o ys → NetAt w.nets n p (net_sent p i o) nets → Goes w (act.Emit i) r (record w { sites = ys; nets = nets })
+emit-goes w i n p r o ys nets k lt epoch few h g = go (Rattle.sat_sink.specs.Sink.ready_of h.before.sink) (h.answers ∙ emit-told h.before)
+  where
+    go : (q : Option Label) → r ≡ emit_by q → Goes w (act.Emit i) r (record w { sites = ys; nets = nets })
+    go None e = subst (λ (r : Answer). StepsAt w.sites i input.Emit r o ys → Goes w (act.Emit i) r (record w { sites = ys; nets = nets })) (sym e)
+        (λ h. emit-idle w i n p ys nets k _ o h g (λ s. emit-hands w.deployment s i)) h
+    go (Some l) e = subst (λ (r : Answer). StepsAt w.sites i input.Emit r o ys → Goes w (act.Emit i) r (record w { sites = ys; nets = nets })) (sym e)
+        (λ h. emit-emitted w i n p ys nets k l o lt epoch few h g (λ s. emit-hands w.deployment s i)) h
+
+-- ---- a turn
+
+-- whether a turn's answer takes the front
+abbrev is_taking : Answer → Bool
+is_taking (ans.Shown l) = true
+is_taking (ans.Took l) = true
+is_taking _ = false
+
+-- what a turn that takes the front handles
+abbrev taking : Deployed → ℕ → ℕ → Label → Handling
+taking d epoch j l = record { epoch = epoch; node = Site j; from = seat_in d epoch j; label = l }
+
+turn-handles-none : (d : Deployed) (emission view : ℕ → ℕ) (j : ℕ) (r : Answer) → is_taking r ≡ false → handled_by d emission view (act.Turn j) r ≡ None
+unfolding handled_by
+turn-handles-none d emission view j (ans.Shown l) e = absurd (cc)
+turn-handles-none d emission view j (ans.Took l) e = absurd (cc)
+turn-handles-none d emission view j _ e = refl
+
+turn-handles : (d : Deployed) (emission view : ℕ → ℕ) (j : ℕ) (r : Answer) → is_taking r ≡ true → (l : Label) × (handled_by d emission view (act.Turn j) r ≡ Some (taking d (view j) j l))
+unfolding handled_by
+turn-handles d emission view j (ans.Shown l) e = (l, refl)
+turn-handles d emission view j (ans.Took l) e = (l, refl)
+turn-handles d emission view j _ e = absurd (cc)
+
+-- what the net becomes
+taken-not : (r : Answer) (p : Option NetSeen) (j : ℕ) → is_taking r ≡ false → net_taken r p j ≡ p
+taken-not r None j e = refl
+taken-not (ans.Shown l) (Some net) j e = absurd (cc)
+taken-not (ans.Took l) (Some net) j e = absurd (cc)
+taken-not _ (Some net) j e = refl
+
+taken-so : (r : Answer) (net : NetSeen) (j : ℕ) → is_taking r ≡ true → net_taken r (Some net) j ≡ Some (after_take net j)
+taken-so (ans.Shown l) net j e = refl
+taken-so (ans.Took l) net j e = refl
+taken-so _ net j e = absurd (cc)
+
+planted-taken : (d : Deployed) (e : ℕ) (r : Answer) (p : Option NetSeen) (j : ℕ) → IsPlanted d e p → (b : Bool) → is_taking r ≡ b → IsPlanted d e (net_taken r p j)
+planted-taken d e r None j k b t = k
+planted-taken d e r (Some net) j k true t = subst (IsPlanted d e) (sym (taken-so r net j t)) (record { deployment = k.deployment; tree = k.tree; net = net-give net (Serializer (seat_of net.tree j)) (Site j) k.net })
+planted-taken d e r (Some net) j k false t = subst (IsPlanted d e) (sym (taken-not r (Some net) j t)) k
+
+-- a site's seat in a tree, if there is one, and the front of the link from it
+abbrev seat_by : ℕ → Option TreeShape → Option NodeId
+seat_by j t = elim t [ None ↦ None | Some t ↦ Some (Serializer (seat_of t j)) ]
+
+abbrev front_by : (NodeId → NodeId → List Label) → ℕ → Option NodeId → Option Label
+front_by links j o = elim o [ None ↦ None | Some z ↦ first (links z (Site j)) ]
+
+seat-by : (d : Deployed) (e j : ℕ) → seat_in d e j ≡ seat_by j (tree_of d e)
+unfolding seat_in
+seat-by d e j = refl
+
+-- what the code finds at the front is what the machine hands
+pub front-found : (d : Deployed) (s : WorldState) (j n : ℕ) (p : Option NetSeen) → j < d.sites → (s.sites j).views.view ≡ n + 1 → IsPlanted d (n + 1) p → ((m : NetSeen) → p ≡ Some m → StandsNet m (s.links (n + 1)) (s.dead (n + 1))) → front_at d s j ≡ front_to p j
+front-found d s j n p lt e k st =
+    ap (λ (v : ℕ). front_by (s.links v) j (seat_in d v j)) e ∙ (ap (front_by (s.links (n + 1)) j) (seat-by d (n + 1) j) ∙ go p k st)
+  where
+    go : (p : Option NetSeen) → IsPlanted d (n + 1) p → ((m : NetSeen) → p ≡ Some m → StandsNet m (s.links (n + 1)) (s.dead (n + 1))) → front_by (s.links (n + 1)) j (seat_by j (tree_of d (n + 1))) ≡ front_to p j
+    go None k st = ap (λ (t : Option TreeShape). front_by (s.links (n + 1)) j (seat_by j t)) k
+    go (Some net) k st =
+        ap (λ (t : Option TreeShape). front_by (s.links (n + 1)) j (seat_by j t)) k.tree ∙
+        ap (λ (ls : List Label). slice_get ls 0) (sym ((st net refl).each (Serializer (seat_of net.tree j)) (Site j) (k.net.tree.seats j) (seated net k) (Rattle.sat_laws.proofs.Handlings.seat-edge net.tree j)))
+      where
+        seated : (net : NetSeen) → IsNetOf d (n + 1) net → IsNode net.tree (Site j)
+        seated net k = let a : length net.tree.seats ≡ d.sites = k.deployment.all_seated (n + 1) net.tree k.tree in omega arith
+
+seat-found : (d : Deployed) (e j : ℕ) (t : TreeShape) → tree_of d e ≡ Some t → seat_in d e j ≡ Some (Serializer (seat_of t j))
+unfolding seat_in
+seat-found d e j t k = ap (seat_by j) k
+
+pub turn-hands : (d : Deployed) (s : WorldState) (j : ℕ) (o : Option Label) → front_at d s j ≡ o → HandsIn d s (act.Turn j) j (given.Turn o)
+unfolding world_given world_answer
+turn-hands d s j o e = record { given = λ k. ap (λ (o : Option Label). given_at j k (given.Turn o)) e; answer = ap (λ (o : Option Label). site_answer d j (s.sites j) (given.Turn o)) e }
+
+-- a site takes the front of the link to it, in the net of its view, or leaves it
+pub turn-goes : (w : WorldSeen) (j n : ℕ) (p : Option NetSeen) (r : Answer) (o : Option Label) (ys : List SiteSeen) (nets : List (Option NetSeen)) → IsFrame w → j < w.deployment.sites → ((x : SiteSeen) → slice_get w.sites j ≡ Some x → x.views.view ≡ n + 1) →
+    StepsAt w.sites j (input.Turn (front_to p j)) r o ys → NetAt w.nets n p (net_taken r p j) nets → Goes w (act.Turn j) r (record w { sites = ys; nets = nets })
+turn-goes w j n p r o ys nets k lt view h g = record {
+  deployment = refl;
+  frame = record {
+    deployment = k.deployment;
+    interest = k.interest;
+    sites = with-sites w j (input.Turn (front_to p j)) r o ys h ∙ k.sites;
+    nets = ap (λ (ns : List (Option NetSeen)). length ns) g.rest ∙ (length-set w.nets n (net_taken r p j) ∙ k.nets);
+    planted = planted-at w n p (net_taken r p j) nets k g.at (λ q. planted-taken w.deployment (n + 1) r p j q (is_taking r) refl) g.rest;
+    clients = k.clients;
+  };
+  answer = λ s st. told-by w s j (input.Turn (front_to p j)) r o ys k st h ∙ sym (hands s st).answer;
+  stands = λ s st. next-stands w s (act.Turn j) r ys nets w.clients
+      (stepped w s (world_given w.deployment s (act.Turn j)) j (input.Turn (front_to p j)) r o ys k st h (hands s st).given)
+      (links s st (is_taking r) refl)
+      (no-client w.clients s.clients (act.Turn j) r (λ c. refl) st.clients);
+  refused = λ f. λ i. record w { sites = unmoved w.sites ys j (input.Turn (front_to p j)) r o h f i; nets = (same (not-taking r f)) i };
 }
   where
-    d : Deployed
-    d = w.deployment
+    at : (s : WorldState) → Stands w s → (s.sites j).views.view ≡ n + 1
+    at s st = let site : StandsSite w.deployment j h.before (s.sites j) = st.sites j h.before h.at in sym site.views.view ∙ view h.before h.at
 
-    t : Steps d (world_state d h) a r v
-    t = steps w v (world_state d h) a r k b (all-fit d h a k.deployment run) st f
+    of : (s : WorldState) → Stands w s → (m : NetSeen) → p ≡ Some m → StandsNet m (s.links (n + 1)) (s.dead (n + 1))
+    of s st m e = st.nets n m (subst (λ (q : Option NetSeen). slice_get w.nets n ≡ Some q) e g.at)
 
-    told : r ≡ answer d h a
-    told = t.answer ∙ (step-parts d h a k.deployment b run (plain w v a r f)).0
+    hands : (s : WorldState) → Stands w s → HandsIn w.deployment s (act.Turn j) j (given.Turn (front_to p j))
+    hands s st = turn-hands w.deployment s j (front_to p j) (front-found w.deployment s j n p lt (at s st) (k.planted n p g.at) (of s st))
 
-    next : world_next d (world_state d h) a r ≡ world_state d (entry_of a r ∷ h)
-    next = ap (world_next d (world_state d h) a) t.answer ∙ ((step-parts d h a k.deployment b run (plain w v a r f)).1 ∙ ap (λ (x : Answer). world_state d (entry_of a x ∷ h)) (sym told))
+    not-taking : (r : Answer) → is_done r ≡ false → is_taking r ≡ false
+    not-taking (ans.Shown l) f = absurd (cc)
+    not-taking (ans.Took l) f = absurd (cc)
+    not-taking _ f = refl
+
+    same : is_taking r ≡ false → nets ≡ w.nets
+    same f = g.rest ∙ (ap (set w.nets n) (taken-not r p j f) ∙ set-same w.nets n p g.at)
+
+    dead : (s : WorldState) (e z : ℕ) → dead_next e z (s.dead e z) (act.Turn j) r ≡ s.dead e z
+    dead s e z = same-dead e z (s.dead e z) (act.Turn j) r refl
+
+    links : (s : WorldState) → Stands w s → (b : Bool) → is_taking r ≡ b → NetsStand nets (λ e. links_next w.deployment (handling_of w.deployment s (act.Turn j) r) e (s.links e)) (λ e z. dead_next e z (s.dead e z) (act.Turn j) r)
+    links s st false t =
+        subst (λ (ns : List (Option NetSeen)). NetsStand ns (λ e. links_next w.deployment (handling_of w.deployment s (act.Turn j) r) e (s.links e)) (λ e z. dead_next e z (s.dead e z) (act.Turn j) r)) (sym (same t))
+        (no-net w (handling_of w.deployment s (act.Turn j) r) s.links s.dead (λ e z. dead_next e z (s.dead e z) (act.Turn j) r) k (turn-handles-none w.deployment (λ i. (s.sites i).views.emission) (λ i. (s.sites i).views.view) j r t) (dead s) st.nets)
+    links s st true t =
+        let x = turn-handles w.deployment (λ i. (s.sites i).views.emission) (λ i. (s.sites i).views.view) j r t in
+        subst (λ (y : Option Handling). NetsStand nets (λ e. links_next w.deployment y e (s.links e)) (λ e z. dead_next e z (s.dead e z) (act.Turn j) r)) (sym x.1)
+        (one-net w (taking w.deployment (s.sites j).views.view j x.0) s.links s.dead (λ e z. dead_next e z (s.dead e z) (act.Turn j) r) n (net_taken r p j) nets k (at s st) (dead s) g.rest (new s st x.0 t p refl) st.nets)
+      where
+        new : (s : WorldState) → Stands w s → (l : Label) → is_taking r ≡ true → (q : Option NetSeen) → p ≡ q → (net : NetSeen) → net_taken r p j ≡ Some net → StandsNet net (links_next w.deployment (Some (taking w.deployment (s.sites j).views.view j l)) (n + 1) (s.links (n + 1))) (s.dead (n + 1))
+        new s st l t None e net f = absurd (let a : net_taken r None j ≡ Some net = subst (λ (p : Option NetSeen). net_taken r p j ≡ Some net) e f in let b : None ≡ Some net = a in cc)
+        new s st l t (Some m) e net f =
+            let net-of : IsNetOf w.deployment (n + 1) m = subst (IsPlanted w.deployment (n + 1)) e (k.planted n p g.at) in
+            let is : after_take m j ≡ net = some_is (after_take m j) net (sym (taken-so r m j t) ∙ subst (λ (p : Option NetSeen). net_taken r p j ≡ Some net) e f) in
+            let x : taking w.deployment (s.sites j).views.view j l ≡ handled_at (n + 1) (Site j) (Some (Serializer (seat_of m.tree j))) l =
+            ap (λ (v : ℕ). taking w.deployment v j l) (at s st) ∙ ap (λ (o : Option NodeId). handled_at (n + 1) (Site j) o l) (seat-found w.deployment (n + 1) j m.tree net-of.tree) in
+            subst (λ (net : NetSeen). StandsNet net (links_next w.deployment (Some (taking w.deployment (s.sites j).views.view j l)) (n + 1) (s.links (n + 1))) (s.dead (n + 1))) is
+            (subst (λ (x : Handling). StandsNet (after_take m j) (links_next w.deployment (Some x) (n + 1) (s.links (n + 1))) (s.dead (n + 1))) (sym x)
+            (takes w.deployment (n + 1) m (s.links (n + 1)) (s.dead (n + 1)) j l net-of (of s st m e) lt))

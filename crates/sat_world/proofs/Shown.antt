@@ -1,26 +1,23 @@
 -- What a world shows, and the world in which nothing has happened.
-use Rattle.std.specs.Prelude.{◌≡◌, ◌<◌, ℕ, zero, suc, Bool, true, false, cond, List, [], ◌∷◌, length, map, replicate, Option, Some, None, slice_get, refl}
-use Rattle.std.proofs.Common.{sym, subst, ap, ◌∙◌, inl, inr, Bor, MatchOption}
+use Rattle.std.specs.Prelude.{◌≡◌, ◌≤◌, ◌+◌, ◌-◌, ℕ, false, List, [], length, map, Option, Some, None, slice_get, refl}
+use Rattle.std.proofs.Common.{sym, subst, ap, ◌∙◌, arith, Bor, MatchOption}
 use Rattle.std.proofs.lemmas.List.{length-map}
 use Rattle.sat_label.specs.declared.label.Label.{Label}
-use Rattle.sat_label.specs.declared.node.NodeId.{NodeId}
-use Rattle.sat_label.specs.declared.node.NodeId.TheVariants.{Site, Serializer}
-use Rattle.sat_label.specs.Order.{node_eq}
-use Rattle.sat_sites.specs.Interested.{Interested}
 use Rattle.sat_tree.specs.Shape.{TreeShape}
-use Rattle.sat_tree.specs.Cut.{neighbours, seat_of}
 use Rattle.sat_act.specs.declared.deployment.ClientLine.{ClientLine}
 use Rattle.sat_act.specs.declared.entry.Entry.{Entry}
 use Rattle.sat_act.specs.Deployed.{Deployed}
-use Rattle.sat_act.specs.Built.{IsBuilt}
 use Rattle.sat_act.specs.Limits.{IsDeployment}
 use Rattle.sat_act.specs.Runs.{IsRun}
-use Rattle.sat_act.specs.Parts.{view, emission, in_stamp_mode, waiting, version, value_of}
+use Rattle.sat_act.specs.declared.deployment.Plan.{Plan}
+use Rattle.sat_act.specs.declared.deployment.Plan.TheVariants as plan
+use Rattle.sat_act.proofs.Plans.{tree_from_plans}
+use Rattle.sat_act.specs.Parts.{planned_tree, tree_of, view, emission, in_stamp_mode, waiting, version, value_of}
 use Rattle.sat_act.proofs.Valid.{is_valid}
 use Rattle.sat_laws.proofs.Labels.{some_is}
 use Rattle.sat_bulk.specs.declared.Payload.{Payload}
 use Rattle.sat_store.specs.declared.store.Version.{Version}
-use Rattle.sat_machine.specs.State.{SiteState, fresh_site}
+use Rattle.sat_machine.specs.State.{SiteState}
 use Rattle.sat_machine.specs.Look.{mode_of}
 use Rattle.sat_machine.specs.World.{world_state}
 use Rattle.sat_machine.proofs.Worlds.{world-starts}
@@ -28,17 +25,21 @@ use Rattle.sat_machine.proofs.Simple.{view-agrees, emission-agrees}
 use Rattle.sat_machine.proofs.Raising.{mode-agrees}
 use Rattle.sat_machine.proofs.Pools.{pool-agrees}
 use Rattle.sat_machine.proofs.Stores.{store-agrees}
-use Rattle.sat_serial.specs.Outboxes.{SerializerSeen, fresh, outbox, box_of}
 use Rattle.sat_site.specs.Seen.{SiteSeen}
-use Rattle.sat_site.specs.Stands.{StandsSite, interest_of, payload_of as of_version}
+use Rattle.sat_machine.specs.Interests.{interest_of}
+use Rattle.sat_net.specs.Nets.{NetSeen, fresh_net}
+use Rattle.sat_net.specs.NetStands.{StandsNet}
+use Rattle.sat_world.proofs.Laws.{starts}
+use Rattle.sat_world.proofs.Laws.{net-fresh}
+use Rattle.sat_site.specs.Stands.{StandsSite, payload_of as of_version}
 use Rattle.sat_site.specs.declared.output.SiteView.{SiteView}
-use Rattle.sat_world.specs.declared.client.Client.{Client}
-use Rattle.sat_world.specs.Seen.{WorldSeen, HasSite, tree_in, shape_of}
-use Rattle.sat_world.specs.Starts.{AreFresh, fresh_serializers, seated}
-use Rattle.sat_world.specs.Orderly.{IsOrderly, AreOnLink}
+use Rattle.sat_client.specs.declared.client.Client.{Client}
+use Rattle.sat_world.specs.Seen.{WorldSeen, HasSite}
+use Rattle.sat_world.specs.Starts.{AreFresh, fresh_for, seated}
+use Rattle.sat_world.specs.Worlds.{IsFrame, IsPlanted, IsWorld}
 use Rattle.sat_world.specs.Shows.{IsVersion}
 use Rattle.sat_world.specs.Stands.{Stands, StandsFor}
-use Rattle.sat_world.proofs.Lists.{push-cases, length-push, map-get}
+use Rattle.sat_world.proofs.Lists.{map-get}
 use Rattle.sat_world.proofs.Built.{home-is}
 use Rattle.sat_machine.specs.Parts.{valued, valued_version}
 
@@ -89,90 +90,56 @@ shows-version w h i n x (Some v) k run st at is =
 
 -- ---- the new world
 
-empty-get : {X : Type 0} (n k : ℕ) (xs : List X) → slice_get (replicate n []) k ≡ Some xs → xs ≡ []
-empty-get zero k xs e = absurd (cc)
-empty-get (suc n) zero xs e = sym (some_is [] xs e)
-empty-get (suc n) (suc k) xs e = empty-get n k xs e
-
-length-fill : {X : Type 0} (n : ℕ) (x : X) → length (replicate n x) ≡ n
-length-fill zero x = refl
-length-fill (suc n) x = ap suc (length-fill n x)
-
-either-empty : (b : Bool) (ls : List Label) → ls ≡ [] → cond b [] ls ≡ []
-either-empty true ls e = refl
-either-empty false ls e = e
-
-empty-box : (v : NodeId) (nodes : List NodeId) → box_of v nodes (replicate (length nodes) []) ≡ []
-empty-box v [] = refl
-empty-box v (u ∷ nodes) = either-empty (node_eq v u) (box_of v nodes (replicate (length nodes) [])) (empty-box v nodes)
-
-fresh-outbox : (t : TreeShape) (z : ℕ) (v : NodeId) → outbox (fresh t z) v ≡ []
-fresh-outbox t z v = empty-box v (neighbours t z)
-
-serializers-long : (t : TreeShape) (n : ℕ) → length (fresh_serializers t n) ≡ n
-unfolding fresh_serializers
-serializers-long t zero = refl
-serializers-long t (suc n) = length-push (fresh_serializers t n) (fresh t n) ∙ ap suc (serializers-long t n)
-
-fresh-at : (t : TreeShape) (n z : ℕ) (s : SerializerSeen) → slice_get (fresh_serializers t n) z ≡ Some s → s ≡ fresh t z
-unfolding fresh_serializers
-fresh-at t zero z s e = absurd (cc)
-fresh-at t (suc n) z s e = elim (push-cases (fresh_serializers t n) (fresh t n) s z e) [
-  | inl w ↦ fresh-at t n z s w
-  | inr w ↦ sym w.1 ∙ ap (fresh t) (sym (w.0 ∙ serializers-long t n))
-]
-
-no-labels : (a : Interested) (t : TreeShape) (u v : NodeId) (ls : List Label) → ls ≡ [] → AreOnLink a t u v ls
-no-labels a t u v ls e = λ n l at. absurd (let f : slice_get [] n ≡ Some l = subst (λ (ms : List Label). slice_get ms n ≡ Some l) e at in cc)
-
 -- the parts of the new world
 pub record AreNew (w : WorldSeen) : Type 0 where
   pub interest : w.interest ≡ interest_of w.deployment
   pub sites : AreFresh w.deployment w.deployment.sites w.sites
-  pub serializers : w.serializers ≡ fresh_serializers (tree_in w.deployment) (length (tree_in w.deployment).parents)
-  pub outgoing : w.outgoing ≡ replicate w.deployment.sites []
+  pub nets : w.nets ≡ map fresh_for w.deployment.plans
   pub clients : w.clients ≡ map seated w.deployment.clients
 
-module _ (w : WorldSeen) (k : IsDeployment w.deployment) (b : IsBuilt w.deployment) (n : AreNew w) where
-  new-serializer : (z : ℕ) (s : SerializerSeen) → slice_get w.serializers z ≡ Some s → s ≡ fresh (tree_in w.deployment) z
-  new-serializer z s e = fresh-at (tree_in w.deployment) (length (tree_in w.deployment).parents) z s (subst (λ (ss : List SerializerSeen). slice_get ss z ≡ Some s) n.serializers e)
+planned-at : (d : Deployed) (n : ℕ) → tree_of d (n + 1) ≡ planned_tree d.plans n
+planned-at d n = let low : 1 ≤ n + 1 = omega arith in let e : (n + 1) - 1 ≡ n = omega arith in tree_from_plans d (n + 1) low ∙ ap (planned_tree d.plans) e
 
-  new-link : (i : ℕ) (ls : List Label) → slice_get w.outgoing i ≡ Some ls → ls ≡ []
-  new-link i ls e = empty-get w.deployment.sites i ls (subst (λ (out : List (List Label)). slice_get out i ≡ Some ls) n.outgoing e)
+abbrev planned_by : Option Plan → Option TreeShape
+planned_by o = elim o [ None ↦ None | Some p ↦ elim p [ plan.Stamp ↦ None | plan.Tree t ↦ Some t ] ]
 
-  new-box : (z : ℕ) (s : SerializerSeen) (v : NodeId) → slice_get w.serializers z ≡ Some s → outbox s v ≡ []
-  new-box z s v e = ap (λ (s : SerializerSeen). outbox s v) (new-serializer z s e) ∙ fresh-outbox (tree_in w.deployment) z v
-
+module _ (w : WorldSeen) (k : IsDeployment w.deployment) (n : AreNew w) where
   new-client : (c : ℕ) (x : Client) → slice_get w.clients c ≡ Some x → (line : ClientLine) × (slice_get w.deployment.clients c ≡ Some line) × (seated line ≡ x)
   new-client c x e = map-get seated w.deployment.clients c x (subst (λ (cl : List Client). slice_get cl c ≡ Some x) n.clients e)
 
-  shape-is : (x : SiteSeen) (i : ℕ) (s : SiteState) → StandsSite w.deployment i x s → x.shape ≡ shape_of w.deployment i
-  shape-is x i s st = λ j. record { sites = st.sites j; gears = st.count j; site = st.site j; interest = st.interest j }
+  new-net : (m : ℕ) (o : Option NetSeen) → slice_get w.nets m ≡ Some o → (p : Plan) × (slice_get w.deployment.plans m ≡ Some p) × (fresh_for p ≡ o)
+  new-net m o e = map-get fresh_for w.deployment.plans m o (subst (λ (ns : List (Option NetSeen)). slice_get ns m ≡ Some o) n.nets e)
 
-  pub new-orderly : IsOrderly w
-  new-orderly = record {
+  planted : (m : ℕ) (p : Plan) → slice_get w.deployment.plans m ≡ Some p → IsPlanted w.deployment (m + 1) (fresh_for p)
+  planted m plan.Stamp e = planned-at w.deployment m ∙ ap (λ (o : Option Plan). planned_by o) e
+  planted m (plan.Tree t) e =
+      let tree : tree_of w.deployment (m + 1) ≡ Some t = planned-at w.deployment m ∙ ap (λ (o : Option Plan). planned_by o) e in
+      record { deployment = k; tree = tree; net = net-fresh t (k.trees (m + 1) t tree) }
+
+  new-frame : IsFrame w
+  new-frame = record {
     deployment = k;
-    built = b;
     interest = n.interest;
     sites = n.sites.count;
-    shapes = λ i x at. shape-is x i (fresh_site i) (n.sites.each i x at);
-    serializers = ap (λ (ss : List SerializerSeen). length ss) n.serializers ∙ serializers-long (tree_in w.deployment) (length (tree_in w.deployment).parents);
-    placed = λ z s at. let e = new-serializer z s at in record { tree = ap (λ (s : SerializerSeen). s.tree) e; number = ap (λ (s : SerializerSeen). s.number) e; alive = ap (λ (s : SerializerSeen). s.killed) e };
-    outgoing = ap (λ (out : List (List Label)). length out) n.outgoing ∙ length-fill w.deployment.sites [];
+    nets = ap (λ (ns : List (Option NetSeen)). length ns) n.nets ∙ length-map w.deployment.plans fresh_for;
+    planted = λ m o at. let p = new-net m o at in subst (IsPlanted w.deployment (m + 1)) p.2 (planted m p.0 p.1);
     clients = ap (λ (cl : List Client). length cl) n.clients ∙ length-map w.deployment.clients seated;
-    seated = λ c x at. let l = new-client c x at in subst (λ (x : Client). x.seat < w.deployment.sites) l.2 (k.homes c l.0 l.1);
-    up = λ i ls at. no-labels w.interest (tree_in w.deployment) (Site i) (Serializer (seat_of (tree_in w.deployment) i)) ls (new-link i ls at);
-    down = λ z s v at nb. no-labels w.interest (tree_in w.deployment) (Serializer z) v (outbox s v) (new-box z s v at);
   }
+
+  fresh-net : (p : Plan) (net : NetSeen) → fresh_for p ≡ Some net → StandsNet net (λ u v. []) (λ z. false)
+  fresh-net plan.Stamp net e = absurd (let f : None ≡ Some net = e in cc)
+  fresh-net (plan.Tree t) net e = subst (λ (net : NetSeen). StandsNet net (λ u v. []) (λ z. false)) (some_is (fresh_net t) net e) (starts t)
 
   pub new-stands : StandsFor w []
   new-stands = subst (Stands w) (sym (world-starts w.deployment)) (record {
     sites = n.sites.each;
-    up = new-link;
-    down = λ z s v at nb. new-box z s v at;
-    alive = λ z. refl;
+    nets = λ m net at. let p = new-net m (Some net) at in fresh-net p.0 net p.2;
     clients = λ c x at. let l = new-client c x at in record {
       carried = sym (ap (λ (x : Client). x.carried) l.2);
-      seat = home-is w.deployment c (Some l.0) l.1 ∙ ap (λ (x : Client). Some x.seat) l.2;
+      seat = sym (ap (λ (x : Client). x.seat) l.2) ∙ sym (home-is w.deployment c (Some l.0) l.1);
     };
   })
+
+  pub new-world : IsWorld w
+  unfolding IsRun
+  new-world = record { frame = new-frame; history = []; run = tt; stands = new-stands }

@@ -1,12 +1,11 @@
 -- The greatest promise of all, and the act clock at each site.
 use Rattle.std.specs.Prelude.{◌≡◌, ℕ, zero, suc, max, List, length, Some, slice_get}
 use Rattle.sat_act.specs.Deployed.{Deployed}
-use Rattle.sat_act.specs.declared.answer.Answer.TheVariants as ans
 use Rattle.sat_machine.specs.State.{SiteState}
-use Rattle.sat_machine.specs.Input as given
-use Rattle.sat_site.specs.Seen.{SiteSeen}
+use Rattle.sat_site.specs.Seen.{SiteSeen, IsSite}
 use Rattle.sat_site.specs.Stands.{StandsSite}
-use Rattle.sat_site.specs.Gives.{StandsBy, PromisesUpTo}
+use Rattle.sat_site.specs.Gives.{PromisesUpTo}
+use Rattle.sat_site.specs.Changes.{clocked}
 
 -- the greatest of the first n
 unfoldable pub greatest_of : (ℕ → ℕ) → ℕ → ℕ
@@ -22,6 +21,7 @@ abbrev pub IsGreatestOf : List SiteSeen → ℕ → ℕ → ℕ → Type 0
 IsGreatestOf xs m n ts =
     (d : Deployed) (S : ℕ → SiteState) → ((i : ℕ) (x : SiteSeen) → slice_get xs i ≡ Some x → StandsSite d i x (S i)) → ts ≡ greatest_of (λ i. greatest_of (λ g. ((S i).gears g).promise) n) m
 
+-- the greatest promise of the first n gears of all sites
 abbrev pub IsGreatest : List SiteSeen → ℕ → ℕ → Type 0
 IsGreatest xs n ts = IsGreatestOf xs (length xs) n ts
 
@@ -29,8 +29,12 @@ IsGreatest xs n ts = IsGreatestOf xs (length xs) n ts
 abbrev pub AreUpTo : List SiteSeen → ℕ → Type 0
 AreUpTo xs ts = (i : ℕ) (x : SiteSeen) → slice_get xs i ≡ Some x → PromisesUpTo x ts
 
+-- a site that was handed the clock
+pub record IsClocked (ts : ℕ) (x y : SiteSeen) : Type 0 where
+  pub sound : IsSite x
+  pub after : y ≡ clocked x ts
+
 -- each site was handed the clock
 pub record AreClocked (ts : ℕ) (xs ys : List SiteSeen) : Type 0 where
   pub count : length ys ≡ length xs
-  pub stands : (i : ℕ) (x y : SiteSeen) → slice_get xs i ≡ Some x → slice_get ys i ≡ Some y → StandsBy x (given.Clock ts) (ans.Clocked ts) y
-  pub shapes : (i : ℕ) (x y : SiteSeen) → slice_get xs i ≡ Some x → slice_get ys i ≡ Some y → y.shape ≡ x.shape
+  pub each : (i : ℕ) (x y : SiteSeen) → slice_get xs i ≡ Some x → slice_get ys i ≡ Some y → IsClocked ts x y

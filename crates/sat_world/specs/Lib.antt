@@ -1,8 +1,8 @@
+pub mod Built
 pub mod Seen
-pub mod Acts
-pub mod Orderly
 pub mod Stands
+pub mod Worlds
+pub mod Steps
 pub mod Shows
 pub mod Clocks
 pub mod Starts
-pub mod Rooms

@@ -1,8 +1,8 @@
 //! The world: all sites, links and clients of a deployment on one thread.
 #![tactic(auto)]
 
-mod client;
 mod clocks;
+mod nets;
 mod places;
 mod start;
 mod world;

@@ -1,32 +1,17 @@
 //! The parts of a world in which nothing has happened.
-ghost use Rattle.std.specs.Prelude.{ℕ, ◌≡◌, ◌<◌, [], length, map, replicate, slice_get, Some, IfOk};
-ghost use Rattle.sat_act.specs.Built.{IsBuilt};
+ghost use Rattle.std.specs.Prelude.{ℕ, ◌≡◌, ◌<◌, [], length, map, slice_get, Some, IfOk};
+ghost use Rattle.sat_act.specs.declared.deployment.Plan.{Plan as PlanSeen};
 ghost use Rattle.sat_act.specs.Limits.{IsDeployment};
-ghost use Rattle.sat_site.specs.Stands.{interest_of};
-ghost use Rattle.sat_serial.specs.Queues.{labels_in};
-ghost use Rattle.sat_world.specs.Seen.{tree_in};
-ghost use Rattle.sat_world.specs.Starts.{AreFresh, fresh_serializers, seated};
+ghost use Rattle.sat_machine.specs.Interests.{interest_of};
+ghost use Rattle.sat_world.specs.Starts.{AreFresh, fresh_for, seated};
 
-use crate::client::Client;
 use sat_act::{Deployment, Plan};
-use sat_label::{Label, Point, SiteSet};
-use sat_serial::Serializer;
+use sat_client::Client;
+use sat_label::SiteSet;
+use sat_net::Net;
 use sat_site::Site;
 use sat_sites::{Interest, InterestFault};
-use sat_tree::Tree;
 use std::alloc::{AllocError, Global};
-use std::collections::VecDeque;
-
-/// The tree of the first epoch.
-pub fn tree(d: &Deployment) -> &Tree
-    requires { IsBuilt d.now }
-    ensures tree { result.now ≡ tree_in d.now }
-{
-    match &d.plans()[0] {
-        Plan::Tree(tree) => tree,
-        Plan::Stamp => unreachable!(),
-    }
-}
 
 fn replicas(alloc: Global, d: &Deployment) -> Result<Vec<SiteSet>, AllocError>
     ensures replicas { IfOk result (λ sets. sets.items ≡ (interest_of d.now).replicas) }
@@ -53,7 +38,6 @@ pub fn interest(alloc: Global, d: &Deployment) -> Result<Interest, AllocError>
 
 /// The sites.
 pub fn sites(alloc: Global, d: &Deployment) -> Result<Vec<Site>, AllocError>
-    requires { IsBuilt d.now }
     ensures { IfOk result (λ sites. AreFresh d.now d.now.sites sites.items) }
 {
     let mut sites = Vec::new(alloc);
@@ -63,26 +47,28 @@ pub fn sites(alloc: Global, d: &Deployment) -> Result<Vec<Site>, AllocError>
     Ok(sites)
 }
 
-/// The serializers of a tree.
-pub fn serializers(alloc: Global, tree: &Tree) -> Result<Vec<Serializer>, AllocError>
-    ensures { IfOk result (λ serializers. serializers.items ≡ fresh_serializers tree.now (length tree.now.parents)) }
+// The net of a plan, None where it is stamp order.
+fn net(alloc: Global, plan: &Plan) -> Result<Option<Net>, AllocError>
+    ensures { IfOk result (λ net. net ≡ fresh_for plan.now) }
 {
-    let mut serializers = Vec::new(alloc);
-    for number in 0..tree.serializers() {
-        serializers.push(Serializer::new(alloc, tree, number)?)?;
+    match plan {
+        Plan::Stamp => Ok(None),
+        Plan::Tree(tree) => {
+            let net = Net::new(alloc, tree)?;
+            Ok(Some(net))
+        }
     }
-    Ok(serializers)
 }
 
-/// So many empty links.
-pub fn links(alloc: Global, count: u16) -> Result<Vec<VecDeque<Label>>, AllocError>
-    ensures { IfOk result (λ links. labels_in links.items ≡ replicate count []) }
+/// The nets of all plans.
+pub fn nets(alloc: Global, plans: &[Plan]) -> Result<Vec<Option<Net>>, AllocError>
+    ensures { IfOk result (λ nets. nets.items ≡ map fresh_for plans.now) }
 {
-    let mut links = Vec::new(alloc);
-    for _ in 0..count {
-        links.push(VecDeque::new(alloc))?;
+    let mut nets = Vec::new(alloc);
+    for plan in plans {
+        nets.push(net(alloc, plan)?)?;
     }
-    Ok(links)
+    Ok(nets)
 }
 
 /// The clients, at their first sites.
@@ -91,10 +77,7 @@ pub fn clients(alloc: Global, d: &Deployment) -> Result<Vec<Client>, AllocError>
 {
     let mut clients = Vec::new(alloc);
     for line in d.clients() {
-        clients.push(Client {
-            carried: Point::zero(),
-            seat: line.site,
-        })?;
+        clients.push(Client::new(line.site))?;
     }
     Ok(clients)
 }

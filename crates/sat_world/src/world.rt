@@ -1,29 +1,26 @@
 //! The world of the built acts.
-ghost use Rattle.std.specs.Prelude.{◌≡◌, ◌<◌, ℕ, true, false, List, [], ◌∷◌, length, IfOk, OnErr, IsOk, MatchOption, Some, None};
+ghost use Rattle.std.specs.Prelude.{◌≡◌, ◌<◌, ℕ, true, false, List, [], ◌∷◌, length, slice_get, IfOk, OnErr, IsOk, MatchOption, Some, None};
 ghost use Rattle.sat_act.specs.declared.entry.Entry.{Entry};
 ghost use Rattle.sat_act.specs.Answers.{answer};
 ghost use Rattle.sat_act.specs.Runs.{IsRun};
 ghost use Rattle.sat_act.specs.Ranges.{IsActOf};
-ghost use Rattle.sat_act.specs.Built.{IsBuilt, is_built_act};
+ghost use Rattle.sat_act.specs.Settling.{is_done};
 ghost use Rattle.sat_act.specs.Headline.{IsGood};
 ghost use Rattle.sat_act.specs.Parts.{view, emission, in_stamp_mode, waiting, version, value_of};
-ghost use Rattle.sat_label.specs.declared.node.NodeId.TheVariants.{Site as SiteNode, Serializer as SerializerNode};
-ghost use Rattle.sat_serial.specs.Routes.{IsNeighbour};
-ghost use Rattle.sat_world.specs.Seen.{tree_in};
-ghost use Rattle.sat_world.specs.Acts.{Acts};
-ghost use Rattle.sat_world.specs.Orderly.{IsOrderly};
+ghost use Rattle.sat_world.specs.Built.{is_built_act};
+ghost use Rattle.sat_world.specs.Steps.{is_local, Goes, Hands};
+ghost use Rattle.sat_world.specs.Worlds.{IsWorld};
 ghost use Rattle.sat_world.specs.Shows.{IsVersion};
 ghost use Rattle.sat_world.specs.Stands.{StandsFor};
 
-use crate::client::Client;
-use crate::{SiteView, Version, clocks, places, start};
+use crate::{SiteView, Version, clocks, nets, places, start};
 use sat_act::{Act, Answer, Deployment, Refusal};
-use sat_label::{Label, NodeId, Value};
-use sat_serial::Serializer;
+use sat_client::Client;
+use sat_label::{NodeId, Value};
+use sat_net::Net;
 use sat_site::{Site, SiteInput};
 use sat_sites::Interest;
 use std::alloc::{AllocError, Global};
-use std::collections::VecDeque;
 use std::marker::Model;
 
 /// All sites, links and clients of a deployment. It keeps no past.
@@ -32,41 +29,36 @@ pub struct World {
     deployment: Deployment,
     interest: Interest,
     sites: Vec<Site>,
-    serializers: Vec<Serializer>,
-    outgoing: Vec<VecDeque<Label>>,
+    nets: Vec<Option<Net>>,
     clients: Vec<Client>,
 }
 
 impl Model for World {
-    ghost use Rattle.sat_serial.specs.Queues.{labels_in};
     ghost use Rattle.sat_world.specs.Seen.{WorldSeen};
-    ghost use Rattle.sat_world.specs.Orderly.{IsOrderly};
+    ghost use Rattle.sat_world.specs.Worlds.{IsWorld};
 
     ghost Value = { WorldSeen };
 
-    ghost view = { λ w. record { deployment = w.deployment; interest = w.interest; sites = w.sites.items; serializers = w.serializers.items; outgoing = labels_in w.outgoing.items; clients = w.clients.items } };
+    ghost view = { λ w. record { deployment = w.deployment; interest = w.interest; sites = w.sites.items; nets = w.nets.items; clients = w.clients.items } };
 
-    ghost invariant = { λ w. IsOrderly (record { deployment = w.deployment; interest = w.interest; sites = w.sites.items; serializers = w.serializers.items; outgoing = labels_in w.outgoing.items; clients = w.clients.items }) };
+    ghost invariant = { λ w. IsWorld (record { deployment = w.deployment; interest = w.interest; sites = w.sites.items; nets = w.nets.items; clients = w.clients.items }) };
 }
 
 impl World {
     /// The world in which nothing has happened yet.
     pub fn new(alloc: Global, d: Deployment) -> Result<World, AllocError>
-        requires { IsBuilt d }
         ensures deployment { IfOk result (λ w. w.deployment ≡ d) }
         ensures stands { IfOk result (λ w. StandsFor w []) }
     {
         let interest = start::interest(alloc, &d)?;
         let sites = start::sites(alloc, &d)?;
-        let serializers = start::serializers(alloc, start::tree(&d))?;
-        let outgoing = start::links(alloc, d.sites())?;
+        let nets = start::nets(alloc, d.plans())?;
         let clients = start::clients(alloc, &d)?;
         Ok(World {
             deployment: d,
             interest,
             sites,
-            serializers,
-            outgoing,
+            nets,
             clients,
         })
     }
@@ -81,6 +73,7 @@ impl World {
         ensures tick { (i g t : ℕ) → act.now ≡ Act.Tick i g t → IsOk result }
         ensures clock { act.now ≡ Act.Clock → IsOk result }
         ensures turn { (j : ℕ) → act.now ≡ Act.Turn j → IsOk result }
+        ensures refused { IfOk result (λ r. is_done r ≡ false → self.new ≡ self.old) }
         ensures deployment { self.new.deployment ≡ self.old.deployment }
         ensures err { OnErr result (self.new ≡ self.old) }
     {
@@ -121,8 +114,8 @@ impl World {
     fn step(&mut self, act: &Act) -> Result<Answer, AllocError>
         requires act { IsActOf self.old.deployment act.now }
         requires built { is_built_act act.now ≡ true }
-        ensures ok { IfOk result (λ r. Acts self.old act.now r self.new) }
-        ensures orderly { IsOrderly self.old }
+        ensures goes { IfOk result (λ r. Goes self.old act.now r self.new) }
+        ensures world { IsWorld self.old }
         ensures tick { (i g t : ℕ) → act.now ≡ Act.Tick i g t → IsOk result }
         ensures clock { act.now ≡ Act.Clock → IsOk result }
         ensures turn { (j : ℕ) → act.now ≡ Act.Turn j → IsOk result }
@@ -140,10 +133,7 @@ impl World {
             Act::Read { client, item } => self.read(*client, *item),
             Act::Gather { site } => self.gather(*site),
             Act::Emit { site } => self.emit(*site),
-            Act::Hop { epoch, from, to } => match from {
-                NodeId::Site(from) => self.hop_up(*epoch, *from, *to),
-                NodeId::Serializer(from) => self.hop_on(*epoch, *from, *to),
-            },
+            Act::Hop { epoch, from, to } => self.hop(*epoch, *from, *to),
             Act::Turn { site } => self.turn(*site),
             Act::Bulk {
                 from,
@@ -160,7 +150,7 @@ impl World {
 
     fn tick(&mut self, site: u16, gear: u16, ts: u64) -> Result<Answer, AllocError>
         requires { IsActOf self.old.deployment (Act.Tick site gear ts) }
-        ensures ok { IfOk result (λ r. Acts self.old (Act.Tick site gear ts) r self.new) }
+        ensures goes { IfOk result (λ r. Goes self.old (Act.Tick site gear ts) r self.new) }
         ensures fine { IsOk result }
     {
         let out = places::step_at(&mut self.sites, site, SiteInput::Tick { gear, ts })?;
@@ -168,7 +158,7 @@ impl World {
     }
 
     fn clock(&mut self) -> Answer
-        ensures { Acts self.old Act.Clock result self.new }
+        ensures { Goes self.old Act.Clock result self.new }
     {
         let gears = self.deployment.gears();
         let ts = clocks::greatest(&self.sites, gears);
@@ -178,103 +168,95 @@ impl World {
 
     fn write(&mut self, client: u16, item: u16, value: &Value) -> Result<Answer, AllocError>
         requires { IsActOf self.old.deployment (Act.Write client item value.now) }
-        ensures ok { IfOk result (λ r. Acts self.old (Act.Write client item value.now) r self.new) }
+        ensures goes { IfOk result (λ r. Goes self.old (Act.Write client item value.now) r self.new) }
         ensures err { OnErr result (self.new ≡ self.old) }
     {
         let known = self.clients[client as usize];
+        let Some(seat) = known.seat else {
+            return Ok(Answer::Refused(Refusal::NoSession));
+        };
+        let refusal = places::write_refusal_at(&self.sites, seat, &known.carried, item);
+        if let Some(refusal) = refusal {
+            return Ok(Answer::Refused(refusal));
+        }
         let input = SiteInput::Write {
-            carried: known.seen(),
+            carried: known.carried,
             item,
             value: value.copy()?,
         };
-        let out = places::step_at(&mut self.sites, known.seat, input)?;
-        self.clients[client as usize].carried = places::told(&out.answer, known.carried);
+        let out = places::step_at(&mut self.sites, seat, input)?;
+        places::tell_at(&mut self.clients, client, &out.answer);
         Ok(out.answer)
     }
 
     fn read(&mut self, client: u16, item: u16) -> Result<Answer, AllocError>
         requires { IsActOf self.old.deployment (Act.Read client item) }
-        ensures ok { IfOk result (λ r. Acts self.old (Act.Read client item) r self.new) }
+        ensures goes { IfOk result (λ r. Goes self.old (Act.Read client item) r self.new) }
         ensures err { OnErr result (self.new ≡ self.old) }
     {
         let known = self.clients[client as usize];
+        let Some(seat) = known.seat else {
+            return Ok(Answer::Refused(Refusal::NoSession));
+        };
         let input = SiteInput::Read {
-            carried: known.seen(),
+            carried: known.carried,
             item,
         };
-        let out = places::step_at(&mut self.sites, known.seat, input)?;
-        self.clients[client as usize].carried = places::told(&out.answer, known.carried);
+        let out = places::step_at(&mut self.sites, seat, input)?;
+        places::tell_at(&mut self.clients, client, &out.answer);
         Ok(out.answer)
     }
 
     fn gather(&mut self, site: u16) -> Result<Answer, AllocError>
         requires { site < self.old.deployment.sites }
-        ensures ok { IfOk result (λ r. Acts self.old (Act.Gather site) r self.new) }
+        ensures goes { IfOk result (λ r. Goes self.old (Act.Gather site) r self.new) }
         ensures err { OnErr result (self.new ≡ self.old) }
     {
         let out = places::step_at(&mut self.sites, site, SiteInput::Gather)?;
         Ok(out.answer)
     }
 
+    // What is sent is on its way before the site has sent it, since an emission takes no memory and the way may.
     fn emit(&mut self, site: u16) -> Result<Answer, AllocError>
         requires { site < self.old.deployment.sites }
-        ensures ok { IfOk result (λ r. Acts self.old (Act.Emit site) r self.new) }
+        ensures goes { IfOk result (λ r. Goes self.old (Act.Emit site) r self.new) }
         ensures err { OnErr result (self.new ≡ self.old) }
     {
-        places::make_room(&mut self.outgoing, site)?;
+        let known = &self.sites[site as usize];
+        let epoch = known.view().emission;
+        let sent = known.sends(&SiteInput::Emit);
+        nets::send_at(&mut self.nets, epoch as usize - 1, site, sent)?;
         let out = places::step_at(&mut self.sites, site, SiteInput::Emit)?;
-        places::send_at(&mut self.outgoing, site, out.sent);
         Ok(out.answer)
     }
 
-    // A label goes from a site to its serializer.
-    fn hop_up(&mut self, epoch: u16, from: u16, to: u16) -> Result<Answer, AllocError>
-        requires { IsActOf self.old.deployment (Act.Hop epoch (SiteNode from) to) }
-        ensures ok { IfOk result (λ r. Acts self.old (Act.Hop epoch (SiteNode from) to) r self.new) }
+    fn hop(&mut self, epoch: u16, from: NodeId, to: u16) -> Result<Answer, AllocError>
+        requires { IsActOf self.old.deployment (Act.Hop epoch from to) }
+        ensures goes { IfOk result (λ r. Goes self.old (Act.Hop epoch from to) r self.new) }
         ensures err { OnErr result (self.new ≡ self.old) }
     {
-        let Some(label) = places::oldest(&self.outgoing, from) else {
-            return Ok(Answer::Refused(Refusal::Empty));
-        };
-        let node = NodeId::Site(from);
-        let nodes = places::hand_on(&mut self.serializers, &self.interest, node, label, to)?;
-        places::take_oldest(&mut self.outgoing, from);
-        Ok(Answer::Hopped { label, to: nodes })
-    }
-
-    // A label goes from a serializer to another one.
-    fn hop_on(&mut self, epoch: u16, from: u16, to: u16) -> Result<Answer, AllocError>
-        requires { IsActOf self.old.deployment (Act.Hop epoch (SerializerNode from) to) }
-        ensures ok { IfOk result (λ r. Acts self.old (Act.Hop epoch (SerializerNode from) to) r self.new) }
-        ensures err { OnErr result (self.new ≡ self.old) }
-    {
-        let next = NodeId::Serializer(to);
-        let Some(label) = places::front_at(&self.serializers, from, next) else {
-            return Ok(Answer::Refused(Refusal::Empty));
-        };
-        let node = NodeId::Serializer(from);
-        let nodes = places::hand_on(&mut self.serializers, &self.interest, node, label, to)?;
-        places::ship_at(&mut self.serializers, from, next);
-        Ok(Answer::Hopped { label, to: nodes })
+        let place = epoch as usize - 1;
+        let answer = nets::hop_at(&mut self.nets, place, &self.interest, from, to)?;
+        Ok(answer)
     }
 
     fn turn(&mut self, site: u16) -> Result<Answer, AllocError>
         requires { site < self.old.deployment.sites }
-        ensures ok { IfOk result (λ r. Acts self.old (Act.Turn site) r self.new) }
+        ensures goes { IfOk result (λ r. Goes self.old (Act.Turn site) r self.new) }
         ensures fine { IsOk result }
     {
-        let seat = start::tree(&self.deployment).seat(site);
-        let node = NodeId::Site(site);
-        let front = places::front_at(&self.serializers, seat, node);
+        let known = &self.sites[site as usize];
+        let place = known.view().view as usize - 1;
+        let front = nets::front_at(&self.nets, place, site);
         let out = places::step_at(&mut self.sites, site, SiteInput::Turn { front })?;
-        places::take_at(&mut self.serializers, seat, node, &out.answer);
+        nets::take_at(&mut self.nets, place, site, &out.answer);
         Ok(out.answer)
     }
 
-    // Payloads of a lane are taken in their order: the next number is how many were taken.
+    // The next payload of a lane. No memory holds payloads whose number has more than 63 bits.
     fn bulk(&mut self, from: u16, gear: u16, to: u16) -> Result<Answer, AllocError>
         requires { IsActOf self.old.deployment (Act.Bulk from gear to None) }
-        ensures ok { IfOk result (λ r. Acts self.old (Act.Bulk from gear to None) r self.new) }
+        ensures goes { IfOk result (λ r. Goes self.old (Act.Bulk from gear to None) r self.new) }
         ensures err { OnErr result (self.new ≡ self.old) }
     {
         let receiver = &self.sites[to as usize];
@@ -283,6 +265,9 @@ impl World {
         let Some(payload) = sender.payload(gear, to, number) else {
             return Ok(Answer::Refused(Refusal::NoSuch));
         };
+        if number >= 1 << 63 {
+            return Err(AllocError);
+        }
         let payload = payload.copy()?;
         let input = SiteInput::Bulk {
             from,

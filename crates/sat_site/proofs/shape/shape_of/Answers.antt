@@ -1,5 +1,5 @@
 use Rattle.std.proofs.Common.{map, ap, ◌∙◌}
-use Rattle.sat_site.specs.Stands.{replicas_of}
+use Rattle.sat_machine.specs.Interests.{replicas_of}
 use Rattle.sat_site.proofs.Sets.{never-bad}
 use Rattle.sat_site.proofs.shape.shape_of.Goals as goal
 

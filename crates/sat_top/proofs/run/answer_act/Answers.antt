@@ -1,8 +1,11 @@
 use Rattle.std.proofs.Common.{ap, ◌++◌, ◌∙◌}
 use Rattle.sat_report.specs.Answers.{answer_line}
 use Rattle.sat_act.specs.Deployed.{Deployed}
-use Rattle.sat_top.proofs.Running.{goes_on}
+use Rattle.sat_top.proofs.Running.{goes_on, world_does}
 use Rattle.sat_top.proofs.run.answer_act.Goals as goal
+
+pub apply-requires-clause-built : goal.apply-requires-clause-built
+apply-requires-clause-built c = world_does c.args.act.now c.requires.built
 
 pub returns-clause-running : goal.returns-clause-running
 returns-clause-running c = λ acts counted now.

@@ -1,5 +1,5 @@
 use Rattle.std.proofs.Common.{◌≡◌, map, take}
-use Rattle.sat_site.specs.Stands.{replicas_of}
+use Rattle.sat_machine.specs.Interests.{replicas_of}
 use Rattle.sat_world.proofs.start.replicas.Given as goal
 
 abbrev pub invariant-loop-item : goal.invariant-loop-item

@@ -6,8 +6,8 @@ use Rattle.sat_script.proofs.stream.ScriptReader.new.Goals as goal
 
 pub returns-clause-script : goal.returns-clause-script
 unfolding will_be
-returns-clause-script c = λ text. rw (c.new.ensures, c.new-2.ensures, c.new-3.ensures.items) (goes_on-none c.args.live text)
+returns-clause-script c = λ text. rw (c.new.ensures.new, c.new-2.ensures.items) (goes_on-none c.args.live text)
 
 pub returns-clause-counted : goal.returns-clause-counted
 unfolding bytes_of number_of
-returns-clause-counted c = rw (c.new.ensures, c.new-3.ensures.items) (omega arith)
+returns-clause-counted c = rw (c.new.ensures.new, c.new-2.ensures.items) (omega arith)

@@ -1,10 +1,7 @@
-use Rattle.std.specs.Result.{result_ok}
-use Rattle.std.proofs.Common.{ap, ◌∙◌}
-use Rattle.sat_site.proofs.Deeds.{bulk-site, did-bulk, next-number, within-taken}
+use Rattle.std.proofs.Common.{ap, sym, ◌∙◌}
+use Rattle.sat_bulk.specs.Windows.{Numbers, has_number}
+use Rattle.sat_site.specs.Does.{again}
 use Rattle.sat_site.proofs.site.Site.bulk.Goals as goal
 
-pub invariant_of-self-2 : goal.invariant_of-self-2
-invariant_of-self-2 c = bulk-site _ _ _ _ _ _ _ _ c.self.view_is c.self.invariant c.requires.guest c.lane-place.ensures.place (next-number _ _ _ _ _ c.index.ensures (within-taken _ _ _ c.self.view_is c.lane-place.ensures.within) (c.ok_or.ensures.ok_part ∙ ap result_ok c.in_ok-taken.was) c.checked_add.ensures) c.in_ok-push_back.ensures.items
-
-pub returns-clause-does : goal.returns-clause-does
-returns-clause-does c = λ number. did-bulk _ _ _ _ _ _ _ _ _ c.self.view_is c.lane-place.ensures.place (next-number _ _ _ _ _ c.index.ensures (within-taken _ _ _ c.self.view_is c.lane-place.ensures.within) (c.ok_or.ensures.ok_part ∙ ap result_ok c.in_ok-taken.was) c.checked_add.ensures) c.in_ok-push_back.ensures.items
+pub returns-then-has-clause-does : goal.returns-then-has-clause-does
+returns-then-has-clause-does c = again (ap (λ (w : Numbers). has_number w c.args.number) (sym c.window.ensures) ∙ (sym c.has.ensures ∙ c.if-has.true))

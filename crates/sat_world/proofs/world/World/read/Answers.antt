@@ -1,5 +1,22 @@
-use Rattle.sat_world.proofs.Deeds.{seen-as, did-read}
+use Rattle.std.proofs.Common.{refl}
+use Rattle.sat_world.proofs.Deeds.{did-read, did-not-read}
+use Rattle.sat_world.proofs.Hands.{client-at, fit-here, read-hands, seat-within}
+use Rattle.sat_world.proofs.Runs.{seen-as, stays}
 use Rattle.sat_world.proofs.world.World.read.Goals as goal
 
-pub returns-clause-ok : goal.returns-clause-ok
-returns-clause-ok c = seen-as _ _ _ _ _ c.self.view_is (did-read _ _ _ _ _ _ _ _ _ _ _ c.self.view_is c.self.invariant c.requires.0 c.index.ensures c.index_mut.ensures.value c.seen.ensures c.told.ensures c.in_ok-out.ensures.ok)
+pub returns-in_default-clause-goes : goal.returns-in_default-clause-goes
+returns-in_default-clause-goes c = did-not-read _ _ _ _ _ c.self.view_is c.self.invariant c.requires.0 c.index-known.ensures c.in_default.is
+
+pub step_at-requires-clause-within : goal.step_at-requires-clause-within
+step_at-requires-clause-within c = seat-within _ _ _ _ c.self.invariant (client-at _ _ _ _ c.self.view_is c.self.invariant c.requires.0 c.index-known.ensures) c.in-Some.is
+
+pub step_at-requires-clause-fits : goal.step_at-requires-clause-fits
+step_at-requires-clause-fits c = fit-here _ _ _ _ _ c.self.view_is c.self.invariant c.requires (read-hands _ _ _ _ (client-at _ _ _ _ c.self.view_is c.self.invariant c.requires.0 c.index-known.ensures) c.in-Some.is _)
+
+pub invariant_of-self-2 : goal.invariant_of-self-2
+invariant_of-self-2 c = stays _ _ _ _ _ c.self.view_is c.self.invariant c.requires refl
+    (did-read _ _ _ _ _ _ _ _ _ _ c.self.view_is c.self.invariant c.requires.0 c.index-known.ensures c.in-Some.is c.in_ok-out.ensures.ok c.tell_at.ensures)
+
+pub returns-clause-goes : goal.returns-clause-goes
+returns-clause-goes c = seen-as _ _ _ _ _ c.self.view_is
+    (did-read _ _ _ _ _ _ _ _ _ _ c.self.view_is c.self.invariant c.requires.0 c.index-known.ensures c.in-Some.is c.in_ok-out.ensures.ok c.tell_at.ensures)

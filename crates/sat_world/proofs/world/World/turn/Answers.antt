@@ -1,27 +1,34 @@
-use Rattle.std.proofs.Common.{refl}
-use Rattle.sat_world.proofs.Deeds.{seen-as, stays, seated-in, seat-holder, seat-within, seat-next, turn-fits, did-turn}
+use Rattle.std.proofs.Common.{◌<◌, ◌-◌, ◌∙◌, List, Option, length, slice_get, ap, refl, subst, sym}
+use Rattle.sat_net.specs.Nets.{NetSeen}
+use Rattle.sat_site.specs.declared.output.SiteView.{SiteView}
+use Rattle.sat_world.proofs.Deeds.{view-placed, net-seat, seen-front, turn-handed, did-turn}
+use Rattle.sat_world.proofs.Hands.{fit-here, site-at}
+use Rattle.sat_world.proofs.Runs.{seen-as, stays}
 use Rattle.sat_world.proofs.world.World.turn.Goals as goal
 
-pub seat-seat-requires : goal.seat-seat-requires
-seat-seat-requires c = seated-in _ _ _ _ c.self.view_is c.self.invariant c.requires c.tree.ensures.tree
-
 pub front_at-front-requires-clause-within : goal.front_at-front-requires-clause-within
-front_at-front-requires-clause-within c = seat-within _ _ _ _ (seat-holder _ _ _ _ _ c.self.view_is c.self.invariant c.requires c.tree.ensures.tree c.seat-seat.ensures.seat) c.deref.ensures.value
+front_at-front-requires-clause-within c =
+    subst (λ (ns : List (Option NetSeen)). c.view.result.view - 1 < length ns) (sym c.deref.ensures.value)
+    ((view-placed _ _ _ _ c.self.invariant (site-at _ _ _ _ c.self.view_is c.self.invariant c.requires c.index-known.ensures) c.view.ensures.sound (ap (λ (v : SiteView). v.view) c.view.ensures.seen)).within)
 
-pub front_at-front-requires-clause-neighbour : goal.front_at-front-requires-clause-neighbour
-front_at-front-requires-clause-neighbour c = seat-next _ _ _ _ c.self.invariant (seat-holder _ _ _ _ _ c.self.view_is c.self.invariant c.requires c.tree.ensures.tree c.seat-seat.ensures.seat) c.deref.ensures.value
+pub front_at-front-requires-clause-seat : goal.front_at-front-requires-clause-seat
+front_at-front-requires-clause-seat c = λ n at. net-seat _ _ _ _ n c.self.view_is c.self.invariant c.requires (ap (λ (ns : List (Option NetSeen)). slice_get ns (c.view.result.view - 1)) (sym c.deref.ensures.value) ∙ at)
 
 pub step_at-requires-clause-fits : goal.step_at-requires-clause-fits
-step_at-requires-clause-fits c = turn-fits _ _ _ _ _ c.self.invariant (seat-holder _ _ _ _ _ c.self.view_is c.self.invariant c.requires c.tree.ensures.tree c.seat-seat.ensures.seat) c.deref.ensures.value c.front_at-front.ensures
+step_at-requires-clause-fits c = fit-here _ _ _ _ _ c.self.view_is c.self.invariant c.requires
+    (turn-handed _ _ _ _ _ _ c.self.view_is c.self.invariant c.requires c.index-known.ensures c.view.ensures.sound (ap (λ (v : SiteView). v.view) c.view.ensures.seen) (seen-front _ _ _ _ _ c.deref.ensures.value c.front_at-front.ensures))
 
 pub take_at-requires-clause-within : goal.take_at-requires-clause-within
-take_at-requires-clause-within c = seat-within _ _ _ _ (seat-holder _ _ _ _ _ c.self.view_is c.self.invariant c.requires c.tree.ensures.tree c.seat-seat.ensures.seat) refl
+take_at-requires-clause-within c =
+    (view-placed _ _ _ _ c.self.invariant (site-at _ _ _ _ c.self.view_is c.self.invariant c.requires c.index-known.ensures) c.view.ensures.sound (ap (λ (v : SiteView). v.view) c.view.ensures.seen)).within
 
-pub take_at-requires-clause-neighbour : goal.take_at-requires-clause-neighbour
-take_at-requires-clause-neighbour c = seat-next _ _ _ _ c.self.invariant (seat-holder _ _ _ _ _ c.self.view_is c.self.invariant c.requires c.tree.ensures.tree c.seat-seat.ensures.seat) refl
+pub take_at-requires-clause-seat : goal.take_at-requires-clause-seat
+take_at-requires-clause-seat c = λ n at. net-seat _ _ _ _ n c.self.view_is c.self.invariant c.requires at
 
 pub invariant_of-self-2 : goal.invariant_of-self-2
-invariant_of-self-2 c = stays _ _ _ _ _ c.self.view_is c.self.invariant c.requires (did-turn _ _ _ _ _ _ _ _ _ (seat-holder _ _ _ _ _ c.self.view_is c.self.invariant c.requires c.tree.ensures.tree c.seat-seat.ensures.seat) c.deref.ensures.value c.front_at-front.ensures c.in_ok-out.ensures.ok c.take_at.ensures)
+invariant_of-self-2 c = stays _ _ _ _ _ c.self.view_is c.self.invariant c.requires refl
+    (did-turn _ _ _ _ _ _ _ _ _ _ c.self.view_is c.self.invariant c.requires c.index-known.ensures c.view.ensures.sound (ap (λ (v : SiteView). v.view) c.view.ensures.seen) (seen-front _ _ _ _ _ c.deref.ensures.value c.front_at-front.ensures) c.in_ok-out.ensures.ok c.take_at.ensures)
 
-pub returns-clause-ok : goal.returns-clause-ok
-returns-clause-ok c = seen-as _ _ _ _ _ c.self.view_is (did-turn _ _ _ _ _ _ _ _ _ (seat-holder _ _ _ _ _ c.self.view_is c.self.invariant c.requires c.tree.ensures.tree c.seat-seat.ensures.seat) c.deref.ensures.value c.front_at-front.ensures c.in_ok-out.ensures.ok c.take_at.ensures)
+pub returns-clause-goes : goal.returns-clause-goes
+returns-clause-goes c = seen-as _ _ _ _ _ c.self.view_is
+    (did-turn _ _ _ _ _ _ _ _ _ _ c.self.view_is c.self.invariant c.requires c.index-known.ensures c.view.ensures.sound (ap (λ (v : SiteView). v.view) c.view.ensures.seen) (seen-front _ _ _ _ _ c.deref.ensures.value c.front_at-front.ensures) c.in_ok-out.ensures.ok c.take_at.ensures)

@@ -1,8 +1,34 @@
-use Rattle.sat_world.proofs.Deeds.{seen-as, stays, did-write}
+use Rattle.std.proofs.Common.{◌<◌, List, length, refl, subst, sym}
+use Rattle.sat_site.specs.Seen.{SiteSeen}
+use Rattle.sat_world.proofs.Deeds.{did-refuse-at, did-write, did-not-write, seat-items, write-handed}
+use Rattle.sat_world.proofs.Hands.{client-at, fit-here, seat-within}
+use Rattle.sat_world.proofs.Runs.{seen-as, stays}
 use Rattle.sat_world.proofs.world.World.write.Goals as goal
 
-pub invariant_of-self-2 : goal.invariant_of-self-2
-invariant_of-self-2 c = stays _ _ _ _ _ c.self.view_is c.self.invariant c.requires (did-write _ _ _ _ _ _ _ _ _ _ _ _ _ c.self.view_is c.self.invariant c.requires.0 c.index.ensures c.index_mut.ensures.value c.seen.ensures c.in_ok-copy.ensures c.told.ensures c.in_ok-out.ensures.ok)
+pub returns-in_default-clause-goes : goal.returns-in_default-clause-goes
+returns-in_default-clause-goes c = did-not-write _ _ _ _ _ _ c.self.view_is c.self.invariant c.requires.0 c.index.ensures c.in_default.is
 
-pub returns-clause-ok : goal.returns-clause-ok
-returns-clause-ok c = seen-as _ _ _ _ _ c.self.view_is (did-write _ _ _ _ _ _ _ _ _ _ _ _ _ c.self.view_is c.self.invariant c.requires.0 c.index.ensures c.index_mut.ensures.value c.seen.ensures c.in_ok-copy.ensures c.told.ensures c.in_ok-out.ensures.ok)
+pub write_refusal_at-refusal-requires-clause-within : goal.write_refusal_at-refusal-requires-clause-within
+write_refusal_at-refusal-requires-clause-within c =
+    subst (λ (xs : List SiteSeen). c.in-Some.seat < length xs) (sym c.deref.ensures.value) (seat-within _ _ _ _ c.self.invariant (client-at _ _ _ _ c.self.view_is c.self.invariant c.requires.0 c.index.ensures) c.in-Some.is)
+
+pub write_refusal_at-refusal-requires-clause-item : goal.write_refusal_at-refusal-requires-clause-item
+write_refusal_at-refusal-requires-clause-item c = λ z at. seat-items _ _ _ _ _ z c.self.view_is c.self.invariant c.requires.1 c.deref.ensures.value at
+
+pub returns-in-Some-refusal-clause-goes : goal.returns-in-Some-refusal-clause-goes
+returns-in-Some-refusal-clause-goes c =
+    did-refuse-at _ _ _ _ _ _ _ _ _ _ c.self.view_is c.self.invariant c.requires c.index.ensures c.in-Some.is c.deref.ensures.value c.write_refusal_at-refusal.ensures.refusal c.write_refusal_at-refusal.ensures.sound c.in-Some-refusal.is
+
+pub step_at-requires-clause-within : goal.step_at-requires-clause-within
+step_at-requires-clause-within c = seat-within _ _ _ _ c.self.invariant (client-at _ _ _ _ c.self.view_is c.self.invariant c.requires.0 c.index.ensures) c.in-Some.is
+
+pub step_at-requires-clause-fits : goal.step_at-requires-clause-fits
+step_at-requires-clause-fits c = fit-here _ _ _ _ _ c.self.view_is c.self.invariant c.requires (write-handed _ _ _ _ _ _ _ _ c.self.view_is c.self.invariant c.requires.0 c.index.ensures c.in-Some.is c.in_ok-copy.ensures)
+
+pub invariant_of-self-2 : goal.invariant_of-self-2
+invariant_of-self-2 c = stays _ _ _ _ _ c.self.view_is c.self.invariant c.requires refl
+    (did-write _ _ _ _ _ _ _ _ _ _ _ _ c.self.view_is c.self.invariant c.requires.0 c.index.ensures c.in-Some.is c.in_ok-copy.ensures c.in_ok-out.ensures.ok c.tell_at.ensures)
+
+pub returns-clause-goes : goal.returns-clause-goes
+returns-clause-goes c = seen-as _ _ _ _ _ c.self.view_is
+    (did-write _ _ _ _ _ _ _ _ _ _ _ _ c.self.view_is c.self.invariant c.requires.0 c.index.ensures c.in-Some.is c.in_ok-copy.ensures c.in_ok-out.ensures.ok c.tell_at.ensures)

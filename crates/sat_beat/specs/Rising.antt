@@ -1,0 +1,27 @@
+-- Beats whose counts rise with their numbers, as those of every run do: of them the complete ones come first.
+use Rattle.std.specs.Prelude.{ℕ, ◌≡◌, Bool, true, List, [], ◌∷◌, Option, Some, if◌then◌else◌}
+use Rattle.sat_beat.specs.declared.Beat.{Beat}
+use Rattle.sat_beat.specs.Beats.{TakenBeats, are_reached, is_complete, placed, RisesFrom, IsTaken}
+
+-- each beat's counts are at or above those of the beat before it, and the first one's at or above these
+abbrev pub RiseFrom : List ℕ → List (ℕ × Beat) → Type 0
+RiseFrom counts [] = Unit {0}
+RiseFrom counts (b ∷ bs) = (are_reached counts b.1.counts ≡ true) × RiseFrom b.1.counts bs
+
+-- the counts rise with the numbers
+abbrev pub CountsRise : List (ℕ × Beat) → Type 0
+CountsRise bs = RiseFrom [] bs
+
+-- the number of the last beat before the first that is not complete, or else the one given
+abbrev pub last_before : List ℕ → Option ℕ → List (ℕ × Beat) → Option ℕ
+last_before fronts o [] = o
+last_before fronts o (b ∷ bs) = if is_complete fronts b.1 then last_before fronts (Some b.0) bs else o
+
+-- a beat of this number that comes leaves the counts rising, where the others rise
+abbrev pub GoesOn : List (ℕ × Beat) → ℕ → Beat → Type 0
+GoesOn bs n beat = (low : ℕ) → RisesFrom low bs → CountsRise bs → CountsRise (placed bs n beat)
+
+-- what is kept of one site: where the mark says that the counts rise, they do
+pub record IsKept (t : TakenBeats) (rising : Bool) : Type 0 where
+  pub taken : IsTaken t
+  pub rises : rising ≡ true → CountsRise t.later

@@ -1,0 +1,237 @@
+//! The beats that were taken of one site.
+ghost use Rattle.std.specs.Prelude.{◌≡◌, get_or, true, option_map, option_copied, Some, None, IfOk, IfErr, OnOk, OnErr};
+ghost use Rattle.sat_beat.specs.Beats.{after_take, are_reached, has_beat, is_old, newest, none_taken, passed, placed, refreshed, starts_to, take_answer};
+ghost use Rattle.sat_beat.specs.Rising.{last_before, CountsRise, GoesOn, IsKept};
+
+use crate::{Beat, BeatTake};
+use std::alloc::Global;
+use std::collections::BTreeMap;
+use std::marker::Model;
+
+/// The best beat, with its number, and those of greater numbers, by number. A mark says that their counts rise with their
+/// numbers; then the complete ones come first, and no other is looked at.
+#[derive(Drop)]
+pub struct Taken {
+    best: Option<(u64, Beat)>,
+    later: BTreeMap<u64, Beat>,
+    rising: bool,
+}
+
+impl Model for Taken {
+    ghost use Rattle.sat_beat.specs.Beats.{TakenBeats};
+    ghost use Rattle.sat_beat.specs.Rising.{IsKept};
+
+    ghost Value = { TakenBeats };
+
+    ghost view = { λ a. record { best = a.best; later = a.later.entries } };
+
+    ghost invariant = { λ a. IsKept (record { best = a.best; later = a.later.entries }) a.rising };
+}
+
+// The front of a gear, 0 where none is given.
+fn front_of(fronts: &[u64], gear: usize) -> u64
+    ensures { result ≡ get_or fronts.now gear 0 }
+{
+    match fronts.get(gear) {
+        None => 0,
+        Some(front) => *front,
+    }
+}
+
+// Whether the count of each gear is at or below its front.
+#[tactic(auto, using(crate::proofs::Complete::none_yet, crate::proofs::Complete::one_more, crate::proofs::Complete::reached_short))]
+fn are_reached(counts: &[u64], fronts: &[u64]) -> bool
+    ensures { result ≡ are_reached counts.now fronts.now }
+{
+    for (gear, count) in counts.iter().enumerate() {
+        if *count > front_of(fronts, gear) {
+            return false;
+        }
+    }
+    true
+}
+
+// The number of the last complete one of some beats. It looks at the last ones first.
+#[tactic(auto, using(crate::proofs::Newest::newest_last, crate::proofs::Newest::newest_before))]
+fn newest_of_all(later: &BTreeMap<u64, Beat>, fronts: &[u64]) -> Option<u64>
+    ensures { result ≡ option_map (λ b. b.0) (newest fronts.now later.now.entries) }
+{
+    let mut beats = later.iter();
+    while let Some((number, beat)) = beats.next_back() {
+        if are_reached(beat.counts.as_slice(), fronts) {
+            return Some(*number);
+        }
+    }
+    None
+}
+
+// The number of the last beat before the first that is not complete.
+#[tactic(auto, using(crate::proofs::Rising::last_more, crate::proofs::Rising::last_stops, crate::proofs::Rising::last_ends))]
+fn last_before(later: &BTreeMap<u64, Beat>, fronts: &[u64]) -> Option<u64>
+    ensures { result ≡ last_before fronts.now None later.now.entries }
+{
+    let mut beats = later.iter();
+    let mut last = None;
+    while let Some((number, beat)) = beats.next() {
+        if !are_reached(beat.counts.as_slice(), fronts) {
+            return last;
+        }
+        last = Some(*number);
+    }
+    last
+}
+
+// The number of the newest complete one of some beats.
+#[tactic(auto, using(crate::proofs::Rising::last_newest))]
+fn newest(later: &BTreeMap<u64, Beat>, rising: bool, fronts: &[u64]) -> Option<u64>
+    requires { rising ≡ true → CountsRise later.now.entries }
+    ensures { result ≡ option_map (λ b. b.0) (newest fronts.now later.now.entries) }
+{
+    if rising {
+        last_before(later, fronts)
+    } else {
+        newest_of_all(later, fronts)
+    }
+}
+
+// Whether the first of some beats has a number up to this one.
+fn starts_to(later: &BTreeMap<u64, Beat>, number: u64) -> bool
+    ensures { result ≡ starts_to later.now.entries number }
+{
+    match later.first_key_value() {
+        None => false,
+        Some((first, _)) => *first <= number,
+    }
+}
+
+// Takes the beats up to a number out; the last of them becomes the best.
+#[tactic(auto, using(crate::proofs::Passed::passed_more, crate::proofs::Passed::passed_stops))]
+fn pass(best: &mut Option<(u64, Beat)>, later: &mut BTreeMap<u64, Beat>, number: u64)
+    ensures { record { best = best.new; later = later.new.entries } ≡ passed number best.old later.old.entries }
+{
+    'beats: while starts_to(later, number) {
+        *best = later.pop_first();
+    }
+}
+
+// Moves the best forward to the newest of the later beats that is complete.
+#[tactic(auto, using(crate::proofs::Passed::refreshed_none, crate::proofs::Passed::refreshed_some))]
+fn move_forward(
+    best: &mut Option<(u64, Beat)>,
+    later: &mut BTreeMap<u64, Beat>,
+    rising: bool,
+    fronts: &[u64],
+)
+    requires { IsKept (record { best = best.old; later = later.old.entries }) rising }
+    ensures new { record { best = best.new; later = later.new.entries } ≡ refreshed fronts.now (record { best = best.old; later = later.old.entries }) }
+    ensures kept { IsKept (record { best = best.new; later = later.new.entries }) rising }
+{
+    if let Some(number) = newest(later, rising, fronts) {
+        pass(best, later, number);
+    }
+}
+
+// Whether the counts of some beats, which rise or not, rise with one more: it stands behind the last one, with no count below.
+#[tactic(auto, using(crate::proofs::Rising::first_rises, crate::proofs::Rising::last_rises))]
+fn goes_on(rising: bool, later: &BTreeMap<u64, Beat>, number: u64, beat: &Beat) -> bool
+    ensures { result ≡ true → (rising ≡ true) × GoesOn later.now.entries number beat.now }
+{
+    if !rising {
+        return false;
+    }
+    match later.last_key_value() {
+        None => true,
+        Some((last, before)) => {
+            *last < number && are_reached(before.counts.as_slice(), beat.counts.as_slice())
+        }
+    }
+}
+
+// Puts a beat at its place by its number. For want of memory it comes back, and all is as before.
+#[tactic(auto, using(crate::proofs::Passed::map_placed))]
+fn insert(later: &mut BTreeMap<u64, Beat>, number: u64, beat: Beat) -> Result<(), Beat>
+    ensures ok { OnOk result (later.new.entries ≡ placed later.old.entries number beat) }
+    ensures back { IfErr result (λ back. back ≡ beat) }
+    ensures err { OnErr result (later.new.entries ≡ later.old.entries) }
+{
+    match later.insert(number, beat) {
+        Ok(_) => Ok(()),
+        Err(failed) => Err(failed.value.1),
+    }
+}
+
+impl Taken {
+    /// No beat was taken. It takes no memory.
+    pub fn new(alloc: Global) -> Taken
+        ensures { result ≡ none_taken }
+    {
+        Taken {
+            best: None,
+            later: BTreeMap::new(alloc),
+            rising: true,
+        }
+    }
+
+    /// The best beat.
+    pub fn best(&self) -> Option<&Beat>
+        ensures { option_copied result ≡ option_map (λ b. b.1) self.now.best }
+    {
+        match &self.best {
+            None => None,
+            Some((_, beat)) => Some(beat),
+        }
+    }
+
+    /// Moves the best forward, by the front of each gear. It takes no memory.
+    pub fn refresh(&mut self, fronts: &[u64])
+        ensures { self.new ≡ refreshed fronts.now self.old }
+    {
+        move_forward(&mut self.best, &mut self.later, self.rising, fronts);
+        self.rising = self.rising || self.later.is_empty();
+    }
+
+    // Whether the best beat, once it has gone forward, has this number or a greater one.
+    #[tactic(auto, using(crate::proofs::Passed::old_none, crate::proofs::Passed::old_some))]
+    fn is_old(&self, number: u64, fronts: &[u64]) -> bool
+        ensures { result ≡ is_old (refreshed fronts.now self.now).best number }
+    {
+        match newest(&self.later, self.rising, fronts) {
+            Some(newest) => number <= newest,
+            None => match &self.best {
+                None => false,
+                Some((best, _)) => number <= *best,
+            },
+        }
+    }
+
+    // Whether a beat of this number is among the later ones.
+    #[tactic(auto, using(crate::proofs::Passed::map_has))]
+    fn has_later(&self, number: u64) -> bool
+        ensures { result ≡ has_beat self.now.later number }
+    {
+        self.later.contains_key(&number)
+    }
+
+    /// Takes a beat, and moves the best forward. For want of memory the beat comes back, and all is as before.
+    #[tactic(auto, using(crate::proofs::Passed::take_old, crate::proofs::Passed::take_again, crate::proofs::Passed::take_new))]
+    pub fn take(&mut self, number: u64, beat: Beat, fronts: &[u64]) -> Result<BeatTake, Beat>
+        ensures answer { IfOk result (λ took. took ≡ take_answer fronts.now self.old number) }
+        ensures new { OnOk result (self.new ≡ after_take fronts.now self.old number beat) }
+        ensures back { IfErr result (λ back. back ≡ beat) }
+        ensures err { OnErr result (self.new ≡ self.old) }
+    {
+        if self.is_old(number, fronts) {
+            self.refresh(fronts);
+            return Ok(BeatTake::Old);
+        }
+        if self.has_later(number) {
+            self.refresh(fronts);
+            return Ok(BeatTake::Again);
+        }
+        let rising = goes_on(self.rising, &self.later, number, &beat);
+        insert(&mut self.later, number, beat)?;
+        self.rising = rising;
+        self.refresh(fronts);
+        Ok(BeatTake::New)
+    }
+}

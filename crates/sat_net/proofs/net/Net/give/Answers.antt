@@ -1,0 +1,14 @@
+use Rattle.std.proofs.Common.{refl}
+use Rattle.sat_label.specs.declared.node.NodeId.TheVariants.{Site, Serializer}
+use Rattle.sat_net.proofs.Kept.{net-give, same-net}
+use Rattle.sat_net.proofs.Calls.{neighbour-at}
+use Rattle.sat_net.proofs.net.Net.give.Goals as goal
+
+pub invariant_of-self : goal.invariant_of-self
+invariant_of-self c = same-net _ _ _ _ _ refl c.take_oldest.ensures (net-give _ (Site c.in-Site.site) c.args.to c.self.invariant)
+
+pub ship-requires-clause-neighbour : goal.ship-requires-clause-neighbour
+ship-requires-clause-neighbour c = neighbour-at _ _ _ _ _ c.self.view_is c.self.invariant c.in-Serializer.is c.requires.to c.requires.edge
+
+pub invariant_of-self-in-Serializer : goal.invariant_of-self-in-Serializer
+invariant_of-self-in-Serializer c = same-net _ _ _ _ _ c.ship.ensures refl (net-give _ (Serializer c.in-Serializer.z) c.args.to c.self.invariant)

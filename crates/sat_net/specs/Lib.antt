@@ -1,0 +1,3 @@
+pub mod Nets
+pub mod NetStands
+pub mod Laws

@@ -1,0 +1,104 @@
+-- Where a byte first stands in a text, and how the text is cut there.
+use Rattle.std.proofs.Common.{subst, ◌&&◌, Bor, map, append_assoc, length-append, ◌≡◌, ℕ, ◌+◌, ◌-◌, ◌<◌, ◌≤◌, true, false, eqb, List, [], ◌∷◌, ◌++◌, length, take, drop, get_or, Some, None, sym, ap, ◌∙◌, refl, arith, length-take, length-drop, take_all}
+use Rattle.std.specs.List.{slice_split, list_all}
+use Rattle.std.proofs.lemmas.Bool.Decides.{nat_tests}
+use Rattle.std.proofs.lemmas.Bool.{and_parts, false_from_ne_true, eqb-true, eq-eqb}
+use Rattle.std.proofs.lemmas.List.{append-nil, drop_more, take-append-drop, take-append-le, get_or-take, length-map}
+use Rattle.std.proofs.lemmas.List.Elements.{All-from_get_or, All-nil, All-cons}
+use Rattle.std.proofs.lemmas.List.Splits.{slice_split_at, slice_split_none}
+use Rattle.memchr.specs.Find.{IsFirstByte, is_byte}
+use Rattle.sat_script.specs.Words.{HasNo, IsCut, IsSeenFront, is_text, words_of}
+use Rattle.sat_label.specs.Text.{is_between}
+use Rattle.sat_script.proofs.Lists.{map_next}
+
+none_up : (b : ℕ) (xs : List ℕ) (n : ℕ) → n ≤ length xs → ((k : ℕ) → 0 ≤ k → k < n → ¬ (eqb (get_or xs k 0) b ≡ true)) → HasNo b (take n xs)
+none_up b xs n few h =
+    let size = length-take n xs in
+    All-from_get_or (λ x. eqb x b ≡ false) (take n xs) 0
+    (λ i inside. ap (λ x. eqb x b) (get_or-take n xs i 0 (omega (arith, size))) ∙ false_from_ne_true (eqb (get_or xs i 0) b) (h i (omega arith) (omega (arith, size))))
+
+rest_is : (xs : List ℕ) (n : ℕ) → take (length xs - n) (drop n xs) ≡ drop n xs
+rest_is xs n = take_all (length xs - n) (drop n xs) (omega (arith, length-drop n xs))
+
+pub cut : (b : ℕ) (xs : List ℕ) (k : ℕ) → IsFirstByte (is_byte b) xs (Some k) → IsCut b xs (take k xs) (take (length xs - (k + 1)) (drop (k + 1) xs))
+cut b xs k h = rw (rest_is xs (k + 1)) (record {
+  none = none_up b xs k (omega (arith, h.0.high)) h.0.before;
+  whole = sym (take-append-drop k xs) ∙ ap (λ t. take k xs ++ t) (drop_more xs k 0 h.0.high ∙ ap (λ x. x ∷ drop (k + 1) xs) (eqb-true (get_or xs k 0) b h.1));
+})
+
+pub uncut : (b : ℕ) (xs : List ℕ) → IsFirstByte (is_byte b) xs None → HasNo b xs
+uncut b xs h = rw (take_all (length xs) xs (omega arith)) at (none_up b xs (length xs) (omega arith) h)
+
+-- the parts of a text that is cut there, and of one that isn't cut
+pub split_cut : (b : ℕ) (xs front rest : List ℕ) → IsCut b xs front rest → slice_split (is_byte b) xs ≡ front ∷ slice_split (is_byte b) rest
+split_cut b xs front rest c = ap (slice_split (is_byte b)) c.whole ∙ slice_split_at (is_byte b) front b rest c.none (eq-eqb b b refl)
+
+pub split_uncut : (b : ℕ) (xs : List ℕ) → HasNo b xs → slice_split (is_byte b) xs ≡ xs ∷ []
+split_uncut b xs h = slice_split_none (is_byte b) xs h
+
+-- ---- the first words of a line
+
+abbrev texts : List (Bor (List ℕ)) → List (List ℕ)
+texts words = map (λ word. word.now) words
+
+pub words_next : (words now : List (Bor (List ℕ))) (word : Bor (List ℕ)) (line rest more : List ℕ) (n : ℕ) → now ≡ words ++ word ∷ [] → IsCut 32 rest word.now more
+    → texts words ++ words_of rest ≡ words_of line → length words ≡ n → (texts now ++ words_of more ≡ words_of line) × (length now ≡ n + 1)
+words_next words now word line rest more n is c had size = (
+  ap (λ ws. texts ws ++ words_of more) is ∙ ap (λ ws. ws ++ words_of more) (map_next (λ w. w.now) words word) ∙ append_assoc (texts words) (word.now ∷ []) (words_of more)
+      ∙ ap (λ ws. texts words ++ ws) (sym (split_cut 32 rest word.now more c)) ∙ had,
+  omega (arith, ap length is, length-append words (word ∷ [])),
+)
+
+whole_front : (ws all : List (List ℕ)) → ws ≡ all → length ws ≤ 6 → ws ≡ take 6 all
+whole_front ws all is few = sym (take_all 6 ws few) ∙ ap (take 6) is
+
+pub words_last : (words now : List (Bor (List ℕ))) (word : Bor (List ℕ)) (line : List ℕ) (n : ℕ) → now ≡ words ++ word ∷ [] → HasNo 32 word.now
+    → texts words ++ words_of word.now ≡ words_of line → length words ≡ n → n < 6 → texts now ≡ take 6 (words_of line)
+words_last words now word line n is none had size few =
+    let all : texts now ≡ words_of line = ap texts is ∙ map_next (λ w. w.now) words word ∙ ap (λ ws. texts words ++ ws) (sym (split_uncut 32 word.now none)) ∙ had in
+    whole_front (texts now) (words_of line) all (omega (arith, length-map now (λ (w : Bor (List ℕ)). w.now), ap length is, length-append words (word ∷ [])))
+
+pub words_full : (words : List (Bor (List ℕ))) (line rest : List ℕ) → texts words ++ words_of rest ≡ words_of line → length words ≡ 6 → texts words ≡ take 6 (words_of line)
+words_full words line rest had size =
+    let n : length (texts words) ≡ 6 = length-map words (λ (w : Bor (List ℕ)). w.now) ∙ size in
+    sym (ap (take 6) (sym had) ∙ take-append-le 6 (texts words) (words_of rest) (omega arith) ∙ take_all 6 (texts words) (omega arith))
+
+-- ---- words that can be seen
+
+seen_byte : (x : ℕ) → is_between 33 126 x ≡ true → (eqb x 32 ≡ false) × (is_between 32 126 x ≡ true)
+seen_byte x h = (grind (arith, nat_tests), grind (arith, nat_tests))
+
+unseen_byte : (x : ℕ) → is_between 33 126 x ≡ false → eqb x 32 ≡ false → is_between 32 126 x ≡ false
+unseen_byte x h other = grind (arith, nat_tests)
+
+seen_none : (xs : List ℕ) → list_all (is_between 33 126) xs ≡ true → HasNo 32 xs
+seen_none [] h = All-nil (λ x. eqb x 32 ≡ false)
+seen_none (x ∷ xs) h = let b = and_parts (is_between 33 126 x) (list_all (is_between 33 126) xs) h in All-cons (λ x. eqb x 32 ≡ false) x xs (seen_byte x b.0).0 (seen_none xs b.1)
+
+seen_text : (xs ys : List ℕ) → list_all (is_between 33 126) xs ≡ true → is_text (xs ++ ys) ≡ is_text ys
+seen_text [] ys h = refl
+seen_text (x ∷ xs) ys h =
+    let b = and_parts (is_between 33 126 x) (list_all (is_between 33 126) xs) h in
+    ap (λ t. t && is_text (xs ++ ys)) (seen_byte x b.0).1 ∙ seen_text xs ys b.1
+
+-- what a front that can be seen, and what stands behind it, say of a text
+pub seen_last : (text word more : List ℕ) (n : ℕ) → IsSeenFront text n → word ≡ take n text → more ≡ drop n text → length more ≡ 0 → (HasNo 32 word) × (word ≡ text) × (is_text text ≡ true)
+seen_last text word more n is front back none =
+    let whole : take n text ≡ text = take_all n text (omega (arith, ap length back, length-drop n text)) in
+    let all : list_all (is_between 33 126) text ≡ true = rw whole at is.seen in
+    (subst (HasNo 32) (sym (front ∙ whole)) (seen_none text all), front ∙ whole, ap is_text (sym (append-nil text)) ∙ seen_text text [] all)
+
+pub seen_stop : (text more later : List ℕ) (byte n : ℕ) → IsSeenFront text n → more ≡ drop n text → more ≡ byte ∷ later → (byte ≡ 32 → ⊥) → is_text text ≡ false
+seen_stop text more later byte n is back at apart =
+    let other : eqb byte 32 ≡ false = false_from_ne_true (eqb byte 32) (λ t. apart (eqb-true byte 32 t)) in
+    ap is_text (sym (take-append-drop n text)) ∙ seen_text (take n text) (drop n text) is.seen ∙ ap is_text (sym back ∙ at)
+    ∙ ap (λ t. t && is_text later) (unseen_byte byte (is.stops byte later (sym back ∙ at)) other)
+
+pub seen_cut : (text word more later : List ℕ) (n : ℕ) → IsSeenFront text n → word ≡ take n text → more ≡ drop n text → more ≡ 32 ∷ later → (IsCut 32 text word later) × (is_text text ≡ is_text later)
+seen_cut text word more later n is front back at = (
+  record {
+    none = subst (HasNo 32) (sym front) (seen_none (take n text) is.seen);
+    whole = sym (take-append-drop n text) ∙ ap (λ bs. bs ++ drop n text) (sym front) ∙ ap (λ bs. word ++ bs) (sym back ∙ at);
+  },
+  ap is_text (sym (take-append-drop n text)) ∙ seen_text (take n text) (drop n text) is.seen ∙ ap is_text (sym back ∙ at),
+)

@@ -1,0 +1,70 @@
+//! What a script may have, by what it is read for.
+ghost use Rattle.std.specs.Prelude.{◌≡◌};
+ghost use Rattle.sat_script.specs.Dialect.{dialect_of, limits_of, has_form};
+
+use crate::form::{Form, is_live};
+use crate::limits::{
+    LIVE_ACTS, LIVE_CLIENTS, LIVE_SITES, MOST_ACTS, MOST_CLIENTS, MOST_ITEMS, MOST_SETTLES,
+    MOST_SITES,
+};
+
+/// What a script is read for.
+#[derive(Clone, Copy, Debug, PartialEq, Eq)]
+pub enum Dialect {
+    /// The machine, which has every form.
+    Run,
+    /// Nodes on threads, which have fewer forms and lower limits.
+    Live,
+}
+
+/// The most of what a script may have that differs from dialect to dialect.
+#[derive(Clone, Copy, Debug, PartialEq, Eq)]
+pub struct Limits {
+    pub sites: u16,
+    pub items: usize,
+    pub clients: usize,
+    /// Acts, `settle` among them.
+    pub acts: u32,
+    pub settles: u32,
+}
+
+impl Dialect {
+    /// The dialect of scripts for nodes on threads, or of the others.
+    pub fn of(live: bool) -> Dialect
+        ensures { result ≡ dialect_of live }
+    {
+        if live { Dialect::Live } else { Dialect::Run }
+    }
+
+    /// Its limits.
+    pub fn limits(self) -> Limits
+        ensures { result ≡ limits_of self }
+    {
+        match self {
+            Dialect::Run => Limits {
+                sites: MOST_SITES,
+                items: MOST_ITEMS,
+                clients: MOST_CLIENTS,
+                acts: MOST_ACTS,
+                settles: MOST_SETTLES,
+            },
+            Dialect::Live => Limits {
+                sites: LIVE_SITES,
+                items: MOST_ITEMS,
+                clients: LIVE_CLIENTS,
+                acts: LIVE_ACTS,
+                settles: MOST_SETTLES,
+            },
+        }
+    }
+
+    /// Whether it has lines of a form.
+    pub fn has(self, form: Form) -> bool
+        ensures { result ≡ has_form self form }
+    {
+        match self {
+            Dialect::Run => true,
+            Dialect::Live => is_live(form),
+        }
+    }
+}

@@ -1,0 +1,100 @@
+//! The whole lines of a script, one after another.
+ghost use Rattle.std.specs.Prelude.{◌≡◌, ◌≤◌, ◌↔◌, IsTrue, length, [], None, IfSome, MatchResult};
+ghost use Rattle.sat_act.specs.Limits.{IsDeployment};
+ghost use Rattle.sat_script.specs.Built.{IsBuilt};
+ghost use Rattle.sat_script.specs.Kept.{IsFit};
+ghost use Rattle.sat_script.specs.Lines.{running};
+ghost use Rattle.sat_script.specs.Reading.{AreBuiltActs, fault_at};
+ghost use Rattle.sat_script.specs.Spelled.{HaveNames};
+ghost use Rattle.sat_script.specs.Dialect.{dialect_of};
+ghost use Rattle.sat_script.specs.State.{start};
+ghost use Rattle.sat_script.specs.Stream.{means, stopped_at, GoesOn, StopsAt};
+
+use crate::limits::MOST_ACTS;
+use crate::line::Stage;
+use crate::{Cause, Reader, Reading, ScriptFault};
+use sat_act::{Acts, Deployment};
+use std::alloc::Global;
+use std::marker::Model;
+
+/// The whole lines of a script so far, and what they said.
+#[derive(Drop)]
+pub struct Lines {
+    reader: Reader,
+    deployment: Option<Deployment>,
+    acts: Acts,
+}
+
+impl Model for Lines {
+    ghost use Rattle.sat_script.specs.Stream.{WholeLines};
+    ghost use Rattle.sat_script.specs.Kept.{AreWhole};
+
+    ghost Value = { WholeLines };
+
+    ghost view = { λ l. record { seen = l.reader; deployment = l.deployment; acts = l.acts } };
+
+    ghost invariant = { λ l. AreWhole (record { seen = l.reader; deployment = l.deployment; acts = l.acts }) };
+}
+
+impl Lines {
+    /// No lines.
+    pub fn new(alloc: Global, live: bool) -> Lines
+        ensures new { result ≡ record { seen = running (start (dialect_of live)); deployment = None; acts = [] } }
+        ensures fit { IsFit result.seen.state }
+    {
+        Lines {
+            reader: Reader::new(alloc, live),
+            deployment: None,
+            acts: Acts::new(alloc),
+        }
+    }
+
+    /// Whether the line `end` has come.
+    pub fn have_ended(&self) -> bool
+        ensures { IsTrue result ↔ (self.now.seen.state.stage ≡ Stage.Ended) }
+    {
+        self.reader.has_ended()
+    }
+
+    /// Fails at the next line.
+    pub fn fail(&mut self, cause: Cause) -> ScriptFault
+        ensures fault { result ≡ fault_at self.old.seen.state cause }
+        ensures stays { self.new ≡ stopped_at self.old result }
+    {
+        self.reader.fail(cause)
+    }
+
+    /// Takes a line, without its byte 10. Want of memory comes after every other cause, and is told at the line for which it ran out.
+    pub fn line(&mut self, line: &[u8]) -> Result<(), ScriptFault>
+        requires fresh { self.old.seen.fault ≡ None }
+        ensures takes { MatchResult result (λ _. GoesOn self.old self.new line.now) (λ fault. StopsAt self.old self.new line.now fault) }
+        ensures fit { IsFit self.new.seen.state }
+    {
+        let parsed = match self.reader.parse(line) {
+            Ok(parsed) => parsed,
+            Err(cause) => return Err(self.reader.fail(cause)),
+        };
+        self.reader
+            .keep_in(parsed, &mut self.deployment, &mut self.acts)
+    }
+
+    /// What the text is that came, where these bytes, none of them 10, stood after the last line. It takes no memory.
+    pub fn finish(self, rest: &[u8]) -> Reading
+        ensures means { result ≡ means self rest.now [] }
+        ensures built { IfSome result.deployment (λ d. IsDeployment d × IsBuilt d × HaveNames d × AreBuiltActs d result.acts) }
+        ensures none { result.deployment ≡ None → result.acts ≡ [] }
+        ensures few { length result.acts ≤ MOST_ACTS }
+    {
+        let Lines {
+            mut reader,
+            deployment,
+            acts,
+        } = self;
+        let _ = reader.close(rest);
+        Reading {
+            deployment,
+            acts,
+            fault: reader.fault(),
+        }
+    }
+}

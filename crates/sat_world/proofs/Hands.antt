@@ -1,0 +1,213 @@
+-- What each act at a site hands it, by what the world keeps, and that it fits.
+use Rattle.std.specs.Prelude.{◌≡◌, ◌<◌, ◌^◌, ℕ, Bool, true, false, List, length, get_or, Option, Some, None, slice_get, if◌then◌else◌, refl}
+use Rattle.std.proofs.Common.{sym, subst, ap, ◌∙◌, arith}
+use Rattle.std.proofs.lemmas.Bool.{and_from, lt-ltb}
+use Rattle.sat_label.proofs.Truth.{same-number}
+use Rattle.sat_label.specs.declared.carried.Carried.{Carried}
+use Rattle.sat_bulk.specs.declared.Payload.{Payload}
+use Rattle.sat_act.specs.declared.act.Act.{Act}
+use Rattle.sat_act.specs.declared.act.Act.TheVariants as act
+use Rattle.sat_act.specs.declared.answer.Answer.{Answer}
+use Rattle.sat_act.specs.declared.answer.Answer.TheVariants as ans
+use Rattle.sat_act.specs.declared.answer.Refusal.TheVariants as why
+use Rattle.sat_act.specs.declared.entry.Entry.{Entry}
+use Rattle.sat_act.specs.Deployed.{Deployed}
+use Rattle.sat_act.specs.Answers.{at_seat}
+use Rattle.sat_act.specs.Ranges.{IsActOf}
+use Rattle.sat_act.proofs.Valid.{is_valid}
+use Rattle.sat_client.specs.declared.client.Client.{Client}
+use Rattle.sat_machine.specs.State.{SiteState}
+use Rattle.sat_machine.specs.Fits.{fits}
+use Rattle.sat_machine.specs.Input.{SiteInput}
+use Rattle.sat_machine.specs.Input as given
+use Rattle.sat_machine.specs.Look.{front_of}
+use Rattle.sat_machine.specs.Reply.{site_answer}
+use Rattle.sat_machine.specs.Replay.{given_at, given_seat, site_state}
+use Rattle.sat_machine.specs.World.{WorldState, world_given, world_answer, world_state, payload_from}
+use Rattle.sat_machine.proofs.Worlds.{gives-as-handed}
+use Rattle.sat_machine.proofs.Local.{given-fits}
+use Rattle.sat_site.specs.declared.input.SiteInput as code
+use Rattle.sat_site.specs.declared.input.SiteInput.TheVariants as input
+use Rattle.sat_site.specs.Seen.{SiteSeen, IsSite}
+use Rattle.sat_site.specs.Inputs.{input_of, fits_in, is_small}
+use Rattle.sat_site.specs.Stands.{StandsSite}
+use Rattle.sat_world.proofs.Laws.{each-fits}
+use Rattle.sat_world.specs.Seen.{WorldSeen, HasSite, HasClient}
+use Rattle.sat_world.specs.Stands.{Stands}
+use Rattle.sat_label.specs.declared.label.Kind.TheVariants as kind
+use Rattle.sat_label.specs.declared.label.Label.{Label}
+use Rattle.sat_store.specs.declared.store.Version.{Version}
+use Rattle.sat_gear.specs.Gear.{GearSeen, is_spent, stamped, version_of}
+use Rattle.sat_site.specs.Changes.{gear_at}
+use Rattle.sat_site.specs.SiteSteps.{keeps_item, site_answers, write_answer, stamp_answer, read_answer, version_answer}
+use Rattle.sat_laws.proofs.Labels.{seat-range}
+use Rattle.sat_world.proofs.Handles.{is_told}
+use Rattle.sat_world.proofs.Lists.{index-at}
+use Rattle.sat_world.specs.Steps.{HandsIn, Hands, StepsAt}
+use Rattle.sat_world.specs.Worlds.{IsWorld}
+
+-- ---- what fits
+
+here-given : (i : ℕ) (x : SiteInput) → given_at i i x ≡ Some x
+here-given i x = ap (λ (b : Bool). if b then Some x else None) (same-number i)
+
+-- the machine's state of a site of the history
+state-at : (d : Deployed) (h : List Entry) (i : ℕ) → (world_state d h).sites i ≡ site_state d h i
+unfolding world_state
+state-at d h i = refl
+
+-- what an act hands a site of a world fits it
+pub hands-fit : (w : WorldSeen) (a : Act) (i : ℕ) (given : code.SiteInput) (x : SiteSeen) → IsWorld w → IsActOf w.deployment a → Hands w a i given → HasSite w i x → IsSite x → fits_in x given ≡ true
+hands-fit w a i given x k b h at sound =
+    each-fits x given w.deployment i ((world_state w.deployment k.history).sites i) k.frame.deployment sound (k.stands.sites i x at) ∙
+    and_from (fits w.deployment i ((world_state w.deployment k.history).sites i) (input_of given)) (is_small given)
+    (ap (λ (s : SiteState). fits w.deployment i s (input_of given)) (state-at w.deployment k.history i) ∙
+    given-fits w.deployment k.history a i (input_of given) (is_valid w.deployment k.frame.deployment) k.run b
+    (sym (gives-as-handed w.deployment k.history a i (is_valid w.deployment k.frame.deployment) k.run) ∙ ((h.hands (world_state w.deployment k.history) k.stands).given i ∙ here-given i (input_of given))))
+    h.small
+
+-- ---- each act
+
+pub tick-hands : (w : WorldSeen) (i g t : ℕ) → Hands w (act.Tick i g t) i (input.Tick g t)
+unfolding world_given world_answer
+tick-hands w i g t = record { hands = λ s st. record { given = λ k. refl; answer = refl }; small = refl }
+
+pub gather-hands : (w : WorldSeen) (i : ℕ) → Hands w (act.Gather i) i input.Gather
+unfolding world_given world_answer
+gather-hands w i = record { hands = λ s st. record { given = λ k. refl; answer = refl }; small = refl }
+
+pub emit-hands : (w : WorldSeen) (i : ℕ) → Hands w (act.Emit i) i input.Emit
+unfolding world_given world_answer
+emit-hands w i = record { hands = λ s st. record { given = λ k. refl; answer = refl }; small = refl }
+
+-- a client's write and read, at its seat
+module _ (w : WorldSeen) (c : ℕ) (x : Client) (i : ℕ) (at : HasClient w c x) (seat : x.seat ≡ Some i) where
+  seated : (s : WorldState) → Stands w s → (s.clients c).seat ≡ Some i
+  seated s st = sym (st.clients c x at).seat ∙ seat
+
+  carries : (s : WorldState) → Stands w s → (s.clients c).carried ≡ x.carried
+  carries s st = sym (st.clients c x at).carried
+
+  pub write-hands : (n : ℕ) (value : List ℕ) → Hands w (act.Write c n value) i (input.Write x.carried n value)
+  unfolding world_given world_answer
+  write-hands n value = record {
+    hands = λ s st. record {
+      given = λ k j. given_seat (seated s st j) k (given.Write (carries s st j) n value);
+      answer = λ j. at_seat (seated s st j) (λ i. site_answer w.deployment i (s.sites i) (given.Write (carries s st j) n value));
+    };
+    small = refl;
+  }
+
+  pub read-hands : (n : ℕ) → Hands w (act.Read c n) i (input.Read x.carried n)
+  unfolding world_given world_answer
+  read-hands n = record {
+    hands = λ s st. record {
+      given = λ k j. given_seat (seated s st j) k (given.Read (carries s st j) n);
+      answer = λ j. at_seat (seated s st j) (λ i. site_answer w.deployment i (s.sites i) (given.Read (carries s st j) n));
+    };
+    small = refl;
+  }
+
+-- a client without a seat is handed to no site
+module _ (w : WorldSeen) (c : ℕ) (x : Client) (at : HasClient w c x) (none : x.seat ≡ None) where
+  unseated : (s : WorldState) → Stands w s → (s.clients c).seat ≡ None
+  unseated s st = sym (st.clients c x at).seat ∙ none
+
+  pub write-none : (n : ℕ) (value : List ℕ) (s : WorldState) → Stands w s → (ans.Refused why.NoSession ≡ world_answer w.deployment s (act.Write c n value)) × ((k : ℕ) → world_given w.deployment s (act.Write c n value) k ≡ None)
+  unfolding world_given world_answer
+  write-none n value s st = (sym (λ j. at_seat (unseated s st j) (λ i. site_answer w.deployment i (s.sites i) (given.Write (s.clients c).carried n value))), λ k j. given_seat (unseated s st j) k (given.Write (s.clients c).carried n value))
+
+  pub read-none : (n : ℕ) (s : WorldState) → Stands w s → (ans.Refused why.NoSession ≡ world_answer w.deployment s (act.Read c n)) × ((k : ℕ) → world_given w.deployment s (act.Read c n) k ≡ None)
+  unfolding world_given world_answer
+  read-none n s st = (sym (λ j. at_seat (unseated s st j) (λ i. site_answer w.deployment i (s.sites i) (given.Read (s.clients c).carried n))), λ k j. given_seat (unseated s st j) k (given.Read (s.clients c).carried n))
+
+-- ---- payloads
+
+-- the number of the next payload of a lane to a site, and what stands at a place of a lane from a site, in each state that it
+-- stands for
+abbrev pub IsNext : SiteSeen → ℕ → ℕ → ℕ → Type 0
+IsNext y from gear n = (d : Deployed) (k : ℕ) (s : SiteState) → StandsSite d k y s → n ≡ front_of s from gear
+
+abbrev pub IsInLane : SiteSeen → ℕ → ℕ → ℕ → Option Payload → Type 0
+IsInLane x gear to n o = (d : Deployed) (k : ℕ) (s : SiteState) → StandsSite d k x s → slice_get ((s.gears gear).lanes to) n ≡ o
+
+bulk-given : (d : Deployed) (s : WorldState) (i g j n : ℕ) (p : Payload) → n ≡ front_of (s.sites j) i g → slice_get (((s.sites i).gears g).lanes j) n ≡ Some p → HandsIn d s (act.Bulk i g j None) j (given.Bulk i g n p)
+unfolding world_given world_answer
+bulk-given d s i g j n p e f = record {
+  given = λ k. ap (λ (m : ℕ). elim (payload_from s i g j m) [ None ↦ None | Some p ↦ given_at j k (given.Bulk i g m p) ]) (sym e) ∙ ap (λ (o : Option Payload). elim o [ None ↦ None | Some p ↦ given_at j k (given.Bulk i g n p) ]) f;
+  answer = ap (λ (m : ℕ). elim (payload_from s i g j m) [ None ↦ ans.Refused why.NoSuch | Some p ↦ site_answer d j (s.sites j) (given.Bulk i g m p) ]) (sym e) ∙ ap (λ (o : Option Payload). elim o [ None ↦ ans.Refused why.NoSuch | Some p ↦ site_answer d j (s.sites j) (given.Bulk i g n p) ]) f;
+}
+
+pub bulk-hands : (w : WorldSeen) (i g j n : ℕ) (p : Payload) (x y : SiteSeen) → HasSite w i x → HasSite w j y → IsNext y i g n → IsInLane x g j n (Some p) → is_small (input.Bulk i g n p) ≡ true → Hands w (act.Bulk i g j None) j (input.Bulk i g n p)
+bulk-hands w i g j n p x y a b next lane small = record {
+  hands = λ s st. bulk-given w.deployment s i g j n p (next w.deployment j (s.sites j) (st.sites j y b)) (lane w.deployment i (s.sites i) (st.sites i x a));
+  small = small;
+}
+
+pub bulk-none : (w : WorldSeen) (i g j n : ℕ) (x y : SiteSeen) → HasSite w i x → HasSite w j y → IsNext y i g n → IsInLane x g j n None → (s : WorldState) → Stands w s →
+    (ans.Refused why.NoSuch ≡ world_answer w.deployment s (act.Bulk i g j None)) × ((k : ℕ) → world_given w.deployment s (act.Bulk i g j None) k ≡ None)
+unfolding world_given world_answer
+bulk-none w i g j n x y a b next lane s st =
+    let e : n ≡ front_of (s.sites j) i g = next w.deployment j (s.sites j) (st.sites j y b) in
+    let f : slice_get (((s.sites i).gears g).lanes j) n ≡ None = lane w.deployment i (s.sites i) (st.sites i x a) in
+    let q : payload_from s i g j (front_of (s.sites j) i g) ≡ None = ap (payload_from s i g j) (sym e) ∙ f in (
+      sym (ap (λ (o : Option Payload). elim o [ None ↦ ans.Refused why.NoSuch | Some p ↦ site_answer w.deployment j (s.sites j) (given.Bulk i g (front_of (s.sites j) i g) p) ]) q),
+      λ k. ap (λ (o : Option Payload). elim o [ None ↦ None | Some p ↦ given_at j k (given.Bulk i g (front_of (s.sites j) i g) p) ]) q,
+    )
+
+-- ---- as the code asks it
+
+-- the sites that the code hands something find that it fits
+pub fit-here : (w v : WorldSeen) (a : Act) (i : ℕ) (given : code.SiteInput) → w ≡ v → IsWorld w → IsActOf v.deployment a → Hands w a i given → (x : SiteSeen) → slice_get w.sites i ≡ Some x → IsSite x → fits_in x given ≡ true
+fit-here w v a i given e k b h x at sound = hands-fit w a i given x k (subst (λ (v : WorldSeen). IsActOf v.deployment a) (sym e) b) h at sound
+
+-- a place of the sites
+pub site-within : (w v : WorldSeen) (i : ℕ) → w ≡ v → IsWorld w → i < v.deployment.sites → i < length w.sites
+site-within w v i e k lt = let a : length w.sites ≡ w.deployment.sites = k.frame.sites in let b : w.deployment.sites ≡ v.deployment.sites = ap (λ (w : WorldSeen). w.deployment.sites) e in omega arith
+
+pub site-at : (w v : WorldSeen) (i : ℕ) (x : SiteSeen) → w ≡ v → IsWorld w → i < v.deployment.sites → x ≡ get_or w.sites i x → HasSite w i x
+site-at w v i x e k lt is = index-at w.sites i x (site-within w v i e k lt) is
+
+pub client-at : (w v : WorldSeen) (c : ℕ) (x : Client) → w ≡ v → IsWorld w → c < length v.deployment.clients → x ≡ get_or w.clients c x → HasClient w c x
+client-at w v c x e k lt is =
+    let a : length w.clients ≡ length w.deployment.clients = k.frame.clients in
+    let b : length w.deployment.clients ≡ length v.deployment.clients = ap (λ (w : WorldSeen). length w.deployment.clients) e in
+    index-at w.clients c x (omega arith) is
+
+-- the seat of a client is a site
+pub seat-within : (w : WorldSeen) (c i : ℕ) (x : Client) → IsWorld w → HasClient w c x → x.seat ≡ Some i → i < length w.sites
+unfolding world_state
+seat-within w c i x k at e =
+    let lt : i < w.deployment.sites = seat-range w.deployment k.history c i (is_valid w.deployment k.frame.deployment) k.run (sym (k.stands.clients c x at).seat ∙ e) in
+    let a : length w.sites ≡ w.deployment.sites = k.frame.sites in omega arith
+
+-- what a write or a read answers is told to its client
+write-tells : (b : Bool) (o : Option GearSeen) (seen : Carried) (n : ℕ) → is_told (write_answer b o seen n) ≡ true
+write-tells false o seen n = refl
+write-tells true None seen n = refl
+write-tells true (Some gear) seen n = go (is_spent gear seen.point)
+  where
+    go : (b : Bool) → is_told (stamp_answer b (stamped gear seen.point (kind.Update n))) ≡ true
+    go true = refl
+    go false = refl
+
+read-tells : (b : Bool) (o : Option GearSeen) (n : ℕ) → is_told (read_answer b o n) ≡ true
+read-tells false o n = refl
+read-tells true None n = refl
+read-tells true (Some gear) n = go (version_of gear n)
+  where
+    go : (o : Option Version) → is_told (version_answer o) ≡ true
+    go None = refl
+    go (Some v) = refl
+
+pub write-told : (xs ys : List SiteSeen) (i : ℕ) (seen : Carried) (n : ℕ) (value : List ℕ) (r : Answer) (o : Option Label) → StepsAt xs i (input.Write seen n value) r o ys → is_told r ≡ true
+unfolding site_answers
+write-told xs ys i seen n value r o h = ap is_told h.answers ∙ write-tells (keeps_item h.before n) (slice_get h.before.gears (gear_at h.before n)) seen n
+
+pub read-told : (xs ys : List SiteSeen) (i : ℕ) (seen : Carried) (n : ℕ) (r : Answer) (o : Option Label) → StepsAt xs i (input.Read seen n) r o ys → is_told r ≡ true
+unfolding site_answers
+read-told xs ys i seen n r o h = ap is_told h.answers ∙ read-tells (keeps_item h.before n) (slice_get h.before.gears (gear_at h.before n)) n
+
+-- a number of 63 bits
+pub small-bulk : (from gear n : ℕ) (p : Payload) → n < 2 ^ 63 → is_small (input.Bulk from gear n p) ≡ true
+small-bulk from gear n p lt = lt-ltb n (2 ^ 63) lt

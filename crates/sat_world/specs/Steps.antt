@@ -1,0 +1,119 @@
+-- What the acts of a world answer and do.
+use Rattle.std.specs.Prelude.{ℕ, ◌≡◌, Bool, true, false, List, set, Option, Some, None, slice_get}
+use Rattle.sat_label.specs.declared.label.Label.{Label}
+use Rattle.sat_label.specs.declared.node.NodeId.{NodeId}
+use Rattle.sat_label.specs.declared.node.NodeId.TheVariants.{Site, Serializer}
+use Rattle.sat_tree.specs.Cut.{seat_of}
+use Rattle.sat_act.specs.declared.answer.Refusal.TheVariants as why
+use Rattle.sat_sites.specs.Interested.{Interested}
+use Rattle.sat_act.specs.declared.act.Act.{Act}
+use Rattle.sat_act.specs.declared.act.Act.TheVariants as act
+use Rattle.sat_act.specs.declared.answer.Answer.{Answer}
+use Rattle.sat_act.specs.declared.answer.Answer.TheVariants as ans
+use Rattle.sat_act.specs.Deployed.{Deployed}
+use Rattle.sat_act.specs.Settling.{is_done}
+use Rattle.sat_serial.specs.Routes.{routes}
+use Rattle.sat_client.specs.declared.client.Client.{Client}
+use Rattle.sat_client.specs.Clients.{after_observe}
+use Rattle.sat_machine.specs.Input.{SiteInput}
+use Rattle.sat_machine.specs.Reply.{site_answer}
+use Rattle.sat_machine.specs.Replay.{given_at}
+use Rattle.sat_machine.specs.World.{WorldState, world_given, world_answer, world_next}
+use Rattle.sat_net.specs.Nets.{NetSeen, link_of, is_dead, after_send, after_hop, after_take}
+use Rattle.sat_site.specs.declared.input.SiteInput as code
+use Rattle.sat_site.specs.Seen.{SiteSeen, IsSite}
+use Rattle.sat_site.specs.Inputs.{input_of, fits_in, is_small}
+use Rattle.sat_site.specs.SiteSteps.{site_answers, site_sends, site_after}
+use Rattle.sat_world.specs.Seen.{WorldSeen}
+use Rattle.sat_world.specs.Stands.{Stands}
+use Rattle.sat_world.specs.Worlds.{IsFrame}
+
+-- the answer of an act, and the world after it, are the machine's in each state that the world stands for; an act that isn't
+-- done leaves the world
+pub record Goes (w : WorldSeen) (a : Act) (r : Answer) (v : WorldSeen) : Type 0 where
+  pub deployment : v.deployment ≡ w.deployment
+  pub frame : IsFrame v
+  pub answer : (s : WorldState) → Stands w s → r ≡ world_answer w.deployment s a
+  pub stands : (s : WorldState) → Stands w s → Stands v (world_next w.deployment s a r)
+  pub refused : is_done r ≡ false → v ≡ w
+
+-- ---- one site
+
+-- site i is handed something, answers it, sends a label or none, and becomes another site
+pub record StepsAt (xs : List SiteSeen) (i : ℕ) (input : code.SiteInput) (r : Answer) (o : Option Label) (ys : List SiteSeen) : Type 0 where
+  pub before : SiteSeen
+  pub at : slice_get xs i ≡ Some before
+  pub sound : IsSite before
+  pub fits : fits_in before input ≡ true
+  pub answers : r ≡ site_answers before input
+  pub sends : o ≡ site_sends before input
+  pub rest : ys ≡ set xs i (site_after before input)
+
+-- the machine hands this to site i in an act, to no other site anything, and answers what the site does
+pub record HandsIn (d : Deployed) (s : WorldState) (a : Act) (i : ℕ) (input : SiteInput) : Type 0 where
+  pub given : (k : ℕ) → world_given d s a k ≡ given_at i k input
+  pub answer : world_answer d s a ≡ site_answer d i (s.sites i) input
+
+-- in an act a site is handed this, in each state that the world stands for
+pub record Hands (w : WorldSeen) (a : Act) (i : ℕ) (input : code.SiteInput) : Type 0 where
+  pub hands : (s : WorldState) → Stands w s → HandsIn w.deployment s a i (input_of input)
+  pub small : is_small input ≡ true
+
+-- an act at one site that moves no label and is no client's
+abbrev pub is_local : Act → Bool
+is_local (act.Tick i g ts) = true
+is_local (act.Gather i) = true
+is_local (act.Bulk i g j o) = true
+is_local (act.Beat i j) = true
+is_local (act.BeatIn i j n) = true
+is_local (act.Stamp i) = true
+is_local (act.Fall i) = true
+is_local (act.Advance i) = true
+is_local _ = false
+
+-- ---- clients
+
+-- what an answer to a write or a read makes of the client
+abbrev pub told : Answer → Client → Client
+told (ans.Wrote l) x = after_observe x l.point
+told (ans.ReadSome l v) x = after_observe x l.point
+told r x = x
+
+-- ---- one net
+
+-- a label that a site sends enters the net, where there is one
+abbrev pub net_sent : Option NetSeen → ℕ → Option Label → Option NetSeen
+net_sent None i o = None
+net_sent (Some net) i None = Some net
+net_sent (Some net) i (Some l) = Some (after_send net i l)
+
+-- the front of the link to site j, None where there is no net
+abbrev pub front_to : Option NetSeen → ℕ → Option Label
+front_to None j = None
+front_to (Some net) j = slice_get (link_of net (Serializer (seat_of net.tree j)) (Site j)) 0
+
+-- it leaves the net where the site showed it or took it
+abbrev pub net_taken : Answer → Option NetSeen → ℕ → Option NetSeen
+net_taken r None j = None
+net_taken (ans.Shown l) (Some net) j = Some (after_take net j)
+net_taken (ans.Took l) (Some net) j = Some (after_take net j)
+net_taken r (Some net) j = Some net
+
+-- a hop to serializer z over its link from u: what is answered, and the net after it
+pub data Hops (net : NetSeen) (a : Interested) (u : NodeId) (z : ℕ) : Answer → NetSeen → Type 0 where
+  finds_dead : is_dead net z ≡ true → Hops net a u z (ans.Refused why.Dead) net
+  finds_none : is_dead net z ≡ false → slice_get (link_of net u (Serializer z)) 0 ≡ None → Hops net a u z (ans.Refused why.Empty) net
+  hops : (l : Label) → is_dead net z ≡ false → slice_get (link_of net u (Serializer z)) 0 ≡ Some l → Hops net a u z (ans.Hopped l (routes a net.tree z u l)) (after_hop net a u z l)
+
+-- the net at a place becomes another one, and the other nets stay
+pub record NetAt (nets : List (Option NetSeen)) (n : ℕ) (before after : Option NetSeen) (now : List (Option NetSeen)) : Type 0 where
+  pub at : slice_get nets n ≡ Some before
+  pub rest : now ≡ set nets n after
+
+-- the net at a place, which is there, has a hop
+pub record HopsAt (nets : List (Option NetSeen)) (n : ℕ) (a : Interested) (u : NodeId) (z : ℕ) (r : Answer) (now : List (Option NetSeen)) : Type 0 where
+  pub before : NetSeen
+  pub after : NetSeen
+  pub at : slice_get nets n ≡ Some (Some before)
+  pub hop : Hops before a u z r after
+  pub rest : now ≡ set nets n (Some after)

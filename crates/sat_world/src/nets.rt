@@ -1,0 +1,122 @@
+//! What one act does to the net of an epoch: None stands for an epoch of stamp order, in which no label goes over a link.
+ghost use Rattle.std.specs.Prelude.{ℕ, ◌≡◌, ◌<◌, length, slice_get, Some, None, Option, IsSome, IfOk, OnOk, OnErr};
+ghost use Rattle.sat_label.specs.declared.label.Label.{Label};
+ghost use Rattle.sat_net.specs.Nets.{NetSeen, MayHop};
+ghost use Rattle.sat_world.specs.Steps.{front_to, net_sent, net_taken, Hops, HopsAt, NetAt};
+
+use sat_act::{Answer, Refusal};
+use sat_label::{Label, NodeId};
+use sat_net::{HopFault, Net};
+use sat_sites::Interest;
+use std::alloc::AllocError;
+
+// The front of the link to a site.
+fn front_of(net: &Option<Net>, site: u16) -> Option<Label>
+    requires { (n : NetSeen) → net.now ≡ Some n → site < length n.tree.seats }
+    ensures { result ≡ front_to net.now site }
+{
+    match net {
+        None => None,
+        Some(net) => net.front_to(site),
+    }
+}
+
+/// The front of the link to a site in the net at a place.
+pub fn front_at(nets: &[Option<Net>], place: usize, site: u16) -> Option<Label>
+    requires within { place < length nets.now }
+    requires seat { (n : NetSeen) → slice_get nets.now place ≡ Some (Some n) → site < length n.tree.seats }
+    ensures { (o : Option NetSeen) → slice_get nets.now place ≡ Some o → result ≡ front_to o site }
+{
+    let net = &nets[place];
+    front_of(net, site)
+}
+
+// Takes that label out, where the site showed it or took it.
+fn take(net: &mut Option<Net>, site: u16, answer: &Answer)
+    requires { (n : NetSeen) → net.old ≡ Some n → site < length n.tree.seats }
+    ensures { net.new ≡ net_taken answer.now net.old site }
+{
+    let Some(net) = net else {
+        return;
+    };
+    match answer {
+        Answer::Shown(_) => net.take_to(site),
+        Answer::Took(_) => net.take_to(site),
+        _ => {}
+    }
+}
+
+/// Takes the front of the link to a site, in the net at a place, where the site showed it or took it.
+pub fn take_at(nets: &mut Vec<Option<Net>>, place: usize, site: u16, answer: &Answer)
+    requires within { place < length nets.old.items }
+    requires seat { (n : NetSeen) → slice_get nets.old.items place ≡ Some (Some n) → site < length n.tree.seats }
+    ensures { (o : Option NetSeen) → slice_get nets.old.items place ≡ Some o → NetAt nets.old.items place o (net_taken answer.now o site) nets.new.items }
+{
+    take(&mut nets[place], site, answer);
+}
+
+// Puts a label that a site sends on the way.
+fn send(net: &mut Option<Net>, site: u16, sent: Option<Label>) -> Result<(), AllocError>
+    requires { (n : NetSeen) → net.old ≡ Some n → site < length n.tree.seats }
+    ensures after { OnOk result (net.new ≡ net_sent net.old site sent) }
+    ensures err { OnErr result (net.new ≡ net.old) }
+{
+    let Some(net) = net else {
+        return Ok(());
+    };
+    match sent {
+        None => Ok(()),
+        Some(label) => net.send(site, label),
+    }
+}
+
+/// Puts a label that a site sends on the way, in the net at a place.
+pub fn send_at(
+    nets: &mut Vec<Option<Net>>,
+    place: usize,
+    site: u16,
+    sent: Option<Label>,
+) -> Result<(), AllocError>
+    requires within { place < length nets.old.items }
+    requires seat { (n : NetSeen) → slice_get nets.old.items place ≡ Some (Some n) → site < length n.tree.seats }
+    ensures ok { OnOk result ((o : Option NetSeen) → slice_get nets.old.items place ≡ Some o → NetAt nets.old.items place o (net_sent o site sent) nets.new.items) }
+    ensures err { OnErr result (nets.new.items ≡ nets.old.items) }
+{
+    send(&mut nets[place], site, sent)?;
+    Ok(())
+}
+
+// A hop in one net.
+fn hop(net: &mut Net, interest: &Interest, from: NodeId, to: u16) -> Result<Answer, AllocError>
+    requires { MayHop net.old interest.now from to }
+    ensures ok { IfOk result (λ answer. Hops net.old interest.now from to answer net.new) }
+    ensures err { OnErr result (net.new ≡ net.old) }
+{
+    match net.hop(interest, from, to) {
+        Ok(None) => Ok(Answer::Refused(Refusal::Empty)),
+        Ok(Some((label, nodes))) => Ok(Answer::Hopped { label, to: nodes }),
+        Err(HopFault::Dead) => Ok(Answer::Refused(Refusal::Dead)),
+        Err(HopFault::Memory) => Err(AllocError),
+    }
+}
+
+/// A label goes over a link to a serializer, in the net at a place, which is there.
+pub fn hop_at(
+    nets: &mut Vec<Option<Net>>,
+    place: usize,
+    interest: &Interest,
+    from: NodeId,
+    to: u16,
+) -> Result<Answer, AllocError>
+    requires within { place < length nets.old.items }
+    requires there { (o : Option NetSeen) → slice_get nets.old.items place ≡ Some o → IsSome o }
+    requires hop { (n : NetSeen) → slice_get nets.old.items place ≡ Some (Some n) → MayHop n interest.now from to }
+    ensures ok { IfOk result (λ answer. HopsAt nets.old.items place interest.now from to answer nets.new.items) }
+    ensures err { OnErr result (nets.new.items ≡ nets.old.items) }
+{
+    let Some(net) = &mut nets[place] else {
+        unreachable!()
+    };
+    let answer = hop(net, interest, from, to)?;
+    Ok(answer)
+}
