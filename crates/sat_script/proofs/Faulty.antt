@@ -92,7 +92,6 @@ acts_that_are_not_built : HaveFault 9 Unbuilt (after header (
     codes "leave d\n" ∷
     codes "attach a 0\n" ∷
     codes "pulse 9\n" ∷
-    codes "bulk 0 0 1 0\n" ∷
     codes "beat 0 0\n" ∷
     codes "beatin 0 1 99999999999999999999\n" ∷
     codes "stamp 0\n" ∷

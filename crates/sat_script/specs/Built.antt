@@ -1,5 +1,5 @@
 -- What a script may use today: the deployments and the acts that are built.
-use Rattle.std.specs.Prelude.{◌≡◌, Bool, true, false, [], ◌∷◌, None}
+use Rattle.std.specs.Prelude.{◌≡◌, Bool, true, false, [], ◌∷◌}
 use Rattle.sat_tree.specs.Shape.{TreeShape}
 use Rattle.sat_act.specs.Deployed.{Deployed}
 use Rattle.sat_act.specs.declared.act.Act.{Act}
@@ -21,5 +21,5 @@ is_built_act (act.Gather i) = true
 is_built_act (act.Emit i) = true
 is_built_act (act.Hop epoch u z) = true
 is_built_act (act.Turn j) = true
-is_built_act (act.Bulk i g j None) = true
+is_built_act (act.Bulk i g j o) = true
 is_built_act _ = false

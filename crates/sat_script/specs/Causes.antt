@@ -47,6 +47,7 @@ is_built d form.Emit = true
 is_built d form.Hop = true
 is_built d form.Turn = true
 is_built d form.Bulk = true
+is_built d form.NumberedBulk = true
 is_built d _ = false
 
 -- whether one more line of the form is within the limits

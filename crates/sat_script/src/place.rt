@@ -114,6 +114,7 @@ impl Place {
             Form::Hop => true,
             Form::Turn => true,
             Form::Bulk => true,
+            Form::NumberedBulk => true,
             _ => false,
         }
     }

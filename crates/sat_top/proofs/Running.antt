@@ -33,7 +33,7 @@ world_does (act.Gather i) b = refl
 world_does (act.Emit i) b = refl
 world_does (act.Hop epoch u z) b = refl
 world_does (act.Turn j) b = refl
-world_does (act.Bulk i g j None) b = refl
+world_does (act.Bulk i g j o) b = refl
 world_does _ b = absurd (cc)
 
 -- a built act has no inner entries

@@ -132,6 +132,17 @@ fn paths_have_their_answers(rt: HostRuntime) -> Result<(), Fail> {
             "read a x\nwrite a x hello\nbulk 0 0 1\nhop 1 s0 z0\ngather 0\nemit 0\nhop 1 s0 z0\nturn 1\nturn 1\nread b x\nbulk 0 0 1\nend\n",
             "1 read none\n2 wrote 1.0.0\n3 brought x 1.0.0\n4 refused Empty\n5 gathered 1 stable 1\n6 emitted update 1.0.0\n7 hopped update 1.0.0 to s1\n8 shown x 1.0.0\n9 refused Empty\n10 read 1.0.0 hello\n11 refused NoSuch\nholdings\n",
         ),
+        // A payload is taken before its label as well, once, and by its number in any order.
+        (
+            HEADER,
+            "write a x v\nbulk 0 0 1 0\nbulk 0 0 1 0\ngather 0\nemit 0\nhop 1 s0 z0\nturn 1\nbulk 0 0 1 0\nturn 1\nbulk 0 0 1\nbulk 0 0 1 1\nend\n",
+            "1 wrote 1.0.0\n2 brought x 1.0.0\n3 again\n4 gathered 1 stable 1\n5 emitted update 1.0.0\n6 hopped update 1.0.0 to s1\n7 shown x 1.0.0\n8 again\n9 refused Empty\n10 refused NoSuch\n11 refused NoSuch\nholdings\n",
+        ),
+        (
+            HEADER,
+            "write a x v\nwrite a x w\nbulk 0 0 1 18446744073709551615\nbulk 0 0 1 1\nbulk 0 0 1\nbulk 0 0 1\nbulk 0 0 1 1\nend\n",
+            "1 wrote 1.0.0\n2 wrote 2.0.0\n3 refused NoSuch\n4 brought x 2.0.0\n5 brought x 1.0.0\n6 refused NoSuch\n7 again\nholdings\n",
+        ),
         // Equal timestamps go by site, then by gear.
         (
             TWO_GEARS,

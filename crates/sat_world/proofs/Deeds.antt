@@ -42,12 +42,12 @@ use Rattle.sat_site.specs.Inputs.{fits_in}
 use Rattle.sat_site.specs.SiteSteps.{keeps_item, refusal_of, site_answers, site_sends, write_answer, write_refusal}
 use Rattle.sat_world.specs.Clocks.{IsGreatest, AreUpTo, AreClocked}
 use Rattle.sat_world.specs.Seen.{WorldSeen, HasSite, HasClient}
-use Rattle.sat_world.specs.Steps.{Goes, StepsAt, Hands, told, net_sent, net_taken, front_to, NetAt, HopsAt}
+use Rattle.sat_world.specs.Steps.{Goes, StepsAt, Hands, told, net_sent, net_taken, front_to, NetAt, HopsAt, IsNumber}
 use Rattle.sat_world.specs.Worlds.{IsWorld}
 use Rattle.sat_world.proofs.Laws.{each-step, leads-to}
 use Rattle.sat_world.proofs.Lists.{both-are, get-is, set-same, within}
 use Rattle.sat_world.proofs.Goes.{quiet-goes, use-goes, emit-goes, turn-goes, turn-hands, front-found}
-use Rattle.sat_world.proofs.Hands.{fit-here, site-within, site-at, write-hands, read-hands, write-none, read-none, write-told, read-told, bulk-hands, bulk-none, small-bulk, IsNext, IsInLane}
+use Rattle.sat_world.proofs.Hands.{fit-here, site-within, site-at, write-hands, read-hands, write-none, read-none, write-told, read-told, bulk-hands, bulk-none, small-bulk, IsInLane}
 use Rattle.sat_world.proofs.Hops.{IsEdge, hop-goes, clock-goes}
 
 -- what stands at a place
@@ -243,15 +243,15 @@ lane-site w v i j x e k lt is m = subst (λ (s : Shape). j < s.sites) (sym (shap
 pub lane-gear : (w v : WorldSeen) (i g : ℕ) (x : SiteSeen) → w ≡ v → IsWorld w → i < v.deployment.sites → x ≡ get_or w.sites i x → g < v.deployment.gears → g < x.shape.gears
 lane-gear w v i g x e k lt is m = subst (λ (s : Shape). g < s.gears) (sym (shape-at w v i x e k lt is)) m
 
-pub did-not-bulk : (w v : WorldSeen) (i g j n : ℕ) (x y : SiteSeen) → w ≡ v → IsWorld w → i < v.deployment.sites → j < v.deployment.sites → x ≡ get_or w.sites i x → y ≡ get_or w.sites j y → IsNext y i g n → IsInLane x g j n None → Goes v (act.Bulk i g j None) (ans.Refused why.NoSuch) v
-did-not-bulk w v i g j n x y e k li lj ix iy next lane =
-    subst (λ (v : WorldSeen). Goes v (act.Bulk i g j None) (ans.Refused why.NoSuch) v) e
-    (quiet-goes w (act.Bulk i g j None) why.NoSuch k.frame (bulk-none w i g j n x y (site-at w v i x e k li ix) (site-at w v j y e k lj iy) next lane))
+pub did-not-bulk : (w v : WorldSeen) (i g j n : ℕ) (o : Option ℕ) (x y : SiteSeen) → w ≡ v → IsWorld w → i < v.deployment.sites → j < v.deployment.sites → x ≡ get_or w.sites i x → y ≡ get_or w.sites j y → IsNumber y i g o n → IsInLane x g j n None → Goes v (act.Bulk i g j o) (ans.Refused why.NoSuch) v
+did-not-bulk w v i g j n o x y e k li lj ix iy next lane =
+    subst (λ (v : WorldSeen). Goes v (act.Bulk i g j o) (ans.Refused why.NoSuch) v) e
+    (quiet-goes w (act.Bulk i g j o) why.NoSuch k.frame (bulk-none w i g j n o x y (site-at w v i x e k li ix) (site-at w v j y e k lj iy) next lane))
 
-pub bulk-handed : (w v : WorldSeen) (i g j n : ℕ) (p q : Payload) (x y : SiteSeen) → w ≡ v → IsWorld w → i < v.deployment.sites → j < v.deployment.sites → x ≡ get_or w.sites i x → y ≡ get_or w.sites j y → IsNext y i g n → IsInLane x g j n (Some q) → p ≡ q → n < 2 ^ 63 →
-    Hands w (act.Bulk i g j None) j (input.Bulk i g n p)
-bulk-handed w v i g j n p q x y e k li lj ix iy next lane same small =
-    bulk-hands w i g j n p x y (site-at w v i x e k li ix) (site-at w v j y e k lj iy) next (subst (λ (m : Payload). IsInLane x g j n (Some m)) (sym same) lane) (small-bulk i g n p small)
+pub bulk-handed : (w v : WorldSeen) (i g j n : ℕ) (o : Option ℕ) (p q : Payload) (x y : SiteSeen) → w ≡ v → IsWorld w → i < v.deployment.sites → j < v.deployment.sites → x ≡ get_or w.sites i x → y ≡ get_or w.sites j y → IsNumber y i g o n → IsInLane x g j n (Some q) → p ≡ q → n < 2 ^ 63 →
+    Hands w (act.Bulk i g j o) j (input.Bulk i g n p)
+bulk-handed w v i g j n o p q x y e k li lj ix iy next lane same small =
+    bulk-hands w i g j n o p x y (site-at w v i x e k li ix) (site-at w v j y e k lj iy) next (subst (λ (m : Payload). IsInLane x g j n (Some m)) (sym same) lane) (small-bulk i g n p small)
 
 -- ---- clock
 

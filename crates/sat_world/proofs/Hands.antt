@@ -20,7 +20,6 @@ use Rattle.sat_machine.specs.State.{SiteState}
 use Rattle.sat_machine.specs.Fits.{fits}
 use Rattle.sat_machine.specs.Input.{SiteInput}
 use Rattle.sat_machine.specs.Input as given
-use Rattle.sat_machine.specs.Look.{front_of}
 use Rattle.sat_machine.specs.Reply.{site_answer}
 use Rattle.sat_machine.specs.Replay.{given_at, given_seat, site_state}
 use Rattle.sat_machine.specs.World.{WorldState, world_given, world_answer, world_state, payload_from}
@@ -43,7 +42,7 @@ use Rattle.sat_site.specs.SiteSteps.{keeps_item, site_answers, write_answer, sta
 use Rattle.sat_laws.proofs.Labels.{seat-range}
 use Rattle.sat_world.proofs.Handles.{is_told}
 use Rattle.sat_world.proofs.Lists.{index-at}
-use Rattle.sat_world.specs.Steps.{HandsIn, Hands, StepsAt}
+use Rattle.sat_world.specs.Steps.{HandsIn, Hands, StepsAt, number_at, IsNumber}
 use Rattle.sat_world.specs.Worlds.{IsWorld}
 
 -- ---- what fits
@@ -123,36 +122,32 @@ module _ (w : WorldSeen) (c : ℕ) (x : Client) (at : HasClient w c x) (none : x
 
 -- ---- payloads
 
--- the number of the next payload of a lane to a site, and what stands at a place of a lane from a site, in each state that it
--- stands for
-abbrev pub IsNext : SiteSeen → ℕ → ℕ → ℕ → Type 0
-IsNext y from gear n = (d : Deployed) (k : ℕ) (s : SiteState) → StandsSite d k y s → n ≡ front_of s from gear
-
+-- what stands at a place of a lane from a site, in each state that it stands for
 abbrev pub IsInLane : SiteSeen → ℕ → ℕ → ℕ → Option Payload → Type 0
 IsInLane x gear to n o = (d : Deployed) (k : ℕ) (s : SiteState) → StandsSite d k x s → slice_get ((s.gears gear).lanes to) n ≡ o
 
-bulk-given : (d : Deployed) (s : WorldState) (i g j n : ℕ) (p : Payload) → n ≡ front_of (s.sites j) i g → slice_get (((s.sites i).gears g).lanes j) n ≡ Some p → HandsIn d s (act.Bulk i g j None) j (given.Bulk i g n p)
+bulk-given : (d : Deployed) (s : WorldState) (i g j n : ℕ) (o : Option ℕ) (p : Payload) → n ≡ number_at (s.sites j) i g o → slice_get (((s.sites i).gears g).lanes j) n ≡ Some p → HandsIn d s (act.Bulk i g j o) j (given.Bulk i g n p)
 unfolding world_given world_answer
-bulk-given d s i g j n p e f = record {
+bulk-given d s i g j n o p e f = record {
   given = λ k. ap (λ (m : ℕ). elim (payload_from s i g j m) [ None ↦ None | Some p ↦ given_at j k (given.Bulk i g m p) ]) (sym e) ∙ ap (λ (o : Option Payload). elim o [ None ↦ None | Some p ↦ given_at j k (given.Bulk i g n p) ]) f;
   answer = ap (λ (m : ℕ). elim (payload_from s i g j m) [ None ↦ ans.Refused why.NoSuch | Some p ↦ site_answer d j (s.sites j) (given.Bulk i g m p) ]) (sym e) ∙ ap (λ (o : Option Payload). elim o [ None ↦ ans.Refused why.NoSuch | Some p ↦ site_answer d j (s.sites j) (given.Bulk i g n p) ]) f;
 }
 
-pub bulk-hands : (w : WorldSeen) (i g j n : ℕ) (p : Payload) (x y : SiteSeen) → HasSite w i x → HasSite w j y → IsNext y i g n → IsInLane x g j n (Some p) → is_small (input.Bulk i g n p) ≡ true → Hands w (act.Bulk i g j None) j (input.Bulk i g n p)
-bulk-hands w i g j n p x y a b next lane small = record {
-  hands = λ s st. bulk-given w.deployment s i g j n p (next w.deployment j (s.sites j) (st.sites j y b)) (lane w.deployment i (s.sites i) (st.sites i x a));
+pub bulk-hands : (w : WorldSeen) (i g j n : ℕ) (o : Option ℕ) (p : Payload) (x y : SiteSeen) → HasSite w i x → HasSite w j y → IsNumber y i g o n → IsInLane x g j n (Some p) → is_small (input.Bulk i g n p) ≡ true → Hands w (act.Bulk i g j o) j (input.Bulk i g n p)
+bulk-hands w i g j n o p x y a b number lane small = record {
+  hands = λ s st. bulk-given w.deployment s i g j n o p (number w.deployment j (s.sites j) (st.sites j y b)) (lane w.deployment i (s.sites i) (st.sites i x a));
   small = small;
 }
 
-pub bulk-none : (w : WorldSeen) (i g j n : ℕ) (x y : SiteSeen) → HasSite w i x → HasSite w j y → IsNext y i g n → IsInLane x g j n None → (s : WorldState) → Stands w s →
-    (ans.Refused why.NoSuch ≡ world_answer w.deployment s (act.Bulk i g j None)) × ((k : ℕ) → world_given w.deployment s (act.Bulk i g j None) k ≡ None)
+pub bulk-none : (w : WorldSeen) (i g j n : ℕ) (asked : Option ℕ) (x y : SiteSeen) → HasSite w i x → HasSite w j y → IsNumber y i g asked n → IsInLane x g j n None → (s : WorldState) → Stands w s →
+    (ans.Refused why.NoSuch ≡ world_answer w.deployment s (act.Bulk i g j asked)) × ((k : ℕ) → world_given w.deployment s (act.Bulk i g j asked) k ≡ None)
 unfolding world_given world_answer
-bulk-none w i g j n x y a b next lane s st =
-    let e : n ≡ front_of (s.sites j) i g = next w.deployment j (s.sites j) (st.sites j y b) in
+bulk-none w i g j n asked x y a b number lane s st =
+    let e : n ≡ number_at (s.sites j) i g asked = number w.deployment j (s.sites j) (st.sites j y b) in
     let f : slice_get (((s.sites i).gears g).lanes j) n ≡ None = lane w.deployment i (s.sites i) (st.sites i x a) in
-    let q : payload_from s i g j (front_of (s.sites j) i g) ≡ None = ap (payload_from s i g j) (sym e) ∙ f in (
-      sym (ap (λ (o : Option Payload). elim o [ None ↦ ans.Refused why.NoSuch | Some p ↦ site_answer w.deployment j (s.sites j) (given.Bulk i g (front_of (s.sites j) i g) p) ]) q),
-      λ k. ap (λ (o : Option Payload). elim o [ None ↦ None | Some p ↦ given_at j k (given.Bulk i g (front_of (s.sites j) i g) p) ]) q,
+    let q : payload_from s i g j (number_at (s.sites j) i g asked) ≡ None = ap (payload_from s i g j) (sym e) ∙ f in (
+      sym (ap (λ (o : Option Payload). elim o [ None ↦ ans.Refused why.NoSuch | Some p ↦ site_answer w.deployment j (s.sites j) (given.Bulk i g (number_at (s.sites j) i g asked) p) ]) q),
+      λ k. ap (λ (o : Option Payload). elim o [ None ↦ None | Some p ↦ given_at j k (given.Bulk i g (number_at (s.sites j) i g asked) p) ]) q,
     )
 
 -- ---- as the code asks it

@@ -1,5 +1,5 @@
 -- The acts that a world does today.
-use Rattle.std.specs.Prelude.{Bool, true, false, None}
+use Rattle.std.specs.Prelude.{Bool, true, false}
 use Rattle.sat_act.specs.declared.act.Act.{Act}
 use Rattle.sat_act.specs.declared.act.Act.TheVariants as act
 
@@ -13,5 +13,5 @@ is_built_act (act.Gather i) = true
 is_built_act (act.Emit i) = true
 is_built_act (act.Hop epoch u z) = true
 is_built_act (act.Turn j) = true
-is_built_act (act.Bulk i g j None) = true
+is_built_act (act.Bulk i g j o) = true
 is_built_act _ = false

@@ -15,7 +15,9 @@ use Rattle.sat_act.specs.Settling.{is_done}
 use Rattle.sat_serial.specs.Routes.{routes}
 use Rattle.sat_client.specs.declared.client.Client.{Client}
 use Rattle.sat_client.specs.Clients.{after_observe}
+use Rattle.sat_machine.specs.State.{SiteState}
 use Rattle.sat_machine.specs.Input.{SiteInput}
+use Rattle.sat_machine.specs.Look.{front_of}
 use Rattle.sat_machine.specs.Reply.{site_answer}
 use Rattle.sat_machine.specs.Replay.{given_at}
 use Rattle.sat_machine.specs.World.{WorldState, world_given, world_answer, world_next}
@@ -24,6 +26,7 @@ use Rattle.sat_site.specs.declared.input.SiteInput as code
 use Rattle.sat_site.specs.Seen.{SiteSeen, IsSite}
 use Rattle.sat_site.specs.Inputs.{input_of, fits_in, is_small}
 use Rattle.sat_site.specs.SiteSteps.{site_answers, site_sends, site_after}
+use Rattle.sat_site.specs.Stands.{StandsSite}
 use Rattle.sat_world.specs.Seen.{WorldSeen}
 use Rattle.sat_world.specs.Stands.{Stands}
 use Rattle.sat_world.specs.Worlds.{IsFrame}
@@ -58,6 +61,14 @@ pub record HandsIn (d : Deployed) (s : WorldState) (a : Act) (i : ℕ) (input : 
 pub record Hands (w : WorldSeen) (a : Act) (i : ℕ) (input : code.SiteInput) : Type 0 where
   pub hands : (s : WorldState) → Stands w s → HandsIn w.deployment s a i (input_of input)
   pub small : is_small input ≡ true
+
+-- the number of a payload at its receiver: the one that is asked for, or else the front of its lane
+abbrev pub number_at : SiteState → ℕ → ℕ → Option ℕ → ℕ
+number_at s from gear asked = elim asked [ None ↦ front_of s from gear | Some n ↦ n ]
+
+-- the number is that one, in each state that the receiver stands for
+abbrev pub IsNumber : SiteSeen → ℕ → ℕ → Option ℕ → ℕ → Type 0
+IsNumber y from gear asked n = (d : Deployed) (k : ℕ) (s : SiteState) → StandsSite d k y s → n ≡ number_at s from gear asked
 
 -- an act at one site that moves no label and is no client's
 abbrev pub is_local : Act → Bool

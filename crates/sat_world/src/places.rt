@@ -5,7 +5,7 @@ ghost use Rattle.sat_client.specs.declared.client.Client.{Client as ClientSeen};
 ghost use Rattle.sat_site.specs.Seen.{SiteSeen, IsSite};
 ghost use Rattle.sat_site.specs.Inputs.{fits_in};
 ghost use Rattle.sat_site.specs.SiteSteps.{write_refusal};
-ghost use Rattle.sat_world.specs.Steps.{StepsAt, told};
+ghost use Rattle.sat_world.specs.Steps.{StepsAt, told, IsNumber};
 
 use sat_act::{Answer, Refusal};
 use sat_client::Client;
@@ -38,6 +38,18 @@ pub fn step_at(
     sound(site);
     let out = site.step(input)?;
     Ok(out)
+}
+
+/// The number of a payload at its receiver: the one that is asked for, or else that of the next of its lane.
+pub fn payload_number(receiver: &Site, from: u16, gear: u16, asked: Option<u64>) -> u64
+    requires from { from < receiver.now.shape.sites }
+    requires gear { gear < receiver.now.shape.gears }
+    ensures number { IsNumber receiver.now from gear asked result }
+{
+    match asked {
+        Some(number) => number,
+        None => receiver.front(from, gear),
+    }
 }
 
 /// Why a site would refuse a client's write, None where it would not.

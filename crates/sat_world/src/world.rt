@@ -140,10 +140,7 @@ impl World {
                 gear,
                 to,
                 number,
-            } => match number {
-                None => self.bulk(*from, *gear, *to),
-                Some(_) => unreachable!(),
-            },
+            } => self.bulk(*from, *gear, *to, *number),
             _ => unreachable!(),
         }
     }
@@ -253,14 +250,20 @@ impl World {
         Ok(out.answer)
     }
 
-    // The next payload of a lane. No memory holds payloads whose number has more than 63 bits.
-    fn bulk(&mut self, from: u16, gear: u16, to: u16) -> Result<Answer, AllocError>
-        requires { IsActOf self.old.deployment (Act.Bulk from gear to None) }
-        ensures goes { IfOk result (λ r. Goes self.old (Act.Bulk from gear to None) r self.new) }
+    // A payload of a lane. No memory holds payloads whose number has more than 63 bits.
+    fn bulk(
+        &mut self,
+        from: u16,
+        gear: u16,
+        to: u16,
+        asked: Option<u64>,
+    ) -> Result<Answer, AllocError>
+        requires { IsActOf self.old.deployment (Act.Bulk from gear to asked) }
+        ensures goes { IfOk result (λ r. Goes self.old (Act.Bulk from gear to asked) r self.new) }
         ensures err { OnErr result (self.new ≡ self.old) }
     {
         let receiver = &self.sites[to as usize];
-        let number = receiver.front(from, gear);
+        let number = places::payload_number(receiver, from, gear, asked);
         let sender = &self.sites[from as usize];
         let Some(payload) = sender.payload(gear, to, number) else {
             return Ok(Answer::Refused(Refusal::NoSuch));
