@@ -120,6 +120,27 @@ impl Views {
         self.closes.as_slice()
     }
 
+    /// How many epochs there are.
+    pub fn epochs(&self) -> u16
+        ensures { result ≡ length self.now.stamp }
+    {
+        self.stamp.len() as u16
+    }
+
+    /// Why the emission epoch can't be closed, None where it can.
+    pub fn close_fault(&self) -> Option<CloseFault>
+        ensures fault { result ≡ close_fault self.now }
+        ensures limits { IsEpochs self.now }
+    {
+        if self.emission as usize == self.stamp.len() {
+            return Some(CloseFault::NoNextEpoch);
+        }
+        if self.emission == self.view + 1 {
+            return Some(CloseFault::Behind);
+        }
+        None
+    }
+
     /// Closes the emission epoch at a cut, and answers its number.
     pub fn close(&mut self, cut: Point) -> Result<u16, CloseFault>
         ensures fault { MatchResult result (λ _. close_fault self.old ≡ None) (λ fault. close_fault self.old ≡ Some fault) }
@@ -127,13 +148,10 @@ impl Views {
         ensures ok { OnOk result (self.new ≡ after_close self.old cut) }
         ensures err { OnErr result (self.new ≡ self.old) }
     {
+        if let Some(fault) = self.close_fault() {
+            return Err(fault);
+        }
         let epoch = self.emission;
-        if epoch as usize == self.stamp.len() {
-            return Err(CloseFault::NoNextEpoch);
-        }
-        if epoch == self.view + 1 {
-            return Err(CloseFault::Behind);
-        }
         self.closes.push_reserved(cut);
         self.emission = epoch + 1;
         Ok(epoch)

@@ -1,0 +1,4 @@
+pub mod Firsts
+pub mod Keyed
+pub mod Members
+pub mod Pools

@@ -1,0 +1,16 @@
+pub mod Others
+pub mod Candidates
+pub mod Pools
+pub mod Raised
+pub mod Stamps
+pub mod Fronts
+pub mod Sound
+pub mod SameBeats
+pub mod SameLanes
+pub mod SameLists
+pub mod SamePools
+pub mod SameOutlooks
+pub mod Answering
+pub mod Starting
+pub mod Following
+pub mod Turns
