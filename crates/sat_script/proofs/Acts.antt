@@ -332,11 +332,11 @@ acts_spelled bars d (word ∷ words) a is h =
 
 -- ---- what the form bars
 
-form_built : (d : Deployed) (a : Act) → is_built d (form_of a) ≡ is_built_act a
+form_built : (a : Act) → is_built (form_of a) ≡ is_built_act a
 unfolding is_built
-form_built d (act.Bulk i g j None) = refl
-form_built d (act.Bulk i g j (Some n)) = refl
-form_built d _ = refl
+form_built (act.Bulk i g j None) = refl
+form_built (act.Bulk i g j (Some n)) = refl
+form_built _ = refl
 
 form_room : (s : State) (a : Act) → has_room s (form_of a) ≡ true → ltb s.acts (limits_of s.dialect).acts ≡ true
 unfolding has_room
@@ -349,7 +349,7 @@ form_room s _ h = h
 pub form_stands : (s : State) (a : Act) → IsActOf s.header a → bar s (form_of a) ≡ None → ActStands s a
 form_stands s a fits none =
     let is = free s (form_of a) none in
-    record { fits = fits; built = sym (form_built s.header a) ∙ is.built; has = is.has; room = ltb-true s.acts (limits_of s.dialect).acts (form_room s a is.room) }
+    record { fits = fits; built = sym (form_built a) ∙ is.built; has = is.has; room = ltb-true s.acts (limits_of s.dialect).acts (form_room s a is.room) }
 
 room_again : (s : State) (a : Act) → is_built_act a ≡ true → ltb s.acts (limits_of s.dialect).acts ≡ true → has_room s (form_of a) ≡ true
 unfolding has_room
@@ -359,4 +359,4 @@ room_again s (act.Bulk i g j (Some n)) built h = h
 room_again s _ built h = h
 
 pub stands_free : (s : State) (a : Act) → ActStands s a → bar s (form_of a) ≡ None
-stands_free s a st = bars_nothing s (form_of a) (form_built s.header a ∙ st.built) st.has (room_again s a st.built (lt-ltb s.acts (limits_of s.dialect).acts st.room))
+stands_free s a st = bars_nothing s (form_of a) (form_built a ∙ st.built) st.has (room_again s a st.built (lt-ltb s.acts (limits_of s.dialect).acts st.room))

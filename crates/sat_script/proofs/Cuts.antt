@@ -1,13 +1,13 @@
 -- Where a byte first stands in a text, and how the text is cut there.
-use Rattle.std.proofs.Common.{subst, ◌&&◌, Bor, map, append_assoc, length-append, ◌≡◌, ℕ, ◌+◌, ◌-◌, ◌<◌, ◌≤◌, true, false, eqb, List, [], ◌∷◌, ◌++◌, length, take, drop, get_or, Some, None, sym, ap, ◌∙◌, refl, arith, length-take, length-drop, take_all}
+use Rattle.std.proofs.Common.{◌&&◌, Bor, map, append_assoc, length-append, ◌≡◌, ℕ, ◌+◌, ◌-◌, ◌<◌, ◌≤◌, true, false, eqb, List, [], ◌∷◌, ◌++◌, length, take, drop, get_or, Some, None, sym, ap, ◌∙◌, refl, arith, length-take, length-drop, take_all}
 use Rattle.std.specs.List.{slice_split, list_all}
 use Rattle.std.proofs.lemmas.Bool.Decides.{nat_tests}
 use Rattle.std.proofs.lemmas.Bool.{and_parts, false_from_ne_true, eqb-true, eq-eqb}
-use Rattle.std.proofs.lemmas.List.{append-nil, drop_more, take-append-drop, take-append-le, get_or-take, length-map}
+use Rattle.std.proofs.lemmas.List.{drop_more, take-append-drop, take-append-le, get_or-take, length-map}
 use Rattle.std.proofs.lemmas.List.Elements.{All-from_get_or, All-nil, All-cons}
 use Rattle.std.proofs.lemmas.List.Splits.{slice_split_at, slice_split_none}
 use Rattle.memchr.specs.Find.{IsFirstByte, is_byte}
-use Rattle.sat_script.specs.Words.{HasNo, IsCut, IsSeenFront, is_text, words_of}
+use Rattle.sat_script.specs.Words.{HasNo, IsCut, is_text, words_of}
 use Rattle.sat_label.specs.Text.{is_between}
 use Rattle.sat_script.proofs.Lists.{map_next}
 
@@ -38,7 +38,7 @@ split_uncut b xs h = slice_split_none (is_byte b) xs h
 
 -- ---- the first words of a line
 
-abbrev texts : List (Bor (List ℕ)) → List (List ℕ)
+abbrev pub texts : List (Bor (List ℕ)) → List (List ℕ)
 texts words = map (λ word. word.now) words
 
 pub words_next : (words now : List (Bor (List ℕ))) (word : Bor (List ℕ)) (line rest more : List ℕ) (n : ℕ) → now ≡ words ++ word ∷ [] → IsCut 32 rest word.now more
@@ -65,13 +65,13 @@ words_full words line rest had size =
 
 -- ---- words that can be seen
 
-seen_byte : (x : ℕ) → is_between 33 126 x ≡ true → (eqb x 32 ≡ false) × (is_between 32 126 x ≡ true)
+pub seen_byte : (x : ℕ) → is_between 33 126 x ≡ true → (eqb x 32 ≡ false) × (is_between 32 126 x ≡ true)
 seen_byte x h = (grind (arith, nat_tests), grind (arith, nat_tests))
 
-unseen_byte : (x : ℕ) → is_between 33 126 x ≡ false → eqb x 32 ≡ false → is_between 32 126 x ≡ false
+pub unseen_byte : (x : ℕ) → is_between 33 126 x ≡ false → eqb x 32 ≡ false → is_between 32 126 x ≡ false
 unseen_byte x h other = grind (arith, nat_tests)
 
-seen_none : (xs : List ℕ) → list_all (is_between 33 126) xs ≡ true → HasNo 32 xs
+pub seen_none : (xs : List ℕ) → list_all (is_between 33 126) xs ≡ true → HasNo 32 xs
 seen_none [] h = All-nil (λ x. eqb x 32 ≡ false)
 seen_none (x ∷ xs) h = let b = and_parts (is_between 33 126 x) (list_all (is_between 33 126) xs) h in All-cons (λ x. eqb x 32 ≡ false) x xs (seen_byte x b.0).0 (seen_none xs b.1)
 
@@ -80,25 +80,3 @@ seen_text [] ys h = refl
 seen_text (x ∷ xs) ys h =
     let b = and_parts (is_between 33 126 x) (list_all (is_between 33 126) xs) h in
     ap (λ t. t && is_text (xs ++ ys)) (seen_byte x b.0).1 ∙ seen_text xs ys b.1
-
--- what a front that can be seen, and what stands behind it, say of a text
-pub seen_last : (text word more : List ℕ) (n : ℕ) → IsSeenFront text n → word ≡ take n text → more ≡ drop n text → length more ≡ 0 → (HasNo 32 word) × (word ≡ text) × (is_text text ≡ true)
-seen_last text word more n is front back none =
-    let whole : take n text ≡ text = take_all n text (omega (arith, ap length back, length-drop n text)) in
-    let all : list_all (is_between 33 126) text ≡ true = rw whole at is.seen in
-    (subst (HasNo 32) (sym (front ∙ whole)) (seen_none text all), front ∙ whole, ap is_text (sym (append-nil text)) ∙ seen_text text [] all)
-
-pub seen_stop : (text more later : List ℕ) (byte n : ℕ) → IsSeenFront text n → more ≡ drop n text → more ≡ byte ∷ later → (byte ≡ 32 → ⊥) → is_text text ≡ false
-seen_stop text more later byte n is back at apart =
-    let other : eqb byte 32 ≡ false = false_from_ne_true (eqb byte 32) (λ t. apart (eqb-true byte 32 t)) in
-    ap is_text (sym (take-append-drop n text)) ∙ seen_text (take n text) (drop n text) is.seen ∙ ap is_text (sym back ∙ at)
-    ∙ ap (λ t. t && is_text later) (unseen_byte byte (is.stops byte later (sym back ∙ at)) other)
-
-pub seen_cut : (text word more later : List ℕ) (n : ℕ) → IsSeenFront text n → word ≡ take n text → more ≡ drop n text → more ≡ 32 ∷ later → (IsCut 32 text word later) × (is_text text ≡ is_text later)
-seen_cut text word more later n is front back at = (
-  record {
-    none = subst (HasNo 32) (sym front) (seen_none (take n text) is.seen);
-    whole = sym (take-append-drop n text) ∙ ap (λ bs. bs ++ drop n text) (sym front) ∙ ap (λ bs. word ++ bs) (sym back ∙ at);
-  },
-  ap is_text (sym (take-append-drop n text)) ∙ seen_text (take n text) (drop n text) is.seen ∙ ap is_text (sym back ∙ at),
-)

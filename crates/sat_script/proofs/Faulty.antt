@@ -9,7 +9,7 @@ use Rattle.sat_script.specs.Grammar.{close_in}
 use Rattle.sat_script.specs.Words.{is_node, is_serializer, node_in, serializer_in, number_below, number_to, number_up_to}
 use Rattle.sat_script.specs.Reading.{reading}
 use Rattle.sat_script.specs.declared.fault.Cause.{Cause}
-use Rattle.sat_script.specs.declared.fault.Cause.TheVariants.{AfterEnd, NoEnd, NotText, BadHeader, BadAct, Unbuilt, SameName, UnknownName, OutOfRange, BadTree, NoEdge}
+use Rattle.sat_script.specs.declared.fault.Cause.TheVariants.{AfterEnd, NoEnd, NotText, BadHeader, BadAct, Unbuilt, TooMany, SameName, UnknownName, OutOfRange, BadTree, NoEdge}
 
 -- each text has this fault
 abbrev HaveFault : ℕ → Cause → List (List ℕ) → Type 0
@@ -82,32 +82,47 @@ arguments_of_no_form : HaveFault 9 BadAct (after header (
     codes "hop 1 s z0\n" ∷
     codes "bulk 0 0 1 0 0\n" ∷
     codes "settle 0\n" ∷
+    codes "kill 1 s0\n" ∷
     []))
 unfolding reading close_in first_failing client_of item_of is_node is_serializer node_in serializer_in number_below number_to number_up_to tree_of is_edge
 arguments_of_no_form = refl
 
-acts_that_are_not_built : HaveFault 9 Unbuilt (after header (
+an_act_that_is_not_built : HaveFault 9 Unbuilt (after header (
     codes "settle\n" ∷
-    codes "move d 9\n" ∷
-    codes "leave d\n" ∷
+    []))
+unfolding reading close_in first_failing client_of item_of is_node is_serializer node_in serializer_in number_below number_to number_up_to tree_of is_edge
+an_act_that_is_not_built = refl
+
+acts_that_are_good : HaveFault 10 NoEnd (after header (
+    codes "move a 1\n" ∷
+    codes "leave a\n" ∷
     codes "attach a 0\n" ∷
-    codes "pulse 9\n" ∷
-    codes "beat 0 0\n" ∷
-    codes "beatin 0 1 99999999999999999999\n" ∷
+    codes "pulse 1\n" ∷
+    codes "beat 0 1\n" ∷
+    codes "beatin 0 1 18446744073709551615\n" ∷
+    []))
+unfolding reading close_in first_failing client_of item_of is_node is_serializer node_in serializer_in number_below number_to number_up_to tree_of is_edge
+acts_that_are_good = refl
+
+switches_that_are_good : HaveFault 10 NoEnd (after header (
     codes "stamp 0\n" ∷
     codes "close 0\n" ∷
     codes "fall 0\n" ∷
     codes "advance 0\n" ∷
     codes "kill 1 z0\n" ∷
+    codes "bulk 0 0 1 18446744073709551615\n" ∷
     []))
 unfolding reading close_in first_failing client_of item_of is_node is_serializer node_in serializer_in number_below number_to number_up_to tree_of is_edge
-acts_that_are_not_built = refl
+switches_that_are_good = refl
 
 names_of_no_line : HaveFault 9 UnknownName (after header (
     codes "write d x v\n" ∷
     codes "write a y v\n" ∷
     codes "write x x v\n" ∷
     codes "read b a\n" ∷
+    codes "move d 9\n" ∷
+    codes "leave d\n" ∷
+    codes "attach x 0\n" ∷
     []))
 unfolding reading close_in first_failing client_of item_of is_node is_serializer node_in serializer_in number_below number_to number_up_to tree_of is_edge
 names_of_no_line = refl
@@ -120,6 +135,29 @@ numbers_out_of_range : HaveFault 9 OutOfRange (after header (
     []))
 unfolding reading close_in first_failing client_of item_of is_node is_serializer node_in serializer_in number_below number_to number_up_to tree_of is_edge
 numbers_out_of_range = refl
+
+sites_of_acts_out_of_range : HaveFault 9 OutOfRange (after header (
+    codes "move a 2\n" ∷
+    codes "attach a 2\n" ∷
+    codes "pulse 9\n" ∷
+    codes "stamp 2\n" ∷
+    codes "close 2\n" ∷
+    codes "fall 2\n" ∷
+    codes "advance 2\n" ∷
+    []))
+unfolding reading close_in first_failing client_of item_of is_node is_serializer node_in serializer_in number_below number_to number_up_to tree_of is_edge
+sites_of_acts_out_of_range = refl
+
+beats_and_kills_out_of_range : HaveFault 9 OutOfRange (after header (
+    codes "beat 0 0\n" ∷
+    codes "beatin 1 1 0\n" ∷
+    codes "beatin 0 1 18446744073709551616\n" ∷
+    codes "kill 0 z0\n" ∷
+    codes "kill 2 z0\n" ∷
+    codes "kill 1 z1\n" ∷
+    []))
+unfolding reading close_in first_failing client_of item_of is_node is_serializer node_in serializer_in number_below number_to number_up_to tree_of is_edge
+beats_and_kills_out_of_range = refl
 
 long_numbers_out_of_range : HaveFault 9 OutOfRange (after header (
     codes "gather 2\n" ∷
@@ -148,6 +186,11 @@ nodes_that_are_no_edge = refl
 
 abbrev opening : List ℕ
 opening = codes "saturn 1\nsites 2\ngears 1\n"
+
+abbrev sixteen_plans : List ℕ
+sixteen_plans =
+    codes "plan stamp\nplan tree - / 0 0\nplan stamp\nplan stamp\nplan stamp\nplan stamp\nplan stamp\nplan stamp\n"
+    ++ codes "plan stamp\nplan stamp\nplan stamp\nplan stamp\nplan stamp\nplan stamp\nplan stamp\nplan stamp\n"
 
 no_header : HaveFault 1 NoEnd (
     [] ∷
@@ -251,17 +294,75 @@ names_said_before : HaveFault 5 SameName (after opening (
 unfolding reading close_in first_failing client_of item_of is_node is_serializer node_in serializer_in number_below number_to number_up_to tree_of is_edge
 names_said_before = refl
 
-a_plan_that_is_not_built : HaveFault 4 Unbuilt (after opening (
-    codes "plan stamp\n" ∷
+plans_of_either_kind : HaveFault 7 NoEnd (after opening (
+    codes "plan stamp\nplan stamp\nbegin\n" ∷
+    codes "plan stamp\nplan tree - 0 / 0 1\nbegin\n" ∷
+    codes "plan tree - / 0 0\nplan tree - 0 0 / 2 2\nbegin\n" ∷
     []))
 unfolding reading close_in first_failing client_of item_of is_node is_serializer node_in serializer_in number_below number_to number_up_to tree_of is_edge
-a_plan_that_is_not_built = refl
+plans_of_either_kind = refl
 
-a_second_plan : HaveFault 5 Unbuilt (after opening (
-    codes "plan tree - / 0 0\nplan tree - / 0 9\n" ∷
+a_second_plan_that_is_no_tree : HaveFault 5 BadTree (after opening (
+    codes "plan stamp\nplan tree - / 0 9\n" ∷
+    codes "plan tree - / 0 0\nplan tree - / 0\n" ∷
     []))
 unfolding reading close_in first_failing client_of item_of is_node is_serializer node_in serializer_in number_below number_to number_up_to tree_of is_edge
-a_second_plan = refl
+a_second_plan_that_is_no_tree = refl
+
+items_and_clients_after_a_plan : HaveFault 5 BadHeader (after opening (
+    codes "plan stamp\nitem x 0\n" ∷
+    codes "plan stamp\nclient a 0\n" ∷
+    codes "plan stamp\nplan stamp x\n" ∷
+    []))
+unfolding reading close_in first_failing client_of item_of is_node is_serializer node_in serializer_in number_below number_to number_up_to tree_of is_edge
+items_and_clients_after_a_plan = refl
+
+-- the line of a seventeenth plan, behind what may keep it from having the form
+too_many_plans : HaveFault 20 TooMany (after (opening ++ sixteen_plans) (
+    codes "plan stamp\n" ∷
+    codes "plan tree - / 9 9\n" ∷
+    []))
+unfolding reading close_in first_failing client_of item_of is_node is_serializer node_in serializer_in number_below number_to number_up_to tree_of is_edge
+too_many_plans = refl
+
+no_form_of_a_seventeenth_plan : HaveFault 20 BadHeader (after (opening ++ sixteen_plans) (
+    codes "plan tree 0 / 0 0\n" ∷
+    []))
+unfolding reading close_in first_failing client_of item_of is_node is_serializer node_in serializer_in number_below number_to number_up_to tree_of is_edge
+no_form_of_a_seventeenth_plan = refl
+
+-- ---- epochs of stamp order
+
+abbrev epochs : List ℕ
+epochs = codes "saturn 1\nsites 2\ngears 1\nplan stamp\nplan tree - 0 / 0 1\nbegin\n"
+
+epochs_without_a_tree : HaveFault 7 NoEdge (after epochs (
+    codes "hop 1 s0 z0\n" ∷
+    codes "hop 1 s99999999999999999999 z99999999999999999999\n" ∷
+    codes "kill 1 z0\n" ∷
+    codes "kill 1 z99999999999999999999\n" ∷
+    codes "hop 2 s1 z0\n" ∷
+    []))
+unfolding reading close_in first_failing client_of item_of is_node is_serializer node_in serializer_in number_below number_to number_up_to tree_of is_edge
+epochs_without_a_tree = refl
+
+epochs_and_their_nodes_out_of_range : HaveFault 7 OutOfRange (after epochs (
+    codes "hop 3 s0 z0\n" ∷
+    codes "kill 3 z0\n" ∷
+    codes "hop 2 s2 z0\n" ∷
+    codes "hop 2 s0 z2\n" ∷
+    codes "kill 2 z2\n" ∷
+    []))
+unfolding reading close_in first_failing client_of item_of is_node is_serializer node_in serializer_in number_below number_to number_up_to tree_of is_edge
+epochs_and_their_nodes_out_of_range = refl
+
+epochs_and_their_nodes : HaveFault 8 NoEnd (after epochs (
+    codes "hop 2 s1 z1\n" ∷
+    codes "hop 2 z0 z1\n" ∷
+    codes "kill 2 z1\n" ∷
+    []))
+unfolding reading close_in first_failing client_of item_of is_node is_serializer node_in serializer_in number_below number_to number_up_to tree_of is_edge
+epochs_and_their_nodes = refl
 
 no_tree : HaveFault 4 BadTree (after opening (
     codes "plan tree / 0 0\n" ∷

@@ -1,5 +1,5 @@
 -- What good lines keep.
-use Rattle.std.proofs.Common.{◌≡◌, ℕ, zero, suc, ◌+◌, ◌<◌, ◌≤◌, Bool, true, false, not, ◌&&◌, cond, ltb, leb, List, [], ◌∷◌, ◌++◌, length, take, Option, Some, None, Result, Ok, Err, sym, ap, ◌∙◌, refl, subst, arith}
+use Rattle.std.proofs.Common.{◌≡◌, ℕ, zero, suc, ◌+◌, ◌<◌, ◌≤◌, Bool, true, false, not, ◌&&◌, cond, eqb, ltb, leb, List, [], ◌∷◌, ◌++◌, length, take, Option, Some, None, Result, Ok, Err, sym, ap, ◌∙◌, refl, subst, arith}
 use Rattle.std.specs.List.{slice_get, list_any, AllByRecursion}
 use Rattle.std.specs.Str.{bytes_eq}
 use Rattle.std.specs.Prelude.{codes}
@@ -30,7 +30,7 @@ use Rattle.sat_script.specs.declared.dialect.Dialect.{Dialect}
 use Rattle.sat_script.specs.declared.dialect.Dialect.TheVariants as dialect
 use Rattle.sat_script.specs.declared.dialect.Limits.{Limits}
 use Rattle.sat_script.specs.declared.fault.Cause.{Cause}
-use Rattle.sat_script.specs.Kept.{IsSited, AreBuiltPlans, IsOpened, IsWhole, HasHeader, IsFit}
+use Rattle.sat_script.specs.Kept.{IsSited, IsOpened, IsWhole, HasHeader, IsFit}
 use Rattle.sat_script.specs.Dialect.{limits_of}
 use Rattle.sat_script.specs.State.{State, start}
 use Rattle.sat_script.specs.Words.{words_of, is_text}
@@ -43,7 +43,7 @@ use Rattle.sat_script.proofs.Acts.{acts_spelled, form_stands}
 use Rattle.sat_script.proofs.Choices.{passed, skipped, same_ok, word_is}
 use Rattle.sat_script.proofs.Headers.{format_is, sites_is, gears_is, header_is}
 use Rattle.sat_script.proofs.Lists.{all_more}
-use Rattle.sat_script.proofs.Stands.{Stands, IsGood, ItemStands, ClientStands, PlanStands}
+use Rattle.sat_script.proofs.Stands.{Stands, IsGood, ItemStands, ClientStands, IsPlanFor, PlanStands}
 use Rattle.sat_script.proofs.Trees.{tree_small}
 
 -- ---- limits
@@ -170,13 +170,29 @@ clients_push : (sites : ℕ) (clients : List ClientLine) (x : ClientLine) → fi
     → first_failing (client_fits sites (clients ++ x ∷ [])) (length (clients ++ x ∷ [])) ≡ None
 clients_push sites clients x none home new = failing_push (client_fits sites clients) (client_fits sites (clients ++ x ∷ [])) (length clients) (length (clients ++ x ∷ [])) none (clients_same sites clients x) (client_last sites clients x home new) (push_length clients x)
 
-one_plan : (sites : ℕ) (t : TreeShape) → length t.seats ≡ sites → first_failing (plan_fits sites (plan.Tree t ∷ [])) 1 ≡ None
-unfolding plan_fits
-one_plan sites t seats = first_more (plan_fits sites (plan.Tree t ∷ [])) 0 (first_start (plan_fits sites (plan.Tree t ∷ []))) (grind (arith, nat_tests))
+abbrev plan_at : ℕ → Option Plan → Bool
+plan_at sites o = elim o [ None ↦ true | Some p ↦ elim p [ plan.Stamp ↦ true | plan.Tree t ↦ eqb (length t.seats) sites ] ]
 
-one_tree : (t : TreeShape) → IsSmallTree t → HaveTrees (plan.Tree t ∷ [])
-one_tree t is zero u at = let same : t ≡ u = cc in subst (λ (t : TreeShape). IsSmallTree t) same is
-one_tree t is (suc e) u at = absurd (cc)
+plans_same : (sites : ℕ) (plans : List Plan) (x : Plan) (k : ℕ) → k < length plans → plan_fits sites (plans ++ x ∷ []) k ≡ plan_fits sites plans k
+unfolding plan_fits
+plans_same sites plans x k less = ap (plan_at sites) (get_front plans x k less)
+
+plan_seats : (sites : ℕ) (p : Plan) → sites ≤ 16 → IsPlanFor sites p → plan_at sites (Some p) ≡ true
+plan_seats sites plan.Stamp few h = refl
+plan_seats sites (plan.Tree t) few h = let seats = (tree_small sites t h few).1 in grind (arith, nat_tests)
+
+plan_last : (sites : ℕ) (plans : List Plan) (x : Plan) → plan_at sites (Some x) ≡ true → plan_fits sites (plans ++ x ∷ []) (length plans) ≡ true
+unfolding plan_fits
+plan_last sites plans x h = ap (plan_at sites) (get_last plans x) ∙ h
+
+plans_push : (sites : ℕ) (plans : List Plan) (x : Plan) → sites ≤ 16 → first_failing (plan_fits sites plans) (length plans) ≡ None → IsPlanFor sites x → first_failing (plan_fits sites (plans ++ x ∷ [])) (length (plans ++ x ∷ [])) ≡ None
+plans_push sites plans x few none h = failing_push (plan_fits sites plans) (plan_fits sites (plans ++ x ∷ [])) (length plans) (length (plans ++ x ∷ [])) none (plans_same sites plans x) (plan_last sites plans x (plan_seats sites x few h)) (push_length plans x)
+
+trees_push : (plans : List Plan) (x : Plan) → HaveTrees plans → ((t : TreeShape) → x ≡ plan.Tree t → IsSmallTree t) → HaveTrees (plans ++ x ∷ [])
+trees_push [] x old here zero t at = here t (let e : x ≡ plan.Tree t = cc in e)
+trees_push [] x old here (suc n) t at = absurd (cc)
+trees_push (p ∷ plans) x old here zero t at = old zero t at
+trees_push (p ∷ plans) x old here (suc n) t at = trees_push plans x (λ k. old (suc k)) here n t at
 
 no_trees : HaveTrees []
 no_trees e t at = absurd (cc)
@@ -203,17 +219,10 @@ flawless d is some items clients plans =
       is.plans,
     ) refl
 
-built_of : (plans : List Plan) → AreBuiltPlans plans → 0 < length plans → (t : TreeShape) × (plans ≡ plan.Tree t ∷ [])
-built_of [] h some = absurd (omega arith)
-built_of (plan.Tree t ∷ []) h some = (t, refl)
-built_of (plan.Stamp ∷ plans) h some = absurd h
-built_of (plan.Tree t ∷ q ∷ plans) h some = absurd h
-
 pub whole : (d : Deployed) → IsOpened d → 0 < length d.plans → length d.items ≤ 4096 → length d.clients ≤ 1024 → length d.plans ≤ 16 → IsWhole d
 whole d is some items clients plans =
     let none = flawless d is some items clients plans in
-    let b = built_of d.plans is.built some in
-    record { flawless = none; deployment = sound d none is.trees; built = record { tree = b.0; plans = b.1 }; names = is.names }
+    record { flawless = none; deployment = sound d none is.trees; names = is.names }
 
 -- ---- the header after a good line
 
@@ -228,7 +237,6 @@ with_item s item is st = record {
   clients = is.clients;
   plans = is.plans;
   trees = is.trees;
-  built = is.built;
   names = record { items = all_more (λ (item : Item). is_name item.name ≡ true) s.header.items item is.names.items st.name; clients = is.names.clients };
 }
 
@@ -243,30 +251,27 @@ with_client s line is st = record {
   clients = clients_push s.header.sites s.header.clients line is.clients st.home st.new;
   plans = is.plans;
   trees = is.trees;
-  built = is.built;
   names = record { items = is.names.items; clients = all_more (λ (line : ClientLine). is_name line.name ≡ true) s.header.clients line is.names.clients st.name };
 }
 
 abbrev plans_with : Deployed → List Plan → Deployed
 plans_with d plans = record d { plans = plans }
 
+tree_of_plan : (sites : ℕ) (p : Plan) (t : TreeShape) → sites ≤ 16 → IsPlanFor sites p → p ≡ plan.Tree t → IsSmallTree t
+tree_of_plan sites p t few h e = (tree_small sites t (subst (λ (p : Plan). IsPlanFor sites p) e h) few).0
+
 with_plan : (s : State) (p : Plan) → IsOpened s.header → PlanStands s p → IsOpened (plans_with s.header (s.header.plans ++ p ∷ []))
-with_plan s p is st =
-    let only : s.header.plans ++ p ∷ [] ≡ plan.Tree st.tree ∷ [] = ap (λ (ps : List Plan). ps ++ p ∷ []) st.first ∙ ap (λ (q : Plan). q ∷ []) st.is in
-    let tree = tree_small s.header.sites st.tree st.small is.few_sites in
-    subst (λ (ps : List Plan). IsOpened (plans_with s.header ps)) (sym only)
-    (record {
-      some_site = is.some_site;
-      few_sites = is.few_sites;
-      some_gear = is.some_gear;
-      few_gears = is.few_gears;
-      items = is.items;
-      clients = is.clients;
-      plans = one_plan s.header.sites st.tree tree.1;
-      trees = one_tree st.tree tree.0;
-      built = tt;
-      names = record { items = is.names.items; clients = is.names.clients };
-    })
+with_plan s p is st = record {
+  some_site = is.some_site;
+  few_sites = is.few_sites;
+  some_gear = is.some_gear;
+  few_gears = is.few_gears;
+  items = is.items;
+  clients = is.clients;
+  plans = plans_push s.header.sites s.header.plans p is.few_sites is.plans st.fits;
+  trees = trees_push s.header.plans p is.trees (λ t e. tree_of_plan s.header.sites p t is.few_sites st.fits e);
+  names = record { items = is.names.items; clients = is.names.clients };
+}
 
 opened : (s : State) (n : ℕ) → IsSited s.header → 1 ≤ n → n ≤ MOST_GEARS → IsOpened (record s.header { gears = n })
 opened s n is some few =
@@ -279,7 +284,6 @@ opened s n is some few =
       clients = subst (λ (xs : List ClientLine). first_failing (client_fits s.header.sites xs) (length xs) ≡ None) (sym is.clients) (first_start (client_fits s.header.sites []));
       plans = subst (λ (xs : List Plan). first_failing (plan_fits s.header.sites xs) (length xs) ≡ None) (sym is.plans) (first_start (plan_fits s.header.sites []));
       trees = subst (λ (xs : List Plan). HaveTrees xs) (sym is.plans) no_trees;
-      built = subst (λ (xs : List Plan). AreBuiltPlans xs) (sym is.plans) tt;
       names = record { items = subst (λ (xs : List Item). AllByRecursion (λ (item : Item). is_name item.name ≡ true) xs) (sym is.items) tt; clients = subst (λ (xs : List ClientLine). AllByRecursion (λ (line : ClientLine). is_name line.name ≡ true) xs) (sym is.clients) tt };
     }
 
@@ -331,8 +335,7 @@ counts stage.Gears s (parsed.Gears n) fit h = record { sites = fit.sites; items 
 counts stage.Header s (parsed.Item item) fit h = record { sites = fit.sites; items = omega (arith, push_length s.header.items item, h.room); clients = fit.clients; plans = fit.plans; acts = fit.acts; settles = fit.settles }
 counts stage.Header s (parsed.Client line) fit h = record { sites = fit.sites; items = fit.items; clients = omega (arith, push_length s.header.clients line, h.room); plans = fit.plans; acts = fit.acts; settles = fit.settles }
 counts stage.Header s (parsed.Plan p) fit h =
-    let none : length s.header.plans ≡ 0 = ap length h.first in
-    record { sites = fit.sites; items = fit.items; clients = fit.clients; plans = omega (arith, push_length s.header.plans p); acts = fit.acts; settles = fit.settles }
+    record { sites = fit.sites; items = fit.items; clients = fit.clients; plans = omega (arith, push_length s.header.plans p, h.room); acts = fit.acts; settles = fit.settles }
 counts stage.Header s parsed.Begin fit h = same_counts s fit parsed.Begin refl fit.acts refl
 counts stage.Body s (parsed.Act a) fit h = same_counts s fit (parsed.Act a) refl (omega (arith, h.room)) (built_settles s.settles a h.built)
 counts stage.Body s parsed.End fit h = same_counts s fit parsed.End refl fit.acts refl

@@ -18,7 +18,7 @@ use Rattle.sat_act.specs.Flaw.{are_sites}
 use Rattle.sat_script.specs.Dialect.{limits_of}
 use Rattle.sat_script.specs.declared.dialect.Dialect.{Dialect}
 use Rattle.sat_script.specs.declared.dialect.Dialect.TheVariants as dialect
-use Rattle.sat_script.specs.Causes.{bar, is_built, has_room, has_client, has_item}
+use Rattle.sat_script.specs.Causes.{bar, has_room, has_client, has_item}
 use Rattle.sat_script.specs.Grammar.{format_line, counted, of_count, sites_line, gears_line, item_line, client_line, begin_line, are_parents, parent_number, tree_on, tree_in, is_tree, tree_line, is_slash, parted_line, stamp_line, plan_line, named_line, header_form, header_line}
 use Rattle.sat_script.specs.Spelled.{sites_text}
 use Rattle.sat_tree.specs.PlanLine.{parent_text}
@@ -27,7 +27,7 @@ use Rattle.sat_script.specs.Words.{is_number, value_of, is_comma, parts_of, is_r
 use Rattle.sat_script.specs.declared.fault.Cause.{Cause}
 use Rattle.sat_script.specs.declared.fault.Cause.TheVariants.{OutOfRange, BadTree}
 use Rattle.sat_script.specs.declared.form.Form.TheVariants as form
-use Rattle.sat_script.specs.declared.limits.TheConstants.{MOST_GEARS}
+use Rattle.sat_script.specs.declared.limits.TheConstants.{MOST_GEARS, MOST_PLANS}
 use Rattle.sat_script.specs.declared.line.Parsed.{Parsed}
 use Rattle.sat_script.specs.declared.line.Parsed.TheVariants as parsed
 use Rattle.sat_script.proofs.Bars.{free}
@@ -243,8 +243,8 @@ rooted sites words seats numbers places h =
     )
 
 tree_says : (s : State) (parents seats : List (List ℕ)) (p : Parsed) → tree_line s parents seats ≡ Ok p
-    → (t : TreeShape) × (p ≡ parsed.Plan (plan.Tree t)) × (is_tree s.header.sites t ≡ true) × (s.header.plans ≡ []) × (parents ≡ map parent_text t.parents) × (seats ≡ map decimal t.seats)
-unfolding tree_line are_parents tree_in is_built
+    → (t : TreeShape) × (p ≡ parsed.Plan (plan.Tree t)) × (is_tree s.header.sites t ≡ true) × (length s.header.plans < MOST_PLANS) × (parents ≡ map parent_text t.parents) × (seats ≡ map decimal t.seats)
+unfolding tree_line are_parents tree_in has_room
 tree_says s [] seats p h =
     let w = passed (list_all is_number seats) _ _ _ h in
     let b = unbarred (bar s form.PlanTree) _ p w.1 in
@@ -259,11 +259,11 @@ tree_says s (root ∷ words) seats p h =
     let b = unbarred (bar s form.PlanTree) _ p w.1 in
     let t = passed (is_tree s.header.sites (tree_on words seats)) _ _ _ b.1 in
     let text = rooted s.header.sites words seats inner.1 shapes.1 t.0 in
-    let built = (free s form.PlanTree b.0).built in (
+    let room = (free s form.PlanTree b.0).room in (
       tree_on words seats,
       sym (same_ok _ p t.1),
       t.0,
-      empty s.header.plans built,
+      ltb-true (length s.header.plans) MOST_PLANS room,
       ap (λ (w : List ℕ). w ∷ words) (word_is root (codes "-") inner.0) ∙ ap (λ (ws : List (List ℕ)). codes "-" ∷ ws) text.0,
       text.1,
     )
@@ -282,12 +282,16 @@ parted_says s words (Some k) p at h =
     subst (λ (p : Parsed). IsGood stage.Header s (codes "plan" ∷ codes "tree" ∷ words) p) (sym t.1)
     (record {
       spelled = ap (λ (ws : List (List ℕ)). codes "plan" ∷ codes "tree" ∷ ws) (parted_words words k at ∙ ap (λ (ws : List (List ℕ)). ws ++ codes "/" ∷ drop (k + 1) words) t.4 ∙ ap (λ (ws : List (List ℕ)). map parent_text t.0.parents ++ codes "/" ∷ ws) t.5);
-      stands = record { tree = t.0; is = refl; small = t.2; first = t.3 };
+      stands = record { fits = t.2; room = t.3 };
     })
 
-no_stamp : (s : State) (p : Parsed) → stamp_line s ≡ Ok p → ⊥
-unfolding stamp_line is_built
-no_stamp s p h = cc
+stamp_says : (s : State) (kind : List ℕ) (words : List (List ℕ)) (p : Parsed) → kind ≡ codes "stamp" → words ≡ [] → stamp_line s ≡ Ok p → IsGood stage.Header s (codes "plan" ∷ kind ∷ words) p
+unfolding stamp_line has_room
+stamp_says s kind words p is none h =
+    let b = unbarred (bar s form.PlanStamp) _ p h in
+    let room = (free s form.PlanStamp b.0).room in
+    subst (λ (p : Parsed). IsGood stage.Header s (codes "plan" ∷ kind ∷ words) p) (same_ok _ p b.1)
+    (record { spelled = rw (is, none) refl; stands = record { fits = tt; room = ltb-true (length s.header.plans) MOST_PLANS room } })
 
 -- either of two forms, by a word
 by_word : {X : Type 0} (word text : List ℕ) (r other : Result Parsed Cause) (p : Parsed) → (word ≡ text → r ≡ Ok p → X) → (other ≡ Ok p → X) → cond (bytes_eq word text) r other ≡ Ok p → X
@@ -303,7 +307,10 @@ plan_says s word [] p is h = absurd (cc)
 plan_says s word (kind ∷ words) p is h =
     by_word kind (codes "tree") (parted_line s words (position is_slash words)) _ p
     (λ tree good. subst (λ (w : List ℕ). IsGood stage.Header s (w ∷ kind ∷ words) p) (sym is) (subst (λ (k : List ℕ). IsGood stage.Header s (codes "plan" ∷ k ∷ words) p) (sym tree) (parted_says s words (position is_slash words) p refl good)))
-    (λ other. let t = passed (bytes_eq kind (codes "stamp") && eqb (length words) 0) _ _ _ other in absurd (no_stamp s p t.1)) h
+    (λ other.
+    let t = passed (bytes_eq kind (codes "stamp") && eqb (length words) 0) _ _ _ other in
+    let b = and_parts (bytes_eq kind (codes "stamp")) (eqb (length words) 0) t.0 in
+    subst (λ (w : List ℕ). IsGood stage.Header s (w ∷ kind ∷ words) p) (sym is) (stamp_says s kind words p (word_is kind (codes "stamp") b.0) (empty words b.1) t.1)) h
 
 begin_says : (s : State) (word : List ℕ) (p : Parsed) → word ≡ codes "begin" → begin_line s.header ≡ Ok p → IsGood stage.Header s (word ∷ []) p
 unfolding begin_line

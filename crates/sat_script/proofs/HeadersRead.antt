@@ -159,9 +159,13 @@ client_free : (s : State) → length s.header.clients < (limits_of s.dialect).cl
 unfolding is_built is_live has_room
 client_free s room = bars_nothing s form.Client refl (any_live s.dialect form.Client refl) (lt-ltb (length s.header.clients) (limits_of s.dialect).clients room)
 
-pub tree_free : (s : State) → s.header.plans ≡ [] → bar s form.PlanTree ≡ None
+pub tree_free : (s : State) → length s.header.plans < MOST_PLANS → bar s form.PlanTree ≡ None
 unfolding is_built is_live has_room
-tree_free s none = bars_nothing s form.PlanTree (ap (λ (ps : List Plan). eqb (length ps) 0) none) (any_live s.dialect form.PlanTree refl) (ap (λ (ps : List Plan). ltb (length ps) MOST_PLANS) none)
+tree_free s room = bars_nothing s form.PlanTree refl (any_live s.dialect form.PlanTree refl) (lt-ltb (length s.header.plans) MOST_PLANS room)
+
+pub stamp_free : (s : State) → length s.header.plans < MOST_PLANS → bar s form.PlanStamp ≡ None
+unfolding is_built is_live has_room
+stamp_free s room = bars_nothing s form.PlanStamp refl (any_live s.dialect form.PlanStamp refl) (lt-ltb (length s.header.plans) MOST_PLANS room)
 
 item_said : (s : State) (item : Item) → s.header.sites ≤ 16 → IsSites s.header.sites item.replicas → ItemStands s item → item_line s item.name (sites_text item.replicas) ≡ Ok (parsed.Item item)
 unfolding item_line

@@ -28,3 +28,5 @@ pub mod Acts
 pub mod Order
 pub mod Faulty
 pub mod NoTree
+pub mod Once
+pub mod FirstWords

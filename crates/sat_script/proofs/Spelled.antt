@@ -1,5 +1,5 @@
 -- The spelling of a deployment and acts of it is read as them.
-use Rattle.std.proofs.Common.{◌≡◌, ℕ, zero, suc, ◌+◌, ◌<◌, ◌≤◌, ◌^◌, Bool, true, false, not, ◌||◌, cond, eqb, ltb, List, [], ◌∷◌, ◌++◌, length, filter, Some, None, Ok, sym, ap, ◌∙◌, refl, subst, arith}
+use Rattle.std.proofs.Common.{◌≡◌, ℕ, zero, suc, ◌+◌, ◌-◌, ◌<◌, ◌≤◌, ◌^◌, Bool, true, false, not, ◌||◌, cond, eqb, ltb, List, [], ◌∷◌, ◌++◌, length, filter, Option, Some, None, Ok, sym, ap, ◌∙◌, refl, subst, arith}
 use Rattle.std.specs.List.{slice_split, slice_get, list_any, AllByRecursion}
 use Rattle.std.specs.Prelude.{codes}
 use Rattle.std.specs.Fmt.{decimal}
@@ -14,6 +14,7 @@ use Rattle.sat_act.specs.Deployed.{Deployed}
 use Rattle.sat_act.specs.Flaw.{are_sites}
 use Rattle.sat_act.specs.Limits.{IsDeployment}
 use Rattle.sat_act.specs.Parts.{tree_of}
+use Rattle.sat_act.proofs.Plans.{tree_from_plans}
 use Rattle.sat_act.specs.declared.act.Act.{Act}
 use Rattle.sat_act.specs.declared.deployment.Item.{Item}
 use Rattle.sat_act.specs.declared.deployment.ClientLine.{ClientLine}
@@ -43,7 +44,7 @@ use Rattle.sat_script.proofs.Fits.{fit_start, stands_after}
 use Rattle.sat_script.proofs.Headers.{not_zero, bit_none}
 use Rattle.sat_script.proofs.HeadersRead.{IsSites, format_reads, sites_reads, gears_reads, item_reads, client_reads, begin_reads}
 use Rattle.sat_script.proofs.Rising.{members_set, members_under, set_small}
-use Rattle.sat_script.proofs.Stands.{ItemStands, ClientStands, PlanStands, ActStands}
+use Rattle.sat_script.proofs.Stands.{ItemStands, ClientStands, IsPlanFor, PlanStands, ActStands}
 use Rattle.sat_script.proofs.Texts.{IsLine, line_fits, is_text-line, line_at-words, lacks, no_newline}
 use Rattle.sat_script.proofs.TreesRead.{plan_reads, tree_fits}
 
@@ -223,11 +224,52 @@ clients_read dialect d done (line ∷ todo) r rest is names few fit e =
       more.1,
     )
 
--- ---- a whole script
+-- ---- the plans
 
-tree_at : (d : Deployed) (t : TreeShape) → d.plans ≡ plan.Tree t ∷ [] → tree_of d 1 ≡ Some t
-unfolding tree_of
-tree_at d t e = ap (λ (ps : List Plan). elim (slice_get ps 0) [ None ↦ None | Some p ↦ elim p [ plan.Stamp ↦ None | plan.Tree t ↦ Some t ] ]) e
+abbrev of_plans : Deployed → List Plan → Deployed
+of_plans d plans = record { sites = d.sites; gears = d.gears; items = d.items; clients = d.clients; plans = plans }
+
+abbrev plan_tree : Option Plan → Option TreeShape
+plan_tree o = elim o [ None ↦ None | Some p ↦ elim p [ plan.Stamp ↦ None | plan.Tree t ↦ Some t ] ]
+
+tree_at : (d : Deployed) (k : ℕ) (t : TreeShape) → slice_get d.plans k ≡ Some (plan.Tree t) → tree_of d (k + 1) ≡ Some t
+tree_at d k t at =
+    tree_from_plans d (k + 1) (omega arith)
+    ∙ ap (λ (n : ℕ). plan_tree (slice_get d.plans n)) (let e : (k + 1) - 1 ≡ k = omega arith in e)
+    ∙ ap plan_tree at
+
+plan_for : (d : Deployed) (k : ℕ) (p : Plan) → IsDeployment d → slice_get d.plans k ≡ Some p → IsPlanFor d.sites p
+plan_for d k plan.Stamp is at = tt
+plan_for d k (plan.Tree t) is at =
+    let here = tree_at d k t at in
+    let tree = is.trees (k + 1) t here in
+    let root = tree.seats 0 in
+    tree_fits d.sites t tree (omega arith) (is.few_serializers (k + 1) t here) (is.all_seated (k + 1) t here)
+
+plan_stands : (dialect : Dialect) (d : Deployed) (done todo : List Plan) (p : Plan) → IsDeployment d → d.plans ≡ done ++ p ∷ todo → PlanStands (lines dialect (of_plans d done)) p
+plan_stands dialect d done todo p is e =
+    let here : slice_get d.plans (length done) ≡ Some p = ap (λ (xs : List Plan). slice_get xs (length done)) e ∙ get_mid done todo p in
+    let few = is.few_plans in
+    let count : length d.plans ≡ length (done ++ p ∷ todo) = ap length e in
+    record { fits = plan_for d (length done) p is here; room = omega (arith, length-append done (p ∷ todo)) }
+
+plans_read : (dialect : Dialect) (d : Deployed) (done todo : List Plan) (r : Reading) (rest : List ℕ) → IsDeployment d → IsFit (lines dialect (of_plans d done)) → d.plans ≡ done ++ todo
+    → (script_from (lines dialect (of_plans d done)) r (slice_split is_newline (plans_text todo ++ rest)) ≡ script_from (lines dialect (of_plans d d.plans)) r (slice_split is_newline rest)) × IsFit (lines dialect (of_plans d d.plans))
+plans_read dialect d done [] r rest is fit e =
+    let same : done ≡ d.plans = sym (append-nil done) ∙ sym e in
+    (ap (λ (xs : List Plan). script_from (lines dialect (of_plans d xs)) r (slice_split is_newline rest)) same, subst (λ (xs : List Plan). IsFit (lines dialect (of_plans d xs))) same fit)
+plans_read dialect d done (p ∷ todo) r rest is fit e =
+    let s : State = lines dialect (of_plans d done) in
+    let st = plan_stands dialect d done todo p is e in
+    let reads = plan_reads s p is.few_sites st in
+    let more = plans_read dialect d (done ++ p ∷ []) todo r rest is (stands_after s (parsed.Plan p) fit st) (e ∙ sym (append_assoc done (p ∷ []) todo)) in (
+      ap (λ (bs : List ℕ). script_from s r (slice_split is_newline bs)) (append_assoc (ended (plan_words p)) (plans_text todo) rest)
+          ∙ line_step s r (plan_words p) (plans_text todo ++ rest) (parsed.Plan p) (line_fits stage.Header s (parsed.Plan p) fit.header is.few_sites st) refl (header_line_reads s (plan_words p) (parsed.Plan p) refl reads)
+          ∙ more.0,
+      more.1,
+    )
+
+-- ---- a whole script
 
 all_free : (acts : List Act) → AreAllowed dialect.Run acts
 all_free [] = tt
@@ -237,8 +279,8 @@ limits : (live : Bool) (d : Deployed) (acts : List Act) → IsDeployment d → l
 limits true d acts is few h = h
 limits false d acts is few h = record { sites = is.few_sites; clients = is.few_clients; few = few; each = all_free acts }
 
-spelled_flat : (a b c i f p e rest : List ℕ) → (a ++ (b ++ (c ++ (i ++ (f ++ (p ++ [])))))) ++ (e ++ rest) ≡ a ++ (b ++ (c ++ (i ++ (f ++ (p ++ (e ++ rest))))))
-spelled_flat a b c i f p e rest = simp (append_assoc, append-nil)
+spelled_flat : (a b c i f p e rest : List ℕ) → (a ++ (b ++ (c ++ (i ++ (f ++ p))))) ++ (e ++ rest) ≡ a ++ (b ++ (c ++ (i ++ (f ++ (p ++ (e ++ rest))))))
+spelled_flat a b c i f p e rest = simp append_assoc
 
 first_lines : (dialect : Dialect) (d : Deployed) (rest : List ℕ) → IsDeployment d → d.sites ≤ (limits_of dialect).sites
     → (script_from (start dialect) nothing (slice_split is_newline (ended (codes "saturn" ∷ codes "1" ∷ []) ++ (ended (codes "sites" ∷ decimal d.sites ∷ []) ++ (ended (codes "gears" ∷ decimal d.gears ∷ []) ++ rest))))
@@ -262,48 +304,32 @@ first_lines dialect d rest is few =
       f3,
     )
 
-abbrev of_plan : Deployed → TreeShape → Deployed
-of_plan d t = record { sites = d.sites; gears = d.gears; items = d.items; clients = d.clients; plans = plan.Tree t ∷ [] }
-
-last_lines : (dialect : Dialect) (d : Deployed) (t : TreeShape) (acts : List Act) → IsDeployment d → d.plans ≡ plan.Tree t ∷ [] → IsFit (lines dialect (of_clients d d.clients)) → AreBuiltActs d acts → AreAllowed dialect acts → length acts ≤ (limits_of dialect).acts
-    → script_from (lines dialect (of_clients d d.clients)) nothing (slice_split is_newline (ended (plan_words (plan.Tree t)) ++ (ended (codes "begin" ∷ []) ++ (acts_text d acts ++ ended (codes "end" ∷ []))))) ≡ good d acts
-last_lines dialect d t acts is one fit each free few =
-    let s : State = lines dialect (of_clients d d.clients) in
-    let at = tree_at d t one in
-    let tree = is.trees 1 t at in
-    let serializers = is.few_serializers 1 t at in
-    let seats = is.all_seated 1 t at in
-    let root = tree.seats 0 in
-    let st : PlanStands s (plan.Tree t) = record { tree = t; is = refl; small = tree_fits d.sites t tree (omega arith) serializers seats; first = refl } in
-    let fit1 = stands_after s (parsed.Plan (plan.Tree t)) fit st in
-    let s1 : State = lines dialect (of_plan d t) in
-    let some : 0 < length s1.header.plans = omega arith in
-    let fit2 = stands_after s1 parsed.Begin fit1 some in
-    let same : of_plan d t ≡ d = ap (λ (ps : List Plan). (let e : Deployed = record { sites = d.sites; gears = d.gears; items = d.items; clients = d.clients; plans = ps } in e)) (sym one) in
-    let whole : IsWhole d = subst (λ (d : Deployed). IsWhole d) same fit2.header in
+last_lines : (dialect : Dialect) (d : Deployed) (acts : List Act) → IsDeployment d → IsFit (lines dialect d) → AreBuiltActs d acts → AreAllowed dialect acts → length acts ≤ (limits_of dialect).acts
+    → script_from (lines dialect d) nothing (slice_split is_newline (ended (codes "begin" ∷ []) ++ (acts_text d acts ++ ended (codes "end" ∷ [])))) ≡ good d acts
+last_lines dialect d acts is fit each free few =
+    let s : State = lines dialect d in
+    let some = is.some_plan in
+    let body = stands_after s parsed.Begin fit some in
     let rest : List ℕ = acts_text d acts ++ ended (codes "end" ∷ []) in
-    line_step s nothing (plan_words (plan.Tree t)) (ended (codes "begin" ∷ []) ++ rest) (parsed.Plan (plan.Tree t)) (line_fits stage.Header s (parsed.Plan (plan.Tree t)) fit.header is.few_sites st) refl
-    (header_line_reads s (plan_words (plan.Tree t)) (parsed.Plan (plan.Tree t)) refl (plan_reads s t tree (omega arith) serializers seats refl))
-    ∙ line_step s1 nothing (codes "begin" ∷ []) rest parsed.Begin (line_fits stage.Header s1 parsed.Begin fit1.header is.few_sites some) refl (header_line_reads s1 (codes "begin" ∷ []) parsed.Begin refl (begin_reads s1 some))
-    ∙ ap (λ (e : Deployed). script_from (record { dialect = dialect; stage = stage.Body; header = e; acts = 0; settles = 0 }) (record { deployment = Some e; acts = []; fault = None }) (slice_split is_newline rest)) same
-    ∙ body_reads dialect d acts 0 0 (record { deployment = Some d; acts = []; fault = None }) whole each free (omega (arith, few))
+    line_step s nothing (codes "begin" ∷ []) rest parsed.Begin (line_fits stage.Header s parsed.Begin fit.header is.few_sites some) refl (header_line_reads s (codes "begin" ∷ []) parsed.Begin refl (begin_reads s some))
+    ∙ body_reads dialect d acts 0 0 (record { deployment = Some d; acts = []; fault = None }) body.header each free (omega (arith, few))
 
 pub spelled_reads : (live : Bool) (text : List ℕ) (d : Deployed) (acts : List Act) → Spells text d acts → IsAllowed live d acts → reading live text ≡ good d acts
 unfolding reading spelling header_text
 spelled_reads live text d acts s free =
     let is = s.deployment in
     let most = limits live d acts is s.few free in
-    let t = s.built.tree in
     let body_text : List ℕ = acts_text d acts ++ ended (codes "end" ∷ []) in
-    let plan_text : List ℕ = ended (plan_words (plan.Tree t)) ++ (ended (codes "begin" ∷ []) ++ body_text) in
+    let begin_text : List ℕ = ended (codes "begin" ∷ []) ++ body_text in
+    let plan_text : List ℕ = plans_text d.plans ++ begin_text in
     let first = first_lines (dialect_of live) d (items_text d.items ++ (clients_text d.clients ++ plan_text)) is most.sites in
     let items = items_read (dialect_of live) d [] d.items nothing (clients_text d.clients ++ plan_text) is s.names first.1 refl in
     let clients = clients_read (dialect_of live) d [] d.clients nothing plan_text is s.names most.clients items.1 refl in
+    let plans = plans_read (dialect_of live) d [] d.plans nothing begin_text is clients.1 refl in
     ap (λ (bs : List ℕ). script_from (start (dialect_of live)) nothing (slice_split is_newline bs))
-    (s.spelled
-    ∙ ap (λ (ps : List Plan). (ended (codes "saturn" ∷ codes "1" ∷ []) ++ (ended (codes "sites" ∷ decimal d.sites ∷ []) ++ (ended (codes "gears" ∷ decimal d.gears ∷ []) ++ (items_text d.items ++ (clients_text d.clients ++ plans_text ps))))) ++ (ended (codes "begin" ∷ []) ++ body_text)) s.built.plans
-    ∙ spelled_flat (ended (codes "saturn" ∷ codes "1" ∷ [])) (ended (codes "sites" ∷ decimal d.sites ∷ [])) (ended (codes "gears" ∷ decimal d.gears ∷ [])) (items_text d.items) (clients_text d.clients) (ended (plan_words (plan.Tree t))) (ended (codes "begin" ∷ [])) body_text)
+    (s.spelled ∙ spelled_flat (ended (codes "saturn" ∷ codes "1" ∷ [])) (ended (codes "sites" ∷ decimal d.sites ∷ [])) (ended (codes "gears" ∷ decimal d.gears ∷ [])) (items_text d.items) (clients_text d.clients) (plans_text d.plans) (ended (codes "begin" ∷ [])) body_text)
     ∙ first.0
     ∙ items.0
     ∙ clients.0
-    ∙ last_lines (dialect_of live) d t acts is s.built.plans clients.1 s.each most.each most.few
+    ∙ plans.0
+    ∙ last_lines (dialect_of live) d acts is plans.1 s.each most.each most.few

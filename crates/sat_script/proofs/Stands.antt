@@ -3,7 +3,6 @@ use Rattle.std.proofs.Common.{◌≡◌, ℕ, ◌<◌, ◌≤◌, true, false, L
 use Rattle.std.specs.Prelude.{codes}
 use Rattle.std.specs.Fmt.{decimal}
 use Rattle.sat_label.specs.Text.{is_name}
-use Rattle.sat_tree.specs.Shape.{TreeShape}
 use Rattle.sat_script.specs.Dialect.{limits_of, has_form}
 use Rattle.sat_script.specs.Built.{is_built_act}
 use Rattle.sat_act.specs.Deployed.{Deployed}
@@ -19,7 +18,7 @@ use Rattle.sat_script.specs.Grammar.{is_tree}
 use Rattle.sat_script.specs.Spelled.{item_words, client_words, plan_words}
 use Rattle.sat_script.specs.Table.{form_of, act_words}
 use Rattle.sat_script.specs.State.{State}
-use Rattle.sat_script.specs.declared.limits.TheConstants.{MOST_GEARS}
+use Rattle.sat_script.specs.declared.limits.TheConstants.{MOST_GEARS, MOST_PLANS}
 use Rattle.sat_script.specs.declared.line.Parsed.{Parsed}
 use Rattle.sat_script.specs.declared.line.Parsed.TheVariants as parsed
 use Rattle.sat_script.specs.declared.line.Stage.{Stage}
@@ -52,11 +51,14 @@ pub record ClientStands (s : State) (line : ClientLine) : Type 0 where
   pub room : length s.header.clients < (limits_of s.dialect).clients
   pub new : has_client s.header line.name ≡ false
 
+-- stamp order, or a tree of so many sites
+abbrev pub IsPlanFor : ℕ → Plan → Type 0
+IsPlanFor sites plan.Stamp = Unit {0}
+IsPlanFor sites (plan.Tree t) = is_tree sites t ≡ true
+
 pub record PlanStands (s : State) (p : Plan) : Type 0 where
-  pub tree : TreeShape
-  pub is : p ≡ plan.Tree tree
-  pub small : is_tree s.header.sites tree ≡ true
-  pub first : s.header.plans ≡ []
+  pub fits : IsPlanFor s.header.sites p
+  pub room : length s.header.plans < MOST_PLANS
 
 pub record ActStands (s : State) (a : Act) : Type 0 where
   pub fits : IsActOf s.header a

@@ -1,5 +1,5 @@
 -- Lines of words and their bytes.
-use Rattle.std.proofs.Common.{◌≡◌, ℕ, zero, suc, ◌+◌, ◌*◌, ◌<◌, ◌≤◌, ◌^◌, Bool, true, false, ◌&&◌, cond, ltb, leb, List, [], ◌∷◌, ◌++◌, length, map, filter, All, Option, Some, None, sym, ap, ◌∙◌, refl, subst, arith}
+use Rattle.std.proofs.Common.{◌≡◌, ℕ, zero, suc, ◌+◌, ◌*◌, ◌<◌, ◌≤◌, ◌^◌, Bool, true, false, ◌&&◌, cond, ltb, leb, List, [], ◌∷◌, ◌++◌, length, map, filter, All, Option, Some, None, ap, ◌∙◌, refl, subst, arith}
 use Rattle.std.specs.List.{slice_get, join_with_byte, list_all, AllByRecursion}
 use Rattle.std.specs.Prelude.{codes}
 use Rattle.std.specs.Fmt.{decimal}
@@ -48,7 +48,7 @@ use Rattle.sat_script.specs.declared.line.Stage.TheVariants as stage
 use Rattle.sat_script.proofs.Digits.{decimal_between, decimal_length, decimal_short}
 use Rattle.sat_script.proofs.Lookup.{name_parts}
 use Rattle.sat_script.proofs.Rising.{members_under}
-use Rattle.sat_script.proofs.Stands.{parsed_words, Stands, ItemStands}
+use Rattle.sat_script.proofs.Stands.{parsed_words, Stands, ItemStands, IsPlanFor}
 use Rattle.sat_script.proofs.Trees.{tree_small}
 
 -- ---- words
@@ -313,6 +313,10 @@ tree_line_fits t is =
     let tail_size = size_append (map parent_text t.parents) (codes "/" ∷ map decimal t.seats) in
     record { each = (refl, (refl, tail_words)); some = omega arith; short = omega (arith, ps.1, ss.1) }
 
+plan_line_fits : (sites : ℕ) (p : Plan) → sites ≤ 16 → IsPlanFor sites p → IsLine (plan_words p)
+plan_line_fits sites plan.Stamp few h = record { each = (refl, (refl, tt)); some = omega arith; short = omega arith }
+plan_line_fits sites (plan.Tree t) few h = tree_line_fits t (tree_small sites t h few).0
+
 -- ---- any line
 
 pub line_fits : (here : Stage) (s : State) (p : Parsed) → HasHeader here s.header → s.header.sites ≤ 16 → Stands here s p → IsLine (parsed_words s.header p)
@@ -324,7 +328,7 @@ line_fits stage.Header s (parsed.Client line) kept few h =
     let n = name_word line.name h.name in
     let w = number_word line.site (omega (arith, h.home)) in
     record { each = (refl, (n.0, (w.0, tt))); some = omega arith; short = omega (arith, n.1, w.1) }
-line_fits stage.Header s (parsed.Plan p) kept few h = subst (λ (p : Plan). IsLine (plan_words p)) (sym h.is) (tree_line_fits h.tree (tree_small s.header.sites h.tree h.small few).0)
+line_fits stage.Header s (parsed.Plan p) kept few h = plan_line_fits s.header.sites p few h.fits
 line_fits stage.Header s parsed.Begin kept few h = record { each = (refl, tt); some = omega arith; short = omega arith }
 line_fits stage.Body s (parsed.Act a) kept few h = act_line_fits s.header a kept h.fits
 line_fits stage.Body s parsed.End kept few h = record { each = (refl, tt); some = omega arith; short = omega arith }

@@ -12,18 +12,21 @@ use Rattle.sat_label.proofs.First.{first_more, first_start}
 use Rattle.sat_tree.specs.Shape.{TreeShape}
 use Rattle.sat_tree.specs.Cut.{IsTree, parent_of, seat_of}
 use Rattle.sat_tree.specs.Flaw.{tree_flaw, parent_fits, seat_fits, few_serializers}
+use Rattle.sat_act.specs.declared.deployment.Plan.{Plan}
 use Rattle.sat_act.specs.declared.deployment.Plan.TheVariants as plan
-use Rattle.sat_script.specs.Grammar.{are_parents, parent_number, tree_on, tree_in, is_tree, tree_line, is_slash, parted_line, plan_line, header_line}
+use Rattle.sat_script.specs.Grammar.{are_parents, parent_number, tree_on, tree_in, is_tree, tree_line, is_slash, parted_line, stamp_line, plan_line, header_line}
 use Rattle.sat_script.specs.Spelled.{plan_words}
 use Rattle.sat_tree.specs.PlanLine.{parent_text}
 use Rattle.sat_script.specs.State.{State}
 use Rattle.sat_script.specs.Words.{is_number, value_of}
+use Rattle.sat_script.specs.declared.limits.TheConstants.{MOST_PLANS}
 use Rattle.sat_script.specs.declared.line.Parsed.{Parsed}
 use Rattle.sat_script.specs.declared.line.Parsed.TheVariants as parsed
 use Rattle.sat_script.proofs.Choices.{word_is}
 use Rattle.sat_script.proofs.Digits.{decimal_number, decimal_value, decimal_between}
-use Rattle.sat_script.proofs.HeadersRead.{tree_free}
-use Rattle.sat_script.proofs.Trees.{no_flaw, map_twice}
+use Rattle.sat_script.proofs.HeadersRead.{tree_free, stamp_free}
+use Rattle.sat_script.proofs.Stands.{PlanStands}
+use Rattle.sat_script.proofs.Trees.{no_flaw, map_twice, tree_small}
 
 -- ---- numbers
 
@@ -182,12 +185,12 @@ tree_again t ps is few e =
     ap (λ (qs : List (Option ℕ)). (let u : TreeShape = record { parents = qs; seats = map value_of (map decimal t.seats) } in u)) parents
     ∙ ap (λ (ss : List ℕ). (let u : TreeShape = record { parents = t.parents; seats = ss } in u)) (values_back t.seats (seats_small t is few))
 
-rooted_reads : (s : State) (words seats : List (List ℕ)) (t : TreeShape) → list_all is_number words ≡ true → list_all is_number seats ≡ true → s.header.plans ≡ [] → tree_on words seats ≡ t → is_tree s.header.sites t ≡ true
+rooted_reads : (s : State) (words seats : List (List ℕ)) (t : TreeShape) → list_all is_number words ≡ true → list_all is_number seats ≡ true → length s.header.plans < MOST_PLANS → tree_on words seats ≡ t → is_tree s.header.sites t ≡ true
     → tree_line s (codes "-" ∷ words) seats ≡ Ok (parsed.Plan (plan.Tree t))
 unfolding tree_line are_parents tree_in
-rooted_reads s words seats t numbers places none same fits =
+rooted_reads s words seats t numbers places room same fits =
     let here : is_tree s.header.sites (tree_on words seats) ≡ true = ap (is_tree s.header.sites) same ∙ fits in
-    rw (numbers, places, tree_free s none, here) (ap (λ (u : TreeShape). Ok (parsed.Plan (plan.Tree u))) same)
+    rw (numbers, places, tree_free s room, here) (ap (λ (u : TreeShape). Ok (parsed.Plan (plan.Tree u))) same)
 
 parents_words : (ps : List ℕ) → map parent_text (map Some ps) ≡ map decimal ps
 parents_words [] = refl
@@ -201,12 +204,22 @@ parted_reads s front rest p clear h =
     ∙ ap (tree_line s front) (drop_front front rest (codes "/") (length front + 1) (omega arith))
     ∙ h
 
-pub plan_reads : (s : State) (t : TreeShape) → IsTree t → 0 < length t.parents → length t.parents ≤ 15 → length t.seats ≡ s.header.sites → s.header.plans ≡ [] → header_line s (plan_words (plan.Tree t)) ≡ Ok (parsed.Plan (plan.Tree t))
+tree_reads : (s : State) (t : TreeShape) → IsTree t → 0 < length t.parents → length t.parents ≤ 15 → length t.seats ≡ s.header.sites → length s.header.plans < MOST_PLANS → header_line s (plan_words (plan.Tree t)) ≡ Ok (parsed.Plan (plan.Tree t))
 unfolding header_line plan_line
-plan_reads s t is some few seats none =
+tree_reads s t is some few seats room =
     let sh = shape t.parents t.seats is some in
     let low = parents_small t sh.0 is few sh.1 in
     let text : map parent_text t.parents ≡ codes "-" ∷ map decimal sh.0 = ap (map parent_text) sh.1 ∙ ap (λ (ws : List (List ℕ)). codes "-" ∷ ws) (parents_words sh.0) in
-    let said = rooted_reads s (map decimal sh.0) (map decimal t.seats) t (numbers_back sh.0 low) (numbers_back t.seats (seats_small t is few)) none (tree_again t sh.0 is few sh.1) (tree_fits s.header.sites t is some few seats) in
+    let said = rooted_reads s (map decimal sh.0) (map decimal t.seats) t (numbers_back sh.0 low) (numbers_back t.seats (seats_small t is few)) room (tree_again t sh.0 is few sh.1) (tree_fits s.header.sites t is some few seats) in
     ap (λ (ws : List (List ℕ)). parted_line s (ws ++ codes "/" ∷ map decimal t.seats) (position is_slash (ws ++ codes "/" ∷ map decimal t.seats))) text
     ∙ parted_reads s (codes "-" ∷ map decimal sh.0) (map decimal t.seats) (parsed.Plan (plan.Tree t)) (no_slashes sh.0 low) said
+
+stamp_reads : (s : State) → length s.header.plans < MOST_PLANS → header_line s (plan_words plan.Stamp) ≡ Ok (parsed.Plan plan.Stamp)
+unfolding header_line plan_line stamp_line
+stamp_reads s room = rw (stamp_free s room) refl
+
+pub plan_reads : (s : State) (p : Plan) → s.header.sites ≤ 16 → PlanStands s p → header_line s (plan_words p) ≡ Ok (parsed.Plan p)
+plan_reads s plan.Stamp few st = stamp_reads s st.room
+plan_reads s (plan.Tree t) few st =
+    let small = tree_small s.header.sites t st.fits few in
+    tree_reads s t small.0.tree small.0.some_serializer small.0.few_serializers small.1 st.room

@@ -236,7 +236,6 @@ read_ended s r text rest so e none =
       record {
         spelled = ap (λ (bs : List ℕ). text ++ bs) none ∙ append-nil text ∙ so.spelled ∙ ap (λ (here : Stage). front here s.header r.acts) e;
         deployment = kept.deployment;
-        built = kept.built;
         names = kept.names;
         each = said.1;
         few = omega (arith, so.few, so.fit.acts);

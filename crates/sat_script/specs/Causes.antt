@@ -1,5 +1,5 @@
 -- The causes that stop a line, in their order, and what the form of a line and the names of its words decide.
-use Rattle.std.specs.Prelude.{ℕ, List, Bool, true, false, not, ◌&&◌, ◌==◌, nat_lt, length, Some, None, Err, if◌then◌else◌, position}
+use Rattle.std.specs.Prelude.{ℕ, List, Bool, true, false, not, ◌&&◌, nat_lt, length, Some, None, Err, if◌then◌else◌, position}
 use Rattle.std.specs.declared.option.Option.{Option}
 use Rattle.std.specs.declared.result.Result.{Result}
 use Rattle.std.specs.List.{list_any}
@@ -33,22 +33,10 @@ given cause (Some x) next = next x
 
 -- ---- what the form alone decides
 
--- the forms that are built: one plan, with a tree, and no more acts than these
-unfoldable pub is_built : Deployed → Form → Bool
-is_built d form.Item = true
-is_built d form.Client = true
-is_built d form.PlanTree = length d.plans == 0
-is_built d form.Tick = true
-is_built d form.Clock = true
-is_built d form.Write = true
-is_built d form.Read = true
-is_built d form.Gather = true
-is_built d form.Emit = true
-is_built d form.Hop = true
-is_built d form.Turn = true
-is_built d form.Bulk = true
-is_built d form.NumberedBulk = true
-is_built d _ = false
+-- the forms that are built: all but `settle`
+unfoldable pub is_built : Form → Bool
+is_built form.Settle = false
+is_built _ = true
 
 -- whether one more line of the form is within the limits
 unfoldable pub has_room : State → Form → Bool
@@ -63,7 +51,7 @@ has_room s _ = nat_lt s.acts (limits_of s.dialect).acts
 unfoldable pub bar : State → Form → Option Cause
 unfolding is_built has_room
 bar s f =
-    if not (is_built s.header f) then Some Unbuilt else
+    if not (is_built f) then Some Unbuilt else
     if not (has_form s.dialect f) then Some NotLive else
     if not (has_room s f) then Some TooMany else
     None

@@ -1,14 +1,11 @@
 -- What readers keep of a script of which a front has come.
-use Rattle.std.specs.Prelude.{ℕ, ◌≡◌, ◌≤◌, ◌<◌, List, [], ◌∷◌, length, Some, None, IfSome}
+use Rattle.std.specs.Prelude.{ℕ, ◌≡◌, ◌≤◌, ◌<◌, List, [], length, Some, None, IfSome}
 use Rattle.std.specs.declared.option.Option.{Option}
 use Rattle.sat_label.specs.Words.{first_failing}
 use Rattle.sat_act.specs.declared.act.Act.{Act}
-use Rattle.sat_act.specs.declared.deployment.Plan.{Plan}
-use Rattle.sat_act.specs.declared.deployment.Plan.TheVariants as plan
 use Rattle.sat_act.specs.Deployed.{Deployed}
 use Rattle.sat_act.specs.Flaw.{flaw, item_fits, client_fits, plan_fits}
 use Rattle.sat_act.specs.Limits.{IsDeployment, HaveTrees}
-use Rattle.sat_script.specs.Built.{IsBuilt}
 use Rattle.sat_script.specs.Reading.{AreBuiltActs, AreAllowed}
 use Rattle.sat_script.specs.Spelled.{HaveNames}
 use Rattle.sat_script.specs.Stream.{WholeLines}
@@ -27,12 +24,6 @@ pub record IsSited (d : Deployed) : Type 0 where
   pub clients : d.clients ≡ []
   pub plans : d.plans ≡ []
 
--- the plans that are built: one tree, once it has come
-abbrev pub AreBuiltPlans : List Plan → Type 0
-AreBuiltPlans [] = Unit {0}
-AreBuiltPlans (plan.Tree t ∷ []) = Unit {0}
-AreBuiltPlans _ = ⊥
-
 -- sites and gears, and items, clients and plans as far as they have come
 pub record IsOpened (d : Deployed) : Type 0 where
   pub some_site : 0 < d.sites
@@ -43,14 +34,12 @@ pub record IsOpened (d : Deployed) : Type 0 where
   pub clients : first_failing (client_fits d.sites d.clients) (length d.clients) ≡ None
   pub plans : first_failing (plan_fits d.sites d.plans) (length d.plans) ≡ None
   pub trees : HaveTrees d.plans
-  pub built : AreBuiltPlans d.plans
   pub names : HaveNames d
 
 -- a whole header
 pub record IsWhole (d : Deployed) : Type 0 where
   pub flawless : flaw d ≡ None
   pub deployment : IsDeployment d
-  pub built : IsBuilt d
   pub names : HaveNames d
 
 -- the header as far as it has come at a stage

@@ -1,8 +1,12 @@
 -- What a word says, as the code keeps it.
-use Rattle.std.specs.Prelude.{◌≡◌, List, ◌++◌, map, Option, Some, None, Result, Ok, Err}
+use Rattle.std.specs.Prelude.{ℕ, ◌≡◌, ◌||◌, ◌==◌, Bool, true, false, List, [], ◌∷◌, ◌++◌, map, Option, Some, None, Result, Ok, Err}
 use Rattle.sat_tree.specs.Shape.{TreeShape}
-use Rattle.sat_script.specs.Table.{Said, place, num, bytes, at, no_tree}
+use Rattle.sat_label.specs.Text.{is_name}
+use Rattle.sat_act.specs.Deployed.{Deployed}
+use Rattle.sat_script.specs.Table.{Said, place, num, bytes, at, no_tree, shape, known, says, shapes, all_known, all_say, in_tree}
 use Rattle.sat_script.specs.declared.fault.Cause.{Cause}
+use Rattle.sat_script.specs.declared.form.Kind.{Kind}
+use Rattle.sat_script.specs.declared.form.Kind.TheVariants as kind
 use Rattle.sat_script.specs.declared.said.Said.{Said as Kept}
 use Rattle.sat_script.specs.declared.said.Said.TheVariants as kept
 
@@ -22,3 +26,34 @@ shape_of (Some t) = t
 abbrev pub SaysOn : Result (Unit {0}) Cause → List Kept → List Kept → Result (List Said) Cause → Type 0
 SaysOn (Ok x) old new says = (more : List Said) × (says ≡ Ok more) × (map said_of new ≡ map said_of old ++ more)
 SaysOn (Err cause) old new says = says ≡ Err cause
+
+-- ---- good words, each read once
+
+-- what a word must be besides saying something: a name has its shape, and the word of a node its letter. The rest of the shape, and
+-- that the header has the name, follow from what the word says
+abbrev pub begins : Kind → List ℕ → Bool
+begins kind.Client w = is_name w
+begins kind.Item w = is_name w
+begins kind.Node [] = false
+begins kind.Node (byte ∷ number) = byte == 115 || byte == 122
+begins kind.Serializer [] = false
+begins kind.Serializer (byte ∷ number) = byte == 122
+begins _ w = true
+
+-- a word of its shape, whose name the header has, what it says, and the tree in which the nodes after it stand
+pub record IsReadWord (d : Deployed) (t : TreeShape) (k : Kind) (word : List ℕ) (a : Said) (u : TreeShape) : Type 0 where
+  pub shaped : shape k word ≡ true
+  pub named : known d k word ≡ true
+  pub said : says d t k word ≡ Some a
+  pub goes : (next : TreeShape → Result (List Said) Cause) → in_tree d k t a next ≡ next u
+
+-- where the test says so, more was said, of which this holds
+abbrev pub Adds : Bool → List Kept → List Kept → (Said → Type 0) → Type 0
+Adds true old new P = (a : Said) × (map said_of new ≡ map said_of old ++ a ∷ []) × P a
+Adds false old new P = Unit {0}
+
+-- words of their shapes, whose names the header has, and what they say
+pub record AreRead (d : Deployed) (kinds : List Kind) (words : List (List ℕ)) (xs : List Said) : Type 0 where
+  pub shaped : shapes kinds words ≡ true
+  pub named : all_known d kinds words ≡ true
+  pub said : all_say d no_tree kinds words ≡ Ok xs

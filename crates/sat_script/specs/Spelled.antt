@@ -13,7 +13,6 @@ use Rattle.sat_act.specs.declared.deployment.Plan.{Plan}
 use Rattle.sat_act.specs.declared.deployment.Plan.TheVariants as plan
 use Rattle.sat_act.specs.Deployed.{Deployed}
 use Rattle.sat_act.specs.Limits.{IsDeployment}
-use Rattle.sat_script.specs.Built.{IsBuilt}
 use Rattle.sat_script.specs.Reading.{AreBuiltActs}
 use Rattle.sat_script.specs.Table.{act_words}
 use Rattle.sat_script.specs.declared.limits.TheConstants.{MOST_ACTS}
@@ -85,7 +84,6 @@ pub record HaveNames (d : Deployed) : Type 0 where
 pub record Spells (text : List ℕ) (d : Deployed) (acts : List Act) : Type 0 where
   pub spelled : text ≡ spelling d acts
   pub deployment : IsDeployment d
-  pub built : IsBuilt d
   pub names : HaveNames d
   pub each : AreBuiltActs d acts
   pub few : length acts ≤ MOST_ACTS

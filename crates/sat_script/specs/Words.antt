@@ -1,5 +1,5 @@
 -- The words of a line: its bytes, numbers, lists of sites, and nodes.
-use Rattle.std.specs.Prelude.{ℕ, ◌≡◌, ◌^◌, List, [], ◌∷◌, ◌++◌, Bool, true, false, not, ◌&&◌, ◌||◌, ◌==◌, nat_lt, nat_le, ◌≤◌, length, map, take, drop, slice_index, bit_or, Some, None, if◌then◌else◌}
+use Rattle.std.specs.Prelude.{ℕ, ◌≡◌, ◌^◌, List, [], ◌∷◌, ◌++◌, Bool, true, false, not, ◌&&◌, ◌||◌, ◌==◌, nat_lt, nat_le, length, map, take, slice_index, bit_or, Some, None, if◌then◌else◌}
 use Rattle.std.specs.declared.option.Option.{Option}
 use Rattle.std.specs.Option.{option_map}
 use Rattle.std.specs.List.{All, slice_split, list_all}
@@ -37,11 +37,10 @@ pub record IsCut (byte : ℕ) (text front rest : List ℕ) : Type 0 where
   pub none : HasNo byte front
   pub whole : text ≡ front ++ byte ∷ rest
 
--- the bytes up to a place can be seen, and no byte can that stands there
-pub record IsSeenFront (text : List ℕ) (place : ℕ) : Type 0 where
-  pub within : place ≤ length text
-  pub seen : list_all (is_between 33 126) (take place text) ≡ true
-  pub stops : (byte : ℕ) (rest : List ℕ) → drop place text ≡ byte ∷ rest → is_between 33 126 byte ≡ false
+-- whether a line is text, and if so its first six words
+abbrev pub AreFirst : Bool → List ℕ → List (List ℕ) → Type 0
+AreFirst true line words = (is_text line ≡ true) × (words ≡ take 6 (words_of line))
+AreFirst false line words = is_text line ≡ false
 
 -- a word of bytes that can be seen
 abbrev pub is_token : List ℕ → Bool

@@ -1,13 +1,14 @@
 //! The lines after `begin`, by their words.
-ghost use Rattle.std.specs.Prelude.{◌≡◌, ◌≤◌, ◌+◌, ◌==◌, length, map, option_copied, IsTrue, Some, None, if◌then◌else◌};
+ghost use Rattle.std.specs.Prelude.{◌≡◌, ◌<◌, ◌≤◌, ◌+◌, ◌==◌, [], length, map, option_copied, IsTrue, IfSome, Some, None, Ok, if◌then◌else◌};
 ghost use Rattle.std.specs.Option.{option_map};
 ghost use Rattle.sat_tree.specs.Cut.{IsNode};
+ghost use Rattle.sat_tree.specs.Shape.{TreeShape};
 ghost use Rattle.sat_act.specs.Parts.{tree_of};
 ghost use Rattle.sat_script.specs.Causes.{bar};
 ghost use Rattle.sat_script.specs.Grammar.{is_end, body_line};
 ghost use Rattle.sat_script.specs.Lines.{Gives};
-ghost use Rattle.sat_script.specs.Said.{said_of, shape_of, SaysOn};
-ghost use Rattle.sat_script.specs.Table.{shape, shapes, known, all_known, says, all_say, has_node, joins, edge_cause, unfit, form_line, act_line};
+ghost use Rattle.sat_script.specs.Said.{said_of, shape_of, SaysOn, Adds, begins, IsReadWord, AreRead};
+ghost use Rattle.sat_script.specs.Table.{shape, shapes, known, all_known, says, all_say, has_node, joins, edge_cause, unfit, said_act, form_line, act_line};
 ghost use Rattle.sat_script.specs.Table.{place, num, at};
 ghost use Rattle.sat_script.specs.Words.{node_in, serializer_in};
 
@@ -51,6 +52,7 @@ fn is_known(header: &Header, kind: Kind, word: &[u8]) -> bool
     }
 }
 
+#[inline(always)]
 fn place_of<'a>(number: Option<u16>) -> Option<Said<'a>>
     ensures { option_map said_of result ≡ option_map place number }
 {
@@ -60,6 +62,7 @@ fn place_of<'a>(number: Option<u16>) -> Option<Said<'a>>
     }
 }
 
+#[inline(always)]
 fn num_of<'a>(number: Option<u64>) -> Option<Said<'a>>
     ensures { option_map said_of result ≡ option_map num number }
 {
@@ -93,6 +96,7 @@ fn serializer_of<'a>(tree: Option<&Tree>, word: &[u8]) -> Option<Said<'a>>
 }
 
 // What a word says; a node stands in the tree of the epoch before it.
+#[inline(always)]
 fn says<'a>(header: &Header, tree: Option<&Tree>, kind: Kind, word: &'a [u8]) -> Option<Said<'a>>
     ensures { option_map said_of result ≡ says header.now (shape_of (option_copied tree.entry)) kind word.now }
 {
@@ -143,6 +147,7 @@ fn all_known(header: &Header, kinds: &[Kind], words: &[&[u8]]) -> bool
 }
 
 // The words in turn, added to what was said; an epoch says in which tree the nodes after it stand.
+#[inline(never)]
 fn all_say<'a>(
     header: &Header,
     tree: Option<&Tree>,
@@ -172,6 +177,131 @@ fn all_say<'a>(
         }
         _ => all_say(header, tree, kinds, words, said),
     }
+}
+
+// ---- good words, each read once
+
+#[inline(always)]
+fn begins(kind: Kind, word: &[u8]) -> bool
+    ensures { result ≡ begins kind word.now }
+{
+    match kind {
+        Kind::Client => spells_name(word),
+        Kind::Item => spells_name(word),
+        Kind::Node => match word {
+            [] => false,
+            [byte, ..] => *byte == b's' || *byte == b'z',
+        },
+        Kind::Serializer => match word {
+            [] => false,
+            [byte, ..] => *byte == b'z',
+        },
+        _ => true,
+    }
+}
+
+// What an epoch says, and its tree.
+fn read_epoch<'h>(header: &'h Header, word: &[u8]) -> Option<(u16, &'h Tree)>
+    ensures { (t : TreeShape) → IfSome result (λ read. IsReadWord header.now t Kind.Epoch word.now (place read.0) read.1.now) }
+{
+    let Some(epoch) = number_to(header.plans(), word) else {
+        return None;
+    };
+    match header.tree(epoch) {
+        Some(tree) => Some((epoch, tree)),
+        None => None,
+    }
+}
+
+// Adds what any other word says that has its shape and whose name the header has.
+fn read_other<'a>(
+    header: &Header,
+    tree: Option<&Tree>,
+    kind: Kind,
+    word: &'a [u8],
+    said: &mut Args<'a>,
+) -> bool
+    requires { length said.old.items < 4 }
+    ensures { Adds result said.old.items said.new.items (λ a. IsReadWord header.now (shape_of (option_copied tree.entry)) kind word.now a (shape_of (option_copied tree.entry))) }
+{
+    if kind == Kind::Epoch {
+        return false;
+    }
+    if !begins(kind, word) {
+        return false;
+    }
+    match says(header, tree, kind, word) {
+        Some(one) => {
+            said.push(one);
+            true
+        }
+        None => false,
+    }
+}
+
+// The same, where sites, gears and timestamps are most words.
+#[inline(always)]
+fn read_word<'a>(
+    header: &Header,
+    tree: Option<&Tree>,
+    kind: Kind,
+    word: &'a [u8],
+    said: &mut Args<'a>,
+) -> bool
+    requires { length said.old.items < 4 }
+    ensures { Adds result said.old.items said.new.items (λ a. IsReadWord header.now (shape_of (option_copied tree.entry)) kind word.now a (shape_of (option_copied tree.entry))) }
+{
+    match kind {
+        Kind::Site => match number_below(header.sites(), word) {
+            Some(site) => {
+                said.push(Said::Place(site));
+                true
+            }
+            None => false,
+        },
+        Kind::Gear => match number_below(header.gears(), word) {
+            Some(gear) => {
+                said.push(Said::Place(gear));
+                true
+            }
+            None => false,
+        },
+        Kind::Ts => match number_up_to(TS_END, word) {
+            Some(ts) => {
+                said.push(Said::Number(ts));
+                true
+            }
+            None => false,
+        },
+        _ => read_other(header, tree, kind, word, said),
+    }
+}
+
+// What all words say, where each has its shape and each name is one of the header.
+#[inline(always)]
+fn all_read<'a>(header: &Header, kinds: &[Kind], words: &[&'a [u8]], said: &mut Args<'a>) -> bool
+    requires none { said.old.items ≡ [] }
+    requires few { length kinds.now ≤ 4 }
+    ensures { IsTrue result → AreRead header.now kinds.now (map (λ word. word.now) words.now) (map said_of said.new.items) }
+{
+    if words.len() != kinds.len() {
+        return false;
+    }
+    let mut tree = None;
+    for place in 0..kinds.len() {
+        if kinds[place] == Kind::Epoch {
+            let Some((epoch, found)) = read_epoch(header, words[place]) else {
+                return false;
+            };
+            said.push(Said::Place(epoch));
+            tree = Some(found);
+            continue;
+        }
+        if !read_word(header, tree, kinds[place], words[place], said) {
+            return false;
+        }
+    }
+    true
 }
 
 // ---- acts
@@ -225,6 +355,7 @@ fn pair_cause(from: u16, to: u16) -> Option<Cause>
 }
 
 // Two sites that are one, or two nodes that are no edge.
+#[inline(always)]
 fn unfit(header: &Header, act: &Act) -> Option<Cause>
     ensures { result ≡ unfit header.now act.now }
 {
@@ -239,8 +370,22 @@ fn unfit(header: &Header, act: &Act) -> Option<Cause>
 
 // ---- a line
 
+// The act that words of a form say, unless its parts do not go together.
+#[inline(always)]
+fn said_act(alloc: Global, header: &Header, form: Form, said: &[Said]) -> Result<Act, Cause>
+    ensures { Gives result (said_act header.now form (Ok (map said_of said.now))) }
+{
+    let act = act_of(alloc, form, said)?;
+    match unfit(header, &act) {
+        Some(cause) => Err(cause),
+        None => Ok(act),
+    }
+}
+
+// A line whose words may be bad: the causes in their order.
+#[inline(never)]
 #[tactic(auto, unfolding(crate::specs::Table::form_line))]
-fn form_line(alloc: Global, place: &Place, form: Form, words: &[&[u8]]) -> Result<Act, Cause>
+fn doubtful_line(alloc: Global, place: &Place, form: Form, words: &[&[u8]]) -> Result<Act, Cause>
     ensures { Gives result (form_line (bar place.now) place.now.header form (map (λ word. word.now) words.now)) }
 {
     let kinds = kinds_of(form);
@@ -253,11 +398,21 @@ fn form_line(alloc: Global, place: &Place, form: Form, words: &[&[u8]]) -> Resul
     }
     let mut said = ArrayVec::new();
     all_say(place.header(), None, kinds, words, &mut said)?;
-    let act = act_of(alloc, form, said.as_slice())?;
-    match unfit(place.header(), &act) {
-        Some(cause) => Err(cause),
-        None => Ok(act),
+    said_act(alloc, place.header(), form, said.as_slice())
+}
+
+// A good line is read in one go, and only another is asked for its cause.
+fn form_line(alloc: Global, place: &Place, form: Form, words: &[&[u8]]) -> Result<Act, Cause>
+    ensures { Gives result (form_line (bar place.now) place.now.header form (map (λ word. word.now) words.now)) }
+{
+    if place.admit(form).is_err() {
+        return doubtful_line(alloc, place, form, words);
     }
+    let mut said = ArrayVec::new();
+    if !all_read(place.header(), kinds_of(form), words, &mut said) {
+        return doubtful_line(alloc, place, form, words);
+    }
+    said_act(alloc, place.header(), form, said.as_slice())
 }
 
 #[tactic(auto, unfolding(crate::specs::Table::act_line))]

@@ -21,6 +21,7 @@ use std::alloc::{AllocError, Global};
 
 /// `saturn 1`
 #[tactic(auto, unfolding(crate::specs::Grammar::format_line))]
+#[inline(never)]
 pub fn format_line(words: &[&[u8]]) -> Result<Parsed, Cause>
     ensures { Gives result (format_line (map (λ word. word.now) words.now)) }
 {
@@ -52,6 +53,7 @@ fn counted(keyword: &[u8], limit: u16, word: &[u8], number: &[u8]) -> Result<u16
 
 /// `sites N`
 #[tactic(auto, unfolding(crate::specs::Grammar::sites_line))]
+#[inline(never)]
 pub fn sites_line(place: &Place, words: &[&[u8]]) -> Result<Parsed, Cause>
     ensures { Gives result (sites_line place.now.dialect (map (λ word. word.now) words.now)) }
 {
@@ -66,6 +68,7 @@ pub fn sites_line(place: &Place, words: &[&[u8]]) -> Result<Parsed, Cause>
 
 /// `gears N`
 #[tactic(auto, unfolding(crate::specs::Grammar::gears_line))]
+#[inline(never)]
 pub fn gears_line(words: &[&[u8]]) -> Result<Parsed, Cause>
     ensures { Gives result (gears_line (map (λ word. word.now) words.now)) }
 {
@@ -374,6 +377,7 @@ fn header_form(alloc: Global, place: &Place, word: &[u8], words: &[&[u8]]) -> Re
 
 /// An item, a client, a plan, or `begin`.
 #[tactic(auto, using(crate::proofs::First::form_first), unfolding(crate::specs::Grammar::header_line))]
+#[inline(never)]
 pub fn header_line(
     alloc: Global,
     place: &Place,

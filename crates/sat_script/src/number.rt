@@ -1,5 +1,6 @@
 //! Numbers in digits, of any length.
 ghost use Rattle.std.specs.Prelude.{◌≡◌, ◌-◌, ◌^◌, ◌<◌, ◌≤◌, min, Some, None, IfSome, true, nat_lt, ◌||◌, ◌&&◌, ◌==◌, length, slice_index, if◌then◌else◌};
+ghost use Rattle.std.specs.Char.{is_ascii_digit};
 ghost use Rattle.std.specs.Str.{all_ascii_digits};
 ghost use Rattle.sat_script.specs.Words.{is_number, value_of, number_below, number_to, number_up_to};
 
@@ -25,6 +26,7 @@ fn all_digits(word: &[u8]) -> bool
 }
 
 // The number that digits stand for, or the greatest u64 where it is greater.
+#[inline(never)]
 fn digits(word: &[u8]) -> Option<u64>
     ensures { result ≡ (if all_ascii_digits word.now then Some (min (value_of word.now) (2 ^ 64 - 1)) else None) }
 {
@@ -40,10 +42,27 @@ fn digits(word: &[u8]) -> Option<u64>
     Some(value)
 }
 
-// The number that a word stands for, or the greatest u64 where it is greater.
+// The number of a digit.
+#[inline(always)]
+fn digit_of(byte: u8) -> Option<u64>
+    ensures { result ≡ (if is_ascii_digit byte then Some (byte - 48) else None) }
+{
+    if byte.is_ascii_digit() {
+        Some(u64::from(byte - b'0'))
+    } else {
+        None
+    }
+}
+
+// The number that a word stands for, or the greatest u64 where it is greater. Most words are one digit.
+#[inline(always)]
+#[tactic(auto, using(crate::proofs::Numbers::one_digit))]
 fn number_of(word: &[u8]) -> Option<u64>
     ensures { result ≡ (if is_number word.now then Some (min (value_of word.now) (2 ^ 64 - 1)) else None) }
 {
+    if word.len() == 1 {
+        return digit_of(word[0]);
+    }
     if begins_badly(word) {
         return None;
     }
@@ -72,6 +91,7 @@ pub fn is_less(a: &[u8], b: &[u8]) -> bool
 
 /// The number that a word stands for, where it is below a limit.
 #[tactic(auto, unfolding(crate::specs::Words::number_below))]
+#[inline(always)]
 pub fn number_below(limit: u16, word: &[u8]) -> Option<u16>
     ensures number { result ≡ number_below limit word.now }
     ensures inside { IfSome result (λ n. n < limit) }

@@ -2,13 +2,13 @@
 ghost use Rattle.std.specs.Prelude.{◌≡◌, ◌≤◌, ◌↔◌, ◌++◌, [], ◌∷◌, IsTrue, IfOk, OnOk, OnErr, MatchResult, Some, None, length};
 ghost use Rattle.sat_script.specs.Dialect.{limits_of};
 ghost use Rattle.sat_script.specs.State.{start, number_of};
-ghost use Rattle.sat_script.specs.Causes.{is_built, has_room, bar};
+ghost use Rattle.sat_script.specs.Causes.{has_room, bar};
 ghost use Rattle.sat_script.specs.Grammar.{after, IsNew};
 ghost use Rattle.sat_script.specs.Reading.{told_line};
 ghost use Rattle.sat_script.specs.Kept.{IsFit};
 ghost use Rattle.sat_script.specs.declared.line.Parsed.TheVariants as parsed;
 
-use crate::form::Form;
+use crate::form::{Form, is_built};
 use crate::header::Header;
 use crate::limits::MOST_PLANS;
 use crate::line::{Line, Parsed, Stage};
@@ -97,28 +97,6 @@ impl Place {
         first + self.header.lines() + u64::from(self.acts)
     }
 
-    #[tactic(auto, unfolding(crate::specs::Causes::is_built))]
-    fn is_built(&self, form: Form) -> bool
-        ensures { result ≡ is_built self.now.header form }
-    {
-        match form {
-            Form::Item => true,
-            Form::Client => true,
-            Form::PlanTree => self.header.plans() == 0,
-            Form::Tick => true,
-            Form::Clock => true,
-            Form::Write => true,
-            Form::Read => true,
-            Form::Gather => true,
-            Form::Emit => true,
-            Form::Hop => true,
-            Form::Turn => true,
-            Form::Bulk => true,
-            Form::NumberedBulk => true,
-            _ => false,
-        }
-    }
-
     #[tactic(auto, unfolding(crate::specs::Causes::has_room))]
     fn has_room(&self, form: Form) -> bool
         ensures { result ≡ has_room self.now form }
@@ -139,7 +117,7 @@ impl Place {
     pub fn admit(&self, form: Form) -> Result<(), Cause>
         ensures { MatchResult result (λ _. bar self.now form ≡ None) (λ cause. bar self.now form ≡ Some cause) }
     {
-        if !self.is_built(form) {
+        if !is_built(form) {
             return Err(Cause::Unbuilt);
         }
         if !self.dialect.has(form) {

@@ -16,6 +16,7 @@ use crate::line::{Line, Parsed, Stage};
 use crate::place::Place;
 use crate::words::first_words;
 use crate::{Cause, Dialect, ScriptFault};
+use arrayvec::ArrayVec;
 use sat_act::{Acts, Deployment};
 use std::alloc::Global;
 use std::marker::Model;
@@ -47,9 +48,10 @@ fn line_at(alloc: Global, place: &Place, line: &[u8]) -> Result<Parsed, Cause>
     if line.len() > LONGEST_LINE {
         return Err(Cause::LongLine);
     }
-    let Some(words) = first_words(line) else {
+    let mut words = ArrayVec::new();
+    if !first_words(line, &mut words) {
         return Err(Cause::NotText);
-    };
+    }
     words_line(alloc, place, line, words.as_slice())
 }
 

@@ -33,6 +33,7 @@ impl Default for Said<'_> {
 /// What the words after the first say.
 pub type Args<'a> = ArrayVec<Said<'a>, 4>;
 
+#[inline(always)]
 fn place_at(said: &[Said], k: usize) -> u16
     ensures { result ≡ place_at (map said_of said.now) k }
 {
@@ -42,6 +43,7 @@ fn place_at(said: &[Said], k: usize) -> u16
     }
 }
 
+#[inline(always)]
 fn num_at(said: &[Said], k: usize) -> u64
     ensures { result ≡ num_at (map said_of said.now) k }
 {
@@ -51,6 +53,7 @@ fn num_at(said: &[Said], k: usize) -> u64
     }
 }
 
+#[inline(always)]
 fn bytes_at<'a>(said: &[Said<'a>], k: usize) -> &'a [u8]
     ensures { result.now ≡ bytes_at (map said_of said.now) k }
 {
@@ -60,6 +63,7 @@ fn bytes_at<'a>(said: &[Said<'a>], k: usize) -> &'a [u8]
     }
 }
 
+#[inline(always)]
 fn node_at(said: &[Said], k: usize) -> NodeId
     ensures { result ≡ node_at (map said_of said.now) k }
 {
@@ -85,6 +89,7 @@ fn write_of(alloc: Global, said: &[Said]) -> Result<Act, Cause>
 }
 
 /// The act of a form that such words say.
+#[inline(always)]
 pub fn act_of(alloc: Global, form: Form, said: &[Said]) -> Result<Act, Cause>
     ensures { Gives result (given OutOfRange (act_of form (map said_of said.now)) Ok) }
 {

@@ -16,7 +16,7 @@ const PLAIN: &str =
     "saturn 1\nsites 2\ngears 1\nitem x 0,1\nclient a 0\nclient b 1\nplan tree - / 0 0\nbegin\nwrite a x hello\ngather 0\nemit 0\nhop 1 s0 z0\nbulk 0 0 1\nturn 1\nread b x\nend\n";
 
 const WIDE: &str =
-    "saturn 1\nsites 16\ngears 8\nitem p 0,2,15\nitem q-1.z 1\nitem r 0,1,2,3,4,5,6,7,8,9,10,11,12,13,14,15\nclient C 2\nclient d_ 15\nplan tree - 0 0 2 / 0 0 1 1 2 2 3 3 0 0 1 1 2 2 3 3\nbegin\ntick 15 7 4611686018427387904\nclock\nwrite C q-1.z ->\nread d_ p\ngather 15\nemit 0\nhop 1 s15 z3\nhop 1 z3 z2\nturn 9\nbulk 15 7 0\nend\n";
+    "saturn 1\nsites 16\ngears 8\nitem p 0,2,15\nitem q-1.z 1\nitem r 0,1,2,3,4,5,6,7,8,9,10,11,12,13,14,15\nclient C 2\nclient d_ 15\nplan tree - 0 0 2 / 0 0 1 1 2 2 3 3 0 0 1 1 2 2 3 3\nplan stamp\nplan tree - / 0 0 0 0 0 0 0 0 0 0 0 0 0 0 0 0\nbegin\ntick 15 7 4611686018427387904\nclock\nwrite C q-1.z ->\nread d_ p\ngather 15\nemit 0\nhop 1 s15 z3\nhop 1 z3 z2\nturn 9\nbulk 15 7 0\nbulk 0 0 15 18446744073709551615\nmove C 15\nleave d_\nattach d_ 0\npulse 9\nbeat 0 15\nbeatin 15 0 18446744073709551615\nstamp 3\nclose 4\nfall 5\nadvance 15\nhop 3 s15 z0\nkill 1 z3\nkill 3 z0\nend\n";
 
 // A text that begins with the header above.
 fn under_header(alloc: Global, lines: &str) -> Result<Vec<u8>, AllocError> {
@@ -107,7 +107,7 @@ fn good_texts_are_written_back(rt: HostRuntime) -> Result<(), Fail> {
         );
     }
     let live =
-        "saturn 1\nsites 8\ngears 2\nitem x 7\nclient a 0\nplan tree - / 0 0 0 0 0 0 0 0\nbegin\nwrite a x v\nread a x\nend\n";
+        "saturn 1\nsites 8\ngears 2\nitem x 7\nclient a 0\nplan tree - / 0 0 0 0 0 0 0 0\nplan stamp\nbegin\nwrite a x v\nread a x\nmove a 7\nleave a\nattach a 0\nclose 0\nfall 7\nkill 1 z0\nend\n";
     let out = written(alloc, live.as_bytes(), true)?;
     assert!(rt; matches!(&out, Some(out) if out.as_slice() == live.as_bytes()));
     Ok(())
@@ -214,6 +214,16 @@ fn many_names(alloc: Global, word: &[u8], count: u32, last: &[u8]) -> Result<Vec
     Ok(text)
 }
 
+// A script of so many plans.
+fn many_plans(alloc: Global, count: u32) -> Result<Vec<u8>, AllocError> {
+    let mut text = b"saturn 1\nsites 2\ngears 1\n".as_slice().to_vec(alloc)?;
+    for _ in 0..count {
+        text.extend_from_slice(b"plan stamp\n")?;
+    }
+    text.extend_from_slice(b"begin\nend\n")?;
+    Ok(text)
+}
+
 // A text of one long line.
 fn long_line(alloc: Global, length: usize, last: &[u8]) -> Result<Vec<u8>, AllocError> {
     let mut text = Vec::new(alloc);
@@ -268,6 +278,11 @@ fn limits_are_exact(rt: HostRuntime) -> Result<(), Fail> {
             false
         ),
         at(1028, Cause::TooMany)
+    );
+    assert_eq!(rt; fault_of(alloc, &many_plans(alloc, 16)?, false), None);
+    assert_eq!(rt;
+        fault_of(alloc, &many_plans(alloc, 17)?, false),
+        at(20, Cause::TooMany)
     );
     assert_eq!(rt;
         fault_of(alloc, &long_line(alloc, 4096, b"\n")?, false),

@@ -1,8 +1,8 @@
 //! The words of a line.
-ghost use Rattle.std.specs.Prelude.{◌≡◌, true, false, IfOk, MatchOption, map, take};
+ghost use Rattle.std.specs.Prelude.{◌≡◌, [], false, IfOk, MatchOption, map};
 ghost use Rattle.sat_label.specs.Text.{is_between};
 ghost use Rattle.std.specs.List.{list_all};
-ghost use Rattle.sat_script.specs.Words.{is_text, is_token, is_number, is_node, is_serializer, words_of, HasNo, IsCut, IsSeenFront};
+ghost use Rattle.sat_script.specs.Words.{is_text, is_token, is_number, is_node, is_serializer, words_of, HasNo, IsCut, AreFirst};
 
 use crate::number::is_number;
 use arrayvec::ArrayVec;
@@ -30,39 +30,37 @@ pub fn cut_at(byte: u8, text: &[u8]) -> Option<(&[u8], &[u8])>
 /// The first words of a line.
 pub type FirstWords<'a> = ArrayVec<&'a [u8], 6>;
 
-// The length of the front of a text that can be seen.
 #[inline(always)]
-fn seen_front(text: &[u8]) -> usize
-    ensures { IsSeenFront text.now result }
+fn is_visible(byte: u8) -> bool
+    ensures { result ≡ is_between 33 126 byte }
 {
-    for place in 0..text.len() {
-        if !(33 <= text[place] && text[place] <= 126) {
-            return place;
-        }
-    }
-    text.len()
+    33 <= byte && byte <= 126
 }
 
-/// The first six parts of a line between its blanks, or all where there are fewer; None where the line is no text.
+/// Finds the first six parts of a line between its blanks, or all where there are fewer. Whether the line is text.
 /// No act has as many.
 #[inline(always)]
-pub fn first_words(line: &[u8]) -> Option<FirstWords>
-    ensures { MatchOption result (is_text line.now ≡ false) (λ words. (is_text line.now ≡ true) × (map (λ word. word.now) words.items ≡ take 6 (words_of line.now))) }
+pub fn first_words<'a>(line: &'a [u8], words: &mut FirstWords<'a>) -> bool
+    requires { words.old.items ≡ [] }
+    ensures { AreFirst result line.now (map (λ word. word.now) words.new.items) }
 {
-    let mut words = ArrayVec::new();
-    let mut rest = line;
-    for _ in 0..6usize {
-        let (word, more) = rest.split_at(seen_front(rest));
-        words.push(word);
-        let Some((byte, later)) = more.split_first() else {
-            return Some(words);
-        };
-        if *byte != b' ' {
-            return None;
+    let mut start = 0usize;
+    for place in 0..line.len() {
+        let byte = line[place];
+        if is_visible(byte) {
+            continue;
         }
-        rest = later;
+        if byte != b' ' {
+            return false;
+        }
+        words.push(&line[start..place]);
+        start = place + 1;
+        if words.len() == 6 {
+            return is_text(&line[start..]);
+        }
     }
-    if is_text(rest) { Some(words) } else { None }
+    words.push(&line[start..]);
+    true
 }
 
 /// Whether a line has bytes from 32 to 126 only.

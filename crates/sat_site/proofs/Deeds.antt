@@ -1,8 +1,7 @@
 -- What the code read and wrote in an act. Here w is what the code found, and v the same by its name.
-use Rattle.std.specs.Prelude.{◌≡◌, ◌<◌, ◌≤◌, ◌%◌, ◌^◌, ℕ, Bool, true, false, zero, suc, max, List, [], ◌∷◌, ◌++◌, length, map, set, get_or, position, Option, Some, None, MatchOption, refl}
+use Rattle.std.specs.Prelude.{◌≡◌, ◌<◌, ◌≤◌, ◌%◌, ◌^◌, ℕ, Bool, true, false, zero, suc, max, List, [], ◌∷◌, ◌++◌, length, map, set, get_or, if◌then◌else◌, Option, Some, None, MatchOption, refl}
 use Rattle.std.specs.List.{flat_map}
 use Rattle.std.proofs.Common.{subst, ap, sym, ◌∙◌, arith}
-use Rattle.std.proofs.lemmas.List.{get_or_default}
 use Rattle.std.proofs.lemmas.Option.{slice_get_read}
 use Rattle.std.proofs.Common.{Result, Ok, Err}
 use Rattle.std.specs.declared.alloc.AllocError.{AllocError}
@@ -10,33 +9,26 @@ use Rattle.std.specs.Prelude.{IfOk}
 use Rattle.std.proofs.lemmas.Nat.{mod_below}
 use Rattle.sat_label.specs.declared.carried.Carried.{Carried}
 use Rattle.sat_label.specs.declared.label.Label.{Label}
-use Rattle.sat_label.specs.declared.label.Kind.TheVariants.{Update, Move, Pulse, Close}
-use Rattle.sat_label.specs.Words.{has}
-use Rattle.sat_label.specs.Order.{label_eq}
-use Rattle.sat_bulk.specs.declared.Payload.{Payload}
+use Rattle.sat_label.specs.declared.label.Kind.TheVariants.{Update}
 use Rattle.sat_sites.specs.Interested.{keeps, IsLabelOf}
 use Rattle.sat_sites.specs.declared.shape.Shape.{Shape}
 use Rattle.sat_store.specs.declared.store.Version.{Version}
-use Rattle.sat_gear.specs.Gear.{GearSeen, IsGear, IsItemOf, after_tick, after_write, after_show, stamped, is_spent, after_drain, drained_of, version_of}
+use Rattle.sat_gear.specs.Gear.{GearSeen, IsGear, IsItemOf, after_tick, after_write, stamped, is_spent, after_drain, drained_of, version_of}
 use Rattle.sat_sink.specs.Pending.{labels_of, promise_of, least}
-use Rattle.sat_sink.specs.Sink.{Sink, after_emit_of, after_gather, ready_of, stable_of, after_emit}
+use Rattle.sat_sink.specs.Sink.{Sink, after_emit_of, after_gather, may_pulse, pulse_of, ready_of, stable_of, after_emit}
 use Rattle.sat_act.specs.declared.answer.Answer.{Answer}
 use Rattle.sat_act.specs.declared.answer.Answer.TheVariants as ans
 use Rattle.sat_act.specs.declared.answer.Refusal.TheVariants as why
-use Rattle.sat_act.specs.Parts.{is_update}
-use Rattle.sat_machine.specs.Look.{label_of}
 use Rattle.sat_site.specs.declared.input.SiteInput as code
 use Rattle.sat_site.specs.declared.input.SiteInput.TheVariants as input
-use Rattle.sat_bulk.specs.Windows.{Numbers, after_take, has_number}
-use Rattle.sat_epoch.specs.Epochs.{Epochs, after_hear, in_stamp}
+use Rattle.sat_epoch.specs.declared.views.CloseFault.{CloseFault}
+use Rattle.sat_epoch.specs.Epochs.{close_fault}
 use Rattle.sat_site.specs.Inputs.{fits_in}
-use Rattle.sat_site.specs.Seen.{SiteSeen, AreGears, bears, IsSite, IsGearAt, IsGuest, IsUpdateHere, lane_place, no_numbers, window_of}
-use Rattle.sat_site.specs.Changes.{with_gear, gathered_all, ticked_to, fresh_of, IsTaken, HasGear}
-use Rattle.sat_site.specs.Gives.{IsLeaving, HasTarget}
-use Rattle.sat_site.specs.Does.{WritesAt, gear_spends, gear_writes, Does, ticks, gathers, idles, emits, stamps, turning, brings, Writes, spends, writes, Reads, reads_none, reads, Turns, turns_none, takes, hears, lacks, shows}
-use Rattle.sat_site.specs.SiteSteps.{keeps_item}
-use Rattle.sat_site.proofs.Sound.{with-gear-site, ticked-gear, wrote-gear, shown-gear, gathered-site, sent-site, ready-here, label-here, brought-site, showed-site, clocked-site}
-use Rattle.sat_site.proofs.Turns.{guest-item}
+use Rattle.sat_site.specs.Seen.{SiteSeen, AreGears, IsSite, IsGearAt}
+use Rattle.sat_site.specs.Changes.{with_gear, counts_of, gathered_all, ticked_to, fresh_of, HasGear}
+use Rattle.sat_site.specs.Does.{WritesAt, gear_spends, gear_writes, Does, ticks, gathers, idles, emits, Writes, spends, writes, Reads, reads_none, reads}
+use Rattle.sat_site.specs.SiteSteps.{close_label, keeps_item, next_close, next_pulse}
+use Rattle.sat_site.proofs.Sound.{with-gear-site, ticked-gear, wrote-gear, gathered-site, sent-site, ready-here, label-here, pulse-here, close-here, cut-site, clocked-site}
 
 pub at-place : (x : SiteSeen) (g : ℕ) (gear : GearSeen) → g < length x.gears → gear ≡ get_or x.gears g gear → HasGear x g gear
 at-place x g gear lt e = slice_get_read x.gears (length x.gears) g gear refl lt e
@@ -45,7 +37,7 @@ at-place x g gear lt e = slice_get_read x.gears (length x.gears) g gear refl lt 
 
 pub tick-site : (w : SiteSeen) (g t : ℕ) (gear new : GearSeen) → IsSite w → g < length w.gears → gear ≡ get_or w.gears g gear → new ≡ after_tick gear t → IsGear new → IsSite (with_gear w g new)
 tick-site w g t gear new k lt e f good =
-    with-gear-site w g new k (subst (IsGearAt w.shape w.sink g) (sym f) (ticked-gear w.shape w.sink g t gear (k.gears g gear (at-place w g gear lt e)))) good
+    with-gear-site w g new k (subst (IsGearAt w.shape w.sink g) (sym f) (ticked-gear w.shape w.sink g t gear (k.gears.each g gear (at-place w g gear lt e)))) good
 
 pub did-tick : (w v : SiteSeen) (g t r : ℕ) (gear new : GearSeen) → w ≡ v → g < length w.gears → gear ≡ get_or w.gears g gear → r ≡ max gear.promise t → new ≡ after_tick gear t → Does v (input.Tick g t) (ans.Ticked r) (with_gear w g new)
 did-tick w v g t r gear new same lt e f h =
@@ -57,7 +49,7 @@ did-tick w v g t r gear new same lt e f h =
 
 pub item-here : (w : SiteSeen) (g n : ℕ) (gear : GearSeen) → IsSite w → g < length w.gears → gear ≡ get_or w.gears g gear → n < length w.shape.interest.replicas → keeps_item w n ≡ true → g ≡ n % w.shape.gears → IsItemOf gear n
 item-here w g n gear k lt e item here f =
-    let a : IsGearAt w.shape w.sink g gear = k.gears g gear (at-place w g gear lt e) in
+    let a : IsGearAt w.shape w.sink g gear = k.gears.each g gear (at-place w g gear lt e) in
     record {
       item = subst (λ (s : Shape). n < length s.interest.replicas) (sym a.shape) item;
       gear = subst (λ (s : Shape). n % s.gears ≡ gear.gear) (sym a.shape) (sym f ∙ sym a.number);
@@ -68,7 +60,7 @@ pub write-site : (w : SiteSeen) (g n : ℕ) (seen : Carried) (value : List ℕ) 
     l ≡ stamped gear seen.point (Update n) → new ≡ after_write gear n (record { label = l; value = value }) → IsGear new → IsSite (with_gear w g new)
 write-site w g n seen value gear new l k lt e good item here f q r fine =
     let whole : new ≡ after_write gear n (record { label = stamped gear seen.point (Update n); value = value }) = r ∙ ap (λ (l : Label). after_write gear n (record { label = l; value = value })) q in
-    with-gear-site w g new k (subst (IsGearAt w.shape w.sink g) (sym whole) (wrote-gear w.shape w.sink g n gear seen.point value good (k.gears g gear (at-place w g gear lt e)) item (sym f) here)) fine
+    with-gear-site w g new k (subst (IsGearAt w.shape w.sink g) (sym whole) (wrote-gear w.shape w.sink g n gear seen.point value good (k.gears.each g gear (at-place w g gear lt e)) item (sym f) here)) fine
 
 pub did-write : (w v : SiteSeen) (g n : ℕ) (seen : Carried) (value : List ℕ) (gear new : GearSeen) (l : Label) → w ≡ v → g < length w.gears → gear ≡ get_or w.gears g gear → IsGear gear → keeps_item w n ≡ true → g ≡ n % w.shape.gears → is_spent gear seen.point ≡ false →
     l ≡ stamped gear seen.point (Update n) → new ≡ after_write gear n (record { label = l; value = value }) → Writes v seen n value (ans.Wrote l) (with_gear w g new)
@@ -119,16 +111,17 @@ did-writes w v g n seen value gear new r same lt e good here f (gear_writes a) =
 
 -- ---- gather
 
-pub gather-site : (w : SiteSeen) (gears : List GearSeen) (s : Sink) → IsSite w → gears ≡ map after_drain w.gears → s ≡ after_gather w.sink (map drained_of w.gears) → AreGears gears → IsSite (record w { gears = gears; sink = s })
-gather-site w gears s k e f good = subst (λ (q : SiteSeen). IsSite q) (λ j. record w { gears = sym e j; sink = sym f j }) (gathered-site w k (subst AreGears e good))
+pub gather-site : (w : SiteSeen) (gears : List GearSeen) (s : Sink) (counts : List (List ℕ)) → IsSite w → gears ≡ map after_drain w.gears → s ≡ after_gather w.sink (map drained_of w.gears) → counts ≡ map counts_of (map drained_of w.gears) → AreGears gears →
+    IsSite (record w { gears = gears; sink = s; counts = counts })
+gather-site w gears s counts k e f c good = subst (λ (q : SiteSeen). IsSite q) (λ j. record w { gears = sym e j; sink = sym f j; counts = sym c j }) (gathered-site w k (subst AreGears e good))
 
-pub did-gather : (w v : SiteSeen) (gears : List GearSeen) (s : Sink) (n t : ℕ) → w ≡ v → gears ≡ map after_drain w.gears → s ≡ after_gather w.sink (map drained_of w.gears) → n ≡ length (flat_map labels_of (map drained_of w.gears)) → t ≡ stable_of s →
-    Does v input.Gather (ans.Gathered n t) (record w { gears = gears; sink = s })
-did-gather w v gears s n t same e f h q =
+pub did-gather : (w v : SiteSeen) (gears : List GearSeen) (s : Sink) (counts : List (List ℕ)) (n t : ℕ) → w ≡ v → gears ≡ map after_drain w.gears → s ≡ after_gather w.sink (map drained_of w.gears) → counts ≡ map counts_of (map drained_of w.gears) →
+    n ≡ length (flat_map labels_of (map drained_of w.gears)) → t ≡ stable_of s → Does v input.Gather (ans.Gathered n t) (record w { gears = gears; sink = s; counts = counts })
+did-gather w v gears s counts n t same e f c h q =
     let count : n ≡ length (flat_map fresh_of w.gears) = h ∙ ap (λ (ls : List Label). length ls) (sym (all-labels w.gears)) in
     let low : t ≡ least (map promise_of (map drained_of w.gears)) = q ∙ ap stable_of f in
-    subst (λ (x : SiteSeen). Does x input.Gather (ans.Gathered n t) (record w { gears = gears; sink = s })) same
-    (subst (λ (y : SiteSeen). Does w input.Gather (ans.Gathered n t) y) (λ j. record w { gears = sym e j; sink = sym f j })
+    subst (λ (x : SiteSeen). Does x input.Gather (ans.Gathered n t) (record w { gears = gears; sink = s; counts = counts })) same
+    (subst (λ (y : SiteSeen). Does w input.Gather (ans.Gathered n t) y) (λ j. record w { gears = sym e j; sink = sym f j; counts = sym c j })
     (subst (λ (r : Answer). Does w input.Gather r (gathered_all w)) (λ j. ans.Gathered (sym count j) (sym low j)) gathers))
   where
     all-labels : (gears : List GearSeen) → flat_map fresh_of gears ≡ flat_map labels_of (map drained_of gears)
@@ -148,89 +141,42 @@ emitted-is : (w : SiteSeen) (s : Sink) (o : Option Label) (l : Label) → o ≡ 
 emitted-is w s o l e f h = h ∙ ap (λ (o : Option Label). elim o [ None ↦ w.sink | Some l ↦ after_emit_of w.sink l ]) (sym e ∙ f)
 
 pub emit-site : (w : SiteSeen) (s : Sink) (o : Option Label) (l : Label) → IsSite w → o ≡ ready_of w.sink → o ≡ Some l → s ≡ after_emit w.sink → IsSite (record w { sink = s })
-emit-site w s o l k e f h = subst (λ (t : Sink). IsSite (record w { sink = t })) (sym (emitted-is w s o l e f h)) (sent-site w l k)
+emit-site w s o l k e f h = subst (λ (t : Sink). IsSite (record w { sink = t })) (sym (emitted-is w s o l e f h)) (sent-site w l k (ready-here w l k (sym e ∙ f)).site)
 
-pub emit-label : (w : SiteSeen) (o : Option Label) (l : Label) → IsSite w → o ≡ ready_of w.sink → o ≡ Some l → IsLabelOf w.shape.interest l
-emit-label w o l k e f = label-here w l k (ready-here w l k (sym e ∙ f))
+-- the labels that the site may send
+pub emit-label : (w v : SiteSeen) (o : Option Label) → w ≡ v → IsSite w → o ≡ ready_of w.sink → (l : Label) → o ≡ Some l → IsLabelOf v.shape.interest l
+emit-label w v o same k e l f = subst (λ (x : SiteSeen). IsLabelOf x.shape.interest l) same (label-here w l k (ready-here w l k (sym e ∙ f)))
 
-pub leaving : (w : SiteSeen) (l : Label) → IsSite w → IsUpdateHere w.shape l → HasTarget w.shape l → IsLeaving w.shape l
-leaving w l k u t = record { label = label-here w l k u; own = u.site; update = (u.item.0, u.item.1); target = t }
+pub pulse-label : (x : SiteSeen) (o : Option Label) → IsSite x → o ≡ next_pulse x.sink → (l : Label) → o ≡ Some l → IsLabelOf x.shape.interest l
+pulse-label x o k e l f = go (may_pulse x.sink) (sym e ∙ f)
+  where
+    go : (b : Bool) → (if b then Some (pulse_of x.sink) else None) ≡ Some l → IsLabelOf x.shape.interest l
+    go true e = let same : pulse_of x.sink ≡ l = cc in subst (IsLabelOf x.shape.interest) same (pulse-here x k)
+    go false e = absurd (cc)
+
+pub close-label : (x : SiteSeen) (o : Option Label) → IsSite x → o ≡ next_close (close_fault x.views) x → (l : Label) → o ≡ Some l → IsLabelOf x.shape.interest l
+close-label x o k e l f = go (close_fault x.views) (sym e ∙ f)
+  where
+    go : (c : Option CloseFault) → next_close c x ≡ Some l → IsLabelOf x.shape.interest l
+    go (Some c) e = absurd (cc)
+    go None e = let same : close_label x ≡ l = cc in subst (IsLabelOf x.shape.interest) same (close-here x k (cut-site x k))
 
 pub did-emit : (w v : SiteSeen) (s : Sink) (o : Option Label) (l : Label) → w ≡ v → o ≡ ready_of w.sink → o ≡ Some l → s ≡ after_emit w.sink → Does v input.Emit (ans.Emitted l) (record w { sink = s })
 did-emit w v s o l same e f h =
     subst (λ (x : SiteSeen). Does x input.Emit (ans.Emitted l) (record w { sink = s })) same
     (subst (λ (t : Sink). Does w input.Emit (ans.Emitted l) (record w { sink = t })) (sym (emitted-is w s o l e f h)) (emits (sym e ∙ f)))
 
--- ---- turn
-
-pub did-lack : (w v : SiteSeen) (l : Label) (n : ℕ) (ps : List Payload) → w ≡ v → l.kind ≡ Update n → has label_eq (map label_of w.waiting) l ≡ false → position (bears l) w.waiting ≡ None → ps ≡ w.waiting → Turns v (Some l) (ans.Refused (why.NoPayload l)) (record w { waiting = ps })
-did-lack w v l n ps same kind none nowhere e =
-    subst (λ (x : SiteSeen). Turns x (Some l) (ans.Refused (why.NoPayload l)) (record w { waiting = ps })) same
-    (subst (λ (y : SiteSeen). Turns w (Some l) (ans.Refused (why.NoPayload l)) y) (λ j. record w { waiting = sym e j }) (lacks l (ap is_update kind) none nowhere))
-
-pub guest-of : (w : SiteSeen) (l : Label) (n : ℕ) (p : Payload) (qs : List Payload) → IsSite w → l.kind ≡ Update n → IsTaken w.waiting l p qs → (n < length w.shape.interest.replicas) × (keeps_item w n ≡ true)
-guest-of w l n p qs k kind taken = guest-item w.shape p n (k.waiting taken.place p taken.at) (ap (λ (l : Label). l.kind) taken.label ∙ kind)
-
-pub show-item : (w : SiteSeen) (g n : ℕ) (l : Label) (p : Payload) (ps qs : List Payload) (gear : GearSeen) → IsSite w → g < length w.gears → gear ≡ get_or w.gears g gear → n < length w.shape.interest.replicas → keeps_item w n ≡ true → g ≡ n % w.shape.gears → l.kind ≡ Update n → IsTaken ps l p qs →
-    (x : ℕ) × (p.label.kind ≡ Update x) × IsItemOf gear x
-show-item w g n l p ps qs gear k lt e item here f kind taken = (n, ap (λ (l : Label). l.kind) taken.label ∙ kind, item-here w g n gear k lt e item here f)
-
-pub show-site : (w : SiteSeen) (g n : ℕ) (l : Label) (p : Payload) (qs : List Payload) (gear new : GearSeen) → IsSite w → g < length w.gears → gear ≡ get_or w.gears g gear → IsGear gear → n < length w.shape.interest.replicas → keeps_item w n ≡ true → g ≡ n % w.shape.gears → l.kind ≡ Update n →
-    IsTaken w.waiting l p qs → ((x : ℕ) → p.label.kind ≡ Update x → new ≡ after_show gear x p) → IsGear new → IsSite (record w { gears = set w.gears g new; waiting = qs })
-show-site w g n l p qs gear new k lt e good item here f kind taken h fine =
-    let whole : new ≡ after_show gear n p = h n (ap (λ (l : Label). l.kind) taken.label ∙ kind) in
-    subst IsSite (λ j. record w { gears = set w.gears g new; waiting = sym taken.rest j })
-    (showed-site w g taken.place new k (subst (IsGearAt w.shape w.sink g) (sym whole) (shown-gear w.shape w.sink g n gear p good (k.gears g gear (at-place w g gear lt e)) item (sym f) here)) fine)
-
-pub did-show : (w v : SiteSeen) (g n : ℕ) (l : Label) (p : Payload) (qs : List Payload) (gear new : GearSeen) → w ≡ v → g < length w.gears → gear ≡ get_or w.gears g gear → IsGear gear → g ≡ n % w.shape.gears → l.kind ≡ Update n →
-    IsTaken w.waiting l p qs → ((x : ℕ) → p.label.kind ≡ Update x → new ≡ after_show gear x p) → Turns v (Some l) (ans.Shown l) (record w { gears = set w.gears g new; waiting = qs })
-did-show w v g n l p qs gear new same lt e good f kind taken h =
-    let whole : new ≡ after_show gear n p = h n (ap (λ (l : Label). l.kind) taken.label ∙ kind) in
-    subst (λ (x : SiteSeen). Turns x (Some l) (ans.Shown l) (record w { gears = set w.gears g new; waiting = qs })) same
-    (subst (λ (y : SiteSeen). Turns w (Some l) (ans.Shown l) y) (λ j. record w { gears = set w.gears (sym f j) (sym whole j); waiting = sym taken.rest j })
-    (shows l taken.place p gear n kind taken.label taken.at (subst (λ (g : ℕ). HasGear w g gear) f (at-place w g gear lt e)) good taken.first))
-
--- ---- close
-
-pub did-hear : (w v : SiteSeen) (l : Label) (epoch : ℕ) (views : Epochs) → w ≡ v → l.kind ≡ Close epoch → views ≡ after_hear w.views l.point.site → Turns v (Some l) (ans.Took l) (record w { views = views })
-did-hear w v l epoch views same kind e =
-    subst (λ (x : SiteSeen). Turns x (Some l) (ans.Took l) (record w { views = views })) same
-    (subst (λ (q : Epochs). Turns w (Some l) (ans.Took l) (record w { views = q })) (sym e) (hears l epoch kind))
-
--- ---- bulk
-
-pub bring-site : (w v : SiteSeen) (from gear place n : ℕ) (new : Numbers) (p : Payload) (ps : List Payload) → w ≡ v → IsSite w → IsGuest v.shape p → place ≡ lane_place v.shape from gear → new ≡ after_take (get_or w.windows place no_numbers) n → ps ≡ w.waiting ++ p ∷ [] →
-    IsSite (record w { windows = set w.windows place new; waiting = ps })
-bring-site w v from gear place n new p ps same k guest e f h =
-    let at : place ≡ lane_place w.shape from gear = e ∙ ap (λ (x : SiteSeen). lane_place x.shape from gear) (sym same) in
-    let next : new ≡ after_take (window_of w from gear) n = f ∙ ap (λ (m : ℕ). after_take (get_or w.windows m no_numbers) n) at in
-    subst IsSite (λ j. record w { windows = set w.windows (sym at j) (sym next j); waiting = sym h j }) (brought-site w from gear n p k (subst (λ (x : SiteSeen). IsGuest x.shape p) (sym same) guest))
-
-pub did-bring : (w v : SiteSeen) (from gear place n : ℕ) (new : Numbers) (p : Payload) (ps : List Payload) → w ≡ v → has_number (window_of v from gear) n ≡ false → place ≡ lane_place v.shape from gear → new ≡ after_take (get_or w.windows place no_numbers) n → ps ≡ w.waiting ++ p ∷ [] →
-    Does v (input.Bulk from gear n p) (ans.Brought p.label) (record w { windows = set w.windows place new; waiting = ps })
-did-bring w v from gear place n new p ps same free e f h =
-    let at : place ≡ lane_place w.shape from gear = e ∙ ap (λ (x : SiteSeen). lane_place x.shape from gear) (sym same) in
-    let next : new ≡ after_take (window_of w from gear) n = f ∙ ap (λ (m : ℕ). after_take (get_or w.windows m no_numbers) n) at in
-    subst (λ (x : SiteSeen). Does x (input.Bulk from gear n p) (ans.Brought p.label) (record w { windows = set w.windows place new; waiting = ps })) same
-    (subst (λ (y : SiteSeen). Does w (input.Bulk from gear n p) (ans.Brought p.label) y) (λ j. record w { windows = set w.windows (sym at j) (sym next j); waiting = sym h j })
-    (brings (subst (λ (x : SiteSeen). has_number (window_of x from gear) n ≡ false) (sym same) free)))
-
--- the window that took a number, by its place
-pub window-taken : (w v : SiteSeen) (place n : ℕ) (old new : Numbers) → w ≡ v → place < length v.windows → old ≡ get_or w.windows place old → new ≡ after_take old n → new ≡ after_take (get_or w.windows place no_numbers) n
-window-taken w v place n old new same lt e f =
-    f ∙ ap (λ (q : Numbers). after_take q n) (e ∙ get_or_default w.windows place old no_numbers (subst (λ (x : SiteSeen). place < length x.windows) (sym same) lt))
-
 -- ---- numbers within their tables
 
 pub within-gears : (w v : SiteSeen) (g : ℕ) → w ≡ v → IsSite w → g < v.shape.gears → g < length w.gears
-within-gears w v g same k lt = subst (λ (n : ℕ). g < n) ((λ j. (sym same j).shape.gears) ∙ sym k.count) lt
+within-gears w v g same k lt = subst (λ (n : ℕ). g < n) ((λ j. (sym same j).shape.gears) ∙ sym k.gears.count) lt
 
 pub item-gear : (w v : SiteSeen) (g n : ℕ) → w ≡ v → IsSite w → g ≡ n % v.shape.gears → g < length w.gears
 item-gear w v g n same k e =
     let f : g ≡ n % w.shape.gears = e ∙ (λ j. n % (sym same j).shape.gears) in
     let pos : 0 < w.shape.gears = k.shape.gears in
     let lt : g < w.shape.gears = subst (λ (m : ℕ). m < w.shape.gears) (sym f) (mod_below n w.shape.gears pos) in
-    subst (λ (m : ℕ). g < m) (sym k.count) lt
+    subst (λ (m : ℕ). g < m) (sym k.gears.count) lt
 
 pub item-of-gear : (w v : SiteSeen) (g n : ℕ) → w ≡ v → g ≡ n % v.shape.gears → g ≡ n % w.shape.gears
 item-of-gear w v g n same e = e ∙ (λ j. n % (sym same j).shape.gears)
@@ -256,7 +202,7 @@ raise-site w gears t k e good = subst IsSite (λ j. record w { gears = sym e j }
 
 pub read-item : (x : SiteSeen) (g n : ℕ) (gear : GearSeen) → IsSite x → g ≡ n % x.shape.gears → HasGear x g gear → n < length x.shape.interest.replicas → keeps_item x n ≡ true → IsItemOf gear n
 read-item x g n gear k e at item here =
-    let a : IsGearAt x.shape x.sink g gear = k.gears g gear at in
+    let a : IsGearAt x.shape x.sink g gear = k.gears.each g gear at in
     record {
       item = subst (λ (s : Shape). n < length s.interest.replicas) (sym a.shape) item;
       gear = subst (λ (s : Shape). n % s.gears ≡ gear.gear) (sym a.shape) (sym e ∙ sym a.number);
@@ -269,22 +215,7 @@ did-read-none x g n gear e at here none = reads_none gear here (subst (λ (g : �
 pub did-read : (x : SiteSeen) (g n : ℕ) (gear : GearSeen) (v : Version) (value : List ℕ) → g ≡ n % x.shape.gears → HasGear x g gear → keeps_item x n ≡ true → version_of gear n ≡ Some v → value ≡ v.value → Reads x n (ans.ReadSome v.label value)
 did-read x g n gear v value e at here some f = subst (λ (value : List ℕ). Reads x n (ans.ReadSome v.label value)) (sym f) (reads gear v here (subst (λ (g : ℕ). HasGear x g gear) e at) some)
 
--- ---- the front
-
-pub did-turn-none : (x : SiteSeen) (front : Option Label) → front ≡ None → Turns x front (ans.Refused why.Empty) x
-did-turn-none x front e = subst (λ (o : Option Label). Turns x o (ans.Refused why.Empty) x) (sym e) turns_none
-
-pub did-move : (x : SiteSeen) (front : Option Label) (l : Label) (k : ℕ) → front ≡ Some l → l.kind ≡ Move k → Turns x front (ans.Took l) x
-did-move x front l k e f = subst (λ (o : Option Label). Turns x o (ans.Took l) x) (sym e) (takes l (ap is_update f) (λ n same. (let clash : Move k ≡ Close n = sym f ∙ same in cc)))
-
-pub did-pulse : (x : SiteSeen) (front : Option Label) (l : Label) → front ≡ Some l → l.kind ≡ Pulse → Turns x front (ans.Took l) x
-did-pulse x front l e f = subst (λ (o : Option Label). Turns x o (ans.Took l) x) (sym e) (takes l (ap is_update f) (λ n same. (let clash : Pulse ≡ Close n = sym f ∙ same in cc)))
-
-pub did-stamp : (w v : SiteSeen) (front : Option Label) (b : Bool) → w ≡ v → b ≡ in_stamp w.views → b ≡ true → Does v (input.Turn front) (ans.Refused why.StampOrder) v
-did-stamp w v front b same e f = subst (λ (x : SiteSeen). Does x (input.Turn front) (ans.Refused why.StampOrder) x) same (stamps (sym e ∙ f))
-
-pub did-turn-by : (w v y : SiteSeen) (front : Option Label) (r : Answer) (b : Bool) → w ≡ v → b ≡ in_stamp w.views → b ≡ false → Turns v front r y → Does v (input.Turn front) r y
-did-turn-by w v y front r b same e f t = turning (ap (λ (x : SiteSeen). in_stamp x.views) (sym same) ∙ (sym e ∙ f)) t
+-- ---- inputs
 
 pub by-input : (x y : SiteSeen) (g h : code.SiteInput) (r : Answer) → g ≡ h → Does x h r y → Does x g r y
 by-input x y g h r e k = subst (λ (g : code.SiteInput). Does x g r y) (sym e) k

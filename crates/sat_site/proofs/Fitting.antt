@@ -1,8 +1,17 @@
 -- What fits: what the code uses of it, and that it is what the machine asks.
-use Rattle.std.specs.Prelude.{◌≡◌, ◌<◌, ◌≤◌, ◌^◌, ℕ, Bool, true, false, ◌&&◌, ◌||◌, not, ◌==◌, nat_lt, List, [], ◌∷◌, length, map, Option, Some, None, refl}
-use Rattle.std.specs.List.{list_any}
-use Rattle.std.proofs.Common.{subst, ap, sym, ◌∙◌}
-use Rattle.std.proofs.lemmas.Bool.{and_parts, not-true, ltb-true, leb-true, eqb-true}
+use Rattle.std.specs.Prelude.{◌≡◌, ◌<◌, ◌≤◌, ◌+◌, ◌-◌, ◌^◌, ℕ, Bool, true, false, ◌&&◌, ◌||◌, not, ◌==◌, nat_le, nat_lt, List, [], ◌∷◌, length, map, slice_get, Option, Some, None, is_none, if◌then◌else◌, refl}
+use Rattle.std.specs.List.{list_all, list_any}
+use Rattle.std.proofs.Common.{subst, ap, sym, ◌∙◌, arith, inl, inr}
+use Rattle.std.proofs.lemmas.Bool.{and_parts, or_left, or_right, or_cases, not-true, ltb-true, leb-true, eqb-true, ne_eqb}
+use Rattle.sat_label.specs.Members.{In}
+use Rattle.sat_label.specs.Words.{below}
+use Rattle.sat_label.proofs.Orders.{same-point}
+use Rattle.sat_beat.specs.declared.Beat.{Beat}
+use Rattle.sat_pool.specs.Pool.{waiting_at}
+use Rattle.sat_pool.proofs.Members.{found-in, in-found}
+use Rattle.sat_proxy.specs.Proxy.{close_in, note_of, window_of}
+use Rattle.sat_site.proofs.Equals.{point_eq-self}
+use Rattle.sat_site.proofs.Parts.{count-is, sites-are}
 use Rattle.sat_label.specs.declared.carried.Carried.{Carried}
 use Rattle.sat_label.specs.declared.label.Kind.{Kind}
 use Rattle.sat_label.specs.declared.label.Kind.TheVariants.{Update, Move, Pulse, Close}
@@ -14,15 +23,15 @@ use Rattle.sat_bulk.specs.Windows.{has_number}
 use Rattle.sat_sites.specs.Interested.{keeps}
 use Rattle.sat_sites.specs.declared.shape.Shape.{Shape}
 use Rattle.sat_act.specs.Deployed.{Deployed}
-use Rattle.sat_machine.specs.Fits.{fits, is_time, is_site, is_gear, is_item, is_other, is_carried, is_kind, is_kept_kind, is_new_point, is_bulk}
+use Rattle.sat_machine.specs.Fits.{fits, is_time, is_site, is_gear, is_item, is_other, is_carried, is_kind, is_kept_kind, is_new_point, is_bulk, is_note, is_point}
 use Rattle.sat_machine.specs.Look.{label_of, waiting_of}
 use Rattle.sat_machine.specs.State.{SiteState}
 use Rattle.sat_site.specs.declared.input.SiteInput as code
 use Rattle.sat_site.specs.declared.input.SiteInput.TheVariants as input
 use Rattle.sat_site.specs.Changes.{shape_for}
-use Rattle.sat_site.specs.Inputs.{fits_here, fits_in, input_of, is_small, is_gear_here, is_item_here, is_other_here, is_carried_here, is_kind_here, is_front_here, is_kept_here, is_guest_here, is_bulk_here, point_waits, IsFront}
+use Rattle.sat_site.specs.Inputs.{fits_here, fits_in, input_of, is_beat_here, is_counted, is_cut_here, is_goal_here, is_point_here, is_site_here, is_sized, is_gear_here, is_item_here, is_other_here, is_carried_here, is_kind_here, is_front_here, is_kept_here, is_guest_here, is_bulk_here, BulkFits, IsFront}
 use Rattle.sat_site.specs.Laws.{EachFits}
-use Rattle.sat_site.specs.Seen.{SiteSeen, IsGuest, window_of}
+use Rattle.sat_site.specs.Seen.{SiteSeen, IsSite}
 use Rattle.sat_site.specs.Stands.{StandsSite}
 use Rattle.sat_site.proofs.Interests.{keeps-is, items-are}
 
@@ -59,27 +68,23 @@ unfolding fits_here
 fits-turn x None e l same = absurd (cc)
 fits-turn x (Some m) e l same = let q : m ≡ l = cc in subst (IsFront x) q (front-fits x m (and_parts (is_front_here x.shape x.views.view m) true e).0)
 
--- a payload of a lane that fits
-pub record BulkFits (x : SiteSeen) (from gear n : ℕ) (p : Payload) : Type 0 where
-  pub sender : from < x.shape.sites
-  pub number : gear < x.shape.gears
-  pub small : n < 2 ^ 63
-  pub guest : IsGuest x.shape p
-  pub alone : has_number (window_of x from gear) n ≡ false → point_waits x.waiting p.label.point ≡ false
-
 kept-kind : (shape : Shape) (kind : Kind) → is_kept_here shape kind ≡ true → (n : ℕ) × (kind ≡ Update n) × (n < length shape.interest.replicas) × (keeps shape.interest n shape.site ≡ true)
 kept-kind shape (Update n) e = let w = and_parts (is_item_here shape n) (keeps shape.interest n shape.site) e in (n, refl, ltb-true n (length shape.interest.replicas) w.0, w.1)
 kept-kind shape (Move j) e = absurd (cc)
 kept-kind shape Pulse e = absurd (cc)
 kept-kind shape (Close n) e = absurd (cc)
 
+none-there : (o : Option Payload) → is_none o ≡ true → o ≡ None
+none-there None e = refl
+none-there (Some p) e = absurd (cc)
+
 pub fits-bulk : (x : SiteSeen) (from gear number : ℕ) (p : Payload) → fits_in x (input.Bulk from gear number p) ≡ true → BulkFits x from gear number p
 unfolding fits_here
 fits-bulk x from gear number p e =
-    let w = and_parts (is_bulk_here x.shape (window_of x from gear) x.waiting from gear number p) (nat_lt number (2 ^ 63)) e in
-    let v = and_parts (is_other_here x.shape from && is_gear_here x.shape gear) (is_guest_here x.shape from p.label && (has_number (window_of x from gear) number || not (point_waits x.waiting p.label.point))) w.0 in
+    let w = and_parts (is_bulk_here x.shape x.proxy from gear number p) (nat_lt number (2 ^ 63)) e in
+    let v = and_parts (is_other_here x.shape from && is_gear_here x.shape gear) (is_guest_here x.shape from p.label && (has_number (window_of x.proxy from gear) number || is_none (waiting_at x.proxy.pool p.label.point))) w.0 in
     let u = and_parts (is_other_here x.shape from) (is_gear_here x.shape gear) v.0 in
-    let t = and_parts (is_guest_here x.shape from p.label) (has_number (window_of x from gear) number || not (point_waits x.waiting p.label.point)) v.1 in
+    let t = and_parts (is_guest_here x.shape from p.label) (has_number (window_of x.proxy from gear) number || is_none (waiting_at x.proxy.pool p.label.point)) v.1 in
     let g = and_parts (is_time p.label.point.ts && (p.label.point.site == from)) (is_kept_here x.shape p.label.kind) t.0 in
     let lt : from < x.shape.sites = ltb-true from x.shape.sites (and_parts (nat_lt from x.shape.sites) (not (from == x.shape.site)) u.0).0 in
     let own : p.label.point.site ≡ from = eqb-true p.label.point.site from (and_parts (is_time p.label.point.ts) (p.label.point.site == from) g.0).1 in
@@ -87,9 +92,38 @@ fits-bulk x from gear number p e =
       sender = lt;
       number = ltb-true gear x.shape.gears u.1;
       small = ltb-true number (2 ^ 63) w.1;
+      made = own;
       guest = record { item = kept-kind x.shape p.label.kind g.1; from = subst (λ (k : ℕ). k < x.shape.sites) (sym own) lt };
-      alone = λ new. not-true (point_waits x.waiting p.label.point) (subst (λ (b : Bool). (b || not (point_waits x.waiting p.label.point)) ≡ true) new t.1);
+      alone = λ new. none-there (waiting_at x.proxy.pool p.label.point) (subst (λ (b : Bool). (b || is_none (waiting_at x.proxy.pool p.label.point)) ≡ true) new t.1);
     }
+
+carried-site : (x : SiteSeen) (seen : Carried) → is_carried_here x.shape seen ≡ true → seen.point.site < x.shape.sites
+carried-site x seen e =
+    let w = and_parts (is_point_here x.shape seen.point) (is_goal_here x.shape seen.moving) e in
+    ltb-true seen.point.site x.shape.sites (and_parts (is_time seen.point.ts) (is_site_here x.shape seen.point.site) w.0).1
+
+pub fits-move : (x : SiteSeen) (seen : Carried) (j : ℕ) → fits_in x (input.Move seen j) ≡ true → j < x.shape.sites
+unfolding fits_here
+fits-move x seen j e = ltb-true j x.shape.sites (and_parts (is_carried_here x.shape seen) (is_site_here x.shape j) (and_parts (fits_here x (input.Move seen j)) true e).0).1
+
+pub fits-attach : (x : SiteSeen) (seen : Carried) → fits_in x (input.Attach seen) ≡ true → seen.point.site < x.shape.sites
+unfolding fits_here
+fits-attach x seen e = carried-site x seen (and_parts (fits_here x (input.Attach seen)) true e).0
+
+pub fits-beat : (x : SiteSeen) (j : ℕ) → fits_in x (input.Beat j) ≡ true → j < x.shape.sites
+unfolding fits_here
+fits-beat x j e = ltb-true j x.shape.sites (and_parts (nat_lt j x.shape.sites) (not (j == x.shape.site)) (and_parts (fits_here x (input.Beat j)) true e).0).0
+
+-- a beat that comes has one count for each gear
+pub fits-beat-in : (x : SiteSeen) (from n : ℕ) (beat : Beat) → fits_in x (input.BeatIn from n beat) ≡ true → (from < x.shape.sites) × (length beat.counts ≡ x.shape.gears)
+unfolding fits_here
+fits-beat-in x from n beat e =
+    let w = and_parts (is_other_here x.shape from && is_beat_here x.shape (length x.views.stamp) beat) (nat_lt n (2 ^ 63) && is_counted x beat) e in
+    let v = and_parts (is_other_here x.shape from) (is_beat_here x.shape (length x.views.stamp) beat) w.0 in
+    let u = and_parts (nat_lt n (2 ^ 63)) (is_counted x beat) w.1 in (
+      ltb-true from x.shape.sites (and_parts (nat_lt from x.shape.sites) (not (from == x.shape.site)) v.0).0,
+      eqb-true (length beat.counts) x.shape.gears (and_parts (length beat.counts == x.shape.gears) (nat_le (length beat.closes) (length x.views.stamp)) u.1).0,
+    )
 
 -- ---- what the machine asks
 
@@ -108,37 +142,84 @@ kept-is d i (Move j) = refl
 kept-is d i Pulse = refl
 kept-is d i (Close e) = refl
 
-any-point : (ps : List Payload) (q : Point) → point_waits ps q ≡ list_any (λ l. point_eq l.point q) (map label_of ps)
-any-point [] q = refl
-any-point (p ∷ ps) q = ap (λ (b : Bool). point_eq p.label.point q || b) (any-point ps q)
-
 and-then : (a b c : Bool) → (a ≡ true → b ≡ c) → (a && b) ≡ (a && c)
 and-then true b c f = f refl
 and-then false b c f = refl
 
-same-new : (d : Deployed) (i : ℕ) (x : SiteSeen) (s : SiteState) (p : Point) → StandsSite d i x s → not (point_waits x.waiting p) ≡ is_new_point (waiting_of s) p
-same-new d i x s p st = ap not (any-point x.waiting p ∙ ap (λ (ps : List Payload). list_any (λ l. point_eq l.point p) (map label_of ps)) st.proxy.pool)
+-- some label of a list has a point
+point-in : (ps : List Payload) (q : Point) (p : Payload) → In ps p → p.label.point ≡ q → list_any (λ l. point_eq l.point q) (map label_of ps) ≡ true
+point-in [] q p i e = absurd i
+point-in (x ∷ ps) q p (inl same) e = or_left (point_eq x.label.point q) _ (subst (λ (r : Point). point_eq x.label.point r ≡ true) (ap (λ (y : Payload). y.label.point) same ∙ e) (point_eq-self x.label.point))
+point-in (x ∷ ps) q p (inr i) e = or_right (point_eq x.label.point q) _ (point-in ps q p i e)
 
-bulk-is : (d : Deployed) (i : ℕ) (x : SiteSeen) (s : SiteState) (from gear n : ℕ) (p : Payload) → StandsSite d i x s → is_bulk_here x.shape (window_of x from gear) x.waiting from gear n p ≡ is_bulk d i s from gear n p
-bulk-is d i x s from gear n p st =
-    ap (λ (shape : Shape). (is_other_here shape from && is_gear_here shape gear) && (is_guest_here shape from p.label && (has_number (window_of x from gear) n || not (point_waits x.waiting p.label.point)))) st.shape ∙
+in-point : (ps : List Payload) (q : Point) → list_any (λ l. point_eq l.point q) (map label_of ps) ≡ true → (p : Payload) × In ps p × (p.label.point ≡ q)
+in-point [] q e = absurd (cc)
+in-point (x ∷ ps) q e = elim (or_cases (point_eq x.label.point q) (list_any (λ l. point_eq l.point q) (map label_of ps)) e) [
+  | inl here ↦ (x, inl refl, same-point x.label.point q here)
+  | inr there ↦ let w = in-point ps q there in (w.0, inr w.1, w.2)
+]
+
+-- no payload waits at a point where none does in the machine
+same-new : (d : Deployed) (i : ℕ) (x : SiteSeen) (s : SiteState) (q : Point) → IsSite x → StandsSite d i x s → is_none (waiting_at x.proxy.pool q) ≡ is_new_point (waiting_of s) q
+same-new d i x s q k st = go (waiting_at x.proxy.pool q) refl (list_any (λ l. point_eq l.point q) (waiting_of s)) refl
+  where
+    go : (o : Option Payload) → waiting_at x.proxy.pool q ≡ o → (b : Bool) → list_any (λ l. point_eq l.point q) (waiting_of s) ≡ b → is_none o ≡ not b
+    go None e true f =
+        let w = in-point s.proxy.pool q f in
+        let a : waiting_at x.proxy.pool w.0.label.point ≡ Some w.0 = in-found x.proxy.pool w.0 k.proxy.sound.pool (st.proxy.pool.back w.0 w.1) in
+        let b : Some w.0 ≡ None = sym a ∙ (ap (waiting_at x.proxy.pool) w.2 ∙ e) in
+        absurd (cc)
+    go None e false f = refl
+    go (Some p) e true f = refl
+    go (Some p) e false f =
+        let w = found-in x.proxy.pool q p e in
+        let a : true ≡ false = sym (point-in s.proxy.pool q p (st.proxy.pool.there p w.0) w.1) ∙ f in
+        absurd (cc)
+
+bulk-is : (d : Deployed) (i : ℕ) (x : SiteSeen) (s : SiteState) (from gear n : ℕ) (p : Payload) → IsSite x → StandsSite d i x s → is_bulk_here x.shape x.proxy from gear n p ≡ is_bulk d i s from gear n p
+bulk-is d i x s from gear n p k st =
+    ap (λ (shape : Shape). (is_other_here shape from && is_gear_here shape gear) && (is_guest_here shape from p.label && (has_number (window_of x.proxy from gear) n || is_none (waiting_at x.proxy.pool p.label.point)))) st.shape ∙
     and-then (is_other d i from && is_gear d gear) _ _ (λ e.
     let w = and_parts (is_other d i from) (is_gear d gear) e in
-    let lf : from < d.sites = ltb-true from d.sites (and_parts (is_site d from) (not (from == i)) w.0).0 in
-    let lg : gear < d.gears = ltb-true gear d.gears w.1 in
-    λ j. ((is_time p.label.point.ts && (p.label.point.site == from)) && kept-is d i p.label.kind j) && (sym (st.proxy.taken from gear n lf lg) j || same-new d i x s p.label.point st j))
+    let lf : from < x.proxy.sites = subst (λ (m : ℕ). from < m) (sym (k.proxy.sites ∙ sites-are d i x s st)) (ltb-true from d.sites (and_parts (is_site d from) (not (from == i)) w.0).0) in
+    let lg : gear < x.proxy.gears = subst (λ (m : ℕ). gear < m) (sym (k.proxy.gears ∙ count-is d i x s st)) (ltb-true gear d.gears w.1) in
+    λ j. ((is_time p.label.point.ts && (p.label.point.site == from)) && kept-is d i p.label.kind j) && (sym (st.proxy.taken from gear n lf lg) j || same-new d i x s p.label.point k st j))
 
-fits-is : (x : SiteSeen) (given : code.SiteInput) (d : Deployed) (i : ℕ) (s : SiteState) → StandsSite d i x s → fits_here x given ≡ fits d i s (input_of given)
+-- ---- beats
+
+all-by : (f g : ℕ → Bool) (ns : List ℕ) → ((n : ℕ) → f n ≡ g n) → list_all f ns ≡ list_all g ns
+all-by f g [] e = refl
+all-by f g (n ∷ ns) e = (λ j. e n j && all-by f g ns e j)
+
+-- the close cut of the epoch behind n others
+close-at : (beat : Beat) (n : ℕ) → slice_get beat.closes n ≡ close_in beat (n + 1)
+close-at beat n = sym (ap (λ (b : Bool). if b then None else slice_get beat.closes (n + 1 - 1)) (ne_eqb (n + 1) 0 (λ w. omega arith)) ∙ ap (slice_get beat.closes) (let e : n + 1 - 1 ≡ n = omega arith in e))
+
+beat-is : (d : Deployed) (i : ℕ) (x : SiteSeen) (s : SiteState) (from : ℕ) (beat : Beat) → StandsSite d i x s → (is_other_here x.shape from && is_beat_here x.shape (length x.views.stamp) beat) ≡ (is_other d i from && is_note d (note_of beat))
+beat-is d i x s from beat st =
+    (λ j. is_other_here (st.shape j) from && is_beat_here (st.shape j) (st.views.count j) beat) ∙
+    ap (λ (b : Bool). is_other d i from && (is_point d beat.cut && b)) (all-by _ _ (below (length d.plans)) (λ n. ap (is_cut_here (shape_for d i)) (close-at beat n)))
+
+fits-is : (x : SiteSeen) (given : code.SiteInput) (d : Deployed) (i : ℕ) (s : SiteState) → IsSite x → StandsSite d i x s → fits_here x given ≡ fits d i s (input_of given)
 unfolding fits_here fits
-fits-is x (input.Tick g t) d i s st = ap (λ (shape : Shape). is_gear_here shape g && is_time t) st.shape
-fits-is x (input.Write seen n value) d i s st = ap (λ (shape : Shape). is_carried_here shape seen && is_item_here shape n) st.shape ∙ ap (λ (b : Bool). is_carried d seen && b) (item-is d i n)
-fits-is x (input.Read seen n) d i s st = ap (λ (shape : Shape). is_carried_here shape seen && is_item_here shape n) st.shape ∙ ap (λ (b : Bool). is_carried d seen && b) (item-is d i n)
-fits-is x input.Gather d i s st = refl
-fits-is x input.Emit d i s st = refl
-fits-is x (input.Turn None) d i s st = refl
-fits-is x (input.Turn (Some l)) d i s st =
+fits-is x (input.Tick g t) d i s k st = ap (λ (shape : Shape). is_gear_here shape g && is_time t) st.shape
+fits-is x (input.Write seen n value) d i s k st = ap (λ (shape : Shape). is_carried_here shape seen && is_item_here shape n) st.shape ∙ ap (λ (b : Bool). is_carried d seen && b) (item-is d i n)
+fits-is x (input.Read seen n) d i s k st = ap (λ (shape : Shape). is_carried_here shape seen && is_item_here shape n) st.shape ∙ ap (λ (b : Bool). is_carried d seen && b) (item-is d i n)
+fits-is x (input.Move seen j) d i s k st = ap (λ (shape : Shape). is_carried_here shape seen && is_site_here shape j) st.shape
+fits-is x (input.Attach seen) d i s k st = ap (λ (shape : Shape). is_carried_here shape seen) st.shape
+fits-is x input.Gather d i s k st = refl
+fits-is x input.Emit d i s k st = refl
+fits-is x input.Pulse d i s k st = refl
+fits-is x (input.Beat j) d i s k st = ap (λ (shape : Shape). is_other_here shape j) st.shape
+fits-is x (input.BeatIn from n beat) d i s k st = beat-is d i x s from beat st
+fits-is x input.Stamp d i s k st = refl
+fits-is x input.Close d i s k st = refl
+fits-is x input.Fall d i s k st = refl
+fits-is x input.Advance d i s k st = refl
+fits-is x (input.Turn None) d i s k st = refl
+fits-is x (input.Turn (Some l)) d i s k st =
     (λ j. is_front_here (st.shape j) (st.views.view j) l) ∙ ap (λ (b : Bool). is_time l.point.ts && (is_other d i l.point.site && b)) (kind-is d i s.views.view l.kind)
-fits-is x (input.Bulk from gear n p) d i s st = bulk-is d i x s from gear n p st
+fits-is x (input.Bulk from gear n p) d i s k st = bulk-is d i x s from gear n p k st
 
 pub each-fits : EachFits
-each-fits x given d i s limits k st = ap (λ (b : Bool). b && is_small given) (fits-is x given d i s st)
+each-fits x given d i s limits k st = ap (λ (b : Bool). b && is_sized x given) (fits-is x given d i s k st)

@@ -1,5 +1,5 @@
 -- A site at which nothing has happened.
-use Rattle.std.specs.Prelude.{◌≡◌, ◌⊎◌, ◌<◌, ◌≤◌, ◌-◌, ◌*◌, ◌/◌, ◌^◌, ℕ, zero, suc, Bool, true, false, ◌||◌, ◌==◌, nat_lt, if◌then◌else◌, is_none, List, [], ◌∷◌, ◌++◌, length, map, replicate, get_or, Option, Some, None, slice_get, refl}
+use Rattle.std.specs.Prelude.{◌≡◌, ◌⊎◌, ◌<◌, ◌≤◌, ◌-◌, ◌/◌, ◌^◌, ℕ, zero, suc, Bool, true, false, ◌==◌, if◌then◌else◌, is_none, List, [], ◌∷◌, ◌++◌, length, map, replicate, get_or, Option, Some, None, slice_get, refl}
 use Rattle.std.proofs.Common.{subst, ap, sym, ◌∙◌, arith, inl, inr}
 use Rattle.std.proofs.lemmas.List.{length-map, length-replicate}
 use Rattle.sat_label.proofs.Numbers.{length-below}
@@ -20,12 +20,15 @@ use Rattle.sat_act.specs.Limits.{IsDeployment}
 use Rattle.sat_act.specs.Parts.{planned_tree, tree_of}
 use Rattle.sat_machine.specs.State.{fresh_site}
 use Rattle.std.proofs.lemmas.Bool.{ne_eqb}
-use Rattle.std.proofs.lemmas.Bool.Decides.{nat_tests}
 use Rattle.sat_label.specs.declared.point.Point.{Point}
-use Rattle.sat_bulk.specs.Windows.{Numbers, has_number}
+use Rattle.sat_beat.specs.declared.Beat.{Beat}
+use Rattle.sat_pool.proofs.Members.{none-all}
+use Rattle.sat_proxy.specs.Proxy.{ProxySeen, IsProxy, fresh_proxy, note_of}
+use Rattle.sat_proxy.specs.Stands.{StandsProxy}
+use Rattle.sat_proxy.specs.Laws.{Starts}
 use Rattle.sat_epoch.specs.Epochs.{Epochs, IsEpochs, first_epochs}
 use Rattle.sat_machine.specs.Interests.{replicas_of}
-use Rattle.sat_site.specs.Seen.{SiteSeen, AreGears, IsSite, IsGearAt, lane_place, no_numbers}
+use Rattle.sat_site.specs.Seen.{SiteSeen, AreGears, IsSite, IsGearAt}
 use Rattle.sat_site.specs.Changes.{fresh_seen, is_stamp_plan, shape_for}
 use Rattle.sat_site.specs.Stands.{StandsSite, StandsGear, payload_of}
 use Rattle.sat_site.proofs.Lists.{map-cases, Mapped}
@@ -67,27 +70,29 @@ fresh-gear-site shape g gear e = subst (IsGearAt shape (fresh_sink shape.site sh
   absent = λ n f there. no-version shape g n;
 })
 
-pub fresh-is : (shape : Shape) (stamp : List Bool) → IsShape shape → AreGears (map (fresh_gear shape) (below shape.gears)) → IsEpochs (first_epochs shape.sites shape.site stamp) → IsSite (fresh_seen shape stamp)
-fresh-is shape stamp k good epochs = record {
+no-beat : (n j m : ℕ) (beat : Beat) → slice_get (get_or (replicate n []) j []) m ≡ Some beat → ⊥
+no-beat n j m beat at = let none : slice_get {X = Beat} [] m ≡ Some beat = subst (λ (bs : List Beat). slice_get bs m ≡ Some beat) (always n j []) at in cc
+
+pub fresh-is : (shape : Shape) (stamp : List Bool) → IsShape shape → AreGears (map (fresh_gear shape) (below shape.gears)) → IsEpochs (first_epochs shape.sites shape.site stamp) → IsProxy (fresh_proxy shape.sites shape.gears shape.site) → IsSite (fresh_seen shape stamp)
+fresh-is shape stamp k good epochs proxy = record {
   shape = k;
-  count = length-map (below shape.gears) (fresh_gear shape) ∙ length-below shape.gears;
-  gears = λ g gear at. fresh-gear-site shape g gear (fresh-at shape g gear at);
-  gears_are = good;
-  sink = refl;
-  promises = length-replicate shape.gears 0;
-  rows = length-replicate shape.gears [];
-  epochs = epochs;
-  own = refl;
-  heard = length-replicate shape.sites false;
-  windows = length-replicate (shape.sites * shape.gears) no_numbers;
-  waiting = λ n p at. absurd (cc);
+  gears = record {
+    count = length-map (below shape.gears) (fresh_gear shape) ∙ length-below shape.gears;
+    each = λ g gear at. fresh-gear-site shape g gear (fresh-at shape g gear at);
+    are = good;
+  };
+  sink = record { own = refl; promises = length-replicate shape.gears 0; rows = length-replicate shape.gears []; last = refl };
+  counts = length-replicate shape.gears [];
+  views = record { sound = epochs; own = refl; heard = length-replicate shape.sites false };
+  proxy = record { sound = proxy; sites = refl; gears = refl; own = refl; waiting = λ p i. absurd (subst (λ (ps : List Payload). In ps p) (none-all shape.sites) i) };
+  made = record { count = length-replicate shape.sites []; each = λ j n beat at. absurd (no-beat shape.sites j n beat at) };
 }
 
-pub fresh-site : (shape : Shape) (stamp : List Bool) (gears : List GearSeen) (s : Sink) (views : Epochs) (windows : List Numbers) (waiting : List Payload) → IsShape shape → AreGears gears → IsEpochs views →
-    gears ≡ map (fresh_gear shape) (below shape.gears) → s ≡ fresh_sink shape.site shape.gears → views ≡ first_epochs shape.sites shape.site stamp → windows ≡ replicate (shape.sites * shape.gears) no_numbers → waiting ≡ [] →
-    IsSite (record { shape = shape; gears = gears; sink = s; views = views; windows = windows; waiting = waiting })
-fresh-site shape stamp gears s views windows waiting k good epochs e f v g h =
-    subst IsSite (λ j. record { shape = shape; gears = sym e j; sink = sym f j; views = sym v j; windows = sym g j; waiting = sym h j }) (fresh-is shape stamp k (subst AreGears e good) (subst IsEpochs v epochs))
+pub fresh-site : (shape : Shape) (stamp : List Bool) (gears : List GearSeen) (s : Sink) (counts : List (List ℕ)) (views : Epochs) (proxy : ProxySeen) (made : List (List Beat)) → IsShape shape → AreGears gears → IsEpochs views → IsProxy proxy →
+    gears ≡ map (fresh_gear shape) (below shape.gears) → s ≡ fresh_sink shape.site shape.gears → counts ≡ replicate shape.gears [] → views ≡ first_epochs shape.sites shape.site stamp → proxy ≡ fresh_proxy shape.sites shape.gears shape.site → made ≡ replicate shape.sites [] →
+    IsSite (record { shape = shape; gears = gears; sink = s; counts = counts; views = views; proxy = proxy; made = made })
+fresh-site shape stamp gears s counts views proxy made k good epochs sound e f c v p m =
+    subst IsSite (λ j. record { shape = shape; gears = sym e j; sink = sym f j; counts = sym c j; views = sym v j; proxy = sym p j; made = sym m j }) (fresh-is shape stamp k (subst AreGears e good) (subst IsEpochs v epochs) (subst IsProxy p sound))
 
 fresh-stands-gear : (d : Deployed) (shape : Shape) (g : ℕ) (gear : GearSeen) → fresh_gear shape g ≡ gear → StandsGear d gear (record { promise = 0; fresh = []; lanes = λ j. [] })
 fresh-stands-gear d shape g gear e = subst (λ (y : GearSeen). StandsGear d y (record { promise = 0; fresh = []; lanes = λ j. [] })) e (record { promise = refl; fresh = refl; lanes = λ j lt. always shape.sites j [] })
@@ -113,13 +118,20 @@ no-close : (e : ℕ) (b : Bool) → ◌≡◌ {A = Option Point} None (if b then
 no-close e true = refl
 no-close e false = refl
 
-pub fresh-stands : (d : Deployed) (i : ℕ) (shape : Shape) → shape ≡ shape_for d i → StandsSite d i (fresh_seen shape (map is_stamp_plan d.plans)) (fresh_site i)
-fresh-stands d i shape e = record {
+abbrev empty-row : List ℕ
+empty-row = []
+
+no-count : (n g j : ℕ) → get_or (get_or (replicate n empty-row) g empty-row) j 0 ≡ 0
+no-count n g j = ap (λ (row : List ℕ). get_or row j 0) (always n g (empty-row))
+
+pub fresh-stands : (d : Deployed) (i : ℕ) (shape : Shape) → Starts → shape ≡ shape_for d i → StandsSite d i (fresh_seen shape (map is_stamp_plan d.plans)) (fresh_site i)
+fresh-stands d i shape starts e = record {
   shape = e;
-  gears = record { each = λ g gear at. fresh-stands-gear d shape g gear (fresh-at shape g gear at) };
+  gears = record { each = λ g gear at. fresh-stands-gear d shape g gear (fresh-at shape g gear at); none = λ g j past. refl };
   sink = record {
     promises = λ g lt. always shape.gears g 0;
     pending = λ g lt. always shape.gears g [];
+    counted = λ g j lt. no-count shape.gears g j;
     last = (λ j. record { ts = 0; site = (e j).site; gear = 0 });
     pulse = refl;
   };
@@ -129,19 +141,14 @@ fresh-stands d i shape e = record {
     fallen = refl;
     closes = λ n. no-close n (n == 0);
     heard = λ k lt other. sym (always shape.sites k false);
+    later = λ k n past. refl;
     plans = λ n low high. plans-are d n low high;
     count = length-map d.plans is_stamp_plan;
   };
-  proxy = record {
-    taken = λ k g n lk lg. none-taken n ∙ ap (λ (w : Numbers). has_number w n) (sym (always (shape.sites * shape.gears) (lane_place shape k g) no_numbers));
-    pool = refl;
-    different = λ m n p q f g w. absurd (cc);
-  };
+  proxy = subst (λ (s : Shape). StandsProxy (fresh_proxy s.sites s.gears s.site) (fresh_site i).proxy) (sym e) (starts d i);
   store = record { each = λ n gear lt at. subst (λ (y : GearSeen). payload_of (version_of y n) ≡ None) (fresh-at shape (gear_of d n) gear at) (ap payload_of (no-version shape (gear_of d n) n)) };
+  made = λ j lt. ap (map note_of) (always shape.sites j []);
 }
-  where
-    none-taken : (n : ℕ) → false ≡ (nat_lt n 0 || false)
-    none-taken n = grind (arith, nat_tests)
 
 pub shape-sound : (d : Deployed) (i : ℕ) (shape : Shape) → IsDeployment d → i < d.sites → IsInterest shape.interest → shape ≡ shape_for d i → IsShape shape
 shape-sound d i shape limits lt a e = record {
@@ -152,6 +159,6 @@ shape-sound d i shape limits lt a e = record {
   items = subst (λ (s : Shape). length s.interest.replicas < 2 ^ 16) (sym e) (let few = limits.few_items in omega (arith, length-map d.items replicas_of));
 }
 
-pub made-stands : (d : Deployed) (i : ℕ) (shape : Shape) (stamp : List Bool) (made : SiteSeen) → shape ≡ shape_for d i → stamp ≡ map is_stamp_plan d.plans → made ≡ fresh_seen shape stamp → StandsSite d i made (fresh_site i)
-made-stands d i shape stamp made e f g =
-    subst (λ (x : SiteSeen). StandsSite d i x (fresh_site i)) (sym (g ∙ ap (fresh_seen shape) f)) (fresh-stands d i shape e)
+pub made-stands : (d : Deployed) (i : ℕ) (shape : Shape) (stamp : List Bool) (made : SiteSeen) → Starts → shape ≡ shape_for d i → stamp ≡ map is_stamp_plan d.plans → made ≡ fresh_seen shape stamp → StandsSite d i made (fresh_site i)
+made-stands d i shape stamp made starts e f g =
+    subst (λ (x : SiteSeen). StandsSite d i x (fresh_site i)) (sym (g ∙ ap (fresh_seen shape) f)) (fresh-stands d i shape starts e)

@@ -1,5 +1,5 @@
 -- The parts of a state, where one gear or all gears change.
-use Rattle.std.specs.Prelude.{◌≡◌, ◌≢◌, ◌<◌, ◌%◌, ℕ, List, length, map, set, Option, Some, slice_get}
+use Rattle.std.specs.Prelude.{◌≡◌, ◌≢◌, ◌≤◌, ◌<◌, ◌%◌, ℕ, List, length, map, set, Option, Some, slice_get}
 use Rattle.std.proofs.Common.{subst, ap, sym, ◌∙◌, inl, inr}
 use Rattle.sat_bulk.specs.declared.Payload.{Payload}
 use Rattle.sat_sites.specs.Interested.{Interested}
@@ -37,8 +37,9 @@ item-known d i x s n st item = subst (λ (q : ℕ). n < q) (ap (λ (a : Interest
 -- ---- one gear changes
 
 pub gears-set : (d : Deployed) (gears : List GearSeen) (g : ℕ) (new : GearSeen) (s t : ℕ → GearState) → StandsGears d gears s → StandsGear d new (t g) →
-    ((k : ℕ) (gear : GearSeen) → k ≢ g → StandsGear d gear (s k) → StandsGear d gear (t k)) → StandsGears d (set gears g new) t
-gears-set d gears g new s t st here there = record {
+    ((k : ℕ) (gear : GearSeen) → k ≢ g → StandsGear d gear (s k) → StandsGear d gear (t k)) → ((k j : ℕ) → d.gears ≤ k → (t k).lanes j ≡ (s k).lanes j) → StandsGears d (set gears g new) t
+gears-set d gears g new s t st here there rest = record {
+  none = λ k j past. rest k j past ∙ st.none k j past;
   each = λ k gear at. elim (set-cases gears g k new gear at) [
     | inl w ↦ subst (λ (y : GearSeen). StandsGear d y (t k)) w.0 (subst (λ (n : ℕ). StandsGear d new (t n)) (sym w.1) here)
     | inr w ↦ there k gear w.1 (st.each k gear w.0)
@@ -57,8 +58,9 @@ store-set d gears g gear new s t at st here there = record {
 -- ---- all gears change
 
 pub gears-map : (d : Deployed) (f : GearSeen → GearSeen) (gears : List GearSeen) (s t : ℕ → GearState) → StandsGears d gears s →
-    ((g : ℕ) (gear : GearSeen) → slice_get gears g ≡ Some gear → StandsGear d gear (s g) → StandsGear d (f gear) (t g)) → StandsGears d (map f gears) t
-gears-map d f gears s t st each = record {
+    ((g : ℕ) (gear : GearSeen) → slice_get gears g ≡ Some gear → StandsGear d gear (s g) → StandsGear d (f gear) (t g)) → ((g j : ℕ) → (t g).lanes j ≡ (s g).lanes j) → StandsGears d (map f gears) t
+gears-map d f gears s t st each rest = record {
+  none = λ g j past. rest g j ∙ st.none g j past;
   each = λ g new at.
       let w : Mapped f gears g new = map-cases f gears g new at in
       subst (λ (y : GearSeen). StandsGear d y (t g)) w.is (each g w.old w.at (st.each g w.old w.at));

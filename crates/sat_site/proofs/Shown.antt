@@ -8,27 +8,22 @@ use Rattle.sat_store.specs.declared.store.Version.{Version}
 use Rattle.sat_gear.specs.Gear.{GearSeen, IsGear, IsInLane, lane_to, version_of}
 use Rattle.sat_act.specs.Deployed.{Deployed}
 use Rattle.sat_machine.specs.State.{SiteState}
-use Rattle.sat_bulk.specs.Windows.{Numbers, has_number, IsWindow}
 use Rattle.sat_machine.specs.Look.{front_of}
-use Rattle.sat_site.specs.Seen.{SiteSeen, IsSite, IsGearAt, window_of}
+use Rattle.sat_proxy.specs.Proxy.{front_at}
+use Rattle.sat_proxy.proofs.SameLanes.{front-same}
+use Rattle.sat_site.specs.Seen.{SiteSeen, IsSite, IsGearAt}
 use Rattle.sat_site.specs.Stands.{StandsSite, payload_of}
 use Rattle.sat_site.specs.Changes.{HasGear, gear_at}
 use Rattle.sat_site.specs.SiteSteps.{keeps_item}
 use Rattle.sat_site.specs.Gives.{IsOfLane}
-use Rattle.sat_site.proofs.Lanes.{window-front}
-use Rattle.sat_site.proofs.Parts.{count-is, sites-are}
+use Rattle.sat_site.proofs.Parts.{sites-are}
 use Rattle.sat_site.proofs.Lists.{same-get}
 use Rattle.sat_site.proofs.Writes.{shows-none, shows-some}
-
-pub front-is : (d : Deployed) (i : ℕ) (x : SiteSeen) (s : SiteState) (from gear n : ℕ) (w : Numbers) → from < x.shape.sites → gear < x.shape.gears → w ≡ window_of x from gear → n ≡ w.front → IsWindow w → StandsSite d i x s → n ≡ front_of s from gear
-front-is d i x s from gear n w lf lg e f window st =
-    f ∙ sym (window-front (s.proxy.taken from gear) w window (λ m.
-    st.proxy.taken from gear m (subst (λ (k : ℕ). from < k) (sites-are d i x s st) lf) (subst (λ (k : ℕ). gear < k) (count-is d i x s st) lg) ∙ ap (λ (w : Numbers). has_number w m) (sym e)))
 
 pub absent-version : (d : Deployed) (i : ℕ) (x : SiteSeen) (s : SiteState) (g n : ℕ) (gear : GearSeen) → IsSite x → HasGear x g gear → g ≡ n % x.shape.gears → n < length x.shape.interest.replicas → keeps_item x n ≡ false → StandsSite d i x s → s.store n ≡ None
 absent-version d i x s g n gear k at e item unkept st =
     let here : HasGear x (gear_at x n) gear = subst (λ (g : ℕ). HasGear x g gear) e at in
-    shows-none d i x s n gear item here ((k.gears (gear_at x n) gear here).absent n refl unkept) st
+    shows-none d i x s n gear item here ((k.gears.each (gear_at x n) gear here).absent n refl unkept) st
 
 pub no-version : (d : Deployed) (i : ℕ) (x : SiteSeen) (s : SiteState) (g n : ℕ) (gear : GearSeen) → HasGear x g gear → g ≡ n % x.shape.gears → n < length x.shape.interest.replicas → StandsSite d i x s → version_of gear n ≡ None → s.store n ≡ None
 no-version d i x s g n gear at e item st none = shows-none d i x s n gear item (subst (λ (g : ℕ). HasGear x g gear) e at) none st
@@ -43,7 +38,7 @@ lane-same d i x s g to n gear o at lt st e = ap (λ (ps : List Payload). slice_g
 pub of-lane : (x : SiteSeen) (g to n : ℕ) (gear : GearSeen) (p : Payload) → IsSite x → HasGear x g gear → IsGear gear → slice_get (lane_to gear to) n ≡ Some p → IsOfLane x.shape g to p
 of-lane x g to n gear p k at good e =
     let q : IsInLane gear to p = good.payloads to n p e in
-    let a : IsGearAt x.shape x.sink g gear = k.gears g gear at in
+    let a : IsGearAt x.shape x.sink g gear = k.gears.each g gear at in
     record {
       made_at = q.site ∙ (λ j. (a.shape j).site);
       made_by = q.gear ∙ a.number;
@@ -67,3 +62,9 @@ payload-lane x g to n gear (Some p) k at good h = of-lane x g to n gear p.now k 
 
 pub promise-same : (x : SiteSeen) (g n : ℕ) (gear new : GearSeen) → HasGear x g gear → n ≡ gear.promise → HasGear x g new → n ≡ new.promise
 promise-same x g n gear new at e there = e ∙ ap (λ (y : GearSeen). y.promise) (same-get x.gears g gear new at there)
+
+-- the front of a lane is the machine's
+pub front-is : (w v : SiteSeen) (d : Deployed) (i : ℕ) (s : SiteState) (from gear n : ℕ) → w ≡ v → IsSite w → from < v.shape.sites → gear < v.shape.gears → n ≡ front_at w.proxy from gear → StandsSite d i v s → n ≡ front_of s from gear
+front-is w v d i s from gear n same k lf lg e st =
+    let site : IsSite v = subst IsSite same k in
+    e ∙ (ap (λ (y : SiteSeen). front_at y.proxy from gear) same ∙ sym (front-same v.proxy s.proxy site.proxy.sound st.proxy from gear (subst (λ (m : ℕ). from < m) (sym site.proxy.sites) lf) (subst (λ (m : ℕ). gear < m) (sym site.proxy.gears) lg)))

@@ -1,34 +1,36 @@
 -- What is true of each site stays so.
-use Rattle.std.specs.Prelude.{◌≡◌, ◌<◌, ◌≤◌, ◌/◌, ◌%◌, ℕ, zero, suc, Bool, true, false, ◌==◌, not, List, [], ◌∷◌, length, map, set, get_or, filter, Option, Some, None, slice_get, if◌then◌else◌, refl}
-use Rattle.std.specs.List.{remove}
+use Rattle.std.specs.Prelude.{◌≡◌, ◌<◌, ◌≤◌, ◌-◌, ◌/◌, ◌%◌, ℕ, zero, suc, Bool, true, false, ◌==◌, ◌&&◌, not, List, [], ◌∷◌, length, map, set, get_or, filter, Option, Some, None, slice_get, if◌then◌else◌, refl}
 use Rattle.std.proofs.Common.{subst, ap, sym, ◌∙◌, inl, inr}
 use Rattle.std.proofs.lemmas.List.{length-map, length-set}
 use Rattle.std.proofs.lemmas.Bool.{eqb-true}
+use Rattle.sat_site.proofs.Equals.{eqb-self, eqb-comm}
 use Rattle.sat_label.specs.declared.label.Label.{Label}
 use Rattle.sat_label.specs.declared.label.Kind.{Kind}
-use Rattle.sat_label.specs.declared.label.Kind.TheVariants.{Update}
+use Rattle.sat_label.specs.declared.label.Kind.TheVariants.{Update, Move}
 use Rattle.sat_label.specs.declared.point.Point.{Point}
-use Rattle.sat_label.specs.Order.{label_eq}
+use Rattle.sat_label.specs.Order.{greater_point, label_eq, mark, point_lt}
 use Rattle.sat_bulk.specs.declared.Drained.{Drained}
 use Rattle.sat_bulk.specs.declared.Payload.{Payload}
 use Rattle.sat_label.specs.Members.{In}
 use Rattle.sat_bulk.specs.Drains.{IsNew}
 use Rattle.sat_label.proofs.Members.{In-parts, In-filter}
 use Rattle.sat_sites.specs.declared.shape.Shape.{Shape}
-use Rattle.sat_sites.specs.Interested.{IsLabelOf, IsKindOf, keeps}
+use Rattle.sat_sites.specs.Interested.{Interested, IsLabelOf, is_for, keeps}
 use Rattle.sat_store.specs.declared.store.Version.{Version}
 use Rattle.sat_store.specs.Stored.{newer, version_at}
-use Rattle.sat_gear.specs.Gear.{GearSeen, IsGear, after_tick, after_write, after_show, stamped, after_drain, drained_of, version_of}
+use Rattle.sat_gear.specs.Gear.{GearSeen, IsGear, after_tick, after_move, after_write, after_show, stamped, after_drain, drained_of, version_of}
 use Rattle.sat_sink.specs.Pending.{labels_of, promise_of, is_up_to, all_of}
-use Rattle.sat_sink.specs.Sink.{Sink, IsDrain, IsDrainOf, after_gather, ready_of, stable_of}
+use Rattle.sat_sink.specs.Sink.{Sink, IsDrain, IsDrainOf, after_emit_of, after_gather, after_pulse, cut_of, pulse_of, ready_of, stable_of}
+use Rattle.sat_epoch.specs.Epochs.{Epochs}
+use Rattle.sat_proxy.specs.Proxy.{ProxySeen}
 use Rattle.sat_label.proofs.Least.{IsLeast, least-is}
 use Rattle.sat_sink.proofs.Queues.{In-all, Place, joined-get, length-joined, without-get}
-use Rattle.sat_site.specs.Seen.{SiteSeen, AreGears, IsSite, IsGearAt, IsGuest, IsUpdateHere, lane_place}
-use Rattle.sat_site.specs.Changes.{with_gear, gathered_all, sent, showed, brought, clocked, ticked_to, HasGear}
+use Rattle.sat_site.specs.Seen.{SiteSeen, AreGears, HasEpochs, HasPeers, HasSink, IsSite, IsGearAt, IsMadeHere}
+use Rattle.sat_site.specs.SiteSteps.{close_label}
+use Rattle.sat_site.specs.Changes.{with_gear, gathered_all, sent, pulsed, counts_of, clocked, ticked_to, HasGear}
 use Rattle.sat_site.proofs.Lists.{set-cases, map-cases, Mapped, get-within}
 use Rattle.sat_site.proofs.Stores.{version-set, version_with}
 use Rattle.sat_gear.proofs.Places.{within_places}
-use Rattle.sat_site.proofs.Payloads.{left-each, more-each}
 use Rattle.sat_site.proofs.Gathers.{promise-at, labels-at, each-gear, length-drained}
 
 -- ---- one gear
@@ -39,20 +41,19 @@ set-gears gears g new old good m gear at = elim (set-cases gears g m new gear at
 pub with-gear-site : (x : SiteSeen) (g : ℕ) (new : GearSeen) → IsSite x → IsGearAt x.shape x.sink g new → IsGear new → IsSite (with_gear x g new)
 with-gear-site x g new k a good = record {
   shape = k.shape;
-  count = length-set x.gears g new ∙ k.count;
-  gears = λ m gear at. elim (set-cases x.gears g m new gear at) [
-    | inl w ↦ subst (λ (y : GearSeen). IsGearAt x.shape x.sink m y) w.0 (subst (λ (n : ℕ). IsGearAt x.shape x.sink n new) (sym w.1) a)
-    | inr w ↦ k.gears m gear w.0
-  ];
-  gears_are = set-gears x.gears g new k.gears_are good;
+  gears = record {
+    count = length-set x.gears g new ∙ k.gears.count;
+    each = λ m gear at. elim (set-cases x.gears g m new gear at) [
+      | inl w ↦ subst (λ (y : GearSeen). IsGearAt x.shape x.sink m y) w.0 (subst (λ (n : ℕ). IsGearAt x.shape x.sink n new) (sym w.1) a)
+      | inr w ↦ k.gears.each m gear w.0
+    ];
+    are = set-gears x.gears g new k.gears.are good;
+  };
   sink = k.sink;
-  promises = k.promises;
-  rows = k.rows;
-  epochs = k.epochs;
-  own = k.own;
-  heard = k.heard;
-  windows = k.windows;
-  waiting = k.waiting;
+  counts = k.counts;
+  views = k.views;
+  proxy = k.proxy;
+  made = k.made;
 }
 
 pub ticked-gear : (shape : Shape) (sink : Sink) (g t : ℕ) (gear : GearSeen) → IsGearAt shape sink g gear → IsGearAt shape sink g (after_tick gear t)
@@ -86,6 +87,16 @@ shown-gear shape sink g n gear p good a item e here = record {
   absent = λ m f there. newer-absent shape sink g n gear (newer (version_of gear n) (version_with p)) good a item e here m f there;
 }
 
+-- an update is not for its own site
+away-from : (a : Interested) (l : Label) (n k : ℕ) → l.kind ≡ Update n → l.point.site ≡ k → is_for a l k ≡ false
+unfolding is_for
+away-from a l n k kind own =
+    ap (λ (kind : Kind). is_for a (record { point = l.point; kind = kind }) k) kind ∙ go (keeps a n k) (k == l.point.site) (ap (λ (m : ℕ). k == m) own ∙ eqb-self k)
+  where
+    go : (b c : Bool) → c ≡ true → (b && not c) ≡ false
+    go true c e = ap not e
+    go false c e = refl
+
 pub wrote-gear : (shape : Shape) (sink : Sink) (g n : ℕ) (gear : GearSeen) (seen : Point) (value : List ℕ) → IsGear gear → IsGearAt shape sink g gear → n < length shape.interest.replicas → n % shape.gears ≡ g → keeps shape.interest n shape.site ≡ true →
     IsGearAt shape sink g (after_write gear n (record { label = stamped gear seen (Update n); value = value }))
 wrote-gear shape sink g n gear seen value good a item e here = record {
@@ -95,7 +106,7 @@ wrote-gear shape sink g n gear seen value good a item e here = record {
   fresh = λ l i. elim (In-parts gear.fresh (stamped gear seen (Update n) ∷ []) l i) [
     | inl old ↦ a.fresh l old
     | inr new ↦ elim new [
-      | inl w ↦ subst (IsUpdateHere shape) w (record { site = (λ j. (a.shape j).site); item = (n, refl, item) })
+      | inl w ↦ subst (IsMadeHere shape) w (record { site = (λ j. (a.shape j).site); kind = item; made = refl; away = away-from shape.interest (stamped gear seen (Update n)) n shape.site refl (λ j. (a.shape j).site) })
       | inr w ↦ absurd w
     ]
   ];
@@ -103,24 +114,44 @@ wrote-gear shape sink g n gear seen value good a item e here = record {
   absent = λ m f there. newer-absent shape sink g n gear (newer (version_of gear n) (version_with (record { label = stamped gear seen (Update n); value = value }))) good a item e here m f there;
 }
 
+-- a move is not for its own site
+moves-away : (a : Interested) (l : Label) (j k : ℕ) → l.kind ≡ Move j → (j == k) ≡ false → is_for a l k ≡ false
+unfolding is_for
+moves-away a l j k kind other = ap (λ (kind : Kind). is_for a (record { point = l.point; kind = kind }) k) kind ∙ (eqb-comm k j ∙ other)
+
+pub moved-gear : (shape : Shape) (sink : Sink) (g j : ℕ) (gear : GearSeen) (seen : Point) → IsGearAt shape sink g gear → j < shape.interest.sites → (j == shape.site) ≡ false → IsGearAt shape sink g (after_move gear (stamped gear seen (Move j)))
+moved-gear shape sink g j gear seen a lt other = record {
+  shape = a.shape;
+  number = a.number;
+  gathered = a.gathered;
+  fresh = λ l i. elim (In-parts gear.fresh (stamped gear seen (Move j) ∷ []) l i) [
+    | inl old ↦ a.fresh l old
+    | inr new ↦ elim new [
+      | inl w ↦ subst (IsMadeHere shape) w (record { site = (λ i. (a.shape i).site); kind = lt; made = refl; away = moves-away shape.interest (stamped gear seen (Move j)) j shape.site refl other })
+      | inr w ↦ absurd w
+    ]
+  ];
+  pending = a.pending;
+  absent = a.absent;
+}
+
 -- ---- all gears
 
 pub clocked-site : (x : SiteSeen) (t : ℕ) → IsSite x → AreGears (map (ticked_to t) x.gears) → IsSite (clocked x t)
 clocked-site x t k good = record {
   shape = k.shape;
-  count = length-map x.gears (ticked_to t) ∙ k.count;
-  gears = λ m gear at.
-      let w : Mapped (ticked_to t) x.gears m gear = map-cases (ticked_to t) x.gears m gear at in
-      subst (IsGearAt x.shape x.sink m) w.is (ticked-gear x.shape x.sink m t w.old (k.gears m w.old w.at));
-  gears_are = good;
+  gears = record {
+    count = length-map x.gears (ticked_to t) ∙ k.gears.count;
+    each = λ m gear at.
+        let w : Mapped (ticked_to t) x.gears m gear = map-cases (ticked_to t) x.gears m gear at in
+        subst (IsGearAt x.shape x.sink m) w.is (ticked-gear x.shape x.sink m t w.old (k.gears.each m w.old w.at));
+    are = good;
+  };
   sink = k.sink;
-  promises = k.promises;
-  rows = k.rows;
-  epochs = k.epochs;
-  own = k.own;
-  heard = k.heard;
-  windows = k.windows;
-  waiting = k.waiting;
+  counts = k.counts;
+  views = k.views;
+  proxy = k.proxy;
+  made = k.made;
 }
 
 drained-at : (gears : List GearSeen) (g : ℕ) (gear : GearSeen) (d : Drained) → slice_get gears g ≡ Some gear → get_or (map drained_of gears) g d ≡ drained_of gear
@@ -134,14 +165,14 @@ drained-at gears g gear d at = go gears g at
 -- what is drained of a gear is what the sink asks for
 drain-of : (x : SiteSeen) (g : ℕ) (gear : GearSeen) → IsSite x → HasGear x g gear → IsGear gear → IsDrainOf x.sink g (drained_of gear)
 drain-of x g gear k at good =
-    let a : IsGearAt x.shape x.sink g gear = k.gears g gear at in
+    let a : IsGearAt x.shape x.sink g gear = k.gears.each g gear at in
     record {
       promise = subst (λ (n : ℕ). n ≤ gear.promise) (sym a.gathered) good.drained_promise;
       rises = good.rises;
       labels = λ l i.
           let n : IsNew gear.shape.site gear.gear gear.drained_promise gear.promise l = (good.fresh l i).new in
           record {
-            site = n.site ∙ ((λ j. (a.shape j).site) ∙ sym k.sink);
+            site = n.site ∙ ((λ j. (a.shape j).site) ∙ sym k.sink.own);
             gear = n.gear ∙ a.number;
             made = n.made;
             above = subst (λ (m : ℕ). m < l.point.ts) (sym a.gathered) n.above;
@@ -151,119 +182,124 @@ drain-of x g gear k at good =
 
 pub drains : (x : SiteSeen) → IsSite x → IsDrain x.sink (map drained_of x.gears)
 drains x k = record {
-  count = length-map x.gears drained_of ∙ (k.count ∙ sym k.promises);
+  count = length-map x.gears drained_of ∙ (k.gears.count ∙ sym k.sink.promises);
   each = λ g d lt.
       let y = each-gear x g (subst (λ (n : ℕ). g < n) (length-map x.gears drained_of) lt) in
-      subst (IsDrainOf x.sink g) (sym (drained-at x.gears g y.0 d y.1)) (drain-of x g y.0 k y.1 (k.gears_are g y.0 y.1));
+      subst (IsDrainOf x.sink g) (sym (drained-at x.gears g y.0 d y.1)) (drain-of x g y.0 k y.1 (k.gears.are g y.0 y.1));
 }
 
 pub gathered-site : (x : SiteSeen) → IsSite x → AreGears (map after_drain x.gears) → IsSite (gathered_all x)
 gathered-site x k good = record {
   shape = k.shape;
-  count = length-map x.gears after_drain ∙ k.count;
-  gears = λ g gear at.
-      let w : Mapped after_drain x.gears g gear = map-cases after_drain x.gears g gear at in
-      let a : IsGearAt x.shape x.sink g w.old = k.gears g w.old w.at in
-      let lt : g < length x.sink.pending = subst (λ (n : ℕ). g < n) (k.count ∙ sym k.rows) (get-within x.gears g w.old w.at) in
-      subst (IsGearAt x.shape (after_gather x.sink (map drained_of x.gears)) g) w.is (record {
-        shape = a.shape;
-        number = a.number;
-        gathered = promise-at x.gears g w.old w.at;
-        fresh = λ l i. absurd i;
-        pending = λ l i. elim (In-parts (get_or x.sink.pending g []) (get_or (map labels_of (map drained_of x.gears)) g []) l (subst (λ (ls : List Label). In ls l) (joined-get x.sink.pending (map labels_of (map drained_of x.gears)) g lt) i)) [
-          | inl old ↦ a.pending l old
-          | inr new ↦ a.fresh l (subst (λ (ls : List Label). In ls l) (labels-at x.gears g w.old w.at) new)
-        ];
-        absent = a.absent;
-      });
-  gears_are = good;
-  sink = k.sink;
-  promises = length-drained promise_of x.gears ∙ k.count;
-  rows = length-joined x.sink.pending (map labels_of (map drained_of x.gears)) ∙ k.rows;
-  epochs = k.epochs;
-  own = k.own;
-  heard = k.heard;
-  windows = k.windows;
-  waiting = k.waiting;
+  gears = record {
+    count = length-map x.gears after_drain ∙ k.gears.count;
+    each = λ g gear at.
+        let w : Mapped after_drain x.gears g gear = map-cases after_drain x.gears g gear at in
+        let a : IsGearAt x.shape x.sink g w.old = k.gears.each g w.old w.at in
+        let lt : g < length x.sink.pending = subst (λ (n : ℕ). g < n) (k.gears.count ∙ sym k.sink.rows) (get-within x.gears g w.old w.at) in
+        subst (IsGearAt x.shape (after_gather x.sink (map drained_of x.gears)) g) w.is (record {
+          shape = a.shape;
+          number = a.number;
+          gathered = promise-at x.gears g w.old w.at;
+          fresh = λ l i. absurd i;
+          pending = λ l i. elim (In-parts (get_or x.sink.pending g []) (get_or (map labels_of (map drained_of x.gears)) g []) l (subst (λ (ls : List Label). In ls l) (joined-get x.sink.pending (map labels_of (map drained_of x.gears)) g lt) i)) [
+            | inl old ↦ a.pending l old
+            | inr new ↦ a.fresh l (subst (λ (ls : List Label). In ls l) (labels-at x.gears g w.old w.at) new)
+          ];
+          absent = a.absent;
+        });
+    are = good;
+  };
+  sink = record {
+    own = k.sink.own;
+    promises = length-drained promise_of x.gears ∙ k.gears.count;
+    rows = length-joined x.sink.pending (map labels_of (map drained_of x.gears)) ∙ k.sink.rows;
+    last = k.sink.last;
+  };
+  counts = length-drained counts_of x.gears ∙ k.gears.count;
+  views = k.views;
+  proxy = k.proxy;
+  made = k.made;
 }
 
--- ---- emission
+-- ---- what is sent
 
-pub sent-site : (x : SiteSeen) (l : Label) → IsSite x → IsSite (sent x l)
-sent-site x l k = record {
+-- a sink with other labels sent, whose pending ones are some of those that were
+pub sink-site : (x : SiteSeen) (s : Sink) → IsSite x → HasSink x.shape s → ((g : ℕ) → get_or s.promises g 0 ≡ get_or x.sink.promises g 0) → ((g : ℕ) (l : Label) → In (get_or s.pending g []) l → In (get_or x.sink.pending g []) l) → IsSite (record x { sink = s })
+sink-site x s k has same some = record {
   shape = k.shape;
-  count = k.count;
-  gears = λ g gear at.
-      let a : IsGearAt x.shape x.sink g gear = k.gears g gear at in
-      record {
-        shape = a.shape;
-        number = a.number;
-        gathered = a.gathered;
-        fresh = a.fresh;
-        pending = λ m i. a.pending m (In-filter (λ m. not (label_eq l m)) (get_or x.sink.pending g []) m (subst (λ (ls : List Label). In ls m) (without-get l x.sink.pending g) i)).0;
-        absent = a.absent;
-      };
-  gears_are = k.gears_are;
-  sink = k.sink;
-  promises = k.promises;
-  rows = length-map x.sink.pending (filter (λ m. not (label_eq l m))) ∙ k.rows;
-  epochs = k.epochs;
-  own = k.own;
-  heard = k.heard;
-  windows = k.windows;
-  waiting = k.waiting;
+  gears = record {
+    count = k.gears.count;
+    each = λ g gear at.
+        let a : IsGearAt x.shape x.sink g gear = k.gears.each g gear at in
+        record { shape = a.shape; number = a.number; gathered = same g ∙ a.gathered; fresh = a.fresh; pending = λ m i. a.pending m (some g m i); absent = a.absent };
+    are = k.gears.are;
+  };
+  sink = has;
+  counts = k.counts;
+  views = k.views;
+  proxy = k.proxy;
+  made = k.made;
 }
 
--- a pending label is an update of the site
-pub ready-here : (x : SiteSeen) (l : Label) → IsSite x → ready_of x.sink ≡ Some l → IsUpdateHere x.shape l
+-- a pending label is one that the site made
+pub ready-here : (x : SiteSeen) (l : Label) → IsSite x → ready_of x.sink ≡ Some l → IsMadeHere x.shape l
 ready-here x l k e =
     let w : IsLeast (is_up_to (stable_of x.sink)) (all_of x.sink.pending) l = least-is (is_up_to (stable_of x.sink)) (all_of x.sink.pending) l e in
     let p : Place x.sink.pending l = In-all x.sink.pending l w.member in
-    let y = each-gear x p.gear (subst (λ (n : ℕ). p.gear < n) (k.rows ∙ sym k.count) p.within) in
-    (k.gears p.gear y.0 y.1).pending l p.there
+    let y = each-gear x p.gear (subst (λ (n : ℕ). p.gear < n) (k.sink.rows ∙ sym k.gears.count) p.within) in
+    (k.gears.each p.gear y.0 y.1).pending l p.there
 
-kind-of : (shape : Shape) (kind : Kind) (n : ℕ) → kind ≡ Update n → n < length shape.interest.replicas → IsKindOf shape.interest kind
-kind-of shape kind n e lt = subst (IsKindOf shape.interest) (sym e) lt
+own-here : (x : SiteSeen) (n : ℕ) → IsSite x → n ≡ x.shape.site → n < x.shape.interest.sites
+own-here x n k e = subst (λ (n : ℕ). n < x.shape.interest.sites) (sym e) (subst (λ (n : ℕ). x.shape.site < n) (sym k.shape.sites) k.shape.site)
 
-pub label-here : (x : SiteSeen) (l : Label) → IsSite x → IsUpdateHere x.shape l → IsLabelOf x.shape.interest l
-label-here x l k u = record {
-  own = subst (λ (n : ℕ). n < x.shape.interest.sites) (sym u.site) (subst (λ (n : ℕ). x.shape.site < n) (sym k.shape.sites) k.shape.site);
-  kind = kind-of x.shape l.kind u.item.0 u.item.1 u.item.2;
-}
+pub label-here : (x : SiteSeen) (l : Label) → IsSite x → IsMadeHere x.shape l → IsLabelOf x.shape.interest l
+label-here x l k u = record { own = own-here x l.point.site k u.site; kind = u.kind }
 
--- ---- payloads
+-- a pulse and a close of the site
+pub pulse-here : (x : SiteSeen) → IsSite x → IsLabelOf x.shape.interest (pulse_of x.sink)
+pulse-here x k = record { own = own-here x x.sink.site k k.sink.own; kind = tt }
 
-pub brought-site : (x : SiteSeen) (from gear n : ℕ) (p : Payload) → IsSite x → IsGuest x.shape p → IsSite (brought x from gear n p)
-brought-site x from gear n p k guest = record {
+pub close-here : (x : SiteSeen) → IsSite x → (cut_of x.sink).site ≡ x.shape.site → IsLabelOf x.shape.interest (close_label x)
+close-here x k e = record { own = own-here x (cut_of x.sink).site k e; kind = tt }
+
+pub sent-site : (x : SiteSeen) (l : Label) → IsSite x → l.point.site ≡ x.shape.site → IsSite (sent x l)
+sent-site x l k own = sink-site x (after_emit_of x.sink l) k (record { own = k.sink.own; promises = k.sink.promises; rows = length-map x.sink.pending (filter (λ m. not (label_eq l m))) ∙ k.sink.rows; last = own }) (λ g. refl)
+    (λ g m i. (In-filter (λ m. not (label_eq l m)) (get_or x.sink.pending g []) m (subst (λ (ls : List Label). In ls m) (without-get l x.sink.pending g) i)).0)
+
+pub pulsed-site : (x : SiteSeen) → IsSite x → IsSite (pulsed x)
+pulsed-site x k = sink-site x (after_pulse x.sink) k (record { own = k.sink.own; promises = k.sink.promises; rows = k.sink.rows; last = k.sink.own }) (λ g. refl) (λ g m i. i)
+
+abbrev cut_by : Sink → Option Label → Point
+cut_by s o = elim o [ None ↦ mark (stable_of s) s.site | Some l ↦ greater_point s.last (mark (l.point.ts - 1) s.site) ]
+
+abbrev chosen_point : Bool → Point → Point → Point
+chosen_point b p q = if b then p else q
+
+-- the cut is of the site
+pub cut-site : (x : SiteSeen) → IsSite x → (cut_of x.sink).site ≡ x.shape.site
+cut-site x k = go (ready_of x.sink)
+  where
+    greater : (p q : Point) (b : Bool) → p.site ≡ x.shape.site → q.site ≡ x.shape.site → (chosen_point b q p).site ≡ x.shape.site
+    greater p q true e f = f
+    greater p q false e f = e
+
+    go : (o : Option Label) → (cut_by x.sink o).site ≡ x.shape.site
+    go None = k.sink.own
+    go (Some l) = greater x.sink.last (mark (l.point.ts - 1) x.sink.site) (point_lt x.sink.last (mark (l.point.ts - 1) x.sink.site)) k.sink.last k.sink.own
+
+-- ---- what the site has of the others
+
+pub proxy-site : (x : SiteSeen) (p : ProxySeen) → IsSite x → HasPeers x.shape p → IsSite (record x { proxy = p })
+proxy-site x p k has = record { shape = k.shape; gears = k.gears; sink = k.sink; counts = k.counts; views = k.views; proxy = has; made = k.made }
+
+pub views-site : (x : SiteSeen) (v : Epochs) → IsSite x → HasEpochs x.shape v → length v.stamp ≡ length x.views.stamp → IsSite (record x { views = v })
+views-site x v k has same = record {
   shape = k.shape;
-  count = k.count;
   gears = k.gears;
-  gears_are = k.gears_are;
   sink = k.sink;
-  promises = k.promises;
-  rows = k.rows;
-  epochs = k.epochs;
-  own = k.own;
-  heard = k.heard;
-  windows = length-set x.windows (lane_place x.shape from gear) _ ∙ k.windows;
-  waiting = more-each (IsGuest x.shape) x.waiting p guest k.waiting;
+  counts = k.counts;
+  views = has;
+  proxy = k.proxy;
+  made = record { count = k.made.count; each = λ j n beat at. let b = k.made.each j n beat at in record { counts = b.counts; closes = subst (λ (m : ℕ). length beat.closes ≤ m) (sym same) b.closes } };
 }
-
-left-site : (x : SiteSeen) (n : ℕ) → IsSite x → IsSite (record x { waiting = remove x.waiting n })
-left-site x n k = record {
-  shape = k.shape;
-  count = k.count;
-  gears = k.gears;
-  gears_are = k.gears_are;
-  sink = k.sink;
-  promises = k.promises;
-  rows = k.rows;
-  epochs = k.epochs;
-  own = k.own;
-  heard = k.heard;
-  windows = k.windows;
-  waiting = left-each (IsGuest x.shape) x.waiting n k.waiting;
-}
-
-pub showed-site : (x : SiteSeen) (g n : ℕ) (new : GearSeen) → IsSite x → IsGearAt x.shape x.sink g new → IsGear new → IsSite (showed x g new n)
-showed-site x g n new k a good = with-gear-site (record x { waiting = remove x.waiting n }) g new (left-site x n k) a good

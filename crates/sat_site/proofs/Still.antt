@@ -27,6 +27,14 @@ pub repeats : (d : Deployed) (i : ℕ) (x : SiteSeen) (s : SiteState) (input : S
 unfolding site_next
 repeats d i x s input st = st
 
+pub olds : (d : Deployed) (i : ℕ) (x : SiteSeen) (s : SiteState) (input : SiteInput) → StandsSite d i x s → StandsSite d i x (site_next d i s input ans.Old)
+unfolding site_next
+olds d i x s input st = st
+
+pub attaches : (d : Deployed) (i : ℕ) (x : SiteSeen) (s : SiteState) (input : SiteInput) → StandsSite d i x s → StandsSite d i x (site_next d i s input ans.Attached)
+unfolding site_next
+attaches d i x s input st = st
+
 pub reads-nothing : (d : Deployed) (i : ℕ) (x : SiteSeen) (s : SiteState) (input : SiteInput) → StandsSite d i x s → StandsSite d i x (site_next d i s input ans.ReadNone)
 unfolding site_next
 reads-nothing d i x s input st = st
@@ -51,11 +59,12 @@ ticks-stand d i x s g t gear at st = record {
   shape = st.shape;
   gears = gears-set d x.gears g (after_tick gear t) s.gears (λ k. gear_next d k (s.gears k) (given.Tick g t) (ans.Ticked (max gear.promise t))) st.gears
       (raised-gear d gear (s.gears g) g g t refl (st.gears.each g gear at))
-      (λ k y e old. kept-gear d y (s.gears k) g k t (max gear.promise t) e old);
+      (λ k y e old. kept-gear d y (s.gears k) g k t (max gear.promise t) e old) (λ k j past. refl);
   sink = st.sink;
   views = st.views;
   proxy = st.proxy;
   store = store-set d x.gears g gear (after_tick gear t) s.store s.store at st.store (λ n e old. old) (λ n e. refl);
+  made = st.made;
 }
 
 clocked-gear : (d : Deployed) (gear : GearSeen) (s : GearState) (k t : ℕ) → gear.promise ≤ t → StandsGear d gear s → StandsGear d (ticked_to t gear) (gear_next d k s (given.Clock t) (ans.Clocked t))
@@ -65,9 +74,10 @@ pub clocks-stand : (d : Deployed) (i : ℕ) (x : SiteSeen) (s : SiteState) (t : 
 unfolding site_next
 clocks-stand d i x s t up st = record {
   shape = st.shape;
-  gears = gears-map d (ticked_to t) x.gears s.gears (λ k. gear_next d k (s.gears k) (given.Clock t) (ans.Clocked t)) st.gears (λ k gear at old. clocked-gear d gear (s.gears k) k t (up k gear at) old);
+  gears = gears-map d (ticked_to t) x.gears s.gears (λ k. gear_next d k (s.gears k) (given.Clock t) (ans.Clocked t)) st.gears (λ k gear at old. clocked-gear d gear (s.gears k) k t (up k gear at) old) (λ g j. refl);
   sink = st.sink;
   views = st.views;
   proxy = st.proxy;
   store = store-map d (ticked_to t) x.gears s.store st.store (λ gear n. refl);
+  made = st.made;
 }

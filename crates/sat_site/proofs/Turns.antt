@@ -1,219 +1,250 @@
--- A turn: the front of the link to the site.
-use Rattle.std.specs.Prelude.{◌≡◌, ◌<◌, ◌≤◌, ◌/◌, ◌%◌, ℕ, Bool, true, false, ◌==◌, ◌||◌, ◌&&◌, not, List, length, map, filter, get_or, set, Option, Some, None, is_none, slice_get, if◌then◌else◌, refl}
-use Rattle.std.proofs.Common.{subst, ap, sym, ◌∙◌, arith}
-use Rattle.std.proofs.lemmas.Bool.{eq-eqb, eqb-true, eqb-false, ne_eqb}
-use Rattle.std.proofs.lemmas.List.{get_or-set_same, get_or-set_other}
+-- A turn, and the next update in timestamp order.
+use Rattle.std.specs.Prelude.{◌≡◌, ◌<◌, ◌&&◌, not, ℕ, Bool, true, false, List, [], ◌∷◌, map, Option, Some, None, if◌then◌else◌, refl}
+use Rattle.std.proofs.Common.{subst, ap, sym, ◌∙◌, inl, inr}
 use Rattle.sat_label.specs.declared.label.Label.{Label}
 use Rattle.sat_label.specs.declared.label.Kind.{Kind}
 use Rattle.sat_label.specs.declared.label.Kind.TheVariants.{Update, Move, Pulse, Close}
 use Rattle.sat_label.specs.Order.{label_eq}
-use Rattle.sat_label.specs.Words.{has}
+use Rattle.sat_label.specs.Members.{In}
+use Rattle.sat_label.proofs.Orders.{same-label}
+use Rattle.sat_label.proofs.Least.{least-is}
 use Rattle.sat_bulk.specs.declared.Payload.{Payload}
-use Rattle.sat_epoch.specs.Epochs.{Epochs, after_hear, in_stamp}
-use Rattle.sat_gear.specs.Gear.{GearSeen, IsGear, after_show}
-use Rattle.sat_sites.specs.Interested.{keeps}
-use Rattle.sat_sites.specs.declared.shape.Shape.{Shape}
-use Rattle.sat_tree.specs.Shape.{TreeShape}
+use Rattle.sat_pool.specs.Pool.{Waiting, all_waiting, labels_waiting, labelled, waiting_at}
+use Rattle.sat_pool.proofs.Members.{found-in, in-found}
+use Rattle.sat_epoch.specs.Epochs.{in_stamp}
 use Rattle.sat_act.specs.declared.answer.Answer.TheVariants as ans
 use Rattle.sat_act.specs.declared.answer.Answer.{Answer}
 use Rattle.sat_act.specs.declared.answer.Refusal.TheVariants as why
-use Rattle.sat_act.specs.Answers.{gear_of, turned, refused_if}
-use Rattle.sat_act.specs.Parts.{is_update, is_update_of, tree_of}
 use Rattle.sat_act.specs.Deployed.{Deployed}
+use Rattle.sat_act.specs.Settling.{is_done}
 use Rattle.sat_machine.specs.Input as given
-use Rattle.sat_machine.specs.State.{SiteState, GearState, ViewState}
-use Rattle.sat_machine.specs.Next.{site_next, gear_next, payload_at, put, store_next, views_next}
-use Rattle.sat_machine.specs.Reply.{site_answer}
-use Rattle.sat_machine.specs.Look.{label_of, payload_in, mode_of}
-use Rattle.sat_site.specs.Seen.{SiteSeen, IsSite, IsGuest}
-use Rattle.sat_site.specs.Stands.{StandsSite, StandsGear, StandsViews}
-use Rattle.sat_site.specs.Changes.{showed, heard, gear_at, HasGear}
+use Rattle.sat_machine.specs.State.{SiteState}
+use Rattle.sat_machine.specs.Next.{proxy_next, site_next, views_next}
+use Rattle.sat_machine.specs.Reply.{candidate_by, own_passed, past_by}
+use Rattle.sat_proxy.specs.Proxy.{outlook_here}
+use Rattle.sat_proxy.specs.Asks.{all_passed}
+use Rattle.sat_proxy.specs.Steps as made
+use Rattle.sat_proxy.specs.Answers.{done_answer, front_answer, next_answer, turn_answer, stamp_answer}
+use Rattle.sat_proxy.specs.Stands.{StandsProxy}
+use Rattle.sat_proxy.specs.declared.proxy.TurnFault.TheVariants as turn
+use Rattle.sat_proxy.specs.declared.proxy.StampFault.TheVariants as stamp
+use Rattle.sat_site.specs.Seen.{SiteSeen, IsSite}
+use Rattle.sat_site.specs.Stands.{StandsSite, StandsViews}
 use Rattle.sat_site.specs.Inputs.{IsFront}
-use Rattle.sat_site.specs.Does.{Turns, turns_none, takes, hears, lacks, shows}
-use Rattle.sat_site.proofs.Lists.{passed}
-use Rattle.sat_site.proofs.Stores.{newer-stored}
-use Rattle.sat_gear.proofs.Places.{within_places}
-use Rattle.sat_site.proofs.Parts.{count-is, gear-of-is, gears-set, store-set}
-use Rattle.sat_site.proofs.Payloads.{Only, only, left-different}
-use Rattle.sat_site.proofs.Writes.{version-is}
+use Rattle.sat_site.specs.SiteSteps.{show_some, turned_after, stamped_after}
+use Rattle.sat_site.specs.Gives.{label_sent}
+use Rattle.sat_site.proofs.Epochs.{took-views}
+use Rattle.sat_site.proofs.Shows.{shown-stands}
 use Rattle.sat_site.proofs.Still.{refuses}
 
--- ---- the mode
+-- ---- the payload of a label
 
-by-plan : (o : Option TreeShape) (b : Bool) → (is_none o || b) ≡ elim o [ None ↦ true | Some t ↦ b ]
-by-plan None b = refl
-by-plan (Some t) b = refl
+pub record Found (w : Waiting) (l : Label) (p : Payload) : Type 0 where
+  pub label : p.label ≡ l
+  pub there : In (all_waiting w) p
 
--- the site is in stamp mode where the machine is
-pub mode-is : (d : Deployed) (i : ℕ) (x : SiteSeen) (s : SiteState) → IsSite x → StandsSite d i x s → in_stamp x.views ≡ mode_of d s
-mode-is d i x s k st =
-    let start : 1 ≤ x.views.view = k.epochs.start in
-    let last : x.views.view ≤ length d.plans = subst (λ (n : ℕ). x.views.view ≤ n) st.views.count (let low = k.epochs.low in let high = k.epochs.last in omega arith) in
-    ap (λ (b : Bool). b || x.views.fallen) (st.views.plans x.views.view start last) ∙
-    (by-plan (tree_of d x.views.view) x.views.fallen ∙ (λ j. mode_by (tree_of d (st.views.view j)) (st.views.fallen j)))
+pub found : (w : Waiting) (l : Label) (p : Payload) → made.waiting_of w l ≡ Some p → Found w l p
+found w l p e = go (waiting_at w l.point) refl e
   where
-    mode_by : Option TreeShape → Bool → Bool
-    mode_by o b = elim o [ None ↦ true | Some t ↦ b ]
+    by : (q : Payload) (b : Bool) → waiting_at w l.point ≡ Some q → label_eq q.label l ≡ b → (if b then Some q else None) ≡ Some p → Found w l p
+    by q true at same e = let is : q ≡ p = cc in subst (λ (x : Payload). Found w l x) is (record { label = same-label q.label l same; there = (found-in w l.point q at).0 })
+    by q false at same e = absurd (cc)
 
-unfoldable answer_by : Bool → Option Label → List Label → Answer
-answer_by b o ls = refused_if b why.StampOrder (elim o [ None ↦ ans.Refused why.Empty | Some l ↦ turned ls l ])
+    go : (o : Option Payload) → waiting_at w l.point ≡ o → (elim o [ None ↦ None | Some p ↦ if label_eq p.label l then Some p else None ]) ≡ Some p → Found w l p
+    go None at e = absurd (cc)
+    go (Some q) at e = by q (label_eq q.label l) at refl e
 
--- it answers by its mode, the front and what waits
-turn-by : (d : Deployed) (i : ℕ) (x : SiteSeen) (s : SiteState) (front : Option Label) (b : Bool) → IsSite x → StandsSite d i x s → in_stamp x.views ≡ b → answer_by b front (map label_of x.waiting) ≡ site_answer d i s (given.Turn front)
-unfolding site_answer answer_by
-turn-by d i x s front b k st e =
-    ap (λ (b : Bool). answer_by b front (map label_of x.waiting)) (sym e ∙ mode-is d i x s k st) ∙ ap (λ (ps : List Payload). answer_by (mode_of d s) front (map label_of ps)) st.proxy.pool
+-- ---- a turn
 
-pub stamps-answer : (d : Deployed) (i : ℕ) (x : SiteSeen) (s : SiteState) (front : Option Label) → IsSite x → in_stamp x.views ≡ true → StandsSite d i x s → ans.Refused why.StampOrder ≡ site_answer d i s (given.Turn front)
-unfolding answer_by
-stamps-answer d i x s front k e st = turn-by d i x s front true k st e
-
-abbrev took_or : List Label → Label → Bool → Answer
-took_or ls l b = if b then (if has label_eq ls l then ans.Shown l else ans.Refused (why.NoPayload l)) else ans.Took l
-
-pub turn-answer : (d : Deployed) (i : ℕ) (x : SiteSeen) (s : SiteState) (front : Option Label) (r : Answer) (y : SiteSeen) → IsSite x → in_stamp x.views ≡ false → StandsSite d i x s → Turns x front r y → r ≡ site_answer d i s (given.Turn front)
-unfolding answer_by
-turn-answer d i x s front r y k m st turns_none = turn-by d i x s None false k st m
-turn-answer d i x s front r y k m st (takes l e other) = ap (took_or (map label_of x.waiting) l) (sym e) ∙ turn-by d i x s (Some l) false k st m
-turn-answer d i x s front r y k m st (hears l f e) = ap (λ (kind : Kind). took_or (map label_of x.waiting) l (is_update kind)) (sym e) ∙ turn-by d i x s (Some l) false k st m
-turn-answer d i x s front r y k m st (lacks l e f none) =
-    ap (λ (b : Bool). if b then ans.Shown l else ans.Refused (why.NoPayload l)) (sym f) ∙ (ap (took_or (map label_of x.waiting) l) (sym e) ∙ turn-by d i x s (Some l) false k st m)
-turn-answer d i x s front r y k m st (shows l n p gear q kind same here at good first) =
-    let o : Only x.waiting n p = only x.waiting n p st.proxy.different here in
-    let waits : has label_eq (map label_of x.waiting) l ≡ true = subst (λ (l : Label). has label_eq (map label_of x.waiting) l ≡ true) same o.waits in
-    ap (λ (b : Bool). if b then ans.Shown l else ans.Refused (why.NoPayload l)) (sym waits) ∙
-    (ap (λ (kind : Kind). took_or (map label_of x.waiting) l (is_update kind)) (sym kind) ∙ turn-by d i x s (Some l) false k st m)
-
--- ---- a label that is taken
-
-abbrev closes_in : Kind → ℕ → Bool
-closes_in kind epoch = elim kind [ Close closed ↦ closed == epoch | _ ↦ false ]
-
-no-close : (b c : Bool) (kind : Kind) (epoch : ℕ) → ((e : ℕ) → kind ≡ Close e → ⊥) → ((b && closes_in kind epoch) || c) ≡ c
-no-close b c (Update n) epoch f = go b
-  where
-    go : (b : Bool) → ((b && false) || c) ≡ c
-    go true = refl
-    go false = refl
-no-close b c (Move j) epoch f = go b
-  where
-    go : (b : Bool) → ((b && false) || c) ≡ c
-    go true = refl
-    go false = refl
-no-close b c Pulse epoch f = go b
-  where
-    go : (b : Bool) → ((b && false) || c) ≡ c
-    go true = refl
-    go false = refl
-no-close b c (Close e) epoch f = absurd (f e refl)
-
-took-views : (d : Deployed) (i : ℕ) (views : Epochs) (s : ViewState) (l : Label) → ((e : ℕ) → l.kind ≡ Close e → ⊥) → StandsViews d i views s → StandsViews d i views (views_next s (ans.Took l))
-took-views d i views s l other st = record {
-  view = st.view;
-  emission = st.emission;
-  fallen = st.fallen;
-  closes = st.closes;
-  heard = λ k lt e. no-close (l.point.site == k) (s.heard k s.view) l.kind s.view other ∙ st.heard k lt e;
-  plans = st.plans;
-  count = st.count;
-}
-
--- a close of the view is heard from its site alone
-close-heard : (hs : List Bool) (from k e view : ℕ) (kind : Kind) (b : Bool) → from < length hs → kind ≡ Close e → e ≡ view → b ≡ get_or hs k false → (((from == k) && closes_in kind view) || b) ≡ get_or (set hs from true) k false
-close-heard hs from k e view kind b lt same now old = ap (λ (kind : Kind). ((from == k) && closes_in kind view) || b) same ∙ go (from == k) refl
-  where
-    go : (c : Bool) → (from == k) ≡ c → ((c && (e == view)) || b) ≡ get_or (set hs from true) k false
-    go true f =
-        ap (λ (c : Bool). c || b) (eq-eqb e view now) ∙ (sym (get_or-set_same hs from true false lt) ∙ ap (λ (n : ℕ). get_or (set hs from true) n false) (eqb-true from k f))
-    go false f = old ∙ sym (get_or-set_other hs from k true false (λ w. eqb-false from k f (sym w)))
-
-heard-views : (d : Deployed) (i : ℕ) (views : Epochs) (s : ViewState) (l : Label) (e : ℕ) → l.point.site < length views.heard → l.kind ≡ Close e → e ≡ views.view → StandsViews d i views s → StandsViews d i (after_hear views l.point.site) (views_next s (ans.Took l))
-heard-views d i views s l e lt same now st = record {
-  view = st.view;
-  emission = st.emission;
-  fallen = st.fallen;
-  closes = st.closes;
-  heard = λ k known other. close-heard views.heard l.point.site k e s.view l.kind (s.heard k s.view) lt same (now ∙ st.view) (st.heard k known other);
-  plans = st.plans;
-  count = st.count;
-}
-
-took-stands : (d : Deployed) (i : ℕ) (x : SiteSeen) (s : SiteState) (l : Label) → ((e : ℕ) → l.kind ≡ Close e → ⊥) → StandsSite d i x s → StandsSite d i x (site_next d i s (given.Turn (Some l)) (ans.Took l))
+took-rest : (d : Deployed) (i : ℕ) (x : SiteSeen) (s : SiteState) (l : Label) (kind : Kind) → l.kind ≡ kind → done_answer l kind ≡ ans.Took l → StandsSite d i x s → l.point.site < x.shape.sites → IsSite x → ((e : ℕ) → kind ≡ Close e → e ≡ x.views.view) →
+    StandsProxy (made.knowing x.proxy l) (proxy_next d i s (given.Turn (Some l)) (ans.Took l)) → StandsSite d i (record x { views = made.front_views x.views l kind; proxy = made.knowing x.proxy l }) (site_next d i s (given.Turn (Some l)) (ans.Took l))
 unfolding site_next
-took-stands d i x s l other st = record {
+took-rest d i x s l kind e took st lt k now proxy = record {
   shape = st.shape;
   gears = st.gears;
   sink = st.sink;
-  views = took-views d i x.views s.views l other st.views;
-  proxy = record { taken = st.proxy.taken; pool = st.proxy.pool; different = st.proxy.different };
+  views = subst (λ (r : Answer). StandsViews d i (made.front_views x.views l kind) (views_next s.views r)) took (took-views d i x.views s.views l kind e (subst (λ (n : ℕ). l.point.site < n) (sym k.views.heard) lt) now st.views);
+  proxy = proxy;
   store = st.store;
+  made = st.made;
 }
 
-heard-stands : (d : Deployed) (i : ℕ) (x : SiteSeen) (s : SiteState) (l : Label) (e : ℕ) → IsSite x → IsFront x l → l.kind ≡ Close e → StandsSite d i x s → StandsSite d i (heard x l.point.site) (site_next d i s (given.Turn (Some l)) (ans.Took l))
-unfolding site_next
-heard-stands d i x s l e k f same st = record {
-  shape = st.shape;
-  gears = st.gears;
-  sink = st.sink;
-  views = heard-views d i x.views s.views l e (subst (λ (n : ℕ). l.point.site < n) (sym k.heard) f.from) same (f.close e same) st.views;
-  proxy = record { taken = st.proxy.taken; pool = st.proxy.pool; different = st.proxy.different };
-  store = st.store;
-}
+abbrev turn_stands : Deployed → ℕ → SiteSeen → SiteState → Option Label → Type 0
+turn_stands d i x s front = StandsProxy (made.turn_after x.views x.proxy front) (proxy_next d i s (given.Turn front) (turn_answer x.views x.proxy front)) → StandsSite d i (turned_after x front) (site_next d i s (given.Turn front) (turn_answer x.views x.proxy front))
 
--- ---- an update that is shown
+pub turns-stand : (d : Deployed) (i : ℕ) (x : SiteSeen) (s : SiteState) (front : Option Label) → IsSite x → ((l : Label) → front ≡ Some l → IsFront x l) → StandsSite d i x s → turn_stands d i x s front
+turns-stand d i x s front k f st = go front f (in_stamp x.views)
+  where
+    by_mode : Option Label → Bool → Type 0
+    by_mode front b =
+        StandsProxy (if b then x.proxy else made.link_after x.proxy front) (proxy_next d i s (given.Turn front) (front_answer (if b then Some turn.StampOrder else made.link_fault x.proxy.pool front) front)) →
+        StandsSite d i (show_some (record x { views = if b then x.views else made.link_views x.views front; proxy = if b then x.proxy else made.link_after x.proxy front }) (if b then None else made.link_shows x.proxy.pool front))
+        (site_next d i s (given.Turn front) (front_answer (if b then Some turn.StampOrder else made.link_fault x.proxy.pool front) front))
 
--- the item of a payload that waits
-pub guest-item : (shape : Shape) (p : Payload) (n : ℕ) → IsGuest shape p → p.label.kind ≡ Update n → (n < length shape.interest.replicas) × (keeps shape.interest n shape.site ≡ true)
-guest-item shape p n g e =
-    let both : Update g.item.0 ≡ Update n = sym g.item.1 ∙ e in
-    let same : g.item.0 ≡ n = cc in
-    (subst (λ (m : ℕ). m < length shape.interest.replicas) same g.item.2, subst (λ (m : ℕ). keeps shape.interest m shape.site ≡ true) same g.item.3)
+    update : (l : Label) (n : ℕ) (o : Option Payload) → l.kind ≡ Update n → made.waiting_of x.proxy.pool l ≡ o →
+        StandsProxy (made.shown_after x.proxy l o) (proxy_next d i s (given.Turn (Some l)) (front_answer (made.missing l o) (Some l))) →
+        StandsSite d i (show_some (record x { proxy = made.shown_after x.proxy l o }) o) (site_next d i s (given.Turn (Some l)) (front_answer (made.missing l o) (Some l)))
+    update l n None e at proxy = refuses d i x s (given.Turn (Some l)) (why.NoPayload l) st
+    update l n (Some p) e at proxy =
+        let w : Found x.proxy.pool l p = found x.proxy.pool l p at in
+        let done : done_answer l l.kind ≡ ans.Shown l = ap (done_answer l) e in
+        subst (λ (r : Answer). StandsSite d i (show_some (record x { proxy = made.showing x.proxy l }) (Some p)) (site_next d i s (given.Turn (Some l)) r)) (sym done)
+        (subst (λ (m : Label). StandsSite d i (show_some (record x { proxy = made.showing x.proxy l }) (Some p)) (site_next d i s (given.Turn (Some l)) (ans.Shown m))) w.label
+        (shown-stands d i x s p (given.Turn (Some l)) x.views (made.showing x.proxy l) k w.there st st.views
+        (subst (λ (m : Label). StandsProxy (made.showing x.proxy l) (proxy_next d i s (given.Turn (Some l)) (ans.Shown m))) (sym w.label) (subst (λ (r : Answer). StandsProxy (made.showing x.proxy l) (proxy_next d i s (given.Turn (Some l)) r)) done proxy))))
 
-shown-gear : (d : Deployed) (gear : GearSeen) (s : GearState) (m k : ℕ) (p : Payload) (l : Label) → StandsGear d gear s → StandsGear d (after_show gear k p) (gear_next d m s (given.Turn (Some l)) (ans.Shown l))
-shown-gear d gear s m k p l st = record { promise = st.promise; fresh = st.fresh; lanes = st.lanes }
+    takes : (l : Label) (kind : Kind) → l.kind ≡ kind → done_answer l kind ≡ ans.Took l → IsFront x l → StandsProxy (made.knowing x.proxy l) (proxy_next d i s (given.Turn (Some l)) (done_answer l l.kind)) →
+        StandsSite d i (record x { views = made.front_views x.views l kind; proxy = made.knowing x.proxy l }) (site_next d i s (given.Turn (Some l)) (done_answer l l.kind))
+    takes l kind e took front proxy =
+        let done : done_answer l l.kind ≡ ans.Took l = ap (done_answer l) e ∙ took in
+        subst (λ (r : Answer). StandsSite d i (record x { views = made.front_views x.views l kind; proxy = made.knowing x.proxy l }) (site_next d i s (given.Turn (Some l)) r)) (sym done)
+        (took-rest d i x s l kind e took st front.from k (λ n same. front.close n (e ∙ same)) (subst (λ (r : Answer). StandsProxy (made.knowing x.proxy l) (proxy_next d i s (given.Turn (Some l)) r)) done proxy))
 
--- what is put is the waiting payload
-put-is : (old : Option Payload) (kind : Kind) (k m : ℕ) (p q : Payload) → kind ≡ Update k → p ≡ q → (if k == m then put old p else old) ≡ (if is_update_of kind m then put old q else old)
-put-is old kind k m p q e f = ap (λ (p : Payload). if k == m then put old p else old) f ∙ ap (λ (kind : Kind). if is_update_of kind m then put old q else old) (sym e)
+    other : (l : Label) (kind : Kind) → l.kind ≡ kind → IsFront x l →
+        StandsProxy (made.front_after x.proxy l kind) (proxy_next d i s (given.Turn (Some l)) (front_answer (made.front_fault x.proxy.pool l kind) (Some l))) →
+        StandsSite d i (show_some (record x { views = made.front_views x.views l kind; proxy = made.front_after x.proxy l kind }) (made.front_shows x.proxy.pool l kind)) (site_next d i s (given.Turn (Some l)) (front_answer (made.front_fault x.proxy.pool l kind) (Some l)))
+    other l (Update n) e front proxy = update l n (made.waiting_of x.proxy.pool l) e refl proxy
+    other l (Move n) e front proxy = takes l (Move n) e refl front proxy
+    other l Pulse e front proxy = takes l Pulse e refl front proxy
+    other l (Close n) e front proxy = takes l (Close n) e refl front proxy
 
-payload-is : (p q : Payload) → p.label ≡ q.label → p.value ≡ q.value → p ≡ q
-payload-is p q e f = λ j. record { label = e j; value = f j }
+    go : (front : Option Label) → ((l : Label) → front ≡ Some l → IsFront x l) → (b : Bool) → by_mode front b
+    go front f true proxy = refuses d i x s (given.Turn front) why.StampOrder st
+    go None f false proxy = refuses d i x s (given.Turn None) why.Empty st
+    go (Some l) f false proxy = other l l.kind refl (f l refl) proxy
 
-shows-stand : (d : Deployed) (i : ℕ) (x : SiteSeen) (s : SiteState) (l : Label) (n : ℕ) (p : Payload) (gear : GearSeen) (k : ℕ) → IsSite x → l.kind ≡ Update k → p.label ≡ l → slice_get x.waiting n ≡ Some p → HasGear x (gear_at x k) gear → IsGear gear → StandsSite d i x s →
-    StandsSite d i (showed x (gear_at x k) (after_show gear k p) n) (site_next d i s (given.Turn (Some l)) (ans.Shown l))
-unfolding site_next
-shows-stand d i x s l n p gear k site kind same here at good st =
-    let item : k < length x.shape.interest.replicas = (guest-item x.shape p k (site.waiting n p here) (ap (λ (l : Label). l.kind) same ∙ kind)).0 in
-    let g : ℕ = gear_at x k in
-    let o : Only x.waiting n p = only x.waiting n p st.proxy.different here in
-    let shape : gear.shape ≡ x.shape = (site.gears g gear at).shape in
-    let gears : gear.shape.gears ≡ x.shape.gears = (λ j. (shape j).gears) in
-    let place : k / gear.shape.gears < length gear.versions =
-    subst (λ (m : ℕ). k / gear.shape.gears < m) (sym good.versions) (within_places k (length gear.shape.interest.replicas) gear.shape.gears good.shape.gears (subst (λ (m : ℕ). k < m) (λ j. length (sym shape j).interest.replicas) item)) in
-    let value : p.value ≡ payload_in s.proxy.pool l = sym o.value ∙ ((λ j. payload_in (st.proxy.pool j) (same j))) in
-    let whole : p ≡ payload_at l (payload_in s.proxy.pool l) = payload-is p (payload_at l (payload_in s.proxy.pool l)) same value in
+-- ---- what a turn answers, and that it changes nothing where it is refused
+
+pub turn-quiet : (x : SiteSeen) (front : Option Label) → label_sent (turn_answer x.views x.proxy front) ≡ None
+turn-quiet x front = go (in_stamp x.views) front
+  where
+    kinds : (l : Label) (kind : Kind) → label_sent (done_answer l kind) ≡ None
+    kinds l (Update n) = refl
+    kinds l (Move n) = refl
+    kinds l Pulse = refl
+    kinds l (Close n) = refl
+
+    missed : (l : Label) (o : Option Payload) → label_sent (front_answer (made.missing l o) (Some l)) ≡ None
+    missed l None = refl
+    missed l (Some p) = kinds l l.kind
+
+    by : (l : Label) (kind : Kind) → label_sent (front_answer (made.front_fault x.proxy.pool l kind) (Some l)) ≡ None
+    by l (Update n) = missed l (made.waiting_of x.proxy.pool l)
+    by l (Move n) = kinds l l.kind
+    by l Pulse = kinds l l.kind
+    by l (Close n) = kinds l l.kind
+
+    go : (b : Bool) (front : Option Label) → label_sent (front_answer (if b then Some turn.StampOrder else made.link_fault x.proxy.pool front) front) ≡ None
+    go true front = refl
+    go false None = refl
+    go false (Some l) = by l l.kind
+
+pub turn-refused : (x : SiteSeen) (front : Option Label) → is_done (turn_answer x.views x.proxy front) ≡ false → turned_after x front ≡ x
+turn-refused x front = go (in_stamp x.views) front
+  where
+    kinds : (l : Label) (kind : Kind) → is_done (done_answer l kind) ≡ false → ⊥
+    kinds l (Update n) e = cc
+    kinds l (Move n) e = cc
+    kinds l Pulse e = cc
+    kinds l (Close n) e = cc
+
+    missed : (l : Label) (o : Option Payload) → is_done (front_answer (made.missing l o) (Some l)) ≡ false → show_some (record x { proxy = made.shown_after x.proxy l o }) o ≡ x
+    missed l None e = refl
+    missed l (Some p) e = absurd (kinds l l.kind e)
+
+    by : (l : Label) (kind : Kind) → is_done (front_answer (made.front_fault x.proxy.pool l kind) (Some l)) ≡ false →
+        show_some (record x { views = made.front_views x.views l kind; proxy = made.front_after x.proxy l kind }) (made.front_shows x.proxy.pool l kind) ≡ x
+    by l (Update n) e = missed l (made.waiting_of x.proxy.pool l) e
+    by l (Move n) e = absurd (kinds l l.kind e)
+    by l Pulse e = absurd (kinds l l.kind e)
+    by l (Close n) e = absurd (kinds l l.kind e)
+
+    go : (b : Bool) (front : Option Label) → is_done (front_answer (if b then Some turn.StampOrder else made.link_fault x.proxy.pool front) front) ≡ false →
+        show_some (record x { views = if b then x.views else made.link_views x.views front; proxy = if b then x.proxy else made.link_after x.proxy front }) (if b then None else made.link_shows x.proxy.pool front) ≡ x
+    go true front e = refl
+    go false None e = refl
+    go false (Some l) e = by l l.kind e
+
+-- ---- the next update in timestamp order
+
+-- the candidate waits
+next-waits : (x : SiteSeen) (l : Label) → made.stamp_label x.views x.proxy ≡ Some l → In (labels_waiting x.proxy.pool) l
+next-waits x l e = go (candidate_by (outlook_here x.views x.proxy)) refl e
+  where
+    by : (m : Label) (b : Bool) → candidate_by (outlook_here x.views x.proxy) ≡ Some m → (if b then Some m else None) ≡ Some l → In (labels_waiting x.proxy.pool) l
+    by m true c e = let same : m ≡ l = cc in subst (λ (n : Label). In (labels_waiting x.proxy.pool) n) same (least-is (λ l. not (past_by (outlook_here x.views x.proxy) l)) (labels_waiting x.proxy.pool) m c).member
+    by m false c e = absurd (cc)
+
+    go : (o : Option Label) → candidate_by (outlook_here x.views x.proxy) ≡ o →
+        (elim o [ None ↦ None | Some l ↦ if all_passed x.proxy.sites (outlook_here x.views x.proxy) x.proxy.site l && own_passed (outlook_here x.views x.proxy) l then Some l else None ]) ≡ Some l → In (labels_waiting x.proxy.pool) l
+    go None c e = absurd (cc)
+    go (Some m) c e = by m (all_passed x.proxy.sites (outlook_here x.views x.proxy) x.proxy.site m && own_passed (outlook_here x.views x.proxy) m) c e
+
+labelled-in : (ps : List Payload) (l : Label) → In (map labelled ps) l → (p : Payload) × In ps p × (p.label ≡ l)
+labelled-in [] l i = absurd i
+labelled-in (p ∷ ps) l (inl e) = (p, inl refl, e)
+labelled-in (p ∷ ps) l (inr i) = let w = labelled-in ps l i in (w.0, inr w.1, w.2)
+
+-- the payload of the next update
+pub record Next (x : SiteSeen) (l : Label) : Type 0 where
+  pub payload : Payload
+  pub label : payload.label ≡ l
+  pub there : In (all_waiting x.proxy.pool) payload
+  pub found : waiting_at x.proxy.pool l.point ≡ Some payload
+
+pub next-payload : (x : SiteSeen) (l : Label) → IsSite x → made.stamp_label x.views x.proxy ≡ Some l → Next x l
+next-payload x l k e =
+    let w = labelled-in (all_waiting x.proxy.pool) l (next-waits x l e) in
     record {
-      shape = st.shape;
-      gears = gears-set d x.gears g (after_show gear k p) s.gears (λ m. gear_next d m (s.gears m) (given.Turn (Some l)) (ans.Shown l)) st.gears
-          (shown-gear d gear (s.gears g) g k p l (st.gears.each g gear at))
-          (λ m y e old. record { promise = old.promise; fresh = old.fresh; lanes = old.lanes });
-      sink = st.sink;
-      views = st.views;
-      proxy = record {
-        taken = st.proxy.taken;
-        pool = o.rest ∙ ((λ j. filter (λ q. not (label_eq (same j) q.label)) (st.proxy.pool j)));
-        different = left-different x.waiting n st.proxy.different;
-      };
-      store = store-set d x.gears g gear (after_show gear k p) s.store (λ m. store_next m (s.store m) s.proxy.pool (given.Turn (Some l)) (ans.Shown l)) at st.store
-          (λ m e old. newer-stored gear.versions k m gear.shape.gears p s.store place ((λ j. m % (gears ∙ count-is d i x s st) j) ∙ (e ∙ (λ j. k % sym gears j))) (version-is d i x s k gear item at st) old ∙
-          put-is (s.store m) l.kind k m p (payload_at l (payload_in s.proxy.pool l)) kind whole)
-          (λ m e. sym (passed (k == m) (put (s.store m) p) (s.store m) (ne_eqb k m (λ f. e (sym (ap (gear_of d) f) ∙ sym (gear-of-is d i x s k st))))) ∙
-          put-is (s.store m) l.kind k m p (payload_at l (payload_in s.proxy.pool l)) kind whole);
+      payload = w.0;
+      label = w.2;
+      there = w.1;
+      found = subst (λ (m : Label). waiting_at x.proxy.pool m.point ≡ Some w.0) w.2 (in-found x.proxy.pool w.0 k.proxy.sound.pool w.1);
     }
 
-pub turn-stand : (d : Deployed) (i : ℕ) (x : SiteSeen) (s : SiteState) (front : Option Label) (r : Answer) (y : SiteSeen) → IsSite x → ((l : Label) → front ≡ Some l → IsFront x l) → StandsSite d i x s → Turns x front r y → StandsSite d i y (site_next d i s (given.Turn front) r)
-turn-stand d i x s front r y k f st turns_none = refuses d i x s (given.Turn None) why.Empty st
-turn-stand d i x s front r y k f st (takes l e other) = took-stands d i x s l other st
-turn-stand d i x s front r y k f st (hears l e same) = heard-stands d i x s l e k (f l refl) same st
-turn-stand d i x s front r y k f st (lacks l e g none) = refuses d i x s (given.Turn (Some l)) (why.NoPayload l) st
-turn-stand d i x s front r y k f st (shows l n p gear m kind same here at good first) = shows-stand d i x s l n p gear m k kind same here at good st
+abbrev stamp_stands : Deployed → ℕ → SiteSeen → SiteState → Type 0
+stamp_stands d i x s = StandsProxy (made.stamp_after x.views x.proxy) (proxy_next d i s given.Stamp (stamp_answer x.views x.proxy)) → StandsSite d i (stamped_after x) (site_next d i s given.Stamp (stamp_answer x.views x.proxy))
+
+pub stamps-stand : (d : Deployed) (i : ℕ) (x : SiteSeen) (s : SiteState) → IsSite x → StandsSite d i x s → stamp_stands d i x s
+stamps-stand d i x s k st = go (in_stamp x.views)
+  where
+    payload : (l : Label) (o : Option Payload) → waiting_at x.proxy.pool l.point ≡ o → Next x l →
+        StandsProxy (made.left_after x.proxy o) (proxy_next d i s given.Stamp (ans.Shown l)) → StandsSite d i (show_some (record x { proxy = made.left_after x.proxy o }) o) (site_next d i s given.Stamp (ans.Shown l))
+    payload l None at n proxy = absurd (let clash : Some n.payload ≡ None = sym n.found ∙ at in cc)
+    payload l (Some p) at n proxy =
+        let both : Some n.payload ≡ Some p = sym n.found ∙ at in
+        let same : n.payload ≡ p = cc in
+        let label : p.label ≡ l = ap (λ (q : Payload). q.label) (sym same) ∙ n.label in
+        subst (λ (m : Label). StandsSite d i (show_some (record x { proxy = made.left_after x.proxy (Some p) }) (Some p)) (site_next d i s given.Stamp (ans.Shown m))) label
+        (shown-stands d i x s p given.Stamp x.views (made.left_after x.proxy (Some p)) k (subst (λ (q : Payload). In (all_waiting x.proxy.pool) q) same n.there) st st.views
+        (subst (λ (m : Label). StandsProxy (made.left_after x.proxy (Some p)) (proxy_next d i s given.Stamp (ans.Shown m))) (sym label) proxy))
+
+    label : (o : Option Label) → made.stamp_label x.views x.proxy ≡ o →
+        StandsProxy (made.left_after x.proxy (made.payload_at x.proxy.pool o)) (proxy_next d i s given.Stamp (next_answer (made.not_yet o) o)) →
+        StandsSite d i (show_some (record x { proxy = made.left_after x.proxy (made.payload_at x.proxy.pool o) }) (made.payload_at x.proxy.pool o)) (site_next d i s given.Stamp (next_answer (made.not_yet o) o))
+    label None e proxy = refuses d i x s given.Stamp why.NotYet st
+    label (Some l) e proxy = payload l (waiting_at x.proxy.pool l.point) refl (next-payload x l k e) proxy
+
+    go : (b : Bool) →
+        StandsProxy (made.left_after x.proxy (if b then made.payload_at x.proxy.pool (made.stamp_label x.views x.proxy) else None)) (proxy_next d i s given.Stamp (next_answer (if b then made.not_yet (made.stamp_label x.views x.proxy) else Some stamp.TreeOrder) (made.stamp_label x.views x.proxy))) →
+        StandsSite d i (show_some (record x { proxy = made.left_after x.proxy (if b then made.payload_at x.proxy.pool (made.stamp_label x.views x.proxy) else None) }) (if b then made.payload_at x.proxy.pool (made.stamp_label x.views x.proxy) else None))
+        (site_next d i s given.Stamp (next_answer (if b then made.not_yet (made.stamp_label x.views x.proxy) else Some stamp.TreeOrder) (made.stamp_label x.views x.proxy)))
+    go true proxy = label (made.stamp_label x.views x.proxy) refl proxy
+    go false proxy = refuses d i x s given.Stamp why.TreeOrder st
+
+pub stamp-quiet : (x : SiteSeen) → label_sent (stamp_answer x.views x.proxy) ≡ None
+stamp-quiet x = go (in_stamp x.views) (made.stamp_label x.views x.proxy)
+  where
+    go : (b : Bool) (o : Option Label) → label_sent (next_answer (if b then made.not_yet o else Some stamp.TreeOrder) o) ≡ None
+    go true None = refl
+    go true (Some l) = refl
+    go false o = refl
+
+pub stamp-refused : (x : SiteSeen) → is_done (stamp_answer x.views x.proxy) ≡ false → stamped_after x ≡ x
+stamp-refused x = go (in_stamp x.views) (made.stamp_label x.views x.proxy)
+  where
+    go : (b : Bool) (o : Option Label) → is_done (next_answer (if b then made.not_yet o else Some stamp.TreeOrder) o) ≡ false →
+        show_some (record x { proxy = made.left_after x.proxy (if b then made.payload_at x.proxy.pool o else None) }) (if b then made.payload_at x.proxy.pool o else None) ≡ x
+    go true None e = refl
+    go true (Some l) e = absurd (cc)
+    go false o e = refl

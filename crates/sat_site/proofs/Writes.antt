@@ -1,6 +1,7 @@
 -- A client's write and read.
-use Rattle.std.specs.Prelude.{◌≡◌, ◌<◌, ◌+◌, ◌/◌, ◌%◌, ◌^◌, ℕ, Bool, true, ◌==◌, ◌&&◌, not, nat_le, max, List, [], ◌∷◌, ◌++◌, length, Option, Some, None, if◌then◌else◌}
-use Rattle.std.proofs.Common.{subst, ap, sym, ◌∙◌}
+use Rattle.std.specs.Prelude.{◌≡◌, ◌≤◌, ◌<◌, ◌+◌, ◌/◌, ◌%◌, ◌^◌, ℕ, Bool, true, ◌==◌, ◌&&◌, not, nat_le, max, List, [], ◌∷◌, ◌++◌, length, Option, Some, None, if◌then◌else◌}
+use Rattle.std.proofs.Common.{subst, ap, sym, ◌∙◌, arith}
+use Rattle.std.proofs.lemmas.Nat.{mod_below}
 use Rattle.std.proofs.lemmas.Bool.{eq-eqb, ne_eqb}
 use Rattle.sat_label.specs.declared.carried.Carried.{Carried}
 use Rattle.sat_label.specs.declared.label.Label.{Label}
@@ -39,8 +40,8 @@ stamped-is : (d : Deployed) (i : ℕ) (x : SiteSeen) (s : SiteState) (n : ℕ) (
 stamped-is d i x s n p gear k at st =
     let g : gear_at x n ≡ gear_of d n = gear-of-is d i x s n st in
     let a : gear.promise ≡ (s.gears (gear_of d n)).promise = (st.gears.each (gear_at x n) gear at).promise ∙ ap (λ (g : ℕ). (s.gears g).promise) g in
-    let b : gear.shape.site ≡ i = (λ j. ((k.gears (gear_at x n) gear at).shape j).site) ∙ site-is d i x s st in
-    let c : gear.gear ≡ gear_of d n = (k.gears (gear_at x n) gear at).number ∙ g in
+    let b : gear.shape.site ≡ i = (λ j. ((k.gears.each (gear_at x n) gear at).shape j).site) ∙ site-is d i x s st in
+    let c : gear.gear ≡ gear_of d n = (k.gears.each (gear_at x n) gear at).number ∙ g in
     λ j. record { point = point_at (max (a j) p.ts + 1) (b j) (c j); kind = Update n }
 
 spent-is : (d : Deployed) (i : ℕ) (x : SiteSeen) (s : SiteState) (n : ℕ) (p : Point) (gear : GearSeen) → HasGear x (gear_at x n) gear → StandsSite d i x s → is_spent gear p ≡ nat_le (2 ^ 62) (max (s.gears (gear_of d n)).promise p.ts)
@@ -93,6 +94,13 @@ other-gear d gear s k n seen value l e st = record {
       st.lanes j lt ∙ sym (ap (λ (b : Bool). if b && is_target d l j then s.lanes j ++ payload_at l value ∷ [] else s.lanes j) (ne_eqb l.point.gear k e));
 }
 
+other-lane : (d : Deployed) (s : GearState) (k n : ℕ) (seen : Carried) (value : List ℕ) (l : Label) (j : ℕ) → (l.point.gear ≡ k → ⊥) → (gear_next d k s (given.Write seen n value) (ans.Wrote l)).lanes j ≡ s.lanes j
+other-lane d s k n seen value l j e = ap (λ (b : Bool). if b && is_target d l j then s.lanes j ++ payload_at l value ∷ [] else s.lanes j) (ne_eqb l.point.gear k e)
+
+-- no item is of a gear past the last
+past-gear : (x : SiteSeen) (n gears m : ℕ) → IsSite x → x.shape.gears ≡ gears → gears ≤ m → m ≡ gear_at x n → ⊥
+past-gear x n gears m k count past same = let low : n % x.shape.gears < x.shape.gears = mod_below n x.shape.gears k.shape.gears in omega arith
+
 -- the version of an item
 pub version-is : (d : Deployed) (i : ℕ) (x : SiteSeen) (s : SiteState) (n : ℕ) (gear : GearSeen) → n < length x.shape.interest.replicas → HasGear x (gear_at x n) gear → StandsSite d i x s → payload_of (version_of gear n) ≡ s.store n
 version-is d i x s n gear item at st = st.store.each n gear (item-known d i x s n st item) (subst (λ (q : ℕ). HasGear x q gear) (gear-of-is d i x s n st) at)
@@ -104,8 +112,8 @@ writes-stand d i x s seen n value gear laws k item at good st =
     let g : ℕ = gear_at x n in
     let l : Label = stamped gear seen.point (Update n) in
     let p : Payload = record { label = l; value = value } in
-    let number : gear.gear ≡ g = (k.gears g gear at).number in
-    let shape : gear.shape ≡ x.shape = (k.gears g gear at).shape in
+    let number : gear.gear ≡ g = (k.gears.each g gear at).number in
+    let shape : gear.shape ≡ x.shape = (k.gears.each g gear at).shape in
     let gears : gear.shape.gears ≡ x.shape.gears = (λ j. (shape j).gears) in
     let place : n / gear.shape.gears < length gear.versions =
     subst (λ (m : ℕ). n / gear.shape.gears < m) (sym good.versions) (within_places n (length gear.shape.interest.replicas) gear.shape.gears good.shape.gears (subst (λ (m : ℕ). n < m) (λ j. length (sym shape j).interest.replicas) item)) in
@@ -113,13 +121,15 @@ writes-stand d i x s seen n value gear laws k item at good st =
       shape = st.shape;
       gears = gears-set d x.gears g (after_write gear n p) s.gears (λ k. gear_next d k (s.gears k) (given.Write seen n value) (ans.Wrote l)) st.gears
           (wrote-gear d gear (s.gears g) g n seen value laws good ((λ j. (shape j).sites) ∙ sites-are d i x s st) ((λ j. (shape j).interest) ∙ interest-is d i x s st) number (st.gears.each g gear at))
-          (λ m y e old. other-gear d y (s.gears m) m n seen value l (λ f. e (sym f ∙ number)) old);
+          (λ m y e old. other-gear d y (s.gears m) m n seen value l (λ f. e (sym f ∙ number)) old)
+          (λ m j past. other-lane d (s.gears m) m n seen value l j (λ f. past-gear x n d.gears m k (count-is d i x s st) past (sym f ∙ number)));
       sink = st.sink;
       views = st.views;
-      proxy = record { taken = st.proxy.taken; pool = st.proxy.pool; different = st.proxy.different };
+      proxy = st.proxy;
       store = store-set d x.gears g gear (after_write gear n p) s.store (λ m. if n == m then put (s.store m) p else s.store m) at st.store
           (λ m e old. newer-stored gear.versions n m gear.shape.gears p s.store place ((λ j. m % (gears ∙ count-is d i x s st) j) ∙ (e ∙ (λ j. n % sym gears j))) (version-is d i x s n gear item at st) old)
           (λ m e. sym (passed (n == m) (put (s.store m) p) (s.store m) (ne_eqb n m (λ f. e (sym (ap (gear_of d) f) ∙ sym (gear-of-is d i x s n st))))));
+      made = st.made;
     }
 
 pub write-stand : (d : Deployed) (i : ℕ) (x : SiteSeen) (s : SiteState) (seen : Carried) (n : ℕ) (value : List ℕ) (r : Answer) (y : SiteSeen) → EachLane → IsSite x → n < length x.shape.interest.replicas → StandsSite d i x s → Writes x seen n value r y →

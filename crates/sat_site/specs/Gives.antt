@@ -1,6 +1,6 @@
 -- What the calls of a site promise.
 use Rattle.std.specs.Prelude.{ℕ, ◌≡◌, ◌≤◌, ◌<◌, true, false, length, slice_get, Option, Some, None}
-use Rattle.sat_label.specs.declared.label.Kind.TheVariants.{Update}
+use Rattle.sat_label.specs.declared.label.Kind.TheVariants.{Update, Close}
 use Rattle.sat_label.specs.declared.label.Label.{Label}
 use Rattle.sat_bulk.specs.declared.Payload.{Payload}
 use Rattle.sat_epoch.specs.Epochs.{Epochs, is_stamp}
@@ -34,15 +34,23 @@ HasTarget shape l = (k : ℕ) × (k < shape.sites) × (is_for shape.interest l k
 pub record IsLeaving (shape : Shape) (l : Label) : Type 0 where
   pub label : IsLabelOf shape.interest l
   pub own : l.point.site ≡ shape.site
-  pub update : (x : ℕ) × (l.kind ≡ Update x)
   pub target : HasTarget shape l
 
--- an emitted label is sent exactly where the plan of the emission epoch is a tree and the label has a target, and no other answer
--- sends one
+-- the label that an answer says was sent
+abbrev pub label_sent : Answer → Option Label
+label_sent (ans.Emitted l) = Some l
+label_sent (ans.Pulsed l) = Some l
+label_sent (ans.Closed epoch cut) = Some (record { point = cut; kind = Close epoch })
+label_sent answer = None
+
+-- the label of an answer is sent exactly where the plan of the emission epoch is a tree and the label has a target
+abbrev pub IsSentOf : Shape → Epochs → Option Label → Option Label → Type 0
+IsSentOf shape views None o = o ≡ None
+IsSentOf shape views (Some l) None = is_stamp views views.emission ≡ false → HasTarget shape l → ⊥
+IsSentOf shape views (Some l) (Some m) = (m ≡ l) × (is_stamp views views.emission ≡ false) × IsLeaving shape l
+
 abbrev pub IsSent : Shape → Epochs → Answer → Option Label → Type 0
-IsSent shape views (ans.Emitted l) None = is_stamp views views.emission ≡ false → HasTarget shape l → ⊥
-IsSent shape views (ans.Emitted l) (Some m) = (m ≡ l) × (is_stamp views views.emission ≡ false) × IsLeaving shape l
-IsSent shape views answer o = o ≡ None
+IsSent shape views answer o = IsSentOf shape views (label_sent answer) o
 
 abbrev pub PromisesUpTo : SiteSeen → ℕ → Type 0
 PromisesUpTo x ts = (g : ℕ) (gear : GearSeen) → slice_get x.gears g ≡ Some gear → gear.promise ≤ ts

@@ -1,14 +1,17 @@
 -- What a site is handed: as the machine of the model reads it, and what the site asks of it.
-use Rattle.std.specs.Prelude.{ℕ, ◌≡◌, ◌<◌, ◌^◌, ◌==◌, Bool, true, false, ◌&&◌, ◌||◌, not, nat_lt, List, length, Option, Some, None}
-use Rattle.std.specs.List.{list_any}
+use Rattle.std.specs.Prelude.{ℕ, ◌≡◌, ◌<◌, ◌^◌, ◌==◌, Bool, true, false, ◌&&◌, ◌||◌, not, nat_le, nat_lt, length, slice_get, Option, Some, None, is_none}
+use Rattle.std.specs.List.{list_all}
 use Rattle.sat_label.specs.declared.carried.Carried.{Carried}
 use Rattle.sat_label.specs.declared.label.Kind.{Kind}
 use Rattle.sat_label.specs.declared.label.Kind.TheVariants as kind
 use Rattle.sat_label.specs.declared.label.Label.{Label}
 use Rattle.sat_label.specs.declared.point.Point.{Point}
-use Rattle.sat_label.specs.Order.{point_eq}
+use Rattle.sat_label.specs.Words.{below}
 use Rattle.sat_bulk.specs.declared.Payload.{Payload}
-use Rattle.sat_bulk.specs.Windows.{Numbers, has_number}
+use Rattle.sat_bulk.specs.Windows.{has_number}
+use Rattle.sat_beat.specs.declared.Beat.{Beat}
+use Rattle.sat_pool.specs.Pool.{waiting_at}
+use Rattle.sat_proxy.specs.Proxy.{ProxySeen, note_of, window_of}
 use Rattle.sat_sites.specs.Interested.{keeps}
 use Rattle.sat_sites.specs.declared.shape.Shape.{Shape}
 use Rattle.sat_machine.specs.Fits.{is_time}
@@ -16,16 +19,25 @@ use Rattle.sat_machine.specs.Input.{SiteInput}
 use Rattle.sat_machine.specs.Input as given
 use Rattle.sat_site.specs.declared.input.SiteInput as code
 use Rattle.sat_site.specs.declared.input.SiteInput.TheVariants as input
-use Rattle.sat_site.specs.Seen.{SiteSeen, window_of}
+use Rattle.sat_site.specs.Seen.{SiteSeen, IsGuest}
 
 abbrev pub input_of : code.SiteInput → SiteInput
 input_of (input.Tick g t) = given.Tick g t
 input_of (input.Write seen x value) = given.Write seen x value
 input_of (input.Read seen x) = given.Read seen x
+input_of (input.Move seen j) = given.Move seen j
+input_of (input.Attach seen) = given.Attach seen
 input_of input.Gather = given.Gather
 input_of input.Emit = given.Emit
+input_of input.Pulse = given.Pulse
 input_of (input.Turn front) = given.Turn front
 input_of (input.Bulk from gear number payload) = given.Bulk from gear number payload
+input_of (input.Beat j) = given.Beat j
+input_of (input.BeatIn from number beat) = given.BeatIn from number (note_of beat)
+input_of input.Stamp = given.Stamp
+input_of input.Close = given.Close
+input_of input.Fall = given.Fall
+input_of input.Advance = given.Advance
 
 -- ---- numbers and points, by the shape of the site
 
@@ -71,19 +83,25 @@ abbrev pub is_kept_here : Shape → Kind → Bool
 is_kept_here shape (kind.Update n) = is_item_here shape n && keeps shape.interest n shape.site
 is_kept_here shape _ = false
 
--- whether a payload with this point waits
-abbrev pub point_waits : List Payload → Point → Bool
-point_waits ps q = list_any (λ p. point_eq p.label.point q) ps
-
 -- an update that another site made of an item that this one keeps
 abbrev pub is_guest_here : Shape → ℕ → Label → Bool
 is_guest_here shape from l = (is_time l.point.ts && (l.point.site == from)) && is_kept_here shape l.kind
 
 -- a payload of a lane of another site. Where its number is new, no payload that waits has its point
-abbrev pub is_bulk_here : Shape → Numbers → List Payload → ℕ → ℕ → ℕ → Payload → Bool
-is_bulk_here shape window ps from gear number p =
+abbrev pub is_bulk_here : Shape → ProxySeen → ℕ → ℕ → ℕ → Payload → Bool
+is_bulk_here shape proxy from gear number p =
     (is_other_here shape from && is_gear_here shape gear)
-    && (is_guest_here shape from p.label && (has_number window number || not (point_waits ps p.label.point)))
+    && (is_guest_here shape from p.label && (has_number (window_of proxy from gear) number || is_none (waiting_at proxy.pool p.label.point)))
+
+-- ---- beats
+
+-- a close cut, if there is one
+abbrev pub is_cut_here : Shape → Option Point → Bool
+is_cut_here shape o = elim o [ None ↦ true | Some p ↦ is_point_here shape p ]
+
+-- a beat whose cut, and close cut of each of so many epochs, if any, are points
+abbrev pub is_beat_here : Shape → ℕ → Beat → Bool
+is_beat_here shape epochs beat = is_point_here shape beat.cut && list_all (λ n. is_cut_here shape (slice_get beat.closes n)) (below epochs)
 
 -- ---- inputs
 
@@ -92,20 +110,34 @@ unfoldable pub fits_here : SiteSeen → code.SiteInput → Bool
 fits_here x (input.Tick g t) = is_gear_here x.shape g && is_time t
 fits_here x (input.Write seen n value) = is_carried_here x.shape seen && is_item_here x.shape n
 fits_here x (input.Read seen n) = is_carried_here x.shape seen && is_item_here x.shape n
+fits_here x (input.Move seen j) = is_carried_here x.shape seen && is_site_here x.shape j
+fits_here x (input.Attach seen) = is_carried_here x.shape seen
 fits_here x input.Gather = true
 fits_here x input.Emit = true
+fits_here x input.Pulse = true
 fits_here x (input.Turn None) = true
 fits_here x (input.Turn (Some l)) = is_front_here x.shape x.views.view l
-fits_here x (input.Bulk from gear number p) = is_bulk_here x.shape (window_of x from gear) x.waiting from gear number p
+fits_here x (input.Bulk from gear number p) = is_bulk_here x.shape x.proxy from gear number p
+fits_here x (input.Beat j) = is_other_here x.shape j
+fits_here x (input.BeatIn from number beat) = is_other_here x.shape from && is_beat_here x.shape (length x.views.stamp) beat
+fits_here x input.Stamp = true
+fits_here x input.Close = true
+fits_here x input.Fall = true
+fits_here x input.Advance = true
 
--- a number that a window can take
-abbrev pub is_small : code.SiteInput → Bool
-is_small (input.Bulk from gear number p) = nat_lt number (2 ^ 63)
-is_small given = true
+-- a beat with one count for each gear, and at most as many close cuts as there are epochs
+abbrev pub is_counted : SiteSeen → Beat → Bool
+is_counted x beat = (length beat.counts == x.shape.gears) && nat_le (length beat.closes) (length x.views.stamp)
+
+-- a number of 63 bits, and a beat of the site's numbers: what a history says nothing of
+abbrev pub is_sized : SiteSeen → code.SiteInput → Bool
+is_sized x (input.Bulk from gear number p) = nat_lt number (2 ^ 63)
+is_sized x (input.BeatIn from number beat) = nat_lt number (2 ^ 63) && is_counted x beat
+is_sized x given = true
 
 -- what a site asks of what it is handed
 abbrev pub fits_in : SiteSeen → code.SiteInput → Bool
-fits_in x given = fits_here x given && is_small given
+fits_in x given = fits_here x given && is_sized x given
 
 -- ---- what the code uses of it
 
@@ -114,3 +146,25 @@ pub record IsFront (x : SiteSeen) (l : Label) : Type 0 where
   pub from : l.point.site < x.shape.sites
   pub other : (l.point.site == x.shape.site) ≡ false
   pub close : (e : ℕ) → l.kind ≡ kind.Close e → e ≡ x.views.view
+
+-- a payload of a lane that fits
+pub record BulkFits (x : SiteSeen) (from gear n : ℕ) (p : Payload) : Type 0 where
+  pub sender : from < x.shape.sites
+  pub number : gear < x.shape.gears
+  pub small : n < 2 ^ 63
+  pub made : p.label.point.site ≡ from
+  pub guest : IsGuest x.shape p
+  pub alone : has_number (window_of x.proxy from gear) n ≡ false → waiting_at x.proxy.pool p.label.point ≡ None
+
+-- inputs for which a site takes no memory
+abbrev pub takes_none : code.SiteInput → Bool
+takes_none (input.Tick g t) = true
+takes_none (input.Attach seen) = true
+takes_none input.Emit = true
+takes_none input.Pulse = true
+takes_none (input.Turn front) = true
+takes_none input.Stamp = true
+takes_none input.Close = true
+takes_none input.Fall = true
+takes_none input.Advance = true
+takes_none _ = false

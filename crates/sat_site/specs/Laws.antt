@@ -10,7 +10,7 @@ use Rattle.sat_machine.specs.State.{SiteState}
 use Rattle.sat_site.specs.declared.input.SiteInput as code
 use Rattle.sat_site.specs.Seen.{SiteSeen, IsSite}
 use Rattle.sat_site.specs.Changes.{clocked}
-use Rattle.sat_site.specs.Inputs.{fits_in, input_of, is_small}
+use Rattle.sat_site.specs.Inputs.{fits_in, input_of, is_sized}
 use Rattle.sat_site.specs.Stands.{StandsSite}
 use Rattle.sat_site.specs.Gives.{AnswersBy, StandsBy, IsSent, PromisesUpTo}
 use Rattle.sat_site.specs.SiteSteps.{site_answers, site_sends, site_after}
@@ -36,4 +36,4 @@ EachClock = (x : SiteSeen) (ts : ℕ) → IsSite x → PromisesUpTo x ts → Sta
 abbrev pub EachFits : Type 0
 EachFits =
     (x : SiteSeen) (given : code.SiteInput) (d : Deployed) (i : ℕ) (s : SiteState) →
-    IsDeployment d → IsSite x → StandsSite d i x s → fits_in x given ≡ (fits d i s (input_of given) && is_small given)
+    IsDeployment d → IsSite x → StandsSite d i x s → fits_in x given ≡ (fits d i s (input_of given) && is_sized x given)

@@ -1,28 +1,35 @@
 -- A site's step as a function: what it answers to an input, what it sends, and what it then keeps, by what it kept alone. A
 -- gear, a payload or a version that is not there leaves all as it is.
-use Rattle.std.specs.Prelude.{ℕ, zero, suc, Bool, true, false, ◌||◌, max, List, length, map, slice_get, position, Option, Some, None, if◌then◌else◌}
+use Rattle.std.specs.Prelude.{ℕ, zero, suc, Bool, true, false, ◌||◌, ◌==◌, max, List, length, map, slice_get, Option, Some, None, if◌then◌else◌}
 use Rattle.std.specs.List.{flat_map}
 use Rattle.sat_label.specs.declared.carried.Carried.{Carried}
 use Rattle.sat_label.specs.declared.label.Kind.{Kind}
-use Rattle.sat_label.specs.declared.label.Kind.TheVariants.{Update, Close}
+use Rattle.sat_label.specs.declared.label.Kind.TheVariants.{Update, Move, Close}
 use Rattle.sat_label.specs.declared.label.Label.{Label}
 use Rattle.sat_bulk.specs.declared.Payload.{Payload}
+use Rattle.sat_beat.specs.declared.Beat.{Beat}
 use Rattle.sat_sites.specs.Interested.{is_for, keeps}
 use Rattle.sat_sites.specs.declared.shape.Shape.{Shape}
 use Rattle.sat_store.specs.declared.store.Version.{Version}
-use Rattle.sat_gear.specs.Gear.{GearSeen, drained_of, is_spent, after_show, stamped, after_tick, version_of, after_write}
+use Rattle.sat_gear.specs.Gear.{GearSeen, drained_of, is_spent, after_move, after_show, stamped, after_tick, version_of, after_write}
 use Rattle.sat_sink.specs.Pending.{least, promise_of}
-use Rattle.sat_sink.specs.Sink.{ready_of}
+use Rattle.sat_sink.specs.Sink.{Sink, cut_of, may_pulse, pulse_of, ready_of}
 use Rattle.sat_act.specs.declared.answer.Answer.{Answer}
 use Rattle.sat_act.specs.declared.answer.Answer.TheVariants as ans
 use Rattle.sat_act.specs.declared.answer.Refusal.{Refusal}
 use Rattle.sat_act.specs.declared.answer.Refusal.TheVariants as why
 use Rattle.sat_site.specs.declared.input.SiteInput as code
 use Rattle.sat_site.specs.declared.input.SiteInput.TheVariants as input
-use Rattle.sat_epoch.specs.Epochs.{in_stamp, is_stamp}
-use Rattle.sat_bulk.specs.Windows.{has_number}
-use Rattle.sat_site.specs.Seen.{SiteSeen, bears, window_of}
-use Rattle.sat_site.specs.Changes.{with_gear, gathered_all, sent, showed, brought, heard, fresh_of, gear_at}
+use Rattle.sat_epoch.specs.declared.views.CloseFault.{CloseFault}
+use Rattle.sat_epoch.specs.declared.views.CloseFault.TheVariants as close
+use Rattle.sat_epoch.specs.declared.views.FallFault.{FallFault}
+use Rattle.sat_epoch.specs.declared.views.FallFault.TheVariants as fall
+use Rattle.sat_epoch.specs.declared.views.AdvanceFault.{AdvanceFault}
+use Rattle.sat_epoch.specs.Epochs.{advance_fault, after_advance, close_fault, fall_fault, is_stamp}
+use Rattle.sat_proxy.specs.Steps.{advance_after, after_beat, after_bulk, has_come, stamp_after, stamp_shows, turn_after, turn_shows, turn_views}
+use Rattle.sat_proxy.specs.Answers.{advance_answer, attach_answer, beat_answer, bulk_answer, stamp_answer, turn_answer}
+use Rattle.sat_site.specs.Seen.{SiteSeen}
+use Rattle.sat_site.specs.Changes.{with_gear, gathered_all, sent, pulsed, closed, fell, fresh_of, gear_at, beat_for, made_for, beaten}
 
 -- whether the site keeps an item
 abbrev pub keeps_item : SiteSeen → ℕ → Bool
@@ -40,14 +47,14 @@ tick_after x g t (Some gear) = with_gear x g (after_tick gear t)
 
 -- ---- a client's write and read, at the gear of the item, where the site keeps it
 
-abbrev pub stamp_answer : Bool → Label → Answer
-stamp_answer true l = ans.Refused why.Spent
-stamp_answer false l = ans.Wrote l
+abbrev pub stamp_answer_of : Bool → Label → Answer
+stamp_answer_of true l = ans.Refused why.Spent
+stamp_answer_of false l = ans.Wrote l
 
 abbrev pub write_answer : Bool → Option GearSeen → Carried → ℕ → Answer
 write_answer false o seen n = ans.Refused why.NotHere
 write_answer true None seen n = ans.Refused why.NotHere
-write_answer true (Some gear) seen n = stamp_answer (is_spent gear seen.point) (stamped gear seen.point (Update n))
+write_answer true (Some gear) seen n = stamp_answer_of (is_spent gear seen.point) (stamped gear seen.point (Update n))
 
 -- the refusal of an answer, if it is one
 abbrev pub refusal_of : Answer → Option Refusal
@@ -62,14 +69,14 @@ write_refusal x seen n = refusal_of (write_answer (keeps_item x n) (slice_get x.
 abbrev pub update_of : GearSeen → Carried → ℕ → List ℕ → Payload
 update_of gear seen n value = record { label = stamped gear seen.point (Update n); value = value }
 
-abbrev pub stamp_after : SiteSeen → Bool → GearSeen → Carried → ℕ → List ℕ → SiteSeen
-stamp_after x true gear seen n value = x
-stamp_after x false gear seen n value = with_gear x (gear_at x n) (after_write gear n (update_of gear seen n value))
+abbrev pub stamp_after_of : SiteSeen → Bool → GearSeen → Carried → ℕ → List ℕ → SiteSeen
+stamp_after_of x true gear seen n value = x
+stamp_after_of x false gear seen n value = with_gear x (gear_at x n) (after_write gear n (update_of gear seen n value))
 
 abbrev pub write_after : SiteSeen → Bool → Option GearSeen → Carried → ℕ → List ℕ → SiteSeen
 write_after x false o seen n value = x
 write_after x true None seen n value = x
-write_after x true (Some gear) seen n value = stamp_after x (is_spent gear seen.point) gear seen n value
+write_after x true (Some gear) seen n value = stamp_after_of x (is_spent gear seen.point) gear seen n value
 
 abbrev pub version_answer : Option Version → Answer
 version_answer None = ans.ReadNone
@@ -80,7 +87,27 @@ read_answer false o n = ans.Refused why.NotHere
 read_answer true None n = ans.Refused why.NotHere
 read_answer true (Some gear) n = version_answer (version_of gear n)
 
--- ---- a gather, and an emission of the sink's ready label
+-- ---- a client's move, stamped by gear 0, to another site
+
+abbrev pub moved_answer : Bool → Label → Answer
+moved_answer true l = ans.Refused why.Spent
+moved_answer false l = ans.Moved l
+
+abbrev pub move_answer : Bool → Option GearSeen → Carried → ℕ → Answer
+move_answer true o seen j = ans.Refused why.SameSite
+move_answer false None seen j = ans.Refused why.SameSite
+move_answer false (Some gear) seen j = moved_answer (is_spent gear seen.point) (stamped gear seen.point (Move j))
+
+abbrev pub moved_gear : Bool → GearSeen → Label → GearSeen
+moved_gear true gear l = gear
+moved_gear false gear l = after_move gear l
+
+abbrev pub move_after : SiteSeen → Bool → Option GearSeen → Carried → ℕ → SiteSeen
+move_after x true o seen j = x
+move_after x false None seen j = x
+move_after x false (Some gear) seen j = with_gear x 0 (moved_gear (is_spent gear seen.point) gear (stamped gear seen.point (Move j)))
+
+-- ---- a gather, an emission of the sink's ready label, and a pulse
 
 abbrev pub gather_answer : SiteSeen → Answer
 gather_answer x = ans.Gathered (length (flat_map fresh_of x.gears)) (least (map promise_of (map drained_of x.gears)))
@@ -93,6 +120,39 @@ abbrev pub emit_after : SiteSeen → Option Label → SiteSeen
 emit_after x None = x
 emit_after x (Some l) = sent x l
 
+-- the pulse that the sink would send
+abbrev pub next_pulse : Sink → Option Label
+next_pulse s = if may_pulse s then Some (pulse_of s) else None
+
+abbrev pub pulse_answer : Option Label → Answer
+pulse_answer None = ans.Refused why.Idle
+pulse_answer (Some l) = ans.Pulsed l
+
+abbrev pub pulse_after : SiteSeen → Option Label → SiteSeen
+pulse_after x None = x
+pulse_after x (Some l) = pulsed x
+
+-- ---- a close of the emission epoch
+
+abbrev pub close_answer : Option CloseFault → SiteSeen → Answer
+close_answer (Some close.NoNextEpoch) x = ans.Refused why.NoNextEpoch
+close_answer (Some close.Behind) x = ans.Refused why.Behind
+close_answer None x = ans.Closed x.views.emission (cut_of x.sink)
+
+abbrev pub close_after : Option CloseFault → SiteSeen → SiteSeen
+close_after (Some fault) x = x
+close_after None x = closed x
+
+abbrev pub close_label : SiteSeen → Label
+close_label x = record { point = cut_of x.sink; kind = Close x.views.emission }
+
+-- the close that the site would send
+abbrev pub next_close : Option CloseFault → SiteSeen → Option Label
+next_close (Some fault) x = None
+next_close None x = Some (close_label x)
+
+-- ---- what is sent
+
 -- whether one of the first n sites passes
 unfoldable pub some_site : (ℕ → Bool) → ℕ → Bool
 some_site test zero = false
@@ -102,7 +162,7 @@ some_site test (suc n) = test n || some_site test n
 abbrev pub has_target : Shape → Label → Bool
 has_target shape l = some_site (is_for shape.interest l) shape.sites
 
--- what is sent of the ready label, by whether the plan of the emission epoch is stamp order
+-- what is sent of a label, by whether the plan of the emission epoch is stamp order
 abbrev pub emit_sends : Bool → Shape → Option Label → Option Label
 emit_sends true shape o = None
 emit_sends false shape None = None
@@ -113,50 +173,45 @@ abbrev pub sent_epoch : Option Label → ℕ → ℕ
 sent_epoch None epoch = 0
 sent_epoch (Some l) epoch = epoch
 
--- ---- a turn, refused in stamp mode: the label of an update shows its payload, where it waits; any other label is taken, and of
--- closes it is noted from which site
+-- ---- an update that is shown, by the gear of its item
 
-abbrev pub show_answer : Label → Option ℕ → Answer
-show_answer l None = ans.Refused (why.NoPayload l)
-show_answer l (Some n) = ans.Shown l
+abbrev pub shown_by : SiteSeen → ℕ → Payload → Option GearSeen → SiteSeen
+shown_by x k p None = x
+shown_by x k p (Some gear) = with_gear x (gear_at x k) (after_show gear k p)
 
-abbrev pub front_answer : List Payload → Label → Kind → Answer
-front_answer ps l (Update k) = show_answer l (position (bears l) ps)
-front_answer ps l _ = ans.Took l
+abbrev pub shown_of : SiteSeen → Payload → Kind → SiteSeen
+shown_of x p (Update k) = shown_by x k p (slice_get x.gears (gear_at x k))
+shown_of x p _ = x
 
-abbrev pub turn_answer : Bool → List Payload → Option Label → Answer
-turn_answer true ps o = ans.Refused why.StampOrder
-turn_answer false ps None = ans.Refused why.Empty
-turn_answer false ps (Some l) = front_answer ps l l.kind
+abbrev pub show_some : SiteSeen → Option Payload → SiteSeen
+show_some x None = x
+show_some x (Some p) = shown_of x p p.label.kind
 
-abbrev pub showed_after : SiteSeen → ℕ → ℕ → Option Payload → Option GearSeen → SiteSeen
-showed_after x k n None o = x
-showed_after x k n (Some p) None = x
-showed_after x k n (Some p) (Some gear) = showed x (gear_at x k) (after_show gear k p) n
+-- a turn takes the front of the link to the site
+abbrev pub turned : SiteSeen → Option Label → SiteSeen
+turned x front = record x { views = turn_views x.views front; proxy = turn_after x.views x.proxy front }
 
-abbrev pub show_after : SiteSeen → ℕ → Option ℕ → SiteSeen
-show_after x k None = x
-show_after x k (Some n) = showed_after x k n (slice_get x.waiting n) (slice_get x.gears (gear_at x k))
+abbrev pub turned_after : SiteSeen → Option Label → SiteSeen
+turned_after x front = show_some (turned x front) (turn_shows x.views x.proxy front)
 
-abbrev pub front_after : SiteSeen → Label → Kind → SiteSeen
-front_after x l (Update k) = show_after x k (position (bears l) x.waiting)
-front_after x l (Close e) = heard x l.point.site
-front_after x l _ = x
+-- the next update in timestamp order
+abbrev pub stamped_after : SiteSeen → SiteSeen
+stamped_after x = show_some (record x { proxy = stamp_after x.views x.proxy }) (stamp_shows x.views x.proxy)
 
-abbrev pub turn_after : SiteSeen → Bool → Option Label → SiteSeen
-turn_after x true o = x
-turn_after x false None = x
-turn_after x false (Some l) = front_after x l l.kind
+-- ---- a fall, and an advance
 
--- ---- a payload, by whether its number was taken
+abbrev pub fall_answer : Option FallFault → Answer
+fall_answer (Some fall.StampOrder) = ans.Refused why.StampOrder
+fall_answer (Some fall.NotClosed) = ans.Refused why.NotClosed
+fall_answer None = ans.Fallen
 
-abbrev pub bulk_answer : Bool → Label → Answer
-bulk_answer true l = ans.Again
-bulk_answer false l = ans.Brought l
+abbrev pub fall_after : Option FallFault → SiteSeen → SiteSeen
+fall_after (Some fault) x = x
+fall_after None x = fell x
 
-abbrev pub bulk_after : SiteSeen → Bool → ℕ → ℕ → ℕ → Payload → SiteSeen
-bulk_after x true from gear number p = x
-bulk_after x false from gear number p = brought x from gear number p
+abbrev pub passed_after : Option AdvanceFault → SiteSeen → SiteSeen
+passed_after (Some fault) x = x
+passed_after None x = record x { views = after_advance x.views; proxy = advance_after x.views x.proxy }
 
 -- ---- all inputs
 
@@ -165,30 +220,54 @@ unfoldable pub site_answers : SiteSeen → code.SiteInput → Answer
 site_answers x (input.Tick g t) = tick_answer (slice_get x.gears g) t
 site_answers x (input.Write seen n value) = write_answer (keeps_item x n) (slice_get x.gears (gear_at x n)) seen n
 site_answers x (input.Read seen n) = read_answer (keeps_item x n) (slice_get x.gears (gear_at x n)) n
+site_answers x (input.Move seen j) = move_answer (j == x.shape.site) (slice_get x.gears 0) seen j
+site_answers x (input.Attach seen) = attach_answer x.views x.proxy seen
 site_answers x input.Gather = gather_answer x
 site_answers x input.Emit = emit_answer (ready_of x.sink)
-site_answers x (input.Turn front) = turn_answer (in_stamp x.views) x.waiting front
-site_answers x (input.Bulk from gear number p) = bulk_answer (has_number (window_of x from gear) number) p.label
+site_answers x input.Pulse = pulse_answer (next_pulse x.sink)
+site_answers x (input.Turn front) = turn_answer x.views x.proxy front
+site_answers x (input.Bulk from gear number p) = bulk_answer x.proxy from gear number p.label
+site_answers x (input.Beat j) = ans.Beat (length (made_for x j))
+site_answers x (input.BeatIn from number beat) = beat_answer x.proxy from number
+site_answers x input.Stamp = stamp_answer x.views x.proxy
+site_answers x input.Close = close_answer (close_fault x.views) x
+site_answers x input.Fall = fall_answer (fall_fault x.views)
+site_answers x input.Advance = advance_answer x.views x.proxy
 
 -- the label that the site sends
 unfoldable pub site_sends : SiteSeen → code.SiteInput → Option Label
 unfolding some_site
 site_sends x input.Emit = emit_sends (is_stamp x.views x.views.emission) x.shape (ready_of x.sink)
+site_sends x input.Pulse = emit_sends (is_stamp x.views x.views.emission) x.shape (next_pulse x.sink)
+site_sends x input.Close = emit_sends (is_stamp x.views x.views.emission) x.shape (next_close (close_fault x.views) x)
 site_sends x _ = None
 
 -- the epoch of what the site sends, in a turn that of what it takes, and else 0
 unfoldable pub site_epoch : SiteSeen → code.SiteInput → ℕ
 unfolding site_sends
-site_epoch x input.Emit = sent_epoch (site_sends x input.Emit) x.views.emission
 site_epoch x (input.Turn front) = x.views.view
-site_epoch x _ = 0
+site_epoch x given = sent_epoch (site_sends x given) x.views.emission
+
+-- the beat that the site makes
+unfoldable pub site_beat : SiteSeen → code.SiteInput → Option Beat
+site_beat x (input.Beat j) = Some (beat_for x j)
+site_beat x _ = None
 
 -- what the site then keeps
 unfoldable pub site_after : SiteSeen → code.SiteInput → SiteSeen
 site_after x (input.Tick g t) = tick_after x g t (slice_get x.gears g)
 site_after x (input.Write seen n value) = write_after x (keeps_item x n) (slice_get x.gears (gear_at x n)) seen n value
 site_after x (input.Read seen n) = x
+site_after x (input.Move seen j) = move_after x (j == x.shape.site) (slice_get x.gears 0) seen j
+site_after x (input.Attach seen) = x
 site_after x input.Gather = gathered_all x
 site_after x input.Emit = emit_after x (ready_of x.sink)
-site_after x (input.Turn front) = turn_after x (in_stamp x.views) front
-site_after x (input.Bulk from gear number p) = bulk_after x (has_number (window_of x from gear) number) from gear number p
+site_after x input.Pulse = pulse_after x (next_pulse x.sink)
+site_after x (input.Turn front) = turned_after x front
+site_after x (input.Bulk from gear number p) = record x { proxy = after_bulk x.proxy from gear number p }
+site_after x (input.Beat j) = beaten x j
+site_after x (input.BeatIn from number beat) = record x { proxy = after_beat x.proxy from number beat }
+site_after x input.Stamp = stamped_after x
+site_after x input.Close = close_after (close_fault x.views) x
+site_after x input.Fall = fall_after (fall_fault x.views) x
+site_after x input.Advance = passed_after (advance_fault x.views (has_come x.views x.proxy)) x

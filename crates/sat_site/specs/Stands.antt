@@ -1,19 +1,19 @@
 -- The state of the model's machine that a site stands for, part by part.
-use Rattle.std.specs.Prelude.{ℕ, ◌≡◌, ◌≢◌, ◌≤◌, ◌<◌, ◌==◌, false, List, [], length, get_or, slice_get, Option, Some, None, is_none}
-use Rattle.sat_label.specs.Words.{has}
+use Rattle.std.specs.Prelude.{ℕ, ◌≡◌, ◌≢◌, ◌≤◌, ◌<◌, false, List, [], length, map, get_or, slice_get, Option, Some, None, is_none}
 use Rattle.sat_bulk.specs.declared.Payload.{Payload}
-use Rattle.sat_bulk.specs.Windows.{Numbers, has_number}
+use Rattle.sat_beat.specs.declared.Beat.{Beat}
 use Rattle.sat_epoch.specs.Epochs.{Epochs, close_cut, is_stamp}
-use Rattle.sat_sites.specs.declared.shape.Shape.{Shape}
+use Rattle.sat_proxy.specs.Proxy.{note_of}
+use Rattle.sat_proxy.specs.Stands.{StandsProxy}
 use Rattle.sat_store.specs.declared.store.Version.{Version}
 use Rattle.sat_gear.specs.Gear.{GearSeen, lane_to, version_of}
 use Rattle.sat_sink.specs.Sink.{Sink}
 use Rattle.sat_act.specs.Deployed.{Deployed}
 use Rattle.sat_act.specs.Answers.{gear_of}
-use Rattle.sat_act.specs.Parts.{tree_of}
-use Rattle.sat_machine.specs.State.{SiteState, GearState, SinkState, ViewState, ProxyState}
+use Rattle.sat_act.specs.Parts.{BeatNote, tree_of}
+use Rattle.sat_machine.specs.State.{SiteState, GearState, SinkState, ViewState}
 use Rattle.sat_site.specs.Changes.{shape_for}
-use Rattle.sat_site.specs.Seen.{SiteSeen, window_at}
+use Rattle.sat_site.specs.Seen.{SiteSeen}
 
 abbrev pub payload_of : Option Version → Option Payload
 payload_of None = None
@@ -26,18 +26,21 @@ pub record StandsGear (d : Deployed) (gear : GearSeen) (s : GearState) : Type 0 
   pub fresh : gear.fresh ≡ s.fresh
   pub lanes : (j : ℕ) → j < d.sites → lane_to gear j ≡ s.lanes j
 
+-- no payload was made by a gear that there is not
 pub record StandsGears (d : Deployed) (gears : List GearSeen) (s : ℕ → GearState) : Type 0 where
   pub each : (g : ℕ) (gear : GearSeen) → slice_get gears g ≡ Some gear → StandsGear d gear (s g)
+  pub none : (g j : ℕ) → d.gears ≤ g → (s g).lanes j ≡ []
 
--- ---- the sink. No clause speaks of what it counted of the lanes: no act that a site does reads it
+-- ---- the sink, and what was counted of the lanes
 
-pub record StandsSink (d : Deployed) (sink : Sink) (s : SinkState) : Type 0 where
+pub record StandsSink (d : Deployed) (sink : Sink) (counts : List (List ℕ)) (s : SinkState) : Type 0 where
   pub promises : (g : ℕ) → g < d.gears → get_or sink.promises g 0 ≡ s.promises g
   pub pending : (g : ℕ) → g < d.gears → get_or sink.pending g [] ≡ s.pending g
+  pub counted : (g j : ℕ) → j < d.sites → get_or (get_or counts g []) j 0 ≡ s.counts g j
   pub last : sink.last ≡ s.last
   pub pulse : sink.pulse ≡ s.pulse
 
--- ---- views: of the closes that were taken, those of the view by the other sites
+-- ---- views: of the closes that were taken, those of the view by the other sites. None is of a later epoch
 
 pub record StandsViews (d : Deployed) (i : ℕ) (views : Epochs) (s : ViewState) : Type 0 where
   pub view : views.view ≡ s.view
@@ -45,25 +48,19 @@ pub record StandsViews (d : Deployed) (i : ℕ) (views : Epochs) (s : ViewState)
   pub fallen : views.fallen ≡ s.fallen
   pub closes : (e : ℕ) → s.closes e ≡ close_cut views e
   pub heard : (k : ℕ) → k < d.sites → k ≢ i → s.heard k s.view ≡ get_or views.heard k false
+  pub later : (k e : ℕ) → s.view < e → s.heard k e ≡ false
   pub plans : (e : ℕ) → 1 ≤ e → e ≤ length d.plans → is_stamp views e ≡ is_none (tree_of d e)
   pub count : length views.stamp ≡ length d.plans
-
--- ---- what the site has of others. No clause speaks of beats, nor of the point up to which each site is known: no act that a
--- site does reads them
-
--- no label stands twice
-abbrev pub Different : List Payload → Type 0
-Different ps = (m n : ℕ) (p q : Payload) → slice_get ps m ≡ Some p → slice_get ps n ≡ Some q → p.label ≡ q.label → m ≡ n
-
-pub record StandsProxy (d : Deployed) (shape : Shape) (windows : List Numbers) (waiting : List Payload) (s : ProxyState) : Type 0 where
-  pub taken : (k g n : ℕ) → k < d.sites → g < d.gears → has ◌==◌ (s.taken k g) n ≡ has_number (window_at shape windows k g) n
-  pub pool : waiting ≡ s.pool
-  pub different : Different waiting
 
 -- ---- the store
 
 pub record StandsStore (d : Deployed) (gears : List GearSeen) (store : ℕ → Option Payload) : Type 0 where
   pub each : (n : ℕ) (gear : GearSeen) → n < length d.items → slice_get gears (gear_of d n) ≡ Some gear → payload_of (version_of gear n) ≡ store n
+
+-- ---- the beats that it made
+
+abbrev pub StandsMade : Deployed → List (List Beat) → (ℕ → List BeatNote) → Type 0
+StandsMade d made s = (j : ℕ) → j < d.sites → map note_of (get_or made j []) ≡ s j
 
 -- ---- the site
 
@@ -71,7 +68,8 @@ pub record StandsStore (d : Deployed) (gears : List GearSeen) (store : ℕ → O
 pub record StandsSite (d : Deployed) (i : ℕ) (x : SiteSeen) (s : SiteState) : Type 0 where
   pub shape : x.shape ≡ shape_for d i
   pub gears : StandsGears d x.gears s.gears
-  pub sink : StandsSink d x.sink s.sink
+  pub sink : StandsSink d x.sink x.counts s.sink
   pub views : StandsViews d i x.views s.views
-  pub proxy : StandsProxy d x.shape x.windows x.waiting s.proxy
+  pub proxy : StandsProxy x.proxy s.proxy
   pub store : StandsStore d x.gears s.store
+  pub made : StandsMade d x.made s.made_beats

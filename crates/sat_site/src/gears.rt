@@ -1,17 +1,19 @@
 //! All gears of a site at once.
-ghost use Rattle.std.specs.Prelude.{◌≡◌, ◌≤◌, ◌^◌, length, map, IfOk, OnErr, MatchOption};
+ghost use Rattle.std.specs.Prelude.{◌≡◌, ◌≤◌, ◌<◌, ◌^◌, length, map, IfOk, OnOk, OnErr, MatchOption};
+ghost use Rattle.sat_label.specs.declared.label.Kind.TheVariants.{Move};
 ghost use Rattle.std.specs.List.{flat_map};
 ghost use Rattle.sat_label.specs.Words.{below};
-ghost use Rattle.sat_gear.specs.Gear.{after_drain, drained_of, fresh_gear, IsGear, IsItemOf, IsShape};
+ghost use Rattle.sat_gear.specs.Gear.{after_drain, drained_of, fresh_gear, is_spent, stamped, IsGear, IsItemOf, IsShape};
 ghost use Rattle.sat_sink.specs.Pending.{labels_of};
-ghost use Rattle.sat_site.specs.Changes.{ticked_to};
+ghost use Rattle.sat_site.specs.Changes.{counts_of, ticked_to};
+ghost use Rattle.sat_site.specs.SiteSteps.{moved_answer, moved_gear};
 ghost use Rattle.sat_site.specs.Seen.{AreGears};
 ghost use Rattle.sat_site.specs.Does.{WritesAt};
 
 use sat_act::{Answer, Refusal};
 use sat_bulk::Drained;
 use sat_gear::{Gear, GearFault};
-use sat_label::{Carried, Value};
+use sat_label::{Carried, Counts, Value};
 use sat_sites::Shape;
 use std::alloc::{AllocError, Global};
 
@@ -63,6 +65,21 @@ pub fn write_at(
     }
 }
 
+/// Hands a client's move to gear 0.
+pub fn move_at(gear: &mut Gear, carried: Carried, to: u16) -> Result<Answer, AllocError>
+    requires gear { gear.old.gear ≡ 0 }
+    requires site { to < gear.old.shape.sites }
+    ensures answer { IfOk result (λ answer. answer ≡ moved_answer (is_spent gear.old carried.point) (stamped gear.old carried.point (Move to))) }
+    ensures gear { OnOk result (gear.new ≡ moved_gear (is_spent gear.old carried.point) gear.old (stamped gear.old carried.point (Move to))) }
+    ensures err { OnErr result (gear.new ≡ gear.old) }
+{
+    match gear.stamp_move(carried.point, to) {
+        Ok(label) => Ok(Answer::Moved(label)),
+        Err(GearFault::Spent) => Ok(Answer::Refused(Refusal::Spent)),
+        Err(GearFault::Memory) => Err(AllocError),
+    }
+}
+
 /// Raises each promise to a timestamp.
 pub fn tick_all(gears: &mut [Gear], ts: u64)
     requires { ts ≤ 2 ^ 62 }
@@ -80,6 +97,17 @@ pub fn undrained_all(alloc: Global, gears: &[Gear]) -> Result<Vec<Drained>, Allo
     let mut all = Vec::with_capacity(alloc, gears.len())?;
     for gear in gears {
         all.push(gear.undrained()?)?;
+    }
+    Ok(all)
+}
+
+/// How much of each lane was drained, by gear.
+pub fn counts_all(alloc: Global, drained: &[Drained]) -> Result<Vec<Counts>, AllocError>
+    ensures { IfOk result (λ counts. counts.items ≡ map counts_of drained.now) }
+{
+    let mut all = Vec::with_capacity(alloc, drained.len())?;
+    for drain in drained {
+        all.push(drain.counts.copy()?)?;
     }
     Ok(all)
 }

@@ -1,41 +1,50 @@
 //! Sites.
-ghost use Rattle.std.specs.Prelude.{ℕ, ◌%◌, ◌*◌, ◌≡◌, ◌≤◌, ◌<◌, ◌==◌, ◌^◌, ◌&&◌, length, replicate, true, false, slice_get, Some, None, Option, IfOk, IfSome, OnErr, IsOk, MatchOption};
+ghost use Rattle.std.specs.Prelude.{ℕ, ◌%◌, ◌*◌, ◌≡◌, ◌≢◌, ◌≤◌, ◌<◌, ◌==◌, ◌^◌, ◌&&◌, length, true, false, slice_get, Some, None, Option, IfOk, IfSome, OnOk, OnErr, IsOk, MatchOption, option_copied};
+ghost use Rattle.std.specs.List.{list_all};
 ghost use Rattle.sat_label.specs.declared.label.Label.{Label};
+ghost use Rattle.sat_label.specs.Words.{below};
 ghost use Rattle.sat_sites.specs.Interested.{IsLabelOf};
 ghost use Rattle.sat_bulk.specs.Windows.{has_number};
-ghost use Rattle.sat_epoch.specs.Epochs.{in_stamp, is_stamp};
+ghost use Rattle.sat_pool.specs.Pool.{all_waiting, waiting_at};
+ghost use Rattle.sat_epoch.specs.Epochs.{advance_fault, close_fault, fall_fault, in_stamp, is_stamp, IsEpochs};
 ghost use Rattle.sat_gear.specs.Gear.{GearSeen, IsShape};
 ghost use Rattle.sat_sink.specs.Sink.{ready_of};
 ghost use Rattle.sat_label.specs.declared.limits.TheConstants.{MOST_EPOCHS};
 ghost use Rattle.sat_act.specs.Deployed.{Deployed};
 ghost use Rattle.sat_act.specs.declared.answer.Answer.TheVariants as ans;
+ghost use Rattle.sat_act.specs.Settling.{is_done};
 ghost use Rattle.sat_machine.specs.State.{SiteState, fresh_site};
 ghost use Rattle.sat_machine.specs.Fits.{is_time};
 ghost use Rattle.sat_machine.specs.Look.{front_of, mode_of};
-ghost use Rattle.sat_site.specs.Seen.{IsSite, IsGuest, lane_place, no_numbers, window_of};
-ghost use Rattle.sat_site.specs.Inputs.{fits_here, fits_in, is_bulk_here, is_carried_here, is_front_here, is_gear_here, is_goal_here, is_guest_here, is_item_here, is_kept_here, is_kind_here, is_other_here, is_small, IsFront};
+ghost use Rattle.sat_proxy.specs.Proxy.{front_at, IsProxy};
+ghost use Rattle.sat_proxy.specs.Steps.{after_beat, after_bulk, has_come};
+ghost use Rattle.sat_proxy.specs.Answers.{advance_answer, attach_answer, beat_answer, bulk_answer, stamp_answer, turn_answer};
+ghost use Rattle.sat_site.specs.Seen.{IsGuest, IsSite, SiteSeen};
+ghost use Rattle.sat_site.specs.Inputs.{fits_here, fits_in, is_beat_here, is_bulk_here, is_carried_here, is_counted, is_cut_here, is_front_here, is_gear_here, is_goal_here, is_guest_here, is_item_here, is_kept_here, is_kind_here, is_other_here, is_point_here, is_site_here, is_sized, takes_none, BulkFits, IsFront};
 ghost use Rattle.sat_site.specs.Stands.{StandsSite, payload_of};
 ghost use Rattle.sat_site.specs.Gives.{PromisesUpTo, IsOfLane};
-ghost use Rattle.sat_site.specs.Changes.{clocked, fresh_seen, HasGear};
-ghost use Rattle.sat_site.specs.SiteSteps.{emit_sends, has_target, keeps_item, site_after, site_answers, site_epoch, site_sends, write_refusal};
-ghost use Rattle.sat_site.specs.Does.{Does, Reads, Turns, Writes};
+ghost use Rattle.sat_site.specs.Changes.{beat_for, beaten, clocked, fresh_seen, made_for, HasGear};
+ghost use Rattle.sat_site.specs.SiteSteps.{close_after, close_answer, emit_sends, fall_after, fall_answer, has_target, keeps_item, move_after, move_answer, next_close, next_pulse, passed_after, pulse_after, pulse_answer, shown_of, site_after, site_answers, site_beat, site_epoch, site_sends, stamped_after, turned_after, write_refusal};
+ghost use Rattle.sat_site.specs.Does.{Does, Reads, Writes};
 
+use crate::beats::{Made, counts_to, fresh_counts, fresh_made, points_of};
 use crate::gears::{
-    all_limits, count_labels, drain_all, fresh_gears, limits, tick_all, undrained_all, write_at,
+    all_limits, count_labels, counts_all, drain_all, fresh_gears, limits, move_at, tick_all,
+    undrained_all, write_at,
 };
 use crate::shape::{shape_of, stamp_plans};
-use crate::waiting::{has_point, take};
 use crate::{SiteInput, SiteOutput, SiteView};
 use sat_act::{Answer, Deployment, Refusal};
-use sat_bulk::{Payload, Take, Window};
-use sat_epoch::Views;
+use sat_beat::{Beat, BeatTake};
+use sat_bulk::{Payload, Take};
+use sat_epoch::{AdvanceFault, CloseFault, FallFault, Views};
 use sat_gear::Gear;
-use sat_label::{Carried, Kind, Label, TS_END, Value};
+use sat_label::{Carried, Counts, Kind, Label, PULSE_GEAR, Point, TS_END, Value};
+use sat_proxy::{Proxy, StampFault, TurnFault, Turned};
 use sat_sink::LabelSink;
 use sat_sites::Shape;
 use sat_store::Version;
 use std::alloc::{AllocError, Global};
-use std::collections::VecDeque;
 use std::marker::Model;
 
 /// One site of a deployment. It keeps no past. Contracts see its parts as the plain records of these. What it answers, what it
@@ -47,9 +56,10 @@ pub struct Site {
     shape: Shape,
     gears: Vec<Gear>,
     sink: LabelSink,
+    counts: Vec<Counts>,
     views: Views,
-    windows: Vec<Window>,
-    waiting: VecDeque<Payload>,
+    proxy: Proxy,
+    made: Vec<Made>,
 }
 
 impl Model for Site {
@@ -57,20 +67,18 @@ impl Model for Site {
 
     ghost Value = { SiteSeen };
 
-    ghost view = { λ a. record { shape = a.shape; gears = a.gears.items; sink = a.sink; views = a.views; windows = a.windows.items; waiting = a.waiting.items } };
+    ghost view = { λ a. record { shape = a.shape; gears = a.gears.items; sink = a.sink; counts = a.counts.items; views = a.views; proxy = a.proxy; made = a.made.items } };
 
-    ghost invariant = { λ a. IsSite (record { shape = a.shape; gears = a.gears.items; sink = a.sink; views = a.views; windows = a.windows.items; waiting = a.waiting.items }) };
+    ghost invariant = { λ a. IsSite (record { shape = a.shape; gears = a.gears.items; sink = a.sink; counts = a.counts.items; views = a.views; proxy = a.proxy; made = a.made.items }) };
 }
 
-// So many lanes of which no payload was taken.
-fn fresh_windows(alloc: Global, lanes: usize) -> Result<Vec<Window>, AllocError>
-    ensures { IfOk result (λ windows. windows.items ≡ replicate lanes no_numbers) }
+// What is true of a site's epochs, and of what it has of the others.
+fn sound(views: &Views, proxy: &Proxy)
+    ensures views { IsEpochs views.now }
+    ensures proxy { IsProxy proxy.now }
 {
-    let mut windows = Vec::with_capacity(alloc, lanes)?;
-    for _ in 0..lanes {
-        windows.push(Window::new(alloc))?;
-    }
-    Ok(windows)
+    let _ = views.view();
+    let _ = proxy.waiting();
 }
 
 impl Site {
@@ -81,6 +89,8 @@ impl Site {
     {
         let shape = shape_of(alloc, d, site)?;
         let stamp = stamp_plans(alloc, d.plans())?;
+        // Brings this law into the proof; it does nothing when it runs.
+        sat_proxy::proxy_laws();
         let made = Site::fresh(alloc, shape, &stamp)?;
         Ok(made)
     }
@@ -96,40 +106,46 @@ impl Site {
         all_limits(&gears);
         let sink = LabelSink::new(alloc, shape.site, shape.gears)?;
         let views = Views::new(alloc, shape.sites, shape.site, stamp)?;
-        let _ = views.view();
-        let windows = fresh_windows(alloc, shape.sites as usize * shape.gears as usize)?;
+        let proxy = Proxy::new(alloc, shape.sites, shape.gears, shape.site)?;
+        sound(&views, &proxy);
+        let counts = fresh_counts(alloc, shape.gears)?;
+        let made = fresh_made(alloc, shape.sites)?;
         Ok(Site {
             alloc,
             shape,
             gears,
             sink,
+            counts,
             views,
-            windows,
-            waiting: VecDeque::new(alloc),
+            proxy,
+            made,
         })
     }
 
-    /// Does one act, by what it is handed, and answers it. It takes no memory for a Tick, an Emit or a Turn, nor where it
-    /// answers Again; for want of memory the site is as before.
+    /// Does one act, by what it is handed, and answers it. It takes no memory for a Tick, an Emit, a Pulse, a Turn, a Stamp, an
+    /// Attach, a Close, a Fall or an Advance, nor where it answers Again or Old; for want of memory the site is as before.
     pub fn step(&mut self, input: SiteInput) -> Result<SiteOutput, AllocError>
         requires { fits_in self.old input ≡ true }
         ensures function { IfOk result (λ out. out.answer ≡ site_answers self.old input) }
         ensures sends { IfOk result (λ out. out.sent ≡ site_sends self.old input) }
         ensures epoch { IfOk result (λ out. out.epoch ≡ site_epoch self.old input) }
+        ensures beat { IfOk result (λ out. out.beat ≡ site_beat self.old input) }
         ensures after { IfOk result (λ out. self.new ≡ site_after self.old input) }
+        ensures refused { IfOk result (λ out. is_done out.answer ≡ false → self.new ≡ self.old) }
         ensures site { IsSite self.old }
-        ensures tick { (g t : ℕ) → input ≡ SiteInput.Tick g t → IsOk result }
-        ensures turn { (front : Option Label) → input ≡ SiteInput.Turn front → IsOk result }
-        ensures emit { input ≡ SiteInput.Emit → IsOk result }
+        ensures spare { takes_none input ≡ true → IsOk result }
         ensures err { OnErr result (self.new ≡ self.old) }
     {
+        let _ = &self.shape;
         let sent = self.sends(&input);
         let epoch = self.epoch(&input, &sent);
+        let beat = self.beat_of(&input)?;
         let answer = self.act(input)?;
         Ok(SiteOutput {
             answer,
             sent,
             epoch,
+            beat,
         })
     }
 
@@ -138,19 +154,53 @@ impl Site {
         ensures { result ≡ site_sends self.now input.now }
     {
         match input {
-            SiteInput::Emit => self.leaving(),
+            SiteInput::Emit => self.leaving(self.sink.next()),
+            SiteInput::Pulse => self.leaving(self.next_pulse()),
+            SiteInput::Close => self.leaving(self.next_close()),
             _ => None,
         }
     }
 
-    // The label that an emission would send: the sink's next, where it has a target and the plan of the epoch is a tree.
-    fn leaving(&self) -> Option<Label>
-        ensures { result ≡ emit_sends (is_stamp self.now.views self.now.views.emission) self.now.shape (ready_of self.now.sink) }
+    // The pulse that the sink would send.
+    fn next_pulse(&self) -> Option<Label>
+        ensures { result ≡ next_pulse self.now.sink }
+    {
+        if !self.sink.pulse_ready() {
+            return None;
+        }
+        let point = Point {
+            ts: self.sink.stable(),
+            site: self.shape.site,
+            gear: PULSE_GEAR,
+        };
+        Some(Label {
+            point,
+            kind: Kind::Pulse,
+        })
+    }
+
+    // The close that the site would send.
+    fn next_close(&self) -> Option<Label>
+        ensures { result ≡ next_close (close_fault self.now.views) self.now }
+    {
+        if self.views.close_fault().is_some() {
+            return None;
+        }
+        Some(Label {
+            point: self.sink.cut(),
+            kind: Kind::Close(self.views.emission()),
+        })
+    }
+
+    // What is sent of a label: the label, where it has a target and the plan of the emission epoch is a tree.
+    fn leaving(&self, next: Option<Label>) -> Option<Label>
+        requires { (l : Label) → next ≡ Some l → IsLabelOf self.now.shape.interest l }
+        ensures { result ≡ emit_sends (is_stamp self.now.views self.now.views.emission) self.now.shape next }
     {
         if self.views.is_stamp(self.views.emission()) {
             return None;
         }
-        let label = self.sink.next()?;
+        let label = next?;
         if !self.has_target(&label) {
             return None;
         }
@@ -166,29 +216,39 @@ impl Site {
         targets.meets(&targets)
     }
 
-    // The epoch of what a step would send, in a turn that of what it takes.
+    // The epoch of what is sent, or of what a turn takes.
     fn epoch(&self, input: &SiteInput, sent: &Option<Label>) -> u16
         requires { sent.now ≡ site_sends self.now input.now }
         ensures { result ≡ site_epoch self.now input.now }
     {
         match input {
-            SiteInput::Emit => match sent {
+            SiteInput::Turn { .. } => self.views.view(),
+            _ => match sent {
                 None => 0,
                 Some(_) => self.views.emission(),
             },
-            SiteInput::Turn { .. } => self.views.view(),
-            _ => 0,
+        }
+    }
+
+    // The beat that a step would make.
+    fn beat_of(&self, input: &SiteInput) -> Result<Option<Beat>, AllocError>
+        requires { fits_in self.now input.now ≡ true }
+        ensures beat { IfOk result (λ beat. beat ≡ site_beat self.now input.now) }
+        ensures spare { takes_none input.now ≡ true → IsOk result }
+    {
+        match input {
+            SiteInput::Beat { to } => Ok(Some(self.beat(*to)?)),
+            _ => Ok(None),
         }
     }
 
     // Does one act. The calls below do one kind of act each.
     fn act(&mut self, input: SiteInput) -> Result<Answer, AllocError>
         requires { fits_in self.old input ≡ true }
-        ensures does { IfOk result (λ answer. Does self.old input answer self.new) }
+        ensures answer { IfOk result (λ answer. answer ≡ site_answers self.old input) }
+        ensures after { IfOk result (λ answer. self.new ≡ site_after self.old input) }
         ensures site { IsSite self.old }
-        ensures tick { (g t : ℕ) → input ≡ SiteInput.Tick g t → IsOk result }
-        ensures turn { (front : Option Label) → input ≡ SiteInput.Turn front → IsOk result }
-        ensures emit { input ≡ SiteInput.Emit → IsOk result }
+        ensures spare { takes_none input ≡ true → IsOk result }
         ensures err { OnErr result (self.new ≡ self.old) }
     {
         let _ = &self.shape;
@@ -200,8 +260,11 @@ impl Site {
                 value,
             } => self.write(carried, item, value),
             SiteInput::Read { carried: _, item } => self.read(item),
+            SiteInput::Move { carried, to } => self.move_to(carried, to),
+            SiteInput::Attach { carried } => Ok(self.attach(&carried)),
             SiteInput::Gather => self.gather(),
             SiteInput::Emit => Ok(self.emit()),
+            SiteInput::Pulse => Ok(self.pulse()),
             SiteInput::Turn { front } => Ok(self.turn(front)),
             SiteInput::Bulk {
                 from,
@@ -209,6 +272,12 @@ impl Site {
                 number,
                 payload,
             } => self.bulk(from, gear, number, payload),
+            SiteInput::Beat { to } => self.make_beat(to),
+            SiteInput::BeatIn { from, number, beat } => self.beat_in(from, number, beat),
+            SiteInput::Stamp => Ok(self.stamp()),
+            SiteInput::Close => Ok(self.close()),
+            SiteInput::Fall => Ok(self.fall()),
+            SiteInput::Advance => Ok(self.advance()),
         }
     }
 
@@ -307,9 +376,11 @@ impl Site {
     {
         let drained = undrained_all(self.alloc, &self.gears)?;
         let labels = count_labels(&drained).ok_or(AllocError)?;
+        let counts = counts_all(self.alloc, &drained)?;
         self.sink.gather(&drained)?;
         drain_all(&mut self.gears);
         all_limits(&self.gears);
+        self.counts = counts;
         Ok(Answer::Gathered {
             labels,
             stable: self.sink.stable(),
@@ -325,77 +396,91 @@ impl Site {
         Answer::Emitted(label)
     }
 
+    fn pulse(&mut self) -> Answer
+        ensures answer { result ≡ pulse_answer (next_pulse self.old.sink) }
+        ensures after { self.new ≡ pulse_after self.old (next_pulse self.old.sink) }
+    {
+        match self.sink.pulse() {
+            None => Answer::Refused(Refusal::Idle),
+            Some(label) => Answer::Pulsed(label),
+        }
+    }
+
+    // A client's move to another site, stamped by gear 0.
+    fn move_to(&mut self, carried: Carried, to: u16) -> Result<Answer, AllocError>
+        requires { to < self.old.shape.sites }
+        ensures answer { IfOk result (λ answer. answer ≡ move_answer (to == self.old.shape.site) (slice_get self.old.gears 0) carried to) }
+        ensures after { OnOk result (self.new ≡ move_after self.old (to == self.old.shape.site) (slice_get self.old.gears 0) carried to) }
+        ensures err { OnErr result (self.new ≡ self.old) }
+    {
+        if to == self.shape.site {
+            return Ok(Answer::Refused(Refusal::SameSite));
+        }
+        let gear = &mut self.gears[0];
+        limits(gear);
+        let answer = move_at(gear, carried, to)?;
+        limits(gear);
+        Ok(answer)
+    }
+
+    fn attach(&self, carried: &Carried) -> Answer
+        requires { carried.now.point.site < self.now.shape.sites }
+        ensures { result ≡ attach_answer self.now.views self.now.proxy carried.now }
+    {
+        if self.proxy.may_attach(&self.views, carried) {
+            Answer::Attached
+        } else {
+            Answer::Refused(Refusal::NotYet)
+        }
+    }
+
+    // The front of the link to the site.
     fn turn(&mut self, front: Option<Label>) -> Answer
         requires { (l : Label) → front ≡ Some l → IsFront self.old l }
-        ensures { Does self.old (SiteInput.Turn front) result self.new }
+        ensures answer { result ≡ turn_answer self.old.views self.old.proxy front }
+        ensures after { self.new ≡ turned_after self.old front }
     {
-        if self.views.in_stamp_mode() {
-            return Answer::Refused(Refusal::StampOrder);
+        let turned = self.proxy.turn(&mut self.views, front);
+        sound(&self.views, &self.proxy);
+        match turned {
+            Ok(Turned::Show(payload)) => self.show(payload),
+            Ok(Turned::Took(label)) => Answer::Took(label),
+            Err(TurnFault::StampOrder) => Answer::Refused(Refusal::StampOrder),
+            Err(TurnFault::Empty) => Answer::Refused(Refusal::Empty),
+            Err(TurnFault::NoPayload(label)) => Answer::Refused(Refusal::NoPayload(label)),
         }
-        self.turn_by_tree(front)
     }
 
-    // Takes the front of the link to the site.
-    fn turn_by_tree(&mut self, front: Option<Label>) -> Answer
-        requires { (l : Label) → front ≡ Some l → IsFront self.old l }
-        ensures { Turns self.old front result self.new }
+    // The next update in timestamp order.
+    fn stamp(&mut self) -> Answer
+        ensures answer { result ≡ stamp_answer self.old.views self.old.proxy }
+        ensures after { self.new ≡ stamped_after self.old }
     {
-        let Some(label) = front else {
-            return Answer::Refused(Refusal::Empty);
+        let shown = self.proxy.stamp(&self.views);
+        sound(&self.views, &self.proxy);
+        match shown {
+            Ok(payload) => self.show(payload),
+            Err(StampFault::TreeOrder) => Answer::Refused(Refusal::TreeOrder),
+            Err(StampFault::NotYet) => Answer::Refused(Refusal::NotYet),
+        }
+    }
+
+    // Shows an update, by the gear of its item.
+    fn show(&mut self, payload: Payload) -> Answer
+        requires { IsGuest self.old.shape payload }
+        ensures answer { result ≡ ans.Shown payload.label }
+        ensures after { self.new ≡ shown_of self.old payload payload.label.kind }
+    {
+        let label = payload.label;
+        let Kind::Update(item) = label.kind else {
+            unreachable!()
         };
-        match label.kind {
-            Kind::Update(item) => self.show(label, item),
-            Kind::Close(epoch) => self.hear(label, epoch),
-            Kind::Move(_) => Answer::Took(label),
-            Kind::Pulse => Answer::Took(label),
-        }
-    }
-
-    // Takes a close of the view.
-    fn hear(&mut self, label: Label, epoch: u16) -> Answer
-        requires front { IsFront self.old label }
-        requires kind { label.kind ≡ Kind.Close epoch }
-        ensures { Turns self.old (Some label) result self.new }
-    {
-        self.views.hear_close(label.point.site, epoch);
-        let _ = self.views.view();
-        Answer::Took(label)
-    }
-
-    // Shows the update of a label, if its payload waits.
-    fn show(&mut self, label: Label, item: u16) -> Answer
-        requires { label.kind ≡ Kind.Update item }
-        ensures { Turns self.old (Some label) result self.new }
-    {
         let number = self.gear_of(item);
-        let Some(payload) = take(&mut self.waiting, label) else {
-            return Answer::Refused(Refusal::NoPayload(label));
-        };
         let gear = &mut self.gears[number as usize];
         limits(gear);
         let _ = gear.show(payload);
         limits(gear);
         Answer::Shown(label)
-    }
-
-    // Where the numbers of a lane stand.
-    fn lane(&self, from: u16, gear: u16) -> usize
-        requires from { from < self.now.shape.sites }
-        requires gear { gear < self.now.shape.gears }
-        ensures place { result ≡ lane_place self.now.shape from gear }
-        ensures within { result < length self.now.windows }
-    {
-        from as usize * self.shape.gears as usize + gear as usize
-    }
-
-    // The numbers of a lane.
-    fn window(&self, from: u16, gear: u16) -> &Window
-        requires from { from < self.now.shape.sites }
-        requires gear { gear < self.now.shape.gears }
-        ensures { result.now ≡ window_of self.now from gear }
-    {
-        let place = self.lane(from, gear);
-        &self.windows[place]
     }
 
     fn bulk(
@@ -405,41 +490,109 @@ impl Site {
         number: u64,
         payload: Payload,
     ) -> Result<Answer, AllocError>
-        requires from { from < self.old.shape.sites }
-        requires gear { gear < self.old.shape.gears }
-        requires small { number < 2 ^ 63 }
-        requires guest { IsGuest self.old.shape payload }
-        ensures does { IfOk result (λ answer. Does self.old (SiteInput.Bulk from gear number payload) answer self.new) }
+        requires { BulkFits self.old from gear number payload }
+        ensures answer { IfOk result (λ answer. answer ≡ bulk_answer self.old.proxy from gear number payload.label) }
+        ensures after { OnOk result (self.new ≡ record self.old { proxy = after_bulk self.old.proxy from gear number payload }) }
         ensures err { OnErr result (self.new ≡ self.old) }
     {
-        if self.window(from, gear).has(number) {
-            return Ok(Answer::Again);
+        let label = payload.label;
+        let taken = self.proxy.bulk(from, gear, number, payload);
+        sound(&self.views, &self.proxy);
+        match taken {
+            Ok(Take::New) => Ok(Answer::Brought(label)),
+            Ok(Take::Again) => Ok(Answer::Again),
+            Err(_) => Err(AllocError),
         }
-        self.bring(from, gear, number, payload)
     }
 
-    // Takes a payload whose number is new. All memory is taken before anything changes.
-    fn bring(
-        &mut self,
-        from: u16,
-        gear: u16,
-        number: u64,
-        payload: Payload,
-    ) -> Result<Answer, AllocError>
-        requires from { from < self.old.shape.sites }
-        requires gear { gear < self.old.shape.gears }
-        requires small { number < 2 ^ 63 }
-        requires new { has_number (window_of self.old from gear) number ≡ false }
-        requires guest { IsGuest self.old.shape payload }
-        ensures does { IfOk result (λ answer. Does self.old (SiteInput.Bulk from gear number payload) answer self.new) }
+    /// The beat that a step would make for another site now. It changes nothing.
+    pub fn beat(&self, to: u16) -> Result<Beat, AllocError>
+        requires { to < self.now.shape.sites }
+        ensures beat { IfOk result (λ beat. beat ≡ beat_for self.now to) }
+        ensures site { IsSite self.now }
+    {
+        let _ = &self.shape;
+        let closes = points_of(self.alloc, self.views.closes())?;
+        let counts = counts_to(self.alloc, &self.counts, to)?;
+        Ok(Beat {
+            cut: self.sink.cut(),
+            closes,
+            counts,
+        })
+    }
+
+    // Makes a beat for another site, and keeps it.
+    fn make_beat(&mut self, to: u16) -> Result<Answer, AllocError>
+        requires { to < self.old.shape.sites }
+        ensures answer { IfOk result (λ answer. answer ≡ ans.Beat (length (made_for self.old to))) }
+        ensures after { OnOk result (self.new ≡ beaten self.old to) }
         ensures err { OnErr result (self.new ≡ self.old) }
     {
-        let place = self.lane(from, gear);
-        let label = payload.label;
-        self.waiting.reserve(1)?;
-        let _ = self.windows[place].take(number)?;
-        self.waiting.push_back_reserved(payload);
-        Ok(Answer::Brought(label))
+        let beat = self.beat(to)?;
+        let made = &mut self.made[to as usize];
+        let number = made.add(beat)?;
+        Ok(Answer::Beat(number))
+    }
+
+    fn beat_in(&mut self, from: u16, number: u64, beat: Beat) -> Result<Answer, AllocError>
+        requires from { from < self.old.shape.sites }
+        requires counts { length beat.counts ≡ self.old.shape.gears }
+        ensures answer { IfOk result (λ answer. answer ≡ beat_answer self.old.proxy from number) }
+        ensures after { OnOk result (self.new ≡ record self.old { proxy = after_beat self.old.proxy from number beat }) }
+        ensures err { OnErr result (self.new ≡ self.old) }
+    {
+        let taken = self.proxy.beat_in(from, number, beat);
+        sound(&self.views, &self.proxy);
+        match taken {
+            Ok(BeatTake::New) => Ok(Answer::Taken),
+            Ok(BeatTake::Again) => Ok(Answer::Again),
+            Ok(BeatTake::Old) => Ok(Answer::Old),
+            Err(_) => Err(AllocError),
+        }
+    }
+
+    // Closes the emission epoch at the site's cut.
+    fn close(&mut self) -> Answer
+        ensures answer { result ≡ close_answer (close_fault self.old.views) self.old }
+        ensures after { self.new ≡ close_after (close_fault self.old.views) self.old }
+    {
+        let cut = self.sink.cut();
+        let closed = self.views.close(cut);
+        sound(&self.views, &self.proxy);
+        match closed {
+            Ok(epoch) => {
+                self.sink.closed();
+                Answer::Closed { epoch, cut }
+            }
+            Err(CloseFault::NoNextEpoch) => Answer::Refused(Refusal::NoNextEpoch),
+            Err(CloseFault::Behind) => Answer::Refused(Refusal::Behind),
+        }
+    }
+
+    fn fall(&mut self) -> Answer
+        ensures answer { result ≡ fall_answer (fall_fault self.old.views) }
+        ensures after { self.new ≡ fall_after (fall_fault self.old.views) self.old }
+    {
+        let fell = self.views.fall();
+        sound(&self.views, &self.proxy);
+        match fell {
+            Ok(()) => Answer::Fallen,
+            Err(FallFault::StampOrder) => Answer::Refused(Refusal::StampOrder),
+            Err(FallFault::NotClosed) => Answer::Refused(Refusal::NotClosed),
+        }
+    }
+
+    fn advance(&mut self) -> Answer
+        ensures answer { result ≡ advance_answer self.old.views self.old.proxy }
+        ensures after { self.new ≡ passed_after (advance_fault self.old.views (has_come self.old.views self.old.proxy)) self.old }
+    {
+        let passed = self.proxy.advance(&mut self.views);
+        sound(&self.views, &self.proxy);
+        match passed {
+            Ok(view) => Answer::View(view),
+            Err(AdvanceFault::NotClosed) => Answer::Refused(Refusal::NotClosed),
+            Err(AdvanceFault::NotYet) => Answer::Refused(Refusal::NotYet),
+        }
     }
 
     /// Why a client's write would be refused, None where it would not. It takes no memory, so a caller can ask before it copies
@@ -476,7 +629,7 @@ impl Site {
     pub fn fits(&self, input: &SiteInput) -> bool
         ensures { result ≡ fits_in self.now input.now }
     {
-        self.fits_here(input) && is_small(input)
+        self.fits_here(input) && self.is_sized(input)
     }
 
     // Whether an input is one that the machine of the model may be handed.
@@ -487,8 +640,8 @@ impl Site {
             SiteInput::Tick { gear, ts } => self.is_tick(*gear, *ts),
             SiteInput::Write { carried, item, .. } => self.is_act_on(carried, *item),
             SiteInput::Read { carried, item } => self.is_act_on(carried, *item),
-            SiteInput::Gather => true,
-            SiteInput::Emit => true,
+            SiteInput::Move { carried, to } => self.is_carried(carried) && self.is_site(*to),
+            SiteInput::Attach { carried } => self.is_carried(carried),
             SiteInput::Turn { front } => match front {
                 None => true,
                 Some(label) => self.is_front(label),
@@ -499,7 +652,77 @@ impl Site {
                 number,
                 payload,
             } => self.is_bulk(*from, *gear, *number, payload),
+            SiteInput::Beat { to } => self.is_other(*to),
+            SiteInput::BeatIn { from, beat, .. } => self.is_other(*from) && self.is_beat(beat),
+            SiteInput::Gather => true,
+            SiteInput::Emit => true,
+            SiteInput::Pulse => true,
+            SiteInput::Stamp => true,
+            SiteInput::Close => true,
+            SiteInput::Fall => true,
+            SiteInput::Advance => true,
         }
+    }
+
+    // Whether a number has 63 bits, and a beat the numbers of the deployment.
+    fn is_sized(&self, input: &SiteInput) -> bool
+        ensures { result ≡ is_sized self.now input.now }
+    {
+        match input {
+            SiteInput::Bulk { number, .. } => *number < (1 << 63),
+            SiteInput::BeatIn { number, beat, .. } => {
+                *number < (1 << 63) && self.is_counted(beat)
+            }
+            _ => true,
+        }
+    }
+
+    fn is_counted(&self, beat: &Beat) -> bool
+        ensures { result ≡ is_counted self.now beat.now }
+    {
+        beat.counts.as_slice().len() == self.shape.gears as usize
+            && beat.closes.as_slice().len() <= self.views.epochs() as usize
+    }
+
+    fn is_site(&self, site: u16) -> bool
+        ensures { result ≡ is_site_here self.now.shape site }
+    {
+        site < self.shape.sites
+    }
+
+    fn is_point(&self, point: &Point) -> bool
+        ensures { result ≡ is_point_here self.now.shape point.now }
+    {
+        point.ts <= TS_END && point.site < self.shape.sites
+    }
+
+    // A close cut, if there is one.
+    fn is_cut(&self, closes: &[Point], place: usize) -> bool
+        ensures { result ≡ is_cut_here self.now.shape (slice_get closes.now place) }
+    {
+        match closes.get(place) {
+            None => true,
+            Some(point) => self.is_point(point),
+        }
+    }
+
+    // Whether the close cut of each epoch is a point, if there is one.
+    #[tactic(auto, using(sat_epoch::proofs::AllBelow::all_start, sat_epoch::proofs::AllBelow::all_more, sat_epoch::proofs::AllBelow::all_stops))]
+    fn are_cuts(&self, closes: &[Point]) -> bool
+        ensures { result ≡ list_all (λ n. is_cut_here self.now.shape (slice_get closes.now n)) (below (length self.now.views.stamp)) }
+    {
+        for place in 0..self.views.epochs() as usize {
+            if !self.is_cut(closes, place) {
+                return false;
+            }
+        }
+        true
+    }
+
+    fn is_beat(&self, beat: &Beat) -> bool
+        ensures { result ≡ is_beat_here self.now.shape (length self.now.views.stamp) beat.now }
+    {
+        self.is_point(&beat.cut) && self.are_cuts(beat.closes.as_slice())
     }
 
     fn is_gear(&self, gear: u16) -> bool
@@ -584,7 +807,7 @@ impl Site {
     }
 
     fn is_bulk(&self, from: u16, gear: u16, number: u64, payload: &Payload) -> bool
-        ensures { result ≡ is_bulk_here self.now.shape (window_of self.now from gear) self.now.waiting from gear number payload.now }
+        ensures { result ≡ is_bulk_here self.now.shape self.now.proxy from gear number payload.now }
     {
         if !self.is_other(from) || !self.is_gear(gear) {
             return false;
@@ -592,20 +815,20 @@ impl Site {
         if !self.is_guest(from, &payload.label) {
             return false;
         }
-        self.window(from, gear).has(number) || !has_point(&self.waiting, &payload.label.point)
+        self.proxy.has(from, gear, number) || self.proxy.payload(&payload.label.point).is_none()
     }
 
     /// What the site shows of itself.
     pub fn view(&self) -> SiteView
         ensures sound { IsSite self.now }
-        ensures seen { result ≡ record { view = self.now.views.view; emission = self.now.views.emission; stamp = in_stamp self.now.views; waiting = length self.now.waiting } }
+        ensures seen { result ≡ record { view = self.now.views.view; emission = self.now.views.emission; stamp = in_stamp self.now.views; waiting = length (all_waiting self.now.proxy.pool) } }
         ensures stands { (d : Deployed) (i : ℕ) (s : SiteState) → StandsSite d i self.now s → result ≡ record { view = s.views.view; emission = s.views.emission; stamp = mode_of d s; waiting = length s.proxy.pool } }
     {
         SiteView {
             view: self.views.view(),
             emission: self.views.emission(),
             stamp: self.views.in_stamp_mode(),
-            waiting: self.waiting.len() as u64,
+            waiting: self.proxy.waiting(),
         }
     }
 
@@ -632,6 +855,16 @@ impl Site {
         gear.payload(to, number)
     }
 
+    /// The beat with this number of those that the site made for another one, None where there is none. It takes no memory.
+    pub fn made_beat(&self, to: u16, number: u64) -> Option<&Beat>
+        requires { to < self.now.shape.sites }
+        ensures beat { option_copied result ≡ slice_get (made_for self.now to) number }
+        ensures sound { IsSite self.now }
+    {
+        let _ = &self.shape;
+        self.made[to as usize].get(number)
+    }
+
     /// The timestamp up to which a gear makes no label any more.
     pub fn promise(&self, gear: u16) -> u64
         requires { gear < self.now.shape.gears }
@@ -649,18 +882,8 @@ impl Site {
         requires from { from < self.now.shape.sites }
         requires gear { gear < self.now.shape.gears }
         ensures front { (d : Deployed) (i : ℕ) (s : SiteState) → StandsSite d i self.now s → result ≡ front_of s from gear }
-        ensures seen { result ≡ (window_of self.now from gear).front }
+        ensures seen { result ≡ front_at self.now.proxy from gear }
     {
-        self.window(from, gear).front()
-    }
-}
-
-// Whether a window can take the number of an input.
-fn is_small(input: &SiteInput) -> bool
-    ensures { result ≡ is_small input.now }
-{
-    match input {
-        SiteInput::Bulk { number, .. } => *number < (1 << 63),
-        _ => true,
+        self.proxy.front(from, gear)
     }
 }

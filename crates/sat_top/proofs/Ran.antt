@@ -3,7 +3,6 @@ use Rattle.std.proofs.Common.{◌≡◌, ℕ, false, List, Option, Some, None, r
 use Rattle.std.specs.Prelude.{IfSome}
 use Rattle.sat_act.specs.Deployed.{Deployed}
 use Rattle.sat_act.specs.Limits.{IsDeployment}
-use Rattle.sat_script.specs.Built.{IsBuilt}
 use Rattle.sat_act.specs.Headline.{IsGood}
 use Rattle.sat_laws.specs.Laws.{EveryHistoryIsGood}
 use Rattle.sat_script.specs.Spelled.{HaveNames}
@@ -25,12 +24,12 @@ at_some : (o : Option Deployed) (d : Deployed) (P : Deployed → Type 0) → IfS
 at_some None d P p e = absurd (cc)
 at_some (Some x) d P p e = let same : x ≡ d = cc in subst P same p
 
-front : (text : List ℕ) (found : Reading) → EveryHistoryIsGood → IfSome found.deployment (λ d. IsDeployment d × IsBuilt d × HaveNames d × AreBuiltActs d found.acts) → reading false text ≡ found → IsGoodFront text
+front : (text : List ℕ) (found : Reading) → EveryHistoryIsGood → IfSome found.deployment (λ d. IsDeployment d × HaveNames d × AreBuiltActs d found.acts) → reading false text ≡ found → IsGoodFront text
 front text found every built same d at =
-    let here = at_some found.deployment d (λ x. IsDeployment x × IsBuilt x × HaveNames x × AreBuiltActs x found.acts) built (sym (ap (λ (r : Reading). r.deployment) same) ∙ at) in
-    subst (λ (r : Reading). IsGood d (history d r.acts)) (sym same) (good_history d found.acts every here.0 here.3)
+    let here = at_some found.deployment d (λ x. IsDeployment x × HaveNames x × AreBuiltActs x found.acts) built (sym (ap (λ (r : Reading). r.deployment) same) ∙ at) in
+    subst (λ (r : Reading). IsGood d (history d r.acts)) (sym same) (good_history d found.acts every here.0 here.2)
 
-pub ran : (left : Option (List ℕ)) (found : Reading) (written : List ℕ) (status : ℕ) → EveryReadingIsGood → EveryHistoryIsGood → IfSome found.deployment (λ d. IsDeployment d × IsBuilt d × HaveNames d × AreBuiltActs d found.acts) → ((text : List ℕ) × IsTextOf left text × (reading false text ≡ found)) → written ≡ run_text found → status ≡ run_status found.fault
+pub ran : (left : Option (List ℕ)) (found : Reading) (written : List ℕ) (status : ℕ) → EveryReadingIsGood → EveryHistoryIsGood → IfSome found.deployment (λ d. IsDeployment d × HaveNames d × AreBuiltActs d found.acts) → ((text : List ℕ) × IsTextOf left text × (reading false text ≡ found)) → written ≡ run_text found → status ≡ run_status found.fault
     → IsOutput (Some Run) left written status
 ran left found written status law every built from wrote means = record {
   input = from.0;

@@ -25,16 +25,8 @@ entry a r = record { act = a; answer = r; inner = false }
 
 -- a world does each act that a script may have today
 pub world_does : (a : Act) → is_built_act a ≡ true → is_world_act a ≡ true
-world_does (act.Tick i g ts) b = refl
-world_does act.Clock b = refl
-world_does (act.Write c x value) b = refl
-world_does (act.Read c x) b = refl
-world_does (act.Gather i) b = refl
-world_does (act.Emit i) b = refl
-world_does (act.Hop epoch u z) b = refl
-world_does (act.Turn j) b = refl
-world_does (act.Bulk i g j o) b = refl
-world_does _ b = absurd (cc)
+world_does act.Settle b = absurd (cc)
+world_does _ b = refl
 
 -- a built act has no inner entries
 plain_answer : (d : Deployed) (h : List Entry) (a : Act) → is_built_act a ≡ true → answer_of d h a ≡ answer d h a

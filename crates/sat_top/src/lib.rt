@@ -16,4 +16,6 @@ pub use top::{saturn, still};
 pub use words::Command;
 
 #[cfg(test)]
+mod rows;
+#[cfg(test)]
 mod tests;

@@ -2,7 +2,7 @@
 ghost use Rattle.std.specs.Prelude.{◌≡◌, ◌+◌, ◌++◌, [], ◌∷◌, true, List, ◌≤◌, IfOk, IfSome, OnOk, length};
 ghost use Rattle.sat_act.specs.declared.act.Act.{Act};
 ghost use Rattle.sat_act.specs.Ranges.{IsActOf};
-ghost use Rattle.sat_script.specs.Built.{IsBuilt, is_built_act};
+ghost use Rattle.sat_script.specs.Built.{is_built_act};
 ghost use Rattle.sat_act.specs.Limits.{IsDeployment};
 ghost use Rattle.sat_world.specs.Stands.{StandsFor};
 ghost use Rattle.sat_script.specs.Spelled.{HaveNames};
@@ -85,7 +85,7 @@ fn fault_text(alloc: Global, fault: Option<ScriptFault>) -> Result<Vec<u8>, Allo
 /// Runs the acts of a reading: the lines of their answers, and behind them the holdings, or the fault's line.
 #[tactic(auto, unfolding(crate::specs::Runs::run_text))]
 pub(crate) fn run_text(alloc: Global, reading: Reading) -> Result<Vec<u8>, AllocError>
-    requires built { IfSome reading.deployment (λ d. IsDeployment d × IsBuilt d × HaveNames d × AreBuiltActs d reading.acts) }
+    requires built { IfSome reading.deployment (λ d. IsDeployment d × HaveNames d × AreBuiltActs d reading.acts) }
     requires few { length reading.acts ≤ MOST_ACTS }
     ensures { IfOk result (λ text. text.items ≡ run_text reading) }
 {

@@ -35,6 +35,7 @@ use Rattle.sat_machine.specs.World.{world_state, link_left}
 use Rattle.sat_machine.proofs.OnLinks.{links-lead}
 use Rattle.sat_net.specs.Nets.{NetSeen, link_of, MayHop}
 use Rattle.sat_net.specs.NetStands.{IsNetOf}
+use Rattle.sat_site.specs.declared.input.SiteInput as code
 use Rattle.sat_site.specs.declared.input.SiteInput.TheVariants as input
 use Rattle.sat_site.specs.Seen.{SiteSeen, IsSite}
 use Rattle.sat_site.specs.Changes.{gear_at, shape_for}
@@ -42,18 +43,14 @@ use Rattle.sat_site.specs.Inputs.{fits_in}
 use Rattle.sat_site.specs.SiteSteps.{keeps_item, refusal_of, site_answers, site_sends, write_answer, write_refusal}
 use Rattle.sat_world.specs.Clocks.{IsGreatest, AreUpTo, AreClocked}
 use Rattle.sat_world.specs.Seen.{WorldSeen, HasSite, HasClient}
-use Rattle.sat_world.specs.Steps.{Goes, StepsAt, Hands, told, net_sent, net_taken, front_to, NetAt, HopsAt, IsNumber}
+use Rattle.sat_world.specs.Steps.{Goes, StepsAt, Hands, act_at, is_sending, told, net_sent, net_taken, front_to, NetAt, HopsAt, KillsAt, IsNumber}
 use Rattle.sat_world.specs.Worlds.{IsWorld}
 use Rattle.sat_world.proofs.Laws.{each-step, leads-to}
-use Rattle.sat_world.proofs.Lists.{both-are, get-is, set-same, within}
-use Rattle.sat_world.proofs.Goes.{quiet-goes, use-goes, emit-goes, turn-goes, turn-hands, front-found}
-use Rattle.sat_world.proofs.Hands.{fit-here, site-within, site-at, write-hands, read-hands, write-none, read-none, write-told, read-told, bulk-hands, bulk-none, small-bulk, IsInLane}
-use Rattle.sat_world.proofs.Hops.{IsEdge, hop-goes, clock-goes}
-
--- what stands at a place
-pub there : {X : Type 0} (xs : List X) (n : ℕ) → n < length xs → (x : X) × (slice_get xs n ≡ Some x)
-there [] n lt = absurd (omega arith)
-there (x ∷ xs) n lt = (get_or (x ∷ xs) n x, get-is (x ∷ xs) n x lt)
+use Rattle.sat_world.proofs.Lists.{both-are, set-same, there, within}
+use Rattle.sat_world.proofs.Goes.{quiet-goes, use-goes, turn-goes, turn-hands, front-found}
+use Rattle.sat_world.proofs.Hands.{fit-here, site-at, hands-at, sending-plain, write-hands, read-hands, write-none, read-none, write-told, read-told, bulk-hands, bulk-none, IsInLane}
+use Rattle.sat_world.proofs.Sends.{send-goes}
+use Rattle.sat_world.proofs.Hops.{IsEdge, hop-goes, kill-goes, clock-goes}
 
 -- the world that the code sees is the one of its fields
 same-sites : (w v : WorldSeen) (i : ℕ) → w ≡ v → i < v.deployment.sites → i < w.deployment.sites
@@ -76,12 +73,12 @@ epoch-placed w i m x k at low high =
 -- that of a site's emission epoch, and of its view
 pub emission-placed : (w : WorldSeen) (i m : ℕ) (x : SiteSeen) → IsWorld w → HasSite w i x → IsSite x → m ≡ x.views.emission → Placed w m
 emission-placed w i m x k at sound e =
-    let a : 1 ≤ x.views.view = sound.epochs.start in let b : x.views.view ≤ x.views.emission = sound.epochs.low in let c : x.views.emission ≤ length x.views.stamp = sound.epochs.last in
+    let a : 1 ≤ x.views.view = sound.views.sound.start in let b : x.views.view ≤ x.views.emission = sound.views.sound.low in let c : x.views.emission ≤ length x.views.stamp = sound.views.sound.last in
     epoch-placed w i m x k at (omega arith) (omega arith)
 
 pub view-placed : (w : WorldSeen) (i m : ℕ) (x : SiteSeen) → IsWorld w → HasSite w i x → IsSite x → m ≡ x.views.view → Placed w m
 view-placed w i m x k at sound e =
-    let a : 1 ≤ x.views.view = sound.epochs.start in let b : x.views.view ≤ x.views.emission = sound.epochs.low in let c : x.views.emission ≤ length x.views.stamp = sound.epochs.last in
+    let a : 1 ≤ x.views.view = sound.views.sound.start in let b : x.views.view ≤ x.views.emission = sound.views.sound.low in let c : x.views.emission ≤ length x.views.stamp = sound.views.sound.last in
     epoch-placed w i m x k at (omega arith) (omega arith)
 
 -- each site has a seat in each net
@@ -91,18 +88,19 @@ net-seat w v i n net e k lt at =
     let a : length net.tree.seats ≡ w.deployment.sites = of.deployment.all_seated (n + 1) net.tree of.tree in
     let b : i < w.deployment.sites = same-sites w v i e lt in omega arith
 
--- ---- emit
+-- ---- emissions, pulses and closes
 
-pub did-emit : (w v : WorldSeen) (i m : ℕ) (x : SiteSeen) (sent : Option Label) (r : Answer) (o : Option Label) (ys : List SiteSeen) (nets : List (Option NetSeen)) → w ≡ v → IsWorld w → i < v.deployment.sites → x ≡ get_or w.sites i x → IsSite x → m ≡ x.views.emission →
-    sent ≡ site_sends x input.Emit → ((q : Option NetSeen) → slice_get w.nets (m - 1) ≡ Some q → NetAt w.nets (m - 1) q (net_sent q i sent) nets) → StepsAt w.sites i input.Emit r o ys → Goes w (act.Emit i) r (record w { sites = ys; nets = nets })
-did-emit w v i m x sent r o ys nets e k lt is sound epoch s net h =
+pub did-send : (w v : WorldSeen) (i m : ℕ) (given : code.SiteInput) (x : SiteSeen) (sent : Option Label) (r : Answer) (o : Option Label) (ys : List SiteSeen) (nets : List (Option NetSeen)) → w ≡ v → IsWorld w → i < v.deployment.sites → is_sending (act_at i given) ≡ true → x ≡ get_or w.sites i x → IsSite x → m ≡ x.views.emission →
+    sent ≡ site_sends x given → ((q : Option NetSeen) → slice_get w.nets (m - 1) ≡ Some q → NetAt w.nets (m - 1) q (net_sent q i sent) nets) → StepsAt w.sites i given r o ys → Goes w (act_at i given) r (record w { sites = ys; nets = nets })
+did-send w v i m given x sent r o ys nets e k lt sending is sound epoch s net h =
     let at : HasSite w i x = site-at w v i x e k lt is in
     let place : Placed w m = emission-placed w i m x k at sound epoch in
     let q = there w.nets (m - 1) place.within in
     let few : m - 1 < length w.deployment.plans = (let b : length w.nets ≡ length w.deployment.plans = k.frame.nets in let a : m - 1 < length w.nets = place.within in omega arith) in
-    let same : sent ≡ o = s ∙ (ap (λ (x : SiteSeen). site_sends x input.Emit) (both-are (slice_get w.sites i) x h.before at h.at) ∙ sym h.sends) in
-    emit-goes w i (m - 1) q.0 r o ys nets k.frame (same-sites w v i e lt)
-    (λ y here. ap (λ (z : SiteSeen). z.views.emission) (both-are (slice_get w.sites i) y x here at) ∙ (sym epoch ∙ place.above)) few h
+    let same : sent ≡ o = s ∙ (ap (λ (x : SiteSeen). site_sends x given) (both-are (slice_get w.sites i) x h.before at h.at) ∙ sym h.sends) in
+    send-goes w i (m - 1) given q.0 r o ys nets k.frame (same-sites w v i e lt)
+    (λ y here. ap (λ (z : SiteSeen). z.views.emission) (both-are (slice_get w.sites i) y x here at) ∙ (sym epoch ∙ place.above)) few sending
+    (hands-at w i given (sending-plain (act_at i given) sending)) h
     (subst (λ (o : Option Label). NetAt w.nets (m - 1) q.0 (net_sent q.0 i o) nets) same (net q.0 q.1))
 
 -- ---- turn
@@ -121,7 +119,7 @@ turn-handed w v j m x front e k lt is sound view f =
     let q = there w.nets (m - 1) place.within in
     record {
       hands = λ s st. turn-hands w.deployment s j front (front-found w.deployment s j (m - 1) q.0 (same-sites w v j e lt) (sym (st.sites j x at).views.view ∙ (sym view ∙ place.above)) (k.frame.planted (m - 1) q.0 q.1) (λ n is. st.nets (m - 1) n (q.1 ∙ ap (λ (o : Option NetSeen). Some o) is)) ∙ sym (f q.0 q.1));
-      small = refl;
+      sized = λ x at. refl;
     }
 
 pub did-turn : (w v : WorldSeen) (j m : ℕ) (x : SiteSeen) (front : Option Label) (r : Answer) (o : Option Label) (ys : List SiteSeen) (nets : List (Option NetSeen)) → w ≡ v → IsWorld w → j < v.deployment.sites → x ≡ get_or w.sites j x → IsSite x → m ≡ x.views.view → IsFrontIn w.nets m j front →
@@ -136,35 +134,36 @@ did-turn w v j m x front r o ys nets e k lt is sound view f h net =
 
 -- ---- hop
 
--- a hop that has a line: its epoch has a place, with a net that has the edge
-pub hop-placed : (w v : WorldSeen) (e : ℕ) (u : NodeId) (z : ℕ) → w ≡ v → IsWorld w → IsActOf v.deployment (act.Hop e u z) → Placed w e
-hop-placed w v e u z is k b =
-    let a : IsActOf w.deployment (act.Hop e u z) = subst (λ (v : WorldSeen). IsActOf v.deployment (act.Hop e u z)) (sym is) b in
-    let p = tree_in_plans w.deployment e a.0 a.2 in
+-- the place of an epoch that has a tree, with the net of that tree
+pub tree-placed : (w : WorldSeen) (e : ℕ) (t : TreeShape) → IsWorld w → tree_of w.deployment e ≡ Some t → Placed w e
+tree-placed w e t k f =
+    let p = tree_in_plans w.deployment e t f in
     let lt : e - 1 < length w.deployment.plans = within w.deployment.plans (e - 1) _ p.1 in
     let n : length w.nets ≡ length w.deployment.plans = k.frame.nets in
     let low : 1 ≤ e = p.0 in
     record { within = omega arith; above = omega arith }
 
--- the tree that the hop's line speaks of is that of the net at the place
-hop-tree : (w : WorldSeen) (e : ℕ) (u : NodeId) (z : ℕ) (o : Option NetSeen) → IsWorld w → IsActOf w.deployment (act.Hop e u z) → Placed w e → slice_get w.nets (e - 1) ≡ Some o → (net : NetSeen) × (o ≡ Some net)
-hop-tree w e u z None k a p at = absurd (let f : tree_of w.deployment ((e - 1) + 1) ≡ None = k.frame.planted (e - 1) None at in let g : tree_of w.deployment ((e - 1) + 1) ≡ Some a.0 = ap (tree_of w.deployment) (sym p.above) ∙ a.2 in cc)
-hop-tree w e u z (Some net) k a p at = (net, refl)
+pub tree-there : (w : WorldSeen) (e : ℕ) (t : TreeShape) (o : Option NetSeen) → IsWorld w → tree_of w.deployment e ≡ Some t → slice_get w.nets (e - 1) ≡ Some o → IsSome o
+tree-there w e t None k f at = absurd (let p : Placed w e = tree-placed w e t k f in let a : tree_of w.deployment ((e - 1) + 1) ≡ None = k.frame.planted (e - 1) None at in let b : tree_of w.deployment ((e - 1) + 1) ≡ Some t = ap (tree_of w.deployment) (sym p.above) ∙ f in cc)
+tree-there w e t (Some net) k f at = refl
+
+pub tree-same : (w : WorldSeen) (e : ℕ) (t : TreeShape) (net : NetSeen) → IsWorld w → tree_of w.deployment e ≡ Some t → slice_get w.nets (e - 1) ≡ Some (Some net) → t ≡ net.tree
+tree-same w e t net k f at =
+    let of : IsNetOf w.deployment ((e - 1) + 1) net = k.frame.planted (e - 1) (Some net) at in
+    both-are (tree_of w.deployment e) t net.tree f (ap (tree_of w.deployment) (tree-placed w e t k f).above ∙ of.tree)
+
+-- a hop that has a line: its epoch has a place, with a net that has the edge
+pub hop-placed : (w v : WorldSeen) (e : ℕ) (u : NodeId) (z : ℕ) → w ≡ v → IsWorld w → IsActOf v.deployment (act.Hop e u z) → Placed w e
+hop-placed w v e u z is k b = let a : IsActOf w.deployment (act.Hop e u z) = subst (λ (v : WorldSeen). IsActOf v.deployment (act.Hop e u z)) (sym is) b in tree-placed w e a.0 k a.2
 
 pub hop-there : (w v : WorldSeen) (e : ℕ) (u : NodeId) (z : ℕ) (o : Option NetSeen) → w ≡ v → IsWorld w → IsActOf v.deployment (act.Hop e u z) → slice_get w.nets (e - 1) ≡ Some o → IsSome o
-hop-there w v e u z o is k b at =
-    let a : IsActOf w.deployment (act.Hop e u z) = subst (λ (v : WorldSeen). IsActOf v.deployment (act.Hop e u z)) (sym is) b in
-    let q = hop-tree w e u z o k a (hop-placed w v e u z is k b) at in subst IsSome (sym q.1) refl
-
-same-net-tree : (w : WorldSeen) (e : ℕ) (u : NodeId) (z : ℕ) (net : NetSeen) → (a : IsActOf w.deployment (act.Hop e u z)) → Placed w e → IsNetOf w.deployment ((e - 1) + 1) net → a.0 ≡ net.tree
-same-net-tree w e u z net a p of = both-are (tree_of w.deployment e) a.0 net.tree a.2 (ap (tree_of w.deployment) p.above ∙ of.tree)
+hop-there w v e u z o is k b at = let a : IsActOf w.deployment (act.Hop e u z) = subst (λ (v : WorldSeen). IsActOf v.deployment (act.Hop e u z)) (sym is) b in tree-there w e a.0 o k a.2 at
 
 pub hop-edge : (w v : WorldSeen) (e : ℕ) (u : NodeId) (z : ℕ) (net : NetSeen) → w ≡ v → IsWorld w → IsActOf v.deployment (act.Hop e u z) → slice_get w.nets (e - 1) ≡ Some (Some net) → IsEdge w.deployment (e - 1) net u z
 hop-edge w v e u z net is k b at =
     let a : IsActOf w.deployment (act.Hop e u z) = subst (λ (v : WorldSeen). IsActOf v.deployment (act.Hop e u z)) (sym is) b in
-    let p : Placed w e = hop-placed w v e u z is k b in
     let of : IsNetOf w.deployment ((e - 1) + 1) net = k.frame.planted (e - 1) (Some net) at in
-    let t : a.0 ≡ net.tree = same-net-tree w e u z net a p of in
+    let t : a.0 ≡ net.tree = tree-same w e a.0 net k a.2 at in
     let edge : is_edge net.tree u (Serializer z) ≡ true = subst (λ (t : TreeShape). is_edge t u (Serializer z) ≡ true) t a.4 in
     record { node = subst (λ (t : TreeShape). IsNode t u) t a.3; end = Rattle.sat_net.proofs.Edges.edge-within net.tree u z of.net.tree edge; edge = edge }
 
@@ -200,6 +199,24 @@ pub did-hop : (w v : WorldSeen) (e : ℕ) (u : NodeId) (z : ℕ) (r : Answer) (n
 did-hop w v e u z r nets is k b h =
     subst (λ (m : ℕ). Goes w (act.Hop m u z) r (record w { nets = nets })) (sym (hop-placed w v e u z is k b).above)
     (hop-goes w (e - 1) u z r nets k.frame h (hop-edge w v e u z h.before is k b h.at))
+
+-- ---- kill
+
+pub kill-placed : (w v : WorldSeen) (e z : ℕ) → w ≡ v → IsWorld w → IsActOf v.deployment (act.Kill e z) → Placed w e
+kill-placed w v e z is k b = let a : IsActOf w.deployment (act.Kill e z) = subst (λ (v : WorldSeen). IsActOf v.deployment (act.Kill e z)) (sym is) b in tree-placed w e a.0 k a.2
+
+pub kill-there : (w v : WorldSeen) (e z : ℕ) (o : Option NetSeen) → w ≡ v → IsWorld w → IsActOf v.deployment (act.Kill e z) → slice_get w.nets (e - 1) ≡ Some o → IsSome o
+kill-there w v e z o is k b at = let a : IsActOf w.deployment (act.Kill e z) = subst (λ (v : WorldSeen). IsActOf v.deployment (act.Kill e z)) (sym is) b in tree-there w e a.0 o k a.2 at
+
+pub kill-serializer : (w v : WorldSeen) (e z : ℕ) (net : NetSeen) → w ≡ v → IsWorld w → IsActOf v.deployment (act.Kill e z) → slice_get w.nets (e - 1) ≡ Some (Some net) → z < length net.tree.parents
+kill-serializer w v e z net is k b at =
+    let a : IsActOf w.deployment (act.Kill e z) = subst (λ (v : WorldSeen). IsActOf v.deployment (act.Kill e z)) (sym is) b in
+    subst (λ (t : TreeShape). z < length t.parents) (tree-same w e a.0 net k a.2 at) a.3
+
+pub did-kill : (w v : WorldSeen) (e z : ℕ) (r : Answer) (nets : List (Option NetSeen)) → w ≡ v → IsWorld w → IsActOf v.deployment (act.Kill e z) → KillsAt w.nets (e - 1) z r nets → Goes w (act.Kill e z) r (record w { nets = nets })
+did-kill w v e z r nets is k b h =
+    subst (λ (m : ℕ). Goes w (act.Kill m z) r (record w { nets = nets })) (sym (kill-placed w v e z is k b).above)
+    (kill-goes w (e - 1) z r nets k.frame h (kill-serializer w v e z h.before is k b h.at))
 
 -- ---- write and read
 
@@ -251,7 +268,7 @@ did-not-bulk w v i g j n o x y e k li lj ix iy next lane =
 pub bulk-handed : (w v : WorldSeen) (i g j n : ℕ) (o : Option ℕ) (p q : Payload) (x y : SiteSeen) → w ≡ v → IsWorld w → i < v.deployment.sites → j < v.deployment.sites → x ≡ get_or w.sites i x → y ≡ get_or w.sites j y → IsNumber y i g o n → IsInLane x g j n (Some q) → p ≡ q → n < 2 ^ 63 →
     Hands w (act.Bulk i g j o) j (input.Bulk i g n p)
 bulk-handed w v i g j n o p q x y e k li lj ix iy next lane same small =
-    bulk-hands w i g j n o p x y (site-at w v i x e k li ix) (site-at w v j y e k lj iy) next (subst (λ (m : Payload). IsInLane x g j n (Some m)) (sym same) lane) (small-bulk i g n p small)
+    bulk-hands w i g j n o p x y (site-at w v i x e k li ix) (site-at w v j y e k lj iy) next (subst (λ (m : Payload). IsInLane x g j n (Some m)) (sym same) lane) small
 
 -- ---- clock
 
@@ -279,6 +296,9 @@ deployment-of w v e k = (subst IsWorld e k).frame.deployment
 
 pub seen-site : (w v : WorldSeen) (i : ℕ) (x : SiteSeen) → w ≡ v → IsWorld w → i < v.deployment.sites → x ≡ get_or w.sites i x → HasSite v i x
 seen-site w v i x e k lt is = subst (λ (v : WorldSeen). HasSite v i x) e (site-at w v i x e k lt is)
+
+pub seen-client : (w v : WorldSeen) (c : ℕ) (x : Client) → w ≡ v → IsWorld w → c < length v.deployment.clients → x ≡ get_or w.clients c x → HasClient v c x
+seen-client w v c x e k lt is = subst (λ (v : WorldSeen). HasClient v c x) e (Rattle.sat_world.proofs.Hands.client-at w v c x e k lt is)
 
 pub seen-items : (w v : WorldSeen) (i n : ℕ) (x : SiteSeen) → w ≡ v → IsWorld w → i < v.deployment.sites → x ≡ get_or w.sites i x → n < length v.deployment.items → n < length x.shape.interest.replicas
 seen-items w v i n x e k lt is m = subst (λ (s : Shape). n < length s.interest.replicas) (sym (shape-at w v i x e k lt is)) (subst (λ (l : ℕ). n < l) (sym (length-map v.deployment.items replicas_of)) m)

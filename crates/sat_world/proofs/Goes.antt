@@ -1,14 +1,10 @@
 -- Acts by their shape: at one site, a client's write or read, an emission, a turn, a hop, and what is refused at once.
-use Rattle.std.specs.Prelude.{◌≡◌, ◌⊎◌, ◌<◌, ◌≤◌, ◌+◌, ◌-◌, ℕ, Bool, true, false, not, ◌&&◌, ◌==◌, List, [], length, set, Option, Some, None, is_none, slice_get, if◌then◌else◌, refl}
+use Rattle.std.specs.Prelude.{◌≡◌, ◌⊎◌, ◌<◌, ◌+◌, ℕ, Bool, true, false, ◌==◌, List, length, set, Option, Some, None, slice_get, refl}
 use Rattle.std.proofs.Common.{sym, subst, ap, ◌∙◌, arith, inl, inr}
 use Rattle.sat_label.proofs.Truth.{same-number}
-use Rattle.sat_label.specs.declared.label.Kind.{Kind}
-use Rattle.sat_label.specs.declared.label.Kind.TheVariants as kind
 use Rattle.sat_label.specs.declared.label.Label.{Label}
 use Rattle.sat_label.specs.declared.node.NodeId.{NodeId}
 use Rattle.sat_label.specs.declared.node.NodeId.TheVariants.{Site, Serializer}
-use Rattle.sat_sites.specs.Interested.{Interested, is_for, keeps as kept}
-use Rattle.sat_sites.specs.declared.shape.Shape.{Shape}
 use Rattle.sat_tree.specs.Shape.{TreeShape}
 use Rattle.sat_tree.specs.Cut.{seat_of, IsNode}
 use Rattle.sat_act.specs.declared.act.Act.{Act}
@@ -22,29 +18,26 @@ use Rattle.sat_act.specs.Settling.{is_done}
 use Rattle.sat_act.specs.Parts.{Handling, tree_of, seat_in}
 use Rattle.sat_laws.proofs.Labels.{some_is}
 use Rattle.sat_client.specs.declared.client.Client.{Client}
-use Rattle.sat_machine.specs.Interests.{interest_of}
 use Rattle.sat_machine.specs.Input.{SiteInput}
 use Rattle.sat_machine.specs.Input as given
 use Rattle.sat_machine.specs.Next.{site_next}
 use Rattle.sat_machine.specs.Reply.{site_answer}
 use Rattle.sat_machine.specs.Replay.{after, given_at}
-use Rattle.sat_machine.specs.World.{WorldState, world_given, world_answer, handled_by, front_at, first, dead_next}
-use Rattle.sat_net.specs.Nets.{NetSeen, after_send, after_take}
+use Rattle.sat_machine.specs.World.{ClientState, WorldState, world_given, world_answer, handled_by, front_at, first, client_next, dead_next}
+use Rattle.sat_net.specs.Nets.{NetSeen, after_take}
 use Rattle.sat_net.specs.NetStands.{IsNetOf, StandsNet, handled_at, links_next}
-use Rattle.sat_world.proofs.Laws.{sends, keeps, takes, leaves, stays, net-send, net-give}
+use Rattle.sat_world.proofs.Laws.{takes, net-give}
 use Rattle.sat_site.specs.declared.input.SiteInput as code
 use Rattle.sat_site.specs.declared.input.SiteInput.TheVariants as input
 use Rattle.sat_site.specs.Seen.{SiteSeen}
 use Rattle.sat_site.specs.Inputs.{input_of}
-use Rattle.sat_site.specs.Gives.{IsSent}
 use Rattle.sat_site.specs.Laws.{StepHolds}
-use Rattle.sat_site.specs.SiteSteps.{site_answers, site_after, site_sends}
+use Rattle.sat_site.specs.SiteSteps.{site_after}
 use Rattle.sat_site.specs.Stands.{StandsSite}
-use Rattle.sat_epoch.specs.Epochs.{Epochs, is_stamp}
 use Rattle.sat_world.proofs.Laws.{each-step}
 use Rattle.sat_world.specs.Seen.{WorldSeen, HasClient}
-use Rattle.sat_world.specs.Stands.{Stands}
-use Rattle.sat_world.specs.Steps.{Goes, StepsAt, HandsIn, Hands, is_local, told, net_sent, net_taken, front_to, NetAt}
+use Rattle.sat_world.specs.Stands.{Stands, StandsClient}
+use Rattle.sat_world.specs.Steps.{Goes, StepsAt, HandsIn, Hands, is_local, told, net_taken, front_to, NetAt}
 use Rattle.sat_world.specs.Worlds.{IsFrame, IsPlanted}
 use Rattle.sat_world.proofs.Handles.{is_still, handles-none, kills-none, same-dead, local-still, local-client, is_told, told-client, told-none}
 use Rattle.sat_world.proofs.Lists.{set-cases, set-same, length-set}
@@ -73,7 +66,7 @@ pub unmoved : (xs ys : List SiteSeen) (i : ℕ) (given : code.SiteInput) (r : An
 unmoved xs ys i given r o h f =
     h.rest ∙ (ap (set xs i) ((holds xs ys i given r o h).refused (ap is_done (sym h.answers) ∙ f)) ∙ set-same xs i h.before h.at)
 
-with-sites : (w : WorldSeen) (i : ℕ) (given : code.SiteInput) (r : Answer) (o : Option Label) (ys : List SiteSeen) → StepsAt w.sites i given r o ys → length ys ≡ length w.sites
+pub with-sites : (w : WorldSeen) (i : ℕ) (given : code.SiteInput) (r : Answer) (o : Option Label) (ys : List SiteSeen) → StepsAt w.sites i given r o ys → length ys ≡ length w.sites
 with-sites w i given r o ys h = ap (λ (xs : List SiteSeen). length xs) h.rest ∙ length-set w.sites i (site_after h.before given)
 
 -- an act at one site that moves no label and is no client's
@@ -91,28 +84,35 @@ local-goes w a i given r o ys k l g h = record {
 
 -- ---- a client
 
-of-other : (a : Act) (c b : ℕ) → of_client a ≡ Some c → (c == b) ≡ false → is_of a b ≡ false
+pub of-other : (a : Act) (c b : ℕ) → of_client a ≡ Some c → (c == b) ≡ false → is_of a b ≡ false
 of-other a c b e f = ap (λ (o : Option ℕ). elim o [ None ↦ false | Some n ↦ n == b ]) e ∙ f
 
-of-this : (a : Act) (c : ℕ) → of_client a ≡ Some c → is_of a c ≡ true
+pub of-this : (a : Act) (c : ℕ) → of_client a ≡ Some c → is_of a c ≡ true
 of-this a c e = ap (λ (o : Option ℕ). elim o [ None ↦ false | Some n ↦ n == c ]) e ∙ same-number c
 
--- a client's write or read at its seat
-pub use-goes : (w : WorldSeen) (a : Act) (c : ℕ) (x : Client) (i : ℕ) (given : code.SiteInput) (r : Answer) (o : Option Label) (ys : List SiteSeen) (now : List Client) → IsFrame w → is_still a ≡ true → of_client a ≡ Some c → HasClient w c x → is_told r ≡ true →
-    Hands w a i given → StepsAt w.sites i given r o ys → now ≡ set w.clients c (told r x) → Goes w a r (record w { sites = ys; clients = now })
-use-goes w a c x i given r o ys now k l e at t g h n = record {
+-- an act of a client at a site, which makes y of the client x
+pub client-goes : (w : WorldSeen) (a : Act) (c : ℕ) (x y : Client) (i : ℕ) (given : code.SiteInput) (r : Answer) (o : Option Label) (ys : List SiteSeen) (now : List Client) → IsFrame w → is_still a ≡ true → of_client a ≡ Some c → HasClient w c x →
+    ((s : ClientState) → StandsClient x s → StandsClient y (client_next c s a r)) → (is_done r ≡ false → y ≡ x) →
+    Hands w a i given → StepsAt w.sites i given r o ys → now ≡ set w.clients c y → Goes w a r (record w { sites = ys; clients = now })
+client-goes w a c x y i given r o ys now k l e at becomes left g h n = record {
   deployment = refl;
-  frame = record { deployment = k.deployment; interest = k.interest; sites = with-sites w i given r o ys h ∙ k.sites; nets = k.nets; planted = k.planted; clients = ap (λ (cl : List Client). length cl) n ∙ (length-set w.clients c (told r x) ∙ k.clients) };
+  frame = record { deployment = k.deployment; interest = k.interest; sites = with-sites w i given r o ys h ∙ k.sites; nets = k.nets; planted = k.planted; clients = ap (λ (cl : List Client). length cl) n ∙ (length-set w.clients c y ∙ k.clients) };
   answer = λ s st. told-by w s i given r o ys k st h ∙ sym (g.hands s st).answer;
   stands = λ s st. next-stands w s a r ys w.nets now
       (stepped w s (world_given w.deployment s a) i given r o ys k st h (g.hands s st).given)
       (no-net w (handling_of w.deployment s a r) s.links s.dead (λ e z. dead_next e z (s.dead e z) a r) k (handles-none w.deployment (λ i. (s.sites i).views.emission) (λ i. (s.sites i).views.view) a r l) (λ e z. kills-none e z (s.dead e z) a r l) st.nets)
-      (one-client w.clients now s.clients a r c (told r x) (λ b ne. of-other a c b e ne) n (told-client c x (s.clients c) a r (of-this a c e) t (st.clients c x at)) st.clients);
+      (one-client w.clients now s.clients a r c y (λ b ne. of-other a c b e ne) n (becomes (s.clients c) (st.clients c x at)) st.clients);
   refused = λ f. λ j. record w {
     sites = unmoved w.sites ys i given r o h f j;
-    clients = (n ∙ (ap (set w.clients c) (told-none r x t f) ∙ set-same w.clients c x at)) j;
+    clients = (n ∙ (ap (set w.clients c) (left f) ∙ set-same w.clients c x at)) j;
   };
 }
+
+-- a client's write or read at its seat
+pub use-goes : (w : WorldSeen) (a : Act) (c : ℕ) (x : Client) (i : ℕ) (given : code.SiteInput) (r : Answer) (o : Option Label) (ys : List SiteSeen) (now : List Client) → IsFrame w → is_still a ≡ true → of_client a ≡ Some c → HasClient w c x → is_told r ≡ true →
+    Hands w a i given → StepsAt w.sites i given r o ys → now ≡ set w.clients c (told r x) → Goes w a r (record w { sites = ys; clients = now })
+use-goes w a c x i given r o ys now k l e at t g h n =
+    client-goes w a c x (told r x) i given r o ys now k l e at (λ s st. told-client c x s a r (of-this a c e) t st) (λ f. told-none r x t f) g h n
 
 -- ---- refused at once
 
@@ -130,13 +130,7 @@ quiet-goes w a y k h = record {
   refused = λ f. refl;
 }
 
--- ---- an emission
-
--- a net after what was sent is one of the same epoch
-planted-sent : (d : Deployed) (e : ℕ) (p : Option NetSeen) (i : ℕ) (sent : Option Label) → IsPlanted d e p → IsPlanted d e (net_sent p i sent)
-planted-sent d e None i sent k = k
-planted-sent d e (Some net) i None k = k
-planted-sent d e (Some net) i (Some l) k = record { deployment = k.deployment; tree = k.tree; net = net-send net i l k.net }
+-- ---- nets
 
 -- the nets after one of them became another one
 pub planted-at : (w : WorldSeen) (n : ℕ) (p q : Option NetSeen) (nets : List (Option NetSeen)) → IsFrame w → slice_get w.nets n ≡ Some p → (IsPlanted w.deployment (n + 1) p → IsPlanted w.deployment (n + 1) q) → nets ≡ set w.nets n q →
@@ -146,111 +140,6 @@ planted-at w n p q nets k at new rest m o has = go (set-cases w.nets n m q o (su
     go : ((n ≡ m) × (q ≡ o)) ⊎ (((n == m) ≡ false) × (slice_get w.nets m ≡ Some o)) → IsPlanted w.deployment (m + 1) o
     go (inl u) = subst (λ (o : Option NetSeen). IsPlanted w.deployment (m + 1) o) u.1 (subst (λ (m : ℕ). IsPlanted w.deployment (m + 1) q) u.0 (new (k.planted n p at)))
     go (inr u) = k.planted m o u.1
-
--- an update is not for the site that made it
-own-not : (a : Interested) (l : Label) (x i : ℕ) → l.kind ≡ kind.Update x → l.point.site ≡ i → is_for a l i ≡ false
-unfolding is_for
-own-not a l x i e f = ap (λ (k : Kind). elim k [ kind.Update x ↦ kept a x i && not (i == l.point.site) | kind.Move j ↦ i == j | kind.Pulse ↦ Rattle.std.specs.Prelude.nat_lt i a.sites && not (i == l.point.site) | kind.Close e ↦ Rattle.std.specs.Prelude.nat_lt i a.sites && not (i == l.point.site) ]) e ∙
-    (ap (λ (j : ℕ). kept a x i && not (i == j)) f ∙ (ap (λ (b : Bool). kept a x i && not b) (same-number i) ∙ and-no (kept a x i)))
-  where
-    and-no : (b : Bool) → (b && false) ≡ false
-    and-no true = refl
-    and-no false = refl
-
--- what the net of the emission epoch becomes is what the history's links become
-sent-stands : (d : Deployed) (i n : ℕ) (shape : Shape) (views : Epochs) (l : Label) (sent : Option Label) (p : Option NetSeen) (net : NetSeen) (links : NodeId → NodeId → List Label) (dead : ℕ → Bool) → shape.interest ≡ interest_of d → shape.sites ≡ d.sites → shape.site ≡ i → i < d.sites →
-    IsSent shape views (ans.Emitted l) sent → is_stamp views views.emission ≡ is_none (tree_of d (n + 1)) → IsPlanted d (n + 1) p → ((m : NetSeen) → p ≡ Some m → StandsNet m links dead) → net_sent p i sent ≡ Some net →
-    StandsNet net (links_next d (Some (handled_at (n + 1) (Site i) None l)) (n + 1) links) dead
-sent-stands d i n shape views l sent None net links dead a b own lt s f k st e = absurd (let g : None ≡ Some net = e in cc)
-sent-stands d i n shape views l None (Some m) net links dead a b own lt s f k st e =
-    subst (λ (net : NetSeen). StandsNet net (links_next d (Some (handled_at (n + 1) (Site i) None l)) (n + 1) links) dead) (some_is m net e)
-    (keeps d (n + 1) m shape.interest links dead i l k a (st m refl) lt
-    (stays shape.interest m.tree (Site i) (Serializer (seat_of m.tree i)) l (λ j lt for. s (f ∙ ap is_none k.tree) (j, subst (λ (n : ℕ). j < n) (ap (λ (x : Interested). x.sites) a ∙ sym b) lt, for))))
-sent-stands d i n shape views l (Some m) (Some before) net links dead a b own lt s f k st e =
-    subst (λ (net : NetSeen). StandsNet net (links_next d (Some (handled_at (n + 1) (Site i) None l)) (n + 1) links) dead) (ap (after_send before i) (sym s.0) ∙ some_is (after_send before i m) net e)
-    (sends d (n + 1) before shape.interest links dead i l k a (st before refl) lt
-    (leaves shape.interest before.tree i (seat_of before.tree i) s.2.target.0 l (own-not shape.interest l s.2.update.0 i s.2.update.1 (s.2.own ∙ own)) (subst (λ (n : ℕ). s.2.target.0 < n) (b ∙ sym (ap (λ (x : Interested). x.sites) a)) s.2.target.1) s.2.target.2))
-
--- what an emission answers
-abbrev emit_by : Option Label → Answer
-emit_by None = ans.Refused Rattle.sat_act.specs.declared.answer.Refusal.TheVariants.Idle
-emit_by (Some l) = ans.Emitted l
-
-emit-told : (x : SiteSeen) → site_answers x input.Emit ≡ emit_by (Rattle.sat_sink.specs.Sink.ready_of x.sink)
-unfolding site_answers
-emit-told x = go (Rattle.sat_sink.specs.Sink.ready_of x.sink)
-  where
-    go : (o : Option Label) → Rattle.sat_site.specs.SiteSteps.emit_answer o ≡ emit_by o
-    go None = refl
-    go (Some l) = refl
-
-module _ (w : WorldSeen) (i n : ℕ) (p : Option NetSeen) (ys : List SiteSeen) (nets : List (Option NetSeen)) (k : IsFrame w) where
-  abbrev W : WorldSeen
-  W = record w { sites = ys; nets = nets }
-
-  -- nothing was sent, and all stays
-  emit-idle : (y : Refusal) (o : Option Label) → StepsAt w.sites i input.Emit (ans.Refused y) o ys → NetAt w.nets n p (net_sent p i o) nets →
-      ((s : WorldState) → HandsIn w.deployment s (act.Emit i) i given.Emit) → Goes w (act.Emit i) (ans.Refused y) W
-  unfolding handled_by
-  emit-idle y o h g hands = record {
-    deployment = refl;
-    frame = record { deployment = k.deployment; interest = k.interest; sites = with-sites w i input.Emit (ans.Refused y) o ys h ∙ k.sites; nets = ap (λ (ns : List (Option NetSeen)). length ns) same ∙ k.nets; planted = λ m q at. k.planted m q (subst (λ (ns : List (Option NetSeen)). slice_get ns m ≡ Some q) same at); clients = k.clients };
-    answer = λ s st. told-by w s i input.Emit (ans.Refused y) o ys k st h ∙ sym (hands s).answer;
-    stands = λ s st. next-stands w s (act.Emit i) (ans.Refused y) ys nets w.clients
-        (stepped w s (world_given w.deployment s (act.Emit i)) i input.Emit (ans.Refused y) o ys k st h (hands s).given)
-        (subst (λ (ns : List (Option NetSeen)). NetsStand ns (λ e. links_next w.deployment None e (s.links e)) s.dead) (sym same) (no-net w None s.links s.dead s.dead k refl (λ e z. refl) st.nets))
-        st.clients;
-    refused = λ f. λ j. record w { sites = unmoved w.sites ys i input.Emit (ans.Refused y) o h f j; nets = same j };
-  }
-    where
-      none : o ≡ None
-      none = subst (λ (r : Answer). IsSent h.before.shape h.before.views r o) (sym h.answers) (subst (λ (o : Option Label). IsSent h.before.shape h.before.views (site_answers h.before input.Emit) o) (sym h.sends) (holds w.sites ys i input.Emit (ans.Refused y) o h).sent)
-
-      sent-none : (p : Option NetSeen) → net_sent p i None ≡ p
-      sent-none None = refl
-      sent-none (Some net) = refl
-
-      same : nets ≡ w.nets
-      same = g.rest ∙ (ap (λ (o : Option Label). set w.nets n (net_sent p i o)) none ∙ (ap (set w.nets n) (sent-none p) ∙ set-same w.nets n p g.at))
-
-  emit-emitted : (l : Label) (o : Option Label) → i < w.deployment.sites → ((x : SiteSeen) → slice_get w.sites i ≡ Some x → x.views.emission ≡ n + 1) → n < length w.deployment.plans → StepsAt w.sites i input.Emit (ans.Emitted l) o ys → NetAt w.nets n p (net_sent p i o) nets →
-      ((s : WorldState) → HandsIn w.deployment s (act.Emit i) i given.Emit) → Goes w (act.Emit i) (ans.Emitted l) W
-  unfolding handled_by
-  emit-emitted l o lt epoch few h g hands = record {
-    deployment = refl;
-    frame = record { deployment = k.deployment; interest = k.interest; sites = with-sites w i input.Emit (ans.Emitted l) o ys h ∙ k.sites; nets = ap (λ (ns : List (Option NetSeen)). length ns) g.rest ∙ (length-set w.nets n (net_sent p i o) ∙ k.nets); planted = planted-at w n p (net_sent p i o) nets k g.at (λ q. planted-sent w.deployment (n + 1) p i o q) g.rest; clients = k.clients };
-    answer = λ s st. told-by w s i input.Emit (ans.Emitted l) o ys k st h ∙ sym (hands s).answer;
-    stands = λ s st.
-        let site : StandsSite w.deployment i h.before (s.sites i) = st.sites i h.before h.at in
-        let at : (s.sites i).views.emission ≡ n + 1 = sym site.views.emission ∙ epoch h.before h.at in
-        next-stands w s (act.Emit i) (ans.Emitted l) ys nets w.clients
-        (stepped w s (world_given w.deployment s (act.Emit i)) i input.Emit (ans.Emitted l) o ys k st h (hands s).given)
-        (one-net w (handled_at (s.sites i).views.emission (Site i) None l) s.links s.dead s.dead n (net_sent p i o) nets k at (λ e z. refl) g.rest
-        (λ net e. subst (λ (m : ℕ). StandsNet net (links_next w.deployment (Some (handled_at m (Site i) None l)) (n + 1) (s.links (n + 1))) (s.dead (n + 1))) (sym at)
-        (sent-stands w.deployment i n h.before.shape h.before.views l o p net (s.links (n + 1)) (s.dead (n + 1))
-        (ap (λ (x : Shape). x.interest) site.shape) (ap (λ (x : Shape). x.sites) site.shape) (ap (λ (x : Shape). x.site) site.shape) lt
-        (subst (λ (r : Answer). IsSent h.before.shape h.before.views r o) (sym h.answers) (subst (λ (o : Option Label). IsSent h.before.shape h.before.views (site_answers h.before input.Emit) o) (sym h.sends) (holds w.sites ys i input.Emit (ans.Emitted l) o h).sent))
-        (ap (is_stamp h.before.views) (epoch h.before h.at) ∙ site.views.plans (n + 1) (omega arith) (omega arith))
-        (k.planted n p g.at) (λ m e. st.nets n m (subst (λ (q : Option NetSeen). slice_get w.nets n ≡ Some q) e g.at)) e))
-        st.nets)
-        st.clients;
-    refused = λ f. absurd (cc);
-  }
-
-emit-hands : (d : Deployed) (s : WorldState) (i : ℕ) → HandsIn d s (act.Emit i) i given.Emit
-unfolding world_given world_answer
-emit-hands d s i = record { given = λ k. refl; answer = refl }
-
--- a site emits, and what it sends enters the net of its emission epoch
-pub emit-goes : (w : WorldSeen) (i n : ℕ) (p : Option NetSeen) (r : Answer) (o : Option Label) (ys : List SiteSeen) (nets : List (Option NetSeen)) → IsFrame w → i < w.deployment.sites → ((x : SiteSeen) → slice_get w.sites i ≡ Some x → x.views.emission ≡ n + 1) → n < length w.deployment.plans →
-    StepsAt w.sites i input.Emit r o ys → NetAt w.nets n p (net_sent p i o) nets → Goes w (act.Emit i) r (record w { sites = ys; nets = nets })
-emit-goes w i n p r o ys nets k lt epoch few h g = go (Rattle.sat_sink.specs.Sink.ready_of h.before.sink) (h.answers ∙ emit-told h.before)
-  where
-    go : (q : Option Label) → r ≡ emit_by q → Goes w (act.Emit i) r (record w { sites = ys; nets = nets })
-    go None e = subst (λ (r : Answer). StepsAt w.sites i input.Emit r o ys → Goes w (act.Emit i) r (record w { sites = ys; nets = nets })) (sym e)
-        (λ h. emit-idle w i n p ys nets k _ o h g (λ s. emit-hands w.deployment s i)) h
-    go (Some l) e = subst (λ (r : Answer). StepsAt w.sites i input.Emit r o ys → Goes w (act.Emit i) r (record w { sites = ys; nets = nets })) (sym e)
-        (λ h. emit-emitted w i n p ys nets k l o lt epoch few h g (λ s. emit-hands w.deployment s i)) h
 
 -- ---- a turn
 

@@ -79,7 +79,7 @@ still-kill : (a : Act) (epoch z : ℕ) → is_still a ≡ true → is_kill a epo
 still-kill (act.Kill e y) epoch z h = absurd (cc)
 still-kill _ epoch z h = refl
 
-if-not : {X : Type 0} (b : Bool) (x y : X) → b ≡ false → (if b then x else y) ≡ y
+pub if-not : {X : Type 0} (b : Bool) (x y : X) → b ≡ false → (if b then x else y) ≡ y
 if-not true x y e = absurd (cc)
 if-not false x y e = refl
 
@@ -150,7 +150,7 @@ is_told ans.ReadNone = true
 is_told (ans.Refused y) = true
 is_told _ = false
 
-if-so : {X : Type 0} (b : Bool) (x y : X) → b ≡ true → (if b then x else y) ≡ x
+pub if-so : {X : Type 0} (b : Bool) (x y : X) → b ≡ true → (if b then x else y) ≡ x
 if-so true x y e = refl
 if-so false x y e = absurd (cc)
 

@@ -14,6 +14,7 @@ use Rattle.sat_act.specs.declared.entry.Entry.{Entry}
 use Rattle.sat_act.specs.Deployed.{Deployed}
 use Rattle.sat_act.specs.Answers.{at_seat}
 use Rattle.sat_act.specs.Ranges.{IsActOf}
+use Rattle.sat_act.specs.Runs.{is_settle}
 use Rattle.sat_act.proofs.Valid.{is_valid}
 use Rattle.sat_client.specs.declared.client.Client.{Client}
 use Rattle.sat_machine.specs.State.{SiteState}
@@ -28,7 +29,7 @@ use Rattle.sat_machine.proofs.Local.{given-fits}
 use Rattle.sat_site.specs.declared.input.SiteInput as code
 use Rattle.sat_site.specs.declared.input.SiteInput.TheVariants as input
 use Rattle.sat_site.specs.Seen.{SiteSeen, IsSite}
-use Rattle.sat_site.specs.Inputs.{input_of, fits_in, is_small}
+use Rattle.sat_site.specs.Inputs.{input_of, fits_in, is_sized, takes_none as spares}
 use Rattle.sat_site.specs.Stands.{StandsSite}
 use Rattle.sat_world.proofs.Laws.{each-fits}
 use Rattle.sat_world.specs.Seen.{WorldSeen, HasSite, HasClient}
@@ -38,11 +39,12 @@ use Rattle.sat_label.specs.declared.label.Label.{Label}
 use Rattle.sat_store.specs.declared.store.Version.{Version}
 use Rattle.sat_gear.specs.Gear.{GearSeen, is_spent, stamped, version_of}
 use Rattle.sat_site.specs.Changes.{gear_at}
-use Rattle.sat_site.specs.SiteSteps.{keeps_item, site_answers, write_answer, stamp_answer, read_answer, version_answer}
+use Rattle.sat_site.specs.SiteSteps.{keeps_item, site_answers, write_answer, stamp_answer_of, read_answer, version_answer}
 use Rattle.sat_laws.proofs.Labels.{seat-range}
 use Rattle.sat_world.proofs.Handles.{is_told}
 use Rattle.sat_world.proofs.Lists.{index-at}
-use Rattle.sat_world.specs.Steps.{HandsIn, Hands, StepsAt, number_at, IsNumber}
+use Rattle.sat_world.specs.Steps.{HandsIn, Hands, StepsAt, act_at, is_local, is_sending, number_at, IsNumber}
+use Rattle.sat_world.specs.Built.{takes_none}
 use Rattle.sat_world.specs.Worlds.{IsWorld}
 
 -- ---- what fits
@@ -59,32 +61,43 @@ state-at d h i = refl
 pub hands-fit : (w : WorldSeen) (a : Act) (i : ℕ) (given : code.SiteInput) (x : SiteSeen) → IsWorld w → IsActOf w.deployment a → Hands w a i given → HasSite w i x → IsSite x → fits_in x given ≡ true
 hands-fit w a i given x k b h at sound =
     each-fits x given w.deployment i ((world_state w.deployment k.history).sites i) k.frame.deployment sound (k.stands.sites i x at) ∙
-    and_from (fits w.deployment i ((world_state w.deployment k.history).sites i) (input_of given)) (is_small given)
+    and_from (fits w.deployment i ((world_state w.deployment k.history).sites i) (input_of given)) (is_sized x given)
     (ap (λ (s : SiteState). fits w.deployment i s (input_of given)) (state-at w.deployment k.history i) ∙
     given-fits w.deployment k.history a i (input_of given) (is_valid w.deployment k.frame.deployment) k.run b
     (sym (gives-as-handed w.deployment k.history a i (is_valid w.deployment k.frame.deployment) k.run) ∙ ((h.hands (world_state w.deployment k.history) k.stands).given i ∙ here-given i (input_of given))))
-    h.small
+    (h.sized x at)
 
 -- ---- each act
 
-pub tick-hands : (w : WorldSeen) (i g t : ℕ) → Hands w (act.Tick i g t) i (input.Tick g t)
+-- what an act at one site hands it
+pub hands-at : (w : WorldSeen) (i : ℕ) (given : code.SiteInput) → is_settle (act_at i given) ≡ false → Hands w (act_at i given) i given
 unfolding world_given world_answer
-tick-hands w i g t = record { hands = λ s st. record { given = λ k. refl; answer = refl }; small = refl }
+hands-at w i (input.Tick g ts) e = record { hands = λ s st. record { given = λ k. refl; answer = refl }; sized = λ x at. refl }
+hands-at w i input.Gather e = record { hands = λ s st. record { given = λ k. refl; answer = refl }; sized = λ x at. refl }
+hands-at w i input.Emit e = record { hands = λ s st. record { given = λ k. refl; answer = refl }; sized = λ x at. refl }
+hands-at w i input.Pulse e = record { hands = λ s st. record { given = λ k. refl; answer = refl }; sized = λ x at. refl }
+hands-at w i (input.Beat j) e = record { hands = λ s st. record { given = λ k. refl; answer = refl }; sized = λ x at. refl }
+hands-at w i input.Stamp e = record { hands = λ s st. record { given = λ k. refl; answer = refl }; sized = λ x at. refl }
+hands-at w i input.Close e = record { hands = λ s st. record { given = λ k. refl; answer = refl }; sized = λ x at. refl }
+hands-at w i input.Fall e = record { hands = λ s st. record { given = λ k. refl; answer = refl }; sized = λ x at. refl }
+hands-at w i input.Advance e = record { hands = λ s st. record { given = λ k. refl; answer = refl }; sized = λ x at. refl }
+hands-at w i _ e = absurd (cc)
 
-pub gather-hands : (w : WorldSeen) (i : ℕ) → Hands w (act.Gather i) i input.Gather
-unfolding world_given world_answer
-gather-hands w i = record { hands = λ s st. record { given = λ k. refl; answer = refl }; small = refl }
+-- acts at one site are no settles
+pub local-plain : (a : Act) → is_local a ≡ true → is_settle a ≡ false
+local-plain act.Settle e = absurd (cc)
+local-plain _ e = refl
 
-pub emit-hands : (w : WorldSeen) (i : ℕ) → Hands w (act.Emit i) i input.Emit
-unfolding world_given world_answer
-emit-hands w i = record { hands = λ s st. record { given = λ k. refl; answer = refl }; small = refl }
+pub sending-plain : (a : Act) → is_sending a ≡ true → is_settle a ≡ false
+sending-plain act.Settle e = absurd (cc)
+sending-plain _ e = refl
 
 -- a client's write and read, at its seat
 module _ (w : WorldSeen) (c : ℕ) (x : Client) (i : ℕ) (at : HasClient w c x) (seat : x.seat ≡ Some i) where
-  seated : (s : WorldState) → Stands w s → (s.clients c).seat ≡ Some i
+  pub seated : (s : WorldState) → Stands w s → (s.clients c).seat ≡ Some i
   seated s st = sym (st.clients c x at).seat ∙ seat
 
-  carries : (s : WorldState) → Stands w s → (s.clients c).carried ≡ x.carried
+  pub carries : (s : WorldState) → Stands w s → (s.clients c).carried ≡ x.carried
   carries s st = sym (st.clients c x at).carried
 
   pub write-hands : (n : ℕ) (value : List ℕ) → Hands w (act.Write c n value) i (input.Write x.carried n value)
@@ -94,7 +107,7 @@ module _ (w : WorldSeen) (c : ℕ) (x : Client) (i : ℕ) (at : HasClient w c x)
       given = λ k j. given_seat (seated s st j) k (given.Write (carries s st j) n value);
       answer = λ j. at_seat (seated s st j) (λ i. site_answer w.deployment i (s.sites i) (given.Write (carries s st j) n value));
     };
-    small = refl;
+    sized = λ x at. refl;
   }
 
   pub read-hands : (n : ℕ) → Hands w (act.Read c n) i (input.Read x.carried n)
@@ -104,12 +117,12 @@ module _ (w : WorldSeen) (c : ℕ) (x : Client) (i : ℕ) (at : HasClient w c x)
       given = λ k j. given_seat (seated s st j) k (given.Read (carries s st j) n);
       answer = λ j. at_seat (seated s st j) (λ i. site_answer w.deployment i (s.sites i) (given.Read (carries s st j) n));
     };
-    small = refl;
+    sized = λ x at. refl;
   }
 
 -- a client without a seat is handed to no site
 module _ (w : WorldSeen) (c : ℕ) (x : Client) (at : HasClient w c x) (none : x.seat ≡ None) where
-  unseated : (s : WorldState) → Stands w s → (s.clients c).seat ≡ None
+  pub unseated : (s : WorldState) → Stands w s → (s.clients c).seat ≡ None
   unseated s st = sym (st.clients c x at).seat ∙ none
 
   pub write-none : (n : ℕ) (value : List ℕ) (s : WorldState) → Stands w s → (ans.Refused why.NoSession ≡ world_answer w.deployment s (act.Write c n value)) × ((k : ℕ) → world_given w.deployment s (act.Write c n value) k ≡ None)
@@ -133,10 +146,10 @@ bulk-given d s i g j n o p e f = record {
   answer = ap (λ (m : ℕ). elim (payload_from s i g j m) [ None ↦ ans.Refused why.NoSuch | Some p ↦ site_answer d j (s.sites j) (given.Bulk i g m p) ]) (sym e) ∙ ap (λ (o : Option Payload). elim o [ None ↦ ans.Refused why.NoSuch | Some p ↦ site_answer d j (s.sites j) (given.Bulk i g n p) ]) f;
 }
 
-pub bulk-hands : (w : WorldSeen) (i g j n : ℕ) (o : Option ℕ) (p : Payload) (x y : SiteSeen) → HasSite w i x → HasSite w j y → IsNumber y i g o n → IsInLane x g j n (Some p) → is_small (input.Bulk i g n p) ≡ true → Hands w (act.Bulk i g j o) j (input.Bulk i g n p)
+pub bulk-hands : (w : WorldSeen) (i g j n : ℕ) (o : Option ℕ) (p : Payload) (x y : SiteSeen) → HasSite w i x → HasSite w j y → IsNumber y i g o n → IsInLane x g j n (Some p) → n < 2 ^ 63 → Hands w (act.Bulk i g j o) j (input.Bulk i g n p)
 bulk-hands w i g j n o p x y a b number lane small = record {
   hands = λ s st. bulk-given w.deployment s i g j n o p (number w.deployment j (s.sites j) (st.sites j y b)) (lane w.deployment i (s.sites i) (st.sites i x a));
-  small = small;
+  sized = λ z at. lt-ltb n (2 ^ 63) small;
 }
 
 pub bulk-none : (w : WorldSeen) (i g j n : ℕ) (asked : Option ℕ) (x y : SiteSeen) → HasSite w i x → HasSite w j y → IsNumber y i g asked n → IsInLane x g j n None → (s : WorldState) → Stands w s →
@@ -182,7 +195,7 @@ write-tells false o seen n = refl
 write-tells true None seen n = refl
 write-tells true (Some gear) seen n = go (is_spent gear seen.point)
   where
-    go : (b : Bool) → is_told (stamp_answer b (stamped gear seen.point (kind.Update n))) ≡ true
+    go : (b : Bool) → is_told (stamp_answer_of b (stamped gear seen.point (kind.Update n))) ≡ true
     go true = refl
     go false = refl
 
@@ -203,6 +216,34 @@ pub read-told : (xs ys : List SiteSeen) (i : ℕ) (seen : Carried) (n : ℕ) (r 
 unfolding site_answers
 read-told xs ys i seen n r o h = ap is_told h.answers ∙ read-tells (keeps_item h.before n) (slice_get h.before.gears (gear_at h.before n)) n
 
--- a number of 63 bits
-pub small-bulk : (from gear n : ℕ) (p : Payload) → n < 2 ^ 63 → is_small (input.Bulk from gear n p) ≡ true
-small-bulk from gear n p lt = lt-ltb n (2 ^ 63) lt
+-- ---- acts at one site
+
+-- it is one of the deployment's
+pub local-site : (d : Deployed) (i : ℕ) (given : code.SiteInput) → is_local (act_at i given) ≡ true → IsActOf d (act_at i given) → i < d.sites
+local-site d i (input.Tick g t) e b = b.0
+local-site d i input.Gather e b = b
+local-site d i (input.Beat j) e b = b.0
+local-site d i input.Stamp e b = b
+local-site d i input.Fall e b = b
+local-site d i input.Advance e b = b
+local-site d i _ e b = absurd (cc)
+
+pub sending-act : (d : Deployed) (i : ℕ) (given : code.SiteInput) → is_sending (act_at i given) ≡ true → i < d.sites → IsActOf d (act_at i given)
+sending-act d i input.Emit e lt = lt
+sending-act d i input.Pulse e lt = lt
+sending-act d i input.Close e lt = lt
+sending-act d i _ e lt = absurd (cc)
+
+-- an act at a site that takes no memory hands it something that takes none
+pub spare-local : (i : ℕ) (given : code.SiteInput) → takes_none (act_at i given) ≡ true → spares given ≡ true
+spare-local i (input.Tick g t) e = refl
+spare-local i input.Stamp e = refl
+spare-local i input.Fall e = refl
+spare-local i input.Advance e = refl
+spare-local i _ e = absurd (cc)
+
+pub spare-sending : (i : ℕ) (given : code.SiteInput) → is_sending (act_at i given) ≡ true → spares given ≡ true
+spare-sending i input.Emit e = refl
+spare-sending i input.Pulse e = refl
+spare-sending i input.Close e = refl
+spare-sending i _ e = absurd (cc)

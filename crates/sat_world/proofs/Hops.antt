@@ -19,20 +19,20 @@ use Rattle.sat_serial.specs.Routes.{routes}
 use Rattle.sat_machine.specs.Input as given
 use Rattle.sat_machine.specs.Replay.{after}
 use Rattle.sat_machine.specs.World.{WorldState, world_given, world_answer, handled_by, first, hop_by, clock_of, greatest_row}
-use Rattle.sat_net.specs.Nets.{NetSeen, link_of, is_dead, after_copies, after_hop}
+use Rattle.sat_net.specs.Nets.{NetSeen, link_of, is_dead, after_copies, after_hop, after_kill}
 use Rattle.sat_net.specs.NetStands.{IsNetOf, StandsNet, handled_at, links_next}
-use Rattle.sat_world.proofs.Laws.{hops, routes-to, net-copies, net-give}
+use Rattle.sat_world.proofs.Laws.{hops, routes-to, net-copies, net-give, net-kill}
 use Rattle.sat_site.specs.Seen.{SiteSeen}
 use Rattle.sat_site.specs.Stands.{StandsSite}
 use Rattle.sat_world.proofs.Laws.{each-clock}
 use Rattle.sat_world.specs.Seen.{WorldSeen}
 use Rattle.sat_world.specs.Stands.{Stands}
 use Rattle.sat_world.specs.Clocks.{IsGreatest, IsClocked, AreClocked, AreUpTo}
-use Rattle.sat_world.specs.Steps.{Goes, Hops, finds_dead, finds_none, hops as hopped, HopsAt}
+use Rattle.sat_world.specs.Steps.{Goes, Hops, finds_dead, finds_none, hops as hopped, HopsAt, Kills, finds_killed, kills as killed, KillsAt}
 use Rattle.sat_world.specs.Worlds.{IsFrame}
 use Rattle.sat_world.proofs.Lists.{set-same, length-set, get-is, within}
 use Rattle.sat_world.proofs.Greatest.{greatest-is}
-use Rattle.sat_world.proofs.Parts.{next-stands, no-site, no-net, one-net, no-client}
+use Rattle.sat_world.proofs.Parts.{next-stands, no-site, no-net, one-net, killed-net, no-client}
 use Rattle.sat_world.proofs.Goes.{quiet-goes, planted-at}
 
 -- ---- a hop
@@ -120,6 +120,45 @@ hop-goes w n u z r nets k h edge = go r h.after h.hop h.rest
     go r after (finds_none e f) rest = subst (λ (v : WorldSeen). Goes w (act.Hop (n + 1) u z) (ans.Refused why.Empty) v) (same h.before refl rest)
         (hop-refused w n u z h.before k h.at edge why.Empty (λ s st. sym (told w n u z h.before k h.at edge s false None st e f)))
     go r after (hopped l e f) rest = hop-done w n u z h.before k h.at edge l nets e f rest
+
+-- ---- a kill
+
+kill-answer : (d : Deployed) (s : WorldState) (e z : ℕ) (b : Bool) → s.dead e z ≡ b → world_answer d s (act.Kill e z) ≡ refused_if b why.Already ans.Killed
+unfolding world_answer
+kill-answer d s e z b f = ap (λ (b : Bool). refused_if b why.Already ans.Killed) f
+
+kill-given : (d : Deployed) (s : WorldState) (e z k : ℕ) → world_given d s (act.Kill e z) k ≡ None
+unfolding world_given
+kill-given d s e z k = refl
+
+kill-done : (w : WorldSeen) (n z : ℕ) (net : NetSeen) (nets : List (Option NetSeen)) → IsFrame w → slice_get w.nets n ≡ Some (Some net) → z < length net.tree.parents → is_dead net z ≡ false → nets ≡ set w.nets n (Some (after_kill net z)) → Goes w (act.Kill (n + 1) z) ans.Killed (record w { nets = nets })
+unfolding handled_by
+kill-done w n z net nets k at lt alive rest = record {
+  deployment = refl;
+  frame = record {
+    deployment = k.deployment;
+    interest = k.interest;
+    sites = k.sites;
+    nets = ap (λ (ns : List (Option NetSeen)). length ns) rest ∙ (length-set w.nets n (Some (after_kill net z)) ∙ k.nets);
+    planted = planted-at w n (Some net) (Some (after_kill net z)) nets k at (λ q. record { deployment = q.deployment; tree = q.tree; net = net-kill net z q.net }) rest;
+    clients = k.clients;
+  };
+  answer = λ s st. sym (kill-answer w.deployment s (n + 1) z false (sym ((st.nets n net at).killed z lt) ∙ alive));
+  stands = λ s st. next-stands w s (act.Kill (n + 1) z) ans.Killed w.sites nets w.clients
+      (no-site w.deployment s.sites (world_given w.deployment s (act.Kill (n + 1) z)) ans.Killed w.sites st.sites (kill-given w.deployment s (n + 1) z))
+      (killed-net w s.links s.dead n z net nets k at rest st.nets)
+      st.clients;
+  refused = λ f. absurd (cc);
+}
+
+-- a serializer is killed, or was
+pub kill-goes : (w : WorldSeen) (n z : ℕ) (r : Answer) (nets : List (Option NetSeen)) → IsFrame w → (h : KillsAt w.nets n z r nets) → z < length h.before.tree.parents → Goes w (act.Kill (n + 1) z) r (record w { nets = nets })
+kill-goes w n z r nets k h lt = go r h.after h.kill h.rest
+  where
+    go : (r : Answer) (after : NetSeen) → Kills h.before z r after → nets ≡ set w.nets n (Some after) → Goes w (act.Kill (n + 1) z) r (record w { nets = nets })
+    go r after (finds_killed e) rest = subst (λ (ns : List (Option NetSeen)). Goes w (act.Kill (n + 1) z) (ans.Refused why.Already) (record w { nets = ns })) (sym (rest ∙ set-same w.nets n (Some h.before) h.at))
+        (quiet-goes w (act.Kill (n + 1) z) why.Already k (λ s st. (sym (kill-answer w.deployment s (n + 1) z true (sym ((st.nets n h.before h.at).killed z lt) ∙ e)), kill-given w.deployment s (n + 1) z)))
+    go r after (killed e) rest = kill-done w n z h.before nets k h.at lt e rest
 
 -- ---- clock
 

@@ -5,9 +5,12 @@ pub mod Greatest
 pub mod Handles
 pub mod Parts
 pub mod Goes
+pub mod Sends
 pub mod Hops
 pub mod Finds
 pub mod Hands
+pub mod Beats
+pub mod Seats
 pub mod Deeds
 pub mod Runs
 pub mod Fresh

@@ -17,6 +17,11 @@ get-is (x ∷ xs) (suc i) d lt = get-is xs i d (omega arith)
 pub within : {X : Type 0} (xs : List X) (i : ℕ) (x : X) → slice_get xs i ≡ Some x → i < length xs
 within xs i x e = slice_get_within xs i x e
 
+-- what stands at a place
+pub there : {X : Type 0} (xs : List X) (n : ℕ) → n < length xs → (x : X) × (slice_get xs n ≡ Some x)
+there [] n lt = absurd (omega arith)
+there (x ∷ xs) n lt = (get_or (x ∷ xs) n x, get-is (x ∷ xs) n x lt)
+
 -- what stands in a list after a change of one place
 pub set-cases : {X : Type 0} (xs : List X) (i k : ℕ) (x y : X) → slice_get (set xs i x) k ≡ Some y → ((i ≡ k) × (x ≡ y)) ⊎ (((i == k) ≡ false) × (slice_get xs k ≡ Some y))
 set-cases [] i k x y e = absurd (cc)

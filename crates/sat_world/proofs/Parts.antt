@@ -1,5 +1,5 @@
 -- From the parts of a world after an act to the world: its sites, its nets and its clients.
-use Rattle.std.specs.Prelude.{◌≡◌, ◌⊎◌, ℕ, ◌+◌, Bool, false, ◌==◌, List, set, Option, Some, None, slice_get, if◌then◌else◌, refl}
+use Rattle.std.specs.Prelude.{◌≡◌, ◌⊎◌, ℕ, ◌+◌, Bool, true, false, ◌&&◌, ◌==◌, List, set, Option, Some, None, slice_get, if◌then◌else◌, refl}
 use Rattle.std.proofs.Common.{sym, subst, ap, ◌∙◌, arith, inl, inr}
 use Rattle.std.proofs.lemmas.Bool.Decides.{nat_tests}
 use Rattle.sat_label.proofs.Truth.{same-number}
@@ -16,9 +16,10 @@ use Rattle.sat_machine.specs.Input.{SiteInput}
 use Rattle.sat_machine.specs.Next.{site_next}
 use Rattle.sat_machine.specs.Replay.{after, given_at}
 use Rattle.sat_machine.specs.World.{ClientState, WorldState, world_given, world_next, handled_by, client_next, dead_next}
-use Rattle.sat_net.specs.Nets.{NetSeen}
+use Rattle.sat_laws.proofs.Labels.{some_is}
+use Rattle.sat_net.specs.Nets.{NetSeen, after_kill}
 use Rattle.sat_net.specs.NetStands.{StandsNet, links_next}
-use Rattle.sat_world.proofs.Laws.{others, rests}
+use Rattle.sat_world.proofs.Laws.{kills, others, rests}
 use Rattle.sat_site.specs.Seen.{SiteSeen}
 use Rattle.sat_site.specs.Stands.{StandsSite}
 use Rattle.sat_world.specs.Seen.{WorldSeen}
@@ -105,6 +106,29 @@ one-net w x links D E m p nets k e dead rest new st n net at =
     go : ((m ≡ n) × (p ≡ Some net)) ⊎ (((m == n) ≡ false) × (slice_get w.nets n ≡ Some (Some net))) → StandsNet net (links_next w.deployment (Some x) (n + 1) (links (n + 1))) (D (n + 1))
     go (inl u) = subst (λ (n : ℕ). StandsNet net (links_next w.deployment (Some x) (n + 1) (links (n + 1))) (D (n + 1))) u.0 (new net u.1)
     go (inr u) = others w.deployment (n + 1) net (links (n + 1)) (D (n + 1)) x (k.planted n (Some net) u.1) (st n net u.1) (ap (λ (e : ℕ). e == (n + 1)) e ∙ apart-epochs m n u.0)
+
+-- no label was handled, and a serializer of the net at one place is dead
+killed-here : (e z y : ℕ) (b : Bool) → (if (e == e) && (z == y) then true else b) ≡ (if z == y then true else b)
+killed-here e z y b = ap (λ (t : Bool). if t && (z == y) then true else b) (same-number e)
+
+killed-there : (e f z y : ℕ) (b : Bool) → (f == e) ≡ false → (if (f == e) && (z == y) then true else b) ≡ b
+killed-there e f z y b g = ap (λ (t : Bool). if t && (z == y) then true else b) g
+
+pub killed-net : (w : WorldSeen) (links : ℕ → NodeId → NodeId → List Label) (D : ℕ → ℕ → Bool) (m z : ℕ) (before : NetSeen) (nets : List (Option NetSeen)) → IsFrame w → slice_get w.nets m ≡ Some (Some before) → nets ≡ set w.nets m (Some (after_kill before z)) → NetsStand w.nets links D →
+    NetsStand nets (λ e. links_next w.deployment None e (links e)) (λ e y. if ((m + 1) == e) && (z == y) then true else D e y)
+killed-net w links D m z before nets k has rest st n net at = go (set-cases w.nets m n (Some (after_kill before z)) (Some net) (subst (λ (ns : List (Option NetSeen)). slice_get ns n ≡ Some (Some net)) rest at))
+  where
+    still : (n : ℕ) (net : NetSeen) → slice_get w.nets n ≡ Some (Some net) → StandsNet net (links_next w.deployment None (n + 1) (links (n + 1))) (D (n + 1))
+    still n net at = rests w.deployment (n + 1) net (links (n + 1)) (D (n + 1)) (k.planted n (Some net) at) (st n net at)
+
+    here : StandsNet (after_kill before z) (links_next w.deployment None (m + 1) (links (m + 1))) (λ y. if ((m + 1) == (m + 1)) && (z == y) then true else D (m + 1) y)
+    here = same-dead (after_kill before z) (links_next w.deployment None (m + 1) (links (m + 1))) (λ y. if z == y then true else D (m + 1) y) (λ y. if ((m + 1) == (m + 1)) && (z == y) then true else D (m + 1) y) (λ y. killed-here (m + 1) z y (D (m + 1) y))
+        (kills before (links_next w.deployment None (m + 1) (links (m + 1))) (D (m + 1)) z (k.planted m (Some before) has).net (still m before has))
+
+    go : ((m ≡ n) × (Some (after_kill before z) ≡ Some net)) ⊎ (((m == n) ≡ false) × (slice_get w.nets n ≡ Some (Some net))) → StandsNet net (links_next w.deployment None (n + 1) (links (n + 1))) (λ y. if ((m + 1) == (n + 1)) && (z == y) then true else D (n + 1) y)
+    go (inl u) = subst (λ (n : ℕ). StandsNet net (links_next w.deployment None (n + 1) (links (n + 1))) (λ y. if ((m + 1) == (n + 1)) && (z == y) then true else D (n + 1) y)) u.0
+        (subst (λ (net : NetSeen). StandsNet net (links_next w.deployment None (m + 1) (links (m + 1))) (λ y. if ((m + 1) == (m + 1)) && (z == y) then true else D (m + 1) y)) (some_is (after_kill before z) net u.1) here)
+    go (inr u) = same-dead net (links_next w.deployment None (n + 1) (links (n + 1))) (D (n + 1)) (λ y. if ((m + 1) == (n + 1)) && (z == y) then true else D (n + 1) y) (λ y. killed-there (n + 1) (m + 1) z y (D (n + 1) y) (apart-epochs m n u.0)) (still n net u.1)
 
 -- ---- clients
 

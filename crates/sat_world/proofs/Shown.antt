@@ -2,6 +2,7 @@
 use Rattle.std.specs.Prelude.{◌≡◌, ◌≤◌, ◌+◌, ◌-◌, ℕ, false, List, [], length, map, Option, Some, None, slice_get, refl}
 use Rattle.std.proofs.Common.{sym, subst, ap, ◌∙◌, arith, Bor, MatchOption}
 use Rattle.std.proofs.lemmas.List.{length-map}
+use Rattle.sat_label.specs.declared.carried.Carried.{Carried}
 use Rattle.sat_label.specs.declared.label.Label.{Label}
 use Rattle.sat_tree.specs.Shape.{TreeShape}
 use Rattle.sat_act.specs.declared.deployment.ClientLine.{ClientLine}
@@ -12,7 +13,7 @@ use Rattle.sat_act.specs.Runs.{IsRun}
 use Rattle.sat_act.specs.declared.deployment.Plan.{Plan}
 use Rattle.sat_act.specs.declared.deployment.Plan.TheVariants as plan
 use Rattle.sat_act.proofs.Plans.{tree_from_plans}
-use Rattle.sat_act.specs.Parts.{planned_tree, tree_of, view, emission, in_stamp_mode, waiting, version, value_of}
+use Rattle.sat_act.specs.Parts.{planned_tree, tree_of, view, emission, in_stamp_mode, waiting, version, value_of, carried, moving, seat}
 use Rattle.sat_act.proofs.Valid.{is_valid}
 use Rattle.sat_laws.proofs.Labels.{some_is}
 use Rattle.sat_bulk.specs.declared.Payload.{Payload}
@@ -34,7 +35,7 @@ use Rattle.sat_world.proofs.Laws.{net-fresh}
 use Rattle.sat_site.specs.Stands.{StandsSite, payload_of as of_version}
 use Rattle.sat_site.specs.declared.output.SiteView.{SiteView}
 use Rattle.sat_client.specs.declared.client.Client.{Client}
-use Rattle.sat_world.specs.Seen.{WorldSeen, HasSite}
+use Rattle.sat_world.specs.Seen.{WorldSeen, HasSite, HasClient}
 use Rattle.sat_world.specs.Starts.{AreFresh, fresh_for, seated}
 use Rattle.sat_world.specs.Worlds.{IsFrame, IsPlanted, IsWorld}
 use Rattle.sat_world.specs.Shows.{IsVersion}
@@ -87,6 +88,20 @@ shows-version w h i n x None k run st at is = none-stored h (version h i n) (sym
 shows-version w h i n x (Some v) k run st at is =
     let p = some-stored h (version h i n) v.now (sym (store-agrees w.deployment h i n (is_valid w.deployment k) run) ∙ is _ _ _ (st.sites i x at)) in
     record { label = p.0; value = p.1 }
+
+-- what a client of the world carries, and its seat
+module _ (w : WorldSeen) (h : List Entry) (c : ℕ) (x : Client) (st : StandsFor w h) (at : HasClient w c x) where
+  pub shows-point : x.carried.point ≡ carried h c
+  unfolding world_state
+  shows-point = ap (λ (k : Carried). k.point) (st.clients c x at).carried
+
+  pub shows-moving : x.carried.moving ≡ moving h c
+  unfolding world_state
+  shows-moving = ap (λ (k : Carried). k.moving) (st.clients c x at).carried
+
+  pub shows-seat : x.seat ≡ seat w.deployment h c
+  unfolding world_state
+  shows-seat = (st.clients c x at).seat
 
 -- ---- the new world
 

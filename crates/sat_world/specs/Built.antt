@@ -1,17 +1,22 @@
--- The acts that a world does today.
+-- The acts that a world does, and those that take no memory.
 use Rattle.std.specs.Prelude.{Bool, true, false}
 use Rattle.sat_act.specs.declared.act.Act.{Act}
 use Rattle.sat_act.specs.declared.act.Act.TheVariants as act
 
--- the forms of acts that a world does
+-- all acts but a settle
 abbrev pub is_built_act : Act → Bool
-is_built_act (act.Tick i g ts) = true
-is_built_act act.Clock = true
-is_built_act (act.Write c x value) = true
-is_built_act (act.Read c x) = true
-is_built_act (act.Gather i) = true
-is_built_act (act.Emit i) = true
-is_built_act (act.Hop epoch u z) = true
-is_built_act (act.Turn j) = true
-is_built_act (act.Bulk i g j o) = true
-is_built_act _ = false
+is_built_act act.Settle = false
+is_built_act _ = true
+
+-- acts that take no memory
+abbrev pub takes_none : Act → Bool
+takes_none (act.Tick i g ts) = true
+takes_none act.Clock = true
+takes_none (act.Leave c) = true
+takes_none (act.Attach c j) = true
+takes_none (act.Turn j) = true
+takes_none (act.Stamp j) = true
+takes_none (act.Fall j) = true
+takes_none (act.Advance j) = true
+takes_none (act.Kill e z) = true
+takes_none _ = false

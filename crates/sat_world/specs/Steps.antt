@@ -3,6 +3,7 @@ use Rattle.std.specs.Prelude.{ℕ, ◌≡◌, Bool, true, false, List, set, Opti
 use Rattle.sat_label.specs.declared.label.Label.{Label}
 use Rattle.sat_label.specs.declared.node.NodeId.{NodeId}
 use Rattle.sat_label.specs.declared.node.NodeId.TheVariants.{Site, Serializer}
+use Rattle.sat_label.specs.Order.{point_lt}
 use Rattle.sat_tree.specs.Cut.{seat_of}
 use Rattle.sat_act.specs.declared.answer.Refusal.TheVariants as why
 use Rattle.sat_sites.specs.Interested.{Interested}
@@ -14,20 +15,21 @@ use Rattle.sat_act.specs.Deployed.{Deployed}
 use Rattle.sat_act.specs.Settling.{is_done}
 use Rattle.sat_serial.specs.Routes.{routes}
 use Rattle.sat_client.specs.declared.client.Client.{Client}
-use Rattle.sat_client.specs.Clients.{after_observe}
+use Rattle.sat_client.specs.Clients.{after_join, after_move, after_observe, is_move}
 use Rattle.sat_machine.specs.State.{SiteState}
 use Rattle.sat_machine.specs.Input.{SiteInput}
 use Rattle.sat_machine.specs.Look.{front_of}
 use Rattle.sat_machine.specs.Reply.{site_answer}
 use Rattle.sat_machine.specs.Replay.{given_at}
 use Rattle.sat_machine.specs.World.{WorldState, world_given, world_answer, world_next}
-use Rattle.sat_net.specs.Nets.{NetSeen, link_of, is_dead, after_send, after_hop, after_take}
+use Rattle.sat_net.specs.Nets.{NetSeen, link_of, is_dead, after_send, after_hop, after_take, after_kill}
 use Rattle.sat_site.specs.declared.input.SiteInput as code
+use Rattle.sat_site.specs.declared.input.SiteInput.TheVariants as input
 use Rattle.sat_site.specs.Seen.{SiteSeen, IsSite}
-use Rattle.sat_site.specs.Inputs.{input_of, fits_in, is_small}
+use Rattle.sat_site.specs.Inputs.{input_of, fits_in, is_sized}
 use Rattle.sat_site.specs.SiteSteps.{site_answers, site_sends, site_after}
 use Rattle.sat_site.specs.Stands.{StandsSite}
-use Rattle.sat_world.specs.Seen.{WorldSeen}
+use Rattle.sat_world.specs.Seen.{WorldSeen, HasSite}
 use Rattle.sat_world.specs.Stands.{Stands}
 use Rattle.sat_world.specs.Worlds.{IsFrame}
 
@@ -57,10 +59,10 @@ pub record HandsIn (d : Deployed) (s : WorldState) (a : Act) (i : ℕ) (input : 
   pub given : (k : ℕ) → world_given d s a k ≡ given_at i k input
   pub answer : world_answer d s a ≡ site_answer d i (s.sites i) input
 
--- in an act a site is handed this, in each state that the world stands for
+-- in an act a site is handed this, in each state that the world stands for, and its numbers have their sizes there
 pub record Hands (w : WorldSeen) (a : Act) (i : ℕ) (input : code.SiteInput) : Type 0 where
   pub hands : (s : WorldState) → Stands w s → HandsIn w.deployment s a i (input_of input)
-  pub small : is_small input ≡ true
+  pub sized : (x : SiteSeen) → HasSite w i x → is_sized x input ≡ true
 
 -- the number of a payload at its receiver: the one that is asked for, or else the front of its lane
 abbrev pub number_at : SiteState → ℕ → ℕ → Option ℕ → ℕ
@@ -69,6 +71,20 @@ number_at s from gear asked = elim asked [ None ↦ front_of s from gear | Some 
 -- the number is that one, in each state that the receiver stands for
 abbrev pub IsNumber : SiteSeen → ℕ → ℕ → Option ℕ → ℕ → Type 0
 IsNumber y from gear asked n = (d : Deployed) (k : ℕ) (s : SiteState) → StandsSite d k y s → n ≡ number_at s from gear asked
+
+-- the act at site i that hands it this and nothing of a client, of a link or of another site. A settle stands for the inputs that
+-- do
+abbrev pub act_at : ℕ → code.SiteInput → Act
+act_at i (input.Tick g ts) = act.Tick i g ts
+act_at i input.Gather = act.Gather i
+act_at i input.Emit = act.Emit i
+act_at i input.Pulse = act.Pulse i
+act_at i (input.Beat j) = act.Beat i j
+act_at i input.Stamp = act.Stamp i
+act_at i input.Close = act.Close i
+act_at i input.Fall = act.Fall i
+act_at i input.Advance = act.Advance i
+act_at i _ = act.Settle
 
 -- an act at one site that moves no label and is no client's
 abbrev pub is_local : Act → Bool
@@ -82,13 +98,30 @@ is_local (act.Fall i) = true
 is_local (act.Advance i) = true
 is_local _ = false
 
+-- an act at one site that may send a label
+abbrev pub is_sending : Act → Bool
+is_sending (act.Emit i) = true
+is_sending (act.Pulse i) = true
+is_sending (act.Close i) = true
+is_sending _ = false
+
 -- ---- clients
 
--- what an answer to a write or a read makes of the client
+-- what an answer to a write, a read or a move makes of the client
 abbrev pub told : Answer → Client → Client
 told (ans.Wrote l) x = after_observe x l.point
 told (ans.ReadSome l v) x = after_observe x l.point
+told (ans.Moved l) x = after_move x l
 told r x = x
+
+-- the label of a move is one, and above all that the client saw
+abbrev pub MayTell : Answer → Client → Type 0
+MayTell r x = (l : Label) → r ≡ ans.Moved l → (is_move l.kind ≡ true) × (point_lt x.carried.point l.point ≡ true)
+
+-- what the answer of site j to an attach makes of it
+abbrev pub joined : Answer → ℕ → Client → Client
+joined ans.Attached j x = after_join x j
+joined r j x = x
 
 -- ---- one net
 
@@ -116,6 +149,11 @@ pub data Hops (net : NetSeen) (a : Interested) (u : NodeId) (z : ℕ) : Answer �
   finds_none : is_dead net z ≡ false → slice_get (link_of net u (Serializer z)) 0 ≡ None → Hops net a u z (ans.Refused why.Empty) net
   hops : (l : Label) → is_dead net z ≡ false → slice_get (link_of net u (Serializer z)) 0 ≡ Some l → Hops net a u z (ans.Hopped l (routes a net.tree z u l)) (after_hop net a u z l)
 
+-- a kill of serializer z: what is answered, and the net after it
+pub data Kills (net : NetSeen) (z : ℕ) : Answer → NetSeen → Type 0 where
+  finds_killed : is_dead net z ≡ true → Kills net z (ans.Refused why.Already) net
+  kills : is_dead net z ≡ false → Kills net z ans.Killed (after_kill net z)
+
 -- the net at a place becomes another one, and the other nets stay
 pub record NetAt (nets : List (Option NetSeen)) (n : ℕ) (before after : Option NetSeen) (now : List (Option NetSeen)) : Type 0 where
   pub at : slice_get nets n ≡ Some before
@@ -127,4 +165,12 @@ pub record HopsAt (nets : List (Option NetSeen)) (n : ℕ) (a : Interested) (u :
   pub after : NetSeen
   pub at : slice_get nets n ≡ Some (Some before)
   pub hop : Hops before a u z r after
+  pub rest : now ≡ set nets n (Some after)
+
+-- a serializer of the net at a place, which is there, is killed
+pub record KillsAt (nets : List (Option NetSeen)) (n z : ℕ) (r : Answer) (now : List (Option NetSeen)) : Type 0 where
+  pub before : NetSeen
+  pub after : NetSeen
+  pub at : slice_get nets n ≡ Some (Some before)
+  pub kill : Kills before z r after
   pub rest : now ≡ set nets n (Some after)

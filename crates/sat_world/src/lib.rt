@@ -7,6 +7,7 @@ mod places;
 mod start;
 mod world;
 
+pub use sat_client::Client;
 pub use sat_site::SiteView;
 pub use sat_store::Version;
 pub use world::World;

@@ -2,7 +2,7 @@
 ghost use Rattle.std.specs.Prelude.{ℕ, ◌≡◌, ◌<◌, length, slice_get, Some, None, Option, IsSome, IfOk, OnOk, OnErr};
 ghost use Rattle.sat_label.specs.declared.label.Label.{Label};
 ghost use Rattle.sat_net.specs.Nets.{NetSeen, MayHop};
-ghost use Rattle.sat_world.specs.Steps.{front_to, net_sent, net_taken, Hops, HopsAt, NetAt};
+ghost use Rattle.sat_world.specs.Steps.{front_to, net_sent, net_taken, Hops, HopsAt, Kills, KillsAt, NetAt};
 
 use sat_act::{Answer, Refusal};
 use sat_label::{Label, NodeId};
@@ -119,4 +119,28 @@ pub fn hop_at(
     };
     let answer = hop(net, interest, from, to)?;
     Ok(answer)
+}
+
+// A kill in one net.
+fn kill(net: &mut Net, serializer: u16) -> Answer
+    requires { serializer < length net.old.tree.parents }
+    ensures { Kills net.old serializer result net.new }
+{
+    match net.kill(serializer) {
+        Ok(()) => Answer::Killed,
+        Err(_) => Answer::Refused(Refusal::Already),
+    }
+}
+
+/// Kills a serializer of the net at a place, which is there. It takes no memory.
+pub fn kill_at(nets: &mut Vec<Option<Net>>, place: usize, serializer: u16) -> Answer
+    requires within { place < length nets.old.items }
+    requires there { (o : Option NetSeen) → slice_get nets.old.items place ≡ Some o → IsSome o }
+    requires serializer { (n : NetSeen) → slice_get nets.old.items place ≡ Some (Some n) → serializer < length n.tree.parents }
+    ensures { KillsAt nets.old.items place serializer result nets.new.items }
+{
+    let Some(net) = &mut nets[place] else {
+        unreachable!()
+    };
+    kill(net, serializer)
 }

@@ -1,11 +1,11 @@
 //! Acts at one place of a list: a site that is handed something, a client that is told an answer.
-ghost use Rattle.std.specs.Prelude.{ℕ, ◌≡◌, ◌<◌, true, length, set, slice_get, Some, Option, IfOk, OnErr, IsOk};
-ghost use Rattle.sat_label.specs.declared.label.Label.{Label};
+ghost use Rattle.std.specs.Prelude.{ℕ, ◌≡◌, ◌<◌, true, length, set, slice_get, Some, IfOk, OnErr, IsOk};
 ghost use Rattle.sat_client.specs.declared.client.Client.{Client as ClientSeen};
+ghost use Rattle.sat_client.specs.Clients.{after_leave};
 ghost use Rattle.sat_site.specs.Seen.{SiteSeen, IsSite};
-ghost use Rattle.sat_site.specs.Inputs.{fits_in};
+ghost use Rattle.sat_site.specs.Inputs.{fits_in, takes_none};
 ghost use Rattle.sat_site.specs.SiteSteps.{write_refusal};
-ghost use Rattle.sat_world.specs.Steps.{StepsAt, told, IsNumber};
+ghost use Rattle.sat_world.specs.Steps.{StepsAt, told, joined, IsNumber, MayTell};
 
 use sat_act::{Answer, Refusal};
 use sat_client::Client;
@@ -29,9 +29,7 @@ pub fn step_at(
     requires within { place < length sites.old.items }
     requires fits { (x : SiteSeen) → slice_get sites.old.items place ≡ Some x → IsSite x → fits_in x input ≡ true }
     ensures ok { IfOk result (λ out. StepsAt sites.old.items place input out.answer out.sent sites.new.items) }
-    ensures tick { (g t : ℕ) → input ≡ SiteInput.Tick g t → IsOk result }
-    ensures turn { (front : Option Label) → input ≡ SiteInput.Turn front → IsOk result }
-    ensures emit { input ≡ SiteInput.Emit → IsOk result }
+    ensures spare { takes_none input ≡ true → IsOk result }
     ensures err { OnErr result (sites.new.items ≡ sites.old.items) }
 {
     let site = &mut sites[place as usize];
@@ -64,19 +62,47 @@ pub fn write_refusal_at(sites: &[Site], place: u16, carried: &Carried, item: u16
 }
 
 fn tell(client: &mut Client, answer: &Answer)
+    requires { MayTell answer.now client.old }
     ensures { client.new ≡ told answer.now client.old }
 {
     match answer {
         Answer::Wrote(label) => client.observe(label.point),
         Answer::ReadSome { label, .. } => client.observe(label.point),
+        Answer::Moved(label) => client.moved(*label),
         _ => {}
     }
 }
 
-/// Tells a client the answer to its write or read.
+/// Tells a client the answer to its write, read or move.
 pub fn tell_at(clients: &mut Vec<Client>, place: u16, answer: &Answer)
-    requires { place < length clients.old.items }
+    requires within { place < length clients.old.items }
+    requires may { (x : ClientSeen) → slice_get clients.old.items place ≡ Some x → MayTell answer.now x }
     ensures { (x : ClientSeen) → slice_get clients.old.items place ≡ Some x → clients.new.items ≡ set clients.old.items place (told answer.now x) }
 {
     tell(&mut clients[place as usize], answer);
+}
+
+fn join(client: &mut Client, site: u16, answer: &Answer)
+    ensures { client.new ≡ joined answer.now site client.old }
+{
+    match answer {
+        Answer::Attached => client.joined(site),
+        _ => {}
+    }
+}
+
+/// Seats a client at a site, where the site let it attach.
+pub fn join_at(clients: &mut Vec<Client>, place: u16, site: u16, answer: &Answer)
+    requires { place < length clients.old.items }
+    ensures { (x : ClientSeen) → slice_get clients.old.items place ≡ Some x → clients.new.items ≡ set clients.old.items place (joined answer.now site x) }
+{
+    join(&mut clients[place as usize], site, answer);
+}
+
+/// Takes a client's seat away.
+pub fn leave_at(clients: &mut Vec<Client>, place: u16)
+    requires { place < length clients.old.items }
+    ensures { (x : ClientSeen) → slice_get clients.old.items place ≡ Some x → clients.new.items ≡ set clients.old.items place (after_leave x) }
+{
+    clients[place as usize].left();
 }

@@ -1,4 +1,4 @@
-//! The world of the built acts.
+//! The world of all acts but a settle.
 ghost use Rattle.std.specs.Prelude.{◌≡◌, ◌<◌, ℕ, true, false, List, [], ◌∷◌, length, slice_get, IfOk, OnErr, IsOk, MatchOption, Some, None};
 ghost use Rattle.sat_act.specs.declared.entry.Entry.{Entry};
 ghost use Rattle.sat_act.specs.Answers.{answer};
@@ -6,16 +6,15 @@ ghost use Rattle.sat_act.specs.Runs.{IsRun};
 ghost use Rattle.sat_act.specs.Ranges.{IsActOf};
 ghost use Rattle.sat_act.specs.Settling.{is_done};
 ghost use Rattle.sat_act.specs.Headline.{IsGood};
-ghost use Rattle.sat_act.specs.Parts.{view, emission, in_stamp_mode, waiting, version, value_of};
-ghost use Rattle.sat_world.specs.Built.{is_built_act};
-ghost use Rattle.sat_world.specs.Steps.{is_local, Goes, Hands};
+ghost use Rattle.sat_act.specs.Parts.{view, emission, in_stamp_mode, waiting, version, value_of, carried, moving, seat};
+ghost use Rattle.sat_world.specs.Built.{is_built_act, takes_none};
+ghost use Rattle.sat_world.specs.Steps.{act_at, is_local, is_sending, Goes};
 ghost use Rattle.sat_world.specs.Worlds.{IsWorld};
 ghost use Rattle.sat_world.specs.Shows.{IsVersion};
 ghost use Rattle.sat_world.specs.Stands.{StandsFor};
 
-use crate::{SiteView, Version, clocks, nets, places, start};
+use crate::{Client, SiteView, Version, clocks, nets, places, start};
 use sat_act::{Act, Answer, Deployment, Refusal};
-use sat_client::Client;
 use sat_label::{NodeId, Value};
 use sat_net::Net;
 use sat_site::{Site, SiteInput};
@@ -63,16 +62,15 @@ impl World {
         })
     }
 
-    /// Does an act and answers it. For want of memory the world is as before; a tick, a clock and a turn take none.
+    /// Does an act and answers it. For want of memory the world is as before. A tick, a clock, a leave, an attach, a turn, a stamp, a
+    /// fall, an advance and a kill take none.
     pub fn apply(&mut self, act: &Act) -> Result<Answer, AllocError>
         requires act { IsActOf self.old.deployment act.now }
         requires built { is_built_act act.now ≡ true }
         ensures answer { IfOk result (λ r. (h : List Entry) → IsRun self.old.deployment h → StandsFor self.old h → r ≡ answer self.old.deployment h act.now) }
         ensures stands { IfOk result (λ r. (h : List Entry) → IsRun self.old.deployment h → StandsFor self.old h → StandsFor self.new (record { act = act.now; answer = r; inner = false } ∷ h)) }
         ensures good { IfOk result (λ r. (h : List Entry) → IsRun self.old.deployment h → StandsFor self.old h → IsGood self.old.deployment (record { act = act.now; answer = r; inner = false } ∷ h)) }
-        ensures tick { (i g t : ℕ) → act.now ≡ Act.Tick i g t → IsOk result }
-        ensures clock { act.now ≡ Act.Clock → IsOk result }
-        ensures turn { (j : ℕ) → act.now ≡ Act.Turn j → IsOk result }
+        ensures spare { takes_none act.now ≡ true → IsOk result }
         ensures refused { IfOk result (λ r. is_done r ≡ false → self.new ≡ self.old) }
         ensures deployment { self.new.deployment ≡ self.old.deployment }
         ensures err { OnErr result (self.new ≡ self.old) }
@@ -110,20 +108,34 @@ impl World {
         site.version(item)
     }
 
+    /// A client: the point that it carries, where it is moving to, and its seat. It takes no memory.
+    pub fn client(&self, c: u16) -> &Client
+        requires { c < length self.now.deployment.clients }
+        ensures point { (h : List Entry) → IsRun self.now.deployment h → StandsFor self.now h → result.now.carried.point ≡ carried h c }
+        ensures moving { (h : List Entry) → IsRun self.now.deployment h → StandsFor self.now h → result.now.carried.moving ≡ moving h c }
+        ensures seat { (h : List Entry) → IsRun self.now.deployment h → StandsFor self.now h → result.now.seat ≡ seat self.now.deployment h c }
+    {
+        &self.clients[c as usize]
+    }
+
     // Does an act. The calls below do one kind of act each.
     fn step(&mut self, act: &Act) -> Result<Answer, AllocError>
         requires act { IsActOf self.old.deployment act.now }
         requires built { is_built_act act.now ≡ true }
         ensures goes { IfOk result (λ r. Goes self.old act.now r self.new) }
         ensures world { IsWorld self.old }
-        ensures tick { (i g t : ℕ) → act.now ≡ Act.Tick i g t → IsOk result }
-        ensures clock { act.now ≡ Act.Clock → IsOk result }
-        ensures turn { (j : ℕ) → act.now ≡ Act.Turn j → IsOk result }
+        ensures spare { takes_none act.now ≡ true → IsOk result }
         ensures err { OnErr result (self.new ≡ self.old) }
     {
         let _ = &self.deployment;
         match act {
-            Act::Tick { site, gear, ts } => self.tick(*site, *gear, *ts),
+            Act::Tick { site, gear, ts } => self.local(
+                *site,
+                SiteInput::Tick {
+                    gear: *gear,
+                    ts: *ts,
+                },
+            ),
             Act::Clock => Ok(self.clock()),
             Act::Write {
                 client,
@@ -131,8 +143,12 @@ impl World {
                 value,
             } => self.write(*client, *item, value),
             Act::Read { client, item } => self.read(*client, *item),
-            Act::Gather { site } => self.gather(*site),
-            Act::Emit { site } => self.emit(*site),
+            Act::Move { client, site } => self.migrate(*client, *site),
+            Act::Leave { client } => Ok(self.leave(*client)),
+            Act::Attach { client, site } => self.attach(*client, *site),
+            Act::Gather { site } => self.local(*site, SiteInput::Gather),
+            Act::Emit { site } => self.sending(*site, SiteInput::Emit),
+            Act::Pulse { site } => self.sending(*site, SiteInput::Pulse),
             Act::Hop { epoch, from, to } => self.hop(*epoch, *from, *to),
             Act::Turn { site } => self.turn(*site),
             Act::Bulk {
@@ -141,16 +157,26 @@ impl World {
                 to,
                 number,
             } => self.bulk(*from, *gear, *to, *number),
-            _ => unreachable!(),
+            Act::Beat { from, to } => self.local(*from, SiteInput::Beat { to: *to }),
+            Act::BeatIn { from, to, number } => self.beat_in(*from, *to, *number),
+            Act::Stamp { site } => self.local(*site, SiteInput::Stamp),
+            Act::Close { site } => self.sending(*site, SiteInput::Close),
+            Act::Fall { site } => self.local(*site, SiteInput::Fall),
+            Act::Advance { site } => self.local(*site, SiteInput::Advance),
+            Act::Kill { epoch, serializer } => Ok(self.kill(*epoch, *serializer)),
+            Act::Settle => unreachable!(),
         }
     }
 
-    fn tick(&mut self, site: u16, gear: u16, ts: u64) -> Result<Answer, AllocError>
-        requires { IsActOf self.old.deployment (Act.Tick site gear ts) }
-        ensures goes { IfOk result (λ r. Goes self.old (Act.Tick site gear ts) r self.new) }
-        ensures fine { IsOk result }
+    // An act that changes one site and nothing else.
+    fn local(&mut self, site: u16, input: SiteInput) -> Result<Answer, AllocError>
+        requires act { IsActOf self.old.deployment (act_at site input) }
+        requires local { is_local (act_at site input) ≡ true }
+        ensures goes { IfOk result (λ r. Goes self.old (act_at site input) r self.new) }
+        ensures spare { takes_none (act_at site input) ≡ true → IsOk result }
+        ensures err { OnErr result (self.new ≡ self.old) }
     {
-        let out = places::step_at(&mut self.sites, site, SiteInput::Tick { gear, ts })?;
+        let out = places::step_at(&mut self.sites, site, input)?;
         Ok(out.answer)
     }
 
@@ -204,26 +230,66 @@ impl World {
         Ok(out.answer)
     }
 
-    fn gather(&mut self, site: u16) -> Result<Answer, AllocError>
-        requires { site < self.old.deployment.sites }
-        ensures goes { IfOk result (λ r. Goes self.old (Act.Gather site) r self.new) }
+    fn migrate(&mut self, client: u16, to: u16) -> Result<Answer, AllocError>
+        requires { IsActOf self.old.deployment (Act.Move client to) }
+        ensures goes { IfOk result (λ r. Goes self.old (Act.Move client to) r self.new) }
         ensures err { OnErr result (self.new ≡ self.old) }
     {
-        let out = places::step_at(&mut self.sites, site, SiteInput::Gather)?;
+        let known = self.clients[client as usize];
+        let Some(seat) = known.seat else {
+            return Ok(Answer::Refused(Refusal::NoSession));
+        };
+        let input = SiteInput::Move {
+            carried: known.carried,
+            to,
+        };
+        let out = places::step_at(&mut self.sites, seat, input)?;
+        places::tell_at(&mut self.clients, client, &out.answer);
         Ok(out.answer)
     }
 
-    // What is sent is on its way before the site has sent it, since an emission takes no memory and the way may.
-    fn emit(&mut self, site: u16) -> Result<Answer, AllocError>
-        requires { site < self.old.deployment.sites }
-        ensures goes { IfOk result (λ r. Goes self.old (Act.Emit site) r self.new) }
+    fn leave(&mut self, client: u16) -> Answer
+        requires { client < length self.old.deployment.clients }
+        ensures { Goes self.old (Act.Leave client) result self.new }
+    {
+        let known = self.clients[client as usize];
+        let Some(_) = known.seat else {
+            return Answer::Refused(Refusal::NoSession);
+        };
+        places::leave_at(&mut self.clients, client);
+        Answer::Left(known.carried.point)
+    }
+
+    fn attach(&mut self, client: u16, site: u16) -> Result<Answer, AllocError>
+        requires { IsActOf self.old.deployment (Act.Attach client site) }
+        ensures goes { IfOk result (λ r. Goes self.old (Act.Attach client site) r self.new) }
+        ensures fine { IsOk result }
+    {
+        let known = self.clients[client as usize];
+        let None = known.seat else {
+            return Ok(Answer::Refused(Refusal::Joined));
+        };
+        let input = SiteInput::Attach {
+            carried: known.carried,
+        };
+        let out = places::step_at(&mut self.sites, site, input)?;
+        places::join_at(&mut self.clients, client, site, &out.answer);
+        Ok(out.answer)
+    }
+
+    // An act at a site that may send a label, in its emission epoch as it is before the act. What is sent is on its way before the
+    // site has sent it, since a sending takes no memory and the way may.
+    fn sending(&mut self, site: u16, input: SiteInput) -> Result<Answer, AllocError>
+        requires site { site < self.old.deployment.sites }
+        requires sends { is_sending (act_at site input) ≡ true }
+        ensures goes { IfOk result (λ r. Goes self.old (act_at site input) r self.new) }
         ensures err { OnErr result (self.new ≡ self.old) }
     {
         let known = &self.sites[site as usize];
         let epoch = known.view().emission;
-        let sent = known.sends(&SiteInput::Emit);
+        let sent = known.sends(&input);
         nets::send_at(&mut self.nets, epoch as usize - 1, site, sent)?;
-        let out = places::step_at(&mut self.sites, site, SiteInput::Emit)?;
+        let out = places::step_at(&mut self.sites, site, input)?;
         Ok(out.answer)
     }
 
@@ -280,5 +346,31 @@ impl World {
         };
         let out = places::step_at(&mut self.sites, to, input)?;
         Ok(out.answer)
+    }
+
+    // A beat that a site made for another one. No memory holds beats whose number has more than 63 bits.
+    fn beat_in(&mut self, from: u16, to: u16, number: u64) -> Result<Answer, AllocError>
+        requires { IsActOf self.old.deployment (Act.BeatIn from to number) }
+        ensures goes { IfOk result (λ r. Goes self.old (Act.BeatIn from to number) r self.new) }
+        ensures err { OnErr result (self.new ≡ self.old) }
+    {
+        let sender = &self.sites[from as usize];
+        let Some(beat) = sender.made_beat(to, number) else {
+            return Ok(Answer::Refused(Refusal::NoSuch));
+        };
+        if number >= 1 << 63 {
+            return Err(AllocError);
+        }
+        let beat = beat.copy()?;
+        let input = SiteInput::BeatIn { from, number, beat };
+        let out = places::step_at(&mut self.sites, to, input)?;
+        Ok(out.answer)
+    }
+
+    fn kill(&mut self, epoch: u16, serializer: u16) -> Answer
+        requires { IsActOf self.old.deployment (Act.Kill epoch serializer) }
+        ensures { Goes self.old (Act.Kill epoch serializer) result self.new }
+    {
+        nets::kill_at(&mut self.nets, epoch as usize - 1, serializer)
     }
 }

@@ -1,26 +1,26 @@
-use Rattle.std.proofs.Common.{◌∙◌, ◌∷◌, ap, sym, arith}
-use Rattle.sat_script.proofs.Cuts.{words_next, words_last, words_full, seen_last, seen_stop, seen_cut}
+use Rattle.std.proofs.Common.{◌+◌, ◌-◌, length, take, drop, ◌∙◌, sym, arith, refl}
+use Rattle.sat_script.proofs.Cuts.{texts}
+use Rattle.sat_script.proofs.FirstWords.{found_seen, found_word, found_end, found_full, as_first}
 use Rattle.sat_script.proofs.words.first_words.Goals as goal
 
-pub returns-in_default : goal.returns-in_default
-returns-in_default c =
-    let s = seen_last c.loop.rest.now c.split_at.result.0.now c.split_at.result.1.now c.seen_front.result c.seen_front.ensures c.split_at.ensures.front c.split_at.ensures.back c.in_default.ensures.cases in (
-      c.loop.invariant.2 ∙ s.2,
-      words_last c.loop.words.items c.push.new.self.items c.split_at.result.0 c.args.line.now c.loop.counter c.push.ensures.items s.0 (rw (sym s.1) at c.loop.invariant.0) c.loop.invariant.1 c.loop-test.true,
-    )
+pub loop-place-preserved-then-is_visible : goal.loop-place-preserved-then-is_visible
+loop-place-preserved-then-is_visible c =
+    (found_seen c.args.line.now c.loop-place.words.items c.loop-place.start c.loop-place.place c.loop-place.invariant.0 c.loop-place-test.true (sym c.if-is_visible.ensures), c.loop-place.invariant.1)
 
-pub returns-then-byte-ne32 : goal.returns-then-byte-ne32
-returns-then-byte-ne32 c =
-    c.loop.invariant.2
-    ∙ seen_stop c.loop.rest.now c.split_at.result.1.now c.in-Some.later.now c.in-Some.byte.now c.seen_front.result c.seen_front.ensures c.split_at.ensures.back c.in-Some.ensures.cases.0 c.if-byte-ne32.true
+pub loop-place-preserved : goal.loop-place-preserved
+loop-place-preserved c = (
+  found_word c.args.line.now c.loop-place.words.items c.push.new.self.items _ c.loop-place.start c.loop-place.place c.loop-place.invariant.0 c.loop-place-test.true c.if-byte-ne32.false c.push.ensures.items refl,
+  omega (arith, c.push.ensures.len, c.loop-place.invariant.1, c.if-len-eq6.false, c.len.ensures.value),
+)
 
-pub loop-preserved : goal.loop-preserved
-loop-preserved c =
-    let at = c.in-Some.ensures.cases.0 ∙ ap (λ b. b ∷ c.in-Some.later.now) c.if-byte-ne32.false in
-    let s = seen_cut c.loop.rest.now c.split_at.result.0.now c.split_at.result.1.now c.in-Some.later.now c.seen_front.result c.seen_front.ensures c.split_at.ensures.front c.split_at.ensures.back at in
-    let n = words_next c.loop.words.items c.push.new.self.items c.split_at.result.0 c.args.line.now c.loop.rest.now c.in-Some.later.now c.loop.counter c.push.ensures.items s.0 c.loop.invariant.0 c.loop.invariant.1 in
-    (n.0, n.1, c.loop.invariant.2 ∙ s.1)
+pub returns-then-len-eq6 : goal.returns-then-len-eq6
+returns-then-len-eq6 c =
+    let word = found_word c.args.line.now c.loop-place.words.items c.push.new.self.items _ c.loop-place.start c.loop-place.place c.loop-place.invariant.0 c.loop-place-test.true c.if-byte-ne32.false c.push.ensures.items refl in
+    let full = found_full c.args.line.now (take (length c.args.line.now - (c.loop-place.place + 1)) (drop (c.loop-place.place + 1) c.args.line.now)) c.push.new.self.items (c.loop-place.place + 1) word refl (omega (arith, c.loop-place-test.true))
+    (omega (arith, c.if-len-eq6.true, c.len.ensures.value)) in
+    as_first c.is_text.result c.args.line.now (texts c.push.new.self.items) (full.0 ∙ sym c.is_text.ensures) full.1
 
-pub returns-then-is_text : goal.returns-then-is_text
-returns-then-is_text c =
-    (c.loop.invariant.2 ∙ sym c.if-is_text.ensures, words_full c.loop.words.items c.args.line.now c.loop.rest.now c.loop.invariant.0 (omega (arith, c.loop.invariant.1)))
+pub returns : goal.returns
+returns c =
+    found_end c.args.line.now c.loop-place.words.items c.push-2.new.self.items _ c.loop-place.start c.loop-place.place c.loop-place.invariant.0 (omega (arith, c.loop-place-test.false))
+    (omega (arith, c.loop-place.invariant.0.within, c.loop-place.auto.place-end)) c.loop-place.invariant.1 c.push-2.ensures.items refl

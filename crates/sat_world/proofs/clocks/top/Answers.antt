@@ -16,7 +16,7 @@ pub loop-gear-preserved : goal.loop-gear-preserved
 loop-gear-preserved c = record {
   top = λ d i s st. c.max-greatest.ensures ∙ top-more _ _ _ _ c.loop-gear.invariant.top c.promise.ensures.promise d i s st;
   above = λ g x at lt. let u = up-to-more _ _ _ _ c.loop-gear.invariant.above c.promise.ensures.seen g x at lt in omega (arith, c.max-greatest.ensures, u);
-  count = λ lt. c.promise.ensures.limits.count;
+  count = λ lt. c.promise.ensures.limits.gears.count;
   limit = omega (arith, c.max-greatest.ensures, c.loop-gear.invariant.limit, c.promise.ensures.limit);
 }
 

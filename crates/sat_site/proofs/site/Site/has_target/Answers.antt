@@ -3,7 +3,7 @@ use Rattle.sat_label.proofs.Truth.{same-test}
 use Rattle.sat_sites.specs.Interested.{IsLabelOf}
 use Rattle.sat_site.specs.Seen.{SiteSeen}
 use Rattle.sat_site.specs.SiteSteps.{has_target}
-use Rattle.sat_site.proofs.Determined.{target-some, some-target-here}
+use Rattle.sat_site.proofs.Quiet.{target-some, some-target-here}
 use Rattle.sat_site.proofs.Targets.{some-target, target-there}
 use Rattle.sat_site.proofs.site.Site.has_target.Goals as goal
 

@@ -7,4 +7,4 @@ pub fresh-requires-clause-shape : goal.fresh-requires-clause-shape
 fresh-requires-clause-shape c = shape-sound _ _ _ c.in_ok-shape.ensures.limits c.requires c.in_ok-shape.ensures.interest c.in_ok-shape.ensures.shape
 
 pub returns : goal.returns
-returns c = made-stands _ _ _ _ _ c.in_ok-shape.ensures.shape (c.deref.ensures.value ∙ (c.in_ok-stamp.ensures ∙ ap (map is_stamp_plan) c.plans.ensures.plans)) c.in_ok-made.ensures
+returns c = made-stands _ _ _ _ _ c.proxy_laws.ensures.starts c.in_ok-shape.ensures.shape (c.deref.ensures.value ∙ (c.in_ok-stamp.ensures ∙ ap (map is_stamp_plan) c.plans.ensures.plans)) c.in_ok-made.ensures

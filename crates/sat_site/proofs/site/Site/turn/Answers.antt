@@ -1,8 +1,27 @@
-use Rattle.sat_site.proofs.Deeds.{did-stamp, did-turn-by}
+use Rattle.sat_site.proofs.Given.{turn-from, turn-other, turn-close, turn-guest, turn-shown, turn-took}
+use Rattle.sat_site.proofs.Peers.{turn-site}
 use Rattle.sat_site.proofs.site.Site.turn.Goals as goal
 
-pub returns-then-in_stamp_mode : goal.returns-then-in_stamp_mode
-returns-then-in_stamp_mode c = did-stamp _ _ _ _ c.self.view_is c.in_stamp_mode.ensures c.if-in_stamp_mode.true
+pub turn-turned-requires-clause-from : goal.turn-turned-requires-clause-from
+turn-turned-requires-clause-from c = turn-from _ _ c.args.front c.self.view_is c.self.invariant c.requires
 
-pub returns : goal.returns
-returns c = did-turn-by _ _ _ _ _ _ c.self.view_is c.in_stamp_mode.ensures c.if-in_stamp_mode.false c.turn_by_tree.ensures
+pub turn-turned-requires-clause-other : goal.turn-turned-requires-clause-other
+turn-turned-requires-clause-other c = turn-other _ _ c.args.front c.self.view_is c.self.invariant c.requires
+
+pub turn-turned-requires-clause-close : goal.turn-turned-requires-clause-close
+turn-turned-requires-clause-close c = turn-close _ _ c.args.front c.self.view_is c.requires
+
+pub show-requires : goal.show-requires
+show-requires c = turn-guest _ c.args.front c.in-Ok-Show.field-0 c.in-Ok-Show.payload c.self.invariant c.in-Ok-Show.ensures.gives c.in-Ok-Show.field-0-is
+
+pub invariant_of-self : goal.invariant_of-self
+invariant_of-self c = turn-site _ c.turn-turned.result c.turn-turned.new.views c.turn-turned.new.self c.args.front c.self.invariant c.sound.ensures.views c.sound.ensures.proxy c.turn-turned.ensures.new c.turn-turned.ensures.heard c.turn-turned.ensures.err c.turn-turned.ensures.unheard
+
+pub invariant_of-self-in-Ok-Took : goal.invariant_of-self-in-Ok-Took
+invariant_of-self-in-Ok-Took c = turn-site _ c.turn-turned.result c.turn-turned.new.views c.turn-turned.new.self c.args.front c.self.invariant c.sound.ensures.views c.sound.ensures.proxy c.turn-turned.ensures.new c.turn-turned.ensures.heard c.turn-turned.ensures.err c.turn-turned.ensures.unheard
+
+pub returns-in-Ok-Show-clause-answer : goal.returns-in-Ok-Show-clause-answer
+returns-in-Ok-Show-clause-answer c = turn-shown _ _ c.args.front c.in-Ok-Show.field-0 c.in-Ok-Show.payload _ c.self.view_is c.in-Ok-Show.ensures.gives c.in-Ok-Show.field-0-is c.show.ensures.answer
+
+pub returns-in-Ok-Took-clause-answer : goal.returns-in-Ok-Took-clause-answer
+returns-in-Ok-Took-clause-answer c = turn-took _ _ c.args.front c.in-Ok-Took.field-0 c.in-Ok-Took.label c.self.view_is c.in-Ok-Took.ensures.gives c.in-Ok-Took.field-0-is

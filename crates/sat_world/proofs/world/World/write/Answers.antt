@@ -1,7 +1,8 @@
 use Rattle.std.proofs.Common.{◌<◌, List, length, refl, subst, sym}
 use Rattle.sat_site.specs.Seen.{SiteSeen}
 use Rattle.sat_world.proofs.Deeds.{did-refuse-at, did-write, did-not-write, seat-items, write-handed}
-use Rattle.sat_world.proofs.Hands.{client-at, fit-here, seat-within}
+use Rattle.sat_world.proofs.Hands.{client-at, fit-here, seat-within, write-told}
+use Rattle.sat_world.proofs.Seats.{other-may}
 use Rattle.sat_world.proofs.Runs.{seen-as, stays}
 use Rattle.sat_world.proofs.world.World.write.Goals as goal
 
@@ -24,6 +25,9 @@ step_at-requires-clause-within c = seat-within _ _ _ _ c.self.invariant (client-
 
 pub step_at-requires-clause-fits : goal.step_at-requires-clause-fits
 step_at-requires-clause-fits c = fit-here _ _ _ _ _ c.self.view_is c.self.invariant c.requires (write-handed _ _ _ _ _ _ _ _ c.self.view_is c.self.invariant c.requires.0 c.index.ensures c.in-Some.is c.in_ok-copy.ensures)
+
+pub tell_at-requires-clause-may : goal.tell_at-requires-clause-may
+tell_at-requires-clause-may c = λ x at. other-may x _ (write-told _ _ _ _ _ _ _ _ c.in_ok-out.ensures.ok)
 
 pub invariant_of-self-2 : goal.invariant_of-self-2
 invariant_of-self-2 c = stays _ _ _ _ _ c.self.view_is c.self.invariant c.requires refl
