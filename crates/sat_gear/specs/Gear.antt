@@ -1,5 +1,5 @@
 -- A gear: what it keeps, what is read off it, what its calls make of it, and what is true of each.
-use Rattle.std.specs.Prelude.{ℕ, ◌≡◌, ◌≤◌, ◌<◌, ◌+◌, ◌/◌, ◌%◌, ◌^◌, Bool, true, nat_le, max, List, [], ◌∷◌, ◌++◌, length, map, replicate, get_or, slice_get, slice_set, Option, None, Some, if◌then◌else◌}
+use Rattle.std.specs.Prelude.{ℕ, ◌≡◌, ◌≤◌, ◌<◌, ◌+◌, ◌/◌, ◌%◌, ◌^◌, Bool, true, ◌||◌, nat_le, nat_lt, max, List, [], ◌∷◌, ◌++◌, length, map, replicate, get_or, slice_get, slice_set, Option, None, Some, if◌then◌else◌}
 use Rattle.std.specs.Int.{div_ceil}
 use Rattle.sat_label.specs.declared.point.Point.{Point}
 use Rattle.sat_label.specs.declared.label.Kind.{Kind}
@@ -102,6 +102,10 @@ after_write s x p = record s {
 
 abbrev pub after_drain : GearSeen → GearSeen
 after_drain s = record s { drained_promise = s.promise; fresh = [] }
+
+-- a label was not drained, or the promise is above that at the last drain
+abbrev pub is_due : GearSeen → Bool
+is_due s = nat_lt 0 (length s.fresh) || nat_lt s.drained_promise s.promise
 
 -- ---- what it asks for
 

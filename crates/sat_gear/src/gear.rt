@@ -3,7 +3,7 @@ ghost use Rattle.std.specs.Prelude.{ℕ, ◌≡◌, ◌≤◌, ◌<◌, ◌↔�
 ghost use Rattle.sat_label.specs.declared.label.Kind.TheVariants.{Update, Move};
 ghost use Rattle.sat_store.specs.Stored.{is_kept};
 ghost use Rattle.sat_label.specs.Order.{point_at};
-ghost use Rattle.sat_gear.specs.Gear.{after_drain, stamp_base, drained_of, fresh_gear, is_spent, lane_to, after_move, lane_numbers, places, after_show, stamped, after_tick, version_of, after_write, IsGear, IsItemOf, IsKindHere, IsNextStamp, IsShape};
+ghost use Rattle.sat_gear.specs.Gear.{after_drain, stamp_base, drained_of, fresh_gear, is_spent, lane_to, after_move, lane_numbers, places, after_show, stamped, after_tick, version_of, after_write, IsGear, IsItemOf, IsKindHere, IsNextStamp, IsShape, is_due};
 
 use crate::lanes::Lanes;
 use crate::{GearFault, Stamped};
@@ -224,6 +224,14 @@ impl Gear {
         ensures limits { IsGear self.now }
     {
         self.lanes.at(to, number)
+    }
+
+    /// Whether a drain would take something: a label that was not drained, or a promise above the last drained one. It takes no
+    /// memory.
+    pub fn is_due(&self) -> bool
+        ensures { result ≡ is_due self.now }
+    {
+        !self.fresh.is_empty() || self.drained_promise < self.promise
     }
 
     /// What `drain` would give. It changes nothing.

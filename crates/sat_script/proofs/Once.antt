@@ -127,9 +127,6 @@ pub record Goes (d : Deployed) (all : List Kind) (words : List (List ℕ)) (xs :
   pub named : all_known d ks ws ≡ true → all_known d all words ≡ true
   pub said : (more : List Said) → all_say d t ks ws ≡ Ok more → all_say d no_tree all words ≡ Ok (xs ++ more)
 
-pub goes_start : (d : Deployed) (all : List Kind) (words : List (List ℕ)) → Goes d all words [] no_tree all words
-goes_start d all words = record { shaped = λ h. h; named = λ h. h; said = λ more h. h }
-
 pub goes_more : (d : Deployed) (all : List Kind) (words : List (List ℕ)) (xs : List Said) (t u : TreeShape) (k : Kind) (ks : List Kind) (w : List ℕ) (ws : List (List ℕ)) (a : Said)
     → Goes d all words xs t (k ∷ ks) (w ∷ ws) → IsReadWord d t k w a u → Goes d all words (xs ++ a ∷ []) u ks ws
 goes_more d all words xs t u k ks w ws a g r = record {

@@ -29,3 +29,4 @@ pub mod Sets
 pub mod Step
 pub mod Given
 pub mod Acted
+pub mod Asked

@@ -156,6 +156,15 @@ pub record BulkFits (x : SiteSeen) (from gear n : ℕ) (p : Payload) : Type 0 wh
   pub guest : IsGuest x.shape p
   pub alone : has_number (window_of x.proxy from gear) n ≡ false → waiting_at x.proxy.pool p.label.point ≡ None
 
+-- inputs of which a site can be asked whether it would do them
+abbrev pub is_asked : code.SiteInput → Bool
+is_asked input.Emit = true
+is_asked input.Pulse = true
+is_asked (input.Turn front) = true
+is_asked input.Stamp = true
+is_asked input.Advance = true
+is_asked _ = false
+
 -- inputs for which a site takes no memory
 abbrev pub takes_none : code.SiteInput → Bool
 takes_none (input.Tick g t) = true

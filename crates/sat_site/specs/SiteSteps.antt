@@ -1,6 +1,6 @@
 -- A site's step as a function: what it answers to an input, what it sends, and what it then keeps, by what it kept alone. A
 -- gear, a payload or a version that is not there leaves all as it is.
-use Rattle.std.specs.Prelude.{ℕ, zero, suc, Bool, true, false, ◌||◌, ◌==◌, max, List, length, map, slice_get, Option, Some, None, if◌then◌else◌}
+use Rattle.std.specs.Prelude.{ℕ, zero, suc, Bool, true, false, ◌&&◌, ◌||◌, ◌==◌, max, List, length, map, slice_get, Option, Some, None, is_none, if◌then◌else◌}
 use Rattle.std.specs.List.{flat_map}
 use Rattle.sat_label.specs.declared.carried.Carried.{Carried}
 use Rattle.sat_label.specs.declared.label.Kind.{Kind}
@@ -26,9 +26,10 @@ use Rattle.sat_epoch.specs.declared.views.FallFault.{FallFault}
 use Rattle.sat_epoch.specs.declared.views.FallFault.TheVariants as fall
 use Rattle.sat_epoch.specs.declared.views.AdvanceFault.{AdvanceFault}
 use Rattle.sat_epoch.specs.Epochs.{advance_fault, after_advance, close_fault, fall_fault, is_stamp}
-use Rattle.sat_proxy.specs.Steps.{advance_after, after_beat, after_bulk, has_come, stamp_after, stamp_shows, turn_after, turn_shows, turn_views}
+use Rattle.sat_proxy.specs.Steps.{advance_after, after_beat, after_bulk, has_come, stamp_after, stamp_shows, turn_after, turn_fault, turn_shows, turn_views}
 use Rattle.sat_proxy.specs.Answers.{advance_answer, attach_answer, beat_answer, bulk_answer, stamp_answer, turn_answer}
 use Rattle.sat_site.specs.Seen.{SiteSeen}
+use Rattle.sat_site.specs.Inputs.{is_front_here}
 use Rattle.sat_site.specs.Changes.{with_gear, gathered_all, sent, pulsed, closed, fell, fresh_of, gear_at, beat_for, made_for, beaten}
 
 -- whether the site keeps an item
@@ -271,3 +272,8 @@ site_after x input.Stamp = stamped_after x
 site_after x input.Close = close_after (close_fault x.views) x
 site_after x input.Fall = fall_after (fall_fault x.views) x
 site_after x input.Advance = passed_after (advance_fault x.views (has_come x.views x.proxy)) x
+
+-- whether a turn with this front is one, and does something
+abbrev pub may_turn : SiteSeen → Option Label → Bool
+may_turn x None = false
+may_turn x (Some l) = is_front_here x.shape x.views.view l && is_none (turn_fault x.views x.proxy (Some l))

@@ -1,9 +1,9 @@
 //! All gears of a site at once.
 ghost use Rattle.std.specs.Prelude.{◌≡◌, ◌≤◌, ◌<◌, ◌^◌, length, map, IfOk, OnOk, OnErr, MatchOption};
 ghost use Rattle.sat_label.specs.declared.label.Kind.TheVariants.{Move};
-ghost use Rattle.std.specs.List.{flat_map};
+ghost use Rattle.std.specs.List.{flat_map, list_any};
 ghost use Rattle.sat_label.specs.Words.{below};
-ghost use Rattle.sat_gear.specs.Gear.{after_drain, drained_of, fresh_gear, is_spent, stamped, IsGear, IsItemOf, IsShape};
+ghost use Rattle.sat_gear.specs.Gear.{after_drain, drained_of, fresh_gear, is_due, is_spent, stamped, IsGear, IsItemOf, IsShape};
 ghost use Rattle.sat_sink.specs.Pending.{labels_of};
 ghost use Rattle.sat_site.specs.Changes.{counts_of, ticked_to};
 ghost use Rattle.sat_site.specs.SiteSteps.{moved_answer, moved_gear};
@@ -110,6 +110,13 @@ pub fn counts_all(alloc: Global, drained: &[Drained]) -> Result<Vec<Counts>, All
         all.push(drain.counts.copy()?)?;
     }
     Ok(all)
+}
+
+/// Whether a drain of some gear would take something.
+pub fn any_due(gears: &[Gear]) -> bool
+    ensures { result ≡ list_any is_due gears.now }
+{
+    gears.iter().any(|gear| gear.is_due())
 }
 
 /// Makes each gear as after a drain.

@@ -1,13 +1,13 @@
 //! Sites.
 ghost use Rattle.std.specs.Prelude.{ℕ, ◌%◌, ◌*◌, ◌≡◌, ◌≢◌, ◌≤◌, ◌<◌, ◌==◌, ◌^◌, ◌&&◌, length, true, false, slice_get, Some, None, Option, IfOk, IfSome, OnOk, OnErr, IsOk, MatchOption, option_copied};
-ghost use Rattle.std.specs.List.{list_all};
+ghost use Rattle.std.specs.List.{list_all, list_any};
 ghost use Rattle.sat_label.specs.declared.label.Label.{Label};
 ghost use Rattle.sat_label.specs.Words.{below};
 ghost use Rattle.sat_sites.specs.Interested.{IsLabelOf};
 ghost use Rattle.sat_bulk.specs.Windows.{has_number};
 ghost use Rattle.sat_pool.specs.Pool.{all_waiting, waiting_at};
 ghost use Rattle.sat_epoch.specs.Epochs.{advance_fault, close_fault, fall_fault, in_stamp, is_stamp, IsEpochs};
-ghost use Rattle.sat_gear.specs.Gear.{GearSeen, IsShape};
+ghost use Rattle.sat_gear.specs.Gear.{GearSeen, IsShape, is_due};
 ghost use Rattle.sat_sink.specs.Sink.{ready_of};
 ghost use Rattle.sat_label.specs.declared.limits.TheConstants.{MOST_EPOCHS};
 ghost use Rattle.sat_act.specs.Deployed.{Deployed};
@@ -20,17 +20,17 @@ ghost use Rattle.sat_proxy.specs.Proxy.{front_at, IsProxy};
 ghost use Rattle.sat_proxy.specs.Steps.{after_beat, after_bulk, has_come};
 ghost use Rattle.sat_proxy.specs.Answers.{advance_answer, attach_answer, beat_answer, bulk_answer, stamp_answer, turn_answer};
 ghost use Rattle.sat_site.specs.Seen.{IsGuest, IsSite, SiteSeen};
-ghost use Rattle.sat_site.specs.Inputs.{fits_here, fits_in, is_beat_here, is_bulk_here, is_carried_here, is_counted, is_cut_here, is_front_here, is_gear_here, is_goal_here, is_guest_here, is_item_here, is_kept_here, is_kind_here, is_other_here, is_point_here, is_site_here, is_sized, takes_none, BulkFits, IsFront};
+ghost use Rattle.sat_site.specs.Inputs.{fits_here, fits_in, is_beat_here, is_bulk_here, is_carried_here, is_counted, is_cut_here, is_front_here, is_gear_here, is_goal_here, is_guest_here, is_item_here, is_kept_here, is_kind_here, is_other_here, is_point_here, is_site_here, is_asked, is_sized, takes_none, BulkFits, IsFront};
 ghost use Rattle.sat_site.specs.Stands.{StandsSite, payload_of};
 ghost use Rattle.sat_site.specs.Gives.{PromisesUpTo, IsOfLane};
 ghost use Rattle.sat_site.specs.Changes.{beat_for, beaten, clocked, fresh_seen, made_for, HasGear};
-ghost use Rattle.sat_site.specs.SiteSteps.{close_after, close_answer, emit_sends, fall_after, fall_answer, has_target, keeps_item, move_after, move_answer, next_close, next_pulse, passed_after, pulse_after, pulse_answer, shown_of, site_after, site_answers, site_beat, site_epoch, site_sends, stamped_after, turned_after, write_refusal};
+ghost use Rattle.sat_site.specs.SiteSteps.{close_after, close_answer, emit_sends, fall_after, fall_answer, has_target, keeps_item, may_turn, move_after, move_answer, next_close, next_pulse, passed_after, pulse_after, pulse_answer, shown_of, site_after, site_answers, site_beat, site_epoch, site_sends, stamped_after, turned_after, write_refusal};
 ghost use Rattle.sat_site.specs.Does.{Does, Reads, Writes};
 
 use crate::beats::{Made, counts_to, fresh_counts, fresh_made, points_of};
 use crate::gears::{
-    all_limits, count_labels, counts_all, drain_all, fresh_gears, limits, move_at, tick_all,
-    undrained_all, write_at,
+    all_limits, any_due, count_labels, counts_all, drain_all, fresh_gears, limits, move_at,
+    tick_all, undrained_all, write_at,
 };
 use crate::shape::{shape_of, stamp_plans};
 use crate::{SiteInput, SiteOutput, SiteView};
@@ -123,7 +123,7 @@ impl Site {
     }
 
     /// Does one act, by what it is handed, and answers it. It takes no memory for a Tick, an Emit, a Pulse, a Turn, a Stamp, an
-    /// Attach, a Close, a Fall or an Advance, nor where it answers Again or Old; for want of memory the site is as before.
+    /// Attach, a Close, a Fall or an Advance; for want of memory the site is as before.
     pub fn step(&mut self, input: SiteInput) -> Result<SiteOutput, AllocError>
         requires { fits_in self.old input ≡ true }
         ensures function { IfOk result (λ out. out.answer ≡ site_answers self.old input) }
@@ -630,6 +630,39 @@ impl Site {
         ensures { result ≡ fits_in self.now input.now }
     {
         self.fits_here(input) && self.is_sized(input)
+    }
+
+    /// Whether `step` may be handed this Emit, Pulse, Turn, Stamp or Advance, and would do it. It takes no memory.
+    pub fn can(&self, input: &SiteInput) -> bool
+        requires { is_asked input.now ≡ true }
+        ensures { result ≡ (fits_in self.now input.now && is_done (site_answers self.now input.now)) }
+    {
+        match input {
+            SiteInput::Emit => self.sink.next().is_some(),
+            SiteInput::Pulse => self.sink.pulse_ready(),
+            SiteInput::Turn { front } => self.can_turn(front),
+            SiteInput::Stamp => self.proxy.can_stamp(&self.views),
+            SiteInput::Advance => self.proxy.can_advance(&self.views),
+            _ => false,
+        }
+    }
+
+    // Whether a turn would do something, with this front.
+    fn can_turn(&self, front: &Option<Label>) -> bool
+        ensures { result ≡ may_turn self.now front.now }
+    {
+        match front {
+            None => false,
+            Some(label) => self.is_front(label) && self.proxy.can_turn(&self.views, Some(label)),
+        }
+    }
+
+    /// Whether a gather would take something: some gear has a label that was not drained, or a promise above the gathered one. It
+    /// takes no memory.
+    pub fn gather_due(&self) -> bool
+        ensures { result ≡ list_any is_due self.now.gears }
+    {
+        any_due(&self.gears)
     }
 
     // Whether an input is one that the machine of the model may be handed.
