@@ -20,6 +20,7 @@ use Rattle.sat_script.specs.declared.fault.Cause.TheVariants.{Memory, AfterEnd, 
 use Rattle.sat_script.specs.declared.fault.ScriptFault.{ScriptFault}
 use Rattle.sat_script.specs.declared.limits.TheConstants.{LONGEST_LINE, MOST_BYTES}
 use Rattle.sat_script.specs.declared.line.Parsed.{Parsed}
+use Rattle.sat_script.specs.declared.line.Parsed.TheVariants as parsed
 use Rattle.sat_script.specs.declared.line.Stage.{Stage}
 use Rattle.sat_script.specs.declared.line.Stage.TheVariants as stage
 use Rattle.sat_script.specs.declared.stream.Reading.{Reading}
@@ -303,3 +304,13 @@ found_spells live bytes found d is none has =
     let r = no_fault live bytes found is none in
     let same : r.0 ≡ d = (let e : Some r.0 ≡ Some d = sym r.1 ∙ has in cc) in
     subst (λ (d : Deployed). Spells bytes d found.acts) same r.2
+
+-- an act that is kept, or memory runs out
+pub kept_act : (old new : WholeLines) (line : List ℕ) (a : Act) (result : Result (Unit {0}) ScriptFault) → AreWhole old → old.seen.fault ≡ None → line_at old.seen.state line ≡ Ok (parsed.Act a) → new.deployment ≡ old.deployment
+    → OnOk result ((new.seen ≡ record { state = after old.seen.state (parsed.Act a); fault = old.seen.fault }) × (new.acts ≡ old.acts ++ a ∷ []))
+    → IfErr result (λ fault. (fault ≡ fault_at old.seen.state Memory) × (new.seen ≡ failed old.seen.state fault) × (new.acts ≡ old.acts))
+    → KeptLine old new line result
+kept_act old new line a (Ok x) whole none good same ok err =
+    kept_line old new line (parsed.Act a) (Ok x) whole none good (ok.0, ap (λ (d : Option Deployed). kept d new.acts) same ∙ ap (kept old.deployment) ok.1) tt
+kept_act old new line a (Err told) whole none good same ok err =
+    kept_line old new line (parsed.Act a) (Err told) whole none good tt (err.0, err.1, ap (λ (d : Option Deployed). kept d new.acts) same ∙ ap (kept old.deployment) err.2)

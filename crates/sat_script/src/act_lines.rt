@@ -11,9 +11,10 @@ ghost use Rattle.sat_script.specs.Said.{said_of, shape_of, SaysOn, Adds, begins,
 ghost use Rattle.sat_script.specs.Table.{shape, shapes, known, all_known, says, all_say, has_node, joins, edge_cause, unfit, said_act, form_line, act_line};
 ghost use Rattle.sat_script.specs.Table.{place, num, at};
 ghost use Rattle.sat_script.specs.Words.{node_in, serializer_in};
+ghost use Rattle.sat_script.specs.declared.line.Parsed.TheVariants as parsed;
 
 use crate::Cause;
-use crate::form::{Form, Kind, act_forms, found_form, kinds_of};
+use crate::form::{Form, Kind, act_forms, found_form, kinds_of, likely_form};
 use crate::header::Header;
 use crate::line::Parsed;
 use crate::nodes::{node_in, serializer_in};
@@ -382,10 +383,9 @@ fn said_act(alloc: Global, header: &Header, form: Form, said: &[Said]) -> Result
     }
 }
 
-// A line whose words may be bad: the causes in their order.
-#[inline(never)]
+// The causes in their order.
 #[tactic(auto, unfolding(crate::specs::Table::form_line))]
-fn doubtful_line(alloc: Global, place: &Place, form: Form, words: &[&[u8]]) -> Result<Act, Cause>
+fn form_line(alloc: Global, place: &Place, form: Form, words: &[&[u8]]) -> Result<Act, Cause>
     ensures { Gives result (form_line (bar place.now) place.now.header form (map (λ word. word.now) words.now)) }
 {
     let kinds = kinds_of(form);
@@ -398,20 +398,6 @@ fn doubtful_line(alloc: Global, place: &Place, form: Form, words: &[&[u8]]) -> R
     }
     let mut said = ArrayVec::new();
     all_say(place.header(), None, kinds, words, &mut said)?;
-    said_act(alloc, place.header(), form, said.as_slice())
-}
-
-// A good line is read in one go, and only another is asked for its cause.
-fn form_line(alloc: Global, place: &Place, form: Form, words: &[&[u8]]) -> Result<Act, Cause>
-    ensures { Gives result (form_line (bar place.now) place.now.header form (map (λ word. word.now) words.now)) }
-{
-    if place.admit(form).is_err() {
-        return doubtful_line(alloc, place, form, words);
-    }
-    let mut said = ArrayVec::new();
-    if !all_read(place.header(), kinds_of(form), words, &mut said) {
-        return doubtful_line(alloc, place, form, words);
-    }
     said_act(alloc, place.header(), form, said.as_slice())
 }
 
@@ -434,6 +420,33 @@ fn is_end(words: &[&[u8]]) -> bool
     match words {
         [word] => *word == b"end".as_slice(),
         _ => false,
+    }
+}
+
+/// The act that a good line says, read in one go. Where the line may be bad, and for want of memory, it says nothing.
+#[inline(always)]
+pub fn good_act(alloc: Global, place: &Place, words: &[&[u8]]) -> Option<Act>
+    ensures { IfSome result (λ act. body_line place.now (map (λ word. word.now) words.now) ≡ Ok (parsed.Act act)) }
+{
+    if is_end(words) {
+        return None;
+    }
+    let Some((word, words)) = words.split_first() else {
+        return None;
+    };
+    let Some(form) = likely_form(word, words.len()) else {
+        return None;
+    };
+    if place.admit(form).is_err() {
+        return None;
+    }
+    let mut said = ArrayVec::new();
+    if !all_read(place.header(), kinds_of(form), words, &mut said) {
+        return None;
+    }
+    match said_act(alloc, place.header(), form, said.as_slice()) {
+        Ok(act) => Some(act),
+        Err(_) => None,
     }
 }
 

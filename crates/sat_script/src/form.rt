@@ -1,5 +1,5 @@
 //! The forms of lines, and the table of the acts: the word that an act begins with, and the kinds of the words after it.
-ghost use Rattle.std.specs.Prelude.{◌≡◌, ◌≤◌, length};
+ghost use Rattle.std.specs.Prelude.{◌≡◌, ◌≤◌, length, Some, IfSome};
 ghost use Rattle.sat_script.specs.Dialect.{is_live};
 ghost use Rattle.sat_script.specs.Table.{word_of, kinds_of, act_forms, found_form};
 
@@ -156,6 +156,64 @@ pub fn found_form(word: &[u8], count: usize, forms: &[Form]) -> Option<Form>
         }
     }
     None
+}
+
+// The one form that a word with this first byte and this length, and so many words after it, can begin.
+#[inline(always)]
+fn guess(first: u8, bytes: usize, count: usize) -> Form
+    ensures { found_form (word_of result) (length (kinds_of result)) act_forms ≡ Some result }
+{
+    match count {
+        0 => match first {
+            b'c' => Form::Clock,
+            _ => Form::Settle,
+        },
+        1 => match first {
+            b't' => Form::Turn,
+            b'e' => Form::Emit,
+            b'g' => Form::Gather,
+            b'p' => Form::Pulse,
+            b's' => Form::Stamp,
+            b'l' => Form::Leave,
+            b'c' => Form::Close,
+            b'f' => Form::Fall,
+            _ => Form::Advance,
+        },
+        2 => match first {
+            b'r' => Form::Read,
+            b'm' => Form::Move,
+            b'a' => Form::Attach,
+            b'b' => Form::Beat,
+            _ => Form::Kill,
+        },
+        3 => match first {
+            b'h' => Form::Hop,
+            b't' => Form::Tick,
+            b'w' => Form::Write,
+            _ => match bytes {
+                4 => Form::Bulk,
+                _ => Form::BeatIn,
+            },
+        },
+        _ => Form::NumberedBulk,
+    }
+}
+
+/// The form of the acts that begin with a word and have so many more, found by the first byte.
+#[tactic(auto, using(crate::proofs::Once::found_by))]
+#[inline(always)]
+pub fn likely_form(word: &[u8], count: usize) -> Option<Form>
+    ensures { IfSome result (λ form. found_form word.now count act_forms ≡ Some form) }
+{
+    let Some(first) = word.first() else {
+        return None;
+    };
+    let form = guess(*first, word.len(), count);
+    if kinds_of(form).len() == count && word == word_of(form) {
+        Some(form)
+    } else {
+        None
+    }
 }
 
 /// Whether a script for nodes on threads may have lines of a form.

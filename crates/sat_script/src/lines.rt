@@ -69,6 +69,9 @@ impl Lines {
         ensures takes { MatchResult result (λ _. GoesOn self.old self.new line.now) (λ fault. StopsAt self.old self.new line.now fault) }
         ensures fit { IsFit self.new.seen.state }
     {
+        if let Some(act) = self.reader.good_act(line) {
+            return self.reader.keep_act(act, &mut self.acts);
+        }
         let parsed = match self.reader.parse(line) {
             Ok(parsed) => parsed,
             Err(cause) => return Err(self.reader.fail(cause)),
