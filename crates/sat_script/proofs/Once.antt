@@ -15,7 +15,7 @@ use Rattle.sat_act.specs.declared.act.Act.{Act}
 use Rattle.sat_script.specs.Causes.{bar, given, client_of, item_of}
 use Rattle.sat_script.specs.Grammar.{is_end, of_act, body_line}
 use Rattle.sat_script.specs.Said.{said_of, begins, IsReadWord, AreRead}
-use Rattle.sat_script.specs.Table.{Said, place, num, bytes, at, shape, known, says, shapes, all_known, all_say, in_tree, onto, no_tree, word_of, kinds_of, act_forms, found_form, said_act, form_line, act_line}
+use Rattle.sat_script.specs.Table.{Said, place, num, bytes, at, shape, known, says, shapes, all_known, all_say, in_tree, onto, no_tree, kinds_of, act_forms, found_form, said_act, form_line, act_line}
 use Rattle.sat_script.specs.State.{State}
 use Rattle.sat_script.specs.Words.{is_token, is_number, is_node, is_serializer, value_of, number_below, number_to, number_up_to, node_in, serializer_in}
 use Rattle.sat_script.specs.declared.fault.Cause.{Cause}
@@ -176,7 +176,3 @@ pub good_line : (s : State) (f : Form) (word : List ℕ) (words : List (List ℕ
     → AreRead s.header (kinds_of f) words xs → said_act s.header f (Ok xs) ≡ Ok a → body_line s (word ∷ words) ≡ Ok (parsed.Act a)
 unfolding body_line act_line
 good_line s f word words xs a going found free read said = rw (going, found) (ap of_act (read_line (bar s) s.header f words xs free read ∙ said))
-
--- a form that is found by its own word, and by as many words as it has
-pub found_by : (word : List ℕ) (n : ℕ) (f : Form) → found_form (word_of f) (length (kinds_of f)) act_forms ≡ Some f → word ≡ word_of f → length (kinds_of f) ≡ n → found_form word n act_forms ≡ Some f
-found_by word n f found is size = ap (λ (w : List ℕ). found_form w n act_forms) is ∙ ap (λ (m : ℕ). found_form (word_of f) m act_forms) (sym size) ∙ found

@@ -14,7 +14,7 @@ ghost use Rattle.sat_script.specs.Words.{node_in, serializer_in};
 ghost use Rattle.sat_script.specs.declared.line.Parsed.TheVariants as parsed;
 
 use crate::Cause;
-use crate::form::{Form, Kind, act_forms, found_form, kinds_of, likely_form};
+use crate::form::{Form, Kind, act_forms, found_form, kinds_of, quick_form};
 use crate::header::Header;
 use crate::line::Parsed;
 use crate::nodes::{node_in, serializer_in};
@@ -434,7 +434,7 @@ pub fn good_act(alloc: Global, place: &Place, words: &[&[u8]]) -> Option<Act>
     let Some((word, words)) = words.split_first() else {
         return None;
     };
-    let Some(form) = likely_form(word, words.len()) else {
+    let Some(form) = quick_form(word, words.len()) else {
         return None;
     };
     if place.admit(form).is_err() {

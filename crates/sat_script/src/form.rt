@@ -158,61 +158,57 @@ pub fn found_form(word: &[u8], count: usize, forms: &[Form]) -> Option<Form>
     None
 }
 
-// The one form that a word with this first byte and this length, and so many words after it, can begin.
+// The form of an act whose word has one more behind it.
 #[inline(always)]
-fn guess(first: u8, bytes: usize, count: usize) -> Form
-    ensures { found_form (word_of result) (length (kinds_of result)) act_forms ≡ Some result }
+fn form_of_one(word: &[u8]) -> Option<Form>
+    ensures { IfSome result (λ form. found_form word.now 1 act_forms ≡ Some form) }
 {
-    match count {
-        0 => match first {
-            b'c' => Form::Clock,
-            _ => Form::Settle,
-        },
-        1 => match first {
-            b't' => Form::Turn,
-            b'e' => Form::Emit,
-            b'g' => Form::Gather,
-            b'p' => Form::Pulse,
-            b's' => Form::Stamp,
-            b'l' => Form::Leave,
-            b'c' => Form::Close,
-            b'f' => Form::Fall,
-            _ => Form::Advance,
-        },
-        2 => match first {
-            b'r' => Form::Read,
-            b'm' => Form::Move,
-            b'a' => Form::Attach,
-            b'b' => Form::Beat,
-            _ => Form::Kill,
-        },
-        3 => match first {
-            b'h' => Form::Hop,
-            b't' => Form::Tick,
-            b'w' => Form::Write,
-            _ => match bytes {
-                4 => Form::Bulk,
-                _ => Form::BeatIn,
-            },
-        },
-        _ => Form::NumberedBulk,
+    match word {
+        [b't', b'u', b'r', b'n'] => Some(Form::Turn),
+        [b'e', b'm', b'i', b't'] => Some(Form::Emit),
+        [b'p', b'u', b'l', b's', b'e'] => Some(Form::Pulse),
+        [b's', b't', b'a', b'm', b'p'] => Some(Form::Stamp),
+        _ => found_form(word, 1, act_forms()),
     }
 }
 
-/// The form of the acts that begin with a word and have so many more, found by the first byte.
-#[tactic(auto, using(crate::proofs::Once::found_by))]
+// The form of an act whose word has two more behind it.
 #[inline(always)]
-pub fn likely_form(word: &[u8], count: usize) -> Option<Form>
+fn form_of_two(word: &[u8]) -> Option<Form>
+    ensures { IfSome result (λ form. found_form word.now 2 act_forms ≡ Some form) }
+{
+    match word {
+        [b'r', b'e', b'a', b'd'] => Some(Form::Read),
+        [b'b', b'e', b'a', b't'] => Some(Form::Beat),
+        [b'm', b'o', b'v', b'e'] => Some(Form::Move),
+        _ => found_form(word, 2, act_forms()),
+    }
+}
+
+// The form of an act whose word has three more behind it.
+#[inline(always)]
+fn form_of_three(word: &[u8]) -> Option<Form>
+    ensures { IfSome result (λ form. found_form word.now 3 act_forms ≡ Some form) }
+{
+    match word {
+        [b'h', b'o', b'p'] => Some(Form::Hop),
+        [b'b', b'u', b'l', b'k'] => Some(Form::Bulk),
+        [b't', b'i', b'c', b'k'] => Some(Form::Tick),
+        [b'w', b'r', b'i', b't', b'e'] => Some(Form::Write),
+        _ => found_form(word, 3, act_forms()),
+    }
+}
+
+/// The form of the acts that begin with a word and have so many more: the short words are told by their bytes.
+#[inline(always)]
+pub fn quick_form(word: &[u8], count: usize) -> Option<Form>
     ensures { IfSome result (λ form. found_form word.now count act_forms ≡ Some form) }
 {
-    let Some(first) = word.first() else {
-        return None;
-    };
-    let form = guess(*first, word.len(), count);
-    if kinds_of(form).len() == count && word == word_of(form) {
-        Some(form)
-    } else {
-        None
+    match count {
+        1 => form_of_one(word),
+        2 => form_of_two(word),
+        3 => form_of_three(word),
+        _ => found_form(word, count, act_forms()),
     }
 }
 

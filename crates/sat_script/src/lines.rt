@@ -64,6 +64,7 @@ impl Lines {
     }
 
     /// Takes a line, without its byte 10. Want of memory comes after every other cause, and is told at the line for which it ran out.
+    #[inline(always)]
     pub fn line(&mut self, line: &[u8]) -> Result<(), ScriptFault>
         requires fresh { self.old.seen.fault ≡ None }
         ensures takes { MatchResult result (λ _. GoesOn self.old self.new line.now) (λ fault. StopsAt self.old self.new line.now fault) }
@@ -72,6 +73,16 @@ impl Lines {
         if let Some(act) = self.reader.good_act(line) {
             return self.reader.keep_act(act, &mut self.acts);
         }
+        self.any_line(line)
+    }
+
+    // The same, where the line may be no act, or a bad one.
+    #[inline(never)]
+    fn any_line(&mut self, line: &[u8]) -> Result<(), ScriptFault>
+        requires fresh { self.old.seen.fault ≡ None }
+        ensures takes { MatchResult result (λ _. GoesOn self.old self.new line.now) (λ fault. StopsAt self.old self.new line.now fault) }
+        ensures fit { IsFit self.new.seen.state }
+    {
         let parsed = match self.reader.parse(line) {
             Ok(parsed) => parsed,
             Err(cause) => return Err(self.reader.fail(cause)),

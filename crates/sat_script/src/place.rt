@@ -98,6 +98,7 @@ impl Place {
     }
 
     #[tactic(auto, unfolding(crate::specs::Causes::has_room))]
+    #[inline(always)]
     fn has_room(&self, form: Form) -> bool
         ensures { result ≡ has_room self.now form }
     {
@@ -114,6 +115,7 @@ impl Place {
 
     /// Whether a line of a form may stand here, whatever its words say, and if not, why.
     #[tactic(auto, unfolding(crate::specs::Causes::bar))]
+    #[inline(always)]
     pub fn admit(&self, form: Form) -> Result<(), Cause>
         ensures { MatchResult result (λ _. bar self.now form ≡ None) (λ cause. bar self.now form ≡ Some cause) }
     {
