@@ -73,6 +73,7 @@ fn num_of<'a>(number: Option<u64>) -> Option<Said<'a>>
     }
 }
 
+#[inline(always)]
 #[tactic(auto, using(crate::proofs::NoTree::no_node))]
 fn node_of<'a>(tree: Option<&Tree>, word: &[u8]) -> Option<Said<'a>>
     ensures { option_map said_of result ≡ option_map at (node_in (shape_of (option_copied tree.entry)) word.now) }
@@ -86,6 +87,7 @@ fn node_of<'a>(tree: Option<&Tree>, word: &[u8]) -> Option<Said<'a>>
     }
 }
 
+#[inline(always)]
 #[tactic(auto, using(crate::proofs::NoTree::no_serializer))]
 fn serializer_of<'a>(tree: Option<&Tree>, word: &[u8]) -> Option<Said<'a>>
     ensures { option_map said_of result ≡ option_map place (serializer_in (shape_of (option_copied tree.entry)) word.now) }
@@ -215,6 +217,7 @@ fn read_epoch<'h>(header: &'h Header, word: &[u8]) -> Option<(u16, &'h Tree)>
 }
 
 // Adds what any other word says that has its shape and whose name the header has.
+#[inline(never)]
 fn read_other<'a>(
     header: &Header,
     tree: Option<&Tree>,
