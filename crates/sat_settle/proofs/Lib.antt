@@ -1,0 +1,9 @@
+pub mod Extending
+pub mod Going
+pub mod Until
+pub mod Loops
+pub mod Ranges
+pub mod Turning
+pub mod Opened
+pub mod Joining
+pub mod Settled
