@@ -1,0 +1,6 @@
+pub mod Order
+pub mod Found
+pub mod Costs
+pub mod Waymarks
+pub mod Worth
+pub mod Blocks
