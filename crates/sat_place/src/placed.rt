@@ -1,8 +1,9 @@
 //! A placement and what it is worth.
-ghost use Rattle.std.specs.Prelude.{◌≡◌};
+ghost use Rattle.std.specs.Prelude.{◌≡◌, IfOk};
 ghost use Rattle.sat_place.specs.Search.{lower_of};
 
 use sat_label::Counts;
+use std::alloc::AllocError;
 
 /// The place of each serializer of a tree, and the mismatch of the tree with these places and all delays 0.
 #[derive(Drop)]
@@ -13,13 +14,15 @@ pub struct Placed {
 
 impl Placed {
     /// The better of this and a later one: the later one only where it is lower.
-    pub(crate) fn or(self, later: Placed) -> Placed
-        ensures { result ≡ lower_of self later }
+    pub(crate) fn or(self, later: &Placed) -> Result<Placed, AllocError>
+        ensures { IfOk result (λ better. better ≡ lower_of self later.now) }
     {
         if later.mismatch < self.mismatch {
-            later
+            let places = later.places.copy()?;
+            let mismatch = later.mismatch;
+            Ok(Placed { places, mismatch })
         } else {
-            self
+            Ok(self)
         }
     }
 }

@@ -73,8 +73,11 @@ pub fn least_wide<R: Threads + Sync>(
     let ways = ways_of(alloc, d, tree)?;
     let found = blocks(rt, alloc, d, &ways, tree.serializers() - 1)?;
     let mut best = worst(alloc);
-    for block in found {
-        best = best.or(block?);
+    for block in &found {
+        match block {
+            Ok(placed) => best = best.or(placed)?,
+            Err(_) => return Err(AllocError),
+        }
     }
     Ok(best)
 }
