@@ -29,7 +29,6 @@ in_range start end n places k d from to is under =
 
 -- what the blocks are
 unfoldable pub AreBlocks : DelayTable → List Way → ℕ → List (Result Placed AllocError) → Type 0
-
 AreBlocks d ways left found = AllZip (λ place best. IfOk best (λ b. b ≡ best_from (known d ways) d.places left (place ∷ []))) (range_with_len 0 d.places) found
 
 zip_at : {A B : Type 0} (R : A → B → Type 0) (xs : List A) (ys : List B) (k : ℕ) (d : A) (e : B) → AllZip R xs ys → k < length xs → R (get_or xs k d) (get_or ys k e)

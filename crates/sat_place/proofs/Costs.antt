@@ -60,32 +60,32 @@ length-more places p = omega (arith, length-append places (p ∷ []))
 pair_step : (d : DelayTable) (places : List ℕ) (p : ℕ) (w : Way) → IsWay d w → known_cost d (places ++ p ∷ []) w ≡ known_cost d places w + added_cost d (places ++ p ∷ []) w
 pair_step d places p w is = elim (cases_lt w.last (length places)) [
   | inl under ↦
-    let a = known_yes d places w under in
-    let b = known_yes d (places ++ p ∷ []) w (let l = length-more places p in omega arith) in
-    let c = added_no d (places ++ p ∷ []) w (λ same. let l = length-more places p in omega arith) in
-    let e = cost_same d places (p ∷ []) w is under in
-    omega arith
+      let a = known_yes d places w under in
+      let b = known_yes d (places ++ p ∷ []) w (let l = length-more places p in omega arith) in
+      let c = added_no d (places ++ p ∷ []) w (λ same. let l = length-more places p in omega arith) in
+      let e = cost_same d places (p ∷ []) w is under in
+      omega arith
   | inr past ↦ elim (eq-or-lt_of_le past) [
     | inl same ↦
-      let a = known_no d places w past in
-      let b = known_yes d (places ++ p ∷ []) w (let l = length-more places p in omega arith) in
-      let c = added_yes d (places ++ p ∷ []) w (let l = length-more places p in omega arith) in
-      omega arith
+        let a = known_no d places w past in
+        let b = known_yes d (places ++ p ∷ []) w (let l = length-more places p in omega arith) in
+        let c = added_yes d (places ++ p ∷ []) w (let l = length-more places p in omega arith) in
+        omega arith
     | inr over ↦
-      let a = known_no d places w past in
-      let b = known_no d (places ++ p ∷ []) w (let l = length-more places p in omega arith) in
-      let c = added_no d (places ++ p ∷ []) w (λ same. let l = length-more places p in omega arith) in
-      omega arith
+        let a = known_no d places w past in
+        let b = known_no d (places ++ p ∷ []) w (let l = length-more places p in omega arith) in
+        let c = added_no d (places ++ p ∷ []) w (λ same. let l = length-more places p in omega arith) in
+        omega arith
   ]
 ]
 
 pair_front : (d : DelayTable) (places more : List ℕ) (w : Way) → IsWay d w → known_cost d places w ≤ known_cost d (places ++ more) w
 pair_front d places more w is = elim (cases_lt w.last (length places)) [
   | inl under ↦
-    let a = known_yes d places w under in
-    let b = known_yes d (places ++ more) w (let l = length-append places more in omega arith) in
-    let e = cost_same d places more w is under in
-    omega arith
+      let a = known_yes d places w under in
+      let b = known_yes d (places ++ more) w (let l = length-append places more in omega arith) in
+      let e = cost_same d places more w is under in
+      omega arith
   | inr past ↦ let a = known_no d places w past in omega arith
 ]
 

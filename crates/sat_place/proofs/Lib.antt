@@ -4,3 +4,4 @@ pub mod Costs
 pub mod Waymarks
 pub mod Worth
 pub mod Blocks
+pub mod Trees

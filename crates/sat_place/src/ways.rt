@@ -53,13 +53,7 @@ fn is_on_way(tree: &Tree, edge: Edge, from: u16, to: u16) -> bool
 
 // Adds the hop over an edge, if it lies on the way.
 #[tactic(auto, unfolding(crate::specs::Ways::hop_over))]
-fn add_hop(
-    hops: &mut Hops,
-    tree: &Tree,
-    edge: Edge,
-    from: u16,
-    to: u16,
-) -> Result<(), AllocError>
+fn add_hop(hops: &mut Hops, tree: &Tree, edge: Edge, from: u16, to: u16) -> Result<(), AllocError>
     requires edge { IsEdgeOf tree.now edge }
     requires from { from < length tree.now.seats }
     requires to { to < length tree.now.seats }

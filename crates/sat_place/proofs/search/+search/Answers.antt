@@ -28,11 +28,17 @@ overflow_add-sum t c =
     omega arith
 
 pub search-requires : goal.search-requires
-search-requires t c =
-    (let some = c.if-left-eq0.false in omega arith, (c.requires.ways, (
-    subst (λ xs. (z : ℕ) → z < length xs → slice_index xs z < c.args.d.now.places) (sym c.in_ok-next.ensures)
-    (placed_more c.args.front.now c.loop-place.place c.args.d.now.places (let end = c.places-place-end.ensures.places in let test = c.loop-place-test.true in omega arith) c.requires.within),
-    known_step c.args.d.now c.args.ways.now c.args.front.now c.in_ok-next.next c.loop-place.place c.args.cost c.added.result c.requires.ways c.in_ok-next.ensures c.requires.cost (c.added.ensures.added ∙ ap (added c.args.d.now c.args.ways.now) c.as_slice.ensures))))
+search-requires t c = (
+  let some = c.if-left-eq0.false in omega arith,
+  (
+    c.requires.ways,
+    (
+      subst (λ xs. (z : ℕ) → z < length xs → slice_index xs z < c.args.d.now.places) (sym c.in_ok-next.ensures)
+          (placed_more c.args.front.now c.loop-place.place c.args.d.now.places (let end = c.places-place-end.ensures.places in let test = c.loop-place-test.true in omega arith) c.requires.within),
+      known_step c.args.d.now c.args.ways.now c.args.front.now c.in_ok-next.next c.loop-place.place c.args.cost c.added.result c.requires.ways c.in_ok-next.ensures c.requires.cost (c.added.ensures.added ∙ ap (added c.args.d.now c.args.ways.now) c.as_slice.ensures),
+    ),
+  ),
+)
 
 pub loop-place-preserved : goal.loop-place-preserved
 loop-place-preserved t c =

@@ -8,8 +8,9 @@ pub collect-requires-clause-ready : goal.collect-requires-clause-ready
 collect-requires-clause-ready g c κs within =
     let ends = c.into_par_iter.ensures in
     rw (c.map.ensures.base, c.map.ensures.f) (λ k d under. (
-    (c.requires, in_range c.into_par_iter.result.start c.into_par_iter.result.end c.places-places.result c.args.d.now.places k d ends.0 ends.1 c.places-places.ensures.places under),
-    λ y known. tt))
+      (c.requires, in_range c.into_par_iter.result.start c.into_par_iter.result.end c.places-places.result c.args.d.now.places k d ends.0 ends.1 c.places-places.ensures.places under),
+      λ y known. tt,
+    ))
 
 pub returns : goal.returns
 returns g c =
