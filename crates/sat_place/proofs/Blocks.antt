@@ -1,5 +1,5 @@
 -- Blocks of placements, one for each place of the first serializer.
-use Rattle.std.proofs.Common.{ℕ, zero, suc, ◌≡◌, ◌<◌, ◌≤◌, ◌-◌, ◌+◌, List, [], ◌∷◌, length, map, get_or, Result, Ok, Err, IfOk, refl, arith, ap, ◌∙◌, sym, subst}
+use Rattle.std.proofs.Common.{ℕ, zero, suc, ◌≡◌, ◌<◌, ◌-◌, ◌+◌, List, [], ◌∷◌, length, map, get_or, Result, Ok, IfOk, refl, arith, ap, ◌∙◌, sym, subst}
 use Rattle.std.specs.List.{range_with_len, AllZip}
 use Rattle.std.specs.declared.alloc.AllocError.{AllocError}
 use Rattle.std.proofs.lemmas.List.FromFn.{get_or-range_with_len, length-range_with_len}

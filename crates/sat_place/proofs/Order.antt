@@ -1,10 +1,8 @@
 -- A tree has one least placement.
-use Rattle.std.proofs.Common.{ℕ, zero, suc, ◌≡◌, ◌<◌, ◌≤◌, ◌⊎◌, inl, inr, List, [], ◌∷◌, length, refl, arith, ap, ◌∙◌, sym}
+use Rattle.std.proofs.Common.{ℕ, ◌≡◌, ◌⊎◌, inl, inr, List, [], ◌∷◌, length, refl, arith, ap, ◌∙◌, sym}
 use Rattle.std.proofs.Math.Nat.{eq-or-lt_of_le}
 use Rattle.std.proofs.lemmas.Bool.{cases_lt}
-use Rattle.sat_tree.specs.Shape.{TreeShape}
-use Rattle.sat_delay.specs.Table.{DelayTable}
-use Rattle.sat_place.specs.Placing.{worth, Before, IsPlacing, IsLeast}
+use Rattle.sat_place.specs.Placing.{worth, Before}
 use Rattle.sat_place.specs.Laws.{LeastIsOne}
 
 -- of two lists of one length one comes before the other, or they are one

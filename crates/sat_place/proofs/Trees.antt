@@ -1,18 +1,17 @@
 -- What is read of a tree is one.
-use Rattle.std.proofs.Common.{ℕ, zero, suc, ◌≡◌, ◌<◌, ◌≤◌, ◌+◌, ◌⊎◌, inl, inr, Bool, true, false, nat_lt, if◌then◌else◌, List, [], ◌∷◌, length, map, get_or, slice_get, Option, Some, None, is_some, Result, Ok, Err, refl, arith, ap, ◌∙◌, sym, subst, add-one}
+use Rattle.std.proofs.Common.{ℕ, zero, suc, ◌≡◌, ◌<◌, ◌≤◌, ◌+◌, inl, inr, Bool, true, false, nat_lt, if◌then◌else◌, List, [], ◌∷◌, length, map, get_or, Option, Some, None, is_some, Result, Ok, Err, refl, arith, ◌∙◌, subst, add-one}
 use Rattle.std.proofs.lemmas.Bool.{cases_lt}
 use Rattle.std.proofs.lemmas.Bool.Decides.{nat_tests}
 use Rattle.std.proofs.lemmas.List.{length-map, get_or_past}
 use Rattle.std.proofs.lemmas.Option.{unwrap_or-slice_get, slice_get_past}
 use Rattle.serde_json.specs.Data.{Data}
 use Rattle.serde_json.specs.Find.{get}
-use Rattle.sat_tree.specs.Shape.{TreeShape}
 use Rattle.sat_tree.specs.Cut.{parent_of, seat_of}
 use Rattle.sat_tree.specs.Flaw.{IsSmallTree}
 use Rattle.sat_delay.specs.declared.fault.DelayFault.{DelayFault}
 use Rattle.sat_delay.specs.declared.fault.Place.{Place}
-use Rattle.sat_delay.specs.Table.{DelayTable, IsWithinLimits}
-use Rattle.sat_delay.specs.Reading.{key_name, place_at, and_then, number_at, ended, gathered, item_at}
+use Rattle.sat_delay.specs.Table.{DelayTable}
+use Rattle.sat_delay.specs.Reading.{key_name, place_at, and_then, ended, item_at}
 use Rattle.sat_delay.proofs.Gathered.{IsGathered, is_gathered}
 use Rattle.sat_delay.proofs.Shapes.{number_most}
 use Rattle.sat_place.specs.Shape.{Shape, row_number, rows_of, rows_among, own_row, seat_bound, is_list, parents_of, seats_of, tree_with, shape_with, shape_of}

@@ -1,23 +1,23 @@
 -- Hops, and what is kept of pairs.
-use Rattle.std.proofs.Common.{ℕ, zero, suc, ◌≡◌, ◌<◌, ◌≤◌, ◌+◌, ◌&&◌, ◌⊎◌, inl, inr, Bool, true, false, not, max, nat_lt, if◌then◌else◌, List, [], ◌∷◌, ◌++◌, length, map, take, get_or, refl, arith, ap, ◌∙◌, sym, add-one, length-append}
-use Rattle.std.specs.List.{All, slice_index_or}
+use Rattle.std.proofs.Common.{ℕ, zero, suc, ◌≡◌, ◌<◌, ◌≤◌, ◌+◌, ◌&&◌, inl, inr, Bool, true, false, not, max, nat_lt, if◌then◌else◌, List, [], ◌∷◌, ◌++◌, length, map, take, get_or, refl, arith, ap, ◌∙◌, sym, add-one, length-append}
+use Rattle.std.specs.List.{All}
 use Rattle.std.proofs.Math.Nat.{eq-or-lt_of_le}
-use Rattle.std.proofs.lemmas.Bool.{lt-ltb, cases_lt}
+use Rattle.std.proofs.lemmas.Bool.{lt-ltb}
 use Rattle.std.proofs.lemmas.List.{length-map, map-append, take_more, take_all}
 use Rattle.std.proofs.lemmas.List.Elements.{All-nil, All-push, All-get_or, All-from_get_or}
 use Rattle.sat_label.specs.Words.{bit}
 use Rattle.sat_label.specs.declared.node.NodeId.{NodeId}
 use Rattle.sat_label.specs.declared.node.NodeId.TheVariants.{Site, Serializer}
 use Rattle.sat_tree.specs.Shape.{TreeShape}
-use Rattle.sat_tree.specs.Cut.{beyond, seat_of, IsNode}
+use Rattle.sat_tree.specs.Cut.{beyond, seat_of}
 use Rattle.sat_tree.specs.Flaw.{IsSmallTree}
 use Rattle.sat_delay.specs.Table.{DelayTable, IsWithinLimits}
 use Rattle.sat_plan.specs.declared.edges.Edge.{Edge}
 use Rattle.sat_plan.specs.declared.pairs.Pair.{Pair}
 use Rattle.sat_plan.specs.Config.{edge_of, edges, edge_at}
-use Rattle.sat_plan.specs.Drafts.{IsEdgeOf, IsPairBelow}
-use Rattle.sat_plan.specs.Mismatch.{on_way, pair_of, pairs}
-use Rattle.sat_plan.proofs.Legs.{edge_in, edge_read, get_or_default}
+use Rattle.sat_plan.specs.Drafts.{IsPairBelow}
+use Rattle.sat_plan.specs.Mismatch.{on_way, pairs}
+use Rattle.sat_plan.proofs.Legs.{edge_read}
 use Rattle.sat_plan.proofs.Lists.{edges_few, pairs_are, pairs_few}
 use Rattle.sat_place.specs.declared.ways.Hop.{Hop}
 use Rattle.sat_place.specs.declared.ways.Way.{Way}

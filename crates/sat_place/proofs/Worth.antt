@@ -1,7 +1,6 @@
 -- What is kept of all pairs gives the mismatch, so the search finds the least placement.
-use Rattle.std.proofs.Common.{ℕ, zero, suc, ◌≡◌, ◌<◌, ◌≤◌, ◌+◌, ◌*◌, ◌⊎◌, inl, inr, Bool, true, false, max, nat_lt, if◌then◌else◌, List, [], ◌∷◌, ◌++◌, length, map, replicate, slice_index, slice_index_or, get_or, sum_by, refl, arith, ap, ◌∙◌, sym, subst}
+use Rattle.std.proofs.Common.{ℕ, zero, suc, ◌≡◌, ◌<◌, ◌≤◌, ◌+◌, Bool, true, false, max, nat_lt, if◌then◌else◌, List, [], ◌∷◌, length, map, replicate, slice_index, get_or, sum_by, refl, arith}
 use Rattle.std.specs.List.{All}
-use Rattle.std.proofs.Math.Nat.{eq-or-lt_of_le}
 use Rattle.std.proofs.lemmas.Bool.Decides.{nat_tests}
 use Rattle.std.proofs.lemmas.List.Elements.{All-nil, All-cons, All-append, All-get_or, All-from_get_or}
 use Rattle.std.proofs.lemmas.List.Sums.{sum_by-append, sum_by-cons}
@@ -10,21 +9,22 @@ use Rattle.sat_label.specs.declared.node.NodeId.TheVariants.{Site, Serializer}
 use Rattle.sat_tree.specs.Shape.{TreeShape}
 use Rattle.sat_tree.specs.Cut.{seat_of, IsNode}
 use Rattle.sat_tree.specs.Flaw.{IsSmallTree}
-use Rattle.sat_delay.specs.Table.{DelayTable, IsWithinLimits, entry}
+use Rattle.sat_delay.specs.Table.{DelayTable, IsWithinLimits}
 use Rattle.sat_plan.specs.declared.edges.Edge.{Edge}
 use Rattle.sat_plan.specs.declared.pairs.Pair.{Pair}
 use Rattle.sat_plan.specs.Sums.{sum_to}
 use Rattle.sat_plan.specs.Config.{edge_of, edges, edge_at}
-use Rattle.sat_plan.specs.Drafts.{IsEdgeOf, IsPairBelow}
+use Rattle.sat_plan.specs.Drafts.{IsEdgeOf}
 use Rattle.sat_plan.specs.Mismatch.{on_way, span, span_to, leg, access, latency, pair_cost, pairs, mismatch}
 use Rattle.sat_plan.specs.Steps.{undelayed}
-use Rattle.sat_plan.proofs.Lists.{edges_are, pairs_are}
-use Rattle.sat_plan.proofs.Measured.{sum_by-same}
+use Rattle.sat_plan.proofs.Lists.{edges_are}
 use Rattle.sat_place.specs.declared.placed.Placed.{Placed}
 use Rattle.sat_place.specs.declared.ways.Hop.{Hop}
 use Rattle.sat_place.specs.declared.ways.Way.{Way}
-use Rattle.sat_place.specs.Placing.{worth, Before, IsPlacing, IsLeast}
-use Rattle.sat_place.specs.Search.{least_from, best_from, IsFirstLeast}
+use Rattle.sat_place.specs.Placing.{worth, IsPlacing, IsLeast}
+use Rattle.sat_place.specs.Search.{least_from, best_from, least_places, IsFirstLeast}
+use Rattle.sat_place.specs.Laws.{LeastIsFound}
+use Rattle.sat_place.proofs.Order.{least_is_one}
 use Rattle.sat_place.specs.Ways.{hop_to, hop_over, hops_below, hops_of, no_hop, highest, way_of, hop_span, hops_span, way_latency, way_cost, known_cost, known}
 use Rattle.sat_place.proofs.Found.{Finds, finds}
 
@@ -140,3 +140,20 @@ is_least d t ways placed limits small is found = rw found (go (finds (known d wa
   where
     go : Finds (known d ways) d.places (length t.parents) [] → IsLeast d t (least_from (known d ways) d.places (length t.parents) []) (known d ways (least_from (known d ways) d.places (length t.parents) []))
     go all = rw all.is (found_least d t ways all.rest small is all.least)
+
+-- ---- the one that the definition finds
+
+pub least_is_found : LeastIsFound
+unfolding least_places
+least_is_found d t some = go (finds (worth d t) d.places (length t.parents) [] some)
+  where
+    go : Finds (worth d t) d.places (length t.parents) [] → IsLeast d t (least_from (worth d t) d.places (length t.parents) []) (worth d t (least_from (worth d t) d.places (length t.parents) []))
+    go all = rw all.is (record {
+      placing = record { one_each = all.least.count; within = λ z under. All-get_or (λ p. p < d.places) all.rest z 0 under all.least.within };
+      own = refl;
+      best = λ others placing. all.least.best others placing.one_each (placing_within d t others placing);
+      first = λ others placing before. all.least.first others placing.one_each (placing_within d t others placing) before;
+    })
+
+pub is_found : (d : DelayTable) (t : TreeShape) (places : List ℕ) (mismatch : ℕ) → 0 < d.places → IsLeast d t places mismatch → places ≡ least_places d t
+is_found d t places mismatch some least = (least_is_one d t places (least_places d t) mismatch (worth d t (least_places d t)) least (least_is_found d t some)).0

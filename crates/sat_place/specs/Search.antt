@@ -1,7 +1,9 @@
 -- The search through the lists of places, in lexicographic order.
 use Rattle.std.specs.Prelude.{ℕ, zero, suc, ◌≡◌, ◌<◌, ◌≤◌, nat_lt, List, [], ◌∷◌, ◌++◌, length, All, if◌then◌else◌}
+use Rattle.sat_tree.specs.Shape.{TreeShape}
+use Rattle.sat_delay.specs.Table.{DelayTable}
 use Rattle.sat_plan.specs.Sums.{least_of}
-use Rattle.sat_place.specs.Placing.{Before}
+use Rattle.sat_place.specs.Placing.{Before, worth}
 use Rattle.sat_place.specs.declared.placed.Placed.{Placed}
 
 -- the least by a measure of all lists that begin with these numbers and go on with so many below a bound: each next number is the
@@ -15,6 +17,11 @@ least_from f bound (suc n) front = least_from f bound n (front ++ least_of (λ p
 unfoldable pub best_from : (List ℕ → ℕ) → ℕ → ℕ → List ℕ → Placed
 unfolding least_from
 best_from f bound n front = record { places = least_from f bound n front; mismatch = f (least_from f bound n front) }
+
+-- the least placement of a tree at the places of a table, found so
+unfoldable pub least_places : DelayTable → TreeShape → List ℕ
+unfolding least_from worth
+least_places d t = least_from (worth d t) d.places (length t.parents) []
 
 -- a later one is taken only where it is lower
 abbrev pub lower_of : Placed → Placed → Placed

@@ -12,7 +12,7 @@ mod text;
 mod ways;
 mod wide;
 
-ghost use Rattle.sat_place.specs.Laws.{LeastIsOne};
+ghost use Rattle.sat_place.specs.Laws.{LeastIsFound, LeastIsOne};
 
 pub use narrow::least;
 pub use placed::Placed;
@@ -20,8 +20,12 @@ pub use shape::{Shaped, read_shape};
 pub use text::{write_placed, write_shape_fault};
 pub use wide::least_wide;
 
-/// A tree has one least placement.
+/// A tree has one least placement, and it is the one that the definition finds.
 #[tactic(auto, using(crate::proofs::Order::least_is_one))]
 pub fn place_laws()
-    ensures { LeastIsOne }
+    ensures one { LeastIsOne }
+    ensures found { LeastIsFound }
 {}
+
+#[cfg(test)]
+mod tests;

@@ -1,6 +1,7 @@
 //! The least placement, on one thread.
 ghost use Rattle.std.specs.Prelude.{◌≡◌, ◌≤◌, length, IfOk};
 ghost use Rattle.sat_place.specs.Placing.{IsLeast};
+ghost use Rattle.sat_place.specs.Search.{least_places};
 
 use crate::Placed;
 use crate::search::best_from;
@@ -17,7 +18,8 @@ pub fn least(alloc: Global, d: &Delays, tree: &Tree) -> Result<Placed, AllocErro
     requires seats { length tree.now.seats ≡ d.now.sites }
     requires serializers { length tree.now.parents ≤ 6 }
     requires places { d.now.places ≤ 8 }
-    ensures { IfOk result (λ placed. IsLeast d.now tree.now placed.places placed.mismatch) }
+    ensures least { IfOk result (λ placed. IsLeast d.now tree.now placed.places placed.mismatch) }
+    ensures found { IfOk result (λ placed. placed.places ≡ least_places d.now tree.now) }
 {
     let ways = ways_of(alloc, d, tree)?;
     let none = Counts::new(alloc);

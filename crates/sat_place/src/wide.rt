@@ -2,7 +2,7 @@
 ghost use Rattle.std.specs.Prelude.{◌≡◌, ◌≤◌, ◌<◌, ◌-◌, ℕ, [], ◌∷◌, length, map, IfOk};
 ghost use Rattle.std.specs.List.{AllZip, range_with_len};
 ghost use Rattle.sat_place.specs.Placing.{IsLeast};
-ghost use Rattle.sat_place.specs.Search.{best_from};
+ghost use Rattle.sat_place.specs.Search.{best_from, least_places};
 ghost use Rattle.sat_place.specs.Ways.{known, AreWays};
 
 use crate::Placed;
@@ -68,7 +68,8 @@ pub fn least_wide<R: Threads + Sync>(
     requires seats { length tree.now.seats ≡ d.now.sites }
     requires serializers { length tree.now.parents ≤ 6 }
     requires places { d.now.places ≤ 8 }
-    ensures { IfOk result (λ placed. IsLeast d.now tree.now placed.places placed.mismatch) }
+    ensures least { IfOk result (λ placed. IsLeast d.now tree.now placed.places placed.mismatch) }
+    ensures found { IfOk result (λ placed. placed.places ≡ least_places d.now tree.now) }
 {
     let ways = ways_of(alloc, d, tree)?;
     let found = blocks(rt, alloc, d, &ways, tree.serializers() - 1)?;

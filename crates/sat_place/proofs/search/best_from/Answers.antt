@@ -1,5 +1,4 @@
-use Rattle.std.proofs.Common.{◌≡◌, ◌∙◌, ap, sym}
-use Rattle.sat_place.specs.declared.placed.Placed.{Placed}
+use Rattle.std.proofs.Common.{ap}
 use Rattle.sat_place.specs.Ways.{known}
 use Rattle.sat_place.proofs.Costs.{known_small}
 use Rattle.sat_place.proofs.Found.{worst_yields}

@@ -1,4 +1,4 @@
-use Rattle.std.proofs.Common.{arith, ap, ◌∙◌, length, subst}
+use Rattle.std.proofs.Common.{arith, ap, length, subst}
 use Rattle.sat_place.proofs.Trees.{AreSeats, parents_are, seats_are, small_tree}
 use Rattle.sat_place.proofs.shape.tree_in.Goals as goal
 
