@@ -33,7 +33,8 @@ fn block(
     Ok(best)
 }
 
-// For each place of the first serializer the best, in order, from as many threads as there are processors.
+// For each place of the first serializer the best, in order, from as many threads as there are processors. Each place is worth a
+// thread.
 fn blocks<R: Threads + Sync>(
     rt: &R,
     alloc: Global,
@@ -48,6 +49,7 @@ fn blocks<R: Threads + Sync>(
     let places = d.places() as usize;
     (0..places)
         .into_par_iter()
+        .with_min_len(1)
         .map(
             |place: usize| -> Result<Placed, AllocError>
                 requires { AreWays d.now ways.now × (place < d.now.places) }
