@@ -36,8 +36,7 @@ impl<M: Machine, N: Names> Model for Held<M, N> {
 }
 
 impl<M: Machine, N: Names> Held<M, N> {
-    /// A node with an empty journal and the ends of its links, which carried nothing: those that a node of its name has, in their
-    /// order.
+    /// A node with an empty journal and the ends that a node of its name has, in their order. Their links carried nothing.
     pub fn new(node: Node<M>, outs: Vec<Out<N>>, ins: Vec<In<N>>) -> Held<M, N>
         requires node { node.entries ≡ [] }
         requires outs { Each outs.items (λ k o. (o.link.sent ≡ []) × (o.next ≡ 0) × (o.payloads ≡ []) × (o.beats ≡ 0)) }
@@ -48,8 +47,7 @@ impl<M: Machine, N: Names> Held<M, N> {
         Held { node, outs, ins }
     }
 
-    /// The node: its name, its machine and its journal. Whoever sees a node under its lock may rely on what ties its journal to its
-    /// links.
+    /// The node: its name, its machine and its journal, with what ties its journal to its links.
     pub fn node(&self) -> &Node<M>
         ensures node { result.now ≡ self.now.node }
         ensures tied { Tied M.meaning self.now }
@@ -78,6 +76,16 @@ impl<M: Machine, N: Names> Held<M, N> {
         match self.ins.get(link) {
             Some(end) => end.front(),
             None => None,
+        }
+    }
+
+    // The number of a link's front, 0 where there is none.
+    fn heard(&self, link: usize) -> u64
+        ensures { result ≡ number_of (front_at self.now.ins link) }
+    {
+        match self.front(link) {
+            Some(front) => front.lamport,
+            None => 0,
         }
     }
 
@@ -160,7 +168,7 @@ impl<M: Machine, N: Names> Held<M, N> {
         ensures ins { OnOk result (OnlyAt link Cleared self.old.ins self.new.ins) }
         ensures err { OnErr result (self.new.ins ≡ self.old.ins) }
     {
-        let heard = heard_at(self.ins.as_slice(), link);
+        let heard = self.heard(link);
         let result = self.node.take(heard, input, copy);
         if result.is_err() {
             return result;
@@ -168,15 +176,5 @@ impl<M: Machine, N: Names> Held<M, N> {
         let end = &mut self.ins[link];
         end.clear();
         result
-    }
-}
-
-// The number of a link's front, 0 where there is none.
-fn heard_at<N: Names>(ins: &[In<N>], link: usize) -> u64
-    ensures { result ≡ number_of (front_at ins.now link) }
-{
-    match ins.get(link) {
-        Some(end) => end.heard(),
-        None => 0,
     }
 }

@@ -44,32 +44,11 @@ impl<N: Names> In<N> {
         }
     }
 
-    /// Its place in the list of wires.
-    pub fn place(&self) -> usize
-        ensures place { result ≡ self.now.place }
-        ensures wire { slice_get N.wires self.now.place ≡ Some self.now.link.wire }
-    {
-        self.place
-    }
-
     /// The envelope in front, which was popped and not yet taken, if there is one.
     pub fn front(&self) -> Option<&Envelope>
         ensures { MatchOption result (self.now.front ≡ None) (λ e. self.now.front ≡ Some e.now) }
     {
-        match &self.front {
-            Some(front) => Some(front),
-            None => None,
-        }
-    }
-
-    /// The number of the front, 0 where there is none.
-    pub(crate) fn heard(&self) -> u64
-        ensures { result ≡ number_of self.now.front }
-    {
-        match &self.front {
-            Some(front) => front.lamport,
-            None => 0,
-        }
+        self.front.as_ref()
     }
 
     /// Pops the next envelope as the front. Where a front is kept, nothing changes.
@@ -88,22 +67,13 @@ impl<N: Names> In<N> {
         self.front = None;
     }
 
-    // Whether there is a front that may be passed over: a payload or a beat.
-    fn passes(&self) -> bool
-        ensures { result ≡ passes self.now.front }
-    {
-        match &self.front {
-            Some(front) => front.body.passes(),
-            None => false,
-        }
-    }
-
     /// Passes over a payload or a beat in front. False where there is none, and then nothing changes.
     pub(crate) fn pass_over(&mut self) -> bool
         ensures { PassedOver result self.old self.new }
     {
-        if !self.passes() {
-            return false;
+        match &self.front {
+            Some(front) if front.body.passes() => {}
+            _ => return false,
         }
         self.clear();
         true
@@ -116,7 +86,7 @@ pub(crate) fn compare_ends<N: Names>(out: &mut Out<N>, into: &mut In<N>) -> bool
     ensures place { IsTrue result ↔ (out.old.place ≡ into.old.place) }
     ensures prefix { IsTrue result → IsPrefix into.old.link.received out.old.link.sent }
 {
-    if out.place() != into.place {
+    if out.place != into.place {
         return false;
     }
     compare(&mut out.link, &mut into.link);

@@ -102,25 +102,6 @@ pub enum Made {
     Beat(Beat),
 }
 
-impl Made {
-    /// The same again.
-    pub fn copy(&self) -> Result<Made, AllocError>
-        ensures { IfOk result (λ made. made ≡ self.now) }
-    {
-        match self {
-            Made::Label(label) => Ok(Made::Label(*label)),
-            Made::Payload { gear, payload } => {
-                let payload = payload.copy()?;
-                Ok(Made::Payload {
-                    gear: *gear,
-                    payload,
-                })
-            }
-            Made::Beat(beat) => Ok(Made::Beat(beat.copy()?)),
-        }
-    }
-}
-
 /// A message on its way, with the Lamport number of the entry that put it there.
 #[derive(Drop)]
 pub struct Envelope {

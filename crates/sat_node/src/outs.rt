@@ -32,7 +32,7 @@ impl Names for Brand {
 /// that it sent, which are the numbers of the next ones.
 #[derive(Drop)]
 pub struct Out<N: Names> {
-    place: usize,
+    pub(crate) place: usize,
     pub(crate) link: LinkIn<Envelope>,
     next: usize,
     payloads: Vec<u64>,
@@ -65,14 +65,6 @@ impl<N: Names> Out<N> {
             beats: 0,
             of: PhantomData,
         }
-    }
-
-    /// Its place in the list of wires.
-    pub fn place(&self) -> usize
-        ensures place { result ≡ self.now.place }
-        ensures wire { slice_get N.wires self.now.place ≡ Some self.now.link.wire }
-    {
-        self.place
     }
 
     /// How many entries of the journal it went through.

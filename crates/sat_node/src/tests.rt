@@ -31,7 +31,15 @@ fn copy_made(made: &Option<Made>) -> Result<Option<Made>, AllocError>
     ensures { IfOk result (λ copy. copy ≡ made.now) }
 {
     match made {
-        Some(made) => Ok(Some(made.copy()?)),
+        Some(Made::Label(label)) => Ok(Some(Made::Label(*label))),
+        Some(Made::Payload { gear, payload }) => {
+            let payload = payload.copy()?;
+            Ok(Some(Made::Payload {
+                gear: *gear,
+                payload,
+            }))
+        }
+        Some(Made::Beat(beat)) => Ok(Some(Made::Beat(beat.copy()?))),
         None => Ok(None),
     }
 }

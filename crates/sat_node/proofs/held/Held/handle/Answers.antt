@@ -9,7 +9,7 @@ use Rattle.sat_node.proofs.held.Held.handle.Goals as goal
 pub invariant_of-self : goal.invariant_of-self
 invariant_of-self g c =
     let inside = c.self.inside in
-    tied_failed g.M.Machine.meaning c.take-result.result c.heard_at-heard.result c.args.input (g.M.Machine.may_fail inside.node.machine c.args.input)
+    tied_failed g.M.Machine.meaning c.take-result.result c.heard-heard.result c.args.input (g.M.Machine.may_fail inside.node.machine c.args.input)
     (record { node = inside.node; outs = inside.outs.items; ins = inside.ins.items }) (record { node = c.take-result.new.self; outs = inside.outs.items; ins = inside.ins.items })
     (sym c.if-is_err.ensures.value) c.self.invariant c.take-result.ensures.takes refl refl
 
@@ -30,7 +30,7 @@ invariant_of-self-2 g c =
     let was = c.index_mut-end.result.now in
     let at : slice_get ends c.args.link ≡ Some was = slice_get_read ends (length ends) c.args.link was refl (front_there ends c.args.link e front) c.index_mut-end.ensures.value in
     let is : was.front ≡ Some e = front_is ends c.args.link was e at front in
-    let heard : c.heard_at-heard.result ≡ number_of was.front = c.heard_at-heard.ensures ∙ (ap (λ l. number_of (front_at l c.args.link)) c.as_slice.ensures.value ∙ ap number_of (front ∙ sym is)) in
+    let heard : c.heard-heard.result ≡ number_of was.front = c.heard-heard.ensures ∙ ap number_of (c.requires.front.1 ∙ sym is) in
     tied_handle m c.take-result.result c.args.input may
     (record { node = inside.node; outs = inside.outs.items; ins = ends }) (record { node = c.take-result.new.self; outs = inside.outs.items; ins = _ })
     c.args.link was c.clear.new.self e (sym c.if-is_err.ensures.value) c.self.invariant is
