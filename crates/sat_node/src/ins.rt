@@ -1,7 +1,7 @@
 //! The receiving end of a link, which lies under a node's lock.
 ghost use Rattle.std.specs.Prelude.{◌≡◌, ◌<◌, Some, None, slice_get, IsTrue, MatchOption, ◌↔◌};
 ghost use mathlib.Core.List.{IsPrefix};
-ghost use Rattle.sat_node.specs.Links.{number_of, passes, Pulled, Cleared, PassedOver};
+ghost use Rattle.sat_node.specs.Links.{Pulled, Cleared, PassedOver};
 
 use crate::kept::Envelope;
 use crate::outs::{Names, Out};
