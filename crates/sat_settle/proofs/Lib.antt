@@ -1,0 +1,10 @@
+pub mod LoadDraws
+pub mod LoadLists
+pub mod LoadTexts
+pub mod LoadTrees
+pub mod LoadFlawless
+pub mod LoadSteps
+pub mod LoadWorked
+pub mod LoadRanges
+pub mod LoadCount
+pub mod LoadReadable

@@ -1,0 +1,4 @@
+pub mod LoadDraws
+pub mod LoadHeader
+pub mod LoadActs
+pub mod Load
