@@ -209,7 +209,6 @@ fn faults(rt: HostRuntime) -> Result<(), Fail> {
         (Cause::NotText, "line 9: NotText\n"),
         (Cause::BadHeader, "line 9: BadHeader\n"),
         (Cause::BadAct, "line 9: BadAct\n"),
-        (Cause::Unbuilt, "line 9: Unbuilt\n"),
         (Cause::NotLive, "line 9: NotLive\n"),
         (Cause::TooMany, "line 9: TooMany\n"),
         (Cause::SameName, "line 9: SameName\n"),

@@ -10,7 +10,7 @@ use Rattle.sat_script.specs.Grammar.{line_at, after, is_ended}
 use Rattle.sat_script.specs.Kept.{IsFit, IsWhole, HasHeader, HasSaid, AreWhole}
 use Rattle.sat_script.specs.Laws.{IsRead}
 use Rattle.sat_script.specs.Lines.{running, failed}
-use Rattle.sat_script.specs.Reading.{reading, AreBuiltActs, with_line, told_line, fault_at, stopped, bad}
+use Rattle.sat_script.specs.Reading.{reading, AreActsOf, with_line, told_line, fault_at, stopped, bad}
 use Rattle.sat_script.specs.Spelled.{Spells}
 use Rattle.sat_script.specs.State.{State, Seen, number_of}
 use Rattle.sat_script.specs.Stream.{WholeLines, Came, means, will_be, bytes_of, known_fault, kept, meaning, stopped_at, stuck_with, GoesOn, StopsAt, HasTaken, HasStopped, TakesPiece, goes_on}
@@ -52,13 +52,13 @@ bad_stops old new line told cause e is none bad = record {
       ∙ sym (fresh old.seen (kept old.deployment old.acts) line (10 ∷ more) none);
 }
 
-whole_said : (dialect : Dialect) (here : Stage) (d : Deployed) (deployment : Option Deployed) (acts : List Act) → HasHeader here d → HasSaid dialect here d deployment acts → IfSome deployment (λ d. IsWhole d × AreBuiltActs d acts) × (deployment ≡ None → acts ≡ [])
-whole_said dialect stage.Start d deployment acts kept h = (subst (λ (o : Option Deployed). IfSome o (λ d. IsWhole d × AreBuiltActs d acts)) (sym h.0) tt, λ _. h.1)
-whole_said dialect stage.Sites d deployment acts kept h = (subst (λ (o : Option Deployed). IfSome o (λ d. IsWhole d × AreBuiltActs d acts)) (sym h.0) tt, λ _. h.1)
-whole_said dialect stage.Gears d deployment acts kept h = (subst (λ (o : Option Deployed). IfSome o (λ d. IsWhole d × AreBuiltActs d acts)) (sym h.0) tt, λ _. h.1)
-whole_said dialect stage.Header d deployment acts kept h = (subst (λ (o : Option Deployed). IfSome o (λ d. IsWhole d × AreBuiltActs d acts)) (sym h.0) tt, λ _. h.1)
-whole_said dialect stage.Body d deployment acts kept h = (subst (λ (o : Option Deployed). IfSome o (λ d. IsWhole d × AreBuiltActs d acts)) (sym h.0) (kept, h.1), λ e. absurd (let never : Some d ≡ None = sym h.0 ∙ e in cc))
-whole_said dialect stage.Ended d deployment acts kept h = (subst (λ (o : Option Deployed). IfSome o (λ d. IsWhole d × AreBuiltActs d acts)) (sym h.0) (kept, h.1), λ e. absurd (let never : Some d ≡ None = sym h.0 ∙ e in cc))
+whole_said : (dialect : Dialect) (here : Stage) (d : Deployed) (deployment : Option Deployed) (acts : List Act) → HasHeader here d → HasSaid dialect here d deployment acts → IfSome deployment (λ d. IsWhole d × AreActsOf d acts) × (deployment ≡ None → acts ≡ [])
+whole_said dialect stage.Start d deployment acts kept h = (subst (λ (o : Option Deployed). IfSome o (λ d. IsWhole d × AreActsOf d acts)) (sym h.0) tt, λ _. h.1)
+whole_said dialect stage.Sites d deployment acts kept h = (subst (λ (o : Option Deployed). IfSome o (λ d. IsWhole d × AreActsOf d acts)) (sym h.0) tt, λ _. h.1)
+whole_said dialect stage.Gears d deployment acts kept h = (subst (λ (o : Option Deployed). IfSome o (λ d. IsWhole d × AreActsOf d acts)) (sym h.0) tt, λ _. h.1)
+whole_said dialect stage.Header d deployment acts kept h = (subst (λ (o : Option Deployed). IfSome o (λ d. IsWhole d × AreActsOf d acts)) (sym h.0) tt, λ _. h.1)
+whole_said dialect stage.Body d deployment acts kept h = (subst (λ (o : Option Deployed). IfSome o (λ d. IsWhole d × AreActsOf d acts)) (sym h.0) (kept, h.1), λ e. absurd (let never : Some d ≡ None = sym h.0 ∙ e in cc))
+whole_said dialect stage.Ended d deployment acts kept h = (subst (λ (o : Option Deployed). IfSome o (λ d. IsWhole d × AreActsOf d acts)) (sym h.0) (kept, h.1), λ e. absurd (let never : Some d ≡ None = sym h.0 ∙ e in cc))
 
 pub good_goes : (old new : WholeLines) (line : List ℕ) (p : Parsed) → AreWhole old → old.seen.fault ≡ None → line_at old.seen.state line ≡ Ok p
     → new.seen ≡ running (after old.seen.state p) → kept new.deployment new.acts ≡ with_line (kept old.deployment old.acts) (told_line old.seen.state.header p) → GoesOn old new line

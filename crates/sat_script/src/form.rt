@@ -1,11 +1,9 @@
 //! The forms of lines, and the table of the acts: the word that an act begins with, and the kinds of the words after it.
 ghost use Rattle.std.specs.Prelude.{◌≡◌, ◌≤◌, length};
-ghost use Rattle.sat_script.specs.Causes.{is_built};
 ghost use Rattle.sat_script.specs.Dialect.{is_live};
 ghost use Rattle.sat_script.specs.Table.{word_of, kinds_of, act_forms, found_form};
 
-/// The form of a line whose number is limited, or that may not be built yet: of the header's lines those that come any number of
-/// times, and each act.
+/// The form of a line whose number is limited: of the header's lines those that come any number of times, and each act.
 #[derive(Clone, Copy, Debug, PartialEq, Eq)]
 pub enum Form {
     /// `item NAME LIST`
@@ -158,17 +156,6 @@ pub fn found_form(word: &[u8], count: usize, forms: &[Form]) -> Option<Form>
         }
     }
     None
-}
-
-/// Whether lines of a form may be used today: all but `settle`.
-#[tactic(auto, unfolding(crate::specs::Causes::is_built))]
-pub fn is_built(form: Form) -> bool
-    ensures { result ≡ is_built form }
-{
-    match form {
-        Form::Settle => false,
-        _ => true,
-    }
 }
 
 /// Whether a script for nodes on threads may have lines of a form.

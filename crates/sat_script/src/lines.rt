@@ -3,7 +3,7 @@ ghost use Rattle.std.specs.Prelude.{◌≡◌, ◌≤◌, ◌↔◌, IsTrue, len
 ghost use Rattle.sat_act.specs.Limits.{IsDeployment};
 ghost use Rattle.sat_script.specs.Kept.{IsFit};
 ghost use Rattle.sat_script.specs.Lines.{running};
-ghost use Rattle.sat_script.specs.Reading.{AreBuiltActs, fault_at};
+ghost use Rattle.sat_script.specs.Reading.{AreActsOf, fault_at};
 ghost use Rattle.sat_script.specs.Spelled.{HaveNames};
 ghost use Rattle.sat_script.specs.Dialect.{dialect_of};
 ghost use Rattle.sat_script.specs.State.{start};
@@ -80,7 +80,7 @@ impl Lines {
     /// What the text is that came, where these bytes, none of them 10, stood after the last line. It takes no memory.
     pub fn finish(self, rest: &[u8]) -> Reading
         ensures means { result ≡ means self rest.now [] }
-        ensures built { IfSome result.deployment (λ d. IsDeployment d × HaveNames d × AreBuiltActs d result.acts) }
+        ensures sound { IfSome result.deployment (λ d. IsDeployment d × HaveNames d × AreActsOf d result.acts) }
         ensures none { result.deployment ≡ None → result.acts ≡ [] }
         ensures few { length result.acts ≤ MOST_ACTS }
     {

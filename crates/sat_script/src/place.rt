@@ -8,7 +8,7 @@ ghost use Rattle.sat_script.specs.Reading.{told_line};
 ghost use Rattle.sat_script.specs.Kept.{IsFit};
 ghost use Rattle.sat_script.specs.declared.line.Parsed.TheVariants as parsed;
 
-use crate::form::{Form, is_built};
+use crate::form::Form;
 use crate::header::Header;
 use crate::limits::MOST_PLANS;
 use crate::line::{Line, Parsed, Stage};
@@ -117,9 +117,6 @@ impl Place {
     pub fn admit(&self, form: Form) -> Result<(), Cause>
         ensures { MatchResult result (λ _. bar self.now form ≡ None) (λ cause. bar self.now form ≡ Some cause) }
     {
-        if !is_built(form) {
-            return Err(Cause::Unbuilt);
-        }
         if !self.dialect.has(form) {
             return Err(Cause::NotLive);
         }
