@@ -7,4 +7,4 @@ pub mod LoadSteps
 pub mod LoadWorked
 pub mod LoadRanges
 pub mod LoadCount
-pub mod LoadReadable
+pub mod LoadSpelled

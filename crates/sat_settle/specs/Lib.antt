@@ -1,4 +1,3 @@
 pub mod LoadDraws
 pub mod LoadHeader
 pub mod LoadActs
-pub mod Load

@@ -1,6 +1,6 @@
 //! A large script.
 ghost use Rattle.std.specs.Prelude.{◌≡◌, ◌≤◌, ◌+◌, ◌++◌, length, IfOk, OnOk};
-ghost use Rattle.sat_settle.specs.Load.{IsReadable};
+ghost use Rattle.sat_script.specs.Spelled.{Spells, spelling};
 ghost use Rattle.sat_settle.specs.LoadActs.{MadeActs, closes, with_act, made_acts, load_acts};
 ghost use Rattle.sat_settle.specs.LoadHeader.{load_deployment};
 
@@ -62,13 +62,13 @@ fn acts(alloc: Global, d: &Deployment, seed: u64, count: u32) -> Result<Acts, Al
 /// The script of a seed and of `count` acts that are drawn, from 2 on: writes, reads, moves, attaches, ticks, gathers, emits,
 /// pulses, hops, bulks and turns of 5 sites, in their middle every site's `close`, and last `settle`. It is one that `read_script`
 /// takes, with `count` + 6 acts.
-#[tactic(auto, using(crate::proofs::LoadReadable::load_readable, crate::proofs::LoadCount::acts_counted))]
+#[tactic(auto, using(crate::proofs::LoadSpelled::load_spelled, crate::proofs::LoadCount::acts_counted))]
 pub fn load(alloc: Global, seed: u64, count: u32) -> Result<Script, AllocError>
     requires some { 2 ≤ count }
     requires few { count ≤ MOST_LOADED }
     ensures deployment { IfOk result (λ script. script.deployment ≡ load_deployment) }
     ensures acts { IfOk result (λ script. script.acts ≡ load_acts seed count) }
-    ensures readable { IsReadable load_deployment (load_acts seed count) }
+    ensures spelled { Spells (spelling load_deployment (load_acts seed count)) load_deployment (load_acts seed count) }
     ensures count { length (load_acts seed count) ≡ count + 6 }
 {
     let deployment = deployment(alloc)?;
