@@ -1,4 +1,4 @@
--- What each deployment meets.
+-- What each deployment and each act of it meet.
 use Rattle.std.specs.Prelude.{◌≡◌, ℕ, Option, Some, None, slice_get}
 use Rattle.std.proofs.Common.{ap}
 use Rattle.sat_act.specs.declared.act.Act.{Act}

@@ -1,12 +1,7 @@
--- The acts that a world does, and those that take no memory.
+-- The acts that take no memory.
 use Rattle.std.specs.Prelude.{Bool, true, false}
 use Rattle.sat_act.specs.declared.act.Act.{Act}
 use Rattle.sat_act.specs.declared.act.Act.TheVariants as act
-
--- all acts but a settle
-abbrev pub is_built_act : Act → Bool
-is_built_act act.Settle = false
-is_built_act _ = true
 
 -- acts that take no memory
 abbrev pub takes_none : Act → Bool
