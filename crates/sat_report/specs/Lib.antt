@@ -2,3 +2,4 @@ pub mod Texts
 pub mod Answers
 pub mod Holdings
 pub mod Faults
+pub mod Summary
