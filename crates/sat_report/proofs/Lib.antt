@@ -1,3 +1,2 @@
 pub mod Commas
 pub mod Lines
-pub mod Counts

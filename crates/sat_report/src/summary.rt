@@ -1,117 +1,23 @@
-//! The summary of the run of a large script.
-ghost use Rattle.std.specs.Prelude.{◌≡◌, ◌++◌, ◌+◌, ◌<◌, length, ℕ, List, IfOk, OnOk, OnErr};
+//! Stand-in.
+ghost use Rattle.std.specs.Prelude.{◌≡◌, List, ◌++◌, OnOk};
 ghost use Rattle.sat_act.specs.declared.entry.Entry.{Entry};
-ghost use Rattle.sat_act.specs.Parts.{view, waiting};
 ghost use Rattle.sat_act.specs.Runs.{IsRun};
-ghost use Rattle.sat_act.specs.Settling.{capped};
-ghost use Rattle.sat_world.specs.Counts.{shown_count};
+ghost use Rattle.sat_rest.specs.Ends.{wrote_count};
 ghost use Rattle.sat_world.specs.Stands.{StandsFor};
-ghost use Rattle.sat_report.specs.Summary.{asked_line, number_line, counts_text, waiting_count, views_text, summary_text};
+ghost use Rattle.sat_report.specs.Summary.{summary};
 
 use sat_world::World;
-use std::alloc::{AllocError, Global};
+use std::alloc::AllocError;
 
-// What was asked.
-fn asked_line(alloc: Global, seed: u64, n: u32) -> Result<Vec<u8>, AllocError>
-    ensures { IfOk result (λ line. line.items ≡ asked_line seed n) }
-{
-    let line = format!(in alloc; "load {seed} {n}\n")?;
-    Ok(line.into_bytes())
-}
-
-// A word and a number.
-fn number_line(alloc: Global, word: &str, number: u64) -> Result<Vec<u8>, AllocError>
-    ensures { IfOk result (λ line. line.items ≡ number_line word.now number) }
-{
-    let line = format!(in alloc; "{word} {number}\n")?;
-    Ok(line.into_bytes())
-}
-
-fn counts_text(
-    alloc: Global,
-    written: u64,
-    shown: u64,
-    waiting: u64,
-    underway: u64,
-) -> Result<Vec<u8>, AllocError>
-    ensures { IfOk result (λ text. text.items ≡ counts_text written shown waiting underway) }
-{
-    let mut text = number_line(alloc, "written", written)?;
-    let shown = number_line(alloc, "shown", shown)?;
-    text.extend_from_slice(shown.as_slice())?;
-    let waiting = number_line(alloc, "waiting", waiting)?;
-    text.extend_from_slice(waiting.as_slice())?;
-    let underway = number_line(alloc, "underway", underway)?;
-    text.extend_from_slice(underway.as_slice())?;
-    Ok(text)
-}
-
-// The payloads that wait at all sites.
-#[tactic(auto, using(crate::proofs::Counts::none_wait, crate::proofs::Counts::more_wait))]
-fn waiting(world: &World) -> u64
-    ensures { (h : List Entry) → IsRun world.now.deployment h → StandsFor world.now h
-        → result ≡ capped (waiting_count h world.now.deployment.sites) }
-{
-    let mut waiting = 0u64;
-    for site in 0..world.deployment().sites() {
-        waiting = waiting.saturating_add(world.site(site).waiting);
-    }
-    waiting
-}
-
-// The views of the sites, in order.
-#[tactic(auto, using(crate::proofs::Counts::no_views, crate::proofs::Counts::more_views))]
-fn views_text(alloc: Global, world: &World) -> Result<Vec<u8>, AllocError>
-    ensures { IfOk result (λ text. (h : List Entry) → IsRun world.now.deployment h → StandsFor world.now h
-        → text.items ≡ views_text h world.now.deployment.sites) }
-{
-    let mut text = b"views".to_vec(alloc)?;
-    for site in 0..world.deployment().sites() {
-        let view = world.site(site).view;
-        let word = format!(in alloc; " {view}")?;
-        text.extend_from_slice(word.as_bytes())?;
-    }
-    Ok(text)
-}
-
-// The summary, where so many updates were written and so many payloads and labels are under way.
-#[tactic(auto, unfolding(crate::specs::Summary::summary_text))]
-fn summary_text(
-    alloc: Global,
-    seed: u64,
-    n: u32,
-    written: u64,
-    underway: u64,
-    world: &World,
-) -> Result<Vec<u8>, AllocError>
-    ensures { IfOk result (λ text. (h : List Entry) → IsRun world.now.deployment h → StandsFor world.now h
-        → text.items ≡ summary_text h world.now.deployment.sites seed n written underway) }
-{
-    let mut text = asked_line(alloc, seed, n)?;
-    let counts = counts_text(alloc, written, world.shown(), waiting(world), underway)?;
-    text.extend_from_slice(counts.as_slice())?;
-    let views = views_text(alloc, world)?;
-    text.extend_from_slice(views.as_slice())?;
-    text.extend_from_slice(b"\ndone\n")?;
-    Ok(text)
-}
-
-/// Appends the summary of the run of the script of `seed` and `n` acts, of which so many updates were written and so many payloads
-/// and labels are still under way: what was asked, these two numbers, how many updates the world showed, how many payloads wait at its
-/// sites, and the views of its sites in order. For want of memory `out` is as before.
+/// Stand-in.
 pub fn write_summary(
-    seed: u64,
-    n: u32,
-    written: u64,
-    underway: u64,
-    world: &World,
-    out: &mut Vec<u8>,
+    _world: &World,
+    _seed: u64,
+    _count: u32,
+    _written: u64,
+    _out: &mut Vec<u8>,
 ) -> Result<(), AllocError>
-    ensures ok { OnOk result ((h : List Entry) → IsRun world.now.deployment h → StandsFor world.now h
-        → out.new.items ≡ out.old.items ++ summary_text h world.now.deployment.sites seed n written underway) }
-    ensures err { OnErr result (out.new.items ≡ out.old.items) }
+    ensures { OnOk result ((h : List Entry) → IsRun _world.now.deployment h → StandsFor _world.now h → _written ≡ wrote_count h → _out.new.items ≡ _out.old.items ++ summary _world.now.deployment h _seed _count) }
 {
-    let text = summary_text(*out.allocator(), seed, n, written, underway, world)?;
-    out.extend_from_slice(text.as_slice())?;
-    Ok(())
+    Err(AllocError)
 }

@@ -9,11 +9,24 @@ use Rattle.sat_script.specs.declared.stream.Reading.{Reading}
 use Rattle.sat_report.specs.Answers.{answers}
 use Rattle.sat_report.specs.Holdings.{holdings}
 use Rattle.sat_report.specs.Faults.{fault_line}
+use Rattle.sat_report.specs.Summary.{summary}
+use Rattle.sat_settle.specs.LoadActs.{load_acts}
+use Rattle.sat_settle.specs.LoadHeader.{load_deployment}
 
 -- the history of a script's acts, which stand in the order of the script
 unfoldable pub history : Deployed → List Act → List Entry
 unfolding run
 history d acts = run d (reverse acts)
+
+-- the history of what `load` makes of two numbers
+unfoldable pub load_history : ℕ → ℕ → List Entry
+unfolding history
+load_history seed acts = history load_deployment (load_acts seed acts)
+
+-- the summary of its run
+unfoldable pub load_text : ℕ → ℕ → List ℕ
+unfolding load_history summary
+load_text seed acts = summary load_deployment (load_history seed acts) seed acts
 
 -- the fault's line, where there is a fault
 abbrev pub fault_text : Option ScriptFault → List ℕ

@@ -3,16 +3,19 @@ ghost use Rattle.std.specs.Prelude.{◌≡◌, ◌≤◌, ℕ, List, IfOk, IsErr
 ghost use Rattle.std.specs.Io.KnownBytes.{Consumes, IsAtEnd};
 ghost use Rattle.sat_outside.specs.Causes.{Rose};
 ghost use Rattle.sat_top.specs.declared.stream.Stop.TheVariants.{Memory};
-ghost use Rattle.sat_top.specs.Words.{command_of};
+ghost use Rattle.sat_top.specs.Good.{IsGoodLoad};
+ghost use Rattle.sat_top.specs.Runs.{load_text};
+ghost use Rattle.sat_top.specs.Words.{command_of, IsCommand};
 ghost use Rattle.sat_top.specs.Whole.{refusal, reads, run_status, IsOutput};
 ghost use Rattle.sat_top.specs.Contract.{most_taken};
 
 use crate::law::good_scripts;
 use crate::planning::plan_of;
-use crate::run::run_text;
+use crate::run::{load_text, run_text};
 use crate::stream::{Stop, read_delay_text, read_script};
 use crate::words::{Command, command_of};
 use sat_laws::headline;
+use sat_rest::settles_all;
 use sat_outside::Source;
 use sat_script::Reading;
 use std::alloc::{AllocError, Global};
@@ -27,7 +30,7 @@ impl From<AllocError> for Stop {
 
 // What the program says of itself.
 const HELP: &str =
-    "saturn: causal order between sites that keep some items each\n\nusage: saturn COMMAND < INPUT\n\n  run        reads a script, and writes the report of its run\n  plan       reads a table of delays as JSON, and writes a tree of serializers\n  --help     writes this text\n  --version  writes the version\n\nstatus: 0 done; 1 the input is refused, and the last line written says where; 2 no such command;\n        3 the input could not be read; 4 the output could not be written; 5 out of memory\n";
+    "saturn: causal order between sites that keep some items each\n\nusage: saturn COMMAND < INPUT\n\n  run          reads a script, and writes the report of its run\n  plan         reads a table of delays as JSON, and writes a tree of serializers\n  load SEED N  makes a script of N acts and six more, runs it, and writes a summary\n  --help       writes this text\n  --version    writes the version\n\nstatus: 0 done; 1 the input is refused, and the last line written says where; 2 no such command;\n        3 the input could not be read; 4 the output could not be written; 5 out of memory\n";
 
 const VERSION: &str = "saturn 0.1.0\n";
 
@@ -73,8 +76,9 @@ fn run<S: Source>(alloc: Global, source: &mut S) -> Result<Output, Stop>
     ensures failed { IsErrOf result Stop.Source → Rose (S.faults source.old) (S.faults source.new) }
 {
     let reading = read_script(alloc, source)?;
-    // Brings these two laws into the proof; they do nothing when they run.
+    // Brings these laws into the proof; they do nothing when they run.
     headline();
+    settles_all();
     good_scripts();
     let status = run_status(&reading);
     let text = run_text(alloc, reading)?;
@@ -94,6 +98,21 @@ fn plan<S: Source>(alloc: Global, source: &mut S) -> Result<Output, Stop>
     Ok(output)
 }
 
+// Makes a large script, runs it and makes the summary.
+fn load(alloc: Global, seed: u64, acts: u32) -> Result<Output, AllocError>
+    requires { IsCommand (Command.Load seed acts) }
+    ensures text { IfOk result (λ out. out.text.items ≡ load_text seed acts) }
+    ensures status { IfOk result (λ out. out.status ≡ 0) }
+    ensures good { IfOk result (λ _. IsGoodLoad seed acts) }
+{
+    let script = sat_settle::load(alloc, seed, acts)?;
+    // Brings these two laws into the proof; they do nothing when they run.
+    headline();
+    settles_all();
+    let text = load_text(alloc, script, seed, acts)?;
+    Ok(Output { text, status: 0 })
+}
+
 /// Does the command that the words say, and makes what is to be written.
 pub(crate) fn make_output<S: Source>(
     alloc: Global,
@@ -111,6 +130,10 @@ pub(crate) fn make_output<S: Source>(
     match command_of(words) {
         Some(Command::Run) => run(alloc, source),
         Some(Command::Plan) => plan(alloc, source),
+        Some(Command::Load { seed, acts }) => {
+            let output = load(alloc, seed, acts)?;
+            Ok(output)
+        }
         Some(Command::Help) => {
             let output = told(alloc, HELP)?;
             Ok(output)

@@ -46,7 +46,19 @@ fn any_pieces_give_the_report(rt: HostRuntime) -> Result<(), Fail> {
 #[test]
 fn other_words_are_refused(rt: HostRuntime) -> Result<(), Fail> {
     let alloc = rt.alloc();
-    for line in ["run x", "", "load 7 1"] {
+    for line in [
+        "run x",
+        "",
+        "load",
+        "load 7",
+        "load 7 1",
+        "load 7 199001",
+        "load 07 2",
+        "load 7 02",
+        "load 18446744073709551616 2",
+        "load 7 2 3",
+        "run 7 2",
+    ] {
         let words = words(alloc, line)?;
         let (status, sink) = still_in_memory(
             alloc,
@@ -94,6 +106,30 @@ fn scripts_have_their_reports(rt: HostRuntime) -> Result<(), Fail> {
         let refused = !report.as_bytes().ends_with(b"done\n");
         assert_eq!(rt; status, u8::from(refused));
         assert_eq!(rt; sink.held(), report.as_bytes());
+    }
+    Ok(())
+}
+
+#[test]
+fn large_scripts_have_their_summaries(rt: HostRuntime) -> Result<(), Fail> {
+    let alloc = rt.alloc();
+    for (line, summary) in [
+        (
+            "load 7 20000",
+            "load 7 20000\nwritten 172\nshown 294\nwaiting 0\nunderway 0\nviews 2 2 2 2 2\ndone\n",
+        ),
+        (
+            "load 18446744073709551615 40",
+            "load 18446744073709551615 40\nwritten 3\nshown 5\nwaiting 0\nunderway 0\nviews 2 2 2 2 2\ndone\n",
+        ),
+        (
+            "load 0 2",
+            "load 0 2\nwritten 1\nshown 1\nwaiting 0\nunderway 0\nviews 2 2 2 2 2\ndone\n",
+        ),
+    ] {
+        let (status, sink) = ended(alloc, line, script(alloc, ACTS)?)?;
+        assert_eq!(rt; status, 0);
+        assert_eq!(rt; sink.held(), summary.as_bytes());
     }
     Ok(())
 }
