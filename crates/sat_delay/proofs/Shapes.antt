@@ -19,7 +19,7 @@ within_most place most n (Some m) e = go (nat_le m most) refl e
     go true fits is = let whole : Ok m ≡ Ok n = rw fits at is in let same : m ≡ n = cc in grind (arith, nat_tests)
     go false fits is = absurd (let whole : Err (Rattle.sat_delay.specs.declared.fault.DelayFault.TheVariants.TooBig place) ≡ Ok n = rw fits at is in cc)
 
-number_most : (place : Place) (most n : ℕ) (value : Option Data) → number_at place most value ≡ Ok n → n ≤ most
+pub number_most : (place : Place) (most n : ℕ) (value : Option Data) → number_at place most value ≡ Ok n → n ≤ most
 unfolding number_at
 number_most place most n value e = within_most place most n _ e
 

@@ -18,7 +18,9 @@ key_name key =
     if key == 2 then codes "reach" else (
     if key == 3 then codes "between" else (
     if key == 4 then codes "optimal" else (
-    if key == 5 then codes "weight" else [])))))
+    if key == 5 then codes "weight" else (
+    if key == 6 then codes "parents" else (
+    if key == 7 then codes "seats" else [])))))))
 
 abbrev pub place_at : ℕ → ℕ → ℕ → Place
 place_at key row column = record { key = key; row = row; column = column }

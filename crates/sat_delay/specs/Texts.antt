@@ -19,6 +19,11 @@ cause_text (BadShape place) = codes "BadShape" ++ place_text place
 cause_text (TooBig place) = codes "TooBig" ++ place_text place
 cause_text Memory = codes "Memory"
 
+-- `WORD: CAUSE`, where the word is a command's
+unfoldable pub fault_line : List ℕ → DelayFault → List ℕ
+unfolding cause_text
+fault_line word fault = word ++ (codes ": " ++ (cause_text fault ++ 10 ∷ []))
+
 -- `plan: CAUSE`
 unfoldable pub fault_text : DelayFault → List ℕ
 unfolding cause_text

@@ -19,6 +19,8 @@ pub fn key_name(key: u8) -> &'static str
         3 => "between",
         4 => "optimal",
         5 => "weight",
+        6 => "parents",
+        7 => "seats",
         _ => "",
     }
 }

@@ -22,9 +22,9 @@ const MOST_MILLISECONDS: u64 = 100_000;
 
 const MOST_WEIGHT: u64 = 1_000_000;
 
-// What `serde_json` reads from bytes.
+/// What `serde_json` reads from bytes.
 #[tactic(auto, unfolding(crate::specs::Reading::json_of))]
-fn json_of(alloc: Global, bytes: &[u8]) -> Result<Value, DelayFault>
+pub fn json_of(alloc: Global, bytes: &[u8]) -> Result<Value, DelayFault>
     ensures ok { IfOk result (λ value. json_of bytes.now ≡ Some (view value)) }
     ensures err { IfErr result (λ fault. fault ≢ DelayFault.Memory → (json_of bytes.now ≡ None) × (fault ≡ DelayFault.NotJson)) }
 {
@@ -40,9 +40,9 @@ fn json_of(alloc: Global, bytes: &[u8]) -> Result<Value, DelayFault>
     }
 }
 
-// The table that a value says.
+/// The table that a value says, or its first fault.
 #[tactic(auto, unfolding(crate::specs::Reading::table_of))]
-fn table_of(alloc: Global, input: &Value) -> Result<Delays, DelayFault>
+pub fn table_of(alloc: Global, input: &Value) -> Result<Delays, DelayFault>
     ensures { Gives result (table_of (view input.now)) }
 {
     let sites = size_of(0, MOST_SITES, input)?;

@@ -1,6 +1,6 @@
 //! The line of a fault.
 ghost use Rattle.std.specs.Prelude.{◌≡◌, ◌++◌, IfOk, OnOk, OnErr, string_bytes};
-ghost use Rattle.sat_delay.specs.Texts.{place_text, cause_text, fault_text};
+ghost use Rattle.sat_delay.specs.Texts.{place_text, cause_text, fault_line, fault_text};
 
 use crate::number::key_name;
 use crate::{DelayFault, Place};
@@ -33,16 +33,25 @@ fn cause_text(alloc: Global, fault: &DelayFault) -> Result<String, AllocError>
     }
 }
 
-/// Appends the line of a fault, `plan: CAUSE`, where BadShape and TooBig have the key, row and column after them. For want of
-/// memory `out` is as before.
-#[tactic(auto, unfolding(crate::specs::Texts::fault_text))]
-pub fn write_delay_fault(fault: &DelayFault, out: &mut Vec<u8>) -> Result<(), AllocError>
-    ensures ok { OnOk result (out.new.items ≡ out.old.items ++ fault_text fault.now) }
+/// Appends the line of a fault, `WORD: CAUSE`, where the word is a command's, and BadShape and TooBig have the key, row and column
+/// after them. For want of memory `out` is as before.
+#[tactic(auto, unfolding(crate::specs::Texts::fault_line))]
+pub fn write_fault(word: &str, fault: &DelayFault, out: &mut Vec<u8>) -> Result<(), AllocError>
+    ensures ok { OnOk result (out.new.items ≡ out.old.items ++ fault_line word.now fault.now) }
     ensures err { OnErr result (out.new.items ≡ out.old.items) }
 {
     let alloc = *out.allocator();
     let cause = cause_text(alloc, fault)?;
-    let text = format!(in alloc; "plan: {cause}\n")?;
+    let text = format!(in alloc; "{word}: {cause}\n")?;
     out.extend_from_slice(text.as_bytes())?;
     Ok(())
+}
+
+/// Appends the line of a fault of a text of delays, `plan: CAUSE`, as [`write_fault`] does.
+#[tactic(auto, unfolding(crate::specs::Texts::fault_text, crate::specs::Texts::fault_line))]
+pub fn write_delay_fault(fault: &DelayFault, out: &mut Vec<u8>) -> Result<(), AllocError>
+    ensures ok { OnOk result (out.new.items ≡ out.old.items ++ fault_text fault.now) }
+    ensures err { OnErr result (out.new.items ≡ out.old.items) }
+{
+    write_fault("plan", fault, out)
 }

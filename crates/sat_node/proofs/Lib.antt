@@ -1,6 +1,8 @@
-pub mod Members
-pub mod Bodies
 pub mod Journals
+pub mod Counts
+pub mod Sending
+pub mod Members
+pub mod Taking
 pub mod Ties
-pub mod Entries
 pub mod Agreements
+pub mod Laws

@@ -1,6 +1,6 @@
-pub mod Replay
+pub mod Meanings
 pub mod Seen
-pub mod Steps
-pub mod Bodies
+pub mod Puts
 pub mod Links
 pub mod Opened
+pub mod Laws

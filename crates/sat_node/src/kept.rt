@@ -1,4 +1,6 @@
 //! The entries of a journal, and what travels between nodes.
+ghost use Rattle.std.specs.Prelude.{◌≡◌, IfOk};
+ghost use Rattle.sat_node.specs.Links.{may_pass};
 
 use sat_beat::Beat;
 use sat_bulk::Payload;
@@ -31,8 +33,8 @@ impl From<AllocError> for CallFault {
     }
 }
 
-/// What travels between two nodes. A payload's number is how many payloads of its gear the sender had made for that link before it, a
-/// beat's how many beats.
+/// What travels between two nodes. A payload's number is how many payloads of its gear were put on that link before it, a beat's how
+/// many beats.
 #[derive(Drop)]
 pub enum Body {
     Label(Label),
@@ -47,23 +49,62 @@ pub enum Body {
     },
 }
 
-/// What an entry makes for another node, before it has its number. No value of it is made here.
+impl Body {
+    /// The same again.
+    pub fn copy(&self) -> Result<Body, AllocError>
+        ensures { IfOk result (λ body. body ≡ self.now) }
+    {
+        match self {
+            Body::Label(label) => Ok(Body::Label(*label)),
+            Body::Payload {
+                gear,
+                number,
+                payload,
+            } => {
+                let payload = payload.copy()?;
+                Ok(Body::Payload {
+                    gear: *gear,
+                    number: *number,
+                    payload,
+                })
+            }
+            Body::Beat { number, beat } => {
+                let beat = beat.copy()?;
+                Ok(Body::Beat {
+                    number: *number,
+                    beat,
+                })
+            }
+        }
+    }
+
+    // Whether it may be passed over.
+    pub(crate) fn passes(&self) -> bool
+        ensures { result ≡ may_pass self.now }
+    {
+        match self {
+            Body::Label(_) => false,
+            Body::Payload {
+                gear: _,
+                number: _,
+                payload: _,
+            } => true,
+            Body::Beat { number: _, beat: _ } => true,
+        }
+    }
+}
+
+/// What an entry puts on a link, before it has its number there.
 #[derive(Drop)]
 pub enum Made {
+    Label(Label),
     Payload { gear: u16, payload: Payload },
     Beat(Beat),
 }
 
-/// A message on its way, with the Lamport number of an entry of its sender.
+/// A message on its way, with the Lamport number of the entry that put it there.
 #[derive(Drop)]
 pub struct Envelope {
     pub lamport: u64,
     pub body: Body,
-}
-
-/// A label, with the number of the entry that put it there.
-#[derive(Clone, Copy, PartialEq, Eq, Debug)]
-pub struct Marked {
-    pub lamport: u64,
-    pub label: Label,
 }

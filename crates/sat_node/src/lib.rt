@@ -1,19 +1,30 @@
 //! Nodes that keep journals, and link ends that lie under their locks.
 #![tactic(auto)]
 
-mod bulk;
-mod ends;
+ghost use Rattle.sat_node.specs.Laws.{TakenCame, LabelsInOrder, PutsAreNumbered};
+
 mod held;
+mod ins;
 mod kept;
 mod node;
 mod opened;
+mod outs;
 
-pub use bulk::{BulkIn, BulkOut};
-pub use ends::{Acked, In, Names, Out, Told};
-pub use held::{Held, Locked, finish_bulk, finish_labels};
-pub use kept::{Body, CallFault, Envelope, Kept, Made, Marked};
+pub use held::{Held, Locked};
+pub use ins::In;
+pub use kept::{Body, CallFault, Envelope, Kept, Made};
 pub use node::{Machine, Node};
 pub use opened::{agree_all, agree_two, agree_within};
+pub use outs::{Names, Out};
+
+/// Of what entries took from a link and of what entries put there, as `agree_two` tells: each thing that was taken was put, in this order,
+/// and under a smaller number; of a link of labels alone the k-th taken is the k-th put; and each payload and each beat that was put is the
+/// one of its number among those of its sort that the entries put there before.
+pub fn link_laws()
+    ensures came { TakenCame }
+    ensures labels { LabelsInOrder }
+    ensures numbers { PutsAreNumbered }
+{}
 
 #[cfg(test)]
 mod tests;

@@ -1,12 +1,12 @@
-//! Nodes on one thread and on two, with two machines that answer what they are told.
-ghost use Rattle.std.specs.Prelude.{◌≡◌, ◌<◌, ◌+◌, [], ◌∷◌, Some, slice_get, length, IfOk, IsOk, IsSome, true};
-ghost use Rattle.sat_link.specs.Ends.{capacity_of};
-ghost use Rattle.sat_node.specs.Bodies.{BulkInSeen, BulkOutSeen, IsMade, makings};
+//! Nodes on one thread and on two, with a machine that puts and takes what it is told.
+ghost use Rattle.std.specs.Prelude.{◌≡◌, ◌<◌, [], ◌∷◌, IfOk, Some, None, slice_get, length};
+ghost use Rattle.sat_label.specs.declared.node.NodeName.TheVariants.{Site};
 
 use super::*;
+use sat_beat::Beat;
 use sat_bulk::Payload;
-use sat_label::{Kind, Label, NodeName, Point, Value};
-use sat_link::{LinkIn, LinkOut, Rest, link};
+use sat_label::{Counts, Kind, Label, NodeName, Point, Points, Value};
+use sat_link::{LinkIn, LinkOut, link};
 use std::alloc::{AllocError, Global};
 use std::marker::Brand;
 use std::sync::{Mutex, Wait};
@@ -14,77 +14,188 @@ use std::test::*;
 use std::thread;
 use std::thread::Threads;
 
-/// Counts its steps, and answers what it was told.
+/// Counts its steps, which a u64 may not hold.
 #[derive(Drop)]
-struct Mover {
+struct Depot {
     count: u64,
 }
 
-/// A label to put, and the label that is taken.
-#[derive(Clone, Copy)]
-struct Move {
-    put: Option<Label>,
-    took: Option<Label>,
+/// What to put on the link, and what is taken from it.
+#[derive(Drop)]
+struct Errand {
+    put: Option<Made>,
+    take: Option<Body>,
 }
 
-impl Machine for Mover {
-    type Input = Move;
+fn copy_made(made: &Option<Made>) -> Result<Option<Made>, AllocError>
+    ensures { IfOk result (λ copy. copy ≡ made.now) }
+{
+    match made {
+        Some(Made::Label(label)) => Ok(Some(Made::Label(*label))),
+        Some(Made::Payload { gear, payload }) => {
+            let payload = payload.copy()?;
+            Ok(Some(Made::Payload {
+                gear: *gear,
+                payload,
+            }))
+        }
+        Some(Made::Beat(beat)) => Ok(Some(Made::Beat(beat.copy()?))),
+        None => Ok(None),
+    }
+}
 
-    type Answer = Move;
+fn copy_body(body: &Option<Body>) -> Result<Option<Body>, AllocError>
+    ensures { IfOk result (λ copy. copy ≡ body.now) }
+{
+    match body {
+        Some(body) => Ok(Some(body.copy()?)),
+        None => Ok(None),
+    }
+}
 
-    ghost use Rattle.std.specs.Prelude.{◌+◌, ◌%◌, ◌^◌, ◌==◌, if◌then◌else◌, true, false, None, []};
+impl Errand {
+    fn copy(&self) -> Result<Errand, AllocError>
+        ensures { IfOk result (λ errand. errand ≡ self.now) }
+    {
+        let put = copy_made(&self.put)?;
+        let take = copy_body(&self.take)?;
+        Ok(Errand { put, take })
+    }
+}
 
-    ghost fresh = { λ _. record { count = 0 } };
+impl Machine for Depot {
+    type Input = Errand;
 
-    ghost takes_in = { λ s i. true };
+    type Answer = u64;
 
-    ghost after = { λ s i. record { count = (s.count + 1) % 2 ^ 64 } };
+    ghost use Rattle.std.specs.Prelude.{◌≡◌, ◌+◌, ◌%◌, ◌^◌, ◌==◌, if◌then◌else◌, ℕ, true, false, None, [], ◌∷◌};
+    ghost use Rattle.sat_label.specs.declared.node.NodeName.TheVariants.{Site, Serializer};
 
-    ghost answer = { λ s i. i };
+    ghost State = { ℕ };
 
-    ghost may_fail = { λ s i. false };
+    ghost meaning = { record {
+      fresh = λ _. 0;
+      fits = λ _ s i. Unit {0};
+      answers = λ _ s i a. a ≡ s % 2 ^ 64;
+      after = λ _ s i a. s + 1;
+      puts = λ _ k i a. if k == 0 then i.put else None;
+      takes = λ _ k i a. if k == 0 then i.take else None;
+      stands = λ i a. true;
+      outs = λ name. elim name [ Site i ↦ if i == 0 then 0 ∷ [] else [] | Serializer e z ↦ [] ];
+      ins = λ name. elim name [ Site i ↦ if i == 0 then [] else 0 ∷ [] | Serializer e z ↦ [] ];
+    } };
 
-    ghost puts = { λ k a. if k == 0 then a.put else None };
+    ghost stands_for = { λ _ x s. x.count ≡ s % 2 ^ 64 };
 
-    ghost takes = { λ k i a. if k == 0 then a.took else None };
+    ghost takes_in = { λ x i. true };
 
-    ghost makes = { λ k a. [] };
+    ghost may_fail = { λ x i. false };
 
-    ghost hears = { λ k i a. None };
-
-    ghost stands = { λ i a. true };
-
-    fn fits(&self, _input: &Move) -> bool {
+    fn fits(&self, _input: &Errand) -> bool {
         true
     }
 
-    fn step(&mut self, input: Move) -> Result<(Move, Move), AllocError> {
-        self.count = self.count.wrapping_add(1);
-        Ok((input, input))
+    fn step(&mut self, _input: Errand) -> Result<(u64, u64), AllocError> {
+        let old = self.count;
+        self.count = old.wrapping_add(1);
+        Ok((old, old))
     }
 
-    fn put(given: &Move, link: usize) -> Option<Label> {
-        if link == 0 { given.put } else { None }
+    fn put(
+        _name: NodeName,
+        link: usize,
+        input: &Errand,
+        _given: &u64,
+    ) -> Result<Option<Made>, AllocError> {
+        if link != 0 {
+            return Ok(None);
+        }
+        copy_made(&input.put)
     }
 }
 
-fn new_mover(alloc: Global, site: u16) -> Node<Mover>
-    ensures { result.entries ≡ [] }
+fn new_node(alloc: Global, site: u16) -> Node<Depot>
+    ensures { (result.name ≡ Site site) × (result.entries ≡ []) }
 {
-    Node::new(alloc, NodeName::Site(site), Mover { count: 0 })
+    Node::new(alloc, NodeName::Site(site), Depot { count: 0 })
 }
 
-// What a call answers: 0 and the number, 1 and the number that is worn, or 2 for want of memory.
-fn done(node: &mut Node<Mover>, reserves: bool, heard: u64) -> (u64, u64) {
-    let quiet = Move {
+// The node that sends, with one link.
+fn sender<N: Names>(alloc: Global, link: LinkIn<Envelope>) -> Result<Held<Depot, N>, AllocError>
+    requires { (link.sent ≡ []) × (slice_get N.wires 0 ≡ Some link.wire) }
+{
+    let mut outs = Vec::new(alloc);
+    outs.push(Out::new(alloc, 0, link))?;
+    Ok(Held::new(new_node(alloc, 0), outs, Vec::new(alloc)))
+}
+
+// The node that receives, with one link.
+fn receiver<N: Names>(alloc: Global, link: LinkOut<Envelope>) -> Result<Held<Depot, N>, AllocError>
+    requires { (link.received ≡ []) × (slice_get N.wires 0 ≡ Some link.wire) }
+{
+    let mut ins = Vec::new(alloc);
+    ins.push(In::new(0, link))?;
+    Ok(Held::new(new_node(alloc, 1), Vec::new(alloc), ins))
+}
+
+// Keeps an entry that puts this.
+fn put<N: Names>(
+    held: &mut Held<Depot, N>,
+    heard: u64,
+    made: Option<Made>,
+) -> Result<u64, CallFault> {
+    let input = Errand {
+        put: made,
+        take: None,
+    };
+    let copy = input.copy()?;
+    held.act(heard, input, copy)?;
+    Ok(held.node().lamport())
+}
+
+// Keeps an entry that takes the front, if there is one. A label's time, 100 and a payload's number, or 200 and a beat's; 0 where nothing
+// came.
+fn take<N: Names>(rt: &impl Wait, held: &mut Held<Depot, N>) -> Result<u64, CallFault> {
+    if held.ins().len() == 0 {
+        return Ok(0);
+    }
+    held.pull(rt, 0);
+    let Some(front) = held.front(0) else {
+        return Ok(0);
+    };
+    let body = front.body.copy()?;
+    let word = match &front.body {
+        Body::Label(label) => label.point.ts,
+        Body::Payload {
+            gear: _,
+            number,
+            payload: _,
+        } => 100 + *number % 100,
+        Body::Beat { number, beat: _ } => 200 + *number % 100,
+    };
+    let input = Errand {
         put: None,
-        took: None,
+        take: Some(body),
     };
-    let answer = if reserves {
-        node.reserve(heard)
-    } else {
-        taken(node, heard, quiet)
-    };
+    let copy = input.copy()?;
+    held.handle(0, input, copy)?;
+    Ok(word)
+}
+
+// Sends what there is room for. How many entries the end went through.
+fn send<N: Names>(rt: &impl Wait, held: &mut Held<Depot, N>) -> Result<usize, AllocError> {
+    if held.outs().len() == 0 {
+        return Ok(0);
+    }
+    held.flush(rt, 0)?;
+    match held.outs().get(0) {
+        Some(end) => Ok(end.next()),
+        None => Ok(0),
+    }
+}
+
+// What a call answers: the number, or 1 and the number that is worn, or 2 for want of memory.
+fn told(answer: Result<u64, CallFault>) -> (u64, u64) {
     match answer {
         Ok(number) => (0, number),
         Err(CallFault::Worn(number)) => (1, number),
@@ -92,66 +203,32 @@ fn done(node: &mut Node<Mover>, reserves: bool, heard: u64) -> (u64, u64) {
     }
 }
 
-fn taken(node: &mut Node<Mover>, heard: u64, input: Move) -> Result<u64, CallFault> {
-    node.take(heard, input, input)?;
+fn take_quiet(node: &mut Node<Depot>, heard: u64) -> Result<u64, CallFault> {
+    let input = Errand {
+        put: None,
+        take: None,
+    };
+    let copy = input.copy()?;
+    node.take(heard, input, copy)?;
     Ok(node.lamport())
 }
 
 #[test]
 fn numbers(rt: HostRuntime) -> Result<(), Fail> {
-    let mut node = new_mover(rt.alloc(), 3);
-    let mut found = Vec::new(rt.alloc());
-    for (reserves, heard) in [
-        (true, 5),
-        (false, 18446744073709551614),
-        (false, 7),
-        (true, 0),
-    ] {
-        let (cause, number) = done(&mut node, reserves, heard);
-        found.push(cause)?;
-        found.push(number)?;
-    }
-    found.push(u64::from(node.journal().len() == 1))?;
-    found.push(node.machine().count)?;
-    found.push(u64::from(node.name() == NodeName::Site(3)))?;
     let worn = 18446744073709551615;
-    assert_eq!(rt;
-        found.as_slice(),
-        [0, 6, 0, worn, 1, worn, 1, worn, 1, 1, 1].as_slice()
-    );
+    let mut node = new_node(rt.alloc(), 3);
+    assert_eq!(rt; told(node.reserve(5)), (0, 6));
+    assert_eq!(rt; told(take_quiet(&mut node, worn - 1)), (0, worn));
+    assert_eq!(rt; told(take_quiet(&mut node, 7)), (1, worn));
+    assert_eq!(rt; told(node.reserve(0)), (1, worn));
+    assert_eq!(rt; node.machine().count, 1);
+    assert_eq!(rt; node.name() == NodeName::Site(3), true);
+    let numbers: [u64; 1] = [worn];
+    for (kept, number) in node.journal().iter().zip(numbers) {
+        assert_eq!(rt; kept.lamport, number);
+    }
+    assert_eq!(rt; node.journal().len(), 1);
     Ok(())
-}
-
-fn sending<M: Machine + Drop, N: Names>(
-    alloc: Global,
-    node: Node<M>,
-    link: LinkIn<Envelope>,
-) -> Result<Held<M, N>, AllocError>
-    requires node { node.entries ≡ [] }
-    requires link { (link.sent ≡ []) × (slice_get N.wires 0 ≡ Some link.wire) }
-{
-    let mut outs = Vec::new(alloc);
-    outs.push(Out::new(alloc, 0, link))?;
-    Ok(Held::new(
-        node,
-        outs,
-        Vec::new(alloc),
-        Vec::new(alloc),
-        Vec::new(alloc),
-    ))
-}
-
-fn receiving<M: Machine + Drop, N: Names>(
-    alloc: Global,
-    node: Node<M>,
-    link: LinkOut<Envelope>,
-) -> Result<Held<M, N>, AllocError>
-    requires node { node.entries ≡ [] }
-    requires link { (link.received ≡ []) × (slice_get N.wires 0 ≡ Some link.wire) }
-{
-    let mut ins = Vec::new(alloc);
-    ins.push(In::new(0, link))?;
-    Ok(Held::new(node, Vec::new(alloc), ins, Vec::new(alloc), Vec::new(alloc)))
 }
 
 // The label of a pulse at this time.
@@ -166,425 +243,225 @@ fn pulse(ts: u64) -> Label {
     }
 }
 
-// Puts a label, and sends what there is room for.
-fn send_one<N: Names>(rt: &impl Wait, held: &mut Held<Mover, N>, ts: u64) -> bool {
-    let input = Move {
-        put: Some(pulse(ts)),
-        took: None,
-    };
-    if held.act(0, input, input).is_err() {
-        return false;
-    }
-    if held.out_count() > 0 {
-        held.flush(rt, 0);
-    }
-    true
-}
-
-// Sends what there is room for. Whether nothing waits after it.
-fn send_rest<N: Names>(rt: &impl Wait, held: &mut Held<Mover, N>) -> bool {
-    if held.out_count() == 0 {
-        return true;
-    }
-    held.flush(rt, 0);
-    held.waits(0) == 0
-}
-
-fn send_labels<N: Names>(rt: &impl Wait, shared: &Mutex<Held<Mover, N>>, count: u64) -> bool {
+fn send_labels<N: Names>(rt: &impl Wait, shared: &Mutex<Held<Depot, N>>, count: u64) -> bool {
     for ts in 0..count {
-        if !send_one(rt, &mut shared.lock(rt), ts) {
+        if put(&mut shared.lock(rt), 0, Some(Made::Label(pulse(ts + 1)))).is_err() {
             return false;
         }
     }
     for _ in rt.forever() {
-        if send_rest(rt, &mut shared.lock(rt)) {
-            break;
+        match send(rt, &mut shared.lock(rt)) {
+            Ok(100) => break,
+            Ok(_) => thread::yield_now(),
+            Err(_) => return false,
         }
-        thread::yield_now();
     }
     true
 }
 
-// Takes the next label. Whether there was one; `None` where it was not the one that is wanted, or was not taken.
-fn take_one<N: Names>(rt: &impl Wait, held: &mut Held<Mover, N>, ts: u64) -> Option<bool> {
-    if held.in_count() == 0 {
-        return None;
-    }
-    held.pull(rt, 0);
-    let Some(front) = held.front(0) else {
-        return Some(false);
-    };
-    if front.label != pulse(ts) {
-        return None;
-    }
-    let input = Move {
-        put: None,
-        took: Some(front.label),
-    };
-    held.handle(0, input, input).ok()?;
-    Some(true)
-}
-
-fn take_labels<N: Names>(rt: &impl Wait, shared: &Mutex<Held<Mover, N>>, count: u64) -> bool {
+fn take_labels<N: Names>(rt: &impl Wait, shared: &Mutex<Held<Depot, N>>, count: u64) -> bool {
     let mut taken = 0;
     for _ in rt.forever() {
         if taken >= count {
             break;
         }
-        match take_one(rt, &mut shared.lock(rt), taken) {
-            Some(true) => taken += 1,
-            Some(false) => thread::yield_now(),
-            None => return false,
+        match take(rt, &mut shared.lock(rt)) {
+            Ok(0) => thread::yield_now(),
+            Ok(ts) if ts == taken + 1 => taken += 1,
+            _ => return false,
         }
     }
     true
 }
 
-// Whether the receiving end reads what the sending end tells it.
-fn told<M: Machine, N: Names>(sender: &mut Held<M, N>, receiver: &mut Held<M, N>) -> bool {
-    if sender.out_count() == 0 || receiver.in_count() == 0 {
-        return false;
-    }
-    let told = sender.note(0);
-    receiver.read(0, told)
-}
-
-// Whether the sending end reads what the receiving end acknowledges.
-fn acknowledged<M: Machine, N: Names>(sender: &mut Held<M, N>, receiver: &mut Held<M, N>) -> bool {
-    if sender.out_count() == 0 || receiver.in_count() == 0 {
-        return false;
-    }
-    let acked = receiver.acknowledge(0);
-    sender.read_acknowledgement(0, acked)
-}
-
-// Whether a link was finished with nothing left.
-fn ended<R: Wait>(rt: &R, rest: Option<Rest<Envelope>>) -> bool {
-    match rest {
-        Some(mut rest) => rest.next(rt).is_none(),
-        None => false,
-    }
-}
-
-// Two nodes with one link between them, each in a thread, are taken out of their locks, and their link is finished.
+// Two nodes with one link between them, each in a thread, are taken out of their locks and compared. The receiver's number.
 fn two_nodes<N: Names + Send + Sync, R: Threads + Wait + Sync>(
     rt: &R,
     alloc: Global,
     input: LinkIn<Envelope>,
     output: LinkOut<Envelope>,
-) -> Result<bool, AllocError>
+) -> Result<Option<u64>, AllocError>
     requires wires { (input.wire ≡ output.wire) × (N.wires ≡ input.wire ∷ []) }
     requires fresh { (input.sent ≡ []) × (output.received ≡ []) }
 {
-    let sender = Mutex::new(sending::<Mover, N>(alloc, new_mover(alloc, 0), input)?);
-    let receiver = Mutex::new(receiving::<Mover, N>(alloc, new_mover(alloc, 1), output)?);
-    let from = &sender;
-    let to = &receiver;
+    let first = Mutex::new(sender::<N>(alloc, input)?);
+    let second = Mutex::new(receiver::<N>(alloc, output)?);
+    let from = &first;
+    let to = &second;
     let (sent, taken) = thread::join(
         rt,
         move || send_labels(rt, from, 100),
         move || take_labels(rt, to, 100),
     );
-    Ok(sent && taken && apart(rt, sender.into_inner(), receiver.into_inner()))
-}
-
-fn apart<N: Names, R: Wait>(
-    rt: &R,
-    mut sender: Held<Mover, N>,
-    mut receiver: Held<Mover, N>,
-) -> bool {
-    if !told(&mut sender, &mut receiver) {
-        return false;
-    }
-    if receiver.node().lamport() != 101 {
-        return false;
-    }
-    if !acknowledged(&mut sender, &mut receiver) {
-        return false;
-    }
-    if !send_one(rt, &mut sender, 100) || !send_rest(rt, &mut sender) {
-        return false;
-    }
-    if take_one(rt, &mut receiver, 100) != Some(true) || receiver.node().lamport() != 102 {
-        return false;
-    }
-    ended(rt, finish_labels(sender, 0, receiver, 0))
+    let mut first = first.into_inner();
+    let mut second = second.into_inner();
+    agree_two(&mut first, &mut second);
+    Ok((sent && taken).then_some(second.node().lamport()))
 }
 
 #[test]
 fn labels_through_two_threads(rt: HostRuntime) -> Result<(), Fail> {
     let (input, output) = link::<Envelope>(rt.alloc(), 3)?;
-    let good = two_nodes::<Brand, _>(&rt, rt.alloc(), input, output)?;
-    assert!(rt; good);
+    let number = two_nodes::<Brand, _>(&rt, rt.alloc(), input, output)?;
+    assert_eq!(rt; number, Some(101));
     Ok(())
 }
 
-/// Makes payloads of gear 0, and is handed them.
-#[derive(Drop)]
-struct Post {
-    name: NodeName,
-}
-
-/// A payload that is made, or that was handed over under its number.
-#[derive(Drop)]
-struct Parcel {
-    ours: bool,
-    number: u64,
-    payload: Payload,
-}
-
-impl Parcel {
-    fn copy(&self) -> Result<Parcel, AllocError>
-        ensures { IfOk result (λ parcel. parcel ≡ self.now) }
-    {
-        let payload = self.payload.copy()?;
-        Ok(Parcel {
-            ours: self.ours,
-            number: self.number,
-            payload,
-        })
-    }
-}
-
-impl Machine for Post {
-    type Input = Parcel;
-
-    type Answer = Parcel;
-
-    ghost use Rattle.std.specs.Prelude.{◌==◌, ◌&&◌, if◌then◌else◌, true, false, not, Some, None, [], ◌∷◌};
-    ghost use Rattle.sat_node.specs.declared.kept.Made.TheVariants.{Payload as MadePayload};
-    ghost use Rattle.sat_node.specs.declared.kept.Body.TheVariants.{Payload as OfPayload};
-
-    ghost fresh = { λ name. record { name = name } };
-
-    ghost takes_in = { λ s i. true };
-
-    ghost after = { λ s i. s };
-
-    ghost answer = { λ s i. i };
-
-    ghost may_fail = { λ s i. true };
-
-    ghost puts = { λ k a. None };
-
-    ghost takes = { λ k i a. None };
-
-    ghost makes = { λ k a. if (k == 0) && a.ours then MadePayload 0 a.payload ∷ [] else [] };
-
-    ghost hears = { λ k i a. if (k == 0) && not a.ours then Some (OfPayload 0 a.number a.payload) else None };
-
-    ghost stands = { λ i a. true };
-
-    fn fits(&self, _input: &Parcel) -> bool {
-        true
-    }
-
-    fn step(&mut self, input: Parcel) -> Result<(Parcel, Parcel), AllocError> {
-        let copy = input.copy()?;
-        Ok((input, copy))
-    }
-
-    fn put(_given: &Parcel, _link: usize) -> Option<Label> {
-        None
-    }
-}
-
-fn new_poster(alloc: Global, site: u16) -> Node<Post>
-    ensures { result.entries ≡ [] }
-{
-    let name = NodeName::Site(site);
-    Node::new(alloc, name, Post { name })
-}
-
-fn bulk_sending<M: Machine + Drop, N: Names>(
-    alloc: Global,
-    node: Node<M>,
-    link: LinkIn<Envelope>,
-) -> Result<Held<M, N>, AllocError>
-    requires node { node.entries ≡ [] }
-    requires link { (link.sent ≡ []) × (slice_get N.wires 0 ≡ Some link.wire) }
-    ensures { IfOk result (λ held. held.node.entries ≡ []) }
-{
-    let mut outs = Vec::new(alloc);
-    outs.push(BulkOut::new(0, link))?;
-    Ok(Held::new(
-        node,
-        Vec::new(alloc),
-        Vec::new(alloc),
-        outs,
-        Vec::new(alloc),
-    ))
-}
-
-fn bulk_receiving<M: Machine + Drop, N: Names>(
-    alloc: Global,
-    node: Node<M>,
-    link: LinkOut<Envelope>,
-) -> Result<Held<M, N>, AllocError>
-    requires node { node.entries ≡ [] }
-    requires link { slice_get N.wires 0 ≡ Some link.wire }
-{
-    let mut ins = Vec::new(alloc);
-    ins.push(BulkIn::new(0, link))?;
-    Ok(Held::new(node, Vec::new(alloc), Vec::new(alloc), Vec::new(alloc), ins))
-}
-
-// A new node makes a payload and sends it.
-fn send_first<N: Names, R: Wait>(
-    rt: &R,
-    held: &mut Held<Post, N>,
-    payload: Payload,
-) -> Result<bool, AllocError>
-    requires fresh { held.old.node.entries ≡ [] }
-{
-    if held.bulk_out_count() == 0 {
-        return Ok(false);
-    }
-    let again = payload.copy()?;
-    let parcel = Parcel {
-        ours: true,
-        number: 0,
-        payload,
+// A payload of gear 0, and a beat.
+fn payload(alloc: Global) -> Result<Made, AllocError> {
+    let Some(value) = Value::of(alloc, b"v")? else {
+        return Err(AllocError);
     };
-    let copy = parcel.copy()?;
-    if held.act(4, parcel, copy).is_err() {
-        return Ok(false);
-    }
-    let body = Body::Payload {
+    let label = pulse(1);
+    Ok(Made::Payload {
         gear: 0,
-        number: 0,
-        payload: again,
-    };
-    Ok(held.push(rt, 0, body).is_ok())
+        payload: Payload { label, value },
+    })
 }
 
-// An end that was told of more than it received gives something.
-fn pop_told<N: Names, R: Wait>(rt: &R, held: &mut Held<Post, N>) -> Option<Envelope>
-    requires link { 0 < length held.old.bulk_ins }
-    requires told { (i : BulkInSeen) → slice_get held.old.bulk_ins 0 ≡ Some i → length i.received < length i.told }
-    ensures { IsSome result }
-{
-    held.pop(rt, 0)
+fn beat(alloc: Global) -> Made {
+    Made::Beat(Beat {
+        cut: Point::mark(7, 0),
+        closes: Points::new(alloc),
+        counts: Counts::new(alloc),
+    })
 }
 
-// An end that sent less than the link's capacity beyond what it was told was received has room.
-fn push_told<M: Machine, N: Names, R: Wait>(
-    rt: &R,
-    held: &mut Held<M, N>,
-    body: Body,
-) -> Result<(), Body>
-    requires link { 0 < length held.old.bulk_outs }
-    requires made { IsMade (makings (M.makes 0) held.old.node.entries) (λ _. Unit {0}) body }
-    requires acked { (o : BulkOutSeen) → slice_get held.old.bulk_outs 0 ≡ Some o → length o.sent < length o.acked + capacity_of o.wire }
-    ensures { IsOk result }
-{
-    held.push(rt, 0, body)
+fn note<T: Drop>(found: &mut Vec<T>, member: T) -> Result<(), AllocError> {
+    found.push(member)?;
+    Ok(())
 }
 
-// A payload that came is handed over. The number of its envelope.
-fn receive_first<N: Names, R: Wait>(
-    rt: &R,
-    held: &mut Held<Post, N>,
-) -> Result<Option<u64>, AllocError> {
-    if held.bulk_in_count() == 0 {
-        return Ok(None);
-    }
-    let Some(
-        Envelope {
-            lamport,
-            body: Body::Payload {
-                gear: 0,
-                number,
-                payload,
-            },
-        },
-    ) = held.pop(rt, 0)
-    else {
-        return Ok(None);
-    };
-    let parcel = Parcel {
-        ours: false,
-        number,
-        payload,
-    };
-    let copy = parcel.copy()?;
-    if !held.fits(&copy) || held.hear(0, lamport, parcel, copy).is_err() {
-        return Ok(None);
-    }
-    Ok(Some(lamport))
-}
-
-// Whether the receiving end reads what the sending end tells it.
-fn bulk_told<M: Machine, N: Names>(sender: &mut Held<M, N>, receiver: &mut Held<M, N>) -> bool {
-    if sender.bulk_out_count() == 0 || receiver.bulk_in_count() == 0 {
-        return false;
-    }
-    let told = sender.bulk_note(0);
-    receiver.bulk_read(0, told)
-}
-
-// Whether the sending end reads what the receiving end acknowledges.
-fn bulk_acknowledged<M: Machine, N: Names>(
-    sender: &mut Held<M, N>,
-    receiver: &mut Held<M, N>,
-) -> bool {
-    if sender.bulk_out_count() == 0 || receiver.bulk_in_count() == 0 {
-        return false;
-    }
-    let acked = receiver.bulk_acknowledge(0);
-    sender.bulk_read_acknowledgement(0, acked)
-}
-
-// Opened nodes agree, in every way in which they are paired.
-fn all_agree<M: Machine + Drop, N: Names>(
+// What waits behind a link of one place comes, one after the other: what the sender has sent, what came, and the receiver's number.
+fn one_by_one<N: Names>(
+    rt: &impl Wait,
     alloc: Global,
-    sender: Held<M, N>,
-    receiver: Held<M, N>,
-) -> Result<(Held<M, N>, Held<M, N>), AllocError> {
-    let mut senders = Vec::new(alloc);
-    senders.push(sender)?;
-    let mut receivers = Vec::new(alloc);
-    receivers.push(receiver)?;
-    agree_all(&mut senders, &mut receivers);
-    agree_within(&mut senders);
-    Ok((senders.remove(0), receivers.remove(0)))
+    first: &mut Held<Depot, N>,
+    second: &mut Held<Depot, N>,
+) -> Result<Vec<u64>, CallFault> {
+    let mut found = Vec::new(alloc);
+    for _ in 0..6usize {
+        let sent = send(rt, first)?;
+        note(&mut found, sent as u64)?;
+        let word = take(rt, second)?;
+        note(&mut found, word)?;
+        note(&mut found, second.node().lamport())?;
+    }
+    Ok(found)
 }
 
-// The number under which the payload was taken, where all was in order.
-fn one_parcel<N: Names, R: Wait>(
-    rt: &R,
+fn all_kinds<N: Names>(
+    rt: &impl Wait,
     alloc: Global,
     input: LinkIn<Envelope>,
     output: LinkOut<Envelope>,
-    payload: Payload,
-) -> Result<Option<u64>, AllocError>
+) -> Result<Vec<u64>, CallFault>
     requires wires { (input.wire ≡ output.wire) × (N.wires ≡ input.wire ∷ []) }
-    requires fresh { input.sent ≡ [] }
+    requires fresh { (input.sent ≡ []) × (output.received ≡ []) }
 {
-    let mut sender = bulk_sending::<Post, N>(alloc, new_poster(alloc, 0), input)?;
-    let mut receiver = bulk_receiving::<Post, N>(alloc, new_poster(alloc, 1), output)?;
-    let sent = send_first(rt, &mut sender, payload)?;
-    let told = bulk_told(&mut sender, &mut receiver);
-    let received = receive_first(rt, &mut receiver)?;
-    let acked = bulk_acknowledged(&mut sender, &mut receiver);
-    agree_two(&mut sender, &mut receiver);
-    let number = receiver.node().lamport();
-    let (sender, receiver) = all_agree(alloc, sender, receiver)?;
-    let left = ended(rt, finish_bulk(sender, 0, receiver, 0));
-    Ok((sent && told && acked && received == Some(5) && left).then_some(number))
+    let mut first = sender::<N>(alloc, input)?;
+    let mut second = receiver::<N>(alloc, output)?;
+    put(&mut first, 4, Some(Made::Label(pulse(9))))?;
+    put(&mut first, 0, Some(payload(alloc)?))?;
+    put(&mut first, 0, None)?;
+    put(&mut first, 0, Some(beat(alloc)))?;
+    put(&mut first, 0, Some(payload(alloc)?))?;
+    let found = one_by_one(rt, alloc, &mut first, &mut second)?;
+    opened(alloc, first, second)?;
+    Ok(found)
+}
+
+// Opened nodes agree, in every way in which they are paired.
+fn opened<N: Names>(
+    alloc: Global,
+    first: Held<Depot, N>,
+    second: Held<Depot, N>,
+) -> Result<(), AllocError> {
+    let mut senders = Vec::new(alloc);
+    senders.push(first)?;
+    let mut receivers = Vec::new(alloc);
+    receivers.push(second)?;
+    agree_all(&mut senders, &mut receivers);
+    agree_within(&mut senders);
+    Ok(())
 }
 
 #[test]
-fn a_payload_through_two_nodes(rt: HostRuntime) -> Result<(), Fail> {
+fn an_outbox_that_waits(rt: HostRuntime) -> Result<(), Fail> {
+    let (input, output) = link::<Envelope>(rt.alloc(), 1)?;
+    let Ok(found) = all_kinds::<Brand>(&rt, rt.alloc(), input, output) else {
+        return Err(Fail::from("no memory"));
+    };
+    let rows = [
+        1, 9, 6, 3, 100, 7, 4, 200, 9, 5, 101, 10, 5, 0, 10, 5, 0, 10,
+    ];
+    assert_eq!(rt; found.as_slice(), rows.as_slice());
+    Ok(())
+}
+
+// The greatest number is worn at either node, and what can't be taken stays in front. A payload may be passed over, a label not.
+fn worn_at_last<N: Names>(
+    rt: &impl Wait,
+    alloc: Global,
+    input: LinkIn<Envelope>,
+    output: LinkOut<Envelope>,
+) -> Result<Vec<(u64, u64)>, CallFault>
+    requires wires { (input.wire ≡ output.wire) × (N.wires ≡ input.wire ∷ []) }
+    requires fresh { (input.sent ≡ []) × (output.received ≡ []) }
+{
+    let mut found = Vec::new(alloc);
+    let mut first = sender::<N>(alloc, input)?;
+    let mut second = receiver::<N>(alloc, output)?;
+    put(&mut first, 0, Some(payload(alloc)?))?;
+    note(
+        &mut found,
+        told(put(
+            &mut first,
+            18446744073709551614,
+            Some(Made::Label(pulse(9))),
+        )),
+    )?;
+    note(&mut found, told(put(&mut first, 0, None)))?;
+    send(rt, &mut first)?;
+    note(&mut found, (passed(rt, &mut second), 0))?;
+    note(&mut found, (passed(rt, &mut second), 0))?;
+    note(&mut found, told(take(rt, &mut second)))?;
+    note(&mut found, told(take(rt, &mut second)))?;
+    note(
+        &mut found,
+        (
+            second.node().lamport(),
+            second.node().journal().len() as u64,
+        ),
+    )?;
+    Ok(found)
+}
+
+// 1 where the next was passed over.
+fn passed<N: Names>(rt: &impl Wait, held: &mut Held<Depot, N>) -> u64 {
+    if held.ins().len() == 0 {
+        return 0;
+    }
+    held.pull(rt, 0);
+    u64::from(held.pass_over(0))
+}
+
+#[test]
+fn worn(rt: HostRuntime) -> Result<(), Fail> {
     let (input, output) = link::<Envelope>(rt.alloc(), 3)?;
-    let Some(value) = Value::of(rt.alloc(), b"v")? else {
-        return Err(Fail::from("no value"));
+    let Ok(found) = worn_at_last::<Brand>(&rt, rt.alloc(), input, output) else {
+        return Err(Fail::from("no memory"));
     };
-    let payload = Payload {
-        label: pulse(1),
-        value,
-    };
-    let number = one_parcel::<Brand, _>(&rt, rt.alloc(), input, output, payload)?;
-    assert_eq!(rt; number, Some(6));
+    let last = 18446744073709551615;
+    let rows = [
+        (0, last),
+        (1, last),
+        (1, 0),
+        (0, 0),
+        (1, last),
+        (1, last),
+        (0, 0),
+    ];
+    assert_eq!(rt; found.as_slice(), rows.as_slice());
     Ok(())
 }

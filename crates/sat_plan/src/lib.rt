@@ -6,10 +6,10 @@
 mod best;
 mod building;
 mod draft;
-mod edges;
+pub mod edges;
 mod grow;
 mod measure;
-mod pairs;
+pub mod pairs;
 mod routes;
 mod terms;
 mod text;
@@ -19,7 +19,7 @@ ghost use Rattle.sat_plan.specs.Laws.{LeastIsLeast, OnWayIsOnPath, GrowsToTheEnd
 
 pub use building::{Built, build};
 pub use measure::mismatch;
-pub use text::write_built;
+pub use text::{mismatch_line, place_lines, tree_line, write_built};
 
 /// What the words of the definitions mean: an edge lies on the way between two sites just where it is a step of their path, the
 /// least below a number is the least, a tree is grown to the end, an edge's best delay is the best of all whole numbers, and the

@@ -57,9 +57,9 @@ fn seats_text(alloc: Global, tree: &Tree) -> Result<Vec<u8>, AllocError>
     Ok(text)
 }
 
-// `plan tree PARENTS / SEATS`
+/// The line of a tree as a plan of a script, `plan tree PARENTS / SEATS`.
 #[tactic(auto, unfolding(sat_tree::specs::PlanLine::tree_line))]
-fn tree_line(alloc: Global, tree: &Tree) -> Result<Vec<u8>, AllocError>
+pub fn tree_line(alloc: Global, tree: &Tree) -> Result<Vec<u8>, AllocError>
     ensures { IfOk result (λ text. text.items ≡ tree_line tree.now) }
 {
     let mut text = b"plan tree".as_slice().to_vec(alloc)?;
@@ -82,8 +82,9 @@ fn place_line(alloc: Global, places: &[u64], z: u16) -> Result<String, AllocErro
     format!(in alloc; "place z{z} {place}\n")
 }
 
+/// A line `place zK P` for each serializer. It asks for one place for each.
 #[tactic(auto, using(crate::proofs::Texts::places_start, crate::proofs::Texts::places_more))]
-fn place_lines(alloc: Global, tree: &Tree, places: &[u64]) -> Result<Vec<u8>, AllocError>
+pub fn place_lines(alloc: Global, tree: &Tree, places: &[u64]) -> Result<Vec<u8>, AllocError>
     requires { length places.now ≡ length tree.now.parents }
     ensures { IfOk result (λ text. text.items ≡ place_lines places.now (length tree.now.parents)) }
 {
@@ -129,8 +130,9 @@ fn delay_lines(alloc: Global, tree: &Tree, delays: &[u64]) -> Result<Vec<u8>, Al
     Ok(text)
 }
 
+/// The line `mismatch M`.
 #[tactic(auto, unfolding(crate::specs::Texts::mismatch_line))]
-fn mismatch_line(alloc: Global, mismatch: u64) -> Result<String, AllocError>
+pub fn mismatch_line(alloc: Global, mismatch: u64) -> Result<String, AllocError>
     ensures { IfOk result (λ text. string_bytes text ≡ mismatch_line mismatch) }
 {
     format!(in alloc; "mismatch {mismatch}\n")

@@ -1,2 +1,4 @@
+pub mod Fronts
+pub mod Digits
 pub mod Commas
 pub mod Lines

@@ -2,7 +2,7 @@
 use Rattle.std.specs.Prelude.{ℕ, List, [], ◌∷◌, ◌++◌, codes}
 use Rattle.std.specs.Fmt.{decimal}
 use Rattle.sat_script.specs.declared.fault.Cause.{Cause}
-use Rattle.sat_script.specs.declared.fault.Cause.TheVariants.{AfterEnd, LongLine, NoEnd, NotText, BadHeader, BadAct, Unbuilt, NotLive, TooMany, SameName, UnknownName, OutOfRange, BadTree, NoEdge, Memory}
+use Rattle.sat_script.specs.declared.fault.Cause.TheVariants.{AfterEnd, LongLine, NoEnd, NotText, BadHeader, BadAct, NotLive, TooMany, SameName, UnknownName, OutOfRange, BadTree, NoEdge, Memory}
 use Rattle.sat_script.specs.declared.fault.ScriptFault.{ScriptFault}
 
 unfoldable pub cause_name : Cause → List ℕ
@@ -12,7 +12,6 @@ cause_name NoEnd = codes "NoEnd"
 cause_name NotText = codes "NotText"
 cause_name BadHeader = codes "BadHeader"
 cause_name BadAct = codes "BadAct"
-cause_name Unbuilt = codes "Unbuilt"
 cause_name NotLive = codes "NotLive"
 cause_name TooMany = codes "TooMany"
 cause_name SameName = codes "SameName"

@@ -1,4 +1,5 @@
 pub mod Texts
+pub mod Fronts
 pub mod Answers
 pub mod Holdings
 pub mod Faults

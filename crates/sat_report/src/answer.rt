@@ -1,185 +1,213 @@
 //! Lines of answers.
-ghost use Rattle.std.specs.Prelude.{◌≡◌, ◌++◌, ◌∷◌, [], ◌+◌, IfOk, OnOk, OnErr, string_bytes, codes};
-ghost use Rattle.sat_label.specs.Text.{point_text};
+ghost use Rattle.std.specs.Prelude.{◌≡◌, ◌++◌, ◌∷◌, [], OnOk, OnErr, codes};
 ghost use Rattle.std.specs.Fmt.{decimal};
-ghost use Rattle.sat_report.specs.Texts.{nodes_text};
-ghost use Rattle.sat_report.specs.Answers.{refusal_text, with_number, with_label, with_kind, with_item, answer_text, answer_line};
+ghost use Rattle.sat_label.specs.Text.{point_text};
+ghost use Rattle.sat_report.specs.Texts.{kind_word, label_text, name_of_item, nodes_text};
+ghost use Rattle.sat_report.specs.Fronts.{Keeps};
+ghost use Rattle.sat_report.specs.Answers.{refusal_text, with_kind, with_label, answer_text, answer_line};
 
-use crate::text::{kind_word, name_of_item, nodes_text};
+use crate::text::{
+    append_nodes, append_place, append_point, append_with_number, kind_word, name_of_item,
+};
 use sat_act::{Answer, Deployment, Entry, Refusal};
-use sat_label::{Label, Nodes, Point, Value};
-use std::alloc::{AllocError, Global};
+use sat_label::{Label, NodeId, Nodes, Point, Value};
+use std::alloc::AllocError;
 
-fn plain(alloc: Global, word: &str) -> Result<Vec<u8>, AllocError>
-    ensures { IfOk result (λ text. text.items ≡ word.now) }
+// In this file each word that something follows ends with its space.
+fn append_with_point(word: &[u8], point: &Point, out: &mut Vec<u8>) -> Result<(), AllocError>
+    ensures ok { OnOk result (out.new.items ≡ out.old.items ++ (word.now ++ point_text point.now)) }
+    ensures err { OnErr result (Keeps out.old.items out.new.items) }
 {
-    word.as_bytes().to_vec(alloc)
+    out.extend_from_slice(word)?;
+    append_point(point, out)
 }
 
-fn with_number(alloc: Global, word: &str, number: u64) -> Result<Vec<u8>, AllocError>
-    ensures { IfOk result (λ text. text.items ≡ with_number word.now number) }
-{
-    let text = format!(in alloc; "{word} {number}")?;
-    Ok(text.into_bytes())
-}
-
-fn with_label(alloc: Global, word: &str, label: &Label) -> Result<Vec<u8>, AllocError>
-    ensures { IfOk result (λ text. text.items ≡ with_label word.now label.now) }
-{
-    let Point { ts, site, gear } = label.point;
-    let text = format!(in alloc; "{word} {ts}.{site}.{gear}")?;
-    Ok(text.into_bytes())
-}
-
-fn with_kind(alloc: Global, word: &str, label: &Label) -> Result<Vec<u8>, AllocError>
-    ensures { IfOk result (λ text. text.items ≡ with_kind word.now label.now) }
-{
-    let kind = kind_word(label.kind);
-    let Point { ts, site, gear } = label.point;
-    let text = format!(in alloc; "{word} {kind} {ts}.{site}.{gear}")?;
-    Ok(text.into_bytes())
-}
-
-fn with_item(
-    alloc: Global,
-    d: &Deployment,
-    word: &str,
+fn append_with_name(
+    word: &[u8],
+    name: &[u8],
     label: &Label,
-) -> Result<Vec<u8>, AllocError>
-    ensures { IfOk result (λ text. text.items ≡ with_item d.now word.now label.now) }
+    out: &mut Vec<u8>,
+) -> Result<(), AllocError>
+    ensures ok { OnOk result (out.new.items ≡ out.old.items ++ (word.now ++ (name.now ++ 32 ∷ label_text label.now))) }
+    ensures err { OnErr result (Keeps out.old.items out.new.items) }
 {
-    let mut text = format!(in alloc; "{word} ")?.into_bytes();
-    text.extend_from_slice(name_of_item(d, label.kind))?;
-    let Point { ts, site, gear } = label.point;
-    let label = format!(in alloc; " {ts}.{site}.{gear}")?;
-    text.extend_from_slice(label.as_bytes())?;
-    Ok(text)
+    out.extend_from_slice(word)?;
+    out.extend_from_slice(name)?;
+    append_with_point(b" ", &label.point, out)
 }
 
-fn with_point(alloc: Global, word: &str, point: &Point) -> Result<Vec<u8>, AllocError>
-    ensures { IfOk result (λ text. text.items ≡ word.now ++ 32 ∷ point_text point.now) }
+fn append_with_kind(word: &[u8], label: &Label, out: &mut Vec<u8>) -> Result<(), AllocError>
+    ensures ok { OnOk result (out.new.items ≡ out.old.items ++ (word.now ++ (kind_word label.now.kind ++ 32 ∷ label_text label.now))) }
+    ensures err { OnErr result (Keeps out.old.items out.new.items) }
 {
-    let Point { ts, site, gear } = *point;
-    let text = format!(in alloc; "{word} {ts}.{site}.{gear}")?;
-    Ok(text.into_bytes())
+    append_with_name(word, kind_word(label.kind).as_bytes(), label, out)
 }
 
-fn read_text(alloc: Global, label: &Label, value: &Value) -> Result<Vec<u8>, AllocError>
-    ensures { IfOk result (λ text. text.items ≡ with_label (codes "read") label.now ++ 32 ∷ value.now) }
+fn append_with_item(
+    d: &Deployment,
+    word: &[u8],
+    label: &Label,
+    out: &mut Vec<u8>,
+) -> Result<(), AllocError>
+    ensures ok { OnOk result (out.new.items ≡ out.old.items ++ (word.now ++ (name_of_item d.now label.now.kind ++ 32 ∷ label_text label.now))) }
+    ensures err { OnErr result (Keeps out.old.items out.new.items) }
 {
-    let mut text = with_label(alloc, "read", label)?;
-    text.push(b' ')?;
-    text.extend_from_slice(value.bytes())?;
-    Ok(text)
+    append_with_name(word, name_of_item(d, label.kind), label, out)
 }
 
-fn hopped_text(alloc: Global, label: &Label, to: &Nodes) -> Result<Vec<u8>, AllocError>
-    ensures { IfOk result (λ text. text.items ≡ with_kind (codes "hopped") label.now ++ (codes " to " ++ nodes_text to.now)) }
+fn append_read(label: &Label, value: &Value, out: &mut Vec<u8>) -> Result<(), AllocError>
+    ensures ok { OnOk result (out.new.items ≡ out.old.items ++ (with_label (codes "read") label.now ++ 32 ∷ value.now)) }
+    ensures err { OnErr result (Keeps out.old.items out.new.items) }
 {
-    let mut text = with_kind(alloc, "hopped", label)?;
-    text.extend_from_slice(b" to ")?;
-    let nodes = nodes_text(alloc, to.as_slice())?;
-    text.extend_from_slice(nodes.as_slice())?;
-    Ok(text)
+    append_with_point(b"read ", &label.point, out)?;
+    out.push(b' ')?;
+    out.extend_from_slice(value.bytes())
 }
 
-fn gathered_text(alloc: Global, labels: u64, stable: u64) -> Result<Vec<u8>, AllocError>
-    ensures { IfOk result (λ text. text.items ≡ codes "gathered " ++ (decimal labels ++ (codes " stable " ++ decimal stable))) }
+fn append_route(to: &[NodeId], out: &mut Vec<u8>) -> Result<(), AllocError>
+    ensures ok { OnOk result (out.new.items ≡ out.old.items ++ (codes " to " ++ nodes_text to.now)) }
+    ensures err { OnErr result (Keeps out.old.items out.new.items) }
 {
-    let text = format!(in alloc; "gathered {labels} stable {stable}")?;
-    Ok(text.into_bytes())
+    out.extend_from_slice(b" to ")?;
+    append_nodes(to, out)
 }
 
-fn closed_text(alloc: Global, epoch: u16, cut: &Point) -> Result<Vec<u8>, AllocError>
-    ensures { IfOk result (λ text. text.items ≡ codes "closed " ++ (decimal epoch ++ 32 ∷ point_text cut.now)) }
+fn append_hopped(label: &Label, to: &Nodes, out: &mut Vec<u8>) -> Result<(), AllocError>
+    ensures ok { OnOk result (out.new.items ≡ out.old.items ++ (with_kind (codes "hopped") label.now ++ (codes " to " ++ nodes_text to.now))) }
+    ensures err { OnErr result (Keeps out.old.items out.new.items) }
 {
-    let Point { ts, site, gear } = *cut;
-    let text = format!(in alloc; "closed {epoch} {ts}.{site}.{gear}")?;
-    Ok(text.into_bytes())
+    append_with_kind(b"hopped ", label, out)?;
+    append_route(to.as_slice(), out)
 }
 
-fn settled_text(alloc: Global, rounds: u64, done: u64) -> Result<Vec<u8>, AllocError>
-    ensures { IfOk result (λ text. text.items ≡ codes "settled " ++ (decimal rounds ++ 32 ∷ decimal done)) }
+fn append_gathered(labels: u64, stable: u64, out: &mut Vec<u8>) -> Result<(), AllocError>
+    ensures ok { OnOk result (out.new.items ≡ out.old.items ++ (codes "gathered " ++ (decimal labels ++ (codes " stable " ++ decimal stable)))) }
+    ensures err { OnErr result (Keeps out.old.items out.new.items) }
 {
-    let text = format!(in alloc; "settled {rounds} {done}")?;
-    Ok(text.into_bytes())
+    append_with_number(b"gathered ", labels, out)?;
+    append_with_number(b" stable ", stable, out)
+}
+
+fn append_closed(epoch: u16, cut: &Point, out: &mut Vec<u8>) -> Result<(), AllocError>
+    ensures ok { OnOk result (out.new.items ≡ out.old.items ++ (codes "closed " ++ (decimal epoch ++ 32 ∷ point_text cut.now))) }
+    ensures err { OnErr result (Keeps out.old.items out.new.items) }
+{
+    append_with_number(b"closed ", u64::from(epoch), out)?;
+    append_with_point(b" ", cut, out)
+}
+
+fn append_settled(rounds: u64, done: u64, out: &mut Vec<u8>) -> Result<(), AllocError>
+    ensures ok { OnOk result (out.new.items ≡ out.old.items ++ (codes "settled " ++ (decimal rounds ++ 32 ∷ decimal done))) }
+    ensures err { OnErr result (Keeps out.old.items out.new.items) }
+{
+    append_with_number(b"settled ", rounds, out)?;
+    append_with_number(b" ", done, out)
 }
 
 #[tactic(auto, unfolding(crate::specs::Answers::refusal_text))]
-fn refused_text(alloc: Global, refusal: &Refusal) -> Result<Vec<u8>, AllocError>
-    ensures { IfOk result (λ text. text.items ≡ codes "refused " ++ refusal_text refusal.now) }
+fn append_refusal(refusal: &Refusal, out: &mut Vec<u8>) -> Result<(), AllocError>
+    ensures ok { OnOk result (out.new.items ≡ out.old.items ++ refusal_text refusal.now) }
+    ensures err { OnErr result (Keeps out.old.items out.new.items) }
 {
     match refusal {
-        Refusal::NoSession => plain(alloc, "refused NoSession"),
-        Refusal::NotHere => plain(alloc, "refused NotHere"),
-        Refusal::Spent => plain(alloc, "refused Spent"),
-        Refusal::SameSite => plain(alloc, "refused SameSite"),
-        Refusal::Joined => plain(alloc, "refused Joined"),
-        Refusal::NotYet => plain(alloc, "refused NotYet"),
-        Refusal::Idle => plain(alloc, "refused Idle"),
-        Refusal::Empty => plain(alloc, "refused Empty"),
-        Refusal::Dead => plain(alloc, "refused Dead"),
-        Refusal::NoPayload(label) => with_label(alloc, "refused NoPayload", label),
-        Refusal::StampOrder => plain(alloc, "refused StampOrder"),
-        Refusal::TreeOrder => plain(alloc, "refused TreeOrder"),
-        Refusal::NoSuch => plain(alloc, "refused NoSuch"),
-        Refusal::NoNextEpoch => plain(alloc, "refused NoNextEpoch"),
-        Refusal::Behind => plain(alloc, "refused Behind"),
-        Refusal::NotClosed => plain(alloc, "refused NotClosed"),
-        Refusal::Already => plain(alloc, "refused Already"),
+        Refusal::NoSession => out.extend_from_slice(b"NoSession"),
+        Refusal::NotHere => out.extend_from_slice(b"NotHere"),
+        Refusal::Spent => out.extend_from_slice(b"Spent"),
+        Refusal::SameSite => out.extend_from_slice(b"SameSite"),
+        Refusal::Joined => out.extend_from_slice(b"Joined"),
+        Refusal::NotYet => out.extend_from_slice(b"NotYet"),
+        Refusal::Idle => out.extend_from_slice(b"Idle"),
+        Refusal::Empty => out.extend_from_slice(b"Empty"),
+        Refusal::Dead => out.extend_from_slice(b"Dead"),
+        Refusal::NoPayload(label) => append_with_point(b"NoPayload ", &label.point, out),
+        Refusal::StampOrder => out.extend_from_slice(b"StampOrder"),
+        Refusal::TreeOrder => out.extend_from_slice(b"TreeOrder"),
+        Refusal::NoSuch => out.extend_from_slice(b"NoSuch"),
+        Refusal::NoNextEpoch => out.extend_from_slice(b"NoNextEpoch"),
+        Refusal::Behind => out.extend_from_slice(b"Behind"),
+        Refusal::NotClosed => out.extend_from_slice(b"NotClosed"),
+        Refusal::Already => out.extend_from_slice(b"Already"),
     }
 }
 
+fn append_refused(refusal: &Refusal, out: &mut Vec<u8>) -> Result<(), AllocError>
+    ensures ok { OnOk result (out.new.items ≡ out.old.items ++ (codes "refused " ++ refusal_text refusal.now)) }
+    ensures err { OnErr result (Keeps out.old.items out.new.items) }
+{
+    out.extend_from_slice(b"refused ")?;
+    append_refusal(refusal, out)
+}
+
 #[tactic(auto, unfolding(crate::specs::Answers::answer_text))]
-fn answer_text(alloc: Global, d: &Deployment, answer: &Answer) -> Result<Vec<u8>, AllocError>
-    ensures { IfOk result (λ text. text.items ≡ answer_text d.now answer.now) }
+fn append_answer(d: &Deployment, answer: &Answer, out: &mut Vec<u8>) -> Result<(), AllocError>
+    ensures ok { OnOk result (out.new.items ≡ out.old.items ++ answer_text d.now answer.now) }
+    ensures err { OnErr result (Keeps out.old.items out.new.items) }
 {
     match answer {
-        Answer::Ticked(promise) => with_number(alloc, "ticked", *promise),
-        Answer::Clocked(promise) => with_number(alloc, "clocked", *promise),
-        Answer::Wrote(label) => with_label(alloc, "wrote", label),
-        Answer::ReadNone => plain(alloc, "read none"),
-        Answer::ReadSome { label, value } => read_text(alloc, label, value),
-        Answer::Moved(label) => with_label(alloc, "moved", label),
-        Answer::Left(point) => with_point(alloc, "left", point),
-        Answer::Attached => plain(alloc, "attached"),
-        Answer::Gathered { labels, stable } => gathered_text(alloc, *labels, *stable),
-        Answer::Emitted(label) => with_kind(alloc, "emitted", label),
-        Answer::Pulsed(label) => with_label(alloc, "pulsed", label),
-        Answer::Hopped { label, to } => hopped_text(alloc, label, to),
-        Answer::Shown(label) => with_item(alloc, d, "shown", label),
-        Answer::Took(label) => with_kind(alloc, "took", label),
-        Answer::Brought(label) => with_item(alloc, d, "brought", label),
-        Answer::Again => plain(alloc, "again"),
-        Answer::Beat(number) => with_number(alloc, "beat", *number),
-        Answer::Taken => plain(alloc, "taken"),
-        Answer::Old => plain(alloc, "old"),
-        Answer::Closed { epoch, cut } => closed_text(alloc, *epoch, cut),
-        Answer::Fallen => plain(alloc, "fallen"),
-        Answer::View(view) => with_number(alloc, "view", u64::from(*view)),
-        Answer::Killed => plain(alloc, "killed"),
-        Answer::Settled { rounds, done } => settled_text(alloc, *rounds, *done),
-        Answer::Refused(refusal) => refused_text(alloc, refusal),
+        Answer::Ticked(promise) => append_with_number(b"ticked ", *promise, out),
+        Answer::Clocked(promise) => append_with_number(b"clocked ", *promise, out),
+        Answer::Wrote(label) => append_with_point(b"wrote ", &label.point, out),
+        Answer::ReadNone => out.extend_from_slice(b"read none"),
+        Answer::ReadSome { label, value } => append_read(label, value, out),
+        Answer::Moved(label) => append_with_point(b"moved ", &label.point, out),
+        Answer::Left(point) => append_with_point(b"left ", point, out),
+        Answer::Attached => out.extend_from_slice(b"attached"),
+        Answer::Gathered { labels, stable } => append_gathered(*labels, *stable, out),
+        Answer::Emitted(label) => append_with_kind(b"emitted ", label, out),
+        Answer::Pulsed(label) => append_with_point(b"pulsed ", &label.point, out),
+        Answer::Hopped { label, to } => append_hopped(label, to, out),
+        Answer::Shown(label) => append_with_item(d, b"shown ", label, out),
+        Answer::Took(label) => append_with_kind(b"took ", label, out),
+        Answer::Brought(label) => append_with_item(d, b"brought ", label, out),
+        Answer::Again => out.extend_from_slice(b"again"),
+        Answer::Beat(number) => append_with_number(b"beat ", *number, out),
+        Answer::Taken => out.extend_from_slice(b"taken"),
+        Answer::Old => out.extend_from_slice(b"old"),
+        Answer::Closed { epoch, cut } => append_closed(*epoch, cut, out),
+        Answer::Fallen => out.extend_from_slice(b"fallen"),
+        Answer::View(view) => append_with_number(b"view ", u64::from(*view), out),
+        Answer::Killed => out.extend_from_slice(b"killed"),
+        Answer::Settled { rounds, done } => append_settled(*rounds, *done, out),
+        Answer::Refused(refusal) => append_refused(refusal, out),
     }
 }
 
 #[tactic(auto, unfolding(crate::specs::Answers::answer_line), using(std::proofs::lemmas::List::append_assoc))]
-fn answer_line(
-    alloc: Global,
+fn append_line(
     d: &Deployment,
     number: u64,
     answer: &Answer,
-) -> Result<Vec<u8>, AllocError>
-    ensures { IfOk result (λ line. line.items ≡ answer_line d.now number answer.now) }
+    out: &mut Vec<u8>,
+) -> Result<(), AllocError>
+    ensures ok { OnOk result (out.new.items ≡ out.old.items ++ answer_line d.now number answer.now) }
+    ensures err { OnErr result (Keeps out.old.items out.new.items) }
 {
-    let mut line = format!(in alloc; "{number} ")?.into_bytes();
-    let text = answer_text(alloc, d, answer)?;
-    line.extend_from_slice(text.as_slice())?;
-    line.push(b'\n')?;
-    Ok(line)
+    append_place(number, out)?;
+    append_answer(d, answer, out)?;
+    out.push(b'\n')?;
+    Ok(())
 }
 
 /// Appends the line of an answer: its number, from 1, a space, and the answer's text.
+/// No memory is taken but what `out` grows by. For want of memory `out` is as before.
+pub fn write_line(
+    d: &Deployment,
+    number: u64,
+    answer: &Answer,
+    out: &mut Vec<u8>,
+) -> Result<(), AllocError>
+    ensures ok { OnOk result (out.new.items ≡ out.old.items ++ answer_line d.now number answer.now) }
+    ensures err { OnErr result (out.new.items ≡ out.old.items) }
+{
+    let length = out.len();
+    let written = append_line(d, number, answer, out);
+    if written.is_err() {
+        out.truncate(length);
+    }
+    written
+}
+
+/// Appends the line of an entry's answer, as [`write_line`] does.
 /// An entry that is inner is written like any other; a report leaves these out. For want of memory `out` is as before.
 pub fn write_answer(
     d: &Deployment,
@@ -190,7 +218,5 @@ pub fn write_answer(
     ensures ok { OnOk result (out.new.items ≡ out.old.items ++ answer_line d.now number entry.now.answer) }
     ensures err { OnErr result (out.new.items ≡ out.old.items) }
 {
-    let line = answer_line(*out.allocator(), d, number, &entry.answer)?;
-    out.extend_from_slice(line.as_slice())?;
-    Ok(())
+    write_line(d, number, &entry.answer, out)
 }

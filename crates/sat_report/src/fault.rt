@@ -16,7 +16,6 @@ fn cause_name(cause: Cause) -> &'static str
         Cause::NotText => "NotText",
         Cause::BadHeader => "BadHeader",
         Cause::BadAct => "BadAct",
-        Cause::Unbuilt => "Unbuilt",
         Cause::NotLive => "NotLive",
         Cause::TooMany => "TooMany",
         Cause::SameName => "SameName",

@@ -6,7 +6,7 @@ mod fault;
 mod holdings;
 mod text;
 
-pub use answer::write_answer;
+pub use answer::{write_answer, write_line};
 pub use fault::write_fault;
 pub use holdings::write_holdings;
 

@@ -60,6 +60,14 @@ fn answers_with_a_label(rt: HostRuntime) -> Result<(), Fail> {
         (Answer::Moved(label(Kind::Move(0))), "7 moved 11.1.0\n"),
         (Answer::Left(label(Kind::Pulse).point), "7 left 11.1.0\n"),
         (
+            Answer::Left(Point {
+                ts: u64::MAX,
+                site: u16::MAX,
+                gear: u16::MAX,
+            }),
+            "7 left 18446744073709551615.65535.65535\n",
+        ),
+        (
             Answer::Emitted(label(Kind::Update(0))),
             "7 emitted update 11.1.0\n",
         ),
@@ -209,7 +217,6 @@ fn faults(rt: HostRuntime) -> Result<(), Fail> {
         (Cause::NotText, "line 9: NotText\n"),
         (Cause::BadHeader, "line 9: BadHeader\n"),
         (Cause::BadAct, "line 9: BadAct\n"),
-        (Cause::Unbuilt, "line 9: Unbuilt\n"),
         (Cause::NotLive, "line 9: NotLive\n"),
         (Cause::TooMany, "line 9: TooMany\n"),
         (Cause::SameName, "line 9: SameName\n"),

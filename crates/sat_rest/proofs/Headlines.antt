@@ -15,7 +15,7 @@ use Rattle.sat_rest.specs.Laws.{EveryRunIsGood}
 use Rattle.sat_laws.proofs.Headlines.{good}
 
 -- the answer of an act, after the inner entries of a settle
-act-is : (d : Deployed) (h : List Entry) (a : Act) → IsRun d h → InRange d a → IsRun d (entry a (answer_of d h a) false ∷ with_inner d h a)
+pub act-is : (d : Deployed) (h : List Entry) (a : Act) → IsRun d h → InRange d a → IsRun d (entry a (answer_of d h a) false ∷ with_inner d h a)
 unfolding IsRun answer_of with_inner
 act-is d h act.Settle run range = ((settle-after d h run).is_run, range, inr (h, refl, refl, refl))
 act-is d h a run range = (run, range, inl (refl, refl))

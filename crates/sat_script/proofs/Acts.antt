@@ -10,14 +10,14 @@ use Rattle.sat_label.specs.declared.node.NodeId.TheVariants.{Site, Serializer}
 use Rattle.sat_tree.specs.Shape.{TreeShape}
 use Rattle.sat_tree.specs.Cut.{is_edge, IsNode}
 use Rattle.sat_script.specs.Dialect.{limits_of}
-use Rattle.sat_script.specs.Built.{is_built_act}
 use Rattle.sat_act.specs.Deployed.{Deployed}
 use Rattle.sat_act.specs.Limits.{IsDeployment}
 use Rattle.sat_act.specs.Parts.{tree_of}
 use Rattle.sat_act.specs.Ranges.{IsActOf}
 use Rattle.sat_act.specs.declared.act.Act.{Act}
 use Rattle.sat_act.specs.declared.act.Act.TheVariants as act
-use Rattle.sat_script.specs.Causes.{bar, is_built, has_room, client_of, item_of, given, barred}
+use Rattle.sat_script.specs.Causes.{bar, has_room, client_of, item_of, given, barred}
+use Rattle.sat_script.specs.Grammar.{with_settle}
 use Rattle.sat_script.specs.Laws.{ActsAreSpelled}
 use Rattle.sat_script.specs.State.{State}
 use Rattle.sat_script.specs.Table.{Said, place, num, bytes, at, word_of, kinds_of, act_forms, act_of, form_of, args_of, shape, says, text, shapes, all_known, onto, in_tree, all_say, no_tree, has_node, joins, edge_cause, unfit, said_act, found_form, form_line, act_line, texts, act_words}
@@ -28,6 +28,7 @@ use Rattle.sat_script.specs.declared.form.Form.{Form}
 use Rattle.sat_script.specs.declared.form.Form.TheVariants as form
 use Rattle.sat_script.specs.declared.form.Kind.{Kind}
 use Rattle.sat_script.specs.declared.form.Kind.TheVariants as kind
+use Rattle.sat_script.specs.declared.line.Parsed.TheVariants as parsed
 use Rattle.sat_script.proofs.Bars.{free, bars_nothing}
 use Rattle.sat_script.proofs.Choices.{passed, unbarred, found, same_ok, word_is}
 use Rattle.sat_script.proofs.Digits.{below_is, to_is, up_to_is}
@@ -332,31 +333,33 @@ acts_spelled bars d (word ∷ words) a is h =
 
 -- ---- what the form bars
 
-form_built : (a : Act) → is_built (form_of a) ≡ is_built_act a
-unfolding is_built
-form_built (act.Bulk i g j None) = refl
-form_built (act.Bulk i g j (Some n)) = refl
-form_built _ = refl
-
-form_room : (s : State) (a : Act) → has_room s (form_of a) ≡ true → ltb s.acts (limits_of s.dialect).acts ≡ true
-unfolding has_room
-form_room s act.Settle h = (and_parts (ltb s.acts (limits_of s.dialect).acts) (ltb s.settles (limits_of s.dialect).settles) h).0
-form_room s (act.Bulk i g j None) h = h
-form_room s (act.Bulk i g j (Some n)) h = h
-form_room s _ h = h
-
 -- where the form bars nothing
 pub form_stands : (s : State) (a : Act) → IsActOf s.header a → bar s (form_of a) ≡ None → ActStands s a
-form_stands s a fits none =
-    let is = free s (form_of a) none in
-    record { fits = fits; built = sym (form_built a) ∙ is.built; has = is.has; room = ltb-true s.acts (limits_of s.dialect).acts (form_room s a is.room) }
-
-room_again : (s : State) (a : Act) → is_built_act a ≡ true → ltb s.acts (limits_of s.dialect).acts ≡ true → has_room s (form_of a) ≡ true
-unfolding has_room
-room_again s act.Settle built h = absurd (cc)
-room_again s (act.Bulk i g j None) built h = h
-room_again s (act.Bulk i g j (Some n)) built h = h
-room_again s _ built h = h
+form_stands s a fits none = let is = free s (form_of a) none in record { fits = fits; has = is.has; room = is.room }
 
 pub stands_free : (s : State) (a : Act) → ActStands s a → bar s (form_of a) ≡ None
-stands_free s a st = bars_nothing s (form_of a) (form_built a ∙ st.built) st.has (room_again s a st.built (lt-ltb s.acts (limits_of s.dialect).acts st.room))
+stands_free s a st = bars_nothing s (form_of a) st.has st.room
+
+-- the room for one more act, and for a settle
+pub act_room : (s : State) (a : Act) → has_room s (form_of a) ≡ true → s.acts < (limits_of s.dialect).acts
+unfolding has_room
+act_room s act.Settle h = ltb-true s.acts (limits_of s.dialect).acts (and_parts (ltb s.acts (limits_of s.dialect).acts) (ltb s.settles (limits_of s.dialect).settles) h).0
+act_room s (act.Bulk i g j None) h = ltb-true s.acts (limits_of s.dialect).acts h
+act_room s (act.Bulk i g j (Some n)) h = ltb-true s.acts (limits_of s.dialect).acts h
+act_room s _ h = ltb-true s.acts (limits_of s.dialect).acts h
+
+pub settle_room : (s : State) (a : Act) → s.settles ≤ (limits_of s.dialect).settles → has_room s (form_of a) ≡ true → with_settle s.settles (parsed.Act a) ≤ (limits_of s.dialect).settles
+unfolding has_room
+settle_room s act.Settle few h =
+    let less = ltb-true s.settles (limits_of s.dialect).settles (and_parts (ltb s.acts (limits_of s.dialect).acts) (ltb s.settles (limits_of s.dialect).settles) h).1 in
+    omega (arith, less)
+settle_room s _ few h = few
+
+-- and the other way
+pub has_both : (s : State) (a : Act) → s.acts < (limits_of s.dialect).acts → with_settle s.settles (parsed.Act a) ≤ (limits_of s.dialect).settles → has_room s (form_of a) ≡ true
+unfolding has_room
+has_both s act.Settle acts settles =
+    and_from (ltb s.acts (limits_of s.dialect).acts) (ltb s.settles (limits_of s.dialect).settles) (lt-ltb s.acts (limits_of s.dialect).acts acts) (lt-ltb s.settles (limits_of s.dialect).settles (omega (arith, settles)))
+has_both s (act.Bulk i g j None) acts settles = lt-ltb s.acts (limits_of s.dialect).acts acts
+has_both s (act.Bulk i g j (Some n)) acts settles = lt-ltb s.acts (limits_of s.dialect).acts acts
+has_both s _ acts settles = lt-ltb s.acts (limits_of s.dialect).acts acts

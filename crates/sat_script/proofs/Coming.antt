@@ -10,7 +10,7 @@ use Rattle.sat_script.specs.Grammar.{line_at, after, is_ended}
 use Rattle.sat_script.specs.Kept.{IsFit, IsWhole, HasHeader, HasSaid, AreWhole}
 use Rattle.sat_script.specs.Laws.{IsRead}
 use Rattle.sat_script.specs.Lines.{running, failed}
-use Rattle.sat_script.specs.Reading.{reading, AreBuiltActs, with_line, told_line, fault_at, stopped, bad}
+use Rattle.sat_script.specs.Reading.{reading, AreActsOf, with_line, told_line, fault_at, stopped, bad}
 use Rattle.sat_script.specs.Spelled.{Spells}
 use Rattle.sat_script.specs.State.{State, Seen, number_of}
 use Rattle.sat_script.specs.Stream.{WholeLines, Came, means, will_be, bytes_of, known_fault, kept, meaning, stopped_at, stuck_with, GoesOn, StopsAt, HasTaken, HasStopped, TakesPiece, goes_on}
@@ -20,6 +20,7 @@ use Rattle.sat_script.specs.declared.fault.Cause.TheVariants.{Memory, AfterEnd, 
 use Rattle.sat_script.specs.declared.fault.ScriptFault.{ScriptFault}
 use Rattle.sat_script.specs.declared.limits.TheConstants.{LONGEST_LINE, MOST_BYTES}
 use Rattle.sat_script.specs.declared.line.Parsed.{Parsed}
+use Rattle.sat_script.specs.declared.line.Parsed.TheVariants as parsed
 use Rattle.sat_script.specs.declared.line.Stage.{Stage}
 use Rattle.sat_script.specs.declared.line.Stage.TheVariants as stage
 use Rattle.sat_script.specs.declared.stream.Reading.{Reading}
@@ -52,13 +53,13 @@ bad_stops old new line told cause e is none bad = record {
       ∙ sym (fresh old.seen (kept old.deployment old.acts) line (10 ∷ more) none);
 }
 
-whole_said : (dialect : Dialect) (here : Stage) (d : Deployed) (deployment : Option Deployed) (acts : List Act) → HasHeader here d → HasSaid dialect here d deployment acts → IfSome deployment (λ d. IsWhole d × AreBuiltActs d acts) × (deployment ≡ None → acts ≡ [])
-whole_said dialect stage.Start d deployment acts kept h = (subst (λ (o : Option Deployed). IfSome o (λ d. IsWhole d × AreBuiltActs d acts)) (sym h.0) tt, λ _. h.1)
-whole_said dialect stage.Sites d deployment acts kept h = (subst (λ (o : Option Deployed). IfSome o (λ d. IsWhole d × AreBuiltActs d acts)) (sym h.0) tt, λ _. h.1)
-whole_said dialect stage.Gears d deployment acts kept h = (subst (λ (o : Option Deployed). IfSome o (λ d. IsWhole d × AreBuiltActs d acts)) (sym h.0) tt, λ _. h.1)
-whole_said dialect stage.Header d deployment acts kept h = (subst (λ (o : Option Deployed). IfSome o (λ d. IsWhole d × AreBuiltActs d acts)) (sym h.0) tt, λ _. h.1)
-whole_said dialect stage.Body d deployment acts kept h = (subst (λ (o : Option Deployed). IfSome o (λ d. IsWhole d × AreBuiltActs d acts)) (sym h.0) (kept, h.1), λ e. absurd (let never : Some d ≡ None = sym h.0 ∙ e in cc))
-whole_said dialect stage.Ended d deployment acts kept h = (subst (λ (o : Option Deployed). IfSome o (λ d. IsWhole d × AreBuiltActs d acts)) (sym h.0) (kept, h.1), λ e. absurd (let never : Some d ≡ None = sym h.0 ∙ e in cc))
+whole_said : (dialect : Dialect) (here : Stage) (d : Deployed) (deployment : Option Deployed) (acts : List Act) → HasHeader here d → HasSaid dialect here d deployment acts → IfSome deployment (λ d. IsWhole d × AreActsOf d acts) × (deployment ≡ None → acts ≡ [])
+whole_said dialect stage.Start d deployment acts kept h = (subst (λ (o : Option Deployed). IfSome o (λ d. IsWhole d × AreActsOf d acts)) (sym h.0) tt, λ _. h.1)
+whole_said dialect stage.Sites d deployment acts kept h = (subst (λ (o : Option Deployed). IfSome o (λ d. IsWhole d × AreActsOf d acts)) (sym h.0) tt, λ _. h.1)
+whole_said dialect stage.Gears d deployment acts kept h = (subst (λ (o : Option Deployed). IfSome o (λ d. IsWhole d × AreActsOf d acts)) (sym h.0) tt, λ _. h.1)
+whole_said dialect stage.Header d deployment acts kept h = (subst (λ (o : Option Deployed). IfSome o (λ d. IsWhole d × AreActsOf d acts)) (sym h.0) tt, λ _. h.1)
+whole_said dialect stage.Body d deployment acts kept h = (subst (λ (o : Option Deployed). IfSome o (λ d. IsWhole d × AreActsOf d acts)) (sym h.0) (kept, h.1), λ e. absurd (let never : Some d ≡ None = sym h.0 ∙ e in cc))
+whole_said dialect stage.Ended d deployment acts kept h = (subst (λ (o : Option Deployed). IfSome o (λ d. IsWhole d × AreActsOf d acts)) (sym h.0) (kept, h.1), λ e. absurd (let never : Some d ≡ None = sym h.0 ∙ e in cc))
 
 pub good_goes : (old new : WholeLines) (line : List ℕ) (p : Parsed) → AreWhole old → old.seen.fault ≡ None → line_at old.seen.state line ≡ Ok p
     → new.seen ≡ running (after old.seen.state p) → kept new.deployment new.acts ≡ with_line (kept old.deployment old.acts) (told_line old.seen.state.header p) → GoesOn old new line
@@ -303,3 +304,13 @@ found_spells live bytes found d is none has =
     let r = no_fault live bytes found is none in
     let same : r.0 ≡ d = (let e : Some r.0 ≡ Some d = sym r.1 ∙ has in cc) in
     subst (λ (d : Deployed). Spells bytes d found.acts) same r.2
+
+-- an act that is kept, or memory runs out
+pub kept_act : (old new : WholeLines) (line : List ℕ) (a : Act) (result : Result (Unit {0}) ScriptFault) → AreWhole old → old.seen.fault ≡ None → line_at old.seen.state line ≡ Ok (parsed.Act a) → new.deployment ≡ old.deployment
+    → OnOk result ((new.seen ≡ record { state = after old.seen.state (parsed.Act a); fault = old.seen.fault }) × (new.acts ≡ old.acts ++ a ∷ []))
+    → IfErr result (λ fault. (fault ≡ fault_at old.seen.state Memory) × (new.seen ≡ failed old.seen.state fault) × (new.acts ≡ old.acts))
+    → KeptLine old new line result
+kept_act old new line a (Ok x) whole none good same ok err =
+    kept_line old new line (parsed.Act a) (Ok x) whole none good (ok.0, ap (λ (d : Option Deployed). kept d new.acts) same ∙ ap (kept old.deployment) ok.1) tt
+kept_act old new line a (Err told) whole none good same ok err =
+    kept_line old new line (parsed.Act a) (Err told) whole none good tt (err.0, err.1, ap (λ (d : Option Deployed). kept d new.acts) same ∙ ap (kept old.deployment) err.2)

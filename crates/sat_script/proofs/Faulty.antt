@@ -9,7 +9,7 @@ use Rattle.sat_script.specs.Grammar.{close_in}
 use Rattle.sat_script.specs.Words.{is_node, is_serializer, node_in, serializer_in, number_below, number_to, number_up_to}
 use Rattle.sat_script.specs.Reading.{reading}
 use Rattle.sat_script.specs.declared.fault.Cause.{Cause}
-use Rattle.sat_script.specs.declared.fault.Cause.TheVariants.{AfterEnd, NoEnd, NotText, BadHeader, BadAct, Unbuilt, TooMany, SameName, UnknownName, OutOfRange, BadTree, NoEdge}
+use Rattle.sat_script.specs.declared.fault.Cause.TheVariants.{AfterEnd, NoEnd, NotText, BadHeader, BadAct, TooMany, SameName, UnknownName, OutOfRange, BadTree, NoEdge}
 
 -- each text has this fault
 abbrev HaveFault : ℕ → Cause → List (List ℕ) → Type 0
@@ -87,12 +87,6 @@ arguments_of_no_form : HaveFault 9 BadAct (after header (
 unfolding reading close_in first_failing client_of item_of is_node is_serializer node_in serializer_in number_below number_to number_up_to tree_of is_edge
 arguments_of_no_form = refl
 
-an_act_that_is_not_built : HaveFault 9 Unbuilt (after header (
-    codes "settle\n" ∷
-    []))
-unfolding reading close_in first_failing client_of item_of is_node is_serializer node_in serializer_in number_below number_to number_up_to tree_of is_edge
-an_act_that_is_not_built = refl
-
 acts_that_are_good : HaveFault 10 NoEnd (after header (
     codes "move a 1\n" ∷
     codes "leave a\n" ∷
@@ -111,6 +105,7 @@ switches_that_are_good : HaveFault 10 NoEnd (after header (
     codes "advance 0\n" ∷
     codes "kill 1 z0\n" ∷
     codes "bulk 0 0 1 18446744073709551615\n" ∷
+    codes "settle\n" ∷
     []))
 unfolding reading close_in first_failing client_of item_of is_node is_serializer node_in serializer_in number_below number_to number_up_to tree_of is_edge
 switches_that_are_good = refl

@@ -11,13 +11,11 @@ use Rattle.sat_label.specs.Words.{first_failing}
 use Rattle.sat_label.proofs.First.{first_more, first_none, first_start}
 use Rattle.sat_tree.specs.Shape.{TreeShape}
 use Rattle.sat_tree.specs.Flaw.{IsSmallTree}
-use Rattle.sat_script.specs.Built.{is_built_act}
 use Rattle.sat_act.specs.Deployed.{Deployed}
 use Rattle.sat_act.specs.Flaw.{flaw, wrong_size, is_within, are_sites, item_fits, client_fits, plan_fits}
 use Rattle.sat_act.specs.Limits.{IsDeployment, HaveTrees}
 use Rattle.sat_act.proofs.Sound.{sound}
 use Rattle.sat_act.specs.declared.act.Act.{Act}
-use Rattle.sat_act.specs.declared.act.Act.TheVariants as act
 use Rattle.sat_act.specs.declared.deployment.Item.{Item}
 use Rattle.sat_act.specs.declared.deployment.ClientLine.{ClientLine}
 use Rattle.sat_act.specs.declared.deployment.Plan.{Plan}
@@ -39,7 +37,7 @@ use Rattle.sat_script.specs.declared.line.Parsed.{Parsed}
 use Rattle.sat_script.specs.declared.line.Parsed.TheVariants as parsed
 use Rattle.sat_script.specs.declared.line.Stage.{Stage}
 use Rattle.sat_script.specs.declared.line.Stage.TheVariants as stage
-use Rattle.sat_script.proofs.Acts.{acts_spelled, form_stands}
+use Rattle.sat_script.proofs.Acts.{acts_spelled, form_stands, act_room, settle_room}
 use Rattle.sat_script.proofs.Choices.{passed, skipped, same_ok, word_is}
 use Rattle.sat_script.proofs.Headers.{format_is, sites_is, gears_is, header_is}
 use Rattle.sat_script.proofs.Lists.{all_more}
@@ -324,10 +322,6 @@ same_counts s fit p header acts settles = record {
   settles = subst (λ (n : ℕ). n ≤ (limits_of s.dialect).settles) (sym settles) fit.settles;
 }
 
-built_settles : (n : ℕ) (a : Act) → is_built_act a ≡ true → with_settle n (parsed.Act a) ≡ n
-built_settles n act.Settle h = absurd (cc)
-built_settles n _ h = refl
-
 counts : (here : Stage) (s : State) (p : Parsed) → IsFit s → Stands here s p → Counts s p
 counts stage.Start s parsed.Format fit h = same_counts s fit parsed.Format refl fit.acts refl
 counts stage.Sites s (parsed.Sites n) fit h = record { sites = h.1; items = fit.items; clients = fit.clients; plans = fit.plans; acts = fit.acts; settles = fit.settles }
@@ -337,7 +331,14 @@ counts stage.Header s (parsed.Client line) fit h = record { sites = fit.sites; i
 counts stage.Header s (parsed.Plan p) fit h =
     record { sites = fit.sites; items = fit.items; clients = fit.clients; plans = omega (arith, push_length s.header.plans p, h.room); acts = fit.acts; settles = fit.settles }
 counts stage.Header s parsed.Begin fit h = same_counts s fit parsed.Begin refl fit.acts refl
-counts stage.Body s (parsed.Act a) fit h = same_counts s fit (parsed.Act a) refl (omega (arith, h.room)) (built_settles s.settles a h.built)
+counts stage.Body s (parsed.Act a) fit h = record {
+  sites = fit.sites;
+  items = fit.items;
+  clients = fit.clients;
+  plans = fit.plans;
+  acts = let less = act_room s a h.room in omega (arith, less);
+  settles = settle_room s a fit.settles h.room;
+}
 counts stage.Body s parsed.End fit h = same_counts s fit parsed.End refl fit.acts refl
 counts _ s _ fit h = absurd h
 

@@ -16,7 +16,7 @@ use Rattle.sat_act.specs.declared.deployment.Plan.{Plan}
 use Rattle.sat_script.specs.Dialect.{is_live, limits_of, has_form}
 use Rattle.sat_script.specs.declared.dialect.Dialect.{Dialect}
 use Rattle.sat_script.specs.declared.dialect.Dialect.TheVariants as dialect
-use Rattle.sat_script.specs.Causes.{bar, is_built, has_room}
+use Rattle.sat_script.specs.Causes.{bar, has_room}
 use Rattle.sat_script.specs.Grammar.{format_line, counted, of_count, sites_line, gears_line, item_line, client_line, begin_line, named_line, header_form, header_line}
 use Rattle.sat_script.specs.Spelled.{item_words, client_words, sites_text}
 use Rattle.sat_script.specs.State.{State}
@@ -152,20 +152,20 @@ any_live dialect.Run f h = refl
 any_live dialect.Live f h = h
 
 item_free : (s : State) → length s.header.items < (limits_of s.dialect).items → bar s form.Item ≡ None
-unfolding is_built is_live has_room
-item_free s room = bars_nothing s form.Item refl (any_live s.dialect form.Item refl) (lt-ltb (length s.header.items) (limits_of s.dialect).items room)
+unfolding is_live has_room
+item_free s room = bars_nothing s form.Item (any_live s.dialect form.Item refl) (lt-ltb (length s.header.items) (limits_of s.dialect).items room)
 
 client_free : (s : State) → length s.header.clients < (limits_of s.dialect).clients → bar s form.Client ≡ None
-unfolding is_built is_live has_room
-client_free s room = bars_nothing s form.Client refl (any_live s.dialect form.Client refl) (lt-ltb (length s.header.clients) (limits_of s.dialect).clients room)
+unfolding is_live has_room
+client_free s room = bars_nothing s form.Client (any_live s.dialect form.Client refl) (lt-ltb (length s.header.clients) (limits_of s.dialect).clients room)
 
 pub tree_free : (s : State) → length s.header.plans < MOST_PLANS → bar s form.PlanTree ≡ None
-unfolding is_built is_live has_room
-tree_free s room = bars_nothing s form.PlanTree refl (any_live s.dialect form.PlanTree refl) (lt-ltb (length s.header.plans) MOST_PLANS room)
+unfolding is_live has_room
+tree_free s room = bars_nothing s form.PlanTree (any_live s.dialect form.PlanTree refl) (lt-ltb (length s.header.plans) MOST_PLANS room)
 
 pub stamp_free : (s : State) → length s.header.plans < MOST_PLANS → bar s form.PlanStamp ≡ None
-unfolding is_built is_live has_room
-stamp_free s room = bars_nothing s form.PlanStamp refl (any_live s.dialect form.PlanStamp refl) (lt-ltb (length s.header.plans) MOST_PLANS room)
+unfolding is_live has_room
+stamp_free s room = bars_nothing s form.PlanStamp (any_live s.dialect form.PlanStamp refl) (lt-ltb (length s.header.plans) MOST_PLANS room)
 
 item_said : (s : State) (item : Item) → s.header.sites ≤ 16 → IsSites s.header.sites item.replicas → ItemStands s item → item_line s item.name (sites_text item.replicas) ≡ Ok (parsed.Item item)
 unfolding item_line

@@ -11,9 +11,12 @@ use Rattle.sat_label.specs.declared.node.NodeId.TheVariants.{Site, Serializer}
 use Rattle.sat_tree.specs.Shape.{TreeShape}
 use Rattle.sat_act.specs.Deployed.{Deployed}
 use Rattle.sat_act.specs.Parts.{tree_of}
-use Rattle.sat_script.specs.Causes.{given, client_of, item_of}
+use Rattle.sat_act.specs.declared.act.Act.{Act}
+use Rattle.sat_script.specs.Causes.{bar, given, client_of, item_of}
+use Rattle.sat_script.specs.Grammar.{is_end, of_act, body_line}
 use Rattle.sat_script.specs.Said.{said_of, begins, IsReadWord, AreRead}
-use Rattle.sat_script.specs.Table.{Said, place, num, bytes, at, shape, known, says, shapes, all_known, all_say, in_tree, onto, no_tree, kinds_of, said_act, form_line}
+use Rattle.sat_script.specs.Table.{Said, place, num, bytes, at, shape, known, says, shapes, all_known, all_say, in_tree, onto, no_tree, kinds_of, act_forms, found_form, said_act, form_line, act_line}
+use Rattle.sat_script.specs.State.{State}
 use Rattle.sat_script.specs.Words.{is_token, is_number, is_node, is_serializer, value_of, number_below, number_to, number_up_to, node_in, serializer_in}
 use Rattle.sat_script.specs.declared.fault.Cause.{Cause}
 use Rattle.sat_script.specs.declared.fault.Cause.TheVariants.{OutOfRange, NoEdge}
@@ -22,6 +25,7 @@ use Rattle.sat_script.specs.declared.form.Kind.{Kind}
 use Rattle.sat_script.specs.declared.form.Kind.TheVariants as kind
 use Rattle.sat_script.specs.declared.said.Said.{Said as Kept}
 use Rattle.sat_script.specs.declared.said.Said.TheVariants as kept
+use Rattle.sat_script.specs.declared.line.Parsed.TheVariants as parsed
 use Rattle.sat_script.proofs.Acts.{mapped}
 use Rattle.sat_script.proofs.Digits.{tested}
 use Rattle.sat_script.proofs.Lists.{map_next}
@@ -166,3 +170,9 @@ goes_all d all words xs t n g kinds rest = goes_end d all words xs t (rw (drop_a
 pub read_line : (bars : Form → Option Cause) (d : Deployed) (f : Form) (words : List (List ℕ)) (xs : List Said) → bars f ≡ None → AreRead d (kinds_of f) words xs → form_line bars d f words ≡ said_act d f (Ok xs)
 unfolding form_line
 read_line bars d f words xs free r = rw (r.shaped, free, r.named, r.said) refl
+
+-- a line whose word has a form, which may stand, and whose words are read
+pub good_line : (s : State) (f : Form) (word : List ℕ) (words : List (List ℕ)) (xs : List Said) (a : Act) → is_end (word ∷ words) ≡ false → found_form word (length words) act_forms ≡ Some f → bar s f ≡ None
+    → AreRead s.header (kinds_of f) words xs → said_act s.header f (Ok xs) ≡ Ok a → body_line s (word ∷ words) ≡ Ok (parsed.Act a)
+unfolding body_line act_line
+good_line s f word words xs a going found free read said = rw (going, found) (ap of_act (read_line (bar s) s.header f words xs free read ∙ said))

@@ -16,6 +16,7 @@ use Rattle.sat_act.specs.Limits.{IsDeployment}
 use Rattle.sat_act.specs.Parts.{tree_of}
 use Rattle.sat_act.proofs.Plans.{tree_from_plans}
 use Rattle.sat_act.specs.declared.act.Act.{Act}
+use Rattle.sat_act.specs.declared.act.Act.TheVariants as act
 use Rattle.sat_act.specs.declared.deployment.Item.{Item}
 use Rattle.sat_act.specs.declared.deployment.ClientLine.{ClientLine}
 use Rattle.sat_act.specs.declared.deployment.Plan.{Plan}
@@ -27,16 +28,17 @@ use Rattle.sat_script.specs.Causes.{bar, has_client, has_item}
 use Rattle.sat_script.specs.Grammar.{is_ended, body_line, words_line, line_at, close_in, after, with_settle}
 use Rattle.sat_script.specs.Table.{act_line, act_words}
 use Rattle.sat_script.specs.Kept.{IsWhole, IsFit}
-use Rattle.sat_script.specs.Reading.{script_from, reading, nothing, after_line, good, told_line, with_line, AreBuiltActs, AreAllowed, IsAllowed, IsWithin}
+use Rattle.sat_script.specs.Reading.{script_from, reading, nothing, after_line, good, told_line, with_line, AreActsOf, AreAllowed, IsAllowed, IsWithin, settles_of}
 use Rattle.sat_script.specs.Spelled.{line_text, item_words, client_words, plan_words, ended, items_text, clients_text, plans_text, acts_text, header_text, spelling, HaveNames, Spells}
 use Rattle.sat_script.specs.State.{State, start}
 use Rattle.sat_script.specs.Words.{is_newline}
-use Rattle.sat_script.specs.declared.limits.TheConstants.{MOST_ACTS, MOST_ITEMS}
+use Rattle.sat_script.specs.declared.limits.TheConstants.{MOST_ACTS, MOST_ITEMS, MOST_SETTLES}
 use Rattle.sat_script.specs.declared.line.Parsed.{Parsed}
 use Rattle.sat_script.specs.declared.line.Parsed.TheVariants as parsed
 use Rattle.sat_script.specs.declared.line.Stage.{Stage}
 use Rattle.sat_script.specs.declared.line.Stage.TheVariants as stage
 use Rattle.sat_script.specs.declared.stream.Reading.{Reading}
+use Rattle.sat_script.proofs.Acts.{has_both}
 use Rattle.sat_script.proofs.ActsRead.{act_reads, not_end}
 use Rattle.sat_script.specs.Grammar.{of_act}
 use Rattle.sat_script.proofs.Choices.{word_is}
@@ -82,15 +84,20 @@ end_reads dialect d n m r is =
     ap (λ (bs : List ℕ). script_from s r (slice_split is_newline bs)) (sym (append-nil (ended (codes "end" ∷ []))))
     ∙ line_step s r (codes "end" ∷ []) [] parsed.End (line_fits stage.Body s parsed.End is is.deployment.few_sites tt) refl refl
 
-body_reads : (dialect : Dialect) (d : Deployed) (more : List Act) (n m : ℕ) (r : Reading) → IsWhole d → AreBuiltActs d more → AreAllowed dialect more → n + length more ≤ (limits_of dialect).acts
+settles_cons : (m : ℕ) (a : Act) (more : List Act) → with_settle m (parsed.Act a) + settles_of more ≡ m + settles_of (a ∷ more)
+settles_cons m act.Settle more = omega arith
+settles_cons m _ more = refl
+
+body_reads : (dialect : Dialect) (d : Deployed) (more : List Act) (n m : ℕ) (r : Reading) → IsWhole d → AreActsOf d more → AreAllowed dialect more → n + length more ≤ (limits_of dialect).acts → m + settles_of more ≤ (limits_of dialect).settles
     → script_from (record { dialect = dialect; stage = stage.Body; header = d; acts = n; settles = m }) r (slice_split is_newline (acts_text d more ++ ended (codes "end" ∷ []))) ≡ with_acts r (r.acts ++ more)
-body_reads dialect d [] n m r is each free few = end_reads dialect d n m r is ∙ ap (with_acts r) (sym (append-nil r.acts))
-body_reads dialect d (a ∷ more) n m r is each free few =
+body_reads dialect d [] n m r is each free few settles = end_reads dialect d n m r is ∙ ap (with_acts r) (sym (append-nil r.acts))
+body_reads dialect d (a ∷ more) n m r is each free few settles =
+    let one = settles_cons m a more in
     let s : State = record { dialect = dialect; stage = stage.Body; header = d; acts = n; settles = m } in
-    let st : ActStands s a = record { fits = each.0.0; built = each.0.1; has = free.0; room = omega (arith, few) } in
+    let st : ActStands s a = record { fits = each.0; has = free.0; room = has_both s a (omega (arith, few)) (omega (arith, one, settles)) } in
     ap (λ (bs : List ℕ). script_from s r (slice_split is_newline bs)) (append_assoc (ended (act_words d a)) (acts_text d more) (ended (codes "end" ∷ [])))
     ∙ line_step s r (act_words d a) (acts_text d more ++ ended (codes "end" ∷ [])) (parsed.Act a) (line_fits stage.Body s (parsed.Act a) is is.deployment.few_sites st) refl (act_line_reads s a refl is st)
-    ∙ body_reads dialect d more (n + 1) (with_settle m (parsed.Act a)) (with_acts r (r.acts ++ a ∷ [])) is each.1 free.1 (omega (arith, few))
+    ∙ body_reads dialect d more (n + 1) (with_settle m (parsed.Act a)) (with_acts r (r.acts ++ a ∷ [])) is each.1 free.1 (omega (arith, few)) (omega (arith, one, settles))
     ∙ ap (with_acts r) (append_assoc r.acts (a ∷ []) more)
 
 -- ---- places in lists
@@ -275,9 +282,9 @@ all_free : (acts : List Act) → AreAllowed dialect.Run acts
 all_free [] = tt
 all_free (a ∷ acts) = (refl, all_free acts)
 
-limits : (live : Bool) (d : Deployed) (acts : List Act) → IsDeployment d → length acts ≤ MOST_ACTS → IsAllowed live d acts → IsWithin (dialect_of live) d acts
-limits true d acts is few h = h
-limits false d acts is few h = record { sites = is.few_sites; clients = is.few_clients; few = few; each = all_free acts }
+limits : (live : Bool) (d : Deployed) (acts : List Act) → IsDeployment d → length acts ≤ MOST_ACTS → settles_of acts ≤ MOST_SETTLES → IsAllowed live d acts → IsWithin (dialect_of live) d acts
+limits true d acts is few settles h = h
+limits false d acts is few settles h = record { sites = is.few_sites; clients = is.few_clients; few = few; settles = settles; each = all_free acts }
 
 spelled_flat : (a b c i f p e rest : List ℕ) → (a ++ (b ++ (c ++ (i ++ (f ++ p))))) ++ (e ++ rest) ≡ a ++ (b ++ (c ++ (i ++ (f ++ (p ++ (e ++ rest))))))
 spelled_flat a b c i f p e rest = simp append_assoc
@@ -304,21 +311,21 @@ first_lines dialect d rest is few =
       f3,
     )
 
-last_lines : (dialect : Dialect) (d : Deployed) (acts : List Act) → IsDeployment d → IsFit (lines dialect d) → AreBuiltActs d acts → AreAllowed dialect acts → length acts ≤ (limits_of dialect).acts
+last_lines : (dialect : Dialect) (d : Deployed) (acts : List Act) → IsDeployment d → IsFit (lines dialect d) → AreActsOf d acts → AreAllowed dialect acts → length acts ≤ (limits_of dialect).acts → settles_of acts ≤ (limits_of dialect).settles
     → script_from (lines dialect d) nothing (slice_split is_newline (ended (codes "begin" ∷ []) ++ (acts_text d acts ++ ended (codes "end" ∷ [])))) ≡ good d acts
-last_lines dialect d acts is fit each free few =
+last_lines dialect d acts is fit each free few settles =
     let s : State = lines dialect d in
     let some = is.some_plan in
     let body = stands_after s parsed.Begin fit some in
     let rest : List ℕ = acts_text d acts ++ ended (codes "end" ∷ []) in
     line_step s nothing (codes "begin" ∷ []) rest parsed.Begin (line_fits stage.Header s parsed.Begin fit.header is.few_sites some) refl (header_line_reads s (codes "begin" ∷ []) parsed.Begin refl (begin_reads s some))
-    ∙ body_reads dialect d acts 0 0 (record { deployment = Some d; acts = []; fault = None }) body.header each free (omega (arith, few))
+    ∙ body_reads dialect d acts 0 0 (record { deployment = Some d; acts = []; fault = None }) body.header each free (omega (arith, few)) (omega (arith, settles))
 
 pub spelled_reads : (live : Bool) (text : List ℕ) (d : Deployed) (acts : List Act) → Spells text d acts → IsAllowed live d acts → reading live text ≡ good d acts
 unfolding reading spelling header_text
 spelled_reads live text d acts s free =
     let is = s.deployment in
-    let most = limits live d acts is s.few free in
+    let most = limits live d acts is s.few s.settles free in
     let body_text : List ℕ = acts_text d acts ++ ended (codes "end" ∷ []) in
     let begin_text : List ℕ = ended (codes "begin" ∷ []) ++ body_text in
     let plan_text : List ℕ = plans_text d.plans ++ begin_text in
@@ -332,4 +339,4 @@ spelled_reads live text d acts s free =
     ∙ items.0
     ∙ clients.0
     ∙ plans.0
-    ∙ last_lines (dialect_of live) d acts is plans.1 s.each most.each most.few
+    ∙ last_lines (dialect_of live) d acts is plans.1 s.each most.each most.few most.settles

@@ -4,7 +4,6 @@ use Rattle.std.specs.Prelude.{codes}
 use Rattle.std.specs.Fmt.{decimal}
 use Rattle.sat_label.specs.Text.{is_name}
 use Rattle.sat_script.specs.Dialect.{limits_of, has_form}
-use Rattle.sat_script.specs.Built.{is_built_act}
 use Rattle.sat_act.specs.Deployed.{Deployed}
 use Rattle.sat_act.specs.Flaw.{are_sites}
 use Rattle.sat_act.specs.Ranges.{IsActOf}
@@ -13,7 +12,7 @@ use Rattle.sat_act.specs.declared.deployment.Item.{Item}
 use Rattle.sat_act.specs.declared.deployment.ClientLine.{ClientLine}
 use Rattle.sat_act.specs.declared.deployment.Plan.{Plan}
 use Rattle.sat_act.specs.declared.deployment.Plan.TheVariants as plan
-use Rattle.sat_script.specs.Causes.{has_client, has_item}
+use Rattle.sat_script.specs.Causes.{has_client, has_item, has_room}
 use Rattle.sat_script.specs.Grammar.{is_tree}
 use Rattle.sat_script.specs.Spelled.{item_words, client_words, plan_words}
 use Rattle.sat_script.specs.Table.{form_of, act_words}
@@ -62,9 +61,8 @@ pub record PlanStands (s : State) (p : Plan) : Type 0 where
 
 pub record ActStands (s : State) (a : Act) : Type 0 where
   pub fits : IsActOf s.header a
-  pub built : is_built_act a ≡ true
   pub has : has_form s.dialect (form_of a) ≡ true
-  pub room : s.acts < (limits_of s.dialect).acts
+  pub room : has_room s (form_of a) ≡ true
 
 -- where it stands, and after what
 abbrev pub Stands : Stage → State → Parsed → Type 0

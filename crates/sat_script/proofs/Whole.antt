@@ -1,21 +1,23 @@
 -- A text has no fault exactly where it is the spelling of its deployment and its acts.
 use Rattle.std.proofs.Common.{◌≡◌, ℕ, ◌+◌, ◌-◌, ◌*◌, ◌≤◌, Bool, true, false, cond, ltb, List, [], ◌∷◌, ◌++◌, length, Option, Some, None, Result, Ok, Err, sym, ap, ◌∙◌, refl, subst, arith}
-use Rattle.std.specs.List.{slice_split, join_with_byte}
+use Rattle.std.specs.List.{filter, slice_split, join_with_byte}
 use Rattle.std.specs.Prelude.{codes}
 use Rattle.std.specs.Fmt.{decimal}
 use Rattle.std.proofs.lemmas.List.{append-nil, append_assoc, length-append}
+use Rattle.std.proofs.lemmas.List.Elements.{filter-append}
 use Rattle.std.proofs.lemmas.List.Splits.{join_with_byte-slice_split}
-use Rattle.sat_script.specs.Built.{is_built_act}
 use Rattle.sat_act.specs.Deployed.{Deployed}
 use Rattle.sat_act.specs.Ranges.{IsActOf}
+use Rattle.sat_act.specs.Runs.{is_settle}
 use Rattle.sat_act.specs.declared.act.Act.{Act}
+use Rattle.sat_act.specs.declared.act.Act.TheVariants as act
 use Rattle.sat_act.specs.declared.deployment.Item.{Item}
 use Rattle.sat_act.specs.declared.deployment.ClientLine.{ClientLine}
 use Rattle.sat_act.specs.declared.deployment.Plan.{Plan}
-use Rattle.sat_script.specs.Grammar.{line_at, close_at, close_in, after, next_stage, with_parsed, with_act}
+use Rattle.sat_script.specs.Grammar.{line_at, close_at, close_in, after, next_stage, with_parsed, with_act, with_settle}
 use Rattle.sat_script.specs.Laws.{IsRead}
 use Rattle.sat_script.specs.Kept.{IsFit, HasHeader, HasSaid}
-use Rattle.sat_script.specs.Reading.{script_from, reading, nothing, after_line, closed, told_line, with_line, AreBuiltActs, AreAllowed, IsAllowed, IsWithin}
+use Rattle.sat_script.specs.Reading.{script_from, reading, nothing, after_line, closed, told_line, with_line, AreActsOf, AreAllowed, IsAllowed, IsWithin, settles_of}
 use Rattle.sat_script.specs.Spelled.{line_text, item_words, client_words, plan_words, ended, items_text, clients_text, plans_text, acts_text, header_text, spelling, Spells}
 use Rattle.sat_script.specs.Table.{act_words, form_of}
 use Rattle.sat_script.specs.Dialect.{has_form, dialect_of}
@@ -97,9 +99,9 @@ said_after stage.Gears s (parsed.Gears k) r h said = said
 said_after stage.Header s (parsed.Item item) r h said = said
 said_after stage.Header s (parsed.Client line) r h said = said
 said_after stage.Header s (parsed.Plan p) r h said = said
-said_after stage.Header s parsed.Begin r h said = (refl, subst (λ (acts : List Act). AreBuiltActs s.header acts) (sym said.1) tt, subst (λ (acts : List Act). AreAllowed s.dialect acts) (sym said.1) tt)
+said_after stage.Header s parsed.Begin r h said = (refl, subst (λ (acts : List Act). AreActsOf s.header acts) (sym said.1) tt, subst (λ (acts : List Act). AreAllowed s.dialect acts) (sym said.1) tt)
 said_after stage.Body s (parsed.Act a) r h said =
-    (said.0, all_more (λ (a : Act). IsActOf s.header a × (is_built_act a ≡ true)) r.acts a said.1 (h.fits, h.built), all_more (λ (a : Act). has_form s.dialect (form_of a) ≡ true) r.acts a said.2 h.has)
+    (said.0, all_more (λ (a : Act). IsActOf s.header a) r.acts a said.1 h.fits, all_more (λ (a : Act). has_form s.dialect (form_of a) ≡ true) r.acts a said.2 h.has)
 said_after stage.Body s parsed.End r h said = said
 said_after _ s _ r h said = absurd h
 
@@ -113,6 +115,22 @@ few_after d n (parsed.Plan p) r few = few
 few_after d n parsed.Begin r few = few
 few_after d n (parsed.Act a) r few = omega (arith, length-append r.acts (a ∷ []))
 few_after d n parsed.End r few = few
+
+-- one act more: it is a settle, or not
+settles_push : (n : ℕ) (acts : List Act) (a : Act) → settles_of acts ≤ n → settles_of (acts ++ a ∷ []) ≤ with_settle n (parsed.Act a)
+settles_push n acts act.Settle few = let more = ap length (filter-append is_settle acts (act.Settle ∷ [])) ∙ length-append (filter is_settle acts) (act.Settle ∷ []) in omega (arith, more)
+settles_push n acts a few = let more = ap length (filter-append is_settle acts (a ∷ [])) ∙ length-append (filter is_settle acts) (filter is_settle (a ∷ [])) in omega (arith, more)
+
+pub settles_after : (d : Deployed) (n : ℕ) (p : Parsed) (r : Reading) → settles_of r.acts ≤ n → settles_of (with_line r (told_line d p)).acts ≤ with_settle n p
+settles_after d n parsed.Format r few = few
+settles_after d n (parsed.Sites k) r few = few
+settles_after d n (parsed.Gears k) r few = few
+settles_after d n (parsed.Item item) r few = few
+settles_after d n (parsed.Client line) r few = few
+settles_after d n (parsed.Plan p) r few = few
+settles_after d n parsed.Begin r few = few
+settles_after d n (parsed.Act a) r few = settles_push n r.acts a few
+settles_after d n parsed.End r few = few
 
 -- ---- the text of good lines
 
@@ -187,6 +205,7 @@ record IsSo (s : State) (r : Reading) (text : List ℕ) : Type 0 where
   fit : IsFit s
   said : HasSaid s.dialect s.stage s.header r.deployment r.acts
   few : length r.acts ≤ s.acts
+  settles : settles_of r.acts ≤ s.settles
   spelled : text ≡ front s.stage s.header r.acts
 
 so_after : (s : State) (r : Reading) (text line : List ℕ) (p : Parsed) → IsSo s r text → line_at s line ≡ Ok p → IsSo (after s p) (with_line r (told_line s.header p)) (text ++ (line ++ 10 ∷ []))
@@ -197,6 +216,7 @@ so_after s r text line p so h =
       fit = fit_after s line p so.fit h;
       said = said_after s.stage s p r is.stands so.said;
       few = few_after s.header s.acts p r so.few;
+      settles = settles_after s.header s.settles p r so.settles;
       spelled =
           ap (λ (bs : List ℕ). bs ++ (line ++ 10 ∷ [])) so.spelled
           ∙ ap (λ (bs : List ℕ). front s.stage s.header r.acts ++ (bs ++ 10 ∷ [])) same
@@ -229,7 +249,7 @@ read_ended : (s : State) (r : Reading) (text rest : List ℕ) → IsSo s r text 
 unfolding spelling
 read_ended s r text rest so e none =
     let said = subst (λ (here : Stage). HasSaid s.dialect here s.header r.deployment r.acts) e so.said in
-    let most = (limits_few s.dialect).acts in
+    let most = limits_few s.dialect in
     let kept = subst (λ (here : Stage). HasHeader here s.header) e so.fit.header in (
       s.header,
       said.0,
@@ -238,9 +258,10 @@ read_ended s r text rest so e none =
         deployment = kept.deployment;
         names = kept.names;
         each = said.1;
-        few = omega (arith, so.few, so.fit.acts);
+        few = omega (arith, so.few, so.fit.acts, most.acts);
+        settles = omega (arith, so.settles, so.fit.settles, most.settles);
       },
-      record { sites = so.fit.sites; clients = so.fit.clients; few = omega (arith, so.few, so.fit.acts); each = said.2 },
+      record { sites = so.fit.sites; clients = so.fit.clients; few = omega (arith, so.few, so.fit.acts); settles = omega (arith, so.settles, so.fit.settles); each = said.2 },
     )
 
 read_end : (s : State) (r : Reading) (text rest : List ℕ) → IsSo s r text → (o : Option Cause) → close_at s rest ≡ o → (closed s r o).fault ≡ None → IsReadIn s.dialect (closed s r o) (text ++ rest)
@@ -266,7 +287,7 @@ read_parts s r text (line ∷ part ∷ parts) so none =
     (line_at s line) refl none
 
 so_far : (dialect : Dialect) → IsSo (start dialect) nothing []
-so_far dialect = record { fit = fit_start dialect; said = (refl, refl); few = omega arith; spelled = refl }
+so_far dialect = record { fit = fit_start dialect; said = (refl, refl); few = omega arith; settles = omega arith; spelled = refl }
 
 pub read_spells : (live : Bool) (text : List ℕ) → (reading live text).fault ≡ None → IsRead live (reading live text) text
 unfolding reading

@@ -1,5 +1,5 @@
 -- The causes that stop a line, in their order, and what the form of a line and the names of its words decide.
-use Rattle.std.specs.Prelude.{ℕ, List, Bool, true, false, not, ◌&&◌, nat_lt, length, Some, None, Err, if◌then◌else◌, position}
+use Rattle.std.specs.Prelude.{ℕ, List, Bool, not, ◌&&◌, nat_lt, length, Some, None, Err, if◌then◌else◌, position}
 use Rattle.std.specs.declared.option.Option.{Option}
 use Rattle.std.specs.declared.result.Result.{Result}
 use Rattle.std.specs.List.{list_any}
@@ -8,7 +8,7 @@ use Rattle.sat_act.specs.Deployed.{Deployed}
 use Rattle.sat_script.specs.Dialect.{limits_of, has_form}
 use Rattle.sat_script.specs.State.{State}
 use Rattle.sat_script.specs.declared.fault.Cause.{Cause}
-use Rattle.sat_script.specs.declared.fault.Cause.TheVariants.{Unbuilt, NotLive, TooMany}
+use Rattle.sat_script.specs.declared.fault.Cause.TheVariants.{NotLive, TooMany}
 use Rattle.sat_script.specs.declared.form.Form.{Form}
 use Rattle.sat_script.specs.declared.form.Form.TheVariants as form
 use Rattle.sat_script.specs.declared.limits.TheConstants.{MOST_PLANS}
@@ -33,11 +33,6 @@ given cause (Some x) next = next x
 
 -- ---- what the form alone decides
 
--- the forms that are built: all but `settle`
-unfoldable pub is_built : Form → Bool
-is_built form.Settle = false
-is_built _ = true
-
 -- whether one more line of the form is within the limits
 unfoldable pub has_room : State → Form → Bool
 has_room s form.Item = nat_lt (length s.header.items) (limits_of s.dialect).items
@@ -49,9 +44,8 @@ has_room s _ = nat_lt s.acts (limits_of s.dialect).acts
 
 -- why a line of the form may not stand here whatever its words say
 unfoldable pub bar : State → Form → Option Cause
-unfolding is_built has_room
+unfolding has_room
 bar s f =
-    if not (is_built f) then Some Unbuilt else
     if not (has_form s.dialect f) then Some NotLive else
     if not (has_room s f) then Some TooMany else
     None

@@ -6,7 +6,7 @@ use Rattle.sat_act.specs.declared.act.Act.{Act}
 use Rattle.sat_act.specs.Deployed.{Deployed}
 use Rattle.sat_act.specs.Flaw.{flaw, item_fits, client_fits, plan_fits}
 use Rattle.sat_act.specs.Limits.{IsDeployment, HaveTrees}
-use Rattle.sat_script.specs.Reading.{AreBuiltActs, AreAllowed}
+use Rattle.sat_script.specs.Reading.{AreActsOf, AreAllowed}
 use Rattle.sat_script.specs.Spelled.{HaveNames}
 use Rattle.sat_script.specs.Stream.{WholeLines}
 use Rattle.sat_script.specs.Dialect.{limits_of}
@@ -67,13 +67,13 @@ HasSaid dialect stage.Start d said acts = (said ≡ None) × (acts ≡ [])
 HasSaid dialect stage.Sites d said acts = (said ≡ None) × (acts ≡ [])
 HasSaid dialect stage.Gears d said acts = (said ≡ None) × (acts ≡ [])
 HasSaid dialect stage.Header d said acts = (said ≡ None) × (acts ≡ [])
-HasSaid dialect stage.Body d said acts = (said ≡ Some d) × AreBuiltActs d acts × AreAllowed dialect acts
-HasSaid dialect stage.Ended d said acts = (said ≡ Some d) × AreBuiltActs d acts × AreAllowed dialect acts
+HasSaid dialect stage.Body d said acts = (said ≡ Some d) × AreActsOf d acts × AreAllowed dialect acts
+HasSaid dialect stage.Ended d said acts = (said ≡ Some d) × AreActsOf d acts × AreAllowed dialect acts
 
 -- whole lines: while no fault is known, they said this
 pub record AreWhole (l : WholeLines) : Type 0 where
   pub fit : IsFit l.seen.state
-  pub whole : IfSome l.deployment (λ d. IsWhole d × AreBuiltActs d l.acts)
+  pub whole : IfSome l.deployment (λ d. IsWhole d × AreActsOf d l.acts)
   pub none : l.deployment ≡ None → l.acts ≡ []
   pub few : length l.acts ≤ l.seen.state.acts
   pub said : l.seen.fault ≡ None → HasSaid l.seen.state.dialect l.seen.state.stage l.seen.state.header l.deployment l.acts

@@ -2,7 +2,6 @@ pub mod Words
 pub mod Names
 pub mod Dialect
 pub mod State
-pub mod Built
 pub mod Causes
 pub mod Table
 pub mod Grammar

@@ -2,11 +2,11 @@
 use Rattle.std.specs.Prelude.{ℕ, ◌≡◌, ◌≢◌, ◌≤◌, true, false, Bool, List, [], ◌∷◌, ◌++◌, length, Some, None, Ok, Err}
 use Rattle.std.specs.declared.option.Option.{Option}
 use Rattle.std.specs.declared.result.Result.{Result}
-use Rattle.std.specs.List.{AllByRecursion, slice_split}
+use Rattle.std.specs.List.{AllByRecursion, filter, slice_split}
 use Rattle.sat_act.specs.declared.act.Act.{Act}
 use Rattle.sat_act.specs.Deployed.{Deployed}
 use Rattle.sat_act.specs.Ranges.{IsActOf}
-use Rattle.sat_script.specs.Built.{is_built_act}
+use Rattle.sat_act.specs.Runs.{is_settle}
 use Rattle.sat_script.specs.Dialect.{dialect_of, limits_of, has_form}
 use Rattle.sat_script.specs.Table.{form_of}
 use Rattle.sat_script.specs.Grammar.{line_at, close_at, after}
@@ -77,9 +77,13 @@ reading live text = script_from (start (dialect_of live)) nothing (slice_split i
 abbrev pub good : Deployed → List Act → Reading
 good d acts = record { deployment = Some d; acts = acts; fault = None }
 
--- acts of a deployment that are built
-abbrev pub AreBuiltActs : Deployed → List Act → Type 0
-AreBuiltActs d acts = AllByRecursion (λ a. IsActOf d a × (is_built_act a ≡ true)) acts
+-- acts of a deployment
+abbrev pub AreActsOf : Deployed → List Act → Type 0
+AreActsOf d acts = AllByRecursion (λ a. IsActOf d a) acts
+
+-- how many of the acts are a settle
+abbrev pub settles_of : List Act → ℕ
+settles_of acts = length (filter is_settle acts)
 
 -- acts of forms that a dialect has
 abbrev pub AreAllowed : Dialect → List Act → Type 0
@@ -90,6 +94,7 @@ pub record IsWithin (dialect : Dialect) (d : Deployed) (acts : List Act) : Type 
   pub sites : d.sites ≤ (limits_of dialect).sites
   pub clients : length d.clients ≤ (limits_of dialect).clients
   pub few : length acts ≤ (limits_of dialect).acts
+  pub settles : settles_of acts ≤ (limits_of dialect).settles
   pub each : AreAllowed dialect acts
 
 -- the same where the script is for nodes on threads; every deployment and its acts are within the limits of the others

@@ -13,9 +13,9 @@ use Rattle.sat_act.specs.declared.deployment.Plan.{Plan}
 use Rattle.sat_act.specs.declared.deployment.Plan.TheVariants as plan
 use Rattle.sat_act.specs.Deployed.{Deployed}
 use Rattle.sat_act.specs.Limits.{IsDeployment}
-use Rattle.sat_script.specs.Reading.{AreBuiltActs}
+use Rattle.sat_script.specs.Reading.{AreActsOf, settles_of}
 use Rattle.sat_script.specs.Table.{act_words}
-use Rattle.sat_script.specs.declared.limits.TheConstants.{MOST_ACTS}
+use Rattle.sat_script.specs.declared.limits.TheConstants.{MOST_ACTS, MOST_SETTLES}
 
 -- words with one blank between them
 abbrev pub line_text : List (List ℕ) → List ℕ
@@ -80,10 +80,11 @@ pub record HaveNames (d : Deployed) : Type 0 where
   pub items : AllByRecursion (λ (item : Item). is_name item.name ≡ true) d.items
   pub clients : AllByRecursion (λ (line : ClientLine). is_name line.name ≡ true) d.clients
 
--- the text spells this deployment and these acts, which are built
+-- the text spells this deployment and these acts, which are within the limits of scripts
 pub record Spells (text : List ℕ) (d : Deployed) (acts : List Act) : Type 0 where
   pub spelled : text ≡ spelling d acts
   pub deployment : IsDeployment d
   pub names : HaveNames d
-  pub each : AreBuiltActs d acts
+  pub each : AreActsOf d acts
   pub few : length acts ≤ MOST_ACTS
+  pub settles : settles_of acts ≤ MOST_SETTLES

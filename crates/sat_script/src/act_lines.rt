@@ -11,9 +11,10 @@ ghost use Rattle.sat_script.specs.Said.{said_of, shape_of, SaysOn, Adds, begins,
 ghost use Rattle.sat_script.specs.Table.{shape, shapes, known, all_known, says, all_say, has_node, joins, edge_cause, unfit, said_act, form_line, act_line};
 ghost use Rattle.sat_script.specs.Table.{place, num, at};
 ghost use Rattle.sat_script.specs.Words.{node_in, serializer_in};
+ghost use Rattle.sat_script.specs.declared.line.Parsed.TheVariants as parsed;
 
 use crate::Cause;
-use crate::form::{Form, Kind, act_forms, found_form, kinds_of};
+use crate::form::{Form, Kind, act_forms, found_form, kinds_of, quick_form};
 use crate::header::Header;
 use crate::line::Parsed;
 use crate::nodes::{node_in, serializer_in};
@@ -72,6 +73,7 @@ fn num_of<'a>(number: Option<u64>) -> Option<Said<'a>>
     }
 }
 
+#[inline(always)]
 #[tactic(auto, using(crate::proofs::NoTree::no_node))]
 fn node_of<'a>(tree: Option<&Tree>, word: &[u8]) -> Option<Said<'a>>
     ensures { option_map said_of result ≡ option_map at (node_in (shape_of (option_copied tree.entry)) word.now) }
@@ -85,6 +87,7 @@ fn node_of<'a>(tree: Option<&Tree>, word: &[u8]) -> Option<Said<'a>>
     }
 }
 
+#[inline(always)]
 #[tactic(auto, using(crate::proofs::NoTree::no_serializer))]
 fn serializer_of<'a>(tree: Option<&Tree>, word: &[u8]) -> Option<Said<'a>>
     ensures { option_map said_of result ≡ option_map place (serializer_in (shape_of (option_copied tree.entry)) word.now) }
@@ -214,6 +217,7 @@ fn read_epoch<'h>(header: &'h Header, word: &[u8]) -> Option<(u16, &'h Tree)>
 }
 
 // Adds what any other word says that has its shape and whose name the header has.
+#[inline(never)]
 fn read_other<'a>(
     header: &Header,
     tree: Option<&Tree>,
@@ -382,10 +386,9 @@ fn said_act(alloc: Global, header: &Header, form: Form, said: &[Said]) -> Result
     }
 }
 
-// A line whose words may be bad: the causes in their order.
-#[inline(never)]
+// The causes in their order.
 #[tactic(auto, unfolding(crate::specs::Table::form_line))]
-fn doubtful_line(alloc: Global, place: &Place, form: Form, words: &[&[u8]]) -> Result<Act, Cause>
+fn form_line(alloc: Global, place: &Place, form: Form, words: &[&[u8]]) -> Result<Act, Cause>
     ensures { Gives result (form_line (bar place.now) place.now.header form (map (λ word. word.now) words.now)) }
 {
     let kinds = kinds_of(form);
@@ -398,20 +401,6 @@ fn doubtful_line(alloc: Global, place: &Place, form: Form, words: &[&[u8]]) -> R
     }
     let mut said = ArrayVec::new();
     all_say(place.header(), None, kinds, words, &mut said)?;
-    said_act(alloc, place.header(), form, said.as_slice())
-}
-
-// A good line is read in one go, and only another is asked for its cause.
-fn form_line(alloc: Global, place: &Place, form: Form, words: &[&[u8]]) -> Result<Act, Cause>
-    ensures { Gives result (form_line (bar place.now) place.now.header form (map (λ word. word.now) words.now)) }
-{
-    if place.admit(form).is_err() {
-        return doubtful_line(alloc, place, form, words);
-    }
-    let mut said = ArrayVec::new();
-    if !all_read(place.header(), kinds_of(form), words, &mut said) {
-        return doubtful_line(alloc, place, form, words);
-    }
     said_act(alloc, place.header(), form, said.as_slice())
 }
 
@@ -434,6 +423,33 @@ fn is_end(words: &[&[u8]]) -> bool
     match words {
         [word] => *word == b"end".as_slice(),
         _ => false,
+    }
+}
+
+/// The act that a good line says, read in one go. Where the line may be bad, and for want of memory, it says nothing.
+#[inline(always)]
+pub fn good_act(alloc: Global, place: &Place, words: &[&[u8]]) -> Option<Act>
+    ensures { IfSome result (λ act. body_line place.now (map (λ word. word.now) words.now) ≡ Ok (parsed.Act act)) }
+{
+    if is_end(words) {
+        return None;
+    }
+    let Some((word, words)) = words.split_first() else {
+        return None;
+    };
+    let Some(form) = quick_form(word, words.len()) else {
+        return None;
+    };
+    if place.admit(form).is_err() {
+        return None;
+    }
+    let mut said = ArrayVec::new();
+    if !all_read(place.header(), kinds_of(form), words, &mut said) {
+        return None;
+    }
+    match said_act(alloc, place.header(), form, said.as_slice()) {
+        Ok(act) => Some(act),
+        Err(_) => None,
     }
 }
 

@@ -9,8 +9,6 @@ pub enum Cause {
     NotText,
     BadHeader,
     BadAct,
-    /// The line has a form that is not built yet.
-    Unbuilt,
     NotLive,
     TooMany,
     SameName,

@@ -1,11 +1,9 @@
 //! The forms of lines, and the table of the acts: the word that an act begins with, and the kinds of the words after it.
-ghost use Rattle.std.specs.Prelude.{◌≡◌, ◌≤◌, length};
-ghost use Rattle.sat_script.specs.Causes.{is_built};
+ghost use Rattle.std.specs.Prelude.{◌≡◌, ◌≤◌, length, Some, IfSome};
 ghost use Rattle.sat_script.specs.Dialect.{is_live};
 ghost use Rattle.sat_script.specs.Table.{word_of, kinds_of, act_forms, found_form};
 
-/// The form of a line whose number is limited, or that may not be built yet: of the header's lines those that come any number of
-/// times, and each act.
+/// The form of a line whose number is limited: of the header's lines those that come any number of times, and each act.
 #[derive(Clone, Copy, Debug, PartialEq, Eq)]
 pub enum Form {
     /// `item NAME LIST`
@@ -160,14 +158,57 @@ pub fn found_form(word: &[u8], count: usize, forms: &[Form]) -> Option<Form>
     None
 }
 
-/// Whether lines of a form may be used today: all but `settle`.
-#[tactic(auto, unfolding(crate::specs::Causes::is_built))]
-pub fn is_built(form: Form) -> bool
-    ensures { result ≡ is_built form }
+// The form of an act whose word has one more behind it.
+#[inline(always)]
+fn form_of_one(word: &[u8]) -> Option<Form>
+    ensures { IfSome result (λ form. found_form word.now 1 act_forms ≡ Some form) }
 {
-    match form {
-        Form::Settle => false,
-        _ => true,
+    match word {
+        [b't', b'u', b'r', b'n'] => Some(Form::Turn),
+        [b'e', b'm', b'i', b't'] => Some(Form::Emit),
+        [b'p', b'u', b'l', b's', b'e'] => Some(Form::Pulse),
+        [b's', b't', b'a', b'm', b'p'] => Some(Form::Stamp),
+        _ => found_form(word, 1, act_forms()),
+    }
+}
+
+// The form of an act whose word has two more behind it.
+#[inline(always)]
+fn form_of_two(word: &[u8]) -> Option<Form>
+    ensures { IfSome result (λ form. found_form word.now 2 act_forms ≡ Some form) }
+{
+    match word {
+        [b'r', b'e', b'a', b'd'] => Some(Form::Read),
+        [b'b', b'e', b'a', b't'] => Some(Form::Beat),
+        [b'm', b'o', b'v', b'e'] => Some(Form::Move),
+        _ => found_form(word, 2, act_forms()),
+    }
+}
+
+// The form of an act whose word has three more behind it.
+#[inline(always)]
+fn form_of_three(word: &[u8]) -> Option<Form>
+    ensures { IfSome result (λ form. found_form word.now 3 act_forms ≡ Some form) }
+{
+    match word {
+        [b'h', b'o', b'p'] => Some(Form::Hop),
+        [b'b', b'u', b'l', b'k'] => Some(Form::Bulk),
+        [b't', b'i', b'c', b'k'] => Some(Form::Tick),
+        [b'w', b'r', b'i', b't', b'e'] => Some(Form::Write),
+        _ => found_form(word, 3, act_forms()),
+    }
+}
+
+/// The form of the acts that begin with a word and have so many more: the short words are told by their bytes.
+#[inline(always)]
+pub fn quick_form(word: &[u8], count: usize) -> Option<Form>
+    ensures { IfSome result (λ form. found_form word.now count act_forms ≡ Some form) }
+{
+    match count {
+        1 => form_of_one(word),
+        2 => form_of_two(word),
+        3 => form_of_three(word),
+        _ => found_form(word, count, act_forms()),
     }
 }
 

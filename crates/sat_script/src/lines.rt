@@ -3,7 +3,7 @@ ghost use Rattle.std.specs.Prelude.{◌≡◌, ◌≤◌, ◌↔◌, IsTrue, len
 ghost use Rattle.sat_act.specs.Limits.{IsDeployment};
 ghost use Rattle.sat_script.specs.Kept.{IsFit};
 ghost use Rattle.sat_script.specs.Lines.{running};
-ghost use Rattle.sat_script.specs.Reading.{AreBuiltActs, fault_at};
+ghost use Rattle.sat_script.specs.Reading.{AreActsOf, fault_at};
 ghost use Rattle.sat_script.specs.Spelled.{HaveNames};
 ghost use Rattle.sat_script.specs.Dialect.{dialect_of};
 ghost use Rattle.sat_script.specs.State.{start};
@@ -64,7 +64,21 @@ impl Lines {
     }
 
     /// Takes a line, without its byte 10. Want of memory comes after every other cause, and is told at the line for which it ran out.
+    #[inline(always)]
     pub fn line(&mut self, line: &[u8]) -> Result<(), ScriptFault>
+        requires fresh { self.old.seen.fault ≡ None }
+        ensures takes { MatchResult result (λ _. GoesOn self.old self.new line.now) (λ fault. StopsAt self.old self.new line.now fault) }
+        ensures fit { IsFit self.new.seen.state }
+    {
+        if let Some(act) = self.reader.good_act(line) {
+            return self.reader.keep_act(act, &mut self.acts);
+        }
+        self.any_line(line)
+    }
+
+    // The same, where the line may be no act, or a bad one.
+    #[inline(never)]
+    fn any_line(&mut self, line: &[u8]) -> Result<(), ScriptFault>
         requires fresh { self.old.seen.fault ≡ None }
         ensures takes { MatchResult result (λ _. GoesOn self.old self.new line.now) (λ fault. StopsAt self.old self.new line.now fault) }
         ensures fit { IsFit self.new.seen.state }
@@ -80,7 +94,7 @@ impl Lines {
     /// What the text is that came, where these bytes, none of them 10, stood after the last line. It takes no memory.
     pub fn finish(self, rest: &[u8]) -> Reading
         ensures means { result ≡ means self rest.now [] }
-        ensures built { IfSome result.deployment (λ d. IsDeployment d × HaveNames d × AreBuiltActs d result.acts) }
+        ensures sound { IfSome result.deployment (λ d. IsDeployment d × HaveNames d × AreActsOf d result.acts) }
         ensures none { result.deployment ≡ None → result.acts ≡ [] }
         ensures few { length result.acts ≤ MOST_ACTS }
     {

@@ -8,7 +8,7 @@ ghost use Rattle.sat_script.specs.Reading.{told_line};
 ghost use Rattle.sat_script.specs.Kept.{IsFit};
 ghost use Rattle.sat_script.specs.declared.line.Parsed.TheVariants as parsed;
 
-use crate::form::{Form, is_built};
+use crate::form::Form;
 use crate::header::Header;
 use crate::limits::MOST_PLANS;
 use crate::line::{Line, Parsed, Stage};
@@ -98,6 +98,7 @@ impl Place {
     }
 
     #[tactic(auto, unfolding(crate::specs::Causes::has_room))]
+    #[inline(always)]
     fn has_room(&self, form: Form) -> bool
         ensures { result ≡ has_room self.now form }
     {
@@ -114,12 +115,10 @@ impl Place {
 
     /// Whether a line of a form may stand here, whatever its words say, and if not, why.
     #[tactic(auto, unfolding(crate::specs::Causes::bar))]
+    #[inline(always)]
     pub fn admit(&self, form: Form) -> Result<(), Cause>
         ensures { MatchResult result (λ _. bar self.now form ≡ None) (λ cause. bar self.now form ≡ Some cause) }
     {
-        if !is_built(form) {
-            return Err(Cause::Unbuilt);
-        }
         if !self.dialect.has(form) {
             return Err(Cause::NotLive);
         }

@@ -1,5 +1,5 @@
 //! A reader of lines.
-ghost use Rattle.std.specs.Prelude.{◌≡◌, ◌↔◌, IsTrue, IfErr, OnOk, None, Some, map, take};
+ghost use Rattle.std.specs.Prelude.{◌≡◌, ◌↔◌, ◌++◌, [], ◌∷◌, IsTrue, IfErr, IfSome, OnOk, None, Some, Ok, map, take};
 ghost use Rattle.sat_script.specs.Dialect.{dialect_of};
 ghost use Rattle.sat_script.specs.State.{start, number_of};
 ghost use Rattle.sat_script.specs.Grammar.{words_line, line_at, close_in, after, IsNew};
@@ -8,8 +8,9 @@ ghost use Rattle.sat_script.specs.Lines.{Gives, Takes, Closes, running, failed};
 ghost use Rattle.sat_script.specs.Reading.{told_line, with_line, fault_at};
 ghost use Rattle.sat_script.specs.Stream.{kept};
 ghost use Rattle.sat_script.specs.Words.{words_of};
+ghost use Rattle.sat_script.specs.declared.line.Parsed.TheVariants as parsed;
 
-use crate::act_lines::body_line;
+use crate::act_lines::{body_line, good_act};
 use crate::header_lines::{format_line, gears_line, header_line, sites_line};
 use crate::limits::LONGEST_LINE;
 use crate::line::{Line, Parsed, Stage};
@@ -17,7 +18,7 @@ use crate::place::Place;
 use crate::words::first_words;
 use crate::{Cause, Dialect, ScriptFault};
 use arrayvec::ArrayVec;
-use sat_act::{Acts, Deployment};
+use sat_act::{Act, Acts, Deployment};
 use std::alloc::Global;
 use std::marker::Model;
 
@@ -142,6 +143,35 @@ impl Reader {
         line_at(self.alloc, &self.place, bytes)
     }
 
+    // The act that the next line says, where it is good and there is memory for it.
+    #[inline(always)]
+    pub(crate) fn good_act(&self, line: &[u8]) -> Option<Act>
+        ensures { IfSome result (λ act. line_at self.now.state line.now ≡ Ok (parsed.Act act)) }
+    {
+        if self.place.stage() != Stage::Body || line.len() > LONGEST_LINE {
+            return None;
+        }
+        let mut words = ArrayVec::new();
+        if !first_words(line, &mut words) {
+            return None;
+        }
+        good_act(self.alloc, &self.place, words.as_slice())
+    }
+
+    // Keeps the act of a good line. For want of memory it fails at that line.
+    #[inline(always)]
+    pub(crate) fn keep_act(&mut self, act: Act, acts: &mut Acts) -> Result<(), ScriptFault>
+        requires fits { IsFit (after self.old.state (parsed.Act act)) }
+        ensures ok { OnOk result ((self.new ≡ record { state = after self.old.state (parsed.Act act); fault = self.old.fault })
+            × (acts.new ≡ acts.old ++ act ∷ [])) }
+        ensures err { IfErr result (λ fault. (fault ≡ fault_at self.old.state Cause.Memory) × (self.new ≡ failed self.old.state fault) × (acts.new ≡ acts.old)) }
+    {
+        match self.place.keep_act(act, acts) {
+            Ok(()) => Ok(()),
+            Err(_) => Err(self.fail(Cause::Memory)),
+        }
+    }
+
     // Takes what a good line says, and keeps a deployment and an act. For want of memory it fails at that line.
     pub(crate) fn keep_in(
         &mut self,
@@ -157,10 +187,7 @@ impl Reader {
             × (kept deployment.new acts.new ≡ kept deployment.old acts.old)) }
     {
         if let Parsed::Act(act) = parsed {
-            return match self.place.keep_act(act, acts) {
-                Ok(()) => Ok(()),
-                Err(_) => Err(self.fail(Cause::Memory)),
-            };
+            return self.keep_act(act, acts);
         }
         match self.place.keep(self.alloc, parsed) {
             Ok(Line::Begin(said)) => {

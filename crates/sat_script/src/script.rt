@@ -18,7 +18,7 @@ pub struct Script {
 }
 
 /// Each script has one spelling: a text has no fault exactly where it spells a deployment and acts, within the limits of nodes on
-/// threads where it is read for them. And a line of an act says an act exactly where it spells it, whatever forms are built.
+/// threads where it is read for them. And a line of an act says an act exactly where it spells it, whatever forms may stand.
 pub fn one_spelling()
     ensures read { (live : Bool) (text : List ℕ) → (reading live text).fault ≡ None → IsRead live (reading live text) text }
     ensures found { (live : Bool) (text : List ℕ) (d : Deployed) (acts : List Act) → Spells text d acts → IsAllowed live d acts → reading live text ≡ good d acts }

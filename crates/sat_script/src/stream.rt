@@ -1,6 +1,6 @@
 //! A reader that takes a script in pieces.
 ghost use Rattle.std.specs.Prelude.{◌≡◌, ◌≢◌, ℕ, ◌+◌, ◌≤◌, true, List, [], ◌∷◌, ◌++◌, length, None, IfSome, IfErr, OnOk, OnErr};
-ghost use Rattle.sat_script.specs.Reading.{reading, UnlessMemory, AreBuiltActs};
+ghost use Rattle.sat_script.specs.Reading.{reading, UnlessMemory, AreActsOf};
 ghost use Rattle.sat_script.specs.Words.{HasNo};
 ghost use Rattle.sat_script.specs.Spelled.{HaveNames};
 ghost use Rattle.sat_act.specs.Limits.{IsDeployment};
@@ -149,7 +149,7 @@ impl ScriptReader {
     #[tactic(auto, unfolding(crate::specs::Stream::will_be))]
     pub fn finish(self) -> Reading
         ensures script { result ≡ will_be self [] }
-        ensures built { IfSome result.deployment (λ d. IsDeployment d × HaveNames d × AreBuiltActs d result.acts) }
+        ensures sound { IfSome result.deployment (λ d. IsDeployment d × HaveNames d × AreActsOf d result.acts) }
         ensures none { result.deployment ≡ None → result.acts ≡ [] }
         ensures few { length result.acts ≤ MOST_ACTS }
     {

@@ -16,7 +16,7 @@ const PLAIN: &str =
     "saturn 1\nsites 2\ngears 1\nitem x 0,1\nclient a 0\nclient b 1\nplan tree - / 0 0\nbegin\nwrite a x hello\ngather 0\nemit 0\nhop 1 s0 z0\nbulk 0 0 1\nturn 1\nread b x\nend\n";
 
 const WIDE: &str =
-    "saturn 1\nsites 16\ngears 8\nitem p 0,2,15\nitem q-1.z 1\nitem r 0,1,2,3,4,5,6,7,8,9,10,11,12,13,14,15\nclient C 2\nclient d_ 15\nplan tree - 0 0 2 / 0 0 1 1 2 2 3 3 0 0 1 1 2 2 3 3\nplan stamp\nplan tree - / 0 0 0 0 0 0 0 0 0 0 0 0 0 0 0 0\nbegin\ntick 15 7 4611686018427387904\nclock\nwrite C q-1.z ->\nread d_ p\ngather 15\nemit 0\nhop 1 s15 z3\nhop 1 z3 z2\nturn 9\nbulk 15 7 0\nbulk 0 0 15 18446744073709551615\nmove C 15\nleave d_\nattach d_ 0\npulse 9\nbeat 0 15\nbeatin 15 0 18446744073709551615\nstamp 3\nclose 4\nfall 5\nadvance 15\nhop 3 s15 z0\nkill 1 z3\nkill 3 z0\nend\n";
+    "saturn 1\nsites 16\ngears 8\nitem p 0,2,15\nitem q-1.z 1\nitem r 0,1,2,3,4,5,6,7,8,9,10,11,12,13,14,15\nclient C 2\nclient d_ 15\nplan tree - 0 0 2 / 0 0 1 1 2 2 3 3 0 0 1 1 2 2 3 3\nplan stamp\nplan tree - / 0 0 0 0 0 0 0 0 0 0 0 0 0 0 0 0\nbegin\ntick 15 7 4611686018427387904\nclock\nwrite C q-1.z ->\nread d_ p\ngather 15\nemit 0\nhop 1 s15 z3\nhop 1 z3 z2\nturn 9\nbulk 15 7 0\nbulk 0 0 15 18446744073709551615\nmove C 15\nleave d_\nattach d_ 0\npulse 9\nbeat 0 15\nbeatin 15 0 18446744073709551615\nstamp 3\nclose 4\nfall 5\nadvance 15\nhop 3 s15 z0\nkill 1 z3\nkill 3 z0\nsettle\nend\n";
 
 // A text that begins with the header above.
 fn under_header(alloc: Global, lines: &str) -> Result<Vec<u8>, AllocError> {
@@ -121,7 +121,7 @@ fn faults_are_told_at_once_and_in_pieces(rt: HostRuntime) -> Result<(), Fail> {
         ("gather 0\nclo", 10, Cause::NoEnd),
         ("gather 0\r\n", 9, Cause::NotText),
         ("write a  x v\n", 9, Cause::BadAct),
-        ("gather 0\nsettle\n", 10, Cause::Unbuilt),
+        ("settle\nsettle 0\n", 10, Cause::BadAct),
         ("write d x v\n", 9, Cause::UnknownName),
         ("hop 1 s2 z0\n", 9, Cause::OutOfRange),
         ("hop 1 z0 z0\n", 9, Cause::NoEdge),
@@ -156,7 +156,7 @@ fn nodes_on_threads_have_their_own_limits(rt: HostRuntime) -> Result<(), Fail> {
         (
             "saturn 1\nsites 2\ngears 1\nitem x 0,1\nclient a 0\nclient b 1\nplan tree - / 0 0\nbegin\nsettle\n",
             9,
-            Cause::Unbuilt,
+            Cause::NotLive,
         ),
         (
             "saturn 1\nsites 2\ngears 1\nclient a 0\nclient b 0\nclient c 0\nclient d 0\nclient e 0\nclient f 0\nclient g 0\nclient h 0\nclient i 0\nclient j 0\nclient k 0\nclient l 0\nclient m 0\nclient n 0\nclient o 0\nclient p 0\nclient a 9\n",
@@ -191,11 +191,11 @@ fn a_cut_script_ends_too_early(rt: HostRuntime) -> Result<(), Fail> {
     Ok(())
 }
 
-// A script of so many acts.
-fn many_acts(alloc: Global, count: u32) -> Result<Vec<u8>, AllocError> {
+// A script of so many acts, each of this line.
+fn many_acts(alloc: Global, line: &str, count: u32) -> Result<Vec<u8>, AllocError> {
     let mut text = HEADER.as_bytes().to_vec(alloc)?;
     for _ in 0..count {
-        text.extend_from_slice(b"gather 0\n")?;
+        text.extend_from_slice(line.as_bytes())?;
     }
     text.extend_from_slice(b"end\n")?;
     Ok(text)
@@ -254,11 +254,18 @@ fn at(line: u64, cause: Cause) -> Option<ScriptFault> {
 fn limits_are_exact(rt: HostRuntime) -> Result<(), Fail> {
     let alloc = rt.alloc();
     let good = b"plan tree - / 0 0\nbegin\nend\n".as_slice();
-    assert_eq!(rt; fault_of(alloc, &many_acts(alloc, 200000)?, false), None);
-    assert_eq!(rt;
-        fault_of(alloc, &many_acts(alloc, 200001)?, false),
-        at(200009, Cause::TooMany)
-    );
+    for (line, count, want) in [
+        ("gather 0\n", 200000, None),
+        ("gather 0\n", 200001, at(200009, Cause::TooMany)),
+        ("settle\n", 64, None),
+        ("settle\n", 65, at(73, Cause::TooMany)),
+    ] {
+        assert_eq!(rt;
+            fault_of(alloc, &many_acts(alloc, line, count)?, false),
+            want,
+            "{count} lines {line}"
+        );
+    }
     assert_eq!(rt;
         fault_of(alloc, &many_names(alloc, b"item x", 4096, good)?, false),
         None

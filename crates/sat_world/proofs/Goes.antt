@@ -73,6 +73,7 @@ with-sites w i given r o ys h = ap (λ (xs : List SiteSeen). length xs) h.rest �
 pub local-goes : (w : WorldSeen) (a : Act) (i : ℕ) (given : code.SiteInput) (r : Answer) (o : Option Label) (ys : List SiteSeen) → IsFrame w → is_local a ≡ true → Hands w a i given → StepsAt w.sites i given r o ys → Goes w a r (record w { sites = ys })
 local-goes w a i given r o ys k l g h = record {
   deployment = refl;
+  shown = refl;
   frame = record { deployment = k.deployment; interest = k.interest; sites = with-sites w i given r o ys h ∙ k.sites; nets = k.nets; planted = k.planted; clients = k.clients };
   answer = λ s st. told-by w s i given r o ys k st h ∙ sym (g.hands s st).answer;
   stands = λ s st. next-stands w s a r ys w.nets w.clients
@@ -96,6 +97,7 @@ pub client-goes : (w : WorldSeen) (a : Act) (c : ℕ) (x y : Client) (i : ℕ) (
     Hands w a i given → StepsAt w.sites i given r o ys → now ≡ set w.clients c y → Goes w a r (record w { sites = ys; clients = now })
 client-goes w a c x y i given r o ys now k l e at becomes left g h n = record {
   deployment = refl;
+  shown = refl;
   frame = record { deployment = k.deployment; interest = k.interest; sites = with-sites w i given r o ys h ∙ k.sites; nets = k.nets; planted = k.planted; clients = ap (λ (cl : List Client). length cl) n ∙ (length-set w.clients c y ∙ k.clients) };
   answer = λ s st. told-by w s i given r o ys k st h ∙ sym (g.hands s st).answer;
   stands = λ s st. next-stands w s a r ys w.nets now
@@ -121,6 +123,7 @@ pub quiet-goes : (w : WorldSeen) (a : Act) (y : Refusal) → IsFrame w → ((s :
 unfolding handled_by
 quiet-goes w a y k h = record {
   deployment = refl;
+  shown = refl;
   frame = k;
   answer = λ s st. (h s st).0;
   stands = λ s st. next-stands w s a (ans.Refused y) w.sites w.nets w.clients
@@ -220,6 +223,7 @@ pub turn-goes : (w : WorldSeen) (j n : ℕ) (p : Option NetSeen) (r : Answer) (o
     StepsAt w.sites j (input.Turn (front_to p j)) r o ys → NetAt w.nets n p (net_taken r p j) nets → Goes w (act.Turn j) r (record w { sites = ys; nets = nets })
 turn-goes w j n p r o ys nets k lt view h g = record {
   deployment = refl;
+  shown = refl;
   frame = record {
     deployment = k.deployment;
     interest = k.interest;

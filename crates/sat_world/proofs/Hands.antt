@@ -44,7 +44,7 @@ use Rattle.sat_laws.proofs.Labels.{seat-range}
 use Rattle.sat_world.proofs.Handles.{is_told}
 use Rattle.sat_world.proofs.Lists.{index-at}
 use Rattle.sat_world.specs.Steps.{HandsIn, Hands, StepsAt, act_at, is_local, is_sending, number_at, IsNumber}
-use Rattle.sat_world.specs.Built.{takes_none}
+use Rattle.sat_world.specs.TakesNone.{takes_none}
 use Rattle.sat_world.specs.Worlds.{IsWorld}
 
 -- ---- what fits

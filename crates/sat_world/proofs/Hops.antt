@@ -81,6 +81,7 @@ module _ (w : WorldSeen) (n : ℕ) (u : NodeId) (z : ℕ) (net : NetSeen) (k : I
   unfolding handled_by
   hop-done l nets alive front rest = record {
     deployment = refl;
+    shown = refl;
     frame = record {
       deployment = k.deployment;
       interest = k.interest;
@@ -135,6 +136,7 @@ kill-done : (w : WorldSeen) (n z : ℕ) (net : NetSeen) (nets : List (Option Net
 unfolding handled_by
 kill-done w n z net nets k at lt alive rest = record {
   deployment = refl;
+  shown = refl;
   frame = record {
     deployment = k.deployment;
     interest = k.interest;
@@ -170,6 +172,7 @@ pub clock-goes : (w : WorldSeen) (ts : ℕ) (ys : List SiteSeen) → IsFrame w �
 unfolding world_given world_answer handled_by after
 clock-goes w ts ys k top up c = record {
   deployment = refl;
+  shown = refl;
   frame = record { deployment = k.deployment; interest = k.interest; sites = c.count ∙ k.sites; nets = k.nets; planted = k.planted; clients = k.clients };
   answer = λ s st. ap (λ (n : ℕ). ans.Clocked n) (is s st);
   stands = λ s st. next-stands w s act.Clock (ans.Clocked ts) ys w.nets w.clients (sites s st) (no-net w None s.links s.dead s.dead k refl (λ e z. refl) st.nets) st.clients;

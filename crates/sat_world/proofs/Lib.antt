@@ -1,7 +1,8 @@
 pub mod Lists
 pub mod Laws
-pub mod Built
+pub mod Meets
 pub mod Greatest
+pub mod Counting
 pub mod Handles
 pub mod Parts
 pub mod Goes

@@ -1,5 +1,5 @@
 -- What the code does in an act is the step of the machine, and so the answer and the entry of the history.
-use Rattle.std.specs.Prelude.{◌≡◌, true, false, List, ◌∷◌, refl}
+use Rattle.std.specs.Prelude.{◌≡◌, ℕ, false, List, ◌∷◌}
 use Rattle.std.proofs.Common.{sym, subst, ap, ◌∙◌, inl}
 use Rattle.sat_act.specs.declared.act.Act.{Act}
 use Rattle.sat_act.specs.declared.answer.Answer.{Answer}
@@ -8,19 +8,20 @@ use Rattle.sat_act.specs.Deployed.{Deployed}
 use Rattle.sat_act.specs.Ranges.{IsActOf}
 use Rattle.sat_act.specs.Answers.{answer}
 use Rattle.sat_act.specs.Runs.{IsRun, is_settle}
+use Rattle.sat_act.specs.Settling.{is_done}
 use Rattle.sat_act.specs.Headline.{IsGood}
 use Rattle.sat_act.specs.Limits.{IsDeployment}
 use Rattle.sat_act.proofs.Valid.{is_valid, has_trees}
 use Rattle.sat_laws.proofs.Headlines.{good}
 use Rattle.sat_machine.specs.World.{WorldState, world_answer, world_next, world_step, world_state}
 use Rattle.sat_machine.proofs.Runs.{step-on}
-use Rattle.sat_act.specs.declared.act.Act.TheVariants as act
-use Rattle.sat_world.specs.Built.{is_built_act}
+use Rattle.sat_world.specs.Counts.{counted}
 use Rattle.sat_world.specs.Seen.{WorldSeen}
 use Rattle.sat_world.specs.Stands.{Stands, StandsFor}
 use Rattle.sat_world.specs.Steps.{Goes}
 use Rattle.sat_world.specs.Worlds.{IsWorld}
-use Rattle.sat_world.proofs.Built.{in-range}
+use Rattle.sat_world.proofs.Counting.{now-counted, undone-uncounted}
+use Rattle.sat_world.proofs.Meets.{in-range}
 
 abbrev entry_of : Act → Answer → Entry
 entry_of a r = record { act = a; answer = r; inner = false }
@@ -36,14 +37,15 @@ goes-on : (d : Deployed) (h : List Entry) (a : Act) (r : Answer) → IsActOf d a
 unfolding IsRun
 goes-on d h a r b run p e = (run, in-range d a b, inl (p, e))
 
--- by the machine's law, the answer is the history's, and the world then stands for the history with the entry, which is a run
+-- by the machine's law, the answer is the history's, and the parts of the world are then those of the history with the entry, which
+-- is a run
 pub record Runs (w v : WorldSeen) (h : List Entry) (a : Act) (r : Answer) : Type 0 where
   pub answer : r ≡ answer w.deployment h a
   pub run : IsRun w.deployment (record { act = a; answer = r; inner = false } ∷ h)
-  pub stands : StandsFor v (record { act = a; answer = r; inner = false } ∷ h)
+  pub stands : Stands v (world_state v.deployment (record { act = a; answer = r; inner = false } ∷ h))
   pub good : IsGood w.deployment (record { act = a; answer = r; inner = false } ∷ h)
 
-pub runs : (w v : WorldSeen) (h : List Entry) (a : Act) (r : Answer) → IsDeployment w.deployment → IsActOf w.deployment a → is_settle a ≡ false → IsRun w.deployment h → StandsFor w h → Goes w a r v → Runs w v h a r
+pub runs : (w v : WorldSeen) (h : List Entry) (a : Act) (r : Answer) → IsDeployment w.deployment → IsActOf w.deployment a → is_settle a ≡ false → IsRun w.deployment h → Stands w (world_state w.deployment h) → Goes w a r v → Runs w v h a r
 runs w v h a r k b p run st g = record {
   answer = told;
   run = next-run;
@@ -76,7 +78,15 @@ stays w v u a r e k b p g =
 pub seen-as : (w v u : WorldSeen) (a : Act) (r : Answer) → w ≡ v → Goes w a r u → Goes v a r u
 seen-as w v u a r e g = subst (λ (v : WorldSeen). Goes v a r u) e g
 
--- a built act is no settle
-pub built-plain : (a : Act) → is_built_act a ≡ true → is_settle a ≡ false
-built-plain act.Settle b = absurd (cc)
-built-plain _ b = refl
+-- the same of a world that stands for the history, once it has counted the answer
+pub runs-counted : (w v : WorldSeen) (h : List Entry) (a : Act) (r : Answer) → IsDeployment w.deployment → IsActOf w.deployment a → is_settle a ≡ false → IsRun w.deployment h → StandsFor w h → Goes w a r v →
+    StandsFor (record v { shown = counted r v.shown }) (entry_of a r ∷ h)
+runs-counted w v h a r k b p run st g = now-counted v h a r (g.shown ∙ st.shown) (runs w v h a r k b p run st.parts g).stands
+
+-- a world as it is seen once it keeps the count
+pub kept-count : (u v : WorldSeen) (n : ℕ) (r : Answer) → u ≡ v → n ≡ counted r u.shown → record v { shown = counted r v.shown } ≡ record u { shown = n }
+kept-count u v n r e f = sym (ap (λ (n : ℕ). record u { shown = n }) f ∙ ap (λ (w : WorldSeen). record w { shown = counted r w.shown }) e)
+
+-- what is not done changes nothing
+pub stays-counted : (w v : WorldSeen) (a : Act) (r : Answer) → Goes w a r v → is_done r ≡ false → record v { shown = counted r v.shown } ≡ w
+stays-counted w v a r g e = ap (λ (n : ℕ). record v { shown = n }) (undone-uncounted r v.shown e) ∙ g.refused e

@@ -170,6 +170,7 @@ leave-goes : (w : WorldSeen) (c i : ℕ) (x : Client) (now : List Client) → Is
 unfolding handled_by world_given world_answer
 leave-goes w c i x now k at seat n = record {
   deployment = refl;
+  shown = refl;
   frame = record { deployment = k.deployment; interest = k.interest; sites = k.sites; nets = k.nets; planted = k.planted; clients = ap (λ (cl : List Client). length cl) n ∙ (length-set w.clients c (after_leave x) ∙ k.clients) };
   answer = λ s st. sym (λ m. at_seat (seated w c x i at seat s st m) (λ k. ans.Left (carries w c x i at seat s st m).point));
   stands = λ s st. next-stands w s (act.Leave c) (ans.Left x.carried.point) w.sites w.nets now

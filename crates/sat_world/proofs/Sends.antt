@@ -210,6 +210,7 @@ module _ (w : WorldSeen) (i n : ℕ) (given : code.SiteInput) (p : Option NetSee
     goes : Goes w a r (record w { sites = ys; nets = nets })
     goes = record {
       deployment = refl;
+      shown = refl;
       frame = record {
         deployment = k.deployment;
         interest = k.interest;

@@ -8,6 +8,7 @@ use Rattle.sat_tree.specs.Shape.{TreeShape}
 use Rattle.sat_act.specs.declared.deployment.ClientLine.{ClientLine}
 use Rattle.sat_act.specs.declared.entry.Entry.{Entry}
 use Rattle.sat_act.specs.Deployed.{Deployed}
+use Rattle.sat_act.specs.Histories.{listed}
 use Rattle.sat_act.specs.Limits.{IsDeployment}
 use Rattle.sat_act.specs.Runs.{IsRun}
 use Rattle.sat_act.specs.declared.deployment.Plan.{Plan}
@@ -36,12 +37,13 @@ use Rattle.sat_site.specs.Stands.{StandsSite, payload_of as of_version}
 use Rattle.sat_site.specs.declared.output.SiteView.{SiteView}
 use Rattle.sat_client.specs.declared.client.Client.{Client}
 use Rattle.sat_world.specs.Seen.{WorldSeen, HasSite, HasClient}
+use Rattle.sat_world.specs.Counts.{shown_count}
 use Rattle.sat_world.specs.Starts.{AreFresh, fresh_for, seated}
 use Rattle.sat_world.specs.Worlds.{IsFrame, IsPlanted, IsWorld}
 use Rattle.sat_world.specs.Shows.{IsVersion}
 use Rattle.sat_world.specs.Stands.{Stands, StandsFor}
 use Rattle.sat_world.proofs.Lists.{map-get}
-use Rattle.sat_world.proofs.Built.{home-is}
+use Rattle.sat_world.proofs.Meets.{home-is}
 use Rattle.sat_machine.specs.Parts.{valued, valued_version}
 
 -- ---- what a world shows
@@ -53,19 +55,19 @@ ShowsView x v = (d : Deployed) (i : ℕ) (s : SiteState) → StandsSite d i x s 
 module _ (w : WorldSeen) (h : List Entry) (i : ℕ) (x : SiteSeen) (v : SiteView) (run : IsRun w.deployment h) (st : StandsFor w h) (at : HasSite w i x) (is : ShowsView x v) where
   pub shows-view : v.view ≡ view h i
   unfolding world_state
-  shows-view = ap (λ (v : SiteView). v.view) (is _ _ _ (st.sites i x at)) ∙ view-agrees w.deployment h i run
+  shows-view = ap (λ (v : SiteView). v.view) (is _ _ _ (st.parts.sites i x at)) ∙ view-agrees w.deployment h i run
 
   pub shows-emission : v.emission ≡ emission h i
   unfolding world_state
-  shows-emission = ap (λ (v : SiteView). v.emission) (is _ _ _ (st.sites i x at)) ∙ emission-agrees w.deployment h i run
+  shows-emission = ap (λ (v : SiteView). v.emission) (is _ _ _ (st.parts.sites i x at)) ∙ emission-agrees w.deployment h i run
 
   pub shows-mode : v.stamp ≡ in_stamp_mode w.deployment h i
   unfolding world_state
-  shows-mode = ap (λ (v : SiteView). v.stamp) (is _ _ _ (st.sites i x at)) ∙ mode-agrees w.deployment h i run
+  shows-mode = ap (λ (v : SiteView). v.stamp) (is _ _ _ (st.parts.sites i x at)) ∙ mode-agrees w.deployment h i run
 
   pub shows-waiting : IsDeployment w.deployment → v.waiting ≡ length (waiting h i)
   unfolding world_state
-  shows-waiting k = ap (λ (v : SiteView). v.waiting) (is _ _ _ (st.sites i x at)) ∙ (ap (λ (ps : List Payload). length ps) (pool-agrees w.deployment h i (is_valid w.deployment k) run) ∙ length-map (waiting h i) (valued h))
+  shows-waiting k = ap (λ (v : SiteView). v.waiting) (is _ _ _ (st.parts.sites i x at)) ∙ (ap (λ (ps : List Payload). length ps) (pool-agrees w.deployment h i (is_valid w.deployment k) run) ∙ length-map (waiting h i) (valued h))
 
 none-stored : (h : List Entry) (o : Option Label) → valued_version h o ≡ None → o ≡ None
 none-stored h None e = refl
@@ -84,24 +86,24 @@ ShowsVersion x n r = (d : Deployed) (i : ℕ) (s : SiteState) → StandsSite d i
 pub shows-version : (w : WorldSeen) (h : List Entry) (i n : ℕ) (x : SiteSeen) (r : Option (Bor Version)) → IsDeployment w.deployment → IsRun w.deployment h → StandsFor w h → HasSite w i x → ShowsVersion x n r →
     MatchOption r (version h i n ≡ None) (λ v. IsVersion h i n v.now)
 unfolding world_state
-shows-version w h i n x None k run st at is = none-stored h (version h i n) (sym (store-agrees w.deployment h i n (is_valid w.deployment k) run) ∙ is _ _ _ (st.sites i x at))
+shows-version w h i n x None k run st at is = none-stored h (version h i n) (sym (store-agrees w.deployment h i n (is_valid w.deployment k) run) ∙ is _ _ _ (st.parts.sites i x at))
 shows-version w h i n x (Some v) k run st at is =
-    let p = some-stored h (version h i n) v.now (sym (store-agrees w.deployment h i n (is_valid w.deployment k) run) ∙ is _ _ _ (st.sites i x at)) in
+    let p = some-stored h (version h i n) v.now (sym (store-agrees w.deployment h i n (is_valid w.deployment k) run) ∙ is _ _ _ (st.parts.sites i x at)) in
     record { label = p.0; value = p.1 }
 
 -- what a client of the world carries, and its seat
 module _ (w : WorldSeen) (h : List Entry) (c : ℕ) (x : Client) (st : StandsFor w h) (at : HasClient w c x) where
   pub shows-point : x.carried.point ≡ carried h c
   unfolding world_state
-  shows-point = ap (λ (k : Carried). k.point) (st.clients c x at).carried
+  shows-point = ap (λ (k : Carried). k.point) (st.parts.clients c x at).carried
 
   pub shows-moving : x.carried.moving ≡ moving h c
   unfolding world_state
-  shows-moving = ap (λ (k : Carried). k.moving) (st.clients c x at).carried
+  shows-moving = ap (λ (k : Carried). k.moving) (st.parts.clients c x at).carried
 
   pub shows-seat : x.seat ≡ seat w.deployment h c
   unfolding world_state
-  shows-seat = (st.clients c x at).seat
+  shows-seat = (st.parts.clients c x at).seat
 
 -- ---- the new world
 
@@ -145,8 +147,8 @@ module _ (w : WorldSeen) (k : IsDeployment w.deployment) (n : AreNew w) where
   fresh-net plan.Stamp net e = absurd (let f : None ≡ Some net = e in cc)
   fresh-net (plan.Tree t) net e = subst (λ (net : NetSeen). StandsNet net (λ u v. []) (λ z. false)) (some_is (fresh_net t) net e) (starts t)
 
-  pub new-stands : StandsFor w []
-  new-stands = subst (Stands w) (sym (world-starts w.deployment)) (record {
+  new-parts : Stands w (world_state w.deployment [])
+  new-parts = subst (Stands w) (sym (world-starts w.deployment)) (record {
     sites = n.sites.each;
     nets = λ m net at. let p = new-net m (Some net) at in fresh-net p.0 net p.2;
     clients = λ c x at. let l = new-client c x at in record {
@@ -155,6 +157,10 @@ module _ (w : WorldSeen) (k : IsDeployment w.deployment) (n : AreNew w) where
     };
   })
 
+  pub new-stands : w.shown ≡ 0 → StandsFor w []
+  unfolding shown_count listed
+  new-stands e = record { parts = new-parts; shown = e }
+
   pub new-world : IsWorld w
   unfolding IsRun
-  new-world = record { frame = new-frame; history = []; run = tt; stands = new-stands }
+  new-world = record { frame = new-frame; history = []; run = tt; stands = new-parts }

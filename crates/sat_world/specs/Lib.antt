@@ -1,8 +1,10 @@
-pub mod Built
+pub mod TakesNone
 pub mod Seen
+pub mod Counts
 pub mod Stands
 pub mod Worlds
 pub mod Steps
 pub mod Shows
 pub mod Clocks
 pub mod Starts
+pub mod Laws

@@ -7,13 +7,14 @@ use Rattle.sat_net.specs.Nets.{NetSeen}
 use Rattle.sat_site.specs.Seen.{SiteSeen}
 
 -- the deployment, and which sites keep which items; the sites; by epoch from 1 on, the net of its tree, None where its plan is
--- stamp order; and the clients
+-- stamp order; the clients; and how many answers showed an update, at most 2^64 - 1
 pub record WorldSeen : Type 0 where
   pub deployment : Deployed
   pub interest : Interested
   pub sites : List SiteSeen
   pub nets : List (Option NetSeen)
   pub clients : List Client
+  pub shown : ℕ
 
 -- the site of a number
 abbrev pub HasSite : WorldSeen → ℕ → SiteSeen → Type 0

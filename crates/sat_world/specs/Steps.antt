@@ -33,10 +33,11 @@ use Rattle.sat_world.specs.Seen.{WorldSeen, HasSite}
 use Rattle.sat_world.specs.Stands.{Stands}
 use Rattle.sat_world.specs.Worlds.{IsFrame}
 
--- the answer of an act, and the world after it, are the machine's in each state that the world stands for; an act that isn't
--- done leaves the world
+-- the answer of an act, and the parts of the world after it, are the machine's in each state that the world stands for, and what was
+-- shown is still to be counted; an act that isn't done leaves the world
 pub record Goes (w : WorldSeen) (a : Act) (r : Answer) (v : WorldSeen) : Type 0 where
   pub deployment : v.deployment ≡ w.deployment
+  pub shown : v.shown ≡ w.shown
   pub frame : IsFrame v
   pub answer : (s : WorldState) → Stands w s → r ≡ world_answer w.deployment s a
   pub stands : (s : WorldState) → Stands w s → Stands v (world_next w.deployment s a r)

@@ -6,10 +6,11 @@ use Rattle.sat_act.specs.Limits.{IsDeployment}
 use Rattle.sat_act.specs.Parts.{tree_of}
 use Rattle.sat_act.specs.Runs.{IsRun}
 use Rattle.sat_machine.specs.Interests.{interest_of}
+use Rattle.sat_machine.specs.World.{world_state}
 use Rattle.sat_net.specs.Nets.{NetSeen}
 use Rattle.sat_net.specs.NetStands.{IsNetOf}
 use Rattle.sat_world.specs.Seen.{WorldSeen}
-use Rattle.sat_world.specs.Stands.{StandsFor}
+use Rattle.sat_world.specs.Stands.{Stands}
 
 -- what stands at the place of an epoch: the net of its tree, or none where its plan is stamp order
 abbrev pub IsPlanted : Deployed → ℕ → Option NetSeen → Type 0
@@ -25,9 +26,9 @@ pub record IsFrame (w : WorldSeen) : Type 0 where
   pub planted : (n : ℕ) (o : Option NetSeen) → slice_get w.nets n ≡ Some o → IsPlanted w.deployment (n + 1) o
   pub clients : length w.clients ≡ length w.deployment.clients
 
--- and the world stands for some run: what holds of all runs holds of what it keeps
+-- and its parts are those of some run: what holds of all runs holds of what it keeps
 pub record IsWorld (w : WorldSeen) : Type 0 where
   pub frame : IsFrame w
   pub history : List Entry
   pub run : IsRun w.deployment history
-  pub stands : StandsFor w history
+  pub stands : Stands w (world_state w.deployment history)

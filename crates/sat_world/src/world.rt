@@ -2,12 +2,13 @@
 ghost use Rattle.std.specs.Prelude.{◌≡◌, ◌<◌, ℕ, true, false, List, [], ◌∷◌, length, slice_get, IfOk, OnErr, IsOk, MatchOption, Some, None};
 ghost use Rattle.sat_act.specs.declared.entry.Entry.{Entry};
 ghost use Rattle.sat_act.specs.Answers.{answer};
-ghost use Rattle.sat_act.specs.Runs.{IsRun};
+ghost use Rattle.sat_act.specs.Runs.{IsRun, is_settle};
 ghost use Rattle.sat_act.specs.Ranges.{IsActOf};
-ghost use Rattle.sat_act.specs.Settling.{is_done};
+ghost use Rattle.sat_act.specs.Settling.{is_done, capped};
 ghost use Rattle.sat_act.specs.Headline.{IsGood};
 ghost use Rattle.sat_act.specs.Parts.{view, emission, in_stamp_mode, waiting, version, value_of, carried, moving, seat};
-ghost use Rattle.sat_world.specs.Built.{is_built_act, takes_none};
+ghost use Rattle.sat_world.specs.TakesNone.{takes_none};
+ghost use Rattle.sat_world.specs.Counts.{counted, shown_count};
 ghost use Rattle.sat_world.specs.Steps.{act_at, is_local, is_sending, Goes};
 ghost use Rattle.sat_world.specs.Worlds.{IsWorld};
 ghost use Rattle.sat_world.specs.Shows.{IsVersion};
@@ -30,6 +31,7 @@ pub struct World {
     sites: Vec<Site>,
     nets: Vec<Option<Net>>,
     clients: Vec<Client>,
+    shown: u64,
 }
 
 impl Model for World {
@@ -38,9 +40,19 @@ impl Model for World {
 
     ghost Value = { WorldSeen };
 
-    ghost view = { λ w. record { deployment = w.deployment; interest = w.interest; sites = w.sites.items; nets = w.nets.items; clients = w.clients.items } };
+    ghost view = { λ w. record { deployment = w.deployment; interest = w.interest; sites = w.sites.items; nets = w.nets.items; clients = w.clients.items; shown = w.shown } };
 
-    ghost invariant = { λ w. IsWorld (record { deployment = w.deployment; interest = w.interest; sites = w.sites.items; nets = w.nets.items; clients = w.clients.items }) };
+    ghost invariant = { λ w. IsWorld (record { deployment = w.deployment; interest = w.interest; sites = w.sites.items; nets = w.nets.items; clients = w.clients.items; shown = w.shown }) };
+}
+
+// The number of answers Shown, after one more answer.
+fn more_shown(shown: u64, answer: &Answer) -> u64
+    ensures { result ≡ counted answer.now shown }
+{
+    match answer {
+        Answer::Shown(_) => shown.saturating_add(1),
+        _ => shown,
+    }
 }
 
 impl World {
@@ -59,6 +71,7 @@ impl World {
             sites,
             nets,
             clients,
+            shown: 0,
         })
     }
 
@@ -66,7 +79,7 @@ impl World {
     /// fall, an advance and a kill take none.
     pub fn apply(&mut self, act: &Act) -> Result<Answer, AllocError>
         requires act { IsActOf self.old.deployment act.now }
-        requires built { is_built_act act.now ≡ true }
+        requires plain { is_settle act.now ≡ false }
         ensures answer { IfOk result (λ r. (h : List Entry) → IsRun self.old.deployment h → StandsFor self.old h → r ≡ answer self.old.deployment h act.now) }
         ensures stands { IfOk result (λ r. (h : List Entry) → IsRun self.old.deployment h → StandsFor self.old h → StandsFor self.new (record { act = act.now; answer = r; inner = false } ∷ h)) }
         ensures good { IfOk result (λ r. (h : List Entry) → IsRun self.old.deployment h → StandsFor self.old h → IsGood self.old.deployment (record { act = act.now; answer = r; inner = false } ∷ h)) }
@@ -76,6 +89,7 @@ impl World {
         ensures err { OnErr result (self.new ≡ self.old) }
     {
         let answer = self.step(act)?;
+        self.shown = more_shown(self.shown, &answer);
         Ok(answer)
     }
 
@@ -84,6 +98,11 @@ impl World {
         ensures { result.now ≡ self.now.deployment }
     {
         &self.deployment
+    }
+
+    /// The allocator that the world was made with.
+    pub fn allocator(&self) -> Global {
+        *self.sites.allocator()
     }
 
     /// What a site shows of itself. It takes no memory.
@@ -118,10 +137,17 @@ impl World {
         &self.clients[c as usize]
     }
 
-    // Does an act. The calls below do one kind of act each.
+    /// The number of answers Shown so far, or 2^64 - 1 where it is greater. It takes no memory.
+    pub fn shown(&self) -> u64
+        ensures { (h : List Entry) → IsRun self.now.deployment h → StandsFor self.now h → result ≡ capped (shown_count h) }
+    {
+        self.shown
+    }
+
+    // Does an act, and leaves its answer to be counted. The calls below do one kind of act each.
     fn step(&mut self, act: &Act) -> Result<Answer, AllocError>
         requires act { IsActOf self.old.deployment act.now }
-        requires built { is_built_act act.now ≡ true }
+        requires plain { is_settle act.now ≡ false }
         ensures goes { IfOk result (λ r. Goes self.old act.now r self.new) }
         ensures world { IsWorld self.old }
         ensures spare { takes_none act.now ≡ true → IsOk result }

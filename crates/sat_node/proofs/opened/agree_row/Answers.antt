@@ -9,9 +9,9 @@ loop-b-preserved g c =
       c.agree_two.ensures.same.0 ∙ c.loop-b.invariant.0,
       list_same c.loop-b.receivers.items c.args.receivers.now.items c.loop-b.b was c.agree_two.new.receiver c.loop-b.invariant.1 c.agree_two.ensures.same.1 c.index_mut-receiver.ensures.value,
       c.loop-b.invariant.2,
-      list_step (λ r. AgreeNodes g.M.Machine.puts g.K.Machine.takes g.M.Machine.makes g.K.Machine.hears c.args.sender.now r) c.loop-b.receivers.items c.args.receivers.now.items c.loop-b.b was c.loop-b.invariant.1 (rw c.loop-b.invariant.1 (omega arith)) c.index_mut-receiver.ensures.value
-          (subst (λ s. AgreeNodes g.M.Machine.puts g.K.Machine.takes g.M.Machine.makes g.K.Machine.hears s was) c.loop-b.invariant.0 c.agree_two.ensures.agree) c.loop-b.invariant.3,
+      list_step (λ r. AgreeNodes g.M.Machine.meaning g.K.Machine.meaning c.args.sender.now r) c.loop-b.receivers.items c.args.receivers.now.items c.loop-b.b was c.loop-b.invariant.1 (rw c.loop-b.invariant.1 (omega arith)) c.index_mut-receiver.ensures.value
+          (subst (λ s. AgreeNodes g.M.Machine.meaning g.K.Machine.meaning s was) c.loop-b.invariant.0 c.agree_two.ensures.agree) c.loop-b.invariant.3,
     )
 
 pub returns-clause-agree : goal.returns-clause-agree
-returns-clause-agree g c = row_agrees g.M.Machine.puts g.K.Machine.takes g.M.Machine.makes g.K.Machine.hears c.args.sender.now c.args.receivers.now.items (λ b r less at. c.loop-b.invariant.3 b r (omega arith) at)
+returns-clause-agree g c = row_agrees g.M.Machine.meaning g.K.Machine.meaning c.args.sender.now c.args.receivers.now.items (λ b r less at. c.loop-b.invariant.3 b r (omega arith) at)

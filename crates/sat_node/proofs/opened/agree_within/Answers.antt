@@ -14,9 +14,9 @@ loop-a-preserved g c =
     let at : slice_get now c.loop-a.a ≡ Some was = slice_get_read now (length now) c.loop-a.a was refl less c.remove-sender.ensures.value in
     let rest = c.agree_row.ensures.same.1 ∙ c.remove-sender.ensures.items in (
       inserted c.insert.result c.insert.new.self.items (insert c.agree_row.new.receivers.items c.loop-a.a c.agree_row.new.sender) c.agree_row.new.receivers.items (c.if-is_err.ensures.value) c.insert.ensures.items ∙ (ap (λ l. insert l c.loop-a.a c.agree_row.new.sender) rest ∙ (ap (insert (remove now c.loop-a.a) c.loop-a.a) c.agree_row.ensures.same.0 ∙ (put_back now c.loop-a.a was at ∙ c.loop-a.invariant.0))),
-      within_step (λ x s. AgreeRow g.M.Machine.puts g.M.Machine.takes g.M.Machine.makes g.M.Machine.hears s (remove start x)) start c.loop-a.a was (ap (λ l. slice_get l c.loop-a.a) (sym c.loop-a.invariant.0) ∙ at)
-          (subst (λ l. AgreeRow g.M.Machine.puts g.M.Machine.takes g.M.Machine.makes g.M.Machine.hears was l) (c.remove-sender.ensures.items ∙ ap (λ l. remove l c.loop-a.a) c.loop-a.invariant.0) c.agree_row.ensures.agree) c.loop-a.invariant.1,
+      within_step (λ x s. AgreeRow g.M.Machine.meaning g.M.Machine.meaning s (remove start x)) start c.loop-a.a was (ap (λ l. slice_get l c.loop-a.a) (sym c.loop-a.invariant.0) ∙ at)
+          (subst (λ l. AgreeRow g.M.Machine.meaning g.M.Machine.meaning was l) (c.remove-sender.ensures.items ∙ ap (λ l. remove l c.loop-a.a) c.loop-a.invariant.0) c.agree_row.ensures.agree) c.loop-a.invariant.1,
     )
 
 pub returns-clause-agree : goal.returns-clause-agree
-returns-clause-agree g c = within_agrees g.M.Machine.puts g.M.Machine.takes g.M.Machine.makes g.M.Machine.hears c.args.nodes.now.items (λ a s less at. c.loop-a.invariant.1 a s (omega arith) at)
+returns-clause-agree g c = within_agrees g.M.Machine.meaning c.args.nodes.now.items (λ a s less at. c.loop-a.invariant.1 a s (omega arith) at)

@@ -5,4 +5,4 @@ use Rattle.sat_node.specs.Opened.{AgreeRow}
 use Rattle.sat_node.proofs.opened.agree_within.Given as goal
 
 abbrev pub invariant-loop-a : goal.invariant-loop-a
-invariant-loop-a g l = (l.nodes.items ≡ l.initial.nodes.items) × ((x : ℕ) (s : HeldSeen g.row.M.Denot g.row.M-Input.Denot g.row.M-Answer.Denot) → x < l.a → slice_get l.initial.nodes.items x ≡ Some s → AgreeRow g.M.Machine.puts g.M.Machine.takes g.M.Machine.makes g.M.Machine.hears s (remove l.initial.nodes.items x))
+invariant-loop-a g l = (l.nodes.items ≡ l.initial.nodes.items) × ((x : ℕ) (s : HeldSeen g.row.M.Denot g.row.M-Input.Denot g.row.M-Answer.Denot) → x < l.a → slice_get l.initial.nodes.items x ≡ Some s → AgreeRow g.M.Machine.meaning g.M.Machine.meaning s (remove l.initial.nodes.items x))

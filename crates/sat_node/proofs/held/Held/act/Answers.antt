@@ -1,16 +1,12 @@
-use Rattle.std.proofs.Common.{◌+◌, max, ap, refl}
-use Rattle.sat_node.proofs.Entries.{tied_either}
+use Rattle.std.proofs.Common.{refl, sym, ap, subst}
+use Rattle.sat_node.specs.Links.{IsLocal}
+use Rattle.sat_node.proofs.Ties.{tied_act}
 use Rattle.sat_node.proofs.held.Held.act.Goals as goal
 
 pub invariant_of-self : goal.invariant_of-self
 invariant_of-self g c =
-    let same = ap (λ h. h.node.state) c.self.view_is in
-    tied_either g.M.Machine.puts g.M.Machine.takes g.M.Machine.makes g.M.Machine.hears g.M.Machine.stands c.keep.result
-    (record { node = c.self.inside.node; outs = c.self.inside.outs.items; ins = c.self.inside.ins.items; bulk_outs = c.self.inside.bulk_outs.items; bulk_ins = c.self.inside.bulk_ins.items })
-    (record { node = c.keep.new.node; outs = c.keep.new.outs.items; ins = c.self.inside.ins.items; bulk_outs = c.self.inside.bulk_outs.items; bulk_ins = c.self.inside.bulk_ins.items })
-    (max c.self.inside.node.number c.args.heard + 1) c.args.input (g.M.Machine.answer c.self.inside.node.state c.args.input) c.self.invariant
-    c.keep.ensures.taken c.keep.ensures.put c.keep.ensures.err
-    (rw same c.requires.stands) refl refl refl (λ k. rw same (c.requires.takes k)) (λ k. rw same (c.requires.hears k))
-
-pub returns-clause-put : goal.returns-clause-put
-returns-clause-put g c = rw (← c.self.view_is) c.keep.ensures.put
+    let m = g.M.Machine.meaning in
+    let inside = c.self.inside in
+    tied_act m c.take.result c.args.heard c.args.input (g.M.Machine.may_fail inside.node.machine c.args.input)
+    (record { node = inside.node; outs = inside.outs.items; ins = inside.ins.items }) (record { node = c.take.new.self; outs = inside.outs.items; ins = inside.ins.items })
+    c.self.invariant (subst (λ node. IsLocal m node c.args.input) (sym (ap (λ h. h.node) c.self.view_is)) c.requires.local) c.take.ensures.takes c.take.ensures.answer refl refl

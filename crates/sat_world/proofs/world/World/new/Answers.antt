@@ -1,4 +1,4 @@
-use Rattle.std.proofs.Common.{◌∙◌, List, map, ap}
+use Rattle.std.proofs.Common.{refl, ◌∙◌, List, map, ap}
 use Rattle.sat_act.specs.declared.deployment.Plan.{Plan}
 use Rattle.sat_world.specs.Starts.{fresh_for}
 use Rattle.sat_world.proofs.Shown.{new-world, new-stands}
@@ -18,4 +18,4 @@ returns-clause-stands c = new-stands _ c.plans.ensures.limits (record {
   sites = c.in_ok-sites.ensures;
   nets = c.in_ok-nets.ensures ∙ ap (λ (ps : List Plan). map fresh_for ps) c.plans.ensures.plans;
   clients = c.in_ok-clients.ensures;
-})
+}) refl

@@ -1,9 +1,0 @@
-use Rattle.std.proofs.Common.{◌≡◌, List}
-use Rattle.sat_act.specs.declared.entry.Entry.{Entry}
-use Rattle.sat_act.specs.Runs.{IsRun}
-use Rattle.sat_world.specs.Stands.{StandsFor}
-use Rattle.sat_report.specs.Holdings.{site_lines}
-use Rattle.sat_report.proofs.holdings.site_lines.Given as goal
-
-abbrev pub invariant-loop-site : goal.invariant-loop-site
-invariant-loop-site l = (h : List Entry) → IsRun l.world.deployment h → StandsFor l.world h → l.lines.items ≡ site_lines l.world.deployment h l.site

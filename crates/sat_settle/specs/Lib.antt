@@ -1,0 +1,7 @@
+pub mod LoadDraws
+pub mod LoadHeader
+pub mod LoadActs
+pub mod Going
+pub mod Openings
+pub mod RoundActs
+pub mod Bounds

@@ -1,0 +1,43 @@
+-- The parts of the list of a round's acts, as the calls make them.
+use Rattle.std.specs.Prelude.{ℕ, ◌==◌, List, [], ◌∷◌, length, map, None, if◌then◌else◌}
+use Rattle.sat_label.specs.Words.{below}
+use Rattle.sat_tree.specs.Shape.{TreeShape}
+use Rattle.sat_tree.specs.Cut.{neighbours}
+use Rattle.sat_act.specs.declared.act.Act.{Act}
+use Rattle.sat_act.specs.declared.act.Act.TheVariants as act
+use Rattle.sat_act.specs.declared.deployment.Plan.{Plan}
+use Rattle.sat_act.specs.declared.deployment.Plan.TheVariants as plan
+use Rattle.sat_act.specs.Settling.{joined}
+
+-- the bulk of the next payload of a lane, none of a site's to itself
+abbrev pub bulk_to : ℕ → ℕ → ℕ → List Act
+bulk_to i g j = if i == j then [] else act.Bulk i g j None ∷ []
+
+-- those of gear g of site i to the first n sites
+abbrev pub bulks_of : ℕ → ℕ → ℕ → List Act
+bulks_of i n g = joined (λ j. bulk_to i g j) (below n)
+
+-- those of the first m gears of site i
+abbrev pub bulks_from : ℕ → ℕ → ℕ → List Act
+bulks_from n m i = joined (λ g. bulks_of i n g) (below m)
+
+-- a hop from each neighbour of serializer z
+abbrev pub hops_to : ℕ → TreeShape → ℕ → List Act
+hops_to epoch tree z = map (λ u. act.Hop epoch u z) (neighbours tree z)
+
+-- those of all serializers of a tree
+abbrev pub hops_in : ℕ → TreeShape → List Act
+hops_in epoch tree = joined (λ z. hops_to epoch tree z) (below (length tree.parents))
+
+-- those of an epoch, by its plan
+abbrev pub hops_by : ℕ → Plan → List Act
+hops_by epoch plan.Stamp = []
+hops_by epoch (plan.Tree tree) = hops_in epoch tree
+
+-- of a site a turn, a stamp and an advance
+abbrev pub turns_of : ℕ → List Act
+turns_of j = act.Turn j ∷ act.Stamp j ∷ act.Advance j ∷ []
+
+-- those of the first n sites
+abbrev pub turns_to : ℕ → List Act
+turns_to n = joined turns_of (below n)

@@ -1,0 +1,14 @@
+//! Settle on a world: everything that can still move moves, until nothing does. And a large script made from two numbers.
+#![tactic(auto)]
+
+mod acts;
+mod load_draws;
+mod load_header;
+mod load_rows;
+mod load_script;
+mod opening;
+mod settling;
+mod trying;
+
+pub use load_script::{MOST_LOADED, load};
+pub use settling::settle;

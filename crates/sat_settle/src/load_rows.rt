@@ -1,0 +1,186 @@
+//! The acts of a large script, by the table of what is drawn.
+ghost use Rattle.std.specs.Prelude.{◌≡◌, ◌≤◌, ◌<◌, ◌+◌, ◌++◌, codes, length, IfOk, OnOk};
+ghost use Rattle.std.specs.Fmt.{decimal};
+ghost use Rattle.sat_tree.specs.Cut.{neighbours};
+ghost use Rattle.sat_settle.specs.LoadActs.{row_of, draws_of, neighbour, hop_in, hop_act, bulk_act, row_act, act_at, after_act};
+ghost use Rattle.sat_settle.specs.LoadDraws.{after_draws, first};
+ghost use Rattle.sat_settle.specs.LoadHeader.{load_deployment, load_tree};
+ghost use Rattle.sat_settle.specs.declared.load_rows.Row.TheVariants as row;
+
+use crate::load_draws::Draws;
+use crate::load_header::tree_of;
+use sat_act::{Act, Deployment};
+use sat_label::{NodeId, Value};
+use sat_tree::Tree;
+use std::alloc::{AllocError, Global};
+
+/// A row of the table.
+#[derive(Clone, Copy)]
+pub enum Row {
+    Write,
+    Read,
+    Move,
+    Attach,
+    Tick,
+    Gather,
+    Emit,
+    Pulse,
+    Hop,
+    Bulk,
+    Turn,
+}
+
+// The row of a number below 16.
+#[tactic(auto, unfolding(crate::specs::LoadActs::row_of))]
+fn row_of(number: u16) -> Row
+    requires { number < 16 }
+    ensures { result ≡ row_of number }
+{
+    match number {
+        0..=2 => Row::Write,
+        3 => Row::Read,
+        4 => Row::Move,
+        5 => Row::Attach,
+        6 => Row::Tick,
+        7 => Row::Gather,
+        8 | 9 => Row::Emit,
+        10 => Row::Pulse,
+        11 => Row::Hop,
+        12 | 13 => Row::Bulk,
+        _ => Row::Turn,
+    }
+}
+
+// `v` and a number.
+#[tactic(auto, using(crate::proofs::LoadTexts::value_text))]
+fn value(alloc: Global, number: u32) -> Result<Value, AllocError>
+    ensures { IfOk result (λ value. value ≡ codes "v" ++ decimal number) }
+{
+    let text = format!(in alloc; "v{number}")?;
+    match Value::of(alloc, text.as_bytes())? {
+        Some(value) => Ok(value),
+        None => unreachable!(),
+    }
+}
+
+#[tactic(auto, unfolding(crate::specs::LoadActs::neighbour))]
+fn neighbour(tree: &Tree, z: u16, place: u16) -> NodeId
+    requires z { z < length tree.now.parents }
+    requires place { place < length (neighbours tree.now z) }
+    ensures { result ≡ neighbour tree.now z place }
+{
+    tree.neighbours(z)[place as usize]
+}
+
+// A serializer of an epoch's tree, and one of its neighbours.
+#[tactic(auto, using(crate::proofs::LoadTrees::some_serializer, crate::proofs::LoadTrees::some_neighbour, crate::proofs::LoadTrees::few_neighbours))]
+fn hop(d: &Deployment, draws: &mut Draws) -> Act
+    requires { d.now ≡ load_deployment }
+    ensures act { result ≡ hop_act draws.old }
+    ensures state { draws.new ≡ after_draws 3 draws.old }
+{
+    let epoch = 1 + draws.draw(2);
+    let tree = tree_of(d, epoch);
+    let to = draws.draw(tree.serializers());
+    let place = draws.draw(tree.neighbours(to).len() as u16);
+    Act::Hop {
+        epoch,
+        from: neighbour(tree, to, place),
+        to,
+    }
+}
+
+// A lane from one site for another.
+fn bulk(draws: &mut Draws) -> Act
+    ensures act { result ≡ bulk_act draws.old }
+    ensures state { draws.new ≡ after_draws 3 draws.old }
+{
+    let from = draws.draw(5);
+    let gear = draws.draw(4);
+    let to = (from + 1 + draws.draw(4)) % 5;
+    Act::Bulk {
+        from,
+        gear,
+        to,
+        number: None,
+    }
+}
+
+#[tactic(auto, unfolding(crate::specs::LoadActs::row_act))]
+fn write(alloc: Global, draws: &mut Draws, number: u32) -> Result<Act, AllocError>
+    ensures act { IfOk result (λ a. a ≡ row_act row.Write number draws.old) }
+    ensures state { OnOk result (draws.new ≡ after_draws 2 draws.old) }
+{
+    let client = draws.draw(40);
+    let item = draws.draw(200);
+    let value = value(alloc, number)?;
+    Ok(Act::Write {
+        client,
+        item,
+        value,
+    })
+}
+
+// The act of a row, as the one of this number.
+#[tactic(auto, unfolding(crate::specs::LoadActs::row_act))]
+fn act_of(
+    alloc: Global,
+    d: &Deployment,
+    draws: &mut Draws,
+    row: Row,
+    number: u32,
+) -> Result<Act, AllocError>
+    requires { d.now ≡ load_deployment }
+    ensures act { IfOk result (λ a. a ≡ row_act row number draws.old) }
+    ensures state { OnOk result (draws.new ≡ after_draws (draws_of row) draws.old) }
+{
+    match row {
+        Row::Write => write(alloc, draws, number),
+        Row::Read => Ok(Act::Read {
+            client: draws.draw(40),
+            item: draws.draw(200),
+        }),
+        Row::Move => Ok(Act::Move {
+            client: draws.draw(40),
+            site: draws.draw(5),
+        }),
+        Row::Attach => Ok(Act::Attach {
+            client: draws.draw(40),
+            site: draws.draw(5),
+        }),
+        Row::Tick => Ok(Act::Tick {
+            site: draws.draw(5),
+            gear: draws.draw(4),
+            ts: u64::from(number),
+        }),
+        Row::Gather => Ok(Act::Gather {
+            site: draws.draw(5),
+        }),
+        Row::Emit => Ok(Act::Emit {
+            site: draws.draw(5),
+        }),
+        Row::Pulse => Ok(Act::Pulse {
+            site: draws.draw(5),
+        }),
+        Row::Hop => Ok(hop(d, draws)),
+        Row::Bulk => Ok(bulk(draws)),
+        Row::Turn => Ok(Act::Turn {
+            site: draws.draw(5),
+        }),
+    }
+}
+
+/// The act of this number: its row is drawn, and then what the row takes.
+pub fn next_act(
+    alloc: Global,
+    d: &Deployment,
+    draws: &mut Draws,
+    number: u32,
+) -> Result<Act, AllocError>
+    requires { d.now ≡ load_deployment }
+    ensures act { IfOk result (λ a. a ≡ act_at number draws.old) }
+    ensures state { OnOk result (draws.new ≡ after_act draws.old) }
+{
+    let row = row_of(draws.draw(16));
+    act_of(alloc, d, draws, row, number)
+}
