@@ -8,9 +8,12 @@ use Rattle.sat_delay.specs.Table.{DelayTable}
 use Rattle.sat_delay.specs.Reading.{reading as delays_in}
 use Rattle.sat_plan.specs.Texts.{plan_text, result_text}
 use Rattle.sat_top.specs.declared.words.Command.{Command}
-use Rattle.sat_top.specs.declared.words.Command.TheVariants.{Run, Plan, Help, Version}
+use Rattle.sat_top.specs.declared.words.Command.TheVariants.{Run, Plan, Place, Help, Version}
 use Rattle.sat_top.specs.Good.{IsGoodScript}
-use Rattle.sat_top.specs.Whole.{IsDone, IsRefused, IsOutput, HasRun, HasFault, HasPlan, HasDelayFault, command_output, plan_status, run_status}
+use Rattle.sat_place.specs.Shape.{Shape, shape_reading}
+use Rattle.sat_place.specs.Texts.{place_text, result_text as place_result}
+use Rattle.sat_top.specs.Placing.{place_status}
+use Rattle.sat_top.specs.Whole.{IsDone, IsRefused, IsOutput, HasRun, HasFault, HasPlan, HasDelayFault, HasPlacement, HasShapeFault, command_output, plan_status, run_status}
 
 written : (c : Option Command) (left : Option (List ℕ)) (text : List ℕ) (status : ℕ) (old new : Told) (o : IsOutput c left text status) → Takes old new text → Takes old new (command_output c o.input)
 written c left text status old new o took = subst (λ (bytes : List ℕ). Takes old new bytes) o.output took
@@ -74,9 +77,41 @@ plan-refused left text old new o took = go (delays_in o.input) refl
     }
     go (Ok d) is = absurd (never (sym (o.status_is ∙ ap plan_status is)))
 
+place-text : (input : List ℕ) (r : Result Shape DelayFault) → shape_reading input ≡ r → place_text input ≡ place_result r
+unfolding place_text
+place-text input r is = ap place_result is
+
+place-done : (left : Option (List ℕ)) (text : List ℕ) (old new : Told) (o : IsOutput (Some Place) left text 0) → Takes old new text → HasPlacement left old new
+place-done left text old new o took = go (shape_reading o.input) refl
+  where
+    go : (r : Result Shape DelayFault) → shape_reading o.input ≡ r → HasPlacement left old new
+    go (Ok s) is = record {
+      text = o.input;
+      whole = o.whole;
+      shape = s;
+      read = is;
+      written = subst (λ (bytes : List ℕ). Takes old new bytes) (o.output ∙ place-text o.input (Ok s) is) took;
+      least = o.proves s is;
+    }
+    go (Err fault) is = absurd (never (o.status_is ∙ ap place_status is))
+
+place-refused : (left : Option (List ℕ)) (text : List ℕ) (old new : Told) (o : IsOutput (Some Place) left text 1) → Takes old new text → HasShapeFault left old new
+place-refused left text old new o took = go (shape_reading o.input) refl
+  where
+    go : (r : Result Shape DelayFault) → shape_reading o.input ≡ r → HasShapeFault left old new
+    go (Err fault) is = record {
+      text = o.input;
+      whole = o.whole;
+      fault = fault;
+      bad = is;
+      written = subst (λ (bytes : List ℕ). Takes old new bytes) (o.output ∙ place-text o.input (Err fault) is) took;
+    }
+    go (Ok s) is = absurd (never (sym (o.status_is ∙ ap place_status is)))
+
 pub is_done : (c : Option Command) (left : Option (List ℕ)) (text : List ℕ) (status : ℕ) (old new : Told) → IsOutput c left text status → Takes old new text → status ≡ 0 → IsDone c left old new
 is_done (Some Run) left text status old new o took is-zero = run-done left text old new (subst (λ (n : ℕ). IsOutput (Some Run) left text n) is-zero o) took
 is_done (Some Plan) left text status old new o took is-zero = plan-done left text old new (subst (λ (n : ℕ). IsOutput (Some Plan) left text n) is-zero o) took
+is_done (Some Place) left text status old new o took is-zero = place-done left text old new (subst (λ (n : ℕ). IsOutput (Some Place) left text n) is-zero o) took
 is_done (Some Help) left text status old new o took is-zero = written (Some Help) left text status old new o took
 is_done (Some Version) left text status old new o took is-zero = written (Some Version) left text status old new o took
 is_done None left text status old new o took is-zero = absurd (let e : status ≡ 2 = o.status_is in cc)
@@ -84,6 +119,7 @@ is_done None left text status old new o took is-zero = absurd (let e : status �
 pub is_refused : (c : Option Command) (left : Option (List ℕ)) (text : List ℕ) (status : ℕ) (old new : Told) → IsOutput c left text status → Takes old new text → status ≡ 1 → IsRefused c left old new
 is_refused (Some Run) left text status old new o took is-one = run-refused left text old new (subst (λ (n : ℕ). IsOutput (Some Run) left text n) is-one o) took
 is_refused (Some Plan) left text status old new o took is-one = plan-refused left text old new (subst (λ (n : ℕ). IsOutput (Some Plan) left text n) is-one o) took
+is_refused (Some Place) left text status old new o took is-one = place-refused left text old new (subst (λ (n : ℕ). IsOutput (Some Place) left text n) is-one o) took
 is_refused (Some Help) left text status old new o took is-one = absurd (let e : status ≡ 0 = o.status_is in cc)
 is_refused (Some Version) left text status old new o took is-one = absurd (let e : status ≡ 0 = o.status_is in cc)
 is_refused None left text status old new o took is-one = absurd (let e : status ≡ 2 = o.status_is in cc)

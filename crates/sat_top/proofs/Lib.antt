@@ -1,8 +1,10 @@
 pub mod Progress
 pub mod Faults
+pub mod Doing
 pub mod Running
 pub mod Good
 pub mod Refused
 pub mod Ran
 pub mod Plans
+pub mod Placements
 pub mod Done

@@ -13,6 +13,7 @@ use Rattle.sat_plan.specs.Config.{delayed}
 use Rattle.sat_plan.specs.Mismatch.{mismatch}
 use Rattle.sat_plan.specs.Steps.{built}
 use Rattle.sat_plan.specs.Texts.{config_text, plan_text, result_text}
+use Rattle.sat_place.specs.Shape.{shape_reading}
 use Rattle.sat_top.specs.declared.words.Command.TheVariants.{Plan}
 use Rattle.sat_top.specs.Whole.{IsTextOf, IsPlanned, IsOutput, plan_status}
 use Rattle.sat_top.proofs.Progress.{at_end, rest_of}
@@ -41,16 +42,26 @@ too_long : (bytes : List ℕ) → 1048576 < length bytes → delays_in bytes ≡
 unfolding delays_in
 too_long bytes long = let past : nat_lt 1048576 (length bytes) ≡ true = grind (arith, nat_tests) in rw past refl
 
-pub whole_delays : (a b : Option (List ℕ)) (taken : List ℕ) → Consumes a b taken → IsAtEnd b → (text : List ℕ) × IsTextOf a text × (delays_in text ≡ delays_in taken)
-whole_delays a b taken took ends = (taken, at_end a b taken took ends, refl)
+pub whole_delays : (a b : Option (List ℕ)) (taken : List ℕ) → Consumes a b taken → IsAtEnd b → (text : List ℕ) × IsTextOf a text × (delays_in text ≡ delays_in taken) × (shape_reading text ≡ shape_reading taken)
+whole_delays a b taken took ends = (taken, at_end a b taken took ends, refl, refl)
 
-pub enough_delays : (a b : Option (List ℕ)) (taken : List ℕ) → Consumes a b taken → 1048576 < length taken → (text : List ℕ) × IsTextOf a text × (delays_in text ≡ delays_in taken)
+-- so is a text with a tree
+pub too_long_shape : (bytes : List ℕ) → 1048576 < length bytes → shape_reading bytes ≡ Err TooLong
+unfolding shape_reading
+too_long_shape bytes long = rw (too_long bytes long) refl
+
+pub enough_delays : (a b : Option (List ℕ)) (taken : List ℕ) → Consumes a b taken → 1048576 < length taken → (text : List ℕ) × IsTextOf a text × (delays_in text ≡ delays_in taken) × (shape_reading text ≡ shape_reading taken)
 enough_delays a b taken took long =
     let rest = rest_of a b taken took in
-    (taken ++ rest.0, rest.1, too_long (taken ++ rest.0) (omega (arith, length-append taken rest.0)) ∙ sym (too_long taken long))
+    let more : 1048576 < length (taken ++ rest.0) = omega (arith, length-append taken rest.0) in (
+      taken ++ rest.0,
+      rest.1,
+      too_long (taken ++ rest.0) more ∙ sym (too_long taken long),
+      too_long_shape (taken ++ rest.0) more ∙ sym (too_long_shape taken long),
+    )
 
 -- the plan of what was read is that of the source's text
-pub plan_output : (left : Option (List ℕ)) (found text : List ℕ) (status : ℕ) → (input : List ℕ) × IsTextOf left input × (delays_in input ≡ delays_in found) → IsPlanned found text status → IsOutput (Some Plan) left text status
+pub plan_output : (left : Option (List ℕ)) (found text : List ℕ) (status : ℕ) → (input : List ℕ) × IsTextOf left input × (delays_in input ≡ delays_in found) × (shape_reading input ≡ shape_reading found) → IsPlanned found text status → IsOutput (Some Plan) left text status
 unfolding plan_text
 plan_output left found text status from is = record {
   input = from.0;

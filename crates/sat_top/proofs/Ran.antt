@@ -3,16 +3,14 @@ use Rattle.std.proofs.Common.{◌≡◌, ℕ, false, List, Option, Some, None, r
 use Rattle.std.specs.Prelude.{IfSome}
 use Rattle.sat_act.specs.Deployed.{Deployed}
 use Rattle.sat_act.specs.Limits.{IsDeployment}
-use Rattle.sat_act.specs.Headline.{IsGood}
-use Rattle.sat_laws.specs.Laws.{EveryHistoryIsGood}
 use Rattle.sat_script.specs.Spelled.{HaveNames}
-use Rattle.sat_script.specs.Reading.{reading, AreBuiltActs}
+use Rattle.sat_script.specs.Reading.{reading, AreActsOf}
 use Rattle.sat_script.specs.declared.fault.ScriptFault.{ScriptFault}
 use Rattle.sat_script.specs.declared.stream.Reading.{Reading}
 use Rattle.sat_top.specs.declared.words.Command.TheVariants.{Run}
-use Rattle.sat_top.specs.Good.{IsGoodFront, EveryReadingIsGood}
-use Rattle.sat_top.specs.Runs.{history, run_text}
-use Rattle.sat_top.proofs.Good.{good_history}
+use Rattle.sat_top.specs.Good.{IsGoodRun, IsGoodFront, EveryReadingIsGood}
+use Rattle.sat_top.specs.Runs.{run_text}
+use Rattle.sat_top.proofs.Good.{TheLaws, good_run}
 use Rattle.sat_top.specs.Whole.{IsTextOf, IsOutput, run_status}
 
 zero_fault : (fault : Option ScriptFault) (status : ℕ) → status ≡ run_status fault → status ≡ 0 → fault ≡ None
@@ -24,17 +22,17 @@ at_some : (o : Option Deployed) (d : Deployed) (P : Deployed → Type 0) → IfS
 at_some None d P p e = absurd (cc)
 at_some (Some x) d P p e = let same : x ≡ d = cc in subst P same p
 
-front : (text : List ℕ) (found : Reading) → EveryHistoryIsGood → IfSome found.deployment (λ d. IsDeployment d × HaveNames d × AreBuiltActs d found.acts) → reading false text ≡ found → IsGoodFront text
-front text found every built same d at =
-    let here = at_some found.deployment d (λ x. IsDeployment x × HaveNames x × AreBuiltActs x found.acts) built (sym (ap (λ (r : Reading). r.deployment) same) ∙ at) in
-    subst (λ (r : Reading). IsGood d (history d r.acts)) (sym same) (good_history d found.acts every here.0 here.2)
+front : (text : List ℕ) (found : Reading) → TheLaws → IfSome found.deployment (λ d. IsDeployment d × HaveNames d × AreActsOf d found.acts) → reading false text ≡ found → IsGoodFront text
+front text found laws sound same d at =
+    let here = at_some found.deployment d (λ x. IsDeployment x × HaveNames x × AreActsOf x found.acts) sound (sym (ap (λ (r : Reading). r.deployment) same) ∙ at) in
+    subst (λ (r : Reading). IsGoodRun d r.acts) (sym same) (good_run d found.acts laws here.0 here.2)
 
-pub ran : (left : Option (List ℕ)) (found : Reading) (written : List ℕ) (status : ℕ) → EveryReadingIsGood → EveryHistoryIsGood → IfSome found.deployment (λ d. IsDeployment d × HaveNames d × AreBuiltActs d found.acts) → ((text : List ℕ) × IsTextOf left text × (reading false text ≡ found)) → written ≡ run_text found → status ≡ run_status found.fault
+pub ran : (left : Option (List ℕ)) (found : Reading) (written : List ℕ) (status : ℕ) → EveryReadingIsGood → TheLaws → IfSome found.deployment (λ d. IsDeployment d × HaveNames d × AreActsOf d found.acts) → ((text : List ℕ) × IsTextOf left text × (reading false text ≡ found)) → written ≡ run_text found → status ≡ run_status found.fault
     → IsOutput (Some Run) left written status
-ran left found written status law every built from wrote means = record {
+ran left found written status law laws sound from wrote means = record {
   input = from.0;
   whole = from.1;
   output = rw from.2 wrote;
   status_is = rw from.2 means;
-  proves = (λ zero. law from.0 (ap (λ (r : Reading). r.fault) from.2 ∙ zero_fault found.fault status means zero), λ one. front from.0 found every built from.2);
+  proves = (λ zero. law from.0 (ap (λ (r : Reading). r.fault) from.2 ∙ zero_fault found.fault status means zero), λ one. front from.0 found laws sound from.2);
 }

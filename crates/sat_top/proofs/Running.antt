@@ -1,90 +1,95 @@
 -- One act more.
-use Rattle.std.proofs.Common.{◌≡◌, ℕ, ◌+◌, true, false, List, [], ◌∷◌, ◌++◌, length, refl, sym, ap, ◌∙◌, inl}
-use Rattle.std.specs.Prelude.{reverse, None}
-use Rattle.std.proofs.lemmas.List.{reverse-append, length-append}
+use Rattle.std.proofs.Common.{◌≡◌, ℕ, ◌+◌, List, [], ◌∷◌, ◌++◌, length, refl, sym, ap, ◌∙◌}
+use Rattle.std.specs.Prelude.{None}
+use Rattle.std.proofs.lemmas.List.{append-nil, reverse-append, length-append}
 use Rattle.sat_act.specs.declared.act.Act.{Act}
 use Rattle.sat_act.specs.declared.act.Act.TheVariants as act
 use Rattle.sat_act.specs.declared.answer.Answer.{Answer}
 use Rattle.sat_act.specs.declared.entry.Entry.{Entry}
 use Rattle.sat_act.specs.Deployed.{Deployed}
-use Rattle.sat_script.specs.Built.{is_built_act}
+use Rattle.sat_act.specs.Done.{of_client}
 use Rattle.sat_act.specs.Ranges.{IsActOf}
-use Rattle.sat_act.specs.Answers.{answer, InRange}
-use Rattle.sat_world.proofs.Built.{in-range}
-use Rattle.sat_act.specs.Runs.{IsRun, is_settle}
-use Rattle.sat_act.specs.Settling.{run, answer_of, with_inner}
-use Rattle.sat_world.specs.Built.{is_built_act as is_world_act}
+use Rattle.sat_act.specs.Runs.{IsRun}
+use Rattle.sat_act.specs.Settling.{run, answer_of, inner_entry, with_inner}
+use Rattle.sat_rest.proofs.Headlines.{act-is}
+use Rattle.sat_rest.proofs.Rounds.{goes-keep}
+use Rattle.sat_rest.proofs.Settles.{settle-after}
+use Rattle.sat_world.proofs.Meets.{in-range}
 use Rattle.sat_world.specs.Seen.{WorldSeen}
 use Rattle.sat_world.specs.Stands.{StandsFor}
 use Rattle.sat_report.specs.Answers.{answers, answer_line, printed_count}
 use Rattle.sat_top.specs.Runs.{history}
-use Rattle.sat_top.specs.Running.{IsRunning}
+use Rattle.sat_top.specs.Running.{entry, HasDone, Does, IsRunning, IsAnswering}
 
-abbrev entry : Act → Answer → Entry
-entry a r = record { act = a; answer = r; inner = false }
+-- ---- the entries of a settle's acts
 
--- a world does each act that a script may have today
-pub world_does : (a : Act) → is_built_act a ≡ true → is_world_act a ≡ true
-world_does act.Settle b = absurd (cc)
-world_does _ b = refl
-
--- a built act has no inner entries
-plain_answer : (d : Deployed) (h : List Entry) (a : Act) → is_built_act a ≡ true → answer_of d h a ≡ answer d h a
-unfolding answer_of
-plain_answer d h act.Settle e = absurd (cc)
-plain_answer d h a e = refl
-
-plain_history : (d : Deployed) (h : List Entry) (a : Act) → is_built_act a ≡ true → with_inner d h a ≡ h
-unfolding with_inner
-plain_history d h act.Settle e = absurd (cc)
-plain_history d h a e = refl
-
-plain_act : (a : Act) → is_built_act a ≡ true → is_settle a ≡ false
-plain_act act.Settle e = absurd (cc)
-plain_act a e = refl
-
-run_next : (d : Deployed) (a : Act) (acts : List Act) → is_built_act a ≡ true → run d (a ∷ acts) ≡ entry a (answer d (run d acts) a) ∷ run d acts
-unfolding run
-run_next d a acts e = ap (λ r. entry a r ∷ with_inner d (run d acts) a) (plain_answer d (run d acts) a e) ∙ ap (λ h. entry a (answer d (run d acts) a) ∷ h) (plain_history d (run d acts) a e)
-
-history_next : (d : Deployed) (a : Act) (acts : List Act) → is_built_act a ≡ true → history d (acts ++ a ∷ []) ≡ entry a (answer d (history d acts) a) ∷ history d acts
-unfolding history
-history_next d a acts e = ap (run d) (reverse-append acts (a ∷ [])) ∙ run_next d a (reverse acts) e
-
-run_on : (d : Deployed) (h : List Entry) (a : Act) → IsRun d h → InRange d a → is_built_act a ≡ true → IsRun d (entry a (answer d h a) ∷ h)
-unfolding IsRun
-run_on d h a run range e = (run, range, inl (plain_act a e, refl))
-
-answers_on : (d : Deployed) (h : List Entry) (a : Act) (r : Answer) → answers d (entry a r ∷ h) ≡ answers d h ++ answer_line d (printed_count h + 1) r
+answers-in : (d : Deployed) (k : List Entry) (a : Act) → answers d (inner_entry d k a ∷ k) ≡ answers d k
 unfolding answers
-answers_on d h a r = refl
+answers-in d k a = append-nil (answers d k)
 
-count_on : (h : List Entry) (a : Act) (r : Answer) → printed_count (entry a r ∷ h) ≡ printed_count h + 1
+printed-in : (d : Deployed) (k : List Entry) (a : Act) → printed_count (inner_entry d k a ∷ k) ≡ printed_count k
 unfolding printed_count
-count_on h a r = refl
+printed-in d k a = refl
 
--- a world that did one act more, and the line of its answer
-pub goes_on : (d : Deployed) (old new : WorldSeen) (text more : List ℕ) (number : ℕ) (acts : List Act) (a : Act) (r : Answer)
-    → IsActOf d a → is_built_act a ≡ true
-    → ((h : List Entry) → IsRun d h → StandsFor old h → r ≡ answer d h a)
-    → ((h : List Entry) → IsRun d h → StandsFor old h → StandsFor new (entry a r ∷ h))
-    → more ≡ text ++ answer_line d number r
-    → number ≡ length acts + 1 → IsRunning d old text acts → IsRunning d new more (acts ++ a ∷ [])
-goes_on d old new text more number acts a r range e says stands wrote counted now =
+-- what no such entry changes is the same after them
+kept : {X : Type 0} (d : Deployed) (f : List Entry → X) → ((k : List Entry) (a : Act) → of_client a ≡ None → f (inner_entry d k a ∷ k) ≡ f k)
+    → (h : List Entry) (a : Act) → IsRun d h → f (with_inner d h a) ≡ f h
+unfolding with_inner
+kept d f each h act.Settle run = goes-keep d (λ k. f k ≡ f h) (λ k a run m later old. each k a m.operator ∙ old) h _ (settle-after d h run).goes refl
+kept d f each h a run = refl
+
+-- ---- one act more
+
+history-next : (d : Deployed) (a : Act) (acts : List Act) → history d (acts ++ a ∷ []) ≡ entry a (answer_of d (history d acts) a) ∷ with_inner d (history d acts) a
+unfolding history run
+history-next d a acts = ap (run d) (reverse-append acts (a ∷ []))
+
+answers-on : (d : Deployed) (h : List Entry) (a : Act) (r : Answer) → answers d (entry a r ∷ h) ≡ answers d h ++ answer_line d (printed_count h + 1) r
+unfolding answers
+answers-on d h a r = refl
+
+printed-on : (h : List Entry) (a : Act) (r : Answer) → printed_count (entry a r ∷ h) ≡ printed_count h + 1
+unfolding printed_count
+printed-on h a r = refl
+
+-- a world that did one act more: it goes on, and its history has the act's entry more, and before it those of a settle's acts
+record IsOn (old new : WorldSeen) (acts : List Act) (a : Act) (r : Answer) : Type 0 where
+  goes : IsRunning old.deployment new (acts ++ a ∷ [])
+  next : history old.deployment (acts ++ a ∷ []) ≡ entry a r ∷ with_inner old.deployment (history old.deployment acts) a
+
+on : (old new : WorldSeen) (acts : List Act) (a : Act) (r : Answer) → IsActOf old.deployment a → Does old a r new → IsRunning old.deployment old acts → IsOn old new acts a r
+on old new acts a r range does now =
+    let d = old.deployment in
     let h = history d acts in
-    let same : r ≡ answer d h a = says h now.run now.stands in
-    let next : history d (acts ++ a ∷ []) ≡ entry a r ∷ h = history_next d a acts e ∙ ap (λ r. entry a r ∷ h) (sym same) in
+    let done : HasDone d h a r new = does h now.run now.stands in
+    let next : history d (acts ++ a ∷ []) ≡ entry a r ∷ with_inner d h a = history-next d a acts ∙ ap (λ (r : Answer). entry a r ∷ with_inner d h a) (sym done.answer) in
     record {
-      run = rw next (rw same (run_on d h a now.run (in-range d a range) e));
-      stands = rw next (stands h now.run now.stands);
-      answers = rw next (rw (answers_on d h a r, now.count, ← counted, ← now.answers) wrote);
-      count = rw next (rw (count_on h a r, now.count) (sym (length-append acts (a ∷ []))));
+      goes = record { run = rw (history-next d a acts) (act-is d h a now.run (in-range d a range)); stands = rw next done.stands };
+      next = next;
     }
 
--- before the first act
-pub begins : (d : Deployed) (w : WorldSeen) (text : List ℕ) → StandsFor w [] → text ≡ [] → IsRunning d w text []
-unfolding history run IsRun answers printed_count
-begins d w text stands empty = record { run = tt; stands = stands; answers = empty; count = refl }
+-- with the line of its answer
+pub answers_more : (old new : WorldSeen) (text more : List ℕ) (number : ℕ) (acts : List Act) (a : Act) (r : Answer) → IsActOf old.deployment a → Does old a r new
+    → more ≡ text ++ answer_line old.deployment number r → number ≡ length acts + 1
+    → IsAnswering old.deployment old text acts → IsAnswering old.deployment new more (acts ++ a ∷ [])
+answers_more old new text more number acts a r range does written counted now =
+    let d = old.deployment in
+    let h = history d acts in
+    let one = on old new acts a r range does now.running in
+    let same : answers d (with_inner d h a) ≡ answers d h = kept d (answers d) (λ k b e. answers-in d k b) h a now.running.run in
+    let count : printed_count (with_inner d h a) ≡ printed_count h = kept d printed_count (λ k b e. printed-in d k b) h a now.running.run in
+    record {
+      running = one.goes;
+      answers = rw one.next (rw (answers-on d (with_inner d h a) a r, same, count, now.count, ← counted, ← now.answers) written);
+      count = rw one.next (rw (printed-on (with_inner d h a) a r, count, now.count) (sym (length-append acts (a ∷ []))));
+    }
 
-pub run_goes_on : (d : Deployed) (a : Act) (acts : List Act) → IsRun d (run d acts) → IsActOf d a → is_built_act a ≡ true → IsRun d (run d (a ∷ acts))
-run_goes_on d a acts is range e = rw (run_next d a acts e) (run_on d (run d acts) a is (in-range d a range) e)
+-- ---- before the first act
+
+runs-none : (d : Deployed) (w : WorldSeen) → StandsFor w [] → IsRunning d w []
+unfolding history run IsRun
+runs-none d w stands = record { run = tt; stands = stands }
+
+pub answers_none : (d : Deployed) (w : WorldSeen) (text : List ℕ) → StandsFor w [] → text ≡ [] → IsAnswering d w text []
+unfolding history run answers printed_count
+answers_none d w text stands empty = record { running = runs-none d w stands; answers = empty; count = refl }

@@ -7,7 +7,7 @@ use Rattle.sat_script.specs.declared.limits.TheConstants.{MOST_BYTES}
 use Rattle.sat_delay.specs.declared.read.TheConstants.{MOST_BYTES as MOST_DELAY_BYTES}
 use Rattle.sat_top.specs.declared.stream.TheConstants.{BUFFER_BYTES}
 use Rattle.sat_top.specs.declared.words.Command.{Command}
-use Rattle.sat_top.specs.declared.words.Command.TheVariants.{Run, Plan}
+use Rattle.sat_top.specs.declared.words.Command.TheVariants.{Run, Plan, Place}
 use Rattle.sat_top.specs.Words.{command_of}
 use Rattle.sat_top.specs.Whole.{IsTextOf, TakesFront, IsDone, IsRefused, reads, refusal, status_of, output_of}
 
@@ -15,6 +15,7 @@ use Rattle.sat_top.specs.Whole.{IsTextOf, TakesFront, IsDone, IsRefused, reads, 
 abbrev pub most_taken : Option Command → ℕ
 most_taken (Some Run) = MOST_BYTES + BUFFER_BYTES
 most_taken (Some Plan) = MOST_DELAY_BYTES + BUFFER_BYTES
+most_taken (Some Place) = MOST_DELAY_BYTES + BUFFER_BYTES
 most_taken _ = 0
 
 -- What the top call does with these words. `left` is what the source tells that it still gives, `told` what the sink tells that

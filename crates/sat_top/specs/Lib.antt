@@ -2,5 +2,6 @@ pub mod Words
 pub mod Runs
 pub mod Running
 pub mod Good
+pub mod Placing
 pub mod Whole
 pub mod Contract

@@ -3,7 +3,6 @@ use Rattle.std.specs.Prelude.{ℕ, ◌≡◌, ◌≤◌, Bool, true, false, List
 use Rattle.sat_outside.specs.Streams.{Told, Takes}
 use Rattle.sat_act.specs.declared.act.Act.{Act}
 use Rattle.sat_act.specs.Deployed.{Deployed}
-use Rattle.sat_act.specs.Headline.{IsGood}
 use Rattle.sat_script.specs.Reading.{reading}
 use Rattle.sat_script.specs.declared.fault.ScriptFault.{ScriptFault}
 use Rattle.sat_script.specs.Spelled.{Spells}
@@ -17,10 +16,15 @@ use Rattle.sat_plan.specs.Mismatch.{mismatch}
 use Rattle.sat_plan.specs.Steps.{built}
 use Rattle.sat_plan.specs.Texts.{config_text, plan_text}
 use Rattle.sat_top.specs.declared.words.Command.{Command}
-use Rattle.sat_top.specs.declared.words.Command.TheVariants.{Run, Plan, Help, Version}
+use Rattle.sat_top.specs.declared.words.Command.TheVariants.{Run, Plan, Place, Help, Version}
+use Rattle.sat_place.specs.Placing.{IsLeast, worth}
+use Rattle.sat_place.specs.Search.{least_places}
+use Rattle.sat_place.specs.Shape.{Shape, shape_reading}
+use Rattle.sat_place.specs.Texts.{least_text, place_text, shape_fault_text}
+use Rattle.sat_top.specs.Placing.{IsBestPlacement, place_status}
 use Rattle.sat_top.specs.Words.{command_of}
 use Rattle.sat_top.specs.Runs.{history, run_text}
-use Rattle.sat_top.specs.Good.{IsGoodScript, IsGoodFront, IsBestPlan}
+use Rattle.sat_top.specs.Good.{IsGoodRun, IsGoodScript, IsGoodFront, IsBestPlan}
 
 -- this is the whole text of the source, where the source tells it
 abbrev pub IsTextOf : Option (List ℕ) → List ℕ → Type 0
@@ -32,7 +36,7 @@ refusal = codes "words refused" ++ 10 ∷ []
 
 -- what the program says of itself
 abbrev pub help : List ℕ
-help = codes "saturn: causal order between sites that keep some items each\n\nusage: saturn COMMAND < INPUT\n\n  run        reads a script, and writes the report of its run\n  plan       reads a table of delays as JSON, and writes a tree of serializers\n  --help     writes this text\n  --version  writes the version\n\nstatus: 0 done; 1 the input is refused, and the last line written says where; 2 no such command;\n        3 the input could not be read; 4 the output could not be written; 5 out of memory\n"
+help = codes "saturn: causal order between sites that keep some items each\n\nusage: saturn COMMAND < INPUT\n\n  run        reads a script, and writes the report of its run\n  plan       reads a table of delays as JSON, and writes a tree of serializers\n  place      reads the same with a given tree, and writes the best places of its serializers\n  --help     writes this text\n  --version  writes the version\n\nstatus: 0 done; 1 the input is refused, and the last line written says where; 2 no such command;\n        3 the input could not be read; 4 the output could not be written; 5 out of memory\n"
 
 abbrev pub version : List ℕ
 version = codes "saturn 0.1.0\n"
@@ -41,6 +45,7 @@ version = codes "saturn 0.1.0\n"
 abbrev pub reads : Option Command → Bool
 reads (Some Run) = true
 reads (Some Plan) = true
+reads (Some Place) = true
 reads _ = false
 
 abbrev pub run_status : Option ScriptFault → ℕ
@@ -56,6 +61,7 @@ abbrev pub command_status : Option Command → List ℕ → ℕ
 command_status None text = 2
 command_status (Some Run) text = run_status (reading false text).fault
 command_status (Some Plan) text = plan_status (delays_in text)
+command_status (Some Place) text = place_status (shape_reading text)
 command_status (Some Help) text = 0
 command_status (Some Version) text = 0
 
@@ -64,6 +70,7 @@ abbrev pub command_output : Option Command → List ℕ → List ℕ
 command_output None text = refusal
 command_output (Some Run) text = run_text (reading false text)
 command_output (Some Plan) text = plan_text text
+command_output (Some Place) text = place_text text
 command_output (Some Help) text = help
 command_output (Some Version) text = version
 
@@ -79,7 +86,7 @@ TakesFront old new bytes = (count : ℕ) × Takes old new (take count bytes)
 
 -- The source's text spells a deployment and acts. The sink took the report of their one history, in which each site shows each
 -- update at most once and after every cause that it keeps, no client reads older than it saw, and where nothing waits or is
--- under way each site holds its items' greatest versions.
+-- under way each site holds its items' greatest versions. Each settle in it ends within its bound, and where it can, at rest.
 pub record HasRun (left : Option (List ℕ)) (old new : Told) : Type 0 where
   pub text : List ℕ
   pub whole : IsTextOf left text
@@ -87,7 +94,7 @@ pub record HasRun (left : Option (List ℕ)) (old new : Told) : Type 0 where
   pub acts : List Act
   pub spelled : Spells text deployment acts
   pub written : Takes old new (report deployment (history deployment acts))
-  pub good : IsGood deployment (history deployment acts)
+  pub good : IsGoodRun deployment acts
 
 -- The source's text has a first bad line. The sink took the answers of the acts before it, and then the fault's line; where the
 -- header is bad, that line alone. The history of the acts before it is as good as that of a whole script.
@@ -116,10 +123,29 @@ pub record HasDelayFault (left : Option (List ℕ)) (old new : Told) : Type 0 wh
   pub bad : delays_in text ≡ Err fault
   pub written : Takes old new (delay_fault_text fault)
 
+-- The source's text is a table with a tree. The sink took the text of the tree's least placement: no other places have a lower
+-- mismatch, and none that come before them an equal one.
+pub record HasPlacement (left : Option (List ℕ)) (old new : Told) : Type 0 where
+  pub text : List ℕ
+  pub whole : IsTextOf left text
+  pub shape : Shape
+  pub read : shape_reading text ≡ Ok shape
+  pub written : Takes old new (least_text shape.table shape.tree)
+  pub least : IsLeast shape.table shape.tree (least_places shape.table shape.tree) (worth shape.table shape.tree (least_places shape.table shape.tree))
+
+-- The source's text is no table with a tree. The sink took the line of its first fault.
+pub record HasShapeFault (left : Option (List ℕ)) (old new : Told) : Type 0 where
+  pub text : List ℕ
+  pub whole : IsTextOf left text
+  pub fault : DelayFault
+  pub bad : shape_reading text ≡ Err fault
+  pub written : Takes old new (shape_fault_text fault)
+
 -- what was done with status 0
 abbrev pub IsDone : Option Command → Option (List ℕ) → Told → Told → Type 0
 IsDone (Some Run) left old new = HasRun left old new
 IsDone (Some Plan) left old new = HasPlan left old new
+IsDone (Some Place) left old new = HasPlacement left old new
 IsDone (Some Help) left old new = Takes old new help
 IsDone (Some Version) left old new = Takes old new version
 IsDone None left old new = ⊥
@@ -128,12 +154,14 @@ IsDone None left old new = ⊥
 abbrev pub IsRefused : Option Command → Option (List ℕ) → Told → Told → Type 0
 IsRefused (Some Run) left old new = HasFault left old new
 IsRefused (Some Plan) left old new = HasDelayFault left old new
+IsRefused (Some Place) left old new = HasShapeFault left old new
 IsRefused _ left old new = ⊥
 
 -- what a status says of the text beside the output
 abbrev pub Proves : Option Command → ℕ → List ℕ → Type 0
 Proves (Some Run) status text = (status ≡ 0 → IsGoodScript text) × (status ≡ 1 → IsGoodFront text)
 Proves (Some Plan) status text = status ≡ 0 → IsBestPlan text
+Proves (Some Place) status text = IsBestPlacement text
 Proves _ status text = Unit {0}
 
 -- what is to be written, and the status, are those of a command over the source's text

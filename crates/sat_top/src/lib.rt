@@ -4,6 +4,7 @@
 mod law;
 mod memory;
 mod output;
+mod placing;
 mod planning;
 mod run;
 mod stream;

@@ -8,14 +8,17 @@ ghost use Rattle.sat_top.specs.Whole.{refusal, reads, run_status, IsOutput};
 ghost use Rattle.sat_top.specs.Contract.{most_taken};
 
 use crate::law::good_scripts;
+use crate::placing::{place_of, place_wide_of};
 use crate::planning::plan_of;
 use crate::run::run_text;
 use crate::stream::{Stop, read_delay_text, read_script};
 use crate::words::{Command, command_of};
 use sat_laws::headline;
 use sat_outside::Source;
+use sat_rest::settles_all;
 use sat_script::Reading;
 use std::alloc::{AllocError, Global};
+use std::thread::Threads;
 
 impl From<AllocError> for Stop {
     ghost from_gives = { λ _ e. e ≡ Memory };
@@ -27,7 +30,7 @@ impl From<AllocError> for Stop {
 
 // What the program says of itself.
 const HELP: &str =
-    "saturn: causal order between sites that keep some items each\n\nusage: saturn COMMAND < INPUT\n\n  run        reads a script, and writes the report of its run\n  plan       reads a table of delays as JSON, and writes a tree of serializers\n  --help     writes this text\n  --version  writes the version\n\nstatus: 0 done; 1 the input is refused, and the last line written says where; 2 no such command;\n        3 the input could not be read; 4 the output could not be written; 5 out of memory\n";
+    "saturn: causal order between sites that keep some items each\n\nusage: saturn COMMAND < INPUT\n\n  run        reads a script, and writes the report of its run\n  plan       reads a table of delays as JSON, and writes a tree of serializers\n  place      reads the same with a given tree, and writes the best places of its serializers\n  --help     writes this text\n  --version  writes the version\n\nstatus: 0 done; 1 the input is refused, and the last line written says where; 2 no such command;\n        3 the input could not be read; 4 the output could not be written; 5 out of memory\n";
 
 const VERSION: &str = "saturn 0.1.0\n";
 
@@ -73,8 +76,9 @@ fn run<S: Source>(alloc: Global, source: &mut S) -> Result<Output, Stop>
     ensures failed { IsErrOf result Stop.Source → Rose (S.faults source.old) (S.faults source.new) }
 {
     let reading = read_script(alloc, source)?;
-    // Brings these two laws into the proof; they do nothing when they run.
+    // Brings these laws into the proof; they do nothing when they run.
     headline();
+    settles_all();
     good_scripts();
     let status = run_status(&reading);
     let text = run_text(alloc, reading)?;
@@ -91,6 +95,36 @@ fn plan<S: Source>(alloc: Global, source: &mut S) -> Result<Output, Stop>
 {
     let text = read_delay_text(alloc, source)?;
     let output = plan_of(alloc, &text)?;
+    Ok(output)
+}
+
+// Reads a table of delays and a tree, and makes the text of the tree's best places.
+fn place<S: Source>(alloc: Global, source: &mut S) -> Result<Output, Stop>
+    ensures output { IfOk result (λ out. IsOutput (Some Command.Place) (S.left source.old) out.text.items out.status) }
+    ensures end { IfOk result (λ out. out.status ≡ 0 → IsAtEnd (S.left source.new)) }
+    ensures bounded { (taken : List ℕ) × Consumes (S.left source.old) (S.left source.new) taken × (length taken ≤ most_taken (Some Command.Place)) }
+    ensures later { S.faults source.old ≤ S.faults source.new }
+    ensures failed { IsErrOf result Stop.Source → Rose (S.faults source.old) (S.faults source.new) }
+{
+    let text = read_delay_text(alloc, source)?;
+    let output = place_of(alloc, &text)?;
+    Ok(output)
+}
+
+/// The same, made on several threads.
+pub(crate) fn place_wide<R: Threads + Sync, S: Source>(
+    rt: &R,
+    alloc: Global,
+    source: &mut S,
+) -> Result<Output, Stop>
+    ensures output { IfOk result (λ out. IsOutput (Some Command.Place) (S.left source.old) out.text.items out.status) }
+    ensures end { IfOk result (λ out. out.status ≡ 0 → IsAtEnd (S.left source.new)) }
+    ensures bounded { (taken : List ℕ) × Consumes (S.left source.old) (S.left source.new) taken × (length taken ≤ most_taken (Some Command.Place)) }
+    ensures later { S.faults source.old ≤ S.faults source.new }
+    ensures failed { IsErrOf result Stop.Source → Rose (S.faults source.old) (S.faults source.new) }
+{
+    let text = read_delay_text(alloc, source)?;
+    let output = place_wide_of(rt, alloc, &text)?;
     Ok(output)
 }
 
@@ -111,6 +145,7 @@ pub(crate) fn make_output<S: Source>(
     match command_of(words) {
         Some(Command::Run) => run(alloc, source),
         Some(Command::Plan) => plan(alloc, source),
+        Some(Command::Place) => place(alloc, source),
         Some(Command::Help) => {
             let output = told(alloc, HELP)?;
             Ok(output)

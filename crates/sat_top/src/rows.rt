@@ -172,12 +172,38 @@ pub const REPORTS: &[(&str, &str, &str)] = &[
         "end\n",
         "holdings\nsite 0 view 1 emission 1 stamp waiting 0\nitem x none\ndone\n",
     ),
-    // The one act that is not built.
-    (HEADER, "settle\nend\n", "line 9: Unbuilt\n"),
+    // A settle: a clock, two gathers, an emission, two pulses, two beats that are made and taken, and in one round a payload, three
+    // hops and three turns. A second one finds nothing to emit, to pulse or to do in a round.
     (
         HEADER,
-        "write a x v\ngather 0\nsettle\nend\n",
-        "1 wrote 1.0.0\n2 gathered 1 stable 1\nline 11: Unbuilt\n",
+        "write a x v\nsettle\nread b x\nsettle\nend\n",
+        "1 wrote 1.0.0\n2 settled 1 17\n3 read 1.0.0 v\n4 settled 0 7\nholdings\nsite 0 view 1 emission 1 tree waiting 0\nitem x 1.0.0 v\nsite 1 view 1 emission 1 tree waiting 0\nitem x 1.0.0 v\ndone\n",
+    ),
+    // The entries of a settle stand before a fault too, and are not printed.
+    (
+        HEADER,
+        "settle\nsettle 0\nend\n",
+        "1 settled 0 7\nline 10: BadAct\n",
+    ),
+    // Over two trees: a clock, two gathers, an emission, two pulses and four acts on beats; in the first round two payloads, three
+    // hops from sites and two turns in the first tree, two advances, and then what is to be done in the second.
+    (
+        TWO_TREES,
+        "write a x one\ngather 0\nemit 0\nclose 0\nwrite a x two\nclose 1\nsettle\nread b x\nsettle\nend\n",
+        "1 wrote 1.0.0\n2 gathered 1 stable 1\n3 emitted update 1.0.0\n4 closed 1 1.0.65535\n5 wrote 2.0.0\n6 closed 1 0.1.65535\n7 settled 2 29\n8 read 2.0.0 two\n9 settled 0 7\nholdings\nsite 0 view 2 emission 2 tree waiting 0\nitem x 2.0.0 two\nsite 1 view 2 emission 2 tree waiting 0\nitem x 2.0.0 two\ndone\n",
+    ),
+    // In stamp order: eleven acts before the rounds, of which two emissions, and in one round two payloads and two stamps.
+    (
+        STAMPS,
+        "write a x one\nwrite a x two\nsettle\nleave a\nattach a 1\nread a x\nend\n",
+        "1 wrote 1.0.0\n2 wrote 2.0.0\n3 settled 1 15\n4 left 2.0.0\n5 attached\n6 read 2.0.0 two\nholdings\nsite 0 view 1 emission 1 stamp waiting 0\nitem x 2.0.0 two\nsite 1 view 1 emission 1 stamp waiting 0\nitem x 2.0.0 two\ndone\n",
+    ),
+    // Behind a dead serializer nothing comes, and only the payload is brought. Once both sites have closed the tree and fallen, the
+    // update is shown by its timestamp and both go on.
+    (
+        TWO_TREES,
+        "write a x one\ngather 0\nemit 0\nkill 1 z0\nsettle\nclose 0\nclose 1\nfall 0\nfall 1\nsettle\nread b x\nend\n",
+        "1 wrote 1.0.0\n2 gathered 1 stable 1\n3 emitted update 1.0.0\n4 killed\n5 settled 1 10\n6 closed 1 1.0.65535\n7 closed 1 1.1.65535\n8 fallen\n9 fallen\n10 settled 1 10\n11 read 1.0.0 one\nholdings\nsite 0 view 2 emission 2 tree waiting 0\nitem x 1.0.0 one\nsite 1 view 2 emission 2 tree waiting 0\nitem x 1.0.0 one\ndone\n",
     ),
     // A script that was cut, and the same with the byte that ends its last line.
     (

@@ -1,22 +1,40 @@
 //! Running a script's acts.
-ghost use Rattle.std.specs.Prelude.{◌≡◌, ◌+◌, ◌++◌, [], ◌∷◌, true, List, ◌≤◌, IfOk, IfSome, OnOk, length};
+ghost use Rattle.std.specs.Prelude.{◌≡◌, ◌+◌, ◌++◌, [], ◌∷◌, List, ◌≤◌, IfOk, IfSome, OnOk, length};
 ghost use Rattle.sat_act.specs.declared.act.Act.{Act};
 ghost use Rattle.sat_act.specs.Ranges.{IsActOf};
-ghost use Rattle.sat_script.specs.Built.{is_built_act};
 ghost use Rattle.sat_act.specs.Limits.{IsDeployment};
 ghost use Rattle.sat_world.specs.Stands.{StandsFor};
 ghost use Rattle.sat_script.specs.Spelled.{HaveNames};
-ghost use Rattle.sat_script.specs.Reading.{AreBuiltActs};
+ghost use Rattle.sat_script.specs.Reading.{AreActsOf};
 ghost use Rattle.sat_act.specs.declared.entry.Entry.{Entry};
 ghost use Rattle.sat_act.specs.Runs.{IsRun};
 ghost use Rattle.sat_top.specs.Runs.{ending, fault_text, run_text};
-ghost use Rattle.sat_top.specs.Running.{IsRunning};
+ghost use Rattle.sat_top.specs.Running.{Does, IsAnswering};
 
-use sat_act::{Act, Acts, Deployment, Entry};
-use sat_report::{write_answer, write_fault, write_holdings};
+use sat_act::{Act, Answer};
+use sat_report::{write_fault, write_holdings, write_line};
 use sat_script::{MOST_ACTS, Reading, ScriptFault};
+use sat_settle::settle;
 use sat_world::World;
 use std::alloc::{AllocError, Global};
+
+// Does an act: a settle by the acts that it stands for, any other by itself.
+fn do_act(world: &mut World, act: &Act) -> Result<Answer, AllocError>
+    requires { IsActOf world.old.deployment act.now }
+    ensures does { IfOk result (λ answer. Does world.old act.now answer world.new) }
+    ensures deployment { world.new.deployment ≡ world.old.deployment }
+{
+    match act {
+        Act::Settle => {
+            let answer = settle(world)?;
+            Ok(answer)
+        }
+        _ => {
+            let answer = world.apply(act)?;
+            Ok(answer)
+        }
+    }
+}
 
 // Does an act, and appends the line of its answer.
 fn answer_act(
@@ -26,28 +44,22 @@ fn answer_act(
     text: &mut Vec<u8>,
 ) -> Result<(), AllocError>
     requires act { IsActOf world.old.deployment act.now }
-    requires built { is_built_act act.now ≡ true }
     ensures deployment { world.new.deployment ≡ world.old.deployment }
-    ensures running { OnOk result ((acts : List Act) → number ≡ length acts + 1 → IsRunning world.old.deployment world.old text.old.items acts
-        → IsRunning world.old.deployment world.new text.new.items (acts ++ act.now ∷ [])) }
+    ensures running { OnOk result ((acts : List Act) → number ≡ length acts + 1 → IsAnswering world.old.deployment world.old text.old.items acts
+        → IsAnswering world.old.deployment world.new text.new.items (acts ++ act.now ∷ [])) }
 {
-    let answer = world.apply(act)?;
-    let entry = Entry {
-        act: act.copy()?,
-        answer,
-        inner: false,
-    };
-    write_answer(world.deployment(), number, &entry, text)?;
+    let answer = do_act(world, act)?;
+    write_line(world.deployment(), number, &answer, text)?;
     Ok(())
 }
 
 // Does the acts one after another, and gives the lines of their answers.
 fn answer_acts(alloc: Global, world: &mut World, acts: &[Act]) -> Result<Vec<u8>, AllocError>
     requires fresh { StandsFor world.old [] }
-    requires acts { AreBuiltActs world.old.deployment acts.now }
+    requires acts { AreActsOf world.old.deployment acts.now }
     requires few { length acts.now ≤ MOST_ACTS }
     ensures deployment { world.new.deployment ≡ world.old.deployment }
-    ensures running { IfOk result (λ text. IsRunning world.old.deployment world.new text.items acts.now) }
+    ensures running { IfOk result (λ text. IsAnswering world.old.deployment world.new text.items acts.now) }
 {
     let mut text = Vec::new(alloc);
     for (place, act) in acts.iter().enumerate() {
@@ -85,7 +97,7 @@ fn fault_text(alloc: Global, fault: Option<ScriptFault>) -> Result<Vec<u8>, Allo
 /// Runs the acts of a reading: the lines of their answers, and behind them the holdings, or the fault's line.
 #[tactic(auto, unfolding(crate::specs::Runs::run_text))]
 pub(crate) fn run_text(alloc: Global, reading: Reading) -> Result<Vec<u8>, AllocError>
-    requires built { IfSome reading.deployment (λ d. IsDeployment d × HaveNames d × AreBuiltActs d reading.acts) }
+    requires acts { IfSome reading.deployment (λ d. IsDeployment d × HaveNames d × AreActsOf d reading.acts) }
     requires few { length reading.acts ≤ MOST_ACTS }
     ensures { IfOk result (λ text. text.items ≡ run_text reading) }
 {

@@ -5,8 +5,9 @@ ghost use Rattle.sat_act.specs.Limits.{IsDeployment};
 ghost use Rattle.sat_outside.specs.Causes.{Rose, HasCause};
 ghost use Rattle.sat_outside.specs.Streams.{Takes};
 ghost use Rattle.sat_script.specs.Spelled.{HaveNames};
-ghost use Rattle.sat_script.specs.Reading.{reading, AreBuiltActs};
+ghost use Rattle.sat_script.specs.Reading.{reading, AreActsOf};
 ghost use Rattle.sat_delay.specs.Reading.{reading as delays_in};
+ghost use Rattle.sat_place.specs.Shape.{shape_reading};
 ghost use Rattle.sat_script.specs.declared.limits.TheConstants.{MOST_BYTES as MOST_SCRIPT_BYTES};
 ghost use Rattle.sat_delay.specs.declared.read.TheConstants.{MOST_BYTES as MOST_DELAY_BYTES};
 ghost use Rattle.sat_top.specs.declared.stream.TheConstants.{BUFFER_BYTES};
@@ -33,7 +34,7 @@ pub fn read_script<S: Source>(alloc: Global, source: &mut S) -> Result<Reading, 
     ensures end { IfOk result (λ found. found.fault ≡ None → IsAtEnd (S.left source.new)) }
     // The bytes taken have a bound, however much the source has.
     ensures bounded { (taken : List ℕ) × Consumes (S.left source.old) (S.left source.new) taken × (length taken ≤ MOST_SCRIPT_BYTES + BUFFER_BYTES) }
-    ensures built { IfOk result (λ found. IfSome found.deployment (λ d. IsDeployment d × HaveNames d × AreBuiltActs d found.acts)) }
+    ensures acts { IfOk result (λ found. IfSome found.deployment (λ d. IsDeployment d × HaveNames d × AreActsOf d found.acts)) }
     ensures few { IfOk result (λ found. length found.acts ≤ MOST_ACTS) }
     ensures later { S.faults source.old ≤ S.faults source.new }
     ensures failed { IsErrOf result Stop.Source → Rose (S.faults source.old) (S.faults source.new) }
@@ -62,7 +63,7 @@ pub fn read_script<S: Source>(alloc: Global, source: &mut S) -> Result<Reading, 
 
 /// Reads a text of delays: all that the source has, or more than such a text may have.
 pub fn read_delay_text<S: Source>(alloc: Global, source: &mut S) -> Result<Vec<u8>, Stop>
-    ensures text { IfOk result (λ found. (text : List ℕ) × IsTextOf (S.left source.old) text × (delays_in text ≡ delays_in found.items)) }
+    ensures text { IfOk result (λ found. (text : List ℕ) × IsTextOf (S.left source.old) text × (delays_in text ≡ delays_in found.items) × (shape_reading text ≡ shape_reading found.items)) }
     ensures end { IfOk result (λ found. length found.items ≤ MOST_BYTES → IsAtEnd (S.left source.new)) }
     ensures bounded { (taken : List ℕ) × Consumes (S.left source.old) (S.left source.new) taken × (length taken ≤ MOST_DELAY_BYTES + BUFFER_BYTES) }
     ensures later { S.faults source.old ≤ S.faults source.new }

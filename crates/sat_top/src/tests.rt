@@ -2,6 +2,8 @@
 use crate::rows::{ANSWERS, HEADER, REPORTS};
 use crate::{saturn, still, still_in_memory};
 use sat_outside::{CleanSink, CleanSource, FreeGate, MemorySink, MemorySource, Source};
+use sat_script::write_script;
+use sat_settle::load;
 use std::alloc::Global;
 use std::test::Fail;
 
@@ -46,7 +48,19 @@ fn any_pieces_give_the_report(rt: HostRuntime) -> Result<(), Fail> {
 #[test]
 fn other_words_are_refused(rt: HostRuntime) -> Result<(), Fail> {
     let alloc = rt.alloc();
-    for line in ["run x", "", "load 7 1"] {
+    for line in [
+        "run x",
+        "",
+        "load",
+        "load 7",
+        "load 7 1",
+        "load 7 199001",
+        "load 07 2",
+        "load 7 02",
+        "load 18446744073709551616 2",
+        "load 7 2 3",
+        "run 7 2",
+    ] {
         let words = words(alloc, line)?;
         let (status, sink) = still_in_memory(
             alloc,
@@ -134,6 +148,43 @@ fn delays_give_a_tree(rt: HostRuntime) -> Result<(), Fail> {
     Ok(())
 }
 
+// A tree of one serializer at the better place, one of two at the places of least mismatch (both at place 0 is 6, 0 and 1 is 4, 1 and
+// 0 is 27, both at place 1 is 3), and a seat at a serializer that is not there. On several threads it is the same.
+#[test]
+fn a_given_tree_is_placed(rt: HostRuntime) -> Result<(), Fail> {
+    let alloc = rt.alloc();
+    let words = words(alloc, "place")?;
+    for (tree, want, expected) in [
+        (
+            "\"parents\":[],\"seats\":[0,0]}",
+            "plan tree - / 0 0\nplace z0 1\nmismatch 3\n",
+            0u8,
+        ),
+        (
+            "\"parents\":[0],\"seats\":[0,1]}",
+            "plan tree - 0 / 0 1\nplace z0 1\nplace z1 1\nmismatch 3\n",
+            0,
+        ),
+        (
+            "\"parents\":[],\"seats\":[0,1]}",
+            "place: TooBig seats 1 0\n",
+            1,
+        ),
+    ] {
+        let mut text =
+            b"{\"sites\":2,\"places\":2,\"reach\":[[3,9],[4,1]],\"between\":[[0,5],[5,0]],\"optimal\":[[0,10],[7,0]],\"weight\":[[0,2],[1,0]],".to_vec(
+                alloc,
+            )?;
+        text.extend_from_slice(tree.as_bytes())?;
+        let mut source = CleanSource::new(text, 7);
+        let mut sink = CleanSink::with_room(alloc, 7, ROOM)?;
+        let status = saturn(&rt, words.as_slice(), &mut source, &mut sink, &FreeGate);
+        assert_eq!(rt; status, expected);
+        assert_eq!(rt; sink.held(), want.as_bytes());
+    }
+    Ok(())
+}
+
 #[test]
 fn the_program_tells_of_itself(rt: HostRuntime) -> Result<(), Fail> {
     let alloc = rt.alloc();
@@ -207,5 +258,33 @@ fn long_scripts_have_long_reports(rt: HostRuntime) -> Result<(), Fail> {
     assert!(rt;
         sink.held().ends_with(b"~\nsite 1 view 1 emission 1 tree waiting 0\nitem x none\ndone\n")
     );
+    Ok(())
+}
+
+// Of a large script of 40 acts, as another program wrote it from a description of the format: the first lines, some in the middle with the place where they begin, and the last lines.
+const LOAD_FIRST: &str =
+    "saturn 1\nsites 5\ngears 4\nitem x0 0,1\nitem x1 0,1,2\nitem x2 0,2,3\nitem x3 0,3,4\nitem x4 0,4\nitem x5 0,1\nitem x6 1,2\nitem x7 1,2,3\nitem x8 1,3,4\n";
+
+const LOAD_MIDDLE: &str =
+    "item x197 2,3,4\nitem x198 3,4\nitem x199 0,4\nclient c0 0\nclient c1 1\nclient c2 2\n";
+
+const LOAD_MIDDLE_AT: usize = 2911;
+
+const LOAD_LAST: &str =
+    "client c38 3\nclient c39 4\nplan tree - 0 0 / 0 1 1 2 2\nplan tree - 0 / 0 0 1 1 1\nbegin\nturn 1\nwrite c33 x145 v2\nread c24 x164\nhop 1 s1 z1\nwrite c0 x149 v5\nwrite c5 x99 v6\nbulk 1 0 3\ntick 3 1 8\nwrite c0 x145 v9\nattach c32 2\nbulk 0 3 2\nread c9 x107\nmove c32 0\ngather 3\nwrite c20 x144 v15\nwrite c24 x146 v16\npulse 2\nturn 2\nbulk 4 3 0\nwrite c26 x3 v20\nclose 0\nclose 1\nclose 2\nclose 3\nclose 4\nturn 3\nread c20 x155\nemit 0\nread c32 x138\nemit 3\ntick 3 0 26\nbulk 3 1 1\ntick 2 3 28\nwrite c32 x177 v29\nturn 3\nread c39 x179\nbulk 1 1 4\nemit 3\nread c36 x125\nturn 1\ntick 0 0 36\nread c11 x155\nemit 4\ngather 1\nread c28 x0\nsettle\nend\n";
+
+const LOAD_BYTES: usize = 4054;
+
+#[test]
+fn a_small_load_is_spelled(rt: HostRuntime) -> Result<(), Fail> {
+    let alloc = rt.alloc();
+    let script = load(alloc, 7, 40)?;
+    let mut text = Vec::new(alloc);
+    write_script(&script.deployment, script.acts.as_slice(), &mut text)?;
+    let text = text.as_slice();
+    assert_eq!(rt; text.len(), LOAD_BYTES);
+    assert!(rt; text.starts_with(LOAD_FIRST.as_bytes()));
+    assert!(rt; text[LOAD_MIDDLE_AT..].starts_with(LOAD_MIDDLE.as_bytes()));
+    assert!(rt; text.ends_with(LOAD_LAST.as_bytes()));
     Ok(())
 }

@@ -1,13 +1,16 @@
 //! The top call.
-ghost use Rattle.std.specs.Prelude.{◌≡◌, false, map, string_bytes};
+ghost use Rattle.std.specs.Prelude.{◌≡◌, false, map, string_bytes, Some};
+ghost use Rattle.sat_top.specs.declared.words.Command.TheVariants.{Place};
 ghost use Rattle.sat_top.specs.Words.{command_of};
 ghost use Rattle.sat_top.specs.Whole.{reads};
 ghost use Rattle.sat_top.specs.Contract.{Meets};
 
-use crate::output::make_output;
+use crate::output::{make_output, place_wide};
 use crate::stream::{Stop, write_text};
+use crate::words::{Command, command_of};
 use sat_outside::{Gate, Sink, Source};
 use std::alloc::Global;
+use std::thread::Threads;
 
 /// Does the command that the words say, and answers its status:
 /// 0, the command was done; 1, the input is refused; 2, the words are no command; 3, the source failed;
@@ -35,8 +38,33 @@ pub fn still<S: Source, K: Sink>(
     }
 }
 
-/// Does the command that the words say, as [`still`] does. The gate is called in a run on threads alone.
-pub fn saturn<R: AllocGlobal, S: Source, K: Sink, G: Gate>(
+// Finds the best places of a tree on several threads, and answers the status.
+#[tactic(auto, using(crate::proofs::Done::is_done, crate::proofs::Done::is_refused))]
+fn placed<R: AllocGlobal + Threads + Sync, S: Source, K: Sink>(
+    rt: &R,
+    words: &[String],
+    source: &mut S,
+    sink: &mut K,
+) -> u8
+    requires { command_of (map string_bytes words.now) ≡ Some Place }
+    ensures meets { Meets (map string_bytes words.now) result (S.left source.old) (S.left source.new) (K.told sink.old) (K.told sink.new)
+        (S.faults source.old) (S.faults source.new) (K.faults sink.old) (K.faults sink.new) }
+{
+    let _ = words.len();
+    let output = match place_wide(rt, rt.alloc(), source) {
+        Ok(output) => output,
+        Err(Stop::Source) => return 3,
+        Err(Stop::Memory) => return 5,
+    };
+    match write_text(sink, output.text.as_slice()) {
+        Ok(()) => output.status,
+        Err(_) => 4,
+    }
+}
+
+/// Does the command that the words say, as [`still`] does, but `place` on several threads. The gate is called in a run on threads
+/// alone.
+pub fn saturn<R: AllocGlobal + Threads + Sync, S: Source, K: Sink, G: Gate>(
     rt: &R,
     words: &[String],
     source: &mut S,
@@ -47,5 +75,8 @@ pub fn saturn<R: AllocGlobal, S: Source, K: Sink, G: Gate>(
         (S.faults source.old) (S.faults source.new) (K.faults sink.old) (K.faults sink.new) }
     ensures unasked { reads (command_of (map string_bytes words.now)) ≡ false → source.new ≡ source.old }
 {
-    still(rt.alloc(), words, source, sink)
+    match command_of(words) {
+        Some(Command::Place) => placed(rt, words, source, sink),
+        _ => still(rt.alloc(), words, source, sink),
+    }
 }

@@ -9,6 +9,8 @@ pub enum Command {
     Run,
     /// Reads a table of delays and writes a tree of serializers.
     Plan,
+    /// Reads a table of delays and a tree, and writes the best places of its serializers.
+    Place,
     /// Writes what the program can do.
     Help,
     /// Writes the program's version.
@@ -23,6 +25,7 @@ fn command_named(word: &str) -> Option<Command>
     match word {
         "run" => Some(Command::Run),
         "plan" => Some(Command::Plan),
+        "place" => Some(Command::Place),
         "--help" => Some(Command::Help),
         "--version" => Some(Command::Version),
         _ => None,

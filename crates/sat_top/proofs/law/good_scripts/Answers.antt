@@ -3,4 +3,4 @@ use Rattle.sat_top.proofs.Good.{good_script}
 use Rattle.sat_top.proofs.law.good_scripts.Goals as goal
 
 pub returns : goal.returns
-returns c = λ text none. let read = c.one_spelling.ensures.read false text none in good_script text read.0 c.headline.ensures none read.1 read.2
+returns c = λ text none. let read = c.one_spelling.ensures.read false text none in good_script text read.0 (record { good = c.headline.ensures; settles = c.settles_all.ensures.settles; rests = c.settles_all.ensures.rests }) none read.1 read.2
