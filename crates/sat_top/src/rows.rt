@@ -186,7 +186,7 @@ pub const REPORTS: &[(&str, &str, &str)] = &[
         "1 settled 0 7\nline 10: BadAct\n",
     ),
     // Over two trees: a clock, two gathers, an emission, two pulses and four acts on beats; in the first round two payloads, three
-    // hops from sites and two turns in the first tree, two advances, and then what is to be done in the second.
+    // hops and three turns of the first tree, five hops of the second and two advances; in the second round a hop and three turns.
     (
         TWO_TREES,
         "write a x one\ngather 0\nemit 0\nclose 0\nwrite a x two\nclose 1\nsettle\nread b x\nsettle\nend\n",
