@@ -13,6 +13,3 @@ pub use answer::{Answer, Refusal};
 pub use deployment::{ClientLine, Deployment, Item, Plan};
 pub use entry::{Entries, Entry};
 pub use fault::DeploymentFault;
-
-#[cfg(test)]
-mod tests;

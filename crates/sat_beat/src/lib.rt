@@ -33,6 +33,3 @@ impl Beat {
         })
     }
 }
-
-#[cfg(test)]
-mod tests;

@@ -51,6 +51,3 @@ impl Drained {
         })
     }
 }
-
-#[cfg(test)]
-mod tests;

@@ -4,6 +4,3 @@
 mod client;
 
 pub use client::Client;
-
-#[cfg(test)]
-mod tests;

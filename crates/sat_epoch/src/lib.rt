@@ -4,6 +4,3 @@
 mod views;
 
 pub use views::{AdvanceFault, CloseFault, FallFault, Views};
-
-#[cfg(test)]
-mod tests;

@@ -1,4 +1,3 @@
 pub mod Spreads
 pub mod Gears
-pub mod Examples
 pub mod Places

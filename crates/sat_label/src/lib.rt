@@ -23,6 +23,3 @@ pub use node::{NodeId, NodeName};
 pub use point::{Point, write_point};
 pub use site_set::SiteSet;
 pub use text::{Name, Value, spells_name, spells_value};
-
-#[cfg(test)]
-mod tests;

@@ -34,6 +34,3 @@ pub fn net_laws()
     ensures leaves { LabelsLeave }
     ensures stays { LabelsStay }
 {}
-
-#[cfg(test)]
-mod tests;

@@ -22,6 +22,3 @@ pub fn pool_laws()
     ensures waiting_is_found { WaitingIsFound }
     ensures none_waits { NoneWaits }
 {}
-
-#[cfg(test)]
-mod tests;

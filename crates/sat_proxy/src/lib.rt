@@ -17,6 +17,3 @@ pub fn proxy_laws()
     ensures answers { EachAnswers }
     ensures follows { EachFollows }
 {}
-
-#[cfg(test)]
-mod tests;

@@ -16,6 +16,3 @@ pub use serializer::Serializer;
 pub fn outbox_laws()
     ensures { EachOutbox }
 {}
-
-#[cfg(test)]
-mod tests;

@@ -26,6 +26,3 @@ pub fn site_laws()
     sat_gear::lane_laws();
     sat_proxy::proxy_laws();
 }
-
-#[cfg(test)]
-mod tests;

@@ -6,6 +6,3 @@ mod shape;
 
 pub use interest::{Interest, InterestFault};
 pub use shape::Shape;
-
-#[cfg(test)]
-mod tests;

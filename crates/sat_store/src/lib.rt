@@ -4,6 +4,3 @@
 mod store;
 
 pub use store::{Put, Store, Version};
-
-#[cfg(test)]
-mod tests;

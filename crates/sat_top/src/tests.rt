@@ -1,9 +1,11 @@
 //! The program over sources and sinks in memory.
 use crate::rows::{ANSWERS, HEADER, REPORTS};
 use crate::{saturn, still, still_in_memory};
+use sat_label::{NodeId, Point, write_point};
 use sat_outside::{CleanSink, CleanSource, FreeGate, MemorySink, MemorySource, Source};
 use sat_script::write_script;
 use sat_settle::load;
+use sat_tree::Tree;
 use std::alloc::Global;
 use std::test::Fail;
 
@@ -286,5 +288,27 @@ fn a_small_load_is_spelled(rt: HostRuntime) -> Result<(), Fail> {
     assert!(rt; text.starts_with(LOAD_FIRST.as_bytes()));
     assert!(rt; text[LOAD_MIDDLE_AT..].starts_with(LOAD_MIDDLE.as_bytes()));
     assert!(rt; text.ends_with(LOAD_LAST.as_bytes()));
+    Ok(())
+}
+
+// The calls of the lowest crates that no command makes: the text of a point, and the way between two sites of a tree.
+#[test]
+fn points_and_paths(rt: HostRuntime) -> Result<(), Fail> {
+    let alloc = rt.alloc();
+    let mut text = Vec::new(alloc);
+    write_point(&Point::mark(4611686018427387904, 3), &mut text)?;
+    assert_eq!(rt; text.as_slice(), b"4611686018427387904.3.65535".as_slice());
+    let tree = Tree::new(alloc, &[None, Some(0), Some(0)], &[0, 1, 1, 2, 2])?;
+    let across = [
+        NodeId::Site(2),
+        NodeId::Serializer(1),
+        NodeId::Serializer(0),
+        NodeId::Serializer(2),
+        NodeId::Site(4),
+    ];
+    if tree.sites() != 5 {
+        return Err("a tree of other sites".into());
+    }
+    assert_eq!(rt; tree.path(2, 4)?.as_slice(), across.as_slice());
     Ok(())
 }

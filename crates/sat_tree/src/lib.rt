@@ -19,6 +19,3 @@ pub use tree::Tree;
 pub fn tree_laws()
     ensures { EveryTreeIsWellCut }
 {}
-
-#[cfg(test)]
-mod tests;
