@@ -34,6 +34,3 @@ pub use reader::Reader;
 pub use script::{Script, one_spelling, read_script};
 pub use stream::{Reading, ScriptReader};
 pub use write::write_script;
-
-#[cfg(test)]
-mod tests;

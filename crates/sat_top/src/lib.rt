@@ -20,3 +20,5 @@ pub use words::Command;
 mod rows;
 #[cfg(test)]
 mod tests;
+#[cfg(test)]
+mod texts;

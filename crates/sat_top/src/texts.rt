@@ -1,11 +1,8 @@
-//! Scripts read and written, each public call on its happy path. What is expected was worked out by hand from the table of causes.
-use crate::{
-    Cause, Line, Reader, Reading, Script, ScriptFault, ScriptReader, one_spelling, read_script,
-    write_script,
+//! What is read of texts, at once and in pieces, and at the limits. What is expected was worked out by hand from the table of causes.
+use sat_act::Act;
+use sat_script::{
+    Cause, Line, Reader, Reading, Script, ScriptFault, ScriptReader, read_script, write_script,
 };
-use sat_act::{Act, ClientLine, Deployment, Item, Plan};
-use sat_label::{Name, NodeId, SiteSet, Value};
-use sat_tree::Tree;
 use std::alloc::{AllocError, Global};
 use std::test::Fail;
 
@@ -55,41 +52,6 @@ fn written(alloc: Global, text: &[u8], live: bool) -> Result<Option<Vec<u8>>, Al
         }
         Err(_) => Ok(None),
     }
-}
-
-#[test]
-fn plain_path_is_read(rt: HostRuntime) -> Result<(), Fail> {
-    let alloc = rt.alloc();
-    one_spelling();
-    let Ok(script) = read_script(alloc, PLAIN.as_bytes(), false) else {
-        assert!(rt; false, "the plain path is refused");
-        return Ok(());
-    };
-    let d = &script.deployment;
-    assert_eq!(rt; d.sites(), 2);
-    assert_eq!(rt; d.items().len(), 1);
-    assert_eq!(rt; d.clients().len(), 2);
-    assert_eq!(rt; d.items()[0].name.bytes(), b"x".as_slice());
-    assert!(rt; d.items()[0].replicas.has(0) && d.items()[0].replicas.has(1));
-    assert_eq!(rt; d.clients()[1].name.bytes(), b"b".as_slice());
-    assert_eq!(rt; d.clients()[1].site, 1);
-    let acts = script.acts.as_slice();
-    assert_eq!(rt; acts.len(), 7);
-    assert!(rt;
-        matches!(&acts[0], Act::Write { client: 0, item: 0, value } if value.bytes() == b"hello".as_slice())
-    );
-    assert!(rt;
-        matches!(
-            &acts[3],
-            Act::Hop {
-                epoch: 1,
-                from: NodeId::Site(0),
-                to: 0
-            }
-        )
-    );
-    assert!(rt; matches!(&acts[6], Act::Read { client: 1, item: 0 }));
-    Ok(())
 }
 
 #[test]
@@ -361,128 +323,5 @@ fn lines_are_told(rt: HostRuntime) -> Result<(), Fail> {
     assert_eq!(rt; reader.close(b"".as_slice()), Err(fault));
     assert!(rt; matches!(reader.line(b"turn 0".as_slice()), Err(again) if again == fault));
     assert_eq!(rt; reader.fault(), Some(fault));
-    Ok(())
-}
-
-fn name(alloc: Global, text: &str) -> Result<Option<Name>, AllocError> {
-    Name::of(alloc, text.as_bytes())
-}
-
-// Three sites of two gears, with a tree of two serializers and a stamp plan.
-fn wide(alloc: Global) -> Result<Option<Deployment>, AllocError> {
-    let (Some(p), Some(q), Some(client)) = (
-        name(alloc, "p")?,
-        name(alloc, "q-1.z")?,
-        name(alloc, "C")?,
-    ) else {
-        return Ok(None);
-    };
-    let mut items = Vec::new(alloc);
-    items.push(Item {
-        name: p,
-        replicas: SiteSet::one(0).with(2),
-    })?;
-    items.push(Item {
-        name: q,
-        replicas: SiteSet::one(1),
-    })?;
-    let mut clients = Vec::new(alloc);
-    clients.push(ClientLine {
-        name: client,
-        site: 2,
-    })?;
-    let Ok(tree) = Tree::new(alloc, &[None, Some(0)], &[0, 0, 1]) else {
-        return Ok(None);
-    };
-    let mut plans = Vec::new(alloc);
-    plans.push(Plan::Tree(tree))?;
-    plans.push(Plan::Stamp)?;
-    match Deployment::new(alloc, 3, 2, items, clients, plans) {
-        Ok(deployment) => Ok(Some(deployment)),
-        Err(_) => Ok(None),
-    }
-}
-
-// An act of each form.
-fn each_form(alloc: Global) -> Result<Vec<Act>, AllocError> {
-    let mut acts = Vec::new(alloc);
-    acts.push(Act::Tick {
-        site: 0,
-        gear: 1,
-        ts: 4611686018427387904,
-    })?;
-    acts.push(Act::Clock)?;
-    if let Some(value) = Value::of(alloc, b"->")? {
-        acts.push(Act::Write {
-            client: 0,
-            item: 1,
-            value,
-        })?;
-    }
-    acts.push(Act::Read { client: 0, item: 0 })?;
-    acts.push(Act::Move { client: 0, site: 1 })?;
-    acts.push(Act::Leave { client: 0 })?;
-    acts.push(Act::Attach { client: 0, site: 2 })?;
-    acts.push(Act::Gather { site: 2 })?;
-    acts.push(Act::Emit { site: 1 })?;
-    acts.push(Act::Pulse { site: 0 })?;
-    acts.push(Act::Hop {
-        epoch: 1,
-        from: NodeId::Serializer(1),
-        to: 0,
-    })?;
-    acts.push(Act::Hop {
-        epoch: 1,
-        from: NodeId::Site(2),
-        to: 1,
-    })?;
-    acts.push(Act::Turn { site: 2 })?;
-    acts.push(Act::Bulk {
-        from: 0,
-        gear: 1,
-        to: 2,
-        number: Some(18446744073709551615),
-    })?;
-    acts.push(Act::Bulk {
-        from: 2,
-        gear: 0,
-        to: 1,
-        number: None,
-    })?;
-    acts.push(Act::Beat { from: 1, to: 0 })?;
-    acts.push(Act::BeatIn {
-        from: 1,
-        to: 0,
-        number: 10,
-    })?;
-    acts.push(Act::Stamp { site: 0 })?;
-    acts.push(Act::Close { site: 1 })?;
-    acts.push(Act::Fall { site: 2 })?;
-    acts.push(Act::Advance { site: 0 })?;
-    acts.push(Act::Kill {
-        epoch: 1,
-        serializer: 1,
-    })?;
-    acts.push(Act::Settle)?;
-    Ok(acts)
-}
-
-#[test]
-fn each_form_is_spelled(rt: HostRuntime) -> Result<(), Fail> {
-    let alloc = rt.alloc();
-    let Some(d) = wide(alloc)? else {
-        assert!(rt; false, "no deployment");
-        return Ok(());
-    };
-    let acts = each_form(alloc)?;
-    let mut out = Vec::new(alloc);
-    write_script(&d, &acts, &mut out)?;
-    let header =
-        "saturn 1\nsites 3\ngears 2\nitem p 0,2\nitem q-1.z 1\nclient C 2\nplan tree - 0 / 0 0 1\nplan stamp\nbegin\n";
-    let lines =
-        "tick 0 1 4611686018427387904\nclock\nwrite C q-1.z ->\nread C p\nmove C 1\nleave C\nattach C 2\ngather 2\nemit 1\npulse 0\nhop 1 z1 z0\nhop 1 s2 z1\nturn 2\nbulk 0 1 2 18446744073709551615\nbulk 2 0 1\nbeat 1 0\nbeatin 1 0 10\nstamp 0\nclose 1\nfall 2\nadvance 0\nkill 1 z1\nsettle\nend\n";
-    let mut want = header.as_bytes().to_vec(alloc)?;
-    want.extend_from_slice(lines.as_bytes())?;
-    assert_eq!(rt; out.as_slice(), want.as_slice());
     Ok(())
 }
