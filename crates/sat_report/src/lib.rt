@@ -9,6 +9,3 @@ mod text;
 pub use answer::{write_answer, write_line};
 pub use fault::write_fault;
 pub use holdings::write_holdings;
-
-#[cfg(test)]
-mod tests;

@@ -222,6 +222,17 @@ pub const REPORTS: &[(&str, &str, &str)] = &[
     (HEADER, "end\nx", "line 10: AfterEnd\n"),
     // A bad header.
     ("", "", "line 1: NoEnd\n"),
+    ("saturn 2\n", "", "line 1: BadHeader\n"),
+    (
+        "saturn 1\nsites 2\ngears 1\nitem x 0\nitem x 1\n",
+        "",
+        "line 5: SameName\n",
+    ),
+    (
+        "saturn 1\nsites 2\ngears 1\nplan stamp\nplan stamp\nplan stamp\nplan stamp\nplan stamp\nplan stamp\nplan stamp\nplan stamp\nplan stamp\nplan stamp\nplan stamp\nplan stamp\nplan stamp\nplan stamp\nplan stamp\nplan stamp\nplan stamp\n",
+        "",
+        "line 20: TooMany\n",
+    ),
     ("saturn\t1\n", "", "line 1: NotText\n"),
     ("saturn 1\nsites 17\n", "", "line 2: OutOfRange\n"),
     (

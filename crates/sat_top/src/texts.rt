@@ -1,5 +1,6 @@
 //! What is read of texts, at once and in pieces, and at the limits. What is expected was worked out by hand from the table of causes.
-use sat_act::Act;
+use sat_act::{Act, Answer, Entry};
+use sat_report::write_answer;
 use sat_script::{
     Cause, Line, Reader, Reading, Script, ScriptFault, ScriptReader, read_script, write_script,
 };
@@ -323,5 +324,22 @@ fn lines_are_told(rt: HostRuntime) -> Result<(), Fail> {
     assert_eq!(rt; reader.close(b"".as_slice()), Err(fault));
     assert!(rt; matches!(reader.line(b"turn 0".as_slice()), Err(again) if again == fault));
     assert_eq!(rt; reader.fault(), Some(fault));
+    Ok(())
+}
+
+#[test]
+fn an_entry_is_printed(rt: HostRuntime) -> Result<(), Fail> {
+    let alloc = rt.alloc();
+    let Ok(script) = read_script(alloc, PLAIN.as_bytes(), false) else {
+        return Err("the plain path is refused".into());
+    };
+    let entry = Entry {
+        act: Act::Clock,
+        answer: Answer::Clocked(7),
+        inner: false,
+    };
+    let mut line = Vec::new(alloc);
+    write_answer(&script.deployment, 3, &entry, &mut line)?;
+    assert_eq!(rt; line.as_slice(), b"3 clocked 7\n".as_slice());
     Ok(())
 }
