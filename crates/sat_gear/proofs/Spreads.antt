@@ -334,3 +334,12 @@ picked-empty (suc n) = ap (λ (ls : List (List _)). [] ∷ ls) (picked-empty n)
 
 pub new-lanes : {X : Type 0} (made : List X) (places : List (List ℕ)) (n : ℕ) → made ≡ [] → places ≡ replicate n [] → map (picked made) places ≡ replicate n []
 new-lanes {X} made places n none empty = ap (λ (xs : List X). map (picked xs) places) none ∙ (ap (λ (ls : List (List ℕ)). map (picked {X = X} []) ls) empty ∙ picked-empty n)
+
+-- as many payloads were made for a site as its queue has places
+pub counted-at : {X : Type 0} (made : List X) (lanes : List (Queued ℕ)) (view : List (List X)) (k : ℕ) (q : Queued ℕ) → k < length lanes → map (picked made) (map members_of lanes) ≡ view →
+    AllBelow (length made) (map members_of lanes) → q ≡ get_or lanes k q → length q.members ≡ length (get_or view k [])
+counted-at {X} made lanes view k q low is below here =
+    ap (λ (r : Queued ℕ). length r.members) here
+    ∙ (ap (λ (ns : List ℕ). length ns) (sym (get_or-map members_of lanes k q [] low))
+    ∙ (sym (picked-length made (get_or (map members_of lanes) k []) (below k))
+    ∙ (ap (λ (xs : List X). length xs) (sym (map-get made (map members_of lanes) k)) ∙ ap (λ (ls : List (List X)). length (get_or ls k [])) is)))

@@ -226,6 +226,15 @@ impl Gear {
         self.lanes.at(to, number)
     }
 
+    /// How many payloads were made for a site. It takes no memory.
+    pub fn made_for(&self, to: u16) -> u64
+        requires { to < self.now.shape.sites }
+        ensures made { result ≡ length (lane_to self.now to) }
+        ensures limits { IsGear self.now }
+    {
+        self.lanes.count(to)
+    }
+
     /// Whether a drain would take something: a label that was not drained, or a promise above the last drained one. It takes no
     /// memory.
     pub fn is_due(&self) -> bool

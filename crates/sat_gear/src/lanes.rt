@@ -101,6 +101,14 @@ impl Lanes {
         Some(&self.made[place])
     }
 
+    /// How many payloads the lane of a site holds. It takes no memory.
+    pub fn count(&self, site: u16) -> u64
+        requires { site < length self.now }
+        ensures { result ≡ length (get_or self.now site []) }
+    {
+        self.lanes[site as usize].len() as u64
+    }
+
     /// How many payloads each lane holds.
     pub fn counts(&self, alloc: Global) -> Result<Counts, AllocError>
         ensures { IfOk result (λ counts. counts ≡ map count_of self.now) }

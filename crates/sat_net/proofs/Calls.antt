@@ -68,3 +68,12 @@ may_hop n a u z l sites node edge front label target = record {
   label = λ m alive at. subst (IsLabelOf a) (some_is l m (front ∙ at)) label;
   target = λ m alive at. subst (λ (m : Label). leads a n.tree u (Serializer z) m ≡ true) (some_is l m (front ∙ at)) target;
 }
+
+-- as many labels are read from a serializer's outbox as stand on the link
+pub many-at : (m n : NetSeen) (z : ℕ) (v : NodeId) (r : ℕ) (ss : List SerializerSeen) → m ≡ n → IsNet m → z < length n.tree.parents → ss ≡ m.serializers →
+    ((s : SerializerSeen) → slice_get ss z ≡ Some s → r ≡ length (outbox s v)) → r ≡ length (link_of n (Serializer z) v)
+many-at m n z v r ss same k less all read =
+    let s : (s : SerializerSeen) × (slice_get m.serializers z ≡ Some s) = within-at m n z same k less in
+    read s.0 (ap (λ (ss : List SerializerSeen). slice_get ss z) all ∙ s.1) ∙
+    (ap (λ (o : Option SerializerSeen). length {A = Label} (elim o [ None ↦ [] | Some s ↦ outbox s v ])) (sym s.1) ∙
+    (λ i. length (link_of (same i) (Serializer z) v)))

@@ -4,4 +4,5 @@ pub mod Targets
 pub mod Kept
 pub mod Links
 pub mod Stands
+pub mod Sums
 pub mod Calls

@@ -1,5 +1,6 @@
 -- The serializers and links of one tree, and what happens to them.
-use Rattle.std.specs.Prelude.{ℕ, zero, suc, ◌≡◌, Bool, true, false, List, [], ◌∷◌, ◌++◌, length, map, drop, replicate, get_or, slice_get, Some, None}
+use Rattle.std.specs.Prelude.{ℕ, zero, suc, ◌≡◌, ◌+◌, Bool, true, false, List, [], ◌∷◌, ◌++◌, length, map, drop, replicate, get_or, slice_get, Some, None}
+use Rattle.std.specs.List.{sum_by}
 use Rattle.sat_label.specs.declared.label.Label.{Label}
 use Rattle.sat_label.specs.declared.node.NodeId.{NodeId}
 use Rattle.sat_label.specs.declared.node.NodeId.TheVariants.{Site, Serializer}
@@ -21,6 +22,24 @@ pub record NetSeen : Type 0 where
 abbrev pub link_of : NetSeen → NodeId → NodeId → List Label
 link_of n (Site i) v = get_or n.up i []
 link_of n (Serializer z) v = elim (slice_get n.serializers z) [ None ↦ [] | Some s ↦ outbox s v ]
+
+-- ---- how many labels stand on its links
+
+-- on those from sites
+abbrev pub underway_up : NetSeen → ℕ
+underway_up n = sum_by (λ i. length (link_of n (Site i) (Serializer (seat_of n.tree i)))) (below (length n.tree.seats))
+
+-- on those from serializer z to its neighbours
+abbrev pub underway_from : NetSeen → ℕ → ℕ
+underway_from n z = sum_by (λ v. length (link_of n (Serializer z) v)) (neighbours n.tree z)
+
+-- on those from serializers
+abbrev pub underway_on : NetSeen → ℕ
+underway_on n = sum_by (underway_from n) (below (length n.tree.parents))
+
+-- on all: each edge of the tree is one of a site and its serializer, or of two serializers, each a neighbour of the other
+abbrev pub underway_in : NetSeen → ℕ
+underway_in n = underway_up n + underway_on n
 
 -- whether a serializer was killed
 abbrev pub is_dead : NetSeen → ℕ → Bool

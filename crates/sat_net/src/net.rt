@@ -5,7 +5,8 @@ ghost use Rattle.sat_label.specs.Words.{below};
 ghost use Rattle.sat_tree.specs.Cut.{is_edge, seat_of, IsNode};
 ghost use Rattle.sat_serial.specs.Outboxes.{fresh};
 ghost use Rattle.sat_serial.specs.Routes.{routes, Arrives};
-ghost use Rattle.sat_net.specs.Nets.{IsNet, link_of, is_dead, fresh_net, after_send, after_copies, after_give, after_take, after_kill, MayHop, FindsNothing, HandsOn};
+ghost use Rattle.sat_net.specs.Nets.{IsNet, link_of, is_dead, fresh_net, after_send, after_copies, after_give, after_take, after_kill, underway_in, underway_up, underway_on, underway_from, MayHop, FindsNothing, HandsOn};
+ghost use Rattle.sat_act.specs.Settling.{capped};
 
 use crate::{HopFault, places};
 use sat_label::{Label, NodeId, Nodes};
@@ -150,6 +151,47 @@ impl Net {
         }
         places::kill(&mut self.serializers, z);
         Ok(())
+    }
+
+    /// How many labels stand on all links, or 2^64 - 1 where there are more. It takes no memory.
+    pub fn underway(&self) -> u64
+        ensures { result ≡ capped (underway_in self.now) }
+    {
+        self.underway_up().saturating_add(self.underway_on())
+    }
+
+    // How many stand on the links from sites.
+    fn underway_up(&self) -> u64
+        ensures { result ≡ capped (underway_up self.now) }
+    {
+        let mut count: u64 = 0;
+        for site in 0..self.tree.sites() {
+            count = count.saturating_add(places::kept(&self.up, site));
+        }
+        count
+    }
+
+    // How many stand on the links from serializers.
+    fn underway_on(&self) -> u64
+        ensures { result ≡ capped (underway_on self.now) }
+    {
+        let mut count: u64 = 0;
+        for z in 0..self.tree.serializers() {
+            count = count.saturating_add(self.underway_from(z));
+        }
+        count
+    }
+
+    // How many stand on the links from a serializer.
+    fn underway_from(&self, z: u16) -> u64
+        requires { z < length self.now.tree.parents }
+        ensures { result ≡ capped (underway_from self.now z) }
+    {
+        let mut count: u64 = 0;
+        for to in self.tree.neighbours(z) {
+            count = count.saturating_add(places::kept_for(&self.serializers, z, *to));
+        }
+        count
     }
 
     // Whether a serializer was killed.

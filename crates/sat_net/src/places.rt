@@ -80,6 +80,23 @@ pub fn oldest(links: &[Queue<Label>], place: u16) -> Option<Label>
     links[place as usize].front()
 }
 
+/// How many labels stand on a link.
+pub fn kept(links: &[Queue<Label>], place: u16) -> u64
+    requires { place < length links.now }
+    ensures { result ≡ length (get_or (map members_of links.now) place []) }
+{
+    links[place as usize].len() as u64
+}
+
+/// How many labels a serializer has for a node.
+pub fn kept_for(serializers: &[Serializer], place: u16, to: NodeId) -> u64
+    requires { place < length serializers.now }
+    ensures { (s : SerializerSeen) → slice_get serializers.now place ≡ Some s → result ≡ length (outbox s to) }
+{
+    let serializer = &serializers[place as usize];
+    serializer.kept(to)
+}
+
 /// Takes it.
 pub fn take_oldest(links: &mut Vec<Queue<Label>>, place: u16)
     requires { place < length links.old.items }

@@ -132,6 +132,15 @@ oldest-of v nodes queues k q r same at here front =
     let box : box_of v nodes (map members_of queues) ≡ q.members = (placed v nodes (map members_of queues) k (length-labels queues ∙ same) at).0 ∙ (queue-at queues k q less ∙ sym (ap (λ (p : Queued Label). p.members) here)) in
     front ∙ ap (λ (xs : List Label). slice_get xs 0) (sym box)
 
+-- the queue of a node has as many labels as its outbox
+pub many-of : (v : NodeId) (nodes : List NodeId) (queues : List (Queued Label)) (k : ℕ) (q : Queued Label) (n : ℕ) →
+    length queues ≡ length nodes → position (node_eq v) nodes ≡ Some k → q ≡ get_or queues k q → n ≡ length q.members → n ≡ length (box_of v nodes (map members_of queues))
+unfolding AtPlace
+many-of v nodes queues k q n same at here many =
+    let less : k < length queues = subst (λ (n : ℕ). k < n) (sym same) (within v nodes k at) in
+    let box : box_of v nodes (map members_of queues) ≡ q.members = (placed v nodes (map members_of queues) k (length-labels queues ∙ same) at).0 ∙ (queue-at queues k q less ∙ sym (ap (λ (p : Queued Label). p.members) here)) in
+    many ∙ ap (λ (xs : List Label). length xs) (sym box)
+
 -- and what is left are the outboxes without it
 pub taken-rest : (v : NodeId) (nodes : List NodeId) (queues : List (Queued Label)) (k : ℕ) (q p : Queued Label) →
     length queues ≡ length nodes → position (node_eq v) nodes ≡ Some k → q ≡ get_or queues k q → p.members ≡ drop 1 q.members →

@@ -105,6 +105,17 @@ impl Serializer {
         self.outboxes[place].front()
     }
 
+    /// How many labels stand in the outbox of a neighbour, none where the node is no neighbour. It takes no memory.
+    pub fn kept(&self, to: NodeId) -> u64
+        ensures kept { result ≡ length (outbox self.now to) }
+        ensures limits { IsSerializer self.now }
+    {
+        let Some(place) = self.router.place(to) else {
+            return 0;
+        };
+        self.outboxes[place].len() as u64
+    }
+
     /// Takes the oldest label out of the outbox of a neighbour, None where it is empty. It takes no memory, and works after a
     /// kill too.
     pub fn ship(&mut self, to: NodeId) -> Option<Label>

@@ -30,3 +30,4 @@ pub mod Step
 pub mod Given
 pub mod Acted
 pub mod Asked
+pub mod Made

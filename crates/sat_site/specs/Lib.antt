@@ -6,3 +6,4 @@ pub mod Gives
 pub mod SiteSteps
 pub mod Does
 pub mod Laws
+pub mod Lanes

@@ -16,10 +16,11 @@ ghost use Rattle.sat_act.specs.Settling.{is_done};
 ghost use Rattle.sat_machine.specs.State.{SiteState, fresh_site};
 ghost use Rattle.sat_machine.specs.Fits.{is_time};
 ghost use Rattle.sat_machine.specs.Look.{front_of, mode_of};
-ghost use Rattle.sat_proxy.specs.Proxy.{front_at, IsProxy};
+ghost use Rattle.sat_proxy.specs.Proxy.{front_at, window_of, IsProxy};
 ghost use Rattle.sat_proxy.specs.Steps.{after_beat, after_bulk, has_come};
 ghost use Rattle.sat_proxy.specs.Answers.{advance_answer, attach_answer, beat_answer, bulk_answer, stamp_answer, turn_answer};
 ghost use Rattle.sat_site.specs.Seen.{IsGuest, IsSite, SiteSeen};
+ghost use Rattle.sat_site.specs.Lanes.{lane_of};
 ghost use Rattle.sat_site.specs.Inputs.{fits_here, fits_in, is_beat_here, is_bulk_here, is_carried_here, is_counted, is_cut_here, is_front_here, is_gear_here, is_goal_here, is_guest_here, is_item_here, is_kept_here, is_kind_here, is_other_here, is_point_here, is_site_here, is_asked, is_sized, takes_none, BulkFits, IsFront};
 ghost use Rattle.sat_site.specs.Stands.{StandsSite, payload_of};
 ghost use Rattle.sat_site.specs.Gives.{PromisesUpTo, IsOfLane};
@@ -886,6 +887,27 @@ impl Site {
     {
         let gear = self.gear(gear);
         gear.payload(to, number)
+    }
+
+    /// How many payloads a gear made for another site. It takes no memory.
+    pub fn made_for(&self, gear: u16, to: u16) -> u64
+        requires gear { gear < self.now.shape.gears }
+        requires site { to < self.now.shape.sites }
+        ensures made { (d : Deployed) (i : ℕ) (s : SiteState) → StandsSite d i self.now s → result ≡ length ((s.gears gear).lanes to) }
+        ensures seen { result ≡ length (lane_of self.now gear to) }
+    {
+        let gear = self.gear(gear);
+        gear.made_for(to)
+    }
+
+    /// Whether the payload with this number of the lane of a gear of another site came here. It takes no memory.
+    pub fn has(&self, from: u16, gear: u16, number: u64) -> bool
+        requires from { from < self.now.shape.sites }
+        requires gear { gear < self.now.shape.gears }
+        ensures has { result ≡ has_number (window_of self.now.proxy from gear) number }
+        ensures site { IsSite self.now }
+    {
+        self.proxy.has(from, gear, number)
     }
 
     /// The beat with this number of those that the site made for another one, None where there is none. It takes no memory.

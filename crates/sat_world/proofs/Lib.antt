@@ -17,3 +17,4 @@ pub mod Runs
 pub mod Fresh
 pub mod Shown
 pub mod Clocked
+pub mod Lefts

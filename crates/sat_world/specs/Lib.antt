@@ -8,3 +8,4 @@ pub mod Shows
 pub mod Clocks
 pub mod Starts
 pub mod Laws
+pub mod Underway

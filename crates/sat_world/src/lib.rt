@@ -7,6 +7,7 @@ mod clocks;
 mod nets;
 mod places;
 mod start;
+mod underway;
 mod world;
 
 pub use sat_client::Client;

@@ -13,8 +13,8 @@ use sat_label::Carried;
 use sat_site::{Site, SiteInput, SiteOutput};
 use std::alloc::AllocError;
 
-// What is true of a site.
-fn sound(site: &Site)
+/// What is true of a site.
+pub fn sound(site: &Site)
     ensures { IsSite site.now }
 {
     let _ = site.view();

@@ -9,12 +9,13 @@ ghost use Rattle.sat_act.specs.Headline.{IsGood};
 ghost use Rattle.sat_act.specs.Parts.{view, emission, in_stamp_mode, waiting, version, value_of, carried, moving, seat};
 ghost use Rattle.sat_world.specs.TakesNone.{takes_none};
 ghost use Rattle.sat_world.specs.Counts.{counted, shown_count};
+ghost use Rattle.sat_world.specs.Underway.{underway};
 ghost use Rattle.sat_world.specs.Steps.{act_at, is_local, is_sending, Goes};
 ghost use Rattle.sat_world.specs.Worlds.{IsWorld};
 ghost use Rattle.sat_world.specs.Shows.{IsVersion};
 ghost use Rattle.sat_world.specs.Stands.{StandsFor};
 
-use crate::{Client, SiteView, Version, clocks, nets, places, start};
+use crate::{Client, SiteView, Version, clocks, nets, places, start, underway};
 use sat_act::{Act, Answer, Deployment, Refusal};
 use sat_label::{NodeId, Value};
 use sat_net::Net;
@@ -142,6 +143,16 @@ impl World {
         ensures { (h : List Entry) → IsRun self.now.deployment h → StandsFor self.now h → result ≡ capped (shown_count h) }
     {
         self.shown
+    }
+
+    /// What is under way: the sum over all lanes of payloads made less taken, and over all links of labels entered less taken, or
+    /// 2^64 - 1 where it is greater. It takes no memory.
+    pub fn underway(&self) -> u64
+        ensures { (h : List Entry) → IsRun self.now.deployment h → StandsFor self.now h → result ≡ capped (underway self.now.deployment h) }
+    {
+        let sites = self.deployment.sites();
+        let gears = self.deployment.gears();
+        underway::in_lanes(&self.sites, sites, gears).saturating_add(underway::on_links(&self.nets))
     }
 
     // Does an act, and leaves its answer to be counted. The calls below do one kind of act each.
