@@ -1,7 +1,7 @@
 -- One write more.
-use Rattle.std.proofs.Common.{◌≡◌, ℕ, Bool, ◌+◌, true, false, List, [], ◌∷◌, ◌++◌, length, refl, arith}
+use Rattle.std.proofs.Common.{◌≡◌, ◌<◌, ℕ, suc, Bool, ◌+◌, true, false, List, [], ◌∷◌, ◌++◌, length, take, drop, get_or, refl, sym, subst, ap, ◌∙◌, arith, add-one, drop-cons}
 use Rattle.std.specs.Prelude.{None}
-use Rattle.std.proofs.lemmas.List.{length-append}
+use Rattle.std.proofs.lemmas.List.{length-append, take_more}
 use Rattle.sat_act.specs.declared.act.Act.{Act}
 use Rattle.sat_act.specs.declared.answer.Answer.{Answer}
 use Rattle.sat_act.specs.declared.answer.Answer.TheVariants as ans
@@ -16,6 +16,7 @@ use Rattle.sat_laws.proofs.Steps.{Step, outcome, wrote}
 use Rattle.sat_rest.specs.Ends.{wrote_count, wrote_entry}
 use Rattle.sat_world.specs.Seen.{WorldSeen}
 use Rattle.sat_world.specs.Stands.{StandsFor}
+use Rattle.sat_script.specs.Reading.{AreActsOf}
 use Rattle.sat_top.specs.Loading.{writes_in, IsCounting}
 use Rattle.sat_top.specs.Runs.{history}
 use Rattle.sat_top.specs.Running.{Does}
@@ -48,3 +49,18 @@ counts_more old new written acts a r range does now =
 pub counts_none : (d : Deployed) (w : WorldSeen) → StandsFor w [] → IsCounting d w 0 []
 unfolding history run wrote_count listed
 counts_none d w stands = record { running = runs-none d w stands; count = refl }
+
+-- ---- the next act of a list
+
+pub rest-more : (d : Deployed) (acts : List Act) (n : ℕ) (x : Act) → n < length acts → AreActsOf d (drop n acts) → AreActsOf d (drop (n + 1) acts)
+rest-more d acts n x low rest =
+    let all : AreActsOf d (get_or acts n x ∷ drop (suc n) acts) = subst (λ (later : List Act). AreActsOf d later) (drop-cons acts n x low) rest in
+    subst (λ (m : ℕ). AreActsOf d (drop m acts)) (sym (add-one n)) all.1
+
+pub count-next : (old new : WorldSeen) (d : Deployed) (acts : List Act) (n written one : ℕ) (x : Act) → n < length acts → x ≡ get_or acts n x → old.deployment ≡ d → IsCounting d old written (take n acts)
+    → ((before : List Act) (w : ℕ) → IsCounting old.deployment old w before → IsCounting old.deployment new (w + one) (before ++ x ∷ [])) → IsCounting d new (written + one) (take (n + 1) acts)
+count-next old new d acts n written one x low is e now more =
+    let step : IsCounting d new (written + one) (take n acts ++ x ∷ []) =
+    subst (λ (d : Deployed). IsCounting d new (written + one) (take n acts ++ x ∷ [])) e (more (take n acts) written (subst (λ (d : Deployed). IsCounting d old written (take n acts)) (sym e) now)) in
+    let front : take (n + 1) acts ≡ take n acts ++ x ∷ [] = take_more acts n x low ∙ ap (λ (y : Act). take n acts ++ y ∷ []) (sym is) in
+    subst (λ (before : List Act). IsCounting d new (written + one) before) (sym front) step

@@ -6,7 +6,7 @@ use Rattle.sat_top.proofs.words.command_of.Goals as goal
 
 pub returns-in-len2-clause-command : goal.returns-in-len2-clause-command
 returns-in-len2-clause-command c =
-    two_words (map string_bytes c.args.words.now) (omega (arith, length-map string_bytes c.args.words.now, c.in-len2.len_at_least)) (omega (arith, length-map string_bytes c.args.words.now, c.in-len2.len_below))
+    two_words (map string_bytes c.args.words.now) (omega (arith, length-map c.args.words.now string_bytes, c.in-len2.len_at_least)) (omega (arith, length-map c.args.words.now string_bytes, c.in-len2.len_below))
 
 pub returns-in-len4-up-clause-command : goal.returns-in-len4-up-clause-command
-returns-in-len4-up-clause-command c = many_words (map string_bytes c.args.words.now) (omega (arith, length-map string_bytes c.args.words.now, c.in-len4-up.len_at_least))
+returns-in-len4-up-clause-command c = many_words (map string_bytes c.args.words.now) (omega (arith, length-map c.args.words.now string_bytes, c.in-len4-up.len_at_least))
