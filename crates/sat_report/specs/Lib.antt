@@ -3,3 +3,4 @@ pub mod Fronts
 pub mod Answers
 pub mod Holdings
 pub mod Faults
+pub mod Summary

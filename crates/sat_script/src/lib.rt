@@ -30,6 +30,7 @@ pub use limits::{
     MOST_CLIENTS, MOST_GEARS, MOST_ITEMS, MOST_PLANS, MOST_SETTLES, MOST_SITES,
 };
 pub use line::Line;
+pub use number::number_up_to;
 pub use reader::Reader;
 pub use script::{Script, one_spelling, read_script};
 pub use stream::{Reading, ScriptReader};

@@ -8,7 +8,7 @@ use Rattle.sat_delay.specs.Table.{DelayTable}
 use Rattle.sat_delay.specs.Reading.{reading as delays_in}
 use Rattle.sat_plan.specs.Texts.{plan_text, result_text}
 use Rattle.sat_top.specs.declared.words.Command.{Command}
-use Rattle.sat_top.specs.declared.words.Command.TheVariants.{Run, Plan, Place, Help, Version}
+use Rattle.sat_top.specs.declared.words.Command.TheVariants.{Run, Plan, Place, Load, Help, Version}
 use Rattle.sat_top.specs.Good.{IsGoodScript}
 use Rattle.sat_place.specs.Shape.{Shape, shape_reading}
 use Rattle.sat_place.specs.Texts.{place_text, result_text as place_result}
@@ -112,6 +112,7 @@ pub is_done : (c : Option Command) (left : Option (List ℕ)) (text : List ℕ) 
 is_done (Some Run) left text status old new o took is-zero = run-done left text old new (subst (λ (n : ℕ). IsOutput (Some Run) left text n) is-zero o) took
 is_done (Some Plan) left text status old new o took is-zero = plan-done left text old new (subst (λ (n : ℕ). IsOutput (Some Plan) left text n) is-zero o) took
 is_done (Some Place) left text status old new o took is-zero = place-done left text old new (subst (λ (n : ℕ). IsOutput (Some Place) left text n) is-zero o) took
+is_done (Some (Load seed acts)) left text status old new o took is-zero = record { written = written (Some (Load seed acts)) left text status old new o took; good = o.proves }
 is_done (Some Help) left text status old new o took is-zero = written (Some Help) left text status old new o took
 is_done (Some Version) left text status old new o took is-zero = written (Some Version) left text status old new o took
 is_done None left text status old new o took is-zero = absurd (let e : status ≡ 2 = o.status_is in cc)
@@ -120,6 +121,7 @@ pub is_refused : (c : Option Command) (left : Option (List ℕ)) (text : List �
 is_refused (Some Run) left text status old new o took is-one = run-refused left text old new (subst (λ (n : ℕ). IsOutput (Some Run) left text n) is-one o) took
 is_refused (Some Plan) left text status old new o took is-one = plan-refused left text old new (subst (λ (n : ℕ). IsOutput (Some Plan) left text n) is-one o) took
 is_refused (Some Place) left text status old new o took is-one = place-refused left text old new (subst (λ (n : ℕ). IsOutput (Some Place) left text n) is-one o) took
+is_refused (Some (Load seed acts)) left text status old new o took is-one = absurd (let e : status ≡ 0 = o.status_is in cc)
 is_refused (Some Help) left text status old new o took is-one = absurd (let e : status ≡ 0 = o.status_is in cc)
 is_refused (Some Version) left text status old new o took is-one = absurd (let e : status ≡ 0 = o.status_is in cc)
 is_refused None left text status old new o took is-one = absurd (let e : status ≡ 2 = o.status_is in cc)

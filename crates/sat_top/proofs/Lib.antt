@@ -2,6 +2,8 @@ pub mod Progress
 pub mod Faults
 pub mod Doing
 pub mod Running
+pub mod Counting
+pub mod Wordless
 pub mod Good
 pub mod Refused
 pub mod Ran

@@ -32,7 +32,7 @@ unfolding printed_count
 printed-in d k a = refl
 
 -- what no such entry changes is the same after them
-kept : {X : Type 0} (d : Deployed) (f : List Entry → X) → ((k : List Entry) (a : Act) → of_client a ≡ None → f (inner_entry d k a ∷ k) ≡ f k)
+pub kept : {X : Type 0} (d : Deployed) (f : List Entry → X) → ((k : List Entry) (a : Act) → of_client a ≡ None → f (inner_entry d k a ∷ k) ≡ f k)
     → (h : List Entry) (a : Act) → IsRun d h → f (with_inner d h a) ≡ f h
 unfolding with_inner
 kept d f each h act.Settle run = goes-keep d (λ k. f k ≡ f h) (λ k a run m later old. each k a m.operator ∙ old) h _ (settle-after d h run).goes refl
@@ -53,11 +53,11 @@ unfolding printed_count
 printed-on h a r = refl
 
 -- a world that did one act more: it goes on, and its history has the act's entry more, and before it those of a settle's acts
-record IsOn (old new : WorldSeen) (acts : List Act) (a : Act) (r : Answer) : Type 0 where
-  goes : IsRunning old.deployment new (acts ++ a ∷ [])
-  next : history old.deployment (acts ++ a ∷ []) ≡ entry a r ∷ with_inner old.deployment (history old.deployment acts) a
+pub record IsOn (old new : WorldSeen) (acts : List Act) (a : Act) (r : Answer) : Type 0 where
+  pub goes : IsRunning old.deployment new (acts ++ a ∷ [])
+  pub next : history old.deployment (acts ++ a ∷ []) ≡ entry a r ∷ with_inner old.deployment (history old.deployment acts) a
 
-on : (old new : WorldSeen) (acts : List Act) (a : Act) (r : Answer) → IsActOf old.deployment a → Does old a r new → IsRunning old.deployment old acts → IsOn old new acts a r
+pub on : (old new : WorldSeen) (acts : List Act) (a : Act) (r : Answer) → IsActOf old.deployment a → Does old a r new → IsRunning old.deployment old acts → IsOn old new acts a r
 on old new acts a r range does now =
     let d = old.deployment in
     let h = history d acts in
@@ -86,7 +86,7 @@ answers_more old new text more number acts a r range does written counted now =
 
 -- ---- before the first act
 
-runs-none : (d : Deployed) (w : WorldSeen) → StandsFor w [] → IsRunning d w []
+pub runs-none : (d : Deployed) (w : WorldSeen) → StandsFor w [] → IsRunning d w []
 unfolding history run IsRun
 runs-none d w stands = record { run = tt; stands = stands }
 

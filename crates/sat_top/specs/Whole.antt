@@ -16,11 +16,12 @@ use Rattle.sat_plan.specs.Mismatch.{mismatch}
 use Rattle.sat_plan.specs.Steps.{built}
 use Rattle.sat_plan.specs.Texts.{config_text, plan_text}
 use Rattle.sat_top.specs.declared.words.Command.{Command}
-use Rattle.sat_top.specs.declared.words.Command.TheVariants.{Run, Plan, Place, Help, Version}
+use Rattle.sat_top.specs.declared.words.Command.TheVariants.{Run, Plan, Place, Load, Help, Version}
 use Rattle.sat_place.specs.Placing.{IsLeast, worth}
 use Rattle.sat_place.specs.Search.{least_places}
 use Rattle.sat_place.specs.Shape.{Shape, shape_reading}
 use Rattle.sat_place.specs.Texts.{least_text, place_text, shape_fault_text}
+use Rattle.sat_top.specs.Loading.{load_text, HasLoaded, IsGoodLoad}
 use Rattle.sat_top.specs.Placing.{IsBestPlacement, place_status}
 use Rattle.sat_top.specs.Words.{command_of}
 use Rattle.sat_top.specs.Runs.{history, run_text}
@@ -36,7 +37,7 @@ refusal = codes "words refused" ++ 10 ∷ []
 
 -- what the program says of itself
 abbrev pub help : List ℕ
-help = codes "saturn: causal order between sites that keep some items each\n\nusage: saturn COMMAND < INPUT\n\n  run        reads a script, and writes the report of its run\n  plan       reads a table of delays as JSON, and writes a tree of serializers\n  place      reads the same with a given tree, and writes the best places of its serializers\n  --help     writes this text\n  --version  writes the version\n\nstatus: 0 done; 1 the input is refused, and the last line written says where; 2 no such command;\n        3 the input could not be read; 4 the output could not be written; 5 out of memory\n"
+help = codes "saturn: causal order between sites that keep some items each\n\nusage: saturn COMMAND < INPUT\n\n  run          reads a script, and writes the report of its run\n  plan         reads a table of delays as JSON, and writes a tree of serializers\n  place        reads the same with a given tree, and writes the best places of its serializers\n  load SEED N  makes a script of N acts and six more, runs it, and writes a summary\n  --help       writes this text\n  --version    writes the version\n\nstatus: 0 done; 1 the input is refused, and the last line written says where; 2 no such command;\n        3 the input could not be read; 4 the output could not be written; 5 out of memory\n"
 
 abbrev pub version : List ℕ
 version = codes "saturn 0.1.0\n"
@@ -62,6 +63,7 @@ command_status None text = 2
 command_status (Some Run) text = run_status (reading false text).fault
 command_status (Some Plan) text = plan_status (delays_in text)
 command_status (Some Place) text = place_status (shape_reading text)
+command_status (Some (Load seed acts)) text = 0
 command_status (Some Help) text = 0
 command_status (Some Version) text = 0
 
@@ -71,6 +73,7 @@ command_output None text = refusal
 command_output (Some Run) text = run_text (reading false text)
 command_output (Some Plan) text = plan_text text
 command_output (Some Place) text = place_text text
+command_output (Some (Load seed acts)) text = load_text seed acts
 command_output (Some Help) text = help
 command_output (Some Version) text = version
 
@@ -146,6 +149,7 @@ abbrev pub IsDone : Option Command → Option (List ℕ) → Told → Told → T
 IsDone (Some Run) left old new = HasRun left old new
 IsDone (Some Plan) left old new = HasPlan left old new
 IsDone (Some Place) left old new = HasPlacement left old new
+IsDone (Some (Load seed acts)) left old new = HasLoaded seed acts old new
 IsDone (Some Help) left old new = Takes old new help
 IsDone (Some Version) left old new = Takes old new version
 IsDone None left old new = ⊥
@@ -162,6 +166,7 @@ abbrev pub Proves : Option Command → ℕ → List ℕ → Type 0
 Proves (Some Run) status text = (status ≡ 0 → IsGoodScript text) × (status ≡ 1 → IsGoodFront text)
 Proves (Some Plan) status text = status ≡ 0 → IsBestPlan text
 Proves (Some Place) status text = IsBestPlacement text
+Proves (Some (Load seed acts)) status text = IsGoodLoad seed acts
 Proves _ status text = Unit {0}
 
 -- what is to be written, and the status, are those of a command over the source's text

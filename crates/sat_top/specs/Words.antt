@@ -1,16 +1,41 @@
 -- The words that say a command.
-use Rattle.std.specs.Prelude.{ℕ, List, [], ◌∷◌, Option, Some, None, if◌then◌else◌, codes}
+use Rattle.std.specs.Prelude.{ℕ, ◌≤◌, ◌-◌, ◌^◌, nat_lt, List, [], ◌∷◌, Option, Some, None, if◌then◌else◌, codes}
 use Rattle.std.specs.Str.{bytes_eq}
+use Rattle.sat_script.specs.Words.{number_up_to}
+use Rattle.sat_settle.specs.declared.load_script.TheConstants.{MOST_LOADED}
 use Rattle.sat_top.specs.declared.words.Command.{Command}
-use Rattle.sat_top.specs.declared.words.Command.TheVariants.{Run, Plan, Place, Help, Version}
+use Rattle.sat_top.specs.declared.words.Command.TheVariants.{Run, Plan, Place, Load, Help, Version}
 
--- the command that the words say, None where they are no command
-unfoldable pub command_of : List (List ℕ) → Option Command
-command_of [] = None
-command_of (word ∷ []) =
+-- the command of one word
+unfoldable pub command_named : List ℕ → Option Command
+command_named word =
     if bytes_eq word (codes "run") then Some Run else (
     if bytes_eq word (codes "plan") then Some Plan else (
     if bytes_eq word (codes "place") then Some Place else (
     if bytes_eq word (codes "--help") then Some Help else (
     if bytes_eq word (codes "--version") then Some Version else None))))
-command_of (word ∷ other ∷ words) = None
+
+-- the load of two numbers: one below 2^64, and one from 2 up to the most that are drawn
+abbrev pub load_of : Option ℕ → Option ℕ → Option Command
+load_of (Some seed) (Some acts) = if nat_lt acts 2 then None else Some (Load seed acts)
+load_of _ _ = None
+
+-- the command of three words
+unfoldable pub command_of_three : List ℕ → List ℕ → List ℕ → Option Command
+unfolding number_up_to
+command_of_three word seed acts =
+    if bytes_eq word (codes "load") then load_of (number_up_to (2 ^ 64 - 1) seed) (number_up_to MOST_LOADED acts) else None
+
+-- the command that the words say, None where they are no command
+unfoldable pub command_of : List (List ℕ) → Option Command
+unfolding command_named command_of_three
+command_of [] = None
+command_of (word ∷ []) = command_named word
+command_of (word ∷ other ∷ []) = None
+command_of (word ∷ seed ∷ acts ∷ []) = command_of_three word seed acts
+command_of (word ∷ seed ∷ acts ∷ more ∷ words) = None
+
+-- a load has acts within its limits
+abbrev pub IsCommand : Command → Type 0
+IsCommand (Load seed acts) = (2 ≤ acts) × (acts ≤ MOST_LOADED)
+IsCommand c = Unit {0}

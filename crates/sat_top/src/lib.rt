@@ -2,6 +2,7 @@
 #![tactic(auto)]
 
 mod law;
+mod loading;
 mod memory;
 mod output;
 mod placing;

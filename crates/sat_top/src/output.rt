@@ -8,6 +8,7 @@ ghost use Rattle.sat_top.specs.Whole.{refusal, reads, run_status, IsOutput};
 ghost use Rattle.sat_top.specs.Contract.{most_taken};
 
 use crate::law::good_scripts;
+use crate::loading::load_output;
 use crate::placing::{place_of, place_wide_of};
 use crate::planning::plan_of;
 use crate::run::run_text;
@@ -30,7 +31,7 @@ impl From<AllocError> for Stop {
 
 // What the program says of itself.
 const HELP: &str =
-    "saturn: causal order between sites that keep some items each\n\nusage: saturn COMMAND < INPUT\n\n  run        reads a script, and writes the report of its run\n  plan       reads a table of delays as JSON, and writes a tree of serializers\n  place      reads the same with a given tree, and writes the best places of its serializers\n  --help     writes this text\n  --version  writes the version\n\nstatus: 0 done; 1 the input is refused, and the last line written says where; 2 no such command;\n        3 the input could not be read; 4 the output could not be written; 5 out of memory\n";
+    "saturn: causal order between sites that keep some items each\n\nusage: saturn COMMAND < INPUT\n\n  run          reads a script, and writes the report of its run\n  plan         reads a table of delays as JSON, and writes a tree of serializers\n  place        reads the same with a given tree, and writes the best places of its serializers\n  load SEED N  makes a script of N acts and six more, runs it, and writes a summary\n  --help       writes this text\n  --version    writes the version\n\nstatus: 0 done; 1 the input is refused, and the last line written says where; 2 no such command;\n        3 the input could not be read; 4 the output could not be written; 5 out of memory\n";
 
 const VERSION: &str = "saturn 0.1.0\n";
 
@@ -146,6 +147,10 @@ pub(crate) fn make_output<S: Source>(
         Some(Command::Run) => run(alloc, source),
         Some(Command::Plan) => plan(alloc, source),
         Some(Command::Place) => place(alloc, source),
+        Some(Command::Load { seed, acts }) => {
+            let output = load_output(alloc, seed, acts)?;
+            Ok(output)
+        }
         Some(Command::Help) => {
             let output = told(alloc, HELP)?;
             Ok(output)

@@ -241,3 +241,15 @@ pub const REPORTS: &[(&str, &str, &str)] = &[
         "line 7: BadTree\n",
     ),
 ];
+
+// Words, and the summary that they give. The numbers written and shown are those of another program.
+pub const SUMMARIES: &[(&str, &str)] = &[
+    (
+        "load 7 20000",
+        "load 7 20000\nwritten 172\nshown 294\nwaiting 0\nunderway 0\nviews 2 2 2 2 2\ndone\n",
+    ),
+    (
+        "load 7 100000",
+        "load 7 100000\nwritten 346\nshown 588\nwaiting 0\nunderway 0\nviews 2 2 2 2 2\ndone\n",
+    ),
+];

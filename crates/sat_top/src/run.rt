@@ -18,8 +18,8 @@ use sat_settle::settle;
 use sat_world::World;
 use std::alloc::{AllocError, Global};
 
-// Does an act: a settle by the acts that it stands for, any other by itself.
-fn do_act(world: &mut World, act: &Act) -> Result<Answer, AllocError>
+/// Does an act: a settle by the acts that it stands for, any other by itself.
+pub(crate) fn do_act(world: &mut World, act: &Act) -> Result<Answer, AllocError>
     requires { IsActOf world.old.deployment act.now }
     ensures does { IfOk result (λ answer. Does world.old act.now answer world.new) }
     ensures deployment { world.new.deployment ≡ world.old.deployment }

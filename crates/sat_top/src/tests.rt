@@ -1,5 +1,5 @@
 //! The program over sources and sinks in memory.
-use crate::rows::{ANSWERS, HEADER, REPORTS};
+use crate::rows::{ANSWERS, HEADER, REPORTS, SUMMARIES};
 use crate::{saturn, still, still_in_memory};
 use sat_label::{NodeId, Point, write_point};
 use sat_outside::{CleanSink, CleanSource, FreeGate, MemorySink, MemorySource, Source};
@@ -110,6 +110,17 @@ fn scripts_have_their_reports(rt: HostRuntime) -> Result<(), Fail> {
         let refused = !report.as_bytes().ends_with(b"done\n");
         assert_eq!(rt; status, u8::from(refused));
         assert_eq!(rt; sink.held(), report.as_bytes());
+    }
+    Ok(())
+}
+
+#[test]
+fn large_scripts_have_their_summaries(rt: HostRuntime) -> Result<(), Fail> {
+    let alloc = rt.alloc();
+    for (line, summary) in SUMMARIES {
+        let (status, sink) = ended(alloc, line, script(alloc, ACTS)?)?;
+        assert_eq!(rt; status, 0);
+        assert_eq!(rt; sink.held(), summary.as_bytes());
     }
     Ok(())
 }

@@ -1,6 +1,11 @@
 //! The words of a command.
-ghost use Rattle.std.specs.Prelude.{◌≡◌, [], ◌∷◌, map, string_bytes};
-ghost use Rattle.sat_top.specs.Words.{command_of};
+ghost use Rattle.std.specs.Prelude.{◌≡◌, ◌-◌, ◌^◌, [], ◌∷◌, map, string_bytes, IfSome};
+ghost use Rattle.sat_script.specs.Words.{number_up_to};
+ghost use Rattle.sat_settle.specs.declared.load_script.TheConstants.{MOST_LOADED};
+ghost use Rattle.sat_top.specs.Words.{command_named, load_of, command_of_three, command_of, IsCommand};
+
+use sat_script::number_up_to;
+use sat_settle::MOST_LOADED;
 
 /// What the program can do.
 #[derive(Clone, Copy, Debug, PartialEq, Eq)]
@@ -11,6 +16,8 @@ pub enum Command {
     Plan,
     /// Reads a table of delays and a tree, and writes the best places of its serializers.
     Place,
+    /// Makes a script of so many acts and six more, runs it and writes a summary.
+    Load { seed: u64, acts: u32 },
     /// Writes what the program can do.
     Help,
     /// Writes the program's version.
@@ -18,9 +25,10 @@ pub enum Command {
 }
 
 // The command of one word.
-#[tactic(auto, unfolding(crate::specs::Words::command_of))]
+#[tactic(auto, unfolding(crate::specs::Words::command_named))]
 fn command_named(word: &str) -> Option<Command>
-    ensures { result ≡ command_of (word.now ∷ []) }
+    ensures command { result ≡ command_named word.now }
+    ensures within { IfSome result (λ c. IsCommand c) }
 {
     match word {
         "run" => Some(Command::Run),
@@ -32,13 +40,49 @@ fn command_named(word: &str) -> Option<Command>
     }
 }
 
+// The load of two numbers.
+fn load_of(seed: &str, acts: &str) -> Option<Command>
+    ensures command { result ≡ load_of (number_up_to (2 ^ 64 - 1) seed.now) (number_up_to MOST_LOADED acts.now) }
+    ensures within { IfSome result (λ c. IsCommand c) }
+{
+    let Some(seed) = number_up_to(u64::MAX, seed.as_bytes()) else {
+        return None;
+    };
+    let Some(acts) = number_up_to(u64::from(MOST_LOADED), acts.as_bytes()) else {
+        return None;
+    };
+    if acts < 2 {
+        return None;
+    }
+    Some(Command::Load {
+        seed,
+        acts: acts as u32,
+    })
+}
+
+// The command of three words.
+#[tactic(auto, unfolding(crate::specs::Words::command_of_three))]
+fn command_of_three(word: &str, seed: &str, acts: &str) -> Option<Command>
+    ensures command { result ≡ command_of_three word.now seed.now acts.now }
+    ensures within { IfSome result (λ c. IsCommand c) }
+{
+    match word {
+        "load" => load_of(seed, acts),
+        _ => None,
+    }
+}
+
 /// The command that the words say, None where they are no command.
 #[tactic(auto, unfolding(crate::specs::Words::command_of))]
 pub(crate) fn command_of(words: &[String]) -> Option<Command>
-    ensures { result ≡ command_of (map string_bytes words.now) }
+    ensures command { result ≡ command_of (map string_bytes words.now) }
+    ensures within { IfSome result (λ c. IsCommand c) }
 {
     match words {
+        [] => None,
         [word] => command_named(word.as_str()),
-        _ => None,
+        [_, _] => None,
+        [word, seed, acts] => command_of_three(word.as_str(), seed.as_str(), acts.as_str()),
+        [_, _, _, _, ..] => None,
     }
 }
