@@ -1,24 +1,24 @@
 -- Acts that are handed out before the end, and what is read of any text.
-use Rattle.std.proofs.Common.{◌≡◌, ℕ, ◌+◌, ◌≤◌, ◌<◌, Bool, true, false, ltb, cond, List, [], ◌∷◌, ◌++◌, length, Option, Some, None, Result, Ok, Err, sym, ap, ◌∙◌, refl, subst, arith}
+use Rattle.std.proofs.Common.{◌≡◌, ℕ, ◌≤◌, Bool, true, false, ltb, List, [], ◌∷◌, length, Option, Some, None, Result, Ok, Err, sym, ap, ◌∙◌, refl, subst, arith}
 use Rattle.std.specs.Option.{IfSome}
 use Rattle.std.specs.List.{slice_split}
-use Rattle.std.proofs.lemmas.List.{append-nil, append_assoc, length-append}
+use Rattle.std.proofs.lemmas.List.{append-nil, append_assoc}
 use Rattle.std.proofs.lemmas.Bool.Decides.{nat_tests}
 use Rattle.sat_act.specs.declared.act.Act.{Act}
 use Rattle.sat_act.specs.Deployed.{Deployed}
 use Rattle.sat_act.specs.Limits.{IsDeployment}
 use Rattle.sat_script.specs.Dialect.{dialect_of, limits_of}
-use Rattle.sat_script.specs.Grammar.{line_at, close_at, close_in, after, is_ended, next_stage, with_parsed}
-use Rattle.sat_script.specs.Kept.{IsFit, IsWhole, HasHeader, HasSaid, AreWhole}
+use Rattle.sat_script.specs.Grammar.{line_at, close_at, close_in, after, is_ended}
+use Rattle.sat_script.specs.Kept.{IsFit, IsWhole, HasSaid, AreWhole}
 use Rattle.sat_script.specs.Laws.{IsSound}
-use Rattle.sat_script.specs.Reading.{reading, nothing, script_from, AreActsOf, with_line, told_line, stopped, bad, closed, after_line}
+use Rattle.sat_script.specs.Reading.{reading, nothing, script_from, AreActsOf, with_line, told_line, closed, after_line}
 use Rattle.sat_script.specs.Spelled.{HaveNames}
 use Rattle.sat_script.specs.State.{State, start}
 use Rattle.sat_script.specs.Stream.{WholeLines, Came, means, will_be, known_fault, kept, meaning, goes_on, onto_front, behind, without_acts, drained, LacksOnlyItsEnd}
 use Rattle.sat_script.specs.Words.{is_newline}
 use Rattle.sat_script.specs.declared.dialect.Dialect.{Dialect}
 use Rattle.sat_script.specs.declared.fault.Cause.{Cause}
-use Rattle.sat_script.specs.declared.fault.Cause.TheVariants.{NoEnd, LongLine}
+use Rattle.sat_script.specs.declared.fault.Cause.TheVariants.{NoEnd}
 use Rattle.sat_script.specs.declared.fault.ScriptFault.{ScriptFault}
 use Rattle.sat_script.specs.declared.limits.TheConstants.{LONGEST_LINE}
 use Rattle.sat_script.specs.declared.line.Line.{Line}

@@ -1,5 +1,5 @@
-use Rattle.std.proofs.Common.{ap, sym}
-use Rattle.sat_script.specs.Stream.{Came, WholeLines, means, without_acts, drained}
+use Rattle.std.proofs.Common.{ap}
+use Rattle.sat_script.specs.Stream.{Came, WholeLines}
 use Rattle.sat_script.proofs.Drained.{drained_script, drained_stays, drained_lacks}
 use Rattle.sat_script.proofs.stream.ScriptReader.drain.Goals as goal
 
