@@ -53,7 +53,7 @@ bad_stops old new line told cause e is none bad = record {
       ∙ sym (fresh old.seen (kept old.deployment old.acts) line (10 ∷ more) none);
 }
 
-whole_said : (dialect : Dialect) (here : Stage) (d : Deployed) (deployment : Option Deployed) (acts : List Act) → HasHeader here d → HasSaid dialect here d deployment acts → IfSome deployment (λ d. IsWhole d × AreActsOf d acts) × (deployment ≡ None → acts ≡ [])
+pub whole_said : (dialect : Dialect) (here : Stage) (d : Deployed) (deployment : Option Deployed) (acts : List Act) → HasHeader here d → HasSaid dialect here d deployment acts → IfSome deployment (λ d. IsWhole d × AreActsOf d acts) × (deployment ≡ None → acts ≡ [])
 whole_said dialect stage.Start d deployment acts kept h = (subst (λ (o : Option Deployed). IfSome o (λ d. IsWhole d × AreActsOf d acts)) (sym h.0) tt, λ _. h.1)
 whole_said dialect stage.Sites d deployment acts kept h = (subst (λ (o : Option Deployed). IfSome o (λ d. IsWhole d × AreActsOf d acts)) (sym h.0) tt, λ _. h.1)
 whole_said dialect stage.Gears d deployment acts kept h = (subst (λ (o : Option Deployed). IfSome o (λ d. IsWhole d × AreActsOf d acts)) (sym h.0) tt, λ _. h.1)

@@ -30,3 +30,4 @@ pub mod Faulty
 pub mod NoTree
 pub mod Once
 pub mod FirstWords
+pub mod Drained

@@ -1,11 +1,12 @@
 -- What readers keep of a script of which a front has come.
-use Rattle.std.specs.Prelude.{ℕ, ◌≡◌, ◌≤◌, ◌<◌, List, [], length, Some, None, IfSome}
+use Rattle.std.specs.Prelude.{ℕ, ◌≡◌, ◌≤◌, ◌<◌, true, List, [], length, Some, None, IfSome}
 use Rattle.std.specs.declared.option.Option.{Option}
 use Rattle.sat_label.specs.Words.{first_failing}
 use Rattle.sat_act.specs.declared.act.Act.{Act}
 use Rattle.sat_act.specs.Deployed.{Deployed}
 use Rattle.sat_act.specs.Flaw.{flaw, item_fits, client_fits, plan_fits}
 use Rattle.sat_act.specs.Limits.{IsDeployment, HaveTrees}
+use Rattle.sat_script.specs.Grammar.{is_ended}
 use Rattle.sat_script.specs.Reading.{AreActsOf, AreAllowed}
 use Rattle.sat_script.specs.Spelled.{HaveNames}
 use Rattle.sat_script.specs.Stream.{WholeLines}
@@ -78,7 +79,8 @@ pub record AreWhole (l : WholeLines) : Type 0 where
   pub few : length l.acts ≤ l.seen.state.acts
   pub said : l.seen.fault ≡ None → HasSaid l.seen.state.dialect l.seen.state.stage l.seen.state.header l.deployment l.acts
 
--- a reader of pieces: the line that has begun isn't too long
+-- a reader of pieces: the line that has begun isn't too long, and doesn't stand behind the end
 pub record IsComing (l : WholeLines) (begun : List ℕ) : Type 0 where
   pub fit : IsFit l.seen.state
   pub short : length begun ≤ LONGEST_LINE
+  pub ended : is_ended l.seen.state.stage ≡ true → begun ≡ []

@@ -1,5 +1,5 @@
 -- What a reader of pieces shows.
-use Rattle.std.specs.Prelude.{ℕ, ◌≡◌, ◌≢◌, ◌≤◌, ◌+◌, ◌-◌, ◌*◌, List, [], ◌∷◌, ◌++◌, length, ◌&&◌, nat_lt, Some, None, Ok, Err, MatchResult, if◌then◌else◌}
+use Rattle.std.specs.Prelude.{ℕ, ◌≡◌, ◌≢◌, ◌≤◌, ◌+◌, ◌-◌, ◌*◌, List, [], ◌∷◌, ◌++◌, length, ◌&&◌, nat_lt, Some, None, Ok, Err, IfSome, MatchResult, if◌then◌else◌}
 use Rattle.std.specs.declared.option.Option.{Option}
 use Rattle.std.specs.declared.result.Result.{Result}
 use Rattle.std.specs.List.{slice_split}
@@ -10,7 +10,7 @@ use Rattle.sat_script.specs.Reading.{script_from, stopped}
 use Rattle.sat_script.specs.State.{State, Seen, number_of}
 use Rattle.sat_script.specs.Words.{is_newline}
 use Rattle.sat_script.specs.declared.fault.Cause.{Cause}
-use Rattle.sat_script.specs.declared.fault.Cause.TheVariants.{Memory, AfterEnd, LongLine}
+use Rattle.sat_script.specs.declared.fault.Cause.TheVariants.{Memory, AfterEnd, LongLine, NoEnd}
 use Rattle.sat_script.specs.declared.fault.ScriptFault.{ScriptFault}
 use Rattle.sat_script.specs.declared.stream.Reading.{Reading}
 use Rattle.sat_script.specs.declared.limits.TheConstants.{LONGEST_LINE, LINE_BYTES}
@@ -74,6 +74,23 @@ bytes_before l = LINE_BYTES * (number_of l.seen.state - 1)
 unfoldable pub bytes_of : Came → ℕ
 unfolding number_of
 bytes_of r = bytes_before r.lines + length r.begun
+
+-- ---- acts that are handed out before the end
+
+-- a reading with these acts before its own
+abbrev pub behind : List Act → Reading → Reading
+behind acts r = record { deployment = r.deployment; acts = acts ++ r.acts; fault = r.fault }
+
+-- the same lines, once the acts were handed out that they said
+abbrev pub without_acts : WholeLines → WholeLines
+without_acts l = record { seen = l.seen; deployment = l.deployment; acts = [] }
+
+abbrev pub drained : Came → Came
+drained r = record { lines = without_acts r.lines; begun = r.begun }
+
+-- the text lacks nothing but its end, if that: none of its whole lines is bad
+abbrev pub LacksOnlyItsEnd : Reading → Type 0
+LacksOnlyItsEnd r = IfSome r.fault (λ fault. fault.cause ≡ NoEnd)
 
 -- ---- a whole line
 

@@ -32,6 +32,6 @@ pub use limits::{
 pub use line::Line;
 pub use number::number_up_to;
 pub use reader::Reader;
-pub use script::{Script, one_spelling, read_script};
+pub use script::{Script, one_spelling, read_script, sound_readings};
 pub use stream::{Reading, ScriptReader};
 pub use write::write_script;

@@ -1,5 +1,5 @@
 //! The whole lines of a script, one after another.
-ghost use Rattle.std.specs.Prelude.{◌≡◌, ◌≤◌, ◌↔◌, IsTrue, length, [], None, IfSome, MatchResult};
+ghost use Rattle.std.specs.Prelude.{◌≡◌, ◌≤◌, ◌↔◌, ℕ, List, IsTrue, length, [], None, Some, IfSome, MatchResult};
 ghost use Rattle.sat_act.specs.Limits.{IsDeployment};
 ghost use Rattle.sat_script.specs.Kept.{IsFit};
 ghost use Rattle.sat_script.specs.Lines.{running};
@@ -7,7 +7,8 @@ ghost use Rattle.sat_script.specs.Reading.{AreActsOf, fault_at};
 ghost use Rattle.sat_script.specs.Spelled.{HaveNames};
 ghost use Rattle.sat_script.specs.Dialect.{dialect_of};
 ghost use Rattle.sat_script.specs.State.{start};
-ghost use Rattle.sat_script.specs.Stream.{means, stopped_at, GoesOn, StopsAt};
+ghost use Rattle.sat_act.specs.Deployed.{Deployed};
+ghost use Rattle.sat_script.specs.Stream.{means, stopped_at, without_acts, GoesOn, StopsAt};
 
 use crate::limits::MOST_ACTS;
 use crate::line::Stage;
@@ -15,6 +16,7 @@ use crate::{Cause, Reader, Reading, ScriptFault};
 use sat_act::{Acts, Deployment};
 use std::alloc::Global;
 use std::marker::Model;
+use std::mem;
 
 /// The whole lines of a script so far, and what they said.
 #[derive(Drop)]
@@ -89,6 +91,26 @@ impl Lines {
         };
         self.reader
             .keep_in(parsed, &mut self.deployment, &mut self.acts)
+    }
+
+    /// The deployment, once the line `begin` has come.
+    pub fn deployment(&self) -> &Option<Deployment>
+        ensures { result.now ≡ self.now.deployment }
+    {
+        &self.deployment
+    }
+
+    /// Hands out the acts that came since the last call. It takes no memory.
+    pub fn drain(&mut self) -> Acts
+        ensures acts { result ≡ self.old.acts }
+        ensures rest { self.new ≡ without_acts self.old }
+        ensures sound { IfSome self.old.deployment (λ d. IsDeployment d × HaveNames d × AreActsOf d result) }
+        ensures none { self.old.deployment ≡ None → result ≡ [] }
+        // A deployment that is known stays, whatever comes.
+        ensures stays { (d : Deployed) (begun more : List ℕ) → self.old.deployment ≡ Some d → (means self.new begun more).deployment ≡ Some d }
+    {
+        let none = Acts::new(self.reader.allocator());
+        mem::replace(&mut self.acts, none)
     }
 
     /// What the text is that came, where these bytes, none of them 10, stood after the last line. It takes no memory.

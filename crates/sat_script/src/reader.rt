@@ -129,6 +129,11 @@ impl Reader {
         self.fault
     }
 
+    // The allocator that it keeps.
+    pub(crate) fn allocator(&self) -> Global {
+        self.alloc
+    }
+
     /// Whether the line `end` has come.
     pub fn has_ended(&self) -> bool
         ensures { IsTrue result ↔ (self.now.state.stage ≡ Stage.Ended) }

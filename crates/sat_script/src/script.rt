@@ -2,7 +2,7 @@
 ghost use Rattle.std.specs.Prelude.{◌≡◌, ◌≢◌, ℕ, Bool, List, IfOk, IfErr, Some, None};
 ghost use Rattle.sat_act.specs.declared.act.Act.{Act};
 ghost use Rattle.sat_act.specs.Deployed.{Deployed};
-ghost use Rattle.sat_script.specs.Laws.{IsRead, ActsAreSpelled, ActsAreRead};
+ghost use Rattle.sat_script.specs.Laws.{IsRead, IsSound, ActsAreSpelled, ActsAreRead};
 ghost use Rattle.sat_script.specs.Reading.{reading, good, IsAllowed};
 ghost use Rattle.sat_script.specs.Spelled.{Spells};
 
@@ -24,6 +24,12 @@ pub fn one_spelling()
     ensures found { (live : Bool) (text : List ℕ) (d : Deployed) (acts : List Act) → Spells text d acts → IsAllowed live d acts → reading live text ≡ good d acts }
     ensures acts_spelled { ActsAreSpelled }
     ensures acts_read { ActsAreRead }
+{}
+
+/// What is read of any text, also of one with a fault, is a deployment within its limits and acts of it, no more than there may be; and
+/// no acts where there is no deployment.
+pub fn sound_readings()
+    ensures { (live : Bool) (text : List ℕ) → IsSound live (reading live text) }
 {}
 
 /// The script that a text spells, or the fault of its first bad line.

@@ -1,9 +1,10 @@
 //! A reader that takes a script in pieces.
-ghost use Rattle.std.specs.Prelude.{◌≡◌, ◌≢◌, ℕ, ◌+◌, ◌≤◌, true, List, [], ◌∷◌, ◌++◌, length, None, IfSome, IfErr, OnOk, OnErr};
+ghost use Rattle.std.specs.Prelude.{◌≡◌, ◌≢◌, ℕ, ◌+◌, ◌≤◌, true, List, [], ◌∷◌, ◌++◌, length, None, Some, IfSome, IfErr, OnOk, OnErr};
 ghost use Rattle.sat_script.specs.Reading.{reading, UnlessMemory, AreActsOf};
 ghost use Rattle.sat_script.specs.Words.{HasNo};
 ghost use Rattle.sat_script.specs.Spelled.{HaveNames};
 ghost use Rattle.sat_act.specs.Limits.{IsDeployment};
+ghost use Rattle.sat_act.specs.Deployed.{Deployed};
 
 use crate::limits::{LONGEST_LINE, MOST_ACTS, MOST_BYTES};
 use crate::lines::Lines;
@@ -40,7 +41,7 @@ impl Model for ScriptReader {
 }
 
 impl ScriptReader {
-    ghost use Rattle.sat_script.specs.Stream.{will_be, known_fault, Knows, bytes_of, line_of, stuck_with, TakesPiece};
+    ghost use Rattle.sat_script.specs.Stream.{will_be, known_fault, Knows, bytes_of, line_of, stuck_with, TakesPiece, behind, drained, LacksOnlyItsEnd};
 
     /// A reader at the beginning of a script.
     pub fn new(alloc: Global, live: bool) -> ScriptReader
@@ -143,6 +144,29 @@ impl ScriptReader {
         // The bound holds by what a reader keeps, so it is named.
         let _ = &self.begun;
         taken
+    }
+
+    /// The deployment, once the line `begin` has come.
+    pub fn deployment(&self) -> &Option<Deployment>
+        ensures { result.now ≡ self.now.lines.deployment }
+    {
+        self.lines.deployment()
+    }
+
+    /// Hands out the acts that came since the last call, so that they need not be kept until the end. It takes no memory.
+    pub fn drain(&mut self) -> Acts
+        ensures acts { result ≡ self.old.lines.acts }
+        ensures rest { self.new ≡ drained self.old }
+        // However the text goes on, it is these acts and then what will be read.
+        ensures script { (more : List ℕ) → will_be self.old more ≡ behind result (will_be self.new more) }
+        ensures sound { IfSome self.old.lines.deployment (λ d. IsDeployment d × HaveNames d × AreActsOf d result) }
+        ensures none { self.old.lines.deployment ≡ None → result ≡ [] }
+        // A deployment that is known stays, whatever comes.
+        ensures stays { (d : Deployed) (more : List ℕ) → self.old.lines.deployment ≡ Some d → (will_be self.new more).deployment ≡ Some d }
+        // While no fault is known, none of the whole lines is bad.
+        ensures lacks { known_fault self.old ≡ None → LacksOnlyItsEnd (will_be self.new []) }
+    {
+        self.lines.drain()
     }
 
     /// What the text is that came, at its end.
