@@ -1,0 +1,4 @@
+pub mod Layout
+pub mod Acts
+pub mod Sites
+pub mod Plain
