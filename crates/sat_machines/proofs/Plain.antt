@@ -1,10 +1,9 @@
 -- Answers of a site that hold no list.
-use Rattle.std.proofs.Common.{◌≡◌, ℕ, Bool, true, false, refl, Option, Some, None, List}
+use Rattle.std.proofs.Common.{◌≡◌, ℕ, Bool, true, false, refl, Option, Some, None}
 use Rattle.sat_label.specs.declared.label.Label.{Label}
 use Rattle.sat_label.specs.declared.label.Kind.{Kind}
 use Rattle.sat_label.specs.declared.label.Kind.TheVariants as kind
 use Rattle.sat_label.specs.declared.carried.Carried.{Carried}
-use Rattle.sat_beat.specs.declared.Beat.{Beat}
 use Rattle.sat_beat.specs.declared.beats.BeatTake.{BeatTake}
 use Rattle.sat_beat.specs.declared.beats.BeatTake.TheVariants as came
 use Rattle.sat_epoch.specs.declared.views.AdvanceFault.{AdvanceFault}
@@ -16,7 +15,6 @@ use Rattle.sat_epoch.specs.declared.views.FallFault.TheVariants as fall
 use Rattle.sat_epoch.specs.Epochs.{close_fault, fall_fault, advance_fault}
 use Rattle.sat_gear.specs.Gear.{GearSeen, is_spent, stamped}
 use Rattle.sat_sink.specs.Sink.{ready_of}
-use Rattle.sat_act.specs.declared.answer.Answer.{Answer}
 use Rattle.sat_proxy.specs.declared.proxy.TurnFault.{TurnFault}
 use Rattle.sat_proxy.specs.declared.proxy.TurnFault.TheVariants as turn
 use Rattle.sat_proxy.specs.declared.proxy.StampFault.{StampFault}
@@ -32,7 +30,7 @@ use Rattle.sat_proxy.specs.Asks.{may_come_at}
 use Rattle.sat_bulk.specs.Windows.{has_number}
 use Rattle.sat_site.specs.Changes.{gear_at}
 use Rattle.sat_machines.specs.Plain.{is_plain, is_spare}
-use Rattle.std.proofs.Common.{if◌then◌else◌, slice_get, ◌==◌, ◌<◌, ◌&&◌, not}
+use Rattle.std.proofs.Common.{if◌then◌else◌, slice_get, ◌==◌, ◌<◌, not}
 use Rattle.sat_act.specs.declared.answer.Answer.TheVariants as ans
 use Rattle.sat_act.specs.declared.answer.Refusal.TheVariants as why
 use Rattle.sat_site.specs.SiteSteps.{keeps_item, site_after}

@@ -1,11 +1,10 @@
 -- What a site gives is what its machine means.
-use Rattle.std.proofs.Common.{◌≡◌, ◌∙◌, ℕ, ◌≤◌, ◌<◌, ◌-◌, Bool, true, false, refl, sym, ap, Option, Some, None, List, get_or, map, subst, ◌&&◌, nat_lt, is_none, [], ◌∷◌, length, not, ◌==◌, zero, suc, arith}
+use Rattle.std.proofs.Common.{◌≡◌, ◌∙◌, ℕ, ◌≤◌, ◌<◌, true, refl, sym, ap, Option, Some, None, List, get_or, map, subst, is_none, [], ◌∷◌, length, zero, suc, arith}
 use Rattle.std.proofs.lemmas.Bool.{and_parts}
 use Rattle.sat_machines.proofs.Plain.{beat_fits}
 use Rattle.sat_label.specs.declared.label.Label.{Label}
-use Rattle.sat_beat.specs.declared.Beat.{Beat}
 use Rattle.sat_sites.specs.declared.shape.Shape.{Shape}
-use Rattle.sat_epoch.specs.Epochs.{Epochs, close_fault, is_stamp}
+use Rattle.sat_epoch.specs.Epochs.{close_fault, is_stamp}
 use Rattle.sat_epoch.specs.declared.views.CloseFault.{CloseFault}
 use Rattle.sat_epoch.specs.declared.views.CloseFault.TheVariants as close
 use Rattle.sat_sink.specs.Sink.{ready_of}
@@ -14,14 +13,13 @@ use Rattle.sat_act.specs.Deployed.{Deployed}
 use Rattle.sat_act.specs.Limits.{IsDeployment}
 use Rattle.sat_act.specs.Parts.{tree_of}
 use Rattle.sat_machine.specs.State.{SiteState}
-use Rattle.sat_machine.specs.Fits.{fits}
 use Rattle.sat_machine.specs.Next.{note_of as machine_note}
 use Rattle.sat_proxy.specs.Proxy.{note_of}
 use Rattle.sat_site.specs.declared.input.SiteInput.{SiteInput}
 use Rattle.sat_site.specs.declared.input.SiteInput.TheVariants as input
-use Rattle.sat_site.specs.Changes.{beat_for, count_to, shape_for}
+use Rattle.sat_site.specs.Changes.{beat_for, count_to}
 use Rattle.sat_site.specs.Gives.{label_sent}
-use Rattle.sat_site.specs.Inputs.{fits_in, fits_here, input_of, is_other_here, is_site_here, is_sized}
+use Rattle.sat_site.specs.Inputs.{fits_in, is_sized}
 use Rattle.sat_site.specs.Laws.{EachStep, EachFits}
 use Rattle.sat_site.specs.Seen.{SiteSeen, IsSite}
 use Rattle.sat_site.specs.SiteSteps.{site_answers, site_beat, site_epoch, site_sends, emit_sends, emit_answer, pulse_answer, close_answer, next_pulse, next_close, sent_epoch}
@@ -32,7 +30,7 @@ use Rattle.sat_machines.specs.Acts.{ActSeen, IsBy}
 use Rattle.sat_machines.specs.Layout.{label_link}
 use Rattle.sat_label.specs.declared.node.NodeName.{NodeName}
 use Rattle.sat_label.specs.declared.node.NodeName.TheVariants as named
-use Rattle.sat_machines.specs.Sites.{number_of, Stands, AnswersAt, FitsAt, BeatBy, IsBeat, leaves, sent_by, epoch_by, keepers_of}
+use Rattle.sat_machines.specs.Sites.{number_of, Stands, AnswersAt, FitsAt, BeatBy, leaves, sent_by, epoch_by, keepers_of}
 
 -- ---- what is sent
 

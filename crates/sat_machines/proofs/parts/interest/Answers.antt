@@ -1,4 +1,4 @@
-use Rattle.std.proofs.Common.{map, ap, ◌∙◌}
+use Rattle.std.proofs.Common.{◌∙◌}
 use Rattle.sat_site.proofs.Sets.{never-bad}
 use Rattle.sat_machines.proofs.parts.interest.Goals as goal
 

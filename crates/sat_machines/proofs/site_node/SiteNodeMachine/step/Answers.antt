@@ -1,4 +1,4 @@
-use Rattle.std.proofs.Common.{◌∙◌, ap, sym, subst}
+use Rattle.std.proofs.Common.{◌∙◌, ap}
 use Rattle.sat_machines.specs.Acts.{ActSeen}
 use Rattle.sat_site.specs.SiteSteps.{site_answers, site_beat, site_epoch, site_sends}
 use Rattle.sat_machines.specs.Layout.{label_link}
