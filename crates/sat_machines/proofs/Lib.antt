@@ -1,3 +1,4 @@
 pub mod Plain
 pub mod Peers
 pub mod Replies
+pub mod Serials
