@@ -1,5 +1,5 @@
 -- Which labels a serializer may be handed, and what it answers.
-use Rattle.std.proofs.Common.{◌≡◌, ◌∙◌, ℕ, ◌<◌, ◌&&◌, ◌||◌, Bool, true, false, refl, sym, ap, subst, List, length, Option, Some, None, nat_lt}
+use Rattle.std.proofs.Common.{◌≡◌, ◌∙◌, ℕ, ◌&&◌, ◌||◌, Bool, true, false, refl, sym, ap, subst, List, length, nat_lt}
 use Rattle.std.proofs.lemmas.Bool.{and_parts, ltb-true}
 use Rattle.sat_label.specs.declared.label.Label.{Label}
 use Rattle.sat_label.specs.declared.label.Kind.{Kind}
@@ -9,7 +9,7 @@ use Rattle.sat_label.specs.declared.node.NodeId.TheVariants.{Site, Serializer}
 use Rattle.sat_sites.specs.Interested.{Interested, IsLabelOf, IsKindOf}
 use Rattle.sat_tree.specs.Shape.{TreeShape}
 use Rattle.sat_tree.specs.Cut.{is_edge, hangs_on, neighbours, IsNode}
-use Rattle.sat_serial.specs.Routes.{leads, Arrives, IsNeighbour}
+use Rattle.sat_serial.specs.Routes.{leads, Arrives}
 use Rattle.sat_serial.specs.Routes.{routes}
 use Rattle.sat_serial.specs.Outboxes.{SerializerSeen}
 use Rattle.sat_label.specs.declared.node.NodeName.{NodeName}
