@@ -2,3 +2,4 @@ pub mod Plain
 pub mod Peers
 pub mod Replies
 pub mod Serials
+pub mod Worked
