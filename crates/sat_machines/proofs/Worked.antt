@@ -6,7 +6,7 @@ use Rattle.sat_act.specs.Deployed.{Deployed}
 use Rattle.sat_tree.specs.Shape.{TreeShape}
 use Rattle.sat_machines.specs.Layout.{out_places, in_places, label_link}
 
-two : Deployed
+abbrev two : Deployed
 two = record { sites = 2; gears = 1; items = []; clients = []; plans = plan.Stamp ∷ plan.Tree (record { parents = None ∷ []; seats = 0 ∷ 0 ∷ [] }) ∷ [] }
 
 first-out : out_places two (named.Site 0) ≡ 0 ∷ 1 ∷ []

@@ -78,12 +78,14 @@ place_of d l = unwrap_or (position (link_eq l) (all_links d)) 0
 
 -- the places of the links out of a node, and of those into it, in the same order
 unfoldable pub out_places : Deployed → NodeName → List ℕ
+unfolding neighbours seat_of
 out_places d name = map (place_of d) (links_of d name)
 
 abbrev pub place_back : Deployed → Link → ℕ
 place_back d l = place_of d (turned l)
 
 unfoldable pub in_places : Deployed → NodeName → List ℕ
+unfolding neighbours seat_of
 in_places d name = map (place_back d) (links_of d name)
 
 -- the number of the end for each epoch's tree, from the end of this number on. An epoch without a tree has that of the next one
