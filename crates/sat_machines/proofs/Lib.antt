@@ -1,0 +1,5 @@
+pub mod Plain
+pub mod Peers
+pub mod Replies
+pub mod Serials
+pub mod Worked
