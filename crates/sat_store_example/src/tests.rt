@@ -1,0 +1,324 @@
+//! A store of three sites, as its builder would run it: each process holds a replica or a relay, and the code below carries their
+//! messages. Labels stay in order on each link; payloads are late.
+ghost use Rattle.std.specs.Prelude.{◌≡◌, length, IfOk};
+
+use crate::{Relay, RelayFault, Replica, ReplicaFault};
+use sat_act::{Answer, ClientLine, Deployment, Item, Plan, Refusal};
+use sat_client::Client;
+use sat_label::{Kind, Label, Name, NodeId, Nodes, Point, SiteSet, Value};
+use sat_queue::Queue;
+use sat_site::SiteInput;
+use sat_sites::Interest;
+use sat_tree::Tree;
+use std::alloc::Global;
+use std::process::Abort;
+use std::test::Fail;
+
+const PHOTO: u16 = 0;
+
+const ALBUM: u16 = 1;
+// The photo is kept at the sites 0 and 1, the album at 1 and 2.
+const PHOTO_AT: SiteSet = SiteSet { bits: 3 };
+
+const ALBUM_AT: SiteSet = SiteSet { bits: 6 };
+
+fn item(alloc: Global, name: &[u8], replicas: SiteSet) -> Result<Item, Fail> {
+    let name = Name::of(alloc, name)?.ok_or("no name")?;
+    Ok(Item { name, replicas })
+}
+
+fn items(alloc: Global) -> Result<Vec<Item>, Fail> {
+    let mut items = Vec::new(alloc);
+    items.push(item(alloc, b"photo", PHOTO_AT)?)?;
+    items.push(item(alloc, b"album", ALBUM_AT)?)?;
+    Ok(items)
+}
+
+// Every process knows the deployment: three sites of one gear, and one tree.
+fn deployment(alloc: Global, tree: &Tree) -> Result<Deployment, Fail>
+    ensures { IfOk result (λ d. d.sites ≡ 3) }
+{
+    let items = items(alloc)?;
+    let mut plans = Vec::new(alloc);
+    plans.push(Plan::Tree(tree.copy()?))?;
+    let clients: Vec<ClientLine> = Vec::new(alloc);
+    let deployment = Deployment::new(alloc, 3, 1, items, clients, plans)?;
+    Ok(deployment)
+}
+
+// The sites 0 and 1 hang on relay 0, and site 2 on relay 1.
+fn tree(alloc: Global) -> Result<Tree, Fail>
+    ensures parents { IfOk result (λ tree. length tree.parents ≡ 2) }
+    ensures seats { IfOk result (λ tree. length tree.seats ≡ 3) }
+{
+    let tree = Tree::new(alloc, &[None, Some(0)], &[0, 0, 1])?;
+    Ok(tree)
+}
+
+fn interest(alloc: Global) -> Result<Interest, Fail>
+    ensures { IfOk result (λ interest. interest.sites ≡ 3) }
+{
+    let interest = Interest::new(alloc, 3, &[PHOTO_AT, ALBUM_AT])?;
+    Ok(interest)
+}
+
+// The processes, and the links from the sites 0 and 1 to their relay. The links that a relay leads to are its outboxes.
+#[derive(Drop)]
+struct Store {
+    zero: Replica,
+    one: Replica,
+    two: Replica,
+    root: Relay,
+    leaf: Relay,
+    from_zero: Queue<Label>,
+    from_one: Queue<Label>,
+}
+
+fn fresh_store(alloc: Global) -> Result<Store, Fail> {
+    let tree = tree(alloc)?;
+    let interest = interest(alloc)?;
+    let d = deployment(alloc, &tree)?;
+    Ok(Store {
+        zero: Replica::new(alloc, &d, 0)?,
+        one: Replica::new(alloc, &d, 1)?,
+        two: Replica::new(alloc, &d, 2)?,
+        root: Relay::new(alloc, &tree, &interest, 0)?,
+        leaf: Relay::new(alloc, &tree, &interest, 1)?,
+        from_zero: Queue::new(alloc),
+        from_one: Queue::new(alloc),
+    })
+}
+
+// A label goes up: it leaves its link once the relay has it, so that none is lost.
+fn go_up(link: &mut Queue<Label>, site: u16, relay: &mut Relay) -> Result<Nodes, Fail> {
+    let label = link.front().ok_or("an empty link")?;
+    let nodes = relay
+        .accept(NodeId::Site(site), label)
+        .map_err(|_| "not handed on")?;
+    link.take();
+    Ok(nodes)
+}
+
+// A label goes from the root to the leaf.
+fn go_on(root: &mut Relay, leaf: &mut Relay) -> Result<Nodes, Fail> {
+    let label = root.ship(NodeId::Serializer(1)).ok_or("an empty link")?;
+    let nodes = leaf
+        .accept(NodeId::Serializer(0), label)
+        .map_err(|_| "not handed on")?;
+    Ok(nodes)
+}
+
+// A label goes down to a site.
+fn go_down(relay: &mut Relay, site: u16, replica: &mut Replica) -> Result<(), Fail> {
+    let label = relay.ship(NodeId::Site(site)).ok_or("an empty link")?;
+    replica.arrive(label).map_err(|_| "no room")?;
+    Ok(())
+}
+
+// The first payload that a site made for another one comes there.
+fn bring(from: u16, sender: &Replica, to: u16, receiver: &mut Replica) -> Result<Said, Fail> {
+    let payload = sender.payload(0, to, 0).ok_or("no payload")?.copy()?;
+    let out = receiver
+        .hand(SiteInput::Bulk {
+            from,
+            gear: 0,
+            number: 0,
+            payload,
+        })
+        .map_err(|_| "not taken")?;
+    Ok(short(&out.answer))
+}
+
+fn gather(replica: &mut Replica) -> Result<Said, Fail> {
+    let out = replica.hand(SiteInput::Gather).map_err(|_| "not gathered")?;
+    Ok(short(&out.answer))
+}
+
+fn emit(replica: &mut Replica, link: &mut Queue<Label>) -> Result<Said, Fail> {
+    let answer = replica.send(SiteInput::Emit, link).map_err(|_| "no room")?;
+    Ok(short(&answer))
+}
+
+fn show(replica: &mut Replica) -> Result<Said, Fail> {
+    let answer = replica.show().map_err(|_| "not shown")?;
+    Ok(short(&answer))
+}
+
+fn attach(replica: &mut Replica, client: &mut Client) -> Result<Said, Fail> {
+    let answer = replica.attach(client).map_err(|_| "not asked")?;
+    Ok(short(&answer))
+}
+
+fn write(
+    alloc: Global,
+    replica: &mut Replica,
+    client: &mut Client,
+    item: u16,
+    text: &[u8],
+) -> Result<Said, Fail> {
+    let value = Value::of(alloc, text)?.ok_or("no value")?;
+    let answer = replica
+        .write(client, item, value)
+        .map_err(|_| "not written")?;
+    Ok(short(&answer))
+}
+
+// Whether a client reads a text.
+fn reads(replica: &mut Replica, client: &mut Client, item: u16, text: &[u8]) -> Result<bool, Fail> {
+    let answer = replica.read(client, item).map_err(|_| "not read")?;
+    Ok(match &answer {
+        Answer::ReadSome { value, .. } => value.bytes() == text,
+        _ => false,
+    })
+}
+
+// What an answer says, in short.
+#[derive(Clone, Copy, Debug, PartialEq, Eq)]
+enum Said {
+    Wrote(Label),
+    Moved(Label),
+    Gathered(u64, u64),
+    Emitted(Label),
+    Brought(Label),
+    Shown(Label),
+    Took(Label),
+    Attached,
+    Refused(Refusal),
+    Other,
+}
+
+fn short(answer: &Answer) -> Said {
+    match answer {
+        Answer::Wrote(label) => Said::Wrote(*label),
+        Answer::Moved(label) => Said::Moved(*label),
+        Answer::Gathered { labels, stable } => Said::Gathered(*labels, *stable),
+        Answer::Emitted(label) => Said::Emitted(*label),
+        Answer::Brought(label) => Said::Brought(*label),
+        Answer::Shown(label) => Said::Shown(*label),
+        Answer::Took(label) => Said::Took(*label),
+        Answer::Attached => Said::Attached,
+        Answer::Refused(refusal) => Said::Refused(*refusal),
+        _ => Said::Other,
+    }
+}
+
+fn label(ts: u64, site: u16, kind: Kind) -> Label {
+    Label {
+        point: Point { ts, site, gear: 0 },
+        kind,
+    }
+}
+
+// Ann writes a photo at site 0 and goes to site 1, which lets her in once the photo is there.
+fn ann_moves(
+    rt: &impl Abort,
+    alloc: Global,
+    store: &mut Store,
+    ann: &mut Client,
+) -> Result<(), Fail> {
+    let photo = label(1, 0, Kind::Update(PHOTO));
+    let leaving = label(2, 0, Kind::Move(1));
+    let wrote = write(alloc, &mut store.zero, ann, PHOTO, b"beach")?;
+    assert_eq!(rt; wrote, Said::Wrote(photo));
+    let moved = store.zero.migrate(ann, 1).map_err(|_| "not moved")?;
+    assert_eq!(rt; short(&moved), Said::Moved(leaving));
+    assert_eq!(rt;
+        attach(&mut store.one, ann)?,
+        Said::Refused(Refusal::NotYet)
+    );
+
+    // Both labels go up and down; the payload is late.
+    assert_eq!(rt; gather(&mut store.zero)?, Said::Gathered(2, 2));
+    assert_eq!(rt;
+        emit(&mut store.zero, &mut store.from_zero)?,
+        Said::Emitted(photo)
+    );
+    assert_eq!(rt;
+        emit(&mut store.zero, &mut store.from_zero)?,
+        Said::Emitted(leaving)
+    );
+    for _ in 0..2usize {
+        let nodes = go_up(&mut store.from_zero, 0, &mut store.root)?;
+        assert_eq!(rt; nodes.as_slice(), [NodeId::Site(1)].as_slice());
+        go_down(&mut store.root, 1, &mut store.one)?;
+    }
+    assert_eq!(rt;
+        show(&mut store.one)?,
+        Said::Refused(Refusal::NoPayload(photo))
+    );
+    assert_eq!(rt;
+        attach(&mut store.one, ann)?,
+        Said::Refused(Refusal::NotYet)
+    );
+
+    assert_eq!(rt;
+        bring(0, &store.zero, 1, &mut store.one)?,
+        Said::Brought(photo)
+    );
+    assert_eq!(rt; show(&mut store.one)?, Said::Shown(photo));
+    assert_eq!(rt; show(&mut store.one)?, Said::Took(leaving));
+    assert_eq!(rt; attach(&mut store.one, ann)?, Said::Attached);
+    assert!(rt; reads(&mut store.one, ann, PHOTO, b"beach")?);
+    Ok(())
+}
+
+// There she writes into the album, which Bob reads at site 2, two relays away. Her write comes after all that she saw.
+fn bob_reads(
+    rt: &impl Abort,
+    alloc: Global,
+    store: &mut Store,
+    ann: &mut Client,
+) -> Result<(), Fail> {
+    let album = label(3, 1, Kind::Update(ALBUM));
+    let wrote = write(alloc, &mut store.one, ann, ALBUM, b"beach.jpg")?;
+    assert_eq!(rt; wrote, Said::Wrote(album));
+    assert_eq!(rt; gather(&mut store.one)?, Said::Gathered(1, 3));
+    assert_eq!(rt;
+        emit(&mut store.one, &mut store.from_one)?,
+        Said::Emitted(album)
+    );
+    let nodes = go_up(&mut store.from_one, 1, &mut store.root)?;
+    assert_eq!(rt; nodes.as_slice(), [NodeId::Serializer(1)].as_slice());
+    let nodes = go_on(&mut store.root, &mut store.leaf)?;
+    assert_eq!(rt; nodes.as_slice(), [NodeId::Site(2)].as_slice());
+    go_down(&mut store.leaf, 2, &mut store.two)?;
+    assert_eq!(rt;
+        bring(1, &store.one, 2, &mut store.two)?,
+        Said::Brought(album)
+    );
+    assert_eq!(rt; show(&mut store.two)?, Said::Shown(album));
+    let mut bob = Client::new(2);
+    assert!(rt; reads(&mut store.two, &mut bob, ALBUM, b"beach.jpg")?);
+    Ok(())
+}
+
+// What a message or a client says wrongly is refused, and a killed relay hands nothing on.
+fn faults_are_told(rt: &impl Abort, store: &mut Store) -> Result<(), Fail> {
+    let mut bob = Client::new(2);
+    let stray = label(9, 0, Kind::Update(PHOTO));
+    assert!(rt; matches!(store.zero.read(&mut bob, PHOTO), Err(ReplicaFault::Seat)));
+    assert!(rt; matches!(store.two.read(&mut bob, 7), Err(ReplicaFault::Unfit)));
+    assert!(rt;
+        matches!(
+            store.leaf.accept(NodeId::Serializer(0), stray),
+            Err(RelayFault::Unfit)
+        )
+    );
+    store.root.kill();
+    assert!(rt;
+        matches!(
+            store.root.accept(NodeId::Site(0), stray),
+            Err(RelayFault::Dead)
+        )
+    );
+    Ok(())
+}
+
+#[test]
+fn a_store_of_three_sites(rt: HostRuntime) -> Result<(), Fail> {
+    let mut store = fresh_store(rt.alloc())?;
+    let mut ann = Client::new(0);
+    ann_moves(&rt, rt.alloc(), &mut store, &mut ann)?;
+    bob_reads(&rt, rt.alloc(), &mut store, &mut ann)?;
+    faults_are_told(&rt, &mut store)
+}
