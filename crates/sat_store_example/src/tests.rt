@@ -2,7 +2,7 @@
 //! messages. Labels stay in order on each link; payloads are late.
 ghost use Rattle.std.specs.Prelude.{◌≡◌, length, IfOk};
 
-use crate::{Relay, RelayFault, Replica, ReplicaFault};
+use crate::{Relay, Replica};
 use sat_act::{Answer, ClientLine, Deployment, Item, Plan, Refusal};
 use sat_client::Client;
 use sat_label::{Kind, Label, Name, NodeId, Nodes, Point, SiteSet, Value};
@@ -11,7 +11,6 @@ use sat_site::SiteInput;
 use sat_sites::Interest;
 use sat_tree::Tree;
 use std::alloc::Global;
-use std::process::Abort;
 use std::test::Fail;
 
 const PHOTO: u16 = 0;
@@ -144,6 +143,11 @@ fn show(replica: &mut Replica) -> Result<Said, Fail> {
     Ok(short(&answer))
 }
 
+fn migrate(replica: &mut Replica, client: &mut Client, to: u16) -> Result<Said, Fail> {
+    let answer = replica.migrate(client, to).map_err(|_| "not moved")?;
+    Ok(short(&answer))
+}
+
 fn attach(replica: &mut Replica, client: &mut Client) -> Result<Said, Fail> {
     let answer = replica.attach(client).map_err(|_| "not asked")?;
     Ok(short(&answer))
@@ -209,116 +213,99 @@ fn label(ts: u64, site: u16, kind: Kind) -> Label {
     }
 }
 
-// Ann writes a photo at site 0 and goes to site 1, which lets her in once the photo is there.
-fn ann_moves(
-    rt: &impl Abort,
-    alloc: Global,
-    store: &mut Store,
-    ann: &mut Client,
-) -> Result<(), Fail> {
-    let photo = label(1, 0, Kind::Update(PHOTO));
-    let leaving = label(2, 0, Kind::Move(1));
+// Ann writes a photo at site 0 and leaves for site 1, which does not let her in yet. Both labels are sent.
+fn ann_leaves(alloc: Global, store: &mut Store, ann: &mut Client) -> Result<[Said; 6], Fail> {
     let wrote = write(alloc, &mut store.zero, ann, PHOTO, b"beach")?;
-    assert_eq!(rt; wrote, Said::Wrote(photo));
-    let moved = store.zero.migrate(ann, 1).map_err(|_| "not moved")?;
-    assert_eq!(rt; short(&moved), Said::Moved(leaving));
-    assert_eq!(rt;
-        attach(&mut store.one, ann)?,
-        Said::Refused(Refusal::NotYet)
-    );
-
-    // Both labels go up and down; the payload is late.
-    assert_eq!(rt; gather(&mut store.zero)?, Said::Gathered(2, 2));
-    assert_eq!(rt;
-        emit(&mut store.zero, &mut store.from_zero)?,
-        Said::Emitted(photo)
-    );
-    assert_eq!(rt;
-        emit(&mut store.zero, &mut store.from_zero)?,
-        Said::Emitted(leaving)
-    );
-    for _ in 0..2usize {
-        let nodes = go_up(&mut store.from_zero, 0, &mut store.root)?;
-        assert_eq!(rt; nodes.as_slice(), [NodeId::Site(1)].as_slice());
-        go_down(&mut store.root, 1, &mut store.one)?;
-    }
-    assert_eq!(rt;
-        show(&mut store.one)?,
-        Said::Refused(Refusal::NoPayload(photo))
-    );
-    assert_eq!(rt;
-        attach(&mut store.one, ann)?,
-        Said::Refused(Refusal::NotYet)
-    );
-
-    assert_eq!(rt;
-        bring(0, &store.zero, 1, &mut store.one)?,
-        Said::Brought(photo)
-    );
-    assert_eq!(rt; show(&mut store.one)?, Said::Shown(photo));
-    assert_eq!(rt; show(&mut store.one)?, Said::Took(leaving));
-    assert_eq!(rt; attach(&mut store.one, ann)?, Said::Attached);
-    assert!(rt; reads(&mut store.one, ann, PHOTO, b"beach")?);
-    Ok(())
+    let moved = migrate(&mut store.zero, ann, 1)?;
+    let early = attach(&mut store.one, ann)?;
+    let gathered = gather(&mut store.zero)?;
+    let first = emit(&mut store.zero, &mut store.from_zero)?;
+    let second = emit(&mut store.zero, &mut store.from_zero)?;
+    Ok([wrote, moved, early, gathered, first, second])
 }
 
-// There she writes into the album, which Bob reads at site 2, two relays away. Her write comes after all that she saw.
-fn bob_reads(
-    rt: &impl Abort,
-    alloc: Global,
-    store: &mut Store,
-    ann: &mut Client,
-) -> Result<(), Fail> {
-    let album = label(3, 1, Kind::Update(ALBUM));
+// Both labels come to site 1, and the photo's payload is late.
+fn labels_come(store: &mut Store, ann: &mut Client) -> Result<[Said; 2], Fail> {
+    go_up(&mut store.from_zero, 0, &mut store.root)?;
+    go_up(&mut store.from_zero, 0, &mut store.root)?;
+    go_down(&mut store.root, 1, &mut store.one)?;
+    go_down(&mut store.root, 1, &mut store.one)?;
+    let waits = show(&mut store.one)?;
+    let early = attach(&mut store.one, ann)?;
+    Ok([waits, early])
+}
+
+// The payload comes, and site 1 lets her in.
+fn ann_arrives(store: &mut Store, ann: &mut Client) -> Result<[Said; 4], Fail> {
+    let brought = bring(0, &store.zero, 1, &mut store.one)?;
+    let shown = show(&mut store.one)?;
+    let took = show(&mut store.one)?;
+    let attached = attach(&mut store.one, ann)?;
+    Ok([brought, shown, took, attached])
+}
+
+// There she writes into the album, which comes after all that she saw.
+fn album_leaves(alloc: Global, store: &mut Store, ann: &mut Client) -> Result<[Said; 3], Fail> {
     let wrote = write(alloc, &mut store.one, ann, ALBUM, b"beach.jpg")?;
-    assert_eq!(rt; wrote, Said::Wrote(album));
-    assert_eq!(rt; gather(&mut store.one)?, Said::Gathered(1, 3));
-    assert_eq!(rt;
-        emit(&mut store.one, &mut store.from_one)?,
-        Said::Emitted(album)
-    );
-    let nodes = go_up(&mut store.from_one, 1, &mut store.root)?;
-    assert_eq!(rt; nodes.as_slice(), [NodeId::Serializer(1)].as_slice());
-    let nodes = go_on(&mut store.root, &mut store.leaf)?;
-    assert_eq!(rt; nodes.as_slice(), [NodeId::Site(2)].as_slice());
-    go_down(&mut store.leaf, 2, &mut store.two)?;
-    assert_eq!(rt;
-        bring(1, &store.one, 2, &mut store.two)?,
-        Said::Brought(album)
-    );
-    assert_eq!(rt; show(&mut store.two)?, Said::Shown(album));
-    let mut bob = Client::new(2);
-    assert!(rt; reads(&mut store.two, &mut bob, ALBUM, b"beach.jpg")?);
-    Ok(())
+    let gathered = gather(&mut store.one)?;
+    let emitted = emit(&mut store.one, &mut store.from_one)?;
+    Ok([wrote, gathered, emitted])
 }
 
-// What a message or a client says wrongly is refused, and a killed relay hands nothing on.
-fn faults_are_told(rt: &impl Abort, store: &mut Store) -> Result<(), Fail> {
-    let mut bob = Client::new(2);
-    let stray = label(9, 0, Kind::Update(PHOTO));
-    assert!(rt; matches!(store.zero.read(&mut bob, PHOTO), Err(ReplicaFault::Seat)));
-    assert!(rt; matches!(store.two.read(&mut bob, 7), Err(ReplicaFault::Unfit)));
-    assert!(rt;
-        matches!(
-            store.leaf.accept(NodeId::Serializer(0), stray),
-            Err(RelayFault::Unfit)
-        )
-    );
-    store.root.kill();
-    assert!(rt;
-        matches!(
-            store.root.accept(NodeId::Site(0), stray),
-            Err(RelayFault::Dead)
-        )
-    );
-    Ok(())
+// It comes to site 2, two relays away.
+fn album_comes(store: &mut Store) -> Result<[Said; 2], Fail> {
+    go_up(&mut store.from_one, 1, &mut store.root)?;
+    go_on(&mut store.root, &mut store.leaf)?;
+    go_down(&mut store.leaf, 2, &mut store.two)?;
+    let brought = bring(1, &store.one, 2, &mut store.two)?;
+    let shown = show(&mut store.two)?;
+    Ok([brought, shown])
 }
 
 #[test]
-fn a_store_of_three_sites(rt: HostRuntime) -> Result<(), Fail> {
-    let mut store = fresh_store(rt.alloc())?;
+fn a_client_moves_once_all_that_it_saw_is_there(rt: HostRuntime) -> Result<(), Fail> {
+    let alloc = rt.alloc();
+    let photo = label(1, 0, Kind::Update(PHOTO));
+    let leaving = label(2, 0, Kind::Move(1));
+    let mut store = fresh_store(alloc)?;
     let mut ann = Client::new(0);
-    ann_moves(&rt, rt.alloc(), &mut store, &mut ann)?;
-    bob_reads(&rt, rt.alloc(), &mut store, &mut ann)?;
-    faults_are_told(&rt, &mut store)
+    let said = ann_leaves(alloc, &mut store, &mut ann)?;
+    let wanted = [
+        Said::Wrote(photo),
+        Said::Moved(leaving),
+        Said::Refused(Refusal::NotYet),
+        Said::Gathered(2, 2),
+        Said::Emitted(photo),
+        Said::Emitted(leaving),
+    ];
+    assert_eq!(rt; said, wanted);
+    let said = labels_come(&mut store, &mut ann)?;
+    let wanted = [
+        Said::Refused(Refusal::NoPayload(photo)),
+        Said::Refused(Refusal::NotYet),
+    ];
+    assert_eq!(rt; said, wanted);
+    let said = ann_arrives(&mut store, &mut ann)?;
+    let wanted = [
+        Said::Brought(photo),
+        Said::Shown(photo),
+        Said::Took(leaving),
+        Said::Attached,
+    ];
+    assert_eq!(rt; said, wanted);
+    assert!(rt; reads(&mut store.one, &mut ann, PHOTO, b"beach")?);
+
+    let album = label(3, 1, Kind::Update(ALBUM));
+    let said = album_leaves(alloc, &mut store, &mut ann)?;
+    let wanted = [
+        Said::Wrote(album),
+        Said::Gathered(1, 3),
+        Said::Emitted(album),
+    ];
+    assert_eq!(rt; said, wanted);
+    let said = album_comes(&mut store)?;
+    assert_eq!(rt; said, [Said::Brought(album), Said::Shown(album)]);
+    let mut bob = Client::new(2);
+    assert!(rt; reads(&mut store.two, &mut bob, ALBUM, b"beach.jpg")?);
+    Ok(())
 }
