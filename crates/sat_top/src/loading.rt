@@ -43,8 +43,8 @@ fn count_act(world: &mut World, act: &Act) -> Result<u64, AllocError>
     Ok(writes_in(&answer))
 }
 
-// Does the acts one after another, and counts the writes that were done.
-fn count_writes(world: &mut World, acts: &[Act]) -> Result<u64, AllocError>
+/// Does the acts one after another, and counts the writes that were done.
+pub(crate) fn count_writes(world: &mut World, acts: &[Act]) -> Result<u64, AllocError>
     requires fresh { StandsFor world.old [] }
     requires acts { AreActsOf world.old.deployment acts.now }
     requires few { length acts.now ≤ MOST_ACTS }
