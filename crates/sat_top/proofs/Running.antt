@@ -1,7 +1,7 @@
 -- One act more.
-use Rattle.std.proofs.Common.{◌≡◌, ℕ, ◌+◌, List, [], ◌∷◌, ◌++◌, length, refl, sym, ap, ◌∙◌}
+use Rattle.std.proofs.Common.{arith, ◌≡◌, ℕ, ◌+◌, List, [], ◌∷◌, ◌++◌, length, refl, sym, ap, ◌∙◌}
 use Rattle.std.specs.Prelude.{None}
-use Rattle.std.proofs.lemmas.List.{append-nil, reverse-append, length-append}
+use Rattle.std.proofs.lemmas.List.{append-nil, append_assoc, reverse-append, length-append}
 use Rattle.sat_act.specs.declared.act.Act.{Act}
 use Rattle.sat_act.specs.declared.act.Act.TheVariants as act
 use Rattle.sat_act.specs.declared.answer.Answer.{Answer}
@@ -93,3 +93,21 @@ runs-none d w stands = record { run = tt; stands = stands }
 pub answers_none : (d : Deployed) (w : WorldSeen) (text : List ℕ) → StandsFor w [] → text ≡ [] → IsAnswering d w text []
 unfolding history run answers printed_count
 answers_none d w text stands empty = record { running = runs-none d w stands; answers = empty; count = refl }
+
+-- ---- several acts more, behind any front of the text
+
+-- these acts more were done, where so many had been done before; the text is longer by their answers
+abbrev pub Answers : WorldSeen → List ℕ → ℕ → WorldSeen → List ℕ → List Act → Type 0
+Answers old text before new longer acts = (front : List ℕ) (done : List Act) → before ≡ length done → IsAnswering old.deployment old (front ++ text) done → IsAnswering old.deployment new (front ++ longer) (done ++ acts)
+
+pub answers_start : (w : WorldSeen) (text : List ℕ) (before : ℕ) → Answers w text before w text []
+answers_start w text before front done counted now = rw (append-nil done) now
+
+-- one of them
+pub answers_next : (old mid new : WorldSeen) (text longer more : List ℕ) (before place number : ℕ) (acts : List Act) (a : Act) → mid.deployment ≡ old.deployment → length acts ≡ place → number ≡ (before + place) + 1
+    → Answers old text before mid longer acts
+    → ((front : List ℕ) (done : List Act) → number ≡ length done + 1 → IsAnswering mid.deployment mid (front ++ longer) done → IsAnswering mid.deployment new (front ++ more) (done ++ a ∷ []))
+    → Answers old text before new more (acts ++ a ∷ [])
+answers_next old mid new text longer more before place number acts a same long is had one front done counted now =
+    rw (← append_assoc done acts (a ∷ []), ← same)
+    (one front (done ++ acts) (omega (arith, is, long, counted, length-append done acts)) (rw same (had front done counted now)))

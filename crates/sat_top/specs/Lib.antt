@@ -4,4 +4,5 @@ pub mod Running
 pub mod Good
 pub mod Placing
 pub mod Whole
+pub mod Streaming
 pub mod Contract
