@@ -8,3 +8,4 @@ pub mod Ran
 pub mod Plans
 pub mod Placements
 pub mod Done
+pub mod Streamed

@@ -1,5 +1,5 @@
 -- One act more.
-use Rattle.std.proofs.Common.{arith, ◌≡◌, ℕ, ◌+◌, List, [], ◌∷◌, ◌++◌, length, refl, sym, ap, ◌∙◌}
+use Rattle.std.proofs.Common.{arith, ◌≡◌, ℕ, ◌+◌, List, [], ◌∷◌, ◌++◌, length, refl, sym, ap, subst, ◌∙◌}
 use Rattle.std.specs.Prelude.{None}
 use Rattle.std.proofs.lemmas.List.{append-nil, append_assoc, reverse-append, length-append}
 use Rattle.sat_act.specs.declared.act.Act.{Act}
@@ -97,17 +97,36 @@ answers_none d w text stands empty = record { running = runs-none d w stands; an
 -- ---- several acts more, behind any front of the text
 
 -- these acts more were done, where so many had been done before; the text is longer by their answers
-abbrev pub Answers : WorldSeen → List ℕ → ℕ → WorldSeen → List ℕ → List Act → Type 0
-Answers old text before new longer acts = (front : List ℕ) (done : List Act) → before ≡ length done → IsAnswering old.deployment old (front ++ text) done → IsAnswering old.deployment new (front ++ longer) (done ++ acts)
+abbrev pub Answers : Deployed → WorldSeen → List ℕ → ℕ → WorldSeen → List ℕ → List Act → Type 0
+Answers d old text before new longer acts = (front : List ℕ) (done : List Act) → before ≡ length done → IsAnswering d old (front ++ text) done → IsAnswering d new (front ++ longer) (done ++ acts)
 
-pub answers_start : (w : WorldSeen) (text : List ℕ) (before : ℕ) → Answers w text before w text []
-answers_start w text before front done counted now = rw (append-nil done) now
+pub answers_start : (d : Deployed) (w : WorldSeen) (text : List ℕ) (before : ℕ) → Answers d w text before w text []
+answers_start d w text before front done counted now = subst (λ (acts : List Act). IsAnswering d w (front ++ text) acts) (sym (append-nil done)) now
 
 -- one of them
-pub answers_next : (old mid new : WorldSeen) (text longer more : List ℕ) (before place number : ℕ) (acts : List Act) (a : Act) → mid.deployment ≡ old.deployment → length acts ≡ place → number ≡ (before + place) + 1
-    → Answers old text before mid longer acts
-    → ((front : List ℕ) (done : List Act) → number ≡ length done + 1 → IsAnswering mid.deployment mid (front ++ longer) done → IsAnswering mid.deployment new (front ++ more) (done ++ a ∷ []))
-    → Answers old text before new more (acts ++ a ∷ [])
-answers_next old mid new text longer more before place number acts a same long is had one front done counted now =
-    rw (← append_assoc done acts (a ∷ []), ← same)
-    (one front (done ++ acts) (omega (arith, is, long, counted, length-append done acts)) (rw same (had front done counted now)))
+pub answers_next : (d e : Deployed) (old mid new : WorldSeen) (text longer more : List ℕ) (before place : ℕ) (acts all : List Act) (a : Act) → e ≡ d → length acts ≡ place → all ≡ acts ++ a ∷ []
+    → Answers d old text before mid longer acts
+    → ((front : List ℕ) (done : List Act) → (before + place) + 1 ≡ length done + 1 → IsAnswering e mid (front ++ longer) done → IsAnswering e new (front ++ more) (done ++ a ∷ []))
+    → Answers d old text before new more all
+answers_next d e old mid new text longer more before place acts all a same long is had one front done counted now =
+    let number : (before + place) + 1 ≡ length (done ++ acts) + 1 = omega (arith, long, counted, length-append done acts) in
+    let here : IsAnswering e mid (front ++ longer) (done ++ acts) = subst (λ (x : Deployed). IsAnswering x mid (front ++ longer) (done ++ acts)) (sym same) (had front done counted now) in
+    let then : IsAnswering d new (front ++ more) ((done ++ acts) ++ a ∷ []) = subst (λ (x : Deployed). IsAnswering x new (front ++ more) ((done ++ acts) ++ a ∷ [])) same (one front (done ++ acts) number here) in
+    subst (λ (xs : List Act). IsAnswering d new (front ++ more) xs) (append_assoc done acts (a ∷ []) ∙ ap (λ xs. done ++ xs) (sym is)) then
+
+-- the lines of acts more stand behind those of the acts before
+line_next : (d : Deployed) (acts : List Act) (a : Act) → IsRun d (history d acts) → (line : List ℕ) × (answers d (history d (acts ++ a ∷ [])) ≡ answers d (history d acts) ++ line)
+line_next d acts a run =
+    let h = history d acts in
+    let r = answer_of d h a in
+    let line = answer_line d (printed_count (with_inner d h a) + 1) r in
+    let same : answers d (with_inner d h a) ≡ answers d h = kept d (answers d) (λ k b e. answers-in d k b) h a run in
+    (line, ap (answers d) (history-next d a acts) ∙ answers-on d (with_inner d h a) a r ∙ ap (λ bytes. bytes ++ line) same)
+
+pub answers_front : (d : Deployed) (done rest : List Act) → ((xs ys : List Act) → done ++ rest ≡ xs ++ ys → IsRun d (history d xs)) → (tail : List ℕ) × (answers d (history d (done ++ rest)) ≡ answers d (history d done) ++ tail)
+answers_front d done [] runs = ([], ap (λ xs. answers d (history d xs)) (append-nil done) ∙ sym (append-nil (answers d (history d done))))
+answers_front d done (a ∷ rest) runs =
+    let e : (done ++ a ∷ []) ++ rest ≡ done ++ a ∷ rest = append_assoc done (a ∷ []) rest in
+    let next = answers_front d (done ++ a ∷ []) rest (λ xs ys is. runs xs ys (sym e ∙ is)) in
+    let one = line_next d done a (runs done (a ∷ rest) refl) in
+    (one.0 ++ next.0, ap (λ xs. answers d (history d xs)) (sym e) ∙ next.1 ∙ ap (λ bytes. bytes ++ next.0) one.1 ∙ append_assoc (answers d (history d done)) one.0 next.0)

@@ -8,6 +8,6 @@ use Rattle.sat_top.proofs.run.answer_acts.Given as goal
 abbrev pub invariant-loop-place : goal.invariant-loop-place
 invariant-loop-place l = record {
   deployment : l.world.deployment ≡ l.fn.world.deployment;
-  running : Answers l.fn.world l.fn.text.items l.before l.world l.text.items (take l.place l.acts);
+  running : Answers l.fn.world.deployment l.fn.world l.fn.text.items l.before l.world l.text.items (take l.place l.acts);
   rest : AreActsOf l.fn.world.deployment (drop l.place l.acts);
 }
