@@ -1,7 +1,8 @@
 -- One act more.
-use Rattle.std.proofs.Common.{arith, ◌≡◌, ℕ, ◌+◌, List, [], ◌∷◌, ◌++◌, length, refl, sym, ap, subst, ◌∙◌}
+use Rattle.std.proofs.Common.{◌<◌, drop, arith, ◌≡◌, ℕ, ◌+◌, List, [], ◌∷◌, ◌++◌, length, refl, sym, ap, subst, ◌∙◌}
 use Rattle.std.specs.Prelude.{None}
-use Rattle.std.proofs.lemmas.List.{append-nil, append_assoc, reverse-append, length-append}
+use Rattle.std.specs.List.{AllByRecursion}
+use Rattle.std.proofs.lemmas.List.{append-nil, append_assoc, reverse-append, length-append, drop_more}
 use Rattle.sat_act.specs.declared.act.Act.{Act}
 use Rattle.sat_act.specs.declared.act.Act.TheVariants as act
 use Rattle.sat_act.specs.declared.answer.Answer.{Answer}
@@ -130,3 +131,7 @@ answers_front d done (a ∷ rest) runs =
     let next = answers_front d (done ++ a ∷ []) rest (λ xs ys is. runs xs ys (sym e ∙ is)) in
     let one = line_next d done a (runs done (a ∷ rest) refl) in
     (one.0 ++ next.0, ap (λ xs. answers d (history d xs)) (sym e) ∙ next.1 ∙ ap (λ bytes. bytes ++ next.0) one.1 ∙ append_assoc (answers d (history d done)) one.0 next.0)
+
+-- without the first of the acts that are left
+pub rest_all : (P : Act → Type 0) (xs : List Act) (n : ℕ) (d : Act) → n < length xs → AllByRecursion P (drop n xs) → AllByRecursion P (drop (n + 1) xs)
+rest_all P xs n d inside a = (subst (AllByRecursion P) (drop_more xs n d inside) a).1

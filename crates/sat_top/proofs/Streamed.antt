@@ -12,7 +12,9 @@ use Rattle.sat_act.specs.Runs.{IsRun}
 use Rattle.sat_world.specs.Seen.{WorldSeen}
 use Rattle.sat_report.specs.Answers.{answers}
 use Rattle.sat_script.specs.Laws.{IsSound}
-use Rattle.sat_script.specs.Reading.{reading, AreActsOf}
+use Rattle.sat_script.specs.Grammar.{close_in}
+use Rattle.sat_script.specs.Reading.{reading, script_from, AreActsOf}
+use Rattle.sat_script.specs.State.{number_of}
 use Rattle.sat_script.specs.Spelled.{HaveNames}
 use Rattle.sat_script.specs.Stream.{Came, will_be, behind, LacksOnlyItsEnd}
 use Rattle.sat_script.specs.declared.limits.TheConstants.{MOST_ACTS}
@@ -110,7 +112,7 @@ pub takes_on : (a b c : Told) (xs ys : List ℕ) → Takes a b xs → Takes b c 
 takes_on a b c xs ys h k more = k more ∙ h (ys ++ more) ∙ ap a (sym (append_assoc xs ys more))
 
 take_beyond : (count : ℕ) (xs ys : List ℕ) → take (length xs + count) (xs ++ ys) ≡ xs ++ take count ys
-take_beyond count [] ys = refl
+take_beyond count [] ys = let e : 0 + count ≡ count = omega arith in ap (λ n. take n ys) e
 take_beyond count (x ∷ xs) ys = let e : length (x ∷ xs) + count ≡ suc (length xs + count) = omega arith in rw e (ap (λ zs. x ∷ zs) (take_beyond count xs ys))
 
 pub front_on : (a b c : Told) (xs ys : List ℕ) → Takes a b xs → TakesFront b c ys → TakesFront a c (xs ++ ys)
@@ -208,3 +210,21 @@ pub ended_before : (b : Option (List ℕ)) (found : Reading) (w : Option WorldSe
 ended_before b found w count written old mid new had took ends =
     let rest = ends written had.done had.number had.world in
     record { text = had.text; whole = had.whole; front = subst (λ (bytes : List ℕ). TakesFront old new bytes) (rest.2 ∙ ap run_text (sym had.is)) (front_on old mid new written rest.0 took rest.1) }
+
+-- ---- the start
+
+nothing_read : ((reading false []).deployment ≡ None) × ((reading false []).acts ≡ []) × LacksOnlyItsEnd (reading false [])
+unfolding reading script_from close_in number_of
+nothing_read = (refl, refl, refl)
+
+pub under_start : (b : Option (List ℕ)) (r : Came) → ((text : List ℕ) → will_be r text ≡ reading false text) → IsUnder b b 0 r None 0 []
+under_start b r script = record { done = []; read = read_start b (λ more. behind [] (will_be r more)) script; number = refl; world = (refl, refl) }
+
+pub drained_start : (r : Came) → ((text : List ℕ) → will_be r text ≡ reading false text) → IsDrained r None
+drained_start r script =
+    let none : r.lines.deployment ≡ None = sym (ends_as r).0 ∙ ap (λ (x : Reading). x.deployment) (script []) ∙ nothing_read.0 in record {
+      known = subst (λ (o : Option Deployed). IsWorldOf o None) (sym none) tt;
+      empty = sym (ends_as r).1 ∙ ap (λ (x : Reading). x.acts) (script []) ∙ nothing_read.1;
+      stays = λ d more e. absurd (let never : None ≡ Some d = sym none ∙ e in cc);
+      lacks = subst LacksOnlyItsEnd (sym (script [])) nothing_read.2;
+    }
