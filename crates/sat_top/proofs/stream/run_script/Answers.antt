@@ -2,8 +2,8 @@ use Rattle.std.proofs.Common.{rules, arith, take, ◌+◌, ◌++◌, [], refl}
 use Rattle.sat_top.proofs.Streamed.{under_start, drained_start, fed, answered, takes_on}
 use Rattle.sat_top.proofs.stream.run_script.Goals as goal
 
-pub loop-pieces-init : goal.loop-pieces-init
-loop-pieces-init g c = record {
+pub pieces-init : goal.pieces-init
+pieces-init g c = record {
   fresh = c.new-reader.ensures.fresh;
   later = omega arith;
   kept = omega arith;

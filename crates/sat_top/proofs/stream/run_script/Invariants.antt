@@ -5,8 +5,8 @@ use Rattle.sat_script.specs.Stream.{known_fault, bytes_of}
 use Rattle.sat_top.proofs.Streamed.{IsUnder, IsDrained}
 use Rattle.sat_top.proofs.stream.run_script.Given as goal
 
-abbrev pub invariant-loop-pieces : goal.invariant-loop-pieces
-invariant-loop-pieces g l = record {
+abbrev pub invariant-pieces : goal.invariant-pieces
+invariant-pieces g l = record {
   fresh : known_fault l.reader ≡ None;
   later : g.S.Source.faults l.initial.source ≤ g.S.Source.faults l.source;
   kept : g.K.Sink.faults l.initial.sink ≤ g.K.Sink.faults l.sink;
@@ -16,5 +16,5 @@ invariant-loop-pieces g l = record {
   few : bytes_of l.reader ≤ MOST_BYTES;
 }
 
-abbrev pub decreases-loop-pieces : goal.decreases-loop-pieces
-decreases-loop-pieces g l = 268435456 - l.taken
+abbrev pub decreases-pieces : goal.decreases-pieces
+decreases-pieces g l = 268435456 - l.taken
