@@ -10,3 +10,4 @@ pub mod Ran
 pub mod Plans
 pub mod Placements
 pub mod Done
+pub mod Streamed
