@@ -13,7 +13,7 @@ use Rattle.sat_top.specs.Runs.{run_text}
 use Rattle.sat_top.proofs.Good.{TheLaws, good_run}
 use Rattle.sat_top.specs.Whole.{IsTextOf, IsOutput, run_status}
 
-zero_fault : (fault : Option ScriptFault) (status : ℕ) → status ≡ run_status fault → status ≡ 0 → fault ≡ None
+pub zero_fault : (fault : Option ScriptFault) (status : ℕ) → status ≡ run_status fault → status ≡ 0 → fault ≡ None
 zero_fault None status means zero = refl
 zero_fault (Some fault) status means zero = absurd (cc)
 

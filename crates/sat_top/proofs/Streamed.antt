@@ -1,8 +1,9 @@
 -- A run under way, and what it comes to.
 use Rattle.std.proofs.Common.{◌≡◌, ◌≤◌, ◌+◌, ℕ, zero, suc, false, List, [], ◌∷◌, ◌++◌, length, take, Option, Some, None, refl, sym, ap, subst, ◌∙◌, arith}
-use Rattle.std.specs.Prelude.{IfSome}
+use Rattle.std.specs.Prelude.{◌≢◌, Ok, Err, IfSome, IfOk, OnOk, OnErr, IsErrOf}
+use Rattle.std.specs.declared.result.Result.{Result}
 use Rattle.std.specs.List.{AllByRecursion}
-use Rattle.std.specs.Io.KnownBytes.{Consumes, IsAtEnd}
+use Rattle.std.specs.Io.KnownBytes.{Consumes, Keeps, IsAtEnd}
 use Rattle.std.proofs.lemmas.List.{append-nil, append_assoc, length-append}
 use Rattle.sat_outside.specs.Streams.{Told, Takes}
 use Rattle.sat_act.specs.declared.act.Act.{Act}
@@ -16,18 +17,23 @@ use Rattle.sat_script.specs.Grammar.{close_in}
 use Rattle.sat_script.specs.Reading.{reading, script_from, AreActsOf}
 use Rattle.sat_script.specs.State.{number_of}
 use Rattle.sat_script.specs.Spelled.{HaveNames}
-use Rattle.sat_script.specs.Stream.{Came, will_be, behind, LacksOnlyItsEnd}
+use Rattle.sat_script.specs.Stream.{Came, will_be, known_fault, behind, LacksOnlyItsEnd}
+use Rattle.sat_script.specs.declared.fault.ScriptFault.{ScriptFault}
 use Rattle.sat_script.specs.declared.limits.TheConstants.{MOST_ACTS}
 use Rattle.sat_script.specs.declared.stream.Reading.{Reading}
 use Rattle.sat_script.proofs.Drained.{ends_as}
+use Rattle.sat_top.specs.declared.stream.Halt.{Halt}
+use Rattle.sat_top.specs.declared.stream.Halt.TheVariants.{Source, Sink, Memory}
 use Rattle.sat_top.specs.declared.words.Command.TheVariants.{Run}
 use Rattle.sat_top.specs.Good.{EveryReadingIsGood}
 use Rattle.sat_top.specs.Runs.{history, run_text, ending}
-use Rattle.sat_top.specs.Streaming.{answers_under, answers_text, HasAnswered, HasFront, IsWorldOf, IsKnown, AtWorld, DoesMore, Ends, EndsBefore}
+use Rattle.sat_top.specs.declared.stream.TheConstants.{BUFFER_BYTES}
+use Rattle.sat_top.specs.Streaming.{answers_under, answers_text, HasAnswered, HasFront, WasAnswering, IsWorldOf, IsKnown, AtWorld, DoesMore, Ends, EndsBefore}
 use Rattle.sat_top.specs.Whole.{IsTextOf, IsOutput, TakesFront, run_status}
 use Rattle.sat_top.proofs.Good.{TheLaws, runs, all_front}
-use Rattle.sat_top.proofs.Progress.{HasRead, consumes_none, read_start, read_more, read_whole, read_enough, rest_of}
-use Rattle.sat_top.proofs.Ran.{at_some, front, ran}
+use Rattle.sat_top.proofs.Progress.{HasRead, consumes_none, consumes_more, read_start, read_more, read_whole, read_enough, rest_of}
+use Rattle.sat_top.proofs.Faults.{has_fault}
+use Rattle.sat_top.proofs.Ran.{at_some, front, ran, zero_fault}
 use Rattle.sat_top.proofs.Running.{answers_front}
 
 -- what was read so far, and the answers of the acts in it
@@ -164,20 +170,56 @@ written_is None (Some w) written done is at = absurd is
 written_is (Some d) None written done is at = absurd is
 written_is (Some d) (Some w) written done is at = ap (λ (x : Deployed). answers x (history x done)) (sym is) ∙ sym at.answers
 
-pub has_answered : (b n : Option (List ℕ)) (k : ℕ) (r : Came) (w : Option WorldSeen) (count : ℕ) (written : List ℕ) (old new : Told) → EverySound → TheLaws → IsUnder b n k r w count written → IsDrained r w → Takes old new written → HasAnswered b n old new
-has_answered b n k r w count written old new sound laws had now took =
+-- what was written are the answers of all whole lines that were read
+pub told_so_far : (b n : Option (List ℕ)) (k : ℕ) (r : Came) (w : Option WorldSeen) (count : ℕ) (written : List ℕ) (had : IsUnder b n k r w count written) → IsDrained r w → written ≡ answers_text (reading false had.read.taken)
+told_so_far b n k r w count written had now =
     let is : behind had.done (will_be r []) ≡ reading false had.read.taken = had.read.means [] ∙ ap (reading false) (append-nil had.read.taken) in
     let deploys : r.lines.deployment ≡ (reading false had.read.taken).deployment = sym (ends_as r).0 ∙ ap (λ (x : Reading). x.deployment) is in
     let acts : had.done ≡ (reading false had.read.taken).acts = sym (append-nil had.done) ∙ ap (λ (xs : List Act). had.done ++ xs) (sym now.empty ∙ sym (ends_as r).1) ∙ ap (λ (x : Reading). x.acts) is in
-    let same : written ≡ answers_text (reading false had.read.taken) =
-        sym (written_is r.lines.deployment w written had.done now.known had.world) ∙ ap (λ (o : Option Deployed). answers_under o had.done) deploys ∙ ap (λ (xs : List Act). answers_under (reading false had.read.taken).deployment xs) acts in
+    sym (written_is r.lines.deployment w written had.done now.known had.world) ∙ ap (λ (o : Option Deployed). answers_under o had.done) deploys ∙ ap (λ (xs : List Act). answers_under (reading false had.read.taken).deployment xs) acts
+
+pub has_answered : (b n : Option (List ℕ)) (k : ℕ) (r : Came) (w : Option WorldSeen) (count : ℕ) (written : List ℕ) (old new : Told) → EverySound → TheLaws → IsUnder b n k r w count written → IsDrained r w → Takes old new written → HasAnswered b n old new
+has_answered b n k r w count written old new sound laws had now took =
+    let is : behind had.done (will_be r []) ≡ reading false had.read.taken = had.read.means [] ∙ ap (reading false) (append-nil had.read.taken) in
     record {
       taken = had.read.taken;
       consumed = had.read.consumed;
       lacks = subst LacksOnlyItsEnd is now.lacks;
-      written = subst (λ (bytes : List ℕ). Takes old new bytes) same took;
+      written = subst (λ (bytes : List ℕ). Takes old new bytes) (told_so_far b n k r w count written had now) took;
       good = front had.read.taken (reading false had.read.taken) laws (sound had.read.taken).whole refl;
     }
+
+-- ---- it stops while a piece is done
+
+pub was_answering : (b n m : Option (List ℕ)) (k : ℕ) (r : Came) (w : Option WorldSeen) (count : ℕ) (written piece rest : List ℕ) (old new : Told) → IsUnder b n k r w count written → IsDrained r w → Consumes n m piece → length piece ≤ BUFFER_BYTES → Takes old new (written ++ rest)
+    → WasAnswering b m old new
+was_answering b n m k r w count written piece rest old new had now took few wrote = record {
+  before = had.read.taken;
+  piece = piece;
+  consumed = consumes_more b n m had.read.taken piece had.read.consumed took;
+  one = few;
+  rest = rest;
+  written = subst (λ (bytes : List ℕ). Takes old new (bytes ++ rest)) (told_so_far b n k r w count written had now) wrote;
+}
+
+-- nothing was written of the piece
+pub stopped_before : (b n m : Option (List ℕ)) (k : ℕ) (r : Came) (w : Option WorldSeen) (count : ℕ) (written piece : List ℕ) (old new : Told) → IsUnder b n k r w count written → IsDrained r w → Consumes n m piece → length piece ≤ BUFFER_BYTES → Takes old new written
+    → WasAnswering b m old new
+stopped_before b n m k r w count written piece old new had now took few wrote =
+    was_answering b n m k r w count written piece [] old new had now took few (subst (λ (bytes : List ℕ). Takes old new bytes) (sym (append-nil written)) wrote)
+
+-- a front of its answers was
+pub stopped_in : (b n m : Option (List ℕ)) (k : ℕ) (r : Came) (w : Option WorldSeen) (count : ℕ) (written piece text : List ℕ) (old mid new : Told) → IsUnder b n k r w count written → IsDrained r w → Consumes n m piece → length piece ≤ BUFFER_BYTES → Takes old mid written
+    → TakesFront mid new text → WasAnswering b m old new
+stopped_in b n m k r w count written piece text old mid new had now took few wrote more =
+    was_answering b n m k r w count written piece (take more.0 text) old new had now took few (takes_on old mid new written (take more.0 text) wrote more.1)
+
+-- a front of what is written at the end was
+pub stopped_at_end : (b n m : Option (List ℕ)) (k : ℕ) (r : Came) (w : Option WorldSeen) (count : ℕ) (written piece : List ℕ) (found : Reading) (old mid new : Told) → IsUnder b n k r w count written → IsDrained r w → Consumes n m piece → length piece ≤ BUFFER_BYTES
+    → Takes old mid written → EndsBefore w count found mid new → WasAnswering b m old new
+stopped_at_end b n m k r w count written piece found old mid new had now took few wrote ends =
+    let rest = ends written had.done had.number had.world in
+    stopped_in b n m k r w count written piece rest.0 old mid new had now took few wrote rest.1
 
 -- ---- the end
 
@@ -210,6 +252,53 @@ pub ended_before : (b : Option (List ℕ)) (found : Reading) (w : Option WorldSe
 ended_before b found w count written old mid new had took ends =
     let rest = ends written had.done had.number had.world in
     record { text = had.text; whole = had.whole; front = subst (λ (bytes : List ℕ). TakesFront old new bytes) (rest.2 ∙ ap run_text (sym had.is)) (front_on old mid new written rest.0 took rest.1) }
+
+-- ---- what the last call answers
+
+pub keeps : (n m : Option (List ℕ)) → Keeps n m → Consumes n m []
+keeps None m is = tt
+keeps (Some xs) None is = absurd is
+keeps (Some xs) (Some ys) is = sym is
+
+pub zero_bytes : (n m : Option (List ℕ)) (count : ℕ) (bytes : List ℕ) → count ≡ 0 → Consumes n m (take count bytes) → Consumes n m []
+zero_bytes n m count bytes zero took = subst (λ (k : ℕ). Consumes n m (take k bytes)) zero took
+
+pub still_under : (b n m : Option (List ℕ)) (k : ℕ) (r : Came) (w : Option WorldSeen) (count : ℕ) (written : List ℕ) → IsUnder b n k r w count written → Consumes n m [] → IsUnder b m (k + 0) r w count written
+still_under b n m k r w count written had took = fed b n m k 0 r r w count written [] had took (λ more. refl) refl
+
+pub known_at_end : (r : Came) (w : Option WorldSeen) (found : Reading) → IsKnown r.lines.deployment w → found ≡ will_be r [] → IsKnown found.deployment w
+known_at_end r w found known is = subst (λ (o : Option Deployed). IsKnown o w) (sym (ends_as r).0 ∙ sym (ap (λ (x : Reading). x.deployment) is)) known
+
+pub few_at_end : (r : Came) (count : ℕ) (found : Reading) → count + length r.lines.acts ≤ MOST_ACTS → found ≡ will_be r [] → count + length found.acts ≤ MOST_ACTS
+few_at_end r count found few is = omega (arith, few, ap (λ (acts : List Act). length acts) (ends_as r).1, ap (λ (x : Reading). length x.acts) is)
+
+takes_nothing : (a b c : Told) (xs : List ℕ) → Takes a b xs → Takes b c [] → Takes a c xs
+takes_nothing a b c xs h k = subst (λ (bytes : List ℕ). Takes a c bytes) (append-nil xs) (takes_on a b c xs [] h k)
+
+pub ok_ended : (b : Option (List ℕ)) (found : Reading) (w : Option WorldSeen) (count : ℕ) (written : List ℕ) (result : Result ℕ Halt) (old mid new : Told) → EveryReadingIsGood → EverySound → TheLaws → IsAtItsEnd b found w count written → Takes old mid written
+    → IfOk result (λ status. status ≡ run_status found.fault) → OnOk result (Ends w count found mid new) → IfOk result (λ status. (text : List ℕ) × IsOutput (Some Run) b text status × Takes old new text)
+ok_ended b found w count written (Ok status) old mid new law sound laws had took means ends = ended b found w count written status old mid new law sound laws had took ends means
+ok_ended b found w count written (Err why) old mid new law sound laws had took means ends = tt
+
+pub err_front : (b n : Option (List ℕ)) (k : ℕ) (r : Came) (found : Reading) (w : Option WorldSeen) (count : ℕ) (written : List ℕ) (result : Result ℕ Halt) (old mid new : Told) → EverySound → IsUnder b n k r w count written → IsDrained r w → IsAtItsEnd b found w count written → Takes old mid written
+    → (IsErrOf result Sink → EndsBefore w count found mid new) → (IsErrOf result Memory → Takes mid new []) → result ≢ Err Source → OnErr result (HasFront b old new)
+err_front b n k r found w count written (Ok status) old mid new sound had now end took front nothing causes = tt
+err_front b n k r found w count written (Err Sink) old mid new sound had now end took front nothing causes = ended_before b found w count written old mid new end took (front refl)
+err_front b n k r found w count written (Err Memory) old mid new sound had now end took front nothing causes =
+    front_of b n k r w count written old new sound had now (front_whole old new written (takes_nothing old mid new written took (nothing refl)))
+err_front b n k r found w count written (Err Source) old mid new sound had now end took front nothing causes = absurd (causes refl)
+
+pub err_stopped : (b n m : Option (List ℕ)) (k : ℕ) (r : Came) (found : Reading) (w : Option WorldSeen) (count : ℕ) (written piece : List ℕ) (result : Result ℕ Halt) (old mid new : Told) → IsUnder b n k r w count written → IsDrained r w → Consumes n m piece → length piece ≤ BUFFER_BYTES → Takes old mid written
+    → (IsErrOf result Sink → EndsBefore w count found mid new) → (IsErrOf result Memory → Takes mid new []) → result ≢ Err Source → OnErr result (WasAnswering b m old new)
+err_stopped b n m k r found w count written piece (Ok status) old mid new had now read few took front nothing causes = tt
+err_stopped b n m k r found w count written piece (Err Sink) old mid new had now read few took front nothing causes = stopped_at_end b n m k r w count written piece found old mid new had now read few took (front refl)
+err_stopped b n m k r found w count written piece (Err Memory) old mid new had now read few took front nothing causes =
+    stopped_before b n m k r w count written piece old new had now read few (takes_nothing old mid new written took (nothing refl))
+err_stopped b n m k r found w count written piece (Err Source) old mid new had now read few took front nothing causes = absurd (causes refl)
+
+pub not_done : (r : Came) (fault : ScriptFault) (found : Reading) (result : Result ℕ Halt) (P : Type 0) → known_fault r ≡ Some fault → found ≡ will_be r [] → IfOk result (λ status. status ≡ run_status found.fault) → IfOk result (λ status. status ≡ 0 → P)
+not_done r fault found (Ok status) P known is means = λ zero. has_fault r fault found P known is (zero_fault found.fault status means zero)
+not_done r fault found (Err why) P known is means = tt
 
 -- ---- the start
 

@@ -9,7 +9,7 @@ use Rattle.sat_top.specs.declared.stream.TheConstants.{BUFFER_BYTES}
 use Rattle.sat_top.specs.declared.words.Command.{Command}
 use Rattle.sat_top.specs.declared.words.Command.TheVariants.{Run, Plan, Place}
 use Rattle.sat_top.specs.Words.{command_of}
-use Rattle.sat_top.specs.Streaming.{WroteBefore, GaveUp}
+use Rattle.sat_top.specs.Streaming.{WroteBefore, BrokeOff, GaveUp}
 use Rattle.sat_top.specs.Whole.{IsTextOf, TakesFront, IsDone, IsRefused, reads, refusal, status_of, output_of}
 
 -- how many bytes a command takes at the most, however many the source has: its longest input, and one piece
@@ -32,7 +32,9 @@ pub record Meets (words : List (List ℕ)) (status : ℕ) (left left_after : Opt
   -- the source fails between two reads: `run` has written the answers of each whole line that it read, the other commands nothing
   pub no_source : status ≡ 3 → Rose failed failed_after × (reads (command_of words) ≡ true) × WroteBefore (command_of words) left left_after told told_after
   pub no_sink : status ≡ 4 → Rose refused refused_after × ((text : List ℕ) × IsTextOf left text × TakesFront told told_after (output_of words text))
-  pub no_memory : status ≡ 5 → GaveUp (command_of words) left told told_after
+  -- where the sink fails or memory runs out, `run` has written the answers of all that came before the last piece that it read
+  pub broken : status ≡ 4 → BrokeOff (command_of words) left left_after told told_after
+  pub no_memory : status ≡ 5 → GaveUp (command_of words) left left_after told told_after
   pub statuses : status ≤ 5
   -- the bytes taken have a bound
   pub bounded : (taken : List ℕ) × Consumes left left_after taken × (length taken ≤ most_taken (command_of words))

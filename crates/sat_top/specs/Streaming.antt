@@ -1,5 +1,5 @@
 -- A script that is run piece by piece: what was written before more was read.
-use Rattle.std.specs.Prelude.{ℕ, ◌≡◌, false, List, [], ◌++◌, length, Option, Some, None}
+use Rattle.std.specs.Prelude.{ℕ, ◌≡◌, ◌≤◌, false, List, [], ◌++◌, length, Option, Some, None}
 use Rattle.std.specs.Io.KnownBytes.{Consumes}
 use Rattle.sat_outside.specs.Streams.{Told, Takes}
 use Rattle.sat_act.specs.declared.act.Act.{Act}
@@ -9,6 +9,7 @@ use Rattle.sat_report.specs.Answers.{answers}
 use Rattle.sat_script.specs.Reading.{reading}
 use Rattle.sat_script.specs.Stream.{behind, LacksOnlyItsEnd}
 use Rattle.sat_script.specs.declared.stream.Reading.{Reading}
+use Rattle.sat_top.specs.declared.stream.TheConstants.{BUFFER_BYTES}
 use Rattle.sat_top.specs.declared.words.Command.{Command}
 use Rattle.sat_top.specs.declared.words.Command.TheVariants.{Run}
 use Rattle.sat_top.specs.Good.{IsGoodFront}
@@ -39,15 +40,30 @@ pub record HasFront (left : Option (List ℕ)) (old new : Told) : Type 0 where
   pub whole : IsTextOf left text
   pub front : TakesFront old new (run_text (reading false text))
 
+-- The run stopped while the answers of one piece of the text were made or written: those of each whole line before that piece were
+-- written before the piece was read.
+pub record WasAnswering (left left_after : Option (List ℕ)) (old new : Told) : Type 0 where
+  pub before : List ℕ
+  pub piece : List ℕ
+  pub consumed : Consumes left left_after (before ++ piece)
+  pub one : length piece ≤ BUFFER_BYTES
+  pub rest : List ℕ
+  pub written : Takes old new (answers_text (reading false before) ++ rest)
+
 -- what was written when the source fails: only `run` writes before its whole input is read
 abbrev pub WroteBefore : Option Command → Option (List ℕ) → Option (List ℕ) → Told → Told → Type 0
 WroteBefore (Some Run) left left_after old new = HasAnswered left left_after old new
 WroteBefore _ left left_after old new = Takes old new []
 
 -- and when memory runs out
-abbrev pub GaveUp : Option Command → Option (List ℕ) → Told → Told → Type 0
-GaveUp (Some Run) left old new = HasFront left old new
-GaveUp _ left old new = Takes old new []
+abbrev pub GaveUp : Option Command → Option (List ℕ) → Option (List ℕ) → Told → Told → Type 0
+GaveUp (Some Run) left left_after old new = HasFront left old new × WasAnswering left left_after old new
+GaveUp _ left left_after old new = Takes old new []
+
+-- and when the sink fails
+abbrev pub BrokeOff : Option Command → Option (List ℕ) → Option (List ℕ) → Told → Told → Type 0
+BrokeOff (Some Run) left left_after old new = WasAnswering left left_after old new
+BrokeOff _ left left_after old new = Unit {0}
 
 -- ---- under way
 

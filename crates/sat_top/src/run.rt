@@ -151,7 +151,14 @@ pub(crate) fn rest_text(
     requires few { before + length reading.now.acts ≤ MOST_ACTS }
     ensures { OnOk result ((front : List ℕ) (done : List Act) → before ≡ length done → AtWorld world.old front done → front ++ text.new.items ≡ run_text (behind done reading.now)) }
 {
-    answer_more(alloc, &reading.deployment, world, before, reading.acts.as_slice(), text)?;
+    answer_more(
+        alloc,
+        &reading.deployment,
+        world,
+        before,
+        reading.acts.as_slice(),
+        text,
+    )?;
     match world {
         Some(world) => write_ending(world, reading.fault, text),
         None => {

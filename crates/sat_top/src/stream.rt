@@ -11,7 +11,7 @@ ghost use Rattle.sat_place.specs.Shape.{shape_reading};
 ghost use Rattle.sat_script.specs.declared.limits.TheConstants.{MOST_BYTES as MOST_SCRIPT_BYTES};
 ghost use Rattle.sat_delay.specs.declared.read.TheConstants.{MOST_BYTES as MOST_DELAY_BYTES};
 ghost use Rattle.sat_top.specs.declared.stream.TheConstants.{BUFFER_BYTES};
-ghost use Rattle.sat_top.specs.Streaming.{DoesMore, Ends, EndsBefore, HasAnswered, HasFront, IsKnown, IsWorldOf};
+ghost use Rattle.sat_top.specs.Streaming.{DoesMore, Ends, EndsBefore, HasAnswered, HasFront, IsKnown, IsWorldOf, WasAnswering};
 ghost use Rattle.sat_top.specs.Whole.{IsOutput, IsTextOf, TakesFront, run_status};
 
 use crate::law::good_scripts;
@@ -114,6 +114,7 @@ pub fn run_script<S: Source, K: Sink>(
     ensures answered { IsErrOf result Halt.Source → HasAnswered (S.left source.old) (S.left source.new) (K.told sink.old) (K.told sink.new) }
     ensures refused { IsErrOf result Halt.Sink → Rose (K.faults sink.old) (K.faults sink.new) }
     ensures front { OnErr result (HasFront (S.left source.old) (K.told sink.old) (K.told sink.new)) }
+    ensures stopped { OnErr result (WasAnswering (S.left source.old) (S.left source.new) (K.told sink.old) (K.told sink.new)) }
     ensures later { S.faults source.old ≤ S.faults source.new }
     ensures kept { K.faults sink.old ≤ K.faults sink.new }
 {
@@ -141,10 +142,16 @@ pub fn run_script<S: Source, K: Sink>(
                     }
                     return end_script(alloc, &reader.finish(), &mut world, done, &mut text, sink);
                 }
-                if answer_piece(alloc, &mut reader, &mut world, &mut done, &mut text).is_err() {
+                if let Err(_lacking) = answer_piece(
+                    alloc,
+                    &mut reader,
+                    &mut world,
+                    &mut done,
+                    &mut text,
+                ) {
                     return Err(Halt::Memory);
                 }
-                if write_text(sink, text.as_slice()).is_err() {
+                if let Err(_failed) = write_text(sink, text.as_slice()) {
                     return Err(Halt::Sink);
                 }
             }

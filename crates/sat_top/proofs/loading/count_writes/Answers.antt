@@ -9,8 +9,8 @@ pub loop-place-preserved : goal.loop-place-preserved
 loop-place-preserved c = record {
   deployment = c.count_act.ensures.deployment ∙ c.loop-place.invariant.deployment;
   counting =
-    count-next c.loop-place.world c.count_act.new.world c.args.world.now.deployment c.args.acts.now c.loop-place.place c.loop-place.written c.in_ok-written.field-0 c.index-acts-place.result
-    (omega arith) c.index-acts-place.is c.loop-place.invariant.deployment c.loop-place.invariant.counting c.in_ok-written.ensures.counting;
+      count-next c.loop-place.world c.count_act.new.world c.args.world.now.deployment c.args.acts.now c.loop-place.place c.loop-place.written c.in_ok-written.field-0 c.index-acts-place.result
+      (omega arith) c.index-acts-place.is c.loop-place.invariant.deployment c.loop-place.invariant.counting c.in_ok-written.ensures.counting;
   few = omega (arith, c.loop-place.invariant.few, c.in_ok-written.ensures.one);
   rest = rest-more c.args.world.now.deployment c.args.acts.now c.loop-place.place c.index-acts-place.result (omega arith) c.loop-place.invariant.rest;
 }
