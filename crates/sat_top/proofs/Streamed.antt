@@ -17,7 +17,7 @@ use Rattle.sat_script.specs.Grammar.{close_in}
 use Rattle.sat_script.specs.Reading.{reading, script_from, AreActsOf}
 use Rattle.sat_script.specs.State.{number_of}
 use Rattle.sat_script.specs.Spelled.{HaveNames}
-use Rattle.sat_script.specs.Stream.{Came, will_be, known_fault, behind, LacksOnlyItsEnd}
+use Rattle.sat_script.specs.Stream.{Came, will_be, known_fault, bytes_of, behind, drained, LacksOnlyItsEnd}
 use Rattle.sat_script.specs.declared.fault.ScriptFault.{ScriptFault}
 use Rattle.sat_script.specs.declared.limits.TheConstants.{MOST_ACTS}
 use Rattle.sat_script.specs.declared.stream.Reading.{Reading}
@@ -102,6 +102,22 @@ answered b n k r new w v count next written text acts had script more does = rec
 
     again : (later : List ℕ) → behind (had.done ++ acts) (will_be new later) ≡ behind had.done (will_be r later)
     again later = ap (with_acts (will_be new later)) (append_assoc had.done acts (will_be new later).acts) ∙ ap (behind had.done) (sym (script later))
+
+pub drained_after : (before r : Came) (w : Option WorldSeen) → r ≡ drained before → IsWorldOf before.lines.deployment w → ((d : Deployed) (more : List ℕ) → before.lines.deployment ≡ Some d → (will_be r more).deployment ≡ Some d)
+    → (known_fault before ≡ None → LacksOnlyItsEnd (will_be r [])) → known_fault before ≡ None → IsDrained r w
+drained_after before r w is world stays lacks fresh = record {
+  known = subst (λ (x : Came). IsWorldOf x.lines.deployment w) (sym is) world;
+  empty = ap (λ (x : Came). x.lines.acts) is;
+  stays = λ d more at. stays d more (sym (ap (λ (x : Came). x.lines.deployment) is) ∙ at);
+  lacks = lacks fresh;
+}
+
+pub fresh_after : (before r : Came) → r ≡ drained before → known_fault before ≡ None → known_fault r ≡ None
+fresh_after before r is fresh = ap (λ (x : Came). known_fault x) is ∙ fresh
+
+pub bytes_after : (before r : Came) → r ≡ drained before → bytes_of r ≡ bytes_of before
+unfolding bytes_of
+bytes_after before r is = ap bytes_of is
 
 -- ---- fronts
 
@@ -261,7 +277,7 @@ keeps (Some xs) None is = absurd is
 keeps (Some xs) (Some ys) is = sym is
 
 pub zero_bytes : (n m : Option (List ℕ)) (count : ℕ) (bytes : List ℕ) → count ≡ 0 → Consumes n m (take count bytes) → Consumes n m []
-zero_bytes n m count bytes zero took = subst (λ (k : ℕ). Consumes n m (take k bytes)) zero took
+zero_bytes n m count bytes none took = subst (λ (k : ℕ). Consumes n m (take k bytes)) none took
 
 pub still_under : (b n m : Option (List ℕ)) (k : ℕ) (r : Came) (w : Option WorldSeen) (count : ℕ) (written : List ℕ) → IsUnder b n k r w count written → Consumes n m [] → IsUnder b m (k + 0) r w count written
 still_under b n m k r w count written had took = fed b n m k 0 r r w count written [] had took (λ more. refl) refl
@@ -297,7 +313,7 @@ err_stopped b n m k r found w count written piece (Err Memory) old mid new had n
 err_stopped b n m k r found w count written piece (Err Source) old mid new had now read few took front nothing causes = absurd (causes refl)
 
 pub not_done : (r : Came) (fault : ScriptFault) (found : Reading) (result : Result ℕ Halt) (P : Type 0) → known_fault r ≡ Some fault → found ≡ will_be r [] → IfOk result (λ status. status ≡ run_status found.fault) → IfOk result (λ status. status ≡ 0 → P)
-not_done r fault found (Ok status) P known is means = λ zero. has_fault r fault found P known is (zero_fault found.fault status means zero)
+not_done r fault found (Ok status) P known is means = λ done. has_fault r fault found P known is (zero_fault found.fault status means done)
 not_done r fault found (Err why) P known is means = tt
 
 -- ---- the start

@@ -1,4 +1,4 @@
-use Rattle.std.proofs.Common.{rules, arith, take, ◌+◌, ◌++◌, [], refl}
+use Rattle.std.proofs.Common.{false, ◌≡◌, rules, arith, take, ◌+◌, ◌++◌, [], refl}
 use Rattle.sat_script.specs.Stream.{will_be, behind}
 use Rattle.sat_script.specs.declared.limits.TheConstants.{MOST_BYTES}
 use Rattle.sat_top.proofs.Progress.{read_bounded}
@@ -32,16 +32,16 @@ pub end_script-requires-clause-known : goal.end_script-requires-clause-known
 end_script-requires-clause-known g c = known_at_end c.pieces.reader c.pieces.world c.finish.result (known_fed c.pieces.reader c.pieces.reader c.pieces.world [] c.pieces.invariant.drained (λ more. refl)) c.finish.ensures.script
 
 pub returns-in-Ok-eq0-clause-whole : goal.returns-in-Ok-eq0-clause-whole
-returns-in-Ok-eq0-clause-whole g c = ok_ended (g.S.Source.left c.args.source.now) c.finish.result c.pieces.world c.pieces.done c.pieces.invariant.under.0 c.end_script.result (g.K.Sink.told c.args.sink.now) (g.K.Sink.told c.pieces.sink) (g.K.Sink.told c.end_script.new.sink) c.good_scripts.ensures (λ text. c.sound_readings.ensures false text) (record { good = c.headline.ensures; settles = c.settles_all.ensures.settles; rests = c.settles_all.ensures.rests }) (ends_whole (g.S.Source.left c.args.source.now) (g.S.Source.left c.read.new.self) (c.pieces.taken + 0) c.pieces.reader c.pieces.world c.pieces.done c.pieces.invariant.under.0 c.finish.result (still_under (g.S.Source.left c.args.source.now) (g.S.Source.left c.pieces.source) (g.S.Source.left c.read.new.self) c.pieces.taken c.pieces.reader c.pieces.world c.pieces.done c.pieces.invariant.under.0 c.pieces.invariant.under.1 (zero_bytes (g.S.Source.left c.pieces.source) (g.S.Source.left c.read.new.self) c.in-Ok-eq0.field-0 c.read.new.into c.in-Ok-eq0.field-0-is c.in-Ok-eq0.ensures.bytes.0)) (c.in-Ok-eq0.ensures.bytes.1 c.in-Ok-eq0.field-0-is (omega arith)) c.finish.ensures.script) c.pieces.invariant.under.2 c.end_script.ensures.status c.end_script.ensures.whole
+returns-in-Ok-eq0-clause-whole g c = ok_ended (g.S.Source.left c.args.source.now) c.finish.result c.pieces.world c.pieces.done c.pieces.invariant.under.0 c.end_script.result (g.K.Sink.told c.args.sink.now) (g.K.Sink.told c.pieces.sink) (g.K.Sink.told c.end_script.new.sink) c.good_scripts.ensures (λ text. c.sound_readings.ensures false text) (record { good = c.headline.ensures; settles = c.settles_all.ensures.settles; rests = c.settles_all.ensures.rests }) (ends_whole (g.S.Source.left c.args.source.now) (g.S.Source.left c.read.new.self) (c.pieces.taken + 0) c.pieces.reader c.pieces.world c.pieces.done c.pieces.invariant.under.0 c.finish.result (still_under (g.S.Source.left c.args.source.now) (g.S.Source.left c.pieces.source) (g.S.Source.left c.read.new.self) c.pieces.taken c.pieces.reader c.pieces.world c.pieces.done c.pieces.invariant.under.0 c.pieces.invariant.under.1 (zero_bytes (g.S.Source.left c.pieces.source) (g.S.Source.left c.read.new.self) c.in-Ok-eq0.field-0 c.read.new.into (let none : c.in-Ok-eq0.field-0 ≡ 0 = search rules in none) c.in-Ok-eq0.ensures.bytes.0)) (c.in-Ok-eq0.ensures.bytes.1 (let none : c.in-Ok-eq0.field-0 ≡ 0 = search rules in none) (omega arith)) c.finish.ensures.script) c.pieces.invariant.under.2 c.end_script.ensures.status c.end_script.ensures.whole
 
 pub returns-in-Ok-eq0-clause-bounded : goal.returns-in-Ok-eq0-clause-bounded
-returns-in-Ok-eq0-clause-bounded g c = read_bounded (g.S.Source.left c.args.source.now) (g.S.Source.left c.pieces.source) (g.S.Source.left c.read.new.self) (λ more. behind c.pieces.invariant.under.1.done (will_be c.pieces.reader more)) [] c.pieces.taken (MOST_BYTES + 65536) c.pieces.invariant.under.1.read (zero_bytes (g.S.Source.left c.pieces.source) (g.S.Source.left c.read.new.self) c.in-Ok-eq0.field-0 c.read.new.into c.in-Ok-eq0.field-0-is c.in-Ok-eq0.ensures.bytes.0) (omega (arith, c.pieces.invariant.counted, c.pieces.invariant.few))
+returns-in-Ok-eq0-clause-bounded g c = read_bounded (g.S.Source.left c.args.source.now) (g.S.Source.left c.pieces.source) (g.S.Source.left c.read.new.self) (λ more. behind c.pieces.invariant.under.1.done (will_be c.pieces.reader more)) [] c.pieces.taken (MOST_BYTES + 65536) c.pieces.invariant.under.1.read (zero_bytes (g.S.Source.left c.pieces.source) (g.S.Source.left c.read.new.self) c.in-Ok-eq0.field-0 c.read.new.into (let none : c.in-Ok-eq0.field-0 ≡ 0 = search rules in none) c.in-Ok-eq0.ensures.bytes.0) (omega (arith, c.pieces.invariant.counted, c.pieces.invariant.few))
 
 pub returns-in-Ok-eq0-clause-front : goal.returns-in-Ok-eq0-clause-front
-returns-in-Ok-eq0-clause-front g c = err_front (g.S.Source.left c.args.source.now) (g.S.Source.left c.pieces.source) c.pieces.taken c.pieces.reader c.finish.result c.pieces.world c.pieces.done c.pieces.invariant.under.0 c.end_script.result (g.K.Sink.told c.args.sink.now) (g.K.Sink.told c.pieces.sink) (g.K.Sink.told c.end_script.new.sink) (λ text. c.sound_readings.ensures false text) c.pieces.invariant.under.1 c.pieces.invariant.drained (ends_whole (g.S.Source.left c.args.source.now) (g.S.Source.left c.read.new.self) (c.pieces.taken + 0) c.pieces.reader c.pieces.world c.pieces.done c.pieces.invariant.under.0 c.finish.result (still_under (g.S.Source.left c.args.source.now) (g.S.Source.left c.pieces.source) (g.S.Source.left c.read.new.self) c.pieces.taken c.pieces.reader c.pieces.world c.pieces.done c.pieces.invariant.under.0 c.pieces.invariant.under.1 (zero_bytes (g.S.Source.left c.pieces.source) (g.S.Source.left c.read.new.self) c.in-Ok-eq0.field-0 c.read.new.into c.in-Ok-eq0.field-0-is c.in-Ok-eq0.ensures.bytes.0)) (c.in-Ok-eq0.ensures.bytes.1 c.in-Ok-eq0.field-0-is (omega arith)) c.finish.ensures.script) c.pieces.invariant.under.2 c.end_script.ensures.front c.end_script.ensures.nothing c.end_script.ensures.causes
+returns-in-Ok-eq0-clause-front g c = err_front (g.S.Source.left c.args.source.now) (g.S.Source.left c.pieces.source) c.pieces.taken c.pieces.reader c.finish.result c.pieces.world c.pieces.done c.pieces.invariant.under.0 c.end_script.result (g.K.Sink.told c.args.sink.now) (g.K.Sink.told c.pieces.sink) (g.K.Sink.told c.end_script.new.sink) (λ text. c.sound_readings.ensures false text) c.pieces.invariant.under.1 c.pieces.invariant.drained (ends_whole (g.S.Source.left c.args.source.now) (g.S.Source.left c.read.new.self) (c.pieces.taken + 0) c.pieces.reader c.pieces.world c.pieces.done c.pieces.invariant.under.0 c.finish.result (still_under (g.S.Source.left c.args.source.now) (g.S.Source.left c.pieces.source) (g.S.Source.left c.read.new.self) c.pieces.taken c.pieces.reader c.pieces.world c.pieces.done c.pieces.invariant.under.0 c.pieces.invariant.under.1 (zero_bytes (g.S.Source.left c.pieces.source) (g.S.Source.left c.read.new.self) c.in-Ok-eq0.field-0 c.read.new.into (let none : c.in-Ok-eq0.field-0 ≡ 0 = search rules in none) c.in-Ok-eq0.ensures.bytes.0)) (c.in-Ok-eq0.ensures.bytes.1 (let none : c.in-Ok-eq0.field-0 ≡ 0 = search rules in none) (omega arith)) c.finish.ensures.script) c.pieces.invariant.under.2 c.end_script.ensures.front c.end_script.ensures.nothing c.end_script.ensures.causes
 
 pub returns-in-Ok-eq0-clause-stopped : goal.returns-in-Ok-eq0-clause-stopped
-returns-in-Ok-eq0-clause-stopped g c = err_stopped (g.S.Source.left c.args.source.now) (g.S.Source.left c.pieces.source) (g.S.Source.left c.read.new.self) c.pieces.taken c.pieces.reader c.finish.result c.pieces.world c.pieces.done c.pieces.invariant.under.0 [] c.end_script.result (g.K.Sink.told c.args.sink.now) (g.K.Sink.told c.pieces.sink) (g.K.Sink.told c.end_script.new.sink) c.pieces.invariant.under.1 c.pieces.invariant.drained (zero_bytes (g.S.Source.left c.pieces.source) (g.S.Source.left c.read.new.self) c.in-Ok-eq0.field-0 c.read.new.into c.in-Ok-eq0.field-0-is c.in-Ok-eq0.ensures.bytes.0) (omega arith) c.pieces.invariant.under.2 c.end_script.ensures.front c.end_script.ensures.nothing c.end_script.ensures.causes
+returns-in-Ok-eq0-clause-stopped g c = err_stopped (g.S.Source.left c.args.source.now) (g.S.Source.left c.pieces.source) (g.S.Source.left c.read.new.self) c.pieces.taken c.pieces.reader c.finish.result c.pieces.world c.pieces.done c.pieces.invariant.under.0 [] c.end_script.result (g.K.Sink.told c.args.sink.now) (g.K.Sink.told c.pieces.sink) (g.K.Sink.told c.end_script.new.sink) c.pieces.invariant.under.1 c.pieces.invariant.drained (zero_bytes (g.S.Source.left c.pieces.source) (g.S.Source.left c.read.new.self) c.in-Ok-eq0.field-0 c.read.new.into (let none : c.in-Ok-eq0.field-0 ≡ 0 = search rules in none) c.in-Ok-eq0.ensures.bytes.0) (omega arith) c.pieces.invariant.under.2 c.end_script.ensures.front c.end_script.ensures.nothing c.end_script.ensures.causes
 
 pub returns-then-eq-clause-bounded : goal.returns-then-eq-clause-bounded
 returns-then-eq-clause-bounded g c = read_bounded (g.S.Source.left c.args.source.now) (g.S.Source.left c.pieces.source) (g.S.Source.left c.read.new.self) (λ more. behind c.pieces.invariant.under.1.done (will_be c.pieces.reader more)) (take c.in-Ok.count c.read.new.into) c.pieces.taken (MOST_BYTES + 65536) c.pieces.invariant.under.1.read c.in-Ok.ensures.bytes.0 (omega (arith, c.pieces.invariant.counted, c.pieces.invariant.few, c.in-Ok.ensures.count.1, c.in-Ok.ensures.count.0))
@@ -78,3 +78,24 @@ answer_piece-requires-clause-known g c = known_fed c.pieces.reader c.feed.new.se
 
 pub answer_piece-requires-clause-few : goal.answer_piece-requires-clause-few
 answer_piece-requires-clause-few g c = few_under (g.S.Source.left c.args.source.now) (g.S.Source.left c.read.new.self) (c.pieces.taken + c.in-Ok.count) c.feed.new.self c.pieces.world c.pieces.done c.pieces.invariant.under.0 (λ text. c.sound_readings.ensures false text) (fed (g.S.Source.left c.args.source.now) (g.S.Source.left c.pieces.source) (g.S.Source.left c.read.new.self) c.pieces.taken c.in-Ok.count c.pieces.reader c.feed.new.self c.pieces.world c.pieces.done c.pieces.invariant.under.0 (take c.in-Ok.count c.read.new.into) c.pieces.invariant.under.1 c.in-Ok.ensures.bytes.0 c.in_default.ensures.script c.in-Ok.ensures.count.1)
+
+pub returns-in-Err-answer_piece-clause-bounded : goal.returns-in-Err-answer_piece-clause-bounded
+returns-in-Err-answer_piece-clause-bounded g c = read_bounded (g.S.Source.left c.args.source.now) (g.S.Source.left c.pieces.source) (g.S.Source.left c.read.new.self) (λ more. behind c.pieces.invariant.under.1.done (will_be c.pieces.reader more)) (take c.in-Ok.count c.read.new.into) c.pieces.taken (MOST_BYTES + 65536) c.pieces.invariant.under.1.read c.in-Ok.ensures.bytes.0 (omega (arith, c.pieces.invariant.counted, c.pieces.invariant.few, c.in-Ok.ensures.count.1, c.in-Ok.ensures.count.0))
+
+pub returns-in-Err-answer_piece-clause-front : goal.returns-in-Err-answer_piece-clause-front
+returns-in-Err-answer_piece-clause-front g c = front_of (g.S.Source.left c.args.source.now) (g.S.Source.left c.pieces.source) c.pieces.taken c.pieces.reader c.pieces.world c.pieces.done c.pieces.invariant.under.0 (g.K.Sink.told c.args.sink.now) (g.K.Sink.told c.pieces.sink) (λ text. c.sound_readings.ensures false text) c.pieces.invariant.under.1 c.pieces.invariant.drained (front_whole (g.K.Sink.told c.args.sink.now) (g.K.Sink.told c.pieces.sink) c.pieces.invariant.under.0 c.pieces.invariant.under.2)
+
+pub returns-in-Err-answer_piece-clause-stopped : goal.returns-in-Err-answer_piece-clause-stopped
+returns-in-Err-answer_piece-clause-stopped g c = stopped_before (g.S.Source.left c.args.source.now) (g.S.Source.left c.pieces.source) (g.S.Source.left c.read.new.self) c.pieces.taken c.pieces.reader c.pieces.world c.pieces.done c.pieces.invariant.under.0 (take c.in-Ok.count c.read.new.into) (g.K.Sink.told c.args.sink.now) (g.K.Sink.told c.pieces.sink) c.pieces.invariant.under.1 c.pieces.invariant.drained c.in-Ok.ensures.bytes.0 (omega (arith, c.in-Ok.ensures.count.1, c.in-Ok.ensures.count.0)) c.pieces.invariant.under.2
+
+pub returns-in-Err-write_text-clause-bounded : goal.returns-in-Err-write_text-clause-bounded
+returns-in-Err-write_text-clause-bounded g c = read_bounded (g.S.Source.left c.args.source.now) (g.S.Source.left c.pieces.source) (g.S.Source.left c.read.new.self) (λ more. behind c.pieces.invariant.under.1.done (will_be c.pieces.reader more)) (take c.in-Ok.count c.read.new.into) c.pieces.taken (MOST_BYTES + 65536) c.pieces.invariant.under.1.read c.in-Ok.ensures.bytes.0 (omega (arith, c.pieces.invariant.counted, c.pieces.invariant.few, c.in-Ok.ensures.count.1, c.in-Ok.ensures.count.0))
+
+pub returns-in-Err-write_text-clause-front : goal.returns-in-Err-write_text-clause-front
+returns-in-Err-write_text-clause-front g c = ?
+
+pub returns-in-Err-write_text-clause-stopped : goal.returns-in-Err-write_text-clause-stopped
+returns-in-Err-write_text-clause-stopped g c = ?
+
+pub pieces-preserved : goal.pieces-preserved
+pieces-preserved g c = ?
