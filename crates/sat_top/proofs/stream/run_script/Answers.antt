@@ -1,8 +1,10 @@
-use Rattle.std.proofs.Common.{false, ◌≡◌, rules, arith, take, ◌+◌, ◌++◌, [], refl}
+use Rattle.std.proofs.Common.{false, ◌≡◌, ℕ, List, subst, rules, arith, take, ◌+◌, ◌++◌, [], refl}
 use Rattle.sat_script.specs.Stream.{will_be, behind}
 use Rattle.sat_script.specs.declared.limits.TheConstants.{MOST_BYTES}
 use Rattle.sat_top.proofs.Progress.{read_bounded}
-use Rattle.sat_top.proofs.Streamed.{under_start, drained_start, fed, known_fed, few_under, answered, takes_on, front_of, front_on, front_whole, has_answered, keeps, zero_bytes, still_under, known_at_end, few_at_end, ends_whole, ends_early, ok_ended, err_front, err_stopped, not_done, stopped_before, stopped_in}
+use Rattle.sat_top.proofs.Streamed.{under_start, drained_start, fed, known_fed, few_under, answered, takes_on, front_of, front_on, front_whole, has_answered, keeps, zero_bytes, still_under, known_at_end, few_at_end, ends_whole, ends_early, ok_ended, err_front, err_stopped, not_done, stopped_before, stopped_in, drained_after, fresh_after, bytes_after}
+use Rattle.sat_outside.specs.Streams.{Takes}
+use Rattle.sat_top.specs.Whole.{TakesFront}
 use Rattle.sat_top.proofs.stream.run_script.Goals as goal
 
 pub pieces-init : goal.pieces-init
@@ -92,10 +94,18 @@ pub returns-in-Err-write_text-clause-bounded : goal.returns-in-Err-write_text-cl
 returns-in-Err-write_text-clause-bounded g c = read_bounded (g.S.Source.left c.args.source.now) (g.S.Source.left c.pieces.source) (g.S.Source.left c.read.new.self) (λ more. behind c.pieces.invariant.under.1.done (will_be c.pieces.reader more)) (take c.in-Ok.count c.read.new.into) c.pieces.taken (MOST_BYTES + 65536) c.pieces.invariant.under.1.read c.in-Ok.ensures.bytes.0 (omega (arith, c.pieces.invariant.counted, c.pieces.invariant.few, c.in-Ok.ensures.count.1, c.in-Ok.ensures.count.0))
 
 pub returns-in-Err-write_text-clause-front : goal.returns-in-Err-write_text-clause-front
-returns-in-Err-write_text-clause-front g c = ?
+returns-in-Err-write_text-clause-front g c = front_of (g.S.Source.left c.args.source.now) (g.S.Source.left c.read.new.self) (c.pieces.taken + c.in-Ok.count) c.answer_piece.new.reader c.answer_piece.new.world c.answer_piece.new.done (c.pieces.invariant.under.0 ++ c.answer_piece.new.text.items) (g.K.Sink.told c.args.sink.now) (g.K.Sink.told c.write_text.new.sink) (λ text. c.sound_readings.ensures false text) (answered (g.S.Source.left c.args.source.now) (g.S.Source.left c.read.new.self) (c.pieces.taken + c.in-Ok.count) c.feed.new.self c.answer_piece.new.reader c.pieces.world c.answer_piece.new.world c.pieces.done c.answer_piece.new.done c.pieces.invariant.under.0 c.answer_piece.new.text.items c.feed.new.self.lines.acts (fed (g.S.Source.left c.args.source.now) (g.S.Source.left c.pieces.source) (g.S.Source.left c.read.new.self) c.pieces.taken c.in-Ok.count c.pieces.reader c.feed.new.self c.pieces.world c.pieces.done c.pieces.invariant.under.0 (take c.in-Ok.count c.read.new.into) c.pieces.invariant.under.1 c.in-Ok.ensures.bytes.0 c.in_default.ensures.script c.in-Ok.ensures.count.1) c.in_default-answer_piece.ensures.script c.in_default-answer_piece.ensures.count c.in_default-answer_piece.ensures.more) (drained_after c.feed.new.self c.answer_piece.new.reader c.answer_piece.new.world c.in_default-answer_piece.ensures.reader c.in_default-answer_piece.ensures.known c.in_default-answer_piece.ensures.stays c.in_default-answer_piece.ensures.lacks c.in_default.ensures.fault) (front_on (g.K.Sink.told c.args.sink.now) (g.K.Sink.told c.pieces.sink) (g.K.Sink.told c.write_text.new.sink) c.pieces.invariant.under.0 c.answer_piece.new.text.items c.pieces.invariant.under.2 (subst (λ (bytes : List ℕ). TakesFront (g.K.Sink.told c.pieces.sink) (g.K.Sink.told c.write_text.new.sink) bytes) c.as_slice.ensures.value c.in-Err-write_text.ensures.err))
 
 pub returns-in-Err-write_text-clause-stopped : goal.returns-in-Err-write_text-clause-stopped
-returns-in-Err-write_text-clause-stopped g c = ?
+returns-in-Err-write_text-clause-stopped g c = stopped_in (g.S.Source.left c.args.source.now) (g.S.Source.left c.pieces.source) (g.S.Source.left c.read.new.self) c.pieces.taken c.pieces.reader c.pieces.world c.pieces.done c.pieces.invariant.under.0 (take c.in-Ok.count c.read.new.into) c.answer_piece.new.text.items (g.K.Sink.told c.args.sink.now) (g.K.Sink.told c.pieces.sink) (g.K.Sink.told c.write_text.new.sink) c.pieces.invariant.under.1 c.pieces.invariant.drained c.in-Ok.ensures.bytes.0 (omega (arith, c.in-Ok.ensures.count.1, c.in-Ok.ensures.count.0)) c.pieces.invariant.under.2 (subst (λ (bytes : List ℕ). TakesFront (g.K.Sink.told c.pieces.sink) (g.K.Sink.told c.write_text.new.sink) bytes) c.as_slice.ensures.value c.in-Err-write_text.ensures.err)
 
 pub pieces-preserved : goal.pieces-preserved
-pieces-preserved g c = ?
+pieces-preserved g c = record {
+  fresh = fresh_after c.feed.new.self c.answer_piece.new.reader c.in_default-answer_piece.ensures.reader c.in_default.ensures.fault;
+  later = omega (arith, c.pieces.invariant.later, c.in-Ok.ensures.cause.later);
+  kept = omega (arith, c.pieces.invariant.kept, c.in_default-write_text.ensures.later);
+  under = (c.pieces.invariant.under.0 ++ c.answer_piece.new.text.items, (answered (g.S.Source.left c.args.source.now) (g.S.Source.left c.read.new.self) (c.pieces.taken + c.in-Ok.count) c.feed.new.self c.answer_piece.new.reader c.pieces.world c.answer_piece.new.world c.pieces.done c.answer_piece.new.done c.pieces.invariant.under.0 c.answer_piece.new.text.items c.feed.new.self.lines.acts (fed (g.S.Source.left c.args.source.now) (g.S.Source.left c.pieces.source) (g.S.Source.left c.read.new.self) c.pieces.taken c.in-Ok.count c.pieces.reader c.feed.new.self c.pieces.world c.pieces.done c.pieces.invariant.under.0 (take c.in-Ok.count c.read.new.into) c.pieces.invariant.under.1 c.in-Ok.ensures.bytes.0 c.in_default.ensures.script c.in-Ok.ensures.count.1) c.in_default-answer_piece.ensures.script c.in_default-answer_piece.ensures.count c.in_default-answer_piece.ensures.more), takes_on (g.K.Sink.told c.args.sink.now) (g.K.Sink.told c.pieces.sink) (g.K.Sink.told c.write_text.new.sink) c.pieces.invariant.under.0 c.answer_piece.new.text.items c.pieces.invariant.under.2 (subst (λ (bytes : List ℕ). Takes (g.K.Sink.told c.pieces.sink) (g.K.Sink.told c.write_text.new.sink) bytes) c.as_slice.ensures.value c.in_default-write_text.ensures.ok));
+  drained = (drained_after c.feed.new.self c.answer_piece.new.reader c.answer_piece.new.world c.in_default-answer_piece.ensures.reader c.in_default-answer_piece.ensures.known c.in_default-answer_piece.ensures.stays c.in_default-answer_piece.ensures.lacks c.in_default.ensures.fault);
+  counted = omega (arith, bytes_after c.feed.new.self c.answer_piece.new.reader c.in_default-answer_piece.ensures.reader, c.in_default.ensures.counted, c.in-Ok.ensures.count.1, c.pieces.invariant.counted);
+  few = omega (arith, bytes_after c.feed.new.self c.answer_piece.new.reader c.in_default-answer_piece.ensures.reader, c.in_default.ensures.few);
+}
