@@ -34,6 +34,7 @@ pub fn still<S: Source, K: Sink>(
 }
 
 // Runs a script line by line, and answers the status.
+#[tactic(auto, using(crate::proofs::Done::is_done, crate::proofs::Done::is_refused))]
 fn streamed<S: Source, K: Sink>(alloc: Global, words: &[String], source: &mut S, sink: &mut K) -> u8
     requires { command_of (map string_bytes words.now) ≡ Some Run }
     ensures meets { Meets (map string_bytes words.now) result (S.left source.old) (S.left source.new) (K.told sink.old) (K.told sink.new)
