@@ -1,13 +1,11 @@
 //! The program over sources and sinks in memory.
-use crate::loading::count_writes;
-use crate::rows::{ANSWERS, HEADER, REPORTS, SUMMARIES, UNDERWAY};
+use crate::rows::{ANSWERS, HEADER, REPORTS, SUMMARIES};
 use crate::{saturn, still, still_in_memory};
 use sat_label::{NodeId, Point, write_point};
 use sat_outside::{CleanSink, CleanSource, FreeGate, MemorySink, MemorySource, Source};
-use sat_script::{read_script, write_script};
+use sat_script::write_script;
 use sat_settle::load;
 use sat_tree::Tree;
-use sat_world::World;
 use std::alloc::Global;
 use std::test::Fail;
 
@@ -123,23 +121,6 @@ fn large_scripts_have_their_summaries(rt: HostRuntime) -> Result<(), Fail> {
         let (status, sink) = ended(alloc, line, script(alloc, ACTS)?)?;
         assert_eq!(rt; status, 0);
         assert_eq!(rt; sink.held(), summary.as_bytes());
-    }
-    Ok(())
-}
-
-#[test]
-fn what_is_under_way_is_counted(rt: HostRuntime) -> Result<(), Fail> {
-    let alloc = rt.alloc();
-    for (acts, wanted) in UNDERWAY {
-        let mut text = HEADER.as_bytes().to_vec(alloc)?;
-        text.extend_from_slice(acts.as_bytes())?;
-        let Ok(script) = read_script(alloc, text.as_slice(), false) else {
-            assert!(rt; false);
-            return Ok(());
-        };
-        let mut world = World::new(alloc, script.deployment)?;
-        count_writes(&mut world, script.acts.as_slice())?;
-        assert_eq!(rt; world.underway(), *wanted);
     }
     Ok(())
 }
