@@ -6,7 +6,7 @@ use std::alloc::{AllocError, Global};
 use std::marker::Model;
 
 /// One event of a script. Sites, gears, items, clients and serializers go by number, from 0; epochs count from 1.
-#[derive(Drop)]
+#[derive(Drop, PartialEq, Eq)]
 pub enum Act {
     /// The clock of a gear moves on: its promise rises to `ts` at least.
     Tick {

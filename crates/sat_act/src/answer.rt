@@ -45,7 +45,7 @@ pub enum Refusal {
 }
 
 /// What an act answers.
-#[derive(Drop)]
+#[derive(Drop, PartialEq, Eq)]
 pub enum Answer {
     /// A tick: the gear's promise.
     Ticked(u64),

@@ -6,7 +6,7 @@ use std::alloc::{AllocError, Global};
 use std::marker::Model;
 
 /// One line of a history: an act and its answer.
-#[derive(Drop)]
+#[derive(Drop, PartialEq, Eq)]
 pub struct Entry {
     /// What was asked.
     pub act: Act,
