@@ -1,9 +1,12 @@
 -- The ways of a label through a serializer.
-use Rattle.std.proofs.Common.{◌≡◌, ℕ, zero, suc, ◌<◌, ◌≤◌, ◌==◌, ◌&&◌, ◌||◌, ◌↔◌, nat_lt, Bool, true, false, List, [], ◌∷◌, ◌++◌, length, map, filter, get_or, take, cond, ◌+◌, inl, inr, refl, sym, ap, ◌∙◌, subst, arith}
+use Rattle.std.proofs.Common.{◌≡◌, ℕ, zero, suc, ◌<◌, ◌≤◌, ◌==◌, ◌&&◌, ◌||◌, ◌↔◌, nat_lt, Bool, true, false, List, [], ◌∷◌, ◌++◌, length, map, filter, get_or, take, cond, ◌+◌, Option, Some, slice_get, unwrap_or, inl, inr, refl, sym, ap, ◌∙◌, subst, arith}
 use Rattle.std.specs.List.{list_any, All}
 use Rattle.std.specs.Bool.{IsTrue}
 use Rattle.std.proofs.lemmas.Bool.{and_from, and_parts, cases_Bool, cases_eq, lt-ltb, ltb-true, or_cases, or_left, or_right}
-use Rattle.std.proofs.lemmas.List.{append-nil, map-append, take_more}
+use Rattle.std.proofs.lemmas.List.{append-nil, length-append, map-append, take_more}
+use Rattle.std.proofs.lemmas.Option.{get_or_from_slice_get, slice_get-get_or, slice_get_within}
+use Rattle.sat_label.specs.declared.site_set.SiteSet.{SiteSet}
+use Rattle.sat_label.proofs.Numbers.{get-front}
 use Rattle.std.proofs.lemmas.List.Folds.{list_any-append}
 use Rattle.std.proofs.lemmas.List.Elements.{All-nil, All-push, All-map, All-append, All-filter, filter_more, filter_passes}
 use Rattle.sat_label.proofs.Truth.{or-false, same-number, same-test}
@@ -16,7 +19,7 @@ use Rattle.sat_label.proofs.SameNodes.{same-node}
 use Rattle.sat_sites.specs.Interested.{Interested, is_for}
 use Rattle.sat_tree.specs.Shape.{TreeShape}
 use Rattle.sat_tree.specs.Cut.{beyond, is_edge, neighbours, IsNode}
-use Rattle.sat_serial.specs.Routes.{leads, IsNeighbour}
+use Rattle.sat_serial.specs.Routes.{leads, AreFarSides, IsFarSide, IsNeighbour}
 
 -- ---- one of the numbers below n
 
@@ -128,6 +131,32 @@ is-among t z v n = any-filter v (λ m. is_edge t (Serializer z) m) (nodes-of t) 
 
 pub neighbour-at : (t : TreeShape) (z : ℕ) (nodes : List NodeId) (k : ℕ) (d : NodeId) → nodes ≡ neighbours t z → k < length nodes → IsNeighbour t z (get_or nodes k d)
 neighbour-at t z nodes k d same within = subst (λ (vs : List NodeId). All (IsNeighbour t z) vs) (sym same) (all-neighbours t z) k d within
+
+-- ---- the sites beyond each neighbour, of one neighbour more
+
+get-last : {X : Type 0} (xs : List X) (x : X) → slice_get (xs ++ x ∷ []) (length xs) ≡ Some x
+get-last [] x = refl
+get-last (y ∷ ys) x = get-last ys x
+
+pub far-more : (t : TreeShape) (z : ℕ) (nodes : List NodeId) (sides : List SiteSet) (i : ℕ) (d : NodeId) (side : SiteSet) → length sides ≡ i → i < length nodes →
+    IsFarSide t z (get_or nodes i d) side →
+    ((k : ℕ) (v : NodeId) (s : SiteSet) → slice_get nodes k ≡ Some v → slice_get sides k ≡ Some s → IsFarSide t z v s) →
+    (k : ℕ) (v : NodeId) (s : SiteSet) → slice_get nodes k ≡ Some v → slice_get (sides ++ side ∷ []) k ≡ Some s → IsFarSide t z v s
+far-more t z nodes sides i d side size less is had k v s at has = elim (cases_eq k i) [
+  | inl same ↦
+      let side-is : side ≡ s = ap (λ (o : Option SiteSet). unwrap_or o side) (sym (get-last sides side) ∙ (ap (slice_get (sides ++ side ∷ [])) (size ∙ sym same) ∙ has)) in
+      let node-is : get_or nodes i d ≡ v = ap (λ (n : ℕ). get_or nodes n d) (sym same) ∙ get_or_from_slice_get nodes k v d at in
+      subst (λ (w : NodeId). IsFarSide t z w s) node-is (subst (λ (x : SiteSet). IsFarSide t z (get_or nodes i d) x) side-is is)
+  | inr other ↦
+      let within : k < length (sides ++ side ∷ []) = slice_get_within (sides ++ side ∷ []) k s has in
+      let low : k < length sides = omega (arith, length-append sides (side ∷ [])) in
+      had k v s at (sym (get-front sides (side ∷ []) k low) ∙ has)
+]
+
+pub far-at : (t : TreeShape) (z : ℕ) (nodes : List NodeId) (sides : List SiteSet) (i : ℕ) (d : NodeId) (e : SiteSet) → nodes ≡ neighbours t z → AreFarSides t z (neighbours t z) sides → i < length nodes → IsFarSide t z (get_or nodes i d) (get_or sides i e)
+far-at t z nodes sides i d e same far less =
+    let in-sides : i < length sides = omega (arith, far.size, ap length same) in
+    far.each i (get_or nodes i d) (get_or sides i e) (ap (λ (vs : List NodeId). slice_get vs i) (sym same) ∙ slice_get-get_or nodes i d less) (slice_get-get_or sides i e in-sides)
 
 -- ---- the neighbours that pass, and their marks, of one neighbour more
 

@@ -1,11 +1,12 @@
 -- The ways of a label through a serializer.
-use Rattle.std.specs.Prelude.{ℕ, ◌≡◌, Bool, true, ◌&&◌, not, List, length, filter}
+use Rattle.std.specs.Prelude.{ℕ, ◌≡◌, Bool, true, ◌&&◌, not, nat_lt, List, length, filter, Some, slice_get}
 use Rattle.std.specs.List.{list_any}
 use Rattle.sat_label.specs.declared.label.Label.{Label}
 use Rattle.sat_label.specs.declared.node.NodeId.{NodeId}
 use Rattle.sat_label.specs.declared.node.NodeId.TheVariants.{Site, Serializer}
 use Rattle.sat_label.specs.Order.{node_eq}
-use Rattle.sat_label.specs.Words.{below}
+use Rattle.sat_label.specs.declared.site_set.SiteSet.{SiteSet}
+use Rattle.sat_label.specs.Words.{below, bit}
 use Rattle.sat_sites.specs.Interested.{Interested, is_for, IsLabelOf}
 use Rattle.sat_tree.specs.Shape.{TreeShape}
 use Rattle.sat_tree.specs.Cut.{beyond, is_edge, neighbours, IsNode}
@@ -26,6 +27,15 @@ goes a t z u l v = not (node_eq u v) && leads a t (Serializer z) v l
 -- the neighbours that the label, come from u, goes on to from serializer z
 abbrev pub routes : Interested → TreeShape → ℕ → NodeId → Label → List NodeId
 routes a t z u l = filter (goes a t z u l) (neighbours t z)
+
+-- these are the sites of the tree beyond the edge from serializer z to v
+abbrev pub IsFarSide : TreeShape → ℕ → NodeId → SiteSet → Type 0
+IsFarSide t z v side = (k : ℕ) → bit side.bits k ≡ (nat_lt k (length t.seats) && beyond t (Serializer z) v (Site k))
+
+-- one set for each of these nodes, in their order: the sites beyond it
+pub record AreFarSides (t : TreeShape) (z : ℕ) (nodes : List NodeId) (sides : List SiteSet) : Type 0 where
+  pub size : length sides ≡ length nodes
+  pub each : (k : ℕ) (v : NodeId) (side : SiteSet) → slice_get nodes k ≡ Some v → slice_get sides k ≡ Some side → IsFarSide t z v side
 
 -- v is a node of the tree, and hangs together with serializer z
 pub record IsNeighbour (t : TreeShape) (z : ℕ) (v : NodeId) : Type 0 where

@@ -40,7 +40,7 @@ impl Serializer {
         requires { number < length tree.now.parents }
         ensures { IfOk result (λ serializer. serializer ≡ fresh tree.now number) }
     {
-        let router = Router::new(tree.copy()?, number);
+        let router = Router::new(alloc, tree.copy()?, number)?;
         let outboxes = empty_queues(alloc, router.neighbours().len())?;
         Ok(Serializer {
             router,
