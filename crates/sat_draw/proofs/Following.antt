@@ -4,7 +4,7 @@ use Rattle.std.specs.Prelude.{Option, Some, None, unwrap_or, if◌then◌else◌
 use Rattle.std.specs.Ordering.{nat_cmp}
 use Rattle.std.specs.BTreeMap.{get}
 use Rattle.std.specs.List.{flat_map}
-use Rattle.std.proofs.lemmas.List.{append-nil, append_assoc, reverse-append, length-reverse}
+use Rattle.std.proofs.lemmas.List.{reverse-append, length-reverse}
 use Rattle.std.proofs.lemmas.List.Concat.{flat_map-append}
 use Rattle.sat_act.specs.declared.act.Act.{Act}
 use Rattle.sat_act.specs.declared.act.Act.TheVariants as act
@@ -23,7 +23,7 @@ use Rattle.sat_draw.specs.declared.tracks.Tracks.{Tracks}
 use Rattle.sat_draw.specs.Columns.{act_column, seat_column, column_x, row_y}
 use Rattle.sat_draw.specs.Elements.{spell, spelled}
 use Rattle.sat_draw.specs.Trails.{left_by, comes_from, reseated, after_change}
-use Rattle.sat_draw.specs.Rows.{spot_at, mark_spot, spot_of, after_leaving, last_spot, arrow, arrows, row_at, row_by, row_of, rows, rule, mark_of, answer_of, act_of}
+use Rattle.sat_draw.specs.Rows.{spot_at, mark_spot, spot_of, after_leaving, last_spot, arrow, arrows, ways_at, marks_at, ways_of, marks_of, ways, marks, rule}
 use Rattle.sat_draw.specs.Tracks.{seat_by, spot_by, Follows, IsDrawn}
 
 -- ---- the same seats and the same trails give the same row
@@ -60,13 +60,18 @@ arrows-same f g e here [] = refl
 arrows-same f g e here (c ∷ cs) =
     ap (λ (o : Option Spot). arrow c.ink here o ++ arrows f here cs) (e c.trail) ∙ ap (λ (xs : List Element). arrow c.ink here (g c.trail) ++ xs) (arrows-same f g e here cs)
 
-pub row-same : (d : Deployed) (h : List Entry) (tracks : Tracks) (row : ℕ) (here : Spot) (entry : Entry) → Follows d h tracks → row ≡ length h
-    → here ≡ mark_spot d (seat_by d tracks.seats) row entry → row_at d (spot_by tracks.spots) row here entry ≡ row_of d h entry
-row-same d h tracks row here entry follows same at =
-    ap (λ (s : Spot). row_at d (spot_by tracks.spots) row s entry) (at ∙ mark-same d _ _ row (length h) entry follows.seats same)
-    ∙ (ap (λ (m : ℕ). row_at d (spot_by tracks.spots) m (spot_of d h entry) entry) same
-    ∙ ap (λ (xs : List Element). rule d entry.act (spot_of d h entry) ++ (xs ++ (mark_of (spot_of d h entry) entry ∷ answer_of d (length h) (spot_of d h entry) entry ∷ act_of d (spot_of d h entry) entry ∷ [])))
-        (arrows-same _ _ follows.spots (spot_of d h entry) (comes_from entry.act entry.answer)))
+spot-same : (d : Deployed) (h : List Entry) (tracks : Tracks) (row : ℕ) (here : Spot) (entry : Entry) → Follows d h tracks → row ≡ length h
+    → here ≡ mark_spot d (seat_by d tracks.seats) row entry → here ≡ spot_of d h entry
+spot-same d h tracks row here entry follows same at = at ∙ mark-same d _ _ row (length h) entry follows.seats same
+
+ways-same : (d : Deployed) (h : List Entry) (tracks : Tracks) (here : Spot) (entry : Entry) → Follows d h tracks → here ≡ spot_of d h entry → ways_at d (spot_by tracks.spots) here entry ≡ ways_of d h entry
+ways-same d h tracks here entry follows at =
+    ap (λ (s : Spot). ways_at d (spot_by tracks.spots) s entry) at
+    ∙ ap (λ (xs : List Element). rule d entry.act (spot_of d h entry) ++ xs) (arrows-same _ _ follows.spots (spot_of d h entry) (comes_from entry.act entry.answer))
+
+marks-same : (d : Deployed) (h : List Entry) (row : ℕ) (here : Spot) (entry : Entry) → row ≡ length h → here ≡ spot_of d h entry → marks_at d row here entry ≡ marks_of d h entry
+marks-same d h row here entry same at =
+    ap (λ (s : Spot). marks_at d row s entry) at ∙ ap (λ (m : ℕ). marks_at d m (spot_of d h entry) entry) same
 
 -- ---- what is known after an entry
 
@@ -158,33 +163,44 @@ follows-on d h old new row here entry follows same at seats spots = record {
 
 -- ---- one entry more
 
-rows-step : (d : Deployed) (h : List Entry) (entry : Entry) → rows d (entry ∷ h) ≡ rows d h ++ row_of d h entry
-unfolding rows
-rows-step d h entry = refl
+ways-step : (d : Deployed) (h : List Entry) (entry : Entry) → ways d (entry ∷ h) ≡ ways d h ++ ways_of d h entry
+unfolding ways
+ways-step d h entry = refl
+
+marks-step : (d : Deployed) (h : List Entry) (entry : Entry) → marks d (entry ∷ h) ≡ marks d h ++ marks_of d h entry
+unfolding marks
+marks-step d h entry = refl
 
 next-history : (earlier : List Entry) (entry : Entry) → reverse (earlier ++ entry ∷ []) ≡ entry ∷ reverse earlier
 next-history earlier entry = reverse-append earlier (entry ∷ [])
 
-pub drawn_on : (d : Deployed) (start old new : List ℕ) (tracks after : Tracks) (earlier : List Entry) (row : ℕ) (here : Spot) (entry : Entry) (all : List Element)
-    → IsDrawn d start old tracks earlier → row ≡ length earlier
+-- a text that a list of elements is spelled in goes on with its next ones
+spelled-on : (f : List Entry → List Element) (old new : List ℕ) (earlier : List Entry) (entry : Entry) (more all : List Element)
+    → f (entry ∷ reverse earlier) ≡ f (reverse earlier) ++ all → old ≡ spelled (f (reverse earlier)) → more ≡ all → new ≡ old ++ spelled more
+    → new ≡ spelled (f (reverse (earlier ++ entry ∷ [])))
+spelled-on f old new earlier entry more all step was same added =
+    added ∙ (ap (λ (xs : List Element). old ++ spelled xs) same
+    ∙ (ap (λ (x : List ℕ). x ++ spelled all) was
+    ∙ (sym (flat_map-append spell (f (reverse earlier)) all)
+    ∙ (ap (λ (xs : List Element). spelled xs) (sym step)
+    ∙ ap (λ (k : List Entry). spelled (f k)) (sym (next-history earlier entry))))))
+
+pub drawn_on : (d : Deployed) (lines words lines-after words-after : List ℕ) (tracks after : Tracks) (earlier : List Entry) (row : ℕ) (here : Spot) (entry : Entry) (led marked : List Element)
+    → IsDrawn d lines words tracks earlier → row ≡ length earlier
     → here ≡ mark_spot d (seat_by d tracks.seats) row entry
-    → all ≡ row_at d (spot_by tracks.spots) row here entry
-    → new ≡ old ++ spelled all
+    → led ≡ ways_at d (spot_by tracks.spots) here entry → lines-after ≡ lines ++ spelled led
+    → marked ≡ marks_at d row here entry → words-after ≡ words ++ spelled marked
     → ((first : Option ℕ) (c : ℕ) → unwrap_or (get nat_cmp after.seats c) first ≡ after_change (reseated entry.act entry.answer) (unwrap_or (get nat_cmp tracks.seats c) first) c)
     → ((t : Trail) → spot_by after.spots t ≡ after_leaving (left_by entry.act entry.answer) here (spot_by tracks.spots t) t)
-    → IsDrawn d start new after (earlier ++ entry ∷ [])
-drawn_on d start old new tracks after earlier row here entry all drawn same at elements added seats spots =
+    → IsDrawn d lines-after words-after after (earlier ++ entry ∷ [])
+drawn_on d lines words lines-after words-after tracks after earlier row here entry led marked drawn same at leads led-on marks-are marked-on seats spots =
     let h = reverse earlier in
     let counted : row ≡ length (reverse earlier) = same ∙ sym (length-reverse earlier) in
+    let spot : here ≡ spot_of d (reverse earlier) entry = spot-same d h tracks row here entry drawn.follows counted at in
     record {
       follows = subst (λ (k : List Entry). Follows d k after) (sym (next-history earlier entry)) (follows-on d h tracks after row here entry drawn.follows counted at seats spots);
-      text_is =
-          added ∙ (ap (λ (xs : List Element). old ++ spelled xs) (elements ∙ row-same d h tracks row here entry drawn.follows counted at)
-          ∙ (ap (λ (x : List ℕ). x ++ spelled (row_of d h entry)) drawn.text_is
-          ∙ (append_assoc start (spelled (rows d h)) (spelled (row_of d h entry))
-          ∙ (ap (λ (x : List ℕ). start ++ x) (sym (flat_map-append spell (rows d h) (row_of d h entry)))
-          ∙ (ap (λ (x : List Element). start ++ spelled x) (sym (rows-step d h entry))
-          ∙ ap (λ (k : List Entry). start ++ spelled (rows d k)) (sym (next-history earlier entry)))))));
+      lines_are = spelled-on (ways d) lines lines-after earlier entry led (ways_of d h entry) (ways-step d h entry) drawn.lines_are (leads ∙ ways-same d h tracks here entry drawn.follows spot) led-on;
+      words_are = spelled-on (marks d) words words-after earlier entry marked (marks_of d h entry) (marks-step d h entry) drawn.words_are (marks-are ∙ marks-same d h row here entry counted spot) marked-on;
     }
 
 seat-first : (d : Deployed) (c : ℕ) → home d c ≡ seat d [] c
@@ -195,15 +211,20 @@ spots-first : (d : Deployed) (t : Trail) → None ≡ last_spot d [] t
 unfolding last_spot
 spots-first d t = refl
 
-rows-first : (d : Deployed) → [] ≡ rows d []
-unfolding rows
-rows-first d = refl
+ways-first : (d : Deployed) → [] ≡ spelled (ways d [])
+unfolding ways
+ways-first d = refl
 
-pub drawn_none : (d : Deployed) (start : List ℕ) (tracks : Tracks) → ((c : ℕ) → get nat_cmp tracks.seats c ≡ None) → ((t : Trail) → spot_by tracks.spots t ≡ None) → IsDrawn d start start tracks []
-drawn_none d start tracks seats spots = record {
+marks-first : (d : Deployed) → [] ≡ spelled (marks d [])
+unfolding marks
+marks-first d = refl
+
+pub drawn_none : (d : Deployed) (lines words : List ℕ) (tracks : Tracks) → lines ≡ [] → words ≡ [] → ((c : ℕ) → get nat_cmp tracks.seats c ≡ None) → ((t : Trail) → spot_by tracks.spots t ≡ None) → IsDrawn d lines words tracks []
+drawn_none d lines words tracks no-lines no-words seats spots = record {
   follows = record {
     seats = λ c. ap (λ (o : Option (Option ℕ)). unwrap_or o (home d c)) (seats c) ∙ seat-first d c;
     spots = λ t. spots t ∙ spots-first d t;
   };
-  text_is = sym (append-nil start) ∙ ap (λ (x : List Element). start ++ spelled x) (rows-first d);
+  lines_are = no-lines ∙ ways-first d;
+  words_are = no-words ∙ marks-first d;
 }

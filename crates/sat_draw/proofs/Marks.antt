@@ -25,7 +25,7 @@ use Rattle.sat_draw.specs.declared.trail.Coming.{Coming}
 use Rattle.sat_draw.specs.declared.geometry.TheConstants.{TREES}
 use Rattle.sat_draw.specs.Columns.{columns, column_x, plan_height, site_column, serializer_column, rows_top, row_y}
 use Rattle.sat_draw.specs.Trails.{comes_from}
-use Rattle.sat_draw.specs.Rows.{spot_at, spot_of, last_spot, arrow, arrows, is_across, rule, mark_of, answer_of, act_of, row_at, row_of, rows}
+use Rattle.sat_draw.specs.Rows.{spot_at, spot_of, last_spot, arrow, arrows, is_across, rule, mark_of, answer_of, act_of, ways_of, marks_of, ways, marks}
 use Rattle.sat_draw.specs.Head.{lane, node, site_lanes, branch, serializer_spot, site_spot, epoch_name, serializer_elements, serializers_elements, seat_elements, seats_elements, tree_elements, plan_elements, plans_elements, head}
 use Rattle.sat_draw.specs.Drawing.{elements}
 use Rattle.sat_draw.specs.Laws.{is_done_mark, is_refused_mark, done_mark, refused_mark, EachIsDrawnOnce}
@@ -143,38 +143,44 @@ arrows-free p is found here [] = nothing p
 arrows-free p is found here (c ∷ cs) =
     both p (arrow c.ink here (found c.trail)) (arrows found here cs) (arrow-free p is c.ink here (found c.trail)) (arrows-free p is found here cs)
 
+ways-free : (p : Element → Bool) → IsOfActs p → (d : Deployed) (h : List Entry) → Free p (ways d h)
+unfolding ways
+ways-free p is d [] = nothing p
+ways-free p is d (entry ∷ h) =
+    let here = spot_of d h entry in
+    both p (ways d h) (ways_of d h entry) (ways-free p is d h)
+    (both p (rule d entry.act here) (arrows (last_spot d h) here (comes_from entry.act entry.answer)) (rule-free p is d entry.act here) (arrows-free p is (last_spot d h) here (comes_from entry.act entry.answer)))
+
 -- the mark alone
-row-mark : (p : Element → Bool) → IsOfActs p → (d : Deployed) (h : List Entry) (entry : Entry) → filter p (row_of d h entry) ≡ filter p (mark_of (spot_of d h entry) entry ∷ [])
-row-mark p is d h entry =
+one-mark : (p : Element → Bool) → IsOfActs p → (d : Deployed) (h : List Entry) (entry : Entry) → filter p (marks_of d h entry) ≡ filter p (mark_of (spot_of d h entry) entry ∷ [])
+one-mark p is d h entry =
     let here = spot_of d h entry in
     let mark = mark_of here entry in
     let words = answer_of d (length h) here entry ∷ act_of d here entry ∷ [] in
-    filter-append p (rule d entry.act here) _
-    ∙ (ap (λ (xs : List Element). xs ++ filter p (arrows (last_spot d h) here (comes_from entry.act entry.answer) ++ (mark ∷ words))) (rule-free p is d entry.act here).free
-    ∙ (filter-append p (arrows (last_spot d h) here (comes_from entry.act entry.answer)) (mark ∷ words)
-    ∙ (ap (λ (xs : List Element). xs ++ filter p (mark ∷ words)) (arrows-free p is (last_spot d h) here (comes_from entry.act entry.answer)).free
-    ∙ (filter-append p (mark ∷ []) words
+    filter-append p (mark ∷ []) words
     ∙ (ap (λ (xs : List Element). filter p (mark ∷ []) ++ xs) (skip p (answer_of d (length h) here entry) (act_of d here entry ∷ []) (is.words _ _ _) (skip p (act_of d here entry) [] (is.words _ _ _) (nothing p))).free
-    ∙ append-nil (filter p (mark ∷ [])))))))
+    ∙ append-nil (filter p (mark ∷ [])))
 
 -- so the marks that pass are those that the entries are to have
-rows-marks : (p : Element → Bool) → IsOfActs p → (d : Deployed) (f : List Entry → Entry → Option Element)
+marks-listed : (p : Element → Bool) → IsOfActs p → (d : Deployed) (f : List Entry → Entry → Option Element)
     → ((h : List Entry) (entry : Entry) → filter p (mark_of (spot_of d h entry) entry ∷ []) ≡ elim (f h entry) [ None ↦ [] | Some x ↦ x ∷ [] ])
-    → (h : List Entry) → filter p (rows d h) ≡ listed f h
-unfolding rows listed
-rows-marks p is d f each [] = refl
-rows-marks p is d f each (entry ∷ h) =
-    filter-append p (rows d h) (row_of d h entry)
-    ∙ (ap (λ (xs : List Element). xs ++ filter p (row_of d h entry)) (rows-marks p is d f each h)
-    ∙ ap (λ (xs : List Element). listed f h ++ xs) (row-mark p is d h entry ∙ each h entry))
+    → (h : List Entry) → filter p (marks d h) ≡ listed f h
+unfolding marks listed
+marks-listed p is d f each [] = refl
+marks-listed p is d f each (entry ∷ h) =
+    filter-append p (marks d h) (marks_of d h entry)
+    ∙ (ap (λ (xs : List Element). xs ++ filter p (marks_of d h entry)) (marks-listed p is d f each h)
+    ∙ ap (λ (xs : List Element). listed f h ++ xs) (one-mark p is d h entry ∙ each h entry))
 
-marks : (p : Element → Bool) → IsOfActs p → (d : Deployed) (f : List Entry → Entry → Option Element)
+all-marks : (p : Element → Bool) → IsOfActs p → (d : Deployed) (f : List Entry → Entry → Option Element)
     → ((h : List Entry) (entry : Entry) → filter p (mark_of (spot_of d h entry) entry ∷ []) ≡ elim (f h entry) [ None ↦ [] | Some x ↦ x ∷ [] ])
     → (h : List Entry) → filter p (elements d h) ≡ listed f h
 unfolding elements
-marks p is d f each h =
-    filter-append p (head d (length h)) (rows d h)
-    ∙ (ap (λ (xs : List Element). xs ++ filter p (rows d h)) (head-free p is d (length h)).free ∙ rows-marks p is d f each h)
+all-marks p is d f each h =
+    filter-append p (head d (length h)) (ways d h ++ marks d h)
+    ∙ (ap (λ (xs : List Element). xs ++ filter p (ways d h ++ marks d h)) (head-free p is d (length h)).free
+    ∙ (filter-append p (ways d h) (marks d h)
+    ∙ (ap (λ (xs : List Element). xs ++ filter p (marks d h)) (ways-free p is d h).free ∙ marks-listed p is d f each h)))
 
 -- ---- acts that were done, and acts that changed nothing
 
@@ -200,6 +206,6 @@ refused-each d h entry = go (is_done entry.answer)
 
 pub each_once : (d : Deployed) (h : List Entry) → EachIsDrawnOnce d h
 each_once d h = record {
-  done = marks is_done_mark of-done d (done_mark d) (done-each d) h;
-  refused = marks is_refused_mark of-refused d (refused_mark d) (refused-each d) h;
+  done = all-marks is_done_mark of-done d (done_mark d) (done-each d) h;
+  refused = all-marks is_refused_mark of-refused d (refused_mark d) (refused-each d) h;
 }

@@ -82,21 +82,28 @@ answer_of d row here entry = Word (answer_ink entry.answer) (spot_at (here.x + 8
 abbrev pub act_of : Deployed → Spot → Entry → Element
 act_of d here entry = Word ink.Act (spot_at 8 (here.y + 4)) (act_line d entry.act)
 
--- the elements of a row whose mark stands here, by where trails were left
-abbrev pub row_at : Deployed → (Trail → Option Spot) → ℕ → Spot → Entry → List Element
-row_at d found row here entry =
-    rule d entry.act here ++ (arrows found here (comes_from entry.act entry.answer) ++ (mark_of here entry ∷ answer_of d row here entry ∷ act_of d here entry ∷ []))
+-- what leads to a mark that stands here, by where trails were left
+abbrev pub ways_at : Deployed → (Trail → Option Spot) → Spot → Entry → List Element
+ways_at d found here entry = rule d entry.act here ++ arrows found here (comes_from entry.act entry.answer)
 
--- by the seats of the clients
-abbrev pub row_by : Deployed → (ℕ → Option ℕ) → (Trail → Option Spot) → ℕ → Entry → List Element
-row_by d seat found row entry = row_at d found row (mark_spot d seat row entry) entry
+-- the mark, and its words
+abbrev pub marks_at : Deployed → ℕ → Spot → Entry → List Element
+marks_at d row here entry = mark_of here entry ∷ answer_of d row here entry ∷ act_of d here entry ∷ []
 
 -- the same after a history
-abbrev pub row_of : Deployed → List Entry → Entry → List Element
-row_of d before entry = row_by d (seat d before) (last_spot d before) (length before) entry
+abbrev pub ways_of : Deployed → List Entry → Entry → List Element
+ways_of d before entry = ways_at d (last_spot d before) (spot_of d before entry) entry
 
--- the rows of a history, of which the newest entry stands first and is drawn last
-unfoldable pub rows : Deployed → List Entry → List Element
-unfolding last_spot comes_from answer_line seat
-rows d [] = []
-rows d (entry ∷ before) = rows d before ++ row_of d before entry
+abbrev pub marks_of : Deployed → List Entry → Entry → List Element
+marks_of d before entry = marks_at d (length before) (spot_of d before entry) entry
+
+-- those of a history, of which the newest entry stands first and is drawn last
+unfoldable pub ways : Deployed → List Entry → List Element
+unfolding last_spot comes_from seat
+ways d [] = []
+ways d (entry ∷ before) = ways d before ++ ways_of d before entry
+
+unfoldable pub marks : Deployed → List Entry → List Element
+unfolding answer_line act_line seat
+marks d [] = []
+marks d (entry ∷ before) = marks d before ++ marks_of d before entry

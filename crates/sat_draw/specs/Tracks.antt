@@ -1,5 +1,5 @@
 -- What is kept of the entries so far: where each trail was left last, and the seats that changed.
-use Rattle.std.specs.Prelude.{ℕ, ◌≡◌, List, ◌++◌, reverse, Option, unwrap_or}
+use Rattle.std.specs.Prelude.{ℕ, ◌≡◌, List, reverse, Option, unwrap_or}
 use Rattle.std.specs.BTreeMap.{BTreeMap, get}
 use Rattle.std.specs.Ordering.{nat_cmp}
 use Rattle.sat_act.specs.declared.entry.Entry.{Entry}
@@ -9,7 +9,7 @@ use Rattle.sat_draw.specs.declared.element.Spot.{Spot}
 use Rattle.sat_draw.specs.declared.trail.Trail.{Trail}
 use Rattle.sat_draw.specs.declared.tracks.Tracks.{Tracks}
 use Rattle.sat_draw.specs.Trails.{trail_cmp}
-use Rattle.sat_draw.specs.Rows.{last_spot, rows}
+use Rattle.sat_draw.specs.Rows.{last_spot, ways, marks}
 use Rattle.sat_draw.specs.Elements.{spelled}
 
 -- the seat of a client by the seats that changed: the one of its header line where it has not changed
@@ -24,7 +24,8 @@ pub record Follows (d : Deployed) (h : List Entry) (tracks : Tracks) : Type 0 wh
   pub seats : (c : ℕ) → seat_by d tracks.seats c ≡ seat d h c
   pub spots : (t : Trail) → spot_by tracks.spots t ≡ last_spot d h t
 
--- these entries, the oldest first, were drawn behind a text
-pub record IsDrawn (d : Deployed) (start text : List ℕ) (tracks : Tracks) (entries : List Entry) : Type 0 where
+-- these entries, the oldest first, were drawn: their lines in one text, their marks in another
+pub record IsDrawn (d : Deployed) (lines words : List ℕ) (tracks : Tracks) (entries : List Entry) : Type 0 where
   pub follows : Follows d (reverse entries) tracks
-  pub text_is : text ≡ start ++ spelled (rows d (reverse entries))
+  pub lines_are : lines ≡ spelled (ways d (reverse entries))
+  pub words_are : words ≡ spelled (marks d (reverse entries))

@@ -3,12 +3,12 @@ ghost use Rattle.std.specs.Prelude.{◌≡◌, ◌≤◌, ◌++◌, length, reve
 ghost use Rattle.sat_draw.specs.Columns.{rows_top};
 ghost use Rattle.sat_draw.specs.Elements.{spelled};
 ghost use Rattle.sat_draw.specs.Head.{head};
-ghost use Rattle.sat_draw.specs.Rows.{rows};
+ghost use Rattle.sat_draw.specs.Rows.{ways, marks};
 ghost use Rattle.sat_draw.specs.Drawing.{opening, drawing};
 ghost use Rattle.sat_draw.specs.Laws.{EachIsDrawnOnce};
 
 use crate::columns::{column_x, columns, rows_top};
-use crate::geometry::ROW;
+use crate::geometry::{RIGHT, ROW};
 use crate::head::head;
 use crate::legend::legend;
 use crate::rows::append_row;
@@ -50,12 +50,25 @@ fn append_rows(
     requires top { top ≡ rows_top d.now }
     requires low { top ≤ 40000000 }
     requires few { length entries.now ≤ 4294967296 }
-    ensures { OnOk result (out.new.items ≡ out.old.items ++ spelled (rows d.now (reverse entries.now))) }
+    ensures { OnOk result (out.new.items ≡ (out.old.items ++ spelled (ways d.now (reverse entries.now))) ++ spelled (marks d.now (reverse entries.now))) }
 {
     let mut tracks = Tracks::new(alloc);
+    let mut lines = Vec::new(alloc);
+    let mut words = Vec::new(alloc);
     for (place, entry) in entries.iter().enumerate() {
-        append_row(alloc, d, &mut tracks, top, place as u64, entry, out)?;
+        append_row(
+            alloc,
+            d,
+            &mut tracks,
+            top,
+            place as u64,
+            entry,
+            &mut lines,
+            &mut words,
+        )?;
     }
+    out.extend_from_slice(lines.as_slice())?;
+    out.extend_from_slice(words.as_slice())?;
     Ok(())
 }
 
@@ -69,7 +82,7 @@ pub fn draw_run(alloc: Global, d: &Deployment, entries: &[Entry]) -> Result<Vec<
 {
     let top = rows_top(d);
     let count = entries.len() as u64;
-    let mut text = opening(alloc, column_x(columns(d)), top + count * ROW + 20)?;
+    let mut text = opening(alloc, column_x(columns(d)) + RIGHT, top + count * ROW + 20)?;
     text.extend_from_slice(legend().as_bytes())?;
     append_head(alloc, d, top, count, &mut text)?;
     append_rows(alloc, d, top, entries, &mut text)?;

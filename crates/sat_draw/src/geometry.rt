@@ -16,7 +16,10 @@ pub const TREES: u64 = 70;
 pub const STEP: u64 = 26;
 
 /// What a tree takes above its root and below its last serializer.
-pub const TREE_MARGINS: u64 = 70;
+pub const TREE_MARGINS: u64 = 50;
 
 /// What the names of the columns take.
 pub const NAMES: u64 = 50;
+
+/// What stands right of where the last column's neighbour would be, for the words of the last one.
+pub const RIGHT: u64 = 60;

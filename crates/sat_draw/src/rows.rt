@@ -1,12 +1,12 @@
 //! The rows of a drawing: one for each entry.
-ghost use Rattle.std.specs.Prelude.{ℕ, ◌≡◌, ◌≤◌, ◌++◌, ◌∷◌, [], ◌^◌, ◌<◌, List, length, OnOk, IfOk};
+ghost use Rattle.std.specs.Prelude.{◌≡◌, ◌≤◌, ◌++◌, ◌∷◌, [], ◌^◌, ◌<◌, List, length, OnOk, IfOk};
 ghost use Rattle.sat_act.specs.declared.entry.Entry.{Entry};
 ghost use Rattle.sat_act.specs.Settling.{is_done};
 ghost use Rattle.sat_report.specs.Answers.{answer_line};
 ghost use Rattle.sat_draw.specs.Acts.{act_line};
 ghost use Rattle.sat_draw.specs.Columns.{act_column, rows_top};
 ghost use Rattle.sat_draw.specs.Elements.{spelled};
-ghost use Rattle.sat_draw.specs.Rows.{mark_spot, arrow, arrow_for, arrows, is_across, rule, mark_ink, answer_ink, mark_of, answer_of, act_of, row_at};
+ghost use Rattle.sat_draw.specs.Rows.{mark_spot, arrow, arrow_for, arrows, is_across, rule, mark_ink, answer_ink, mark_of, answer_of, act_of, ways_at, marks_at};
 ghost use Rattle.sat_draw.specs.Trails.{comes_from};
 ghost use Rattle.sat_draw.specs.Tracks.{seat_by, spot_by, IsDrawn};
 
@@ -223,36 +223,9 @@ fn act_of(
 }
 
 // The mark of an entry and the words of its row.
-fn push_mark(
+fn marks_at(
     alloc: Global,
     d: &Deployment,
-    row: u64,
-    here: Spot,
-    entry: &Entry,
-    out: &mut Vec<Element>,
-) -> Result<(), AllocError>
-    requires few { row < 2 ^ 32 }
-    requires right { here.x ≤ 400000000 }
-    requires below { 100 ≤ here.y }
-    requires small { here.y ≤ 2 ^ 40 }
-    ensures { OnOk result (out.new.items ≡ out.old.items ++ (mark_of here entry.now ∷ answer_of d.now row here entry.now ∷ act_of d.now here entry.now ∷ [])) }
-{
-    let answer = answer_of(alloc, d, row, here, entry)?;
-    let act = act_of(alloc, d, here, entry)?;
-    out.push(Element::Dot {
-        ink: mark_ink(&entry.answer),
-        at: here,
-    })?;
-    out.push(answer)?;
-    out.push(act)?;
-    Ok(())
-}
-
-// The elements of a row whose mark stands here.
-fn row_at(
-    alloc: Global,
-    d: &Deployment,
-    spots: &BTreeMap<Trail, Spot>,
     row: u64,
     here: Spot,
     entry: &Entry,
@@ -261,17 +234,38 @@ fn row_at(
     requires right { here.x ≤ 400000000 }
     requires below { 100 ≤ here.y }
     requires small { here.y ≤ 2 ^ 40 }
-    ensures { IfOk result (λ all. all.items ≡ row_at d.now (spot_by spots.now) row here entry.now) }
+    ensures { IfOk result (λ all. all.items ≡ marks_at d.now row here entry.now) }
+{
+    let answer = answer_of(alloc, d, row, here, entry)?;
+    let act = act_of(alloc, d, here, entry)?;
+    let mut all = Vec::new(alloc);
+    all.push(Element::Dot {
+        ink: mark_ink(&entry.answer),
+        at: here,
+    })?;
+    all.push(answer)?;
+    all.push(act)?;
+    Ok(all)
+}
+
+// What leads to a mark that stands here.
+fn ways_at(
+    alloc: Global,
+    d: &Deployment,
+    spots: &BTreeMap<Trail, Spot>,
+    here: Spot,
+    entry: &Entry,
+) -> Result<Vec<Element>, AllocError>
+    ensures { IfOk result (λ all. all.items ≡ ways_at d.now (spot_by spots.now) here entry.now) }
 {
     let mut all = Vec::new(alloc);
     push_rule(d, &entry.act, here, &mut all)?;
     let coming = comes_from(alloc, entry)?;
     push_arrows(spots, here, coming.as_slice(), &mut all)?;
-    push_mark(alloc, d, row, here, entry, &mut all)?;
     Ok(all)
 }
 
-/// Appends the row of an entry, and follows it.
+/// Appends what leads to the mark of an entry to one text, and the mark and its words to another, and follows the entry.
 pub(crate) fn append_row(
     alloc: Global,
     d: &Deployment,
@@ -279,17 +273,20 @@ pub(crate) fn append_row(
     top: u64,
     row: u64,
     entry: &Entry,
-    out: &mut Vec<u8>,
+    lines: &mut Vec<u8>,
+    words: &mut Vec<u8>,
 ) -> Result<(), AllocError>
     requires top { top ≡ rows_top d.now }
     requires low { top ≤ 40000000 }
     requires few { row < 2 ^ 32 }
-    ensures { OnOk result ((start : List ℕ) (earlier : List Entry) → row ≡ length earlier
-        → IsDrawn d.now start out.old.items tracks.old earlier → IsDrawn d.now start out.new.items tracks.new (earlier ++ entry.now ∷ [])) }
+    ensures { OnOk result ((earlier : List Entry) → row ≡ length earlier
+        → IsDrawn d.now lines.old.items words.old.items tracks.old earlier → IsDrawn d.now lines.new.items words.new.items tracks.new (earlier ++ entry.now ∷ [])) }
 {
     let here = mark_spot(d, &tracks.seats, top, row, entry);
-    let all = row_at(alloc, d, &tracks.spots, row, here, entry)?;
-    append_elements(all.as_slice(), out)?;
+    let ways = ways_at(alloc, d, &tracks.spots, here, entry)?;
+    append_elements(ways.as_slice(), lines)?;
+    let marks = marks_at(alloc, d, row, here, entry)?;
+    append_elements(marks.as_slice(), words)?;
     tracks.follow(alloc, entry, here)?;
     Ok(())
 }

@@ -3,4 +3,4 @@ use Rattle.sat_draw.specs.Tracks.{IsDrawn}
 use Rattle.sat_draw.proofs.draw.append_rows.Given as goal
 
 abbrev pub invariant-loop-place : goal.invariant-loop-place
-invariant-loop-place l = IsDrawn l.d l.fn.out.items l.out.items l.tracks (take l.place l.entries)
+invariant-loop-place l = IsDrawn l.d l.lines.items l.words.items l.tracks (take l.place l.entries)
