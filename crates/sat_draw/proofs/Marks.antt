@@ -36,7 +36,6 @@ record IsOfActs (p : Element → Bool) : Type 0 where
   words : (i : Ink) (a : Spot) (text : List ℕ) → p (Word i a text) ≡ false
   nodes : (a : Spot) → p (Dot ink.Node a) ≡ false
 
-
 -- no element of a list passes
 record Free (p : Element → Bool) (xs : List Element) : Type 0 where
   free : filter p xs ≡ []

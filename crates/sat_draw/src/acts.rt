@@ -78,12 +78,7 @@ fn three_numbers(alloc: Global, word: &str, a: u64, b: u64, c: u64) -> Result<Ve
 }
 
 // A word and a client.
-fn of_client(
-    alloc: Global,
-    d: &Deployment,
-    word: &str,
-    client: u16,
-) -> Result<Vec<u8>, AllocError>
+fn of_client(alloc: Global, d: &Deployment, word: &str, client: u16) -> Result<Vec<u8>, AllocError>
     ensures { IfOk result (λ text. text.items ≡ word.now ++ 32 ∷ client_name d.now client) }
 {
     let text = plain(alloc, word)?;

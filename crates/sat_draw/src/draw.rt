@@ -20,7 +20,9 @@ use std::alloc::{AllocError, Global};
 fn opening(alloc: Global, width: u64, height: u64) -> Result<Vec<u8>, AllocError>
     ensures { IfOk result (λ text. text.items ≡ opening width height) }
 {
-    let text = format!(in alloc; "<svg xmlns='http://www.w3.org/2000/svg' width='{width}' height='{height}'>\n")?;
+    let text = format!(in alloc;
+        "<svg xmlns='http://www.w3.org/2000/svg' width='{width}' height='{height}'>\n"
+    )?;
     Ok(text.into_bytes())
 }
 

@@ -15,3 +15,6 @@ mod trail;
 
 pub use draw::draw_run;
 pub use element::{Element, Ink, Spot, Text};
+
+#[cfg(test)]
+mod tests;

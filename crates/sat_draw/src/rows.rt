@@ -156,13 +156,21 @@ fn is_done(answer: &Answer) -> bool
 fn mark_ink(answer: &Answer) -> Ink
     ensures { result ≡ mark_ink answer.now }
 {
-    if is_done(answer) { Ink::Done } else { Ink::Refused }
+    if is_done(answer) {
+        Ink::Done
+    } else {
+        Ink::Refused
+    }
 }
 
 fn answer_ink(answer: &Answer) -> Ink
     ensures { result ≡ answer_ink answer.now }
 {
-    if is_done(answer) { Ink::Said } else { Ink::Denied }
+    if is_done(answer) {
+        Ink::Said
+    } else {
+        Ink::Denied
+    }
 }
 
 // The line of an answer, with its number.
@@ -202,12 +210,7 @@ fn answer_of(
     })
 }
 
-fn act_of(
-    alloc: Global,
-    d: &Deployment,
-    here: Spot,
-    entry: &Entry,
-) -> Result<Element, AllocError>
+fn act_of(alloc: Global, d: &Deployment, here: Spot, entry: &Entry) -> Result<Element, AllocError>
     requires { here.y ≤ 2 ^ 40 }
     ensures { IfOk result (λ element. element ≡ act_of d.now here entry.now) }
 {

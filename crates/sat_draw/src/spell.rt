@@ -60,17 +60,14 @@ fn append_escaped(text: &[u8], out: &mut Vec<u8>) -> Result<(), AllocError>
     Ok(())
 }
 
-fn append_line(
-    class: &str,
-    from: Spot,
-    to: Spot,
-    out: &mut Vec<u8>,
-) -> Result<(), AllocError>
+fn append_line(class: &str, from: Spot, to: Spot, out: &mut Vec<u8>) -> Result<(), AllocError>
     ensures ok { OnOk result (out.new.items ≡ out.old.items ++ line_text class.now from to) }
     ensures err { OnErr result (Keeps out.old.items out.new.items) }
 {
     let (x1, y1, x2, y2) = (from.x, from.y, to.x, to.y);
-    let text = format!(in *out.allocator(); "<line class='{class}' x1='{x1}' y1='{y1}' x2='{x2}' y2='{y2}'/>\n")?;
+    let text = format!(in *out.allocator();
+        "<line class='{class}' x1='{x1}' y1='{y1}' x2='{x2}' y2='{y2}'/>\n"
+    )?;
     out.extend_from_slice(text.as_bytes())
 }
 

@@ -56,11 +56,7 @@ pub(crate) fn spot_by(spots: &BTreeMap<Trail, Spot>, trail: Trail) -> Option<Spo
 
 // The trails were left here.
 #[tactic(auto, using(crate::proofs::Trails::none_left, crate::proofs::Trails::more_left))]
-fn leave(
-    spots: &mut BTreeMap<Trail, Spot>,
-    trails: &[Trail],
-    here: Spot,
-) -> Result<(), AllocError>
+fn leave(spots: &mut BTreeMap<Trail, Spot>, trails: &[Trail], here: Spot) -> Result<(), AllocError>
     ensures { OnOk result ((t : Trail) → spot_by spots.new t ≡ after_leaving trails.now here (spot_by spots.old t) t) }
 {
     let Some((first, rest)) = trails.split_first() else {

@@ -205,7 +205,11 @@ fn hopped_from(alloc: Global, act: &Act, label: Label) -> Result<Vec<Coming>, Al
     match act {
         Act::Hop { from, to, .. } => match from {
             NodeId::Site(_) => one_coming(alloc, Ink::Label, label_at(SENT, 0, label)),
-            NodeId::Serializer(_) => one_coming(alloc, Ink::Label, label_at(TO_SERIALIZER, *to, label)),
+            NodeId::Serializer(_) => one_coming(
+                alloc,
+                Ink::Label,
+                label_at(TO_SERIALIZER, *to, label),
+            ),
         },
         _ => Ok(Vec::new(alloc)),
     }
