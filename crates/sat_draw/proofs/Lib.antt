@@ -4,3 +4,4 @@ pub mod Following
 pub mod Arrows
 pub mod Whole
 pub mod Marks
+pub mod Arrowed

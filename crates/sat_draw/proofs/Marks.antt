@@ -30,50 +30,57 @@ use Rattle.sat_draw.specs.Head.{lane, node, site_lanes, branch, serializer_spot,
 use Rattle.sat_draw.specs.Drawing.{elements}
 use Rattle.sat_draw.specs.Laws.{is_done_mark, is_refused_mark, done_mark, refused_mark, EachIsDrawnOnce}
 
--- a test that only marks of acts pass
+-- a test that nothing passes that stands behind the rows
+pub record IsOfRows (p : Element → Bool) : Type 0 where
+  pub lanes : (a b : Spot) → p (Line ink.Lane a b) ≡ false
+  pub edges : (a b : Spot) → p (Line ink.Edge a b) ≡ false
+  pub rules : (a b : Spot) → p (Line ink.Rule a b) ≡ false
+  pub words : (i : Ink) (a : Spot) (text : List ℕ) → p (Word i a text) ≡ false
+  pub nodes : (a : Spot) → p (Dot ink.Node a) ≡ false
+
+-- and no line
 record IsOfActs (p : Element → Bool) : Type 0 where
+  rows : IsOfRows p
   lines : (i : Ink) (a b : Spot) → p (Line i a b) ≡ false
-  words : (i : Ink) (a : Spot) (text : List ℕ) → p (Word i a text) ≡ false
-  nodes : (a : Spot) → p (Dot ink.Node a) ≡ false
 
 -- no element of a list passes
-record Free (p : Element → Bool) (xs : List Element) : Type 0 where
-  free : filter p xs ≡ []
+pub record Free (p : Element → Bool) (xs : List Element) : Type 0 where
+  pub free : filter p xs ≡ []
 
-nothing : (p : Element → Bool) → Free p []
+pub nothing : (p : Element → Bool) → Free p []
 nothing p = record { free = refl }
 
-skip : (p : Element → Bool) (x : Element) (xs : List Element) → p x ≡ false → Free p xs → Free p (x ∷ xs)
+pub skip : (p : Element → Bool) (x : Element) (xs : List Element) → p x ≡ false → Free p xs → Free p (x ∷ xs)
 skip p x xs e rest = record { free = ap (λ (b : Bool). if b then x ∷ filter p xs else filter p xs) e ∙ rest.free }
 
-both : (p : Element → Bool) (xs ys : List Element) → Free p xs → Free p ys → Free p (xs ++ ys)
+pub both : (p : Element → Bool) (xs ys : List Element) → Free p xs → Free p ys → Free p (xs ++ ys)
 both p xs ys one two = record { free = filter-append p xs ys ∙ (ap (λ (zs : List Element). zs ++ filter p ys) one.free ∙ two.free) }
 
 -- ---- none above the rows
 
-lane-free : (p : Element → Bool) → IsOfActs p → (top bottom column : ℕ) (name : List ℕ) → Free p (lane top bottom column name)
+lane-free : (p : Element → Bool) → IsOfRows p → (top bottom column : ℕ) (name : List ℕ) → Free p (lane top bottom column name)
 lane-free p is top bottom column name =
-    skip p (Line ink.Lane (spot_at (column_x column) (top - 24)) (spot_at (column_x column) bottom)) (Word ink.Name (spot_at (column_x column) (top - 30)) name ∷ []) (is.lines _ _ _)
+    skip p (Line ink.Lane (spot_at (column_x column) (top - 24)) (spot_at (column_x column) bottom)) (Word ink.Name (spot_at (column_x column) (top - 30)) name ∷ []) (is.lanes _ _)
     (skip p (Word ink.Name (spot_at (column_x column) (top - 30)) name) [] (is.words _ _ _) (nothing p))
 
-site_lanes-free : (p : Element → Bool) → IsOfActs p → (d : Deployed) (top bottom n : ℕ) → Free p (site_lanes d top bottom n)
+site_lanes-free : (p : Element → Bool) → IsOfRows p → (d : Deployed) (top bottom n : ℕ) → Free p (site_lanes d top bottom n)
 unfolding site_lanes
 site_lanes-free p is d top bottom zero = nothing p
 site_lanes-free p is d top bottom (suc i) =
     both p (site_lanes d top bottom i) (lane top bottom (site_column d i) (node_text (Site i)))
     (site_lanes-free p is d top bottom i) (lane-free p is top bottom (site_column d i) (node_text (Site i)))
 
-branch-free : (p : Element → Bool) → IsOfActs p → (d : Deployed) (epoch y z : ℕ) (o : Option ℕ) → Free p (branch d epoch y z o)
+branch-free : (p : Element → Bool) → IsOfRows p → (d : Deployed) (epoch y z : ℕ) (o : Option ℕ) → Free p (branch d epoch y z o)
 branch-free p is d epoch y z None = nothing p
 branch-free p is d epoch y z (Some q) =
-    skip p (Line ink.Edge (serializer_spot d epoch y z) (serializer_spot d epoch y q)) [] (is.lines _ _ _) (nothing p)
+    skip p (Line ink.Edge (serializer_spot d epoch y z) (serializer_spot d epoch y q)) [] (is.edges _ _) (nothing p)
 
-node-free : (p : Element → Bool) → IsOfActs p → (at : Spot) (name : List ℕ) → Free p (node at name)
+node-free : (p : Element → Bool) → IsOfRows p → (at : Spot) (name : List ℕ) → Free p (node at name)
 node-free p is at name =
     skip p (Dot ink.Node at) (Word ink.Epoch (spot_at (at.x + 7) (at.y - 5)) name ∷ []) (is.nodes at)
     (skip p (Word ink.Epoch (spot_at (at.x + 7) (at.y - 5)) name) [] (is.words _ _ _) (nothing p))
 
-serializer-free : (p : Element → Bool) → IsOfActs p → (d : Deployed) (top bottom epoch y : ℕ) (tree : TreeShape) (z : ℕ) → Free p (serializer_elements d top bottom epoch y tree z)
+serializer-free : (p : Element → Bool) → IsOfRows p → (d : Deployed) (top bottom epoch y : ℕ) (tree : TreeShape) (z : ℕ) → Free p (serializer_elements d top bottom epoch y tree z)
 serializer-free p is d top bottom epoch y tree z =
     let here = serializer_spot d epoch y z in
     let name = node_text (Serializer z) in
@@ -83,31 +90,31 @@ serializer-free p is d top bottom epoch y tree z =
     (branch-free p is d epoch y z (parent_of tree.parents z))
     (both p (node here name) (lane top bottom column title) (node-free p is here name) (lane-free p is top bottom column title))
 
-serializers-free : (p : Element → Bool) → IsOfActs p → (d : Deployed) (top bottom epoch y : ℕ) (tree : TreeShape) (n : ℕ) → Free p (serializers_elements d top bottom epoch y tree n)
+serializers-free : (p : Element → Bool) → IsOfRows p → (d : Deployed) (top bottom epoch y : ℕ) (tree : TreeShape) (n : ℕ) → Free p (serializers_elements d top bottom epoch y tree n)
 unfolding serializers_elements
 serializers-free p is d top bottom epoch y tree zero = nothing p
 serializers-free p is d top bottom epoch y tree (suc z) =
     both p (serializers_elements d top bottom epoch y tree z) (serializer_elements d top bottom epoch y tree z)
     (serializers-free p is d top bottom epoch y tree z) (serializer-free p is d top bottom epoch y tree z)
 
-seat-free : (p : Element → Bool) → IsOfActs p → (d : Deployed) (epoch y : ℕ) (tree : TreeShape) (i : ℕ) → Free p (seat_elements d epoch y tree i)
+seat-free : (p : Element → Bool) → IsOfRows p → (d : Deployed) (epoch y : ℕ) (tree : TreeShape) (i : ℕ) → Free p (seat_elements d epoch y tree i)
 seat-free p is d epoch y tree i =
     skip p (Line ink.Edge (site_spot d y tree i) (serializer_spot d epoch y (seat_of tree i))) (node (site_spot d y tree i) (node_text (Site i)))
-    (is.lines _ _ _) (node-free p is (site_spot d y tree i) (node_text (Site i)))
+    (is.edges _ _) (node-free p is (site_spot d y tree i) (node_text (Site i)))
 
-seats-free : (p : Element → Bool) → IsOfActs p → (d : Deployed) (epoch y : ℕ) (tree : TreeShape) (n : ℕ) → Free p (seats_elements d epoch y tree n)
+seats-free : (p : Element → Bool) → IsOfRows p → (d : Deployed) (epoch y : ℕ) (tree : TreeShape) (n : ℕ) → Free p (seats_elements d epoch y tree n)
 unfolding seats_elements
 seats-free p is d epoch y tree zero = nothing p
 seats-free p is d epoch y tree (suc i) =
     both p (seats_elements d epoch y tree i) (seat_elements d epoch y tree i) (seats-free p is d epoch y tree i) (seat-free p is d epoch y tree i)
 
-tree-free : (p : Element → Bool) → IsOfActs p → (d : Deployed) (top bottom epoch y : ℕ) (q : Plan) → Free p (tree_elements d top bottom epoch y q)
+tree-free : (p : Element → Bool) → IsOfRows p → (d : Deployed) (top bottom epoch y : ℕ) (q : Plan) → Free p (tree_elements d top bottom epoch y q)
 tree-free p is d top bottom epoch y plan.Stamp = nothing p
 tree-free p is d top bottom epoch y (plan.Tree tree) =
     both p (serializers_elements d top bottom epoch y tree (length tree.parents)) (seats_elements d epoch y tree (length tree.seats))
     (serializers-free p is d top bottom epoch y tree (length tree.parents)) (seats-free p is d epoch y tree (length tree.seats))
 
-plans-free : (p : Element → Bool) → IsOfActs p → (d : Deployed) (top bottom epoch y : ℕ) (ps : List Plan) → Free p (plans_elements d top bottom epoch y ps)
+plans-free : (p : Element → Bool) → IsOfRows p → (d : Deployed) (top bottom epoch y : ℕ) (ps : List Plan) → Free p (plans_elements d top bottom epoch y ps)
 unfolding plans_elements
 plans-free p is d top bottom epoch y [] = nothing p
 plans-free p is d top bottom epoch y (q ∷ ps) =
@@ -115,7 +122,7 @@ plans-free p is d top bottom epoch y (q ∷ ps) =
     (skip p (Word ink.Epoch (spot_at 8 (y + 24)) (epoch_name epoch q)) (tree_elements d top bottom epoch y q) (is.words _ _ _) (tree-free p is d top bottom epoch y q))
     (plans-free p is d top bottom (epoch + 1) (y + plan_height q) ps)
 
-head-free : (p : Element → Bool) → IsOfActs p → (d : Deployed) (count : ℕ) → Free p (head d count)
+pub head-free : (p : Element → Bool) → IsOfRows p → (d : Deployed) (count : ℕ) → Free p (head d count)
 unfolding head
 head-free p is d count =
     let top = rows_top d in
@@ -126,11 +133,11 @@ head-free p is d count =
 
 -- ---- one in each row
 
-rule-free : (p : Element → Bool) → IsOfActs p → (d : Deployed) (a : Act) (here : Spot) → Free p (rule d a here)
+pub rule-free : (p : Element → Bool) → IsOfRows p → (d : Deployed) (a : Act) (here : Spot) → Free p (rule d a here)
 rule-free p is d a here = go (is_across a)
   where
     go : (b : Bool) → Free p (if b then Line ink.Rule here (spot_at (column_x (columns d - 1)) here.y) ∷ [] else [])
-    go true = skip p (Line ink.Rule here (spot_at (column_x (columns d - 1)) here.y)) [] (is.lines ink.Rule here (spot_at (column_x (columns d - 1)) here.y)) (nothing p)
+    go true = skip p (Line ink.Rule here (spot_at (column_x (columns d - 1)) here.y)) [] (is.rules here (spot_at (column_x (columns d - 1)) here.y)) (nothing p)
     go false = nothing p
 
 arrow-free : (p : Element → Bool) → IsOfActs p → (i : Ink) (here : Spot) (o : Option Spot) → Free p (arrow i here o)
@@ -148,7 +155,7 @@ ways-free p is d [] = nothing p
 ways-free p is d (entry ∷ h) =
     let here = spot_of d h entry in
     both p (ways d h) (ways_of d h entry) (ways-free p is d h)
-    (both p (rule d entry.act here) (arrows (last_spot d h) here (comes_from entry.act entry.answer)) (rule-free p is d entry.act here) (arrows-free p is (last_spot d h) here (comes_from entry.act entry.answer)))
+    (both p (rule d entry.act here) (arrows (last_spot d h) here (comes_from entry.act entry.answer)) (rule-free p is.rows d entry.act here) (arrows-free p is (last_spot d h) here (comes_from entry.act entry.answer)))
 
 -- the mark alone
 one-mark : (p : Element → Bool) → IsOfActs p → (d : Deployed) (h : List Entry) (entry : Entry) → filter p (marks_of d h entry) ≡ filter p (mark_of (spot_of d h entry) entry ∷ [])
@@ -157,7 +164,7 @@ one-mark p is d h entry =
     let mark = mark_of here entry in
     let words = answer_of d (length h) here entry ∷ act_of d here entry ∷ [] in
     filter-append p (mark ∷ []) words
-    ∙ (ap (λ (xs : List Element). filter p (mark ∷ []) ++ xs) (skip p (answer_of d (length h) here entry) (act_of d here entry ∷ []) (is.words _ _ _) (skip p (act_of d here entry) [] (is.words _ _ _) (nothing p))).free
+    ∙ (ap (λ (xs : List Element). filter p (mark ∷ []) ++ xs) (skip p (answer_of d (length h) here entry) (act_of d here entry ∷ []) (is.rows.words _ _ _) (skip p (act_of d here entry) [] (is.rows.words _ _ _) (nothing p))).free
     ∙ append-nil (filter p (mark ∷ [])))
 
 -- so the marks that pass are those that the entries are to have
@@ -177,17 +184,17 @@ all-marks : (p : Element → Bool) → IsOfActs p → (d : Deployed) (f : List E
 unfolding elements
 all-marks p is d f each h =
     filter-append p (head d (length h)) (ways d h ++ marks d h)
-    ∙ (ap (λ (xs : List Element). xs ++ filter p (ways d h ++ marks d h)) (head-free p is d (length h)).free
+    ∙ (ap (λ (xs : List Element). xs ++ filter p (ways d h ++ marks d h)) (head-free p is.rows d (length h)).free
     ∙ (filter-append p (ways d h) (marks d h)
     ∙ (ap (λ (xs : List Element). xs ++ filter p (marks d h)) (ways-free p is d h).free ∙ marks-listed p is d f each h)))
 
 -- ---- acts that were done, and acts that changed nothing
 
 of-done : IsOfActs is_done_mark
-of-done = record { lines = λ i a b. refl; words = λ i a text. refl; nodes = λ a. refl }
+of-done = record { rows = record { lanes = λ a b. refl; edges = λ a b. refl; rules = λ a b. refl; words = λ i a text. refl; nodes = λ a. refl }; lines = λ i a b. refl }
 
 of-refused : IsOfActs is_refused_mark
-of-refused = record { lines = λ i a b. refl; words = λ i a text. refl; nodes = λ a. refl }
+of-refused = record { rows = record { lanes = λ a b. refl; edges = λ a b. refl; rules = λ a b. refl; words = λ i a text. refl; nodes = λ a. refl }; lines = λ i a b. refl }
 
 done-each : (d : Deployed) (h : List Entry) (entry : Entry) → filter is_done_mark (mark_of (spot_of d h entry) entry ∷ []) ≡ elim (done_mark d h entry) [ None ↦ [] | Some x ↦ x ∷ [] ]
 done-each d h entry = go (is_done entry.answer)

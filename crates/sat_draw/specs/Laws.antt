@@ -1,13 +1,20 @@
--- What holds of every drawing: each act is drawn once, and an act that was done is drawn as done.
-use Rattle.std.specs.Prelude.{◌≡◌, Bool, true, false, List, filter, Option, Some, None, if◌then◌else◌}
+-- What holds of every drawing: each act is drawn once, an act that was done as done, and each arrow begins where what it brings was left.
+use Rattle.std.specs.Prelude.{◌≡◌, Bool, true, false, List, ◌∷◌, ◌++◌, filter, Option, Some, None, if◌then◌else◌}
+use Rattle.std.specs.List.{list_any}
+use Rattle.sat_label.specs.Members.{In}
+use Rattle.sat_label.specs.Words.{has}
 use Rattle.sat_act.specs.declared.entry.Entry.{Entry}
 use Rattle.sat_act.specs.Deployed.{Deployed}
 use Rattle.sat_act.specs.Histories.{listed}
 use Rattle.sat_act.specs.Settling.{is_done}
 use Rattle.sat_draw.specs.declared.element.Ink.{Ink}
 use Rattle.sat_draw.specs.declared.element.Ink.TheVariants as ink
+use Rattle.sat_draw.specs.declared.element.Spot.{Spot}
 use Rattle.sat_draw.specs.declared.element.Element.{Element}
 use Rattle.sat_draw.specs.declared.element.Element.TheVariants.{Line, Dot, Word}
+use Rattle.sat_draw.specs.declared.trail.Trail.{Trail}
+use Rattle.sat_draw.specs.declared.trail.Coming.{Coming}
+use Rattle.sat_draw.specs.Trails.{trail_eq, left_by, comes_from}
 use Rattle.sat_draw.specs.Rows.{spot_of}
 use Rattle.sat_draw.specs.Drawing.{elements}
 
@@ -41,3 +48,39 @@ refused_mark d before entry = if is_done entry.answer then None else Some (Dot i
 pub record EachIsDrawnOnce (d : Deployed) (h : List Entry) : Type 0 where
   pub done : filter is_done_mark (elements d h) ≡ listed (done_mark d) h
   pub refused : filter is_refused_mark (elements d h) ≡ listed (refused_mark d) h
+
+-- ---- where arrows begin
+
+-- the last entry of a history that left a trail: its mark stands there
+pub record IsLeft (d : Deployed) (h : List Entry) (t : Trail) (there : Spot) : Type 0 where
+  pub later : List Entry
+  pub entry : Entry
+  pub before : List Entry
+  pub parts : h ≡ later ++ entry ∷ before
+  pub left : has trail_eq (left_by entry.act entry.answer) t ≡ true
+  pub last : list_any (λ e. has trail_eq (left_by e.act e.answer) t) later ≡ false
+  pub there_is : there ≡ spot_of d before entry
+
+-- the inks of what moves or waits: of labels, payloads and beats
+abbrev pub is_way_ink : Ink → Bool
+is_way_ink ink.Label = true
+is_way_ink ink.Sink = true
+is_way_ink ink.Payload = true
+is_way_ink ink.Store = true
+is_way_ink ink.Beat = true
+is_way_ink _ = false
+
+-- a line that ends at the mark of an entry, and begins where a trail on which that entry ends was left last before
+pub record IsWay (d : Deployed) (h : List Entry) (ink : Ink) (from to : Spot) : Type 0 where
+  pub later : List Entry
+  pub entry : Entry
+  pub before : List Entry
+  pub parts : h ≡ later ++ entry ∷ before
+  pub trail : Trail
+  pub comes_from_it : In (comes_from entry.act entry.answer) (record { ink = ink; trail = trail })
+  pub begins : IsLeft d before trail from
+  pub ends : to ≡ spot_of d before entry
+
+-- each line of a label, a payload or a beat is such a way
+abbrev pub WaysAreTold : Deployed → List Entry → Type 0
+WaysAreTold d h = (ink : Ink) (from to : Spot) → is_way_ink ink ≡ true → In (elements d h) (Line ink from to) → IsWay d h ink from to

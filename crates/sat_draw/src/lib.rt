@@ -3,18 +3,18 @@
 
 mod acts;
 mod columns;
-mod draw;
 mod element;
 mod geometry;
 mod head;
 mod legend;
+mod picture;
 mod rows;
 mod spell;
 mod tracks;
 mod trail;
 
-pub use draw::draw_run;
 pub use element::{Element, Ink, Spot, Text};
+pub use picture::draw;
 
 #[cfg(test)]
 mod tests;

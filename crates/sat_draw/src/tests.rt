@@ -1,5 +1,5 @@
 //! Drawings of scripts and their answers. What is expected was worked out by hand from the measures of a drawing.
-use crate::draw_run;
+use crate::draw;
 use sat_act::{Act, Answer, Entries, Entry, Refusal};
 use sat_label::{Kind, Label, NodeId, Nodes, Point, Value};
 use sat_script::{Reading, ScriptReader};
@@ -154,7 +154,7 @@ fn drawn(alloc: Global, script: &str, plain: bool) -> Result<Vec<u8>, AllocError
     if entries.as_slice().len() > 100 {
         return Ok(Vec::new(alloc));
     }
-    draw_run(alloc, &d, entries.as_slice())
+    draw(alloc, &d, entries.as_slice())
 }
 
 // How many lines of a text begin like this.

@@ -5,7 +5,7 @@ ghost use Rattle.sat_draw.specs.Elements.{spelled};
 ghost use Rattle.sat_draw.specs.Head.{head};
 ghost use Rattle.sat_draw.specs.Rows.{ways, marks};
 ghost use Rattle.sat_draw.specs.Drawing.{opening, drawing};
-ghost use Rattle.sat_draw.specs.Laws.{EachIsDrawnOnce};
+ghost use Rattle.sat_draw.specs.Laws.{EachIsDrawnOnce, WaysAreTold};
 
 use crate::columns::{column_x, columns, rows_top};
 use crate::geometry::{RIGHT, ROW};
@@ -77,10 +77,11 @@ fn append_rows(
 /// The drawing of a history as an SVG. The entries stand in their order, the oldest first, and are at most 2^32; those that a
 /// settle made are drawn like all others, and may be left out.
 #[tactic(auto, unfolding(crate::specs::Drawing::drawing, crate::specs::Drawing::elements))]
-pub fn draw_run(alloc: Global, d: &Deployment, entries: &[Entry]) -> Result<Vec<u8>, AllocError>
+pub fn draw(alloc: Global, d: &Deployment, entries: &[Entry]) -> Result<Vec<u8>, AllocError>
     requires { length entries.now ≤ 4294967296 }
     ensures text { IfOk result (λ text. text.items ≡ drawing d.now (reverse entries.now)) }
     ensures once { IfOk result (λ _. EachIsDrawnOnce d.now (reverse entries.now)) }
+    ensures told { IfOk result (λ _. WaysAreTold d.now (reverse entries.now)) }
 {
     let top = rows_top(d);
     let count = entries.len() as u64;

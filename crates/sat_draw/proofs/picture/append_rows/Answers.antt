@@ -1,5 +1,5 @@
 use Rattle.sat_draw.proofs.Following.{drawn_none}
-use Rattle.sat_draw.proofs.draw.append_rows.Goals as goal
+use Rattle.sat_draw.proofs.picture.append_rows.Goals as goal
 
 pub loop-place-init : goal.loop-place-init
 loop-place-init c =

@@ -2,9 +2,10 @@ use Rattle.std.proofs.Common.{ℕ, List, reverse, ◌+◌, ◌*◌, ◌++◌, le
 use Rattle.sat_draw.specs.declared.geometry.TheConstants.{RIGHT, ROW}
 use Rattle.sat_draw.specs.Columns.{column_x}
 use Rattle.sat_draw.specs.Drawing.{opening}
+use Rattle.sat_draw.proofs.Arrowed.{ways_told}
 use Rattle.sat_draw.proofs.Marks.{each_once}
 use Rattle.sat_draw.proofs.Whole.{whole}
-use Rattle.sat_draw.proofs.draw.draw_run.Goals as goal
+use Rattle.sat_draw.proofs.picture.draw.Goals as goal
 
 pub returns-clause-text : goal.returns-clause-text
 returns-clause-text c =
@@ -18,3 +19,6 @@ returns-clause-text c =
 
 pub returns-clause-once : goal.returns-clause-once
 returns-clause-once c = each_once c.args.d.now (reverse c.args.entries.now)
+
+pub returns-clause-told : goal.returns-clause-told
+returns-clause-told c = ways_told c.args.d.now (reverse c.args.entries.now)
