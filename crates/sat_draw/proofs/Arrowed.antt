@@ -1,6 +1,6 @@
 -- Where the lines of labels, payloads and beats begin and end.
-use Rattle.std.proofs.Common.{◌≡◌, ◌≢◌, ℕ, Bool, true, false, List, [], ◌∷◌, ◌++◌, length, refl, sym, ap, ◌∙◌, inl, inr}
-use Rattle.std.specs.Prelude.{◌⊎◌, ◌||◌, filter, Option, Some, None, if◌then◌else◌, codes}
+use Rattle.std.proofs.Common.{◌≡◌, Bool, true, false, List, [], ◌∷◌, ◌++◌, length, refl, sym, ap, ◌∙◌, inl, inr}
+use Rattle.std.specs.Prelude.{◌||◌, filter, Option, Some, None, if◌then◌else◌}
 use Rattle.std.specs.List.{list_any}
 use Rattle.sat_label.specs.Members.{In}
 use Rattle.sat_label.specs.Words.{has}
@@ -11,11 +11,11 @@ use Rattle.sat_draw.specs.declared.element.Ink.{Ink}
 use Rattle.sat_draw.specs.declared.element.Ink.TheVariants as ink
 use Rattle.sat_draw.specs.declared.element.Spot.{Spot}
 use Rattle.sat_draw.specs.declared.element.Element.{Element}
-use Rattle.sat_draw.specs.declared.element.Element.TheVariants.{Line, Dot, Word}
+use Rattle.sat_draw.specs.declared.element.Element.TheVariants.{Line}
 use Rattle.sat_draw.specs.declared.trail.Trail.{Trail}
 use Rattle.sat_draw.specs.declared.trail.Coming.{Coming}
 use Rattle.sat_draw.specs.Trails.{trail_eq, left_by, comes_from}
-use Rattle.sat_draw.specs.Rows.{spot_at, spot_of, last_spot, arrow, arrows, rule, mark_ink, mark_of, answer_of, act_of, ways_of, marks_of, ways, marks}
+use Rattle.sat_draw.specs.Rows.{spot_of, last_spot, arrow, arrows, rule, mark_of, answer_of, act_of, ways_of, marks_of, ways, marks}
 use Rattle.sat_draw.specs.Head.{head}
 use Rattle.sat_draw.specs.Drawing.{elements}
 use Rattle.sat_draw.specs.Laws.{IsLeft, IsWay, is_way_ink, WaysAreTold}

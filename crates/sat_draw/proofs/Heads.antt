@@ -1,5 +1,5 @@
 -- One column, serializer or seat more.
-use Rattle.std.proofs.Common.{◌≡◌, ℕ, ◌+◌, List, [], ◌∷◌, ◌++◌, length, refl, sym, ap, ◌∙◌, add-one}
+use Rattle.std.proofs.Common.{◌≡◌, ℕ, ◌+◌, List, ◌++◌, sym, ap, ◌∙◌, add-one}
 use Rattle.std.proofs.lemmas.List.{append-nil, append_assoc}
 use Rattle.sat_label.specs.declared.node.NodeId.TheVariants.{Site}
 use Rattle.sat_label.specs.Text.{node_text}

@@ -11,9 +11,8 @@ use Rattle.sat_draw.specs.declared.element.Ink.{Ink}
 use Rattle.sat_draw.specs.declared.element.Ink.TheVariants as ink
 use Rattle.sat_draw.specs.declared.element.Spot.{Spot}
 use Rattle.sat_draw.specs.declared.element.Element.{Element}
-use Rattle.sat_draw.specs.declared.element.Element.TheVariants.{Line, Dot, Word}
+use Rattle.sat_draw.specs.declared.element.Element.TheVariants.{Line, Dot}
 use Rattle.sat_draw.specs.declared.trail.Trail.{Trail}
-use Rattle.sat_draw.specs.declared.trail.Coming.{Coming}
 use Rattle.sat_draw.specs.Trails.{trail_eq, left_by, comes_from}
 use Rattle.sat_draw.specs.Rows.{spot_of}
 use Rattle.sat_draw.specs.Drawing.{elements}

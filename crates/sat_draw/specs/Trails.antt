@@ -1,5 +1,5 @@
 -- What an entry leaves for later ones, and what it comes from.
-use Rattle.std.specs.Prelude.{ℕ, Bool, true, false, ◌&&◌, ◌==◌, List, [], ◌∷◌, map, Option, Some, None, unwrap_or, if◌then◌else◌}
+use Rattle.std.specs.Prelude.{ℕ, Bool, ◌&&◌, ◌==◌, List, [], ◌∷◌, map, Option, Some, None, unwrap_or, if◌then◌else◌}
 use Rattle.std.specs.Ordering.{nat_cmp, ordering_then}
 use Rattle.std.specs.declared.cmp.Ordering.{Ordering}
 use Rattle.sat_label.specs.declared.label.Label.{Label}
@@ -7,17 +7,13 @@ use Rattle.sat_label.specs.declared.label.Kind.TheVariants.{Close}
 use Rattle.sat_label.specs.declared.node.NodeId.{NodeId}
 use Rattle.sat_label.specs.declared.node.NodeId.TheVariants.{Site, Serializer}
 use Rattle.sat_label.specs.Order.{kind_rank, kind_number}
-use Rattle.sat_label.specs.Words.{has}
 use Rattle.sat_act.specs.declared.act.Act.{Act}
 use Rattle.sat_act.specs.declared.act.Act.TheVariants as act
 use Rattle.sat_act.specs.declared.answer.Answer.{Answer}
 use Rattle.sat_act.specs.declared.answer.Answer.TheVariants as ans
-use Rattle.sat_act.specs.declared.entry.Entry.{Entry}
-use Rattle.sat_act.specs.Deployed.{Deployed}
 use Rattle.sat_act.specs.Done.{at_site, of_client}
 use Rattle.sat_draw.specs.declared.element.Ink.{Ink}
 use Rattle.sat_draw.specs.declared.element.Ink.TheVariants as ink
-use Rattle.sat_draw.specs.declared.element.Spot.{Spot}
 use Rattle.sat_draw.specs.declared.trail.Trail.{Trail}
 use Rattle.sat_draw.specs.declared.trail.Coming.{Coming}
 use Rattle.sat_draw.specs.declared.trail.TheConstants.{MADE, SENT, TO_SITE, TO_SERIALIZER, BROUGHT, BEAT}

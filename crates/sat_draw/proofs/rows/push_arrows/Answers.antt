@@ -1,4 +1,3 @@
-use Rattle.std.proofs.Common.{arith}
 use Rattle.sat_draw.specs.Rows.{arrow_for}
 use Rattle.sat_draw.specs.Tracks.{spot_by}
 use Rattle.sat_draw.proofs.Arrows.{one_more}
