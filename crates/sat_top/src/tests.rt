@@ -221,6 +221,18 @@ fn a_source_that_fails_leaves_the_sink_empty(rt: HostRuntime) -> Result<(), Fail
     Ok(())
 }
 
+// The first 98 bytes are the header and the first act, and the read after them fails.
+#[test]
+fn an_answer_is_written_before_more_is_read(rt: HostRuntime) -> Result<(), Fail> {
+    let alloc = rt.alloc();
+    let words = words(alloc, "run")?;
+    let mut source = MemorySource::new(script(alloc, ACTS)?, 1, vec![in alloc; 98u64]?);
+    let mut sink = CleanSink::with_room(alloc, 4, ROOM)?;
+    assert_eq!(rt; still(alloc, words.as_slice(), &mut source, &mut sink), 3);
+    assert_eq!(rt; sink.held(), b"1 wrote 1.0.0\n".as_slice());
+    Ok(())
+}
+
 #[test]
 fn a_sink_that_fails_holds_a_front(rt: HostRuntime) -> Result<(), Fail> {
     let alloc = rt.alloc();
