@@ -1,0 +1,6 @@
+pub mod Numbers
+pub mod Walks
+pub mod Says
+pub mod SiteKept
+pub mod SerialKept
+pub mod Handings
