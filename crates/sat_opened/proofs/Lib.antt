@@ -4,3 +4,5 @@ pub mod Says
 pub mod SiteKept
 pub mod SerialKept
 pub mod Handings
+pub mod Layouts
+pub mod Found

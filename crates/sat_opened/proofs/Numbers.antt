@@ -35,3 +35,9 @@ not-is false e = refl
 
 pub at-most : (a b : ℕ) → nat_le a b ≡ true → a ≤ b
 at-most a b e = grind (arith, nat_tests)
+
+pub not-less : (a b : ℕ) → b ≤ a → nat_lt a b ≡ false
+not-less a b e = grind (arith, nat_tests)
+
+pub above-is : (i j : ℕ) → nat_lt j i ≡ false → (j == i) ≡ false → i < j
+above-is i j a b = grind (arith, nat_tests)
