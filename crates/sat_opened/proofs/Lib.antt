@@ -6,3 +6,4 @@ pub mod SerialKept
 pub mod Handings
 pub mod Layouts
 pub mod Found
+pub mod SiteLinks
