@@ -7,3 +7,7 @@ pub mod Handings
 pub mod Layouts
 pub mod Found
 pub mod SiteLinks
+pub mod SerialLinks
+pub mod Lanes
+pub mod Links
+pub mod Bulks

@@ -1,11 +1,13 @@
 -- A site's journal as a kept list: its states and epochs, and where its entries stand.
-use Rattle.std.proofs.Common.{◌≡◌, ◌<◌, ℕ, ◌+◌, Bool, true, false, ◌==◌, ◌&&◌, not, List, [], ◌∷◌, ◌++◌, length, Option, Some, None, slice_get, if◌then◌else◌, refl, sym, ap, ◌∙◌, subst, arith, inl, inr}
+use Rattle.std.proofs.Common.{◌≡◌, ◌⊎◌, ◌<◌, ℕ, ◌+◌, Bool, true, false, ◌==◌, ◌&&◌, not, List, [], ◌∷◌, ◌++◌, length, Option, Some, None, slice_get, if◌then◌else◌, refl, sym, ap, ◌∙◌, subst, arith, inl, inr}
 use Rattle.std.proofs.lemmas.Bool.{and_parts}
 use Rattle.std.proofs.lemmas.List.{append-nil, length-append}
 use Rattle.sat_label.proofs.Truth.{same-number}
 use Rattle.sat_label.specs.Members.{In}
 use Rattle.sat_label.specs.declared.limits.TheConstants.{TS_END}
 use Rattle.sat_label.specs.declared.node.NodeName.TheVariants as named
+use Rattle.sat_beat.specs.declared.Beat.{Beat}
+use Rattle.sat_bulk.specs.declared.Payload.{Payload}
 use Rattle.sat_act.specs.declared.answer.Answer.{Answer}
 use Rattle.sat_act.specs.declared.answer.Answer.TheVariants as ans
 use Rattle.sat_act.specs.declared.answer.Refusal.TheVariants as why
@@ -205,6 +207,22 @@ in-range d i c s input.Stamp lt e = lt
 in-range d i c s input.Close lt e = lt
 in-range d i c s input.Fall lt e = lt
 in-range d i c s input.Advance lt e = lt
+
+-- a payload and a beat come from another site
+bulk-other : (d : Deployed) (j i g n : ℕ) (p : Payload) (s : SiteState) → fits d j s (input_of (input.Bulk i g n p)) ≡ true → IsOther d j i
+unfolding fits
+bulk-other d j i g n p s e = other-is d j i (and_parts (is_other d j i) (is_gear d g) (and_parts (is_other d j i && is_gear d g) _ e).0).0
+
+beat-other : (d : Deployed) (j i n : ℕ) (b : Beat) (s : SiteState) → fits d j s (input_of (input.BeatIn i n b)) ≡ true → IsOther d j i
+unfolding fits
+beat-other d j i n b s e = other-is d j i (and_parts (is_other d j i) (is_note d (note_of b)) e).0
+
+abbrev pub ComesFrom : ℕ → SiteInput → Type 0
+ComesFrom i given = ((g : ℕ) × (n : ℕ) × (p : Payload) × (given ≡ input.Bulk i g n p)) ⊎ ((n : ℕ) × (b : Beat) × (given ≡ input.BeatIn i n b))
+
+pub from-other : (d : Deployed) (j : ℕ) (s : SiteState) (given : SiteInput) (i : ℕ) → fits d j s (input_of given) ≡ true → ComesFrom i given → IsOther d j i
+from-other d j s given i e (inl w) = bulk-other d j i w.0 w.1 w.2 s (subst (λ (x : SiteInput). fits d j s (input_of x) ≡ true) w.3 e)
+from-other d j s given i e (inr w) = beat-other d j i w.0 w.1 s (subst (λ (x : SiteInput). fits d j s (input_of x) ≡ true) w.2 e)
 
 stands-same : (r : Answer) → is_standing r ≡ stands r
 stands-same (ans.Refused why.Empty) = refl

@@ -274,7 +274,7 @@ module _ (d : Deployed) (i e : ℕ) (t : TreeShape) (tree : tree_of d e ≡ Some
 
 -- ---- the end into a tree is no lane
 
-bit-none : (k : ℕ) → bit 0 k ≡ false
+pub bit-none : (k : ℕ) → bit 0 k ≡ false
 bit-none k = go (bit 0 k) refl
   where
     low : (k : ℕ) → k < 0 → ⊥
