@@ -11,3 +11,4 @@ pub mod SerialLinks
 pub mod Lanes
 pub mod Links
 pub mod Bulks
+pub mod Whole
