@@ -8,6 +8,7 @@ use Rattle.sat_label.specs.declared.node.NodeName.{NodeName}
 use Rattle.sat_label.specs.declared.node.NodeName.TheVariants as named
 use Rattle.sat_laws.proofs.Labels.{some_is}
 use Rattle.sat_node.specs.Links.{HeldSeen}
+use Rattle.sat_stitch.specs.Stitch.{Distinct}
 use Rattle.sat_opened.specs.Opened.{name_in, entries_at}
 use Rattle.sat_opened.proofs.Numbers.{same-is}
 
@@ -70,6 +71,22 @@ module _ {M I A : Type 0} (name : NodeName) where
 
   pub found-named : (hs : List (HeldSeen M I A)) → Found name hs → In (map name_in hs) name
   found-named hs f = subst (λ (n : NodeName). In (map name_in hs) n) f.is_named (in-names hs f.index f.held f.there)
+
+  -- a node whose name no other has
+  differs : (h : HeldSeen M I A) (hs : List (HeldSeen M I A)) → (In (map name_in hs) h.node.name → ⊥) → In (map name_in hs) name → name_eq h.node.name name ≡ false
+  differs h hs alone i = go (name_eq h.node.name name) refl
+    where
+      go : (b : Bool) → name_eq h.node.name name ≡ b → b ≡ false
+      go true e = absurd (alone (subst (λ (n : NodeName). In (map name_in hs) n) (sym (name-is h.node.name name e)) i))
+      go false e = refl
+
+  pub entries-of : (hs : List (HeldSeen M I A)) → Distinct (map name_in hs) → (n : ℕ) (h : HeldSeen M I A) → slice_get hs n ≡ Some h → h.node.name ≡ name → entries_at name hs ≡ h.node.entries
+  entries-of [] apart n h e w = absurd (cc)
+  entries-of (x ∷ hs) apart zero h e w =
+      let same : x ≡ h = some_is x h e in
+      entries-first x hs (ap (λ (n : NodeName). name_eq n name) (ap (λ (y : HeldSeen M I A). y.node.name) same ∙ w) ∙ name-self name) ∙ ap (λ (y : HeldSeen M I A). y.node.entries) same
+  entries-of (x ∷ hs) apart (suc n) h e w =
+      entries-later x hs (differs x hs apart.1 (subst (λ (m : NodeName). In (map name_in hs) m) w (in-names hs n h e))) ∙ entries-of hs apart.0 n h e w
 
 -- nodes of two names stand at two places
 pub two-places : {M I A : Type 0} (m n : NodeName) (hs : List (HeldSeen M I A)) (f : Found m hs) (g : Found n hs) → (m ≡ n → ⊥) → f.index ≡ g.index → ⊥

@@ -268,12 +268,12 @@ serial-named d e z t is lt =
 pub site-named : (n i : ℕ) → i < n → In (map named.Site (below n)) (named.Site i)
 site-named n i lt = in-below named.Site n i lt
 
-in-mapped : {X Y : Type 0} (f : X → Y) (xs : List X) (y : Y) → In (map f xs) y → (x : X) × In xs x × (f x ≡ y)
+pub in-mapped : {X Y : Type 0} (f : X → Y) (xs : List X) (y : Y) → In (map f xs) y → (x : X) × In xs x × (f x ≡ y)
 in-mapped f [] y i = absurd i
 in-mapped f (x ∷ xs) y (inl e) = (x, inl refl, e)
 in-mapped {X} {Y} f (x ∷ xs) y (inr i) = (let w : (x : X) × In xs x × (f x ≡ y) = in-mapped f xs y i in (w.0, inr w.1, w.2))
 
-in-less : (n k : ℕ) → In (below n) k → k < n
+pub in-less : (n k : ℕ) → In (below n) k → k < n
 in-less zero k i = absurd i
 in-less (suc n) k i = elim (In-parts (below n) (n ∷ []) k i) [
   | inl a ↦ step n k (in-less n k a)

@@ -12,3 +12,4 @@ pub mod Lanes
 pub mod Links
 pub mod Bulks
 pub mod Whole
+pub mod Distincts

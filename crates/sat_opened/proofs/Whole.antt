@@ -72,7 +72,7 @@ module _ {M K : Type 0} (d : Deployed) (sites : List (HeldSeen M ActSeen SiteAns
     }
 
 pub opened_fit : OpenedFit
-opened_fit d sites serials alone dep all = fits d sites serials dep all alone
+opened_fit d sites serials dep all alone = fits d sites serials dep all alone
 
 -- ---- with sessions
 
@@ -101,4 +101,4 @@ fits_join d lists sessions nodes clients = joined d lists sessions nodes clients
 
 pub opened_are_runs : OpenedAreRuns
 opened_are_runs d sites serials alone sessions all dep opened clients merge =
-    merges-run d (lists_of sites serials alone) sessions all (is_valid d dep) (fits_join d (lists_of sites serials alone) sessions (opened_fit d sites serials alone dep opened) clients) merge
+    merges-run d (lists_of sites serials alone) sessions all (is_valid d dep) (fits_join d (lists_of sites serials alone) sessions (opened_fit d sites serials dep opened alone) clients) merge

@@ -1,5 +1,8 @@
 -- What this crate proves of opened nodes.
-use Rattle.std.specs.Prelude.{ℕ, List}
+use Rattle.std.specs.Prelude.{◌≡◌, ◌⊎◌, ℕ, List, [], Some, slice_get}
+use Rattle.sat_label.specs.declared.node.NodeName.{NodeName}
+use Rattle.sat_label.specs.declared.node.NodeName.TheVariants as named
+use Rattle.sat_label.specs.Members.{In}
 use Rattle.sat_act.specs.Deployed.{Deployed}
 use Rattle.sat_act.specs.Limits.{IsDeployment}
 use Rattle.sat_act.specs.Runs.{IsRun}
@@ -11,9 +14,11 @@ use Rattle.sat_machines.specs.declared.site_answer.SiteAnswer.{SiteAnswer}
 use Rattle.sat_machines.specs.declared.serial_act.SerialAct.{SerialAct}
 use Rattle.sat_machines.specs.declared.serial_act.SerialAnswer.{SerialAnswer}
 use Rattle.sat_stitch.specs.Kept.{Kept, history}
-use Rattle.sat_stitch.specs.Places.{Place, Session}
+use Rattle.sat_stitch.specs.Places.{Place, AtSite, AtSerializer, Session}
 use Rattle.sat_stitch.specs.Fit.{Fit, IsMerge}
-use Rattle.sat_opened.specs.Opened.{AllOpened, lists_of}
+use Rattle.sat_stitch.specs.Stitch.{Distinct}
+use Rattle.sat_opened.specs.Keeping.{site_kept, serial_kept, newest}
+use Rattle.sat_opened.specs.Opened.{AllOpened, lists_of, place_at, node_places}
 use Rattle.sat_opened.specs.Fits.{FitsNodes, FitsSessions}
 
 -- a site, and a serializer, with its link ends
@@ -23,9 +28,27 @@ SiteHeld = HeldSeen SiteSeen ActSeen SiteAnswer
 abbrev pub SerialHeld : Type 0
 SerialHeld = HeldSeen SerialSeen SerialAct SerialAnswer
 
--- the journals of all opened nodes fit, whatever the sessions kept
+-- the journals of these nodes fit, whatever the sessions kept
+abbrev pub NodesFit : Deployed → List SiteHeld → List SerialHeld → Type 0
+NodesFit d sites serials = (alone : ℕ → List Kept) → FitsNodes d (lists_of sites serials alone)
+
+-- so do those of all opened nodes
 abbrev pub OpenedFit : Type 0
-OpenedFit = (d : Deployed) (sites : List SiteHeld) (serials : List SerialHeld) (alone : ℕ → List Kept) → IsDeployment d → AllOpened d sites serials → FitsNodes d (lists_of sites serials alone)
+OpenedFit = (d : Deployed) (sites : List SiteHeld) (serials : List SerialHeld) → IsDeployment d → AllOpened d sites serials → NodesFit d sites serials
+
+-- the list of a node's place is its journal
+abbrev pub SitesAreKept : Type 0
+SitesAreKept = (d : Deployed) (sites : List SiteHeld) (serials : List SerialHeld) (alone : ℕ → List Kept) → AllOpened d sites serials →
+    (n i : ℕ) (h : SiteHeld) → slice_get sites n ≡ Some h → h.node.name ≡ named.Site i → lists_of sites serials alone (AtSite i) ≡ newest (site_kept i) h.node.entries
+
+abbrev pub SerialsAreKept : Type 0
+SerialsAreKept = (d : Deployed) (sites : List SiteHeld) (serials : List SerialHeld) (alone : ℕ → List Kept) → AllOpened d sites serials →
+    (n e z : ℕ) (h : SerialHeld) → slice_get serials n ≡ Some h → h.node.name ≡ named.Serializer e z → lists_of sites serials alone (AtSerializer e z) ≡ newest (serial_kept e z) h.node.entries
+
+-- each place of a node is among these once, and nothing was kept at any other
+abbrev pub PlacesCover : Type 0
+PlacesCover = (d : Deployed) (sites : List SiteHeld) (serials : List SerialHeld) (alone : ℕ → List Kept) → AllOpened d sites serials →
+    Distinct (node_places d) × ((name : NodeName) → In (node_places d) (place_at name) ⊎ (lists_of sites serials alone (place_at name) ≡ []))
 
 -- lists of nodes that fit, with sessions that do, fit
 abbrev pub FitsJoin : Type 0

@@ -1,5 +1,5 @@
 -- What is known of all nodes of a deployment once their locks were taken apart, and their journals as kept lists.
-use Rattle.std.specs.Prelude.{◌≡◌, ℕ, List, [], ◌∷◌, length, map, if◌then◌else◌}
+use Rattle.std.specs.Prelude.{◌≡◌, ℕ, List, [], ◌∷◌, ◌++◌, length, map, if◌then◌else◌}
 use Rattle.std.specs.List.{flat_map}
 use Rattle.sat_label.specs.declared.node.NodeName.{NodeName}
 use Rattle.sat_label.specs.declared.node.NodeName.TheVariants as named
@@ -58,3 +58,11 @@ abbrev pub lists_of : {M K : Type 0} → List (HeldSeen M ActSeen SiteAnswer) �
 lists_of sites serials alone (AtSite i) = newest (site_kept i) (entries_at (named.Site i) sites)
 lists_of sites serials alone (AtSerializer e z) = newest (serial_kept e z) (entries_at (named.Serializer e z) serials)
 lists_of sites serials alone (InSession c) = alone c
+
+-- the place of the node of a name, and those of all nodes
+abbrev pub place_at : NodeName → Place
+place_at (named.Site i) = AtSite i
+place_at (named.Serializer e z) = AtSerializer e z
+
+abbrev pub node_places : Deployed → List Place
+node_places d = map place_at (map named.Site (below d.sites) ++ serial_names d)

@@ -1,11 +1,18 @@
 //! Running nodes whose locks were taken apart: their journals fit together.
 #![tactic(auto)]
 
-ghost use Rattle.sat_opened.specs.Laws.{OpenedFit, FitsJoin, OpenedAreRuns};
+mod opened;
+
+ghost use Rattle.sat_opened.specs.Laws.{OpenedFit, SitesAreKept, SerialsAreKept, PlacesCover, FitsJoin, OpenedAreRuns};
+
+pub use opened::open;
 
 /// The journals of all opened nodes are kept lists that fit; with what sessions kept they make one run.
 pub fn opening()
     ensures nodes { OpenedFit }
+    ensures sites { SitesAreKept }
+    ensures serials { SerialsAreKept }
+    ensures places { PlacesCover }
     ensures whole { FitsJoin }
     ensures runs { OpenedAreRuns }
 {}

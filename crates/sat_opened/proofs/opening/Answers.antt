@@ -1,9 +1,13 @@
 use Rattle.sat_opened.proofs.Whole.{opened_fit, fits_join, opened_are_runs}
+use Rattle.sat_opened.proofs.Distincts.{sites_kept, serials_kept, places_cover}
 use Rattle.sat_opened.proofs.opening.Goals as goal
 
 pub returns : goal.returns
 returns c = record {
   nodes = opened_fit;
+  sites = sites_kept;
+  serials = serials_kept;
+  places = places_cover;
   whole = fits_join;
   runs = opened_are_runs;
 }
