@@ -1,5 +1,5 @@
 -- All payloads and beats of opened sites.
-use Rattle.std.proofs.Common.{◌≡◌, ◌<◌, ℕ, ◌-◌, Bool, true, false, ◌==◌, List, [], ◌∷◌, length, map, ◌⊎◌, Option, Some, None, slice_get, if◌then◌else◌, refl, sym, ap, ◌∙◌, subst, inl, inr}
+use Rattle.std.proofs.Common.{◌≡◌, ℕ, Bool, true, false, ◌==◌, List, [], Option, Some, refl, sym, ap, ◌∙◌, subst, inl, inr}
 use Rattle.sat_label.proofs.Truth.{same-number}
 use Rattle.sat_label.specs.Members.{In}
 use Rattle.sat_label.specs.declared.node.NodeName.{NodeName}
@@ -10,36 +10,32 @@ use Rattle.sat_act.specs.declared.act.Act.TheVariants as act
 use Rattle.sat_act.specs.Deployed.{Deployed}
 use Rattle.sat_act.specs.Limits.{IsDeployment}
 use Rattle.sat_act.specs.Parts.{BeatNote}
-use Rattle.sat_machine.specs.State.{SiteState}
-use Rattle.sat_machine.specs.Fits.{fits}
 use Rattle.sat_proxy.specs.Proxy.{note_of}
 use Rattle.sat_site.specs.declared.input.SiteInput.{SiteInput}
 use Rattle.sat_site.specs.declared.input.SiteInput.TheVariants as input
-use Rattle.sat_site.specs.Inputs.{input_of}
 use Rattle.sat_node.specs.declared.kept.Kept.{Kept as Line}
-use Rattle.sat_node.specs.declared.kept.Body.{Body}
 use Rattle.sat_node.specs.declared.kept.Body.TheVariants as body
 use Rattle.sat_node.specs.Puts.{put_by}
 use Rattle.sat_node.specs.Links.{HeldSeen, Handed, takings}
 use Rattle.sat_node.specs.Opened.{AgreeNodes}
 use Rattle.sat_machines.specs.Acts.{ActSeen}
-use Rattle.sat_machines.specs.Layout.{Link, Bulk, peer}
+use Rattle.sat_machines.specs.Layout.{Bulk, peer}
 use Rattle.sat_machines.specs.declared.site_answer.SiteAnswer.{SiteAnswer}
 use Rattle.sat_machines.specs.declared.serial_act.SerialAct.{SerialAct}
 use Rattle.sat_machines.specs.declared.serial_act.SerialAnswer.{SerialAnswer}
 use Rattle.sat_machines.specs.Sites.{site_meaning, site_puts, site_takes, some_if, taken_on}
-use Rattle.sat_stitch.specs.Kept.{Kept, Given, OfPayload, OfBeat, Each, marks}
-use Rattle.sat_stitch.specs.Places.{Place, AtSite}
+use Rattle.sat_stitch.specs.Kept.{Kept, OfPayload, OfBeat, Each, marks}
+use Rattle.sat_stitch.specs.Places.{Place}
 use Rattle.sat_stitch.specs.Nodes.{site_after, makes_payload, makes_beat, asked}
 use Rattle.sat_stitch.specs.Fit.{IsMade, PayloadsHanded, BeatsHanded}
 use Rattle.sat_opened.specs.Keeping.{client_in, site_act, site_given, site_kept, newest}
 use Rattle.sat_opened.specs.Opened.{AllOpened, entries_at, lists_of}
 use Rattle.sat_opened.proofs.Numbers.{same-turned}
-use Rattle.sat_opened.proofs.Walks.{Along, along-more, each-behind}
-use Rattle.sat_opened.proofs.Found.{Found, look-up, two-places}
+use Rattle.sat_opened.proofs.Walks.{along-more, each-behind}
+use Rattle.sat_opened.proofs.Found.{look-up, two-places}
 use Rattle.sat_opened.proofs.Handings.{sort_of, payload_sort, beat_sort, payload-made, beat-made}
 use Rattle.sat_opened.proofs.Layouts.{OutAt, InAt, out-at, in-at, between, bulk-end, IsEnd, end-at}
-use Rattle.sat_opened.proofs.SiteKept.{SiteStep, IsOther, other-is, from-other}
+use Rattle.sat_opened.proofs.SiteKept.{SiteStep, IsOther, from-other}
 use Rattle.sat_opened.proofs.Lanes.{lane-puts, beat-puts}
 use Rattle.sat_opened.proofs.Links.{within, SiteAt, site-at, find-site}
 
@@ -113,7 +109,7 @@ module _ {M K : Type 0} (d : Deployed) (sites : List (HeldSeen M ActSeen SiteAns
         to = out.1.peer;
         back = into.1.peer;
         came = subst (λ (n : NodeName). Handed (takings (site_takes (named.Site j) into.0) r.found.held.node.entries) (put_by (site_puts n out.0) s.found.held.node.entries)) s.found.is_named
-        (subst (λ (n : NodeName). Handed (takings (site_takes n into.0) r.found.held.node.entries) (put_by (site_puts s.found.held.node.name out.0) s.found.held.node.entries)) r.found.is_named came);
+            (subst (λ (n : NodeName). Handed (takings (site_takes n into.0) r.found.held.node.entries) (put_by (site_puts s.found.held.node.name out.0) s.found.held.node.entries)) r.found.is_named came);
       }
 
   abbrev made_list : ℕ → List Kept

@@ -1,5 +1,5 @@
 -- No node's name, and no node's place, stands twice.
-use Rattle.std.proofs.Common.{◌≡◌, ◌⊎◌, ◌<◌, ◌≤◌, ℕ, ◌+◌, zero, suc, Bool, true, false, List, [], ◌∷◌, ◌++◌, length, map, Some, None, slice_get, refl, sym, ap, ◌∙◌, subst, arith, inl, inr}
+use Rattle.std.proofs.Common.{◌≡◌, ◌⊎◌, ◌<◌, ◌≤◌, ℕ, ◌+◌, zero, suc, List, [], ◌∷◌, ◌++◌, length, map, refl, sym, ap, ◌∙◌, subst, arith, inl, inr}
 use Rattle.std.specs.List.{flat_map}
 use Rattle.sat_label.proofs.Members.{In-left, In-right, In-parts}
 use Rattle.sat_label.specs.Members.{In}
@@ -12,18 +12,17 @@ use Rattle.sat_act.specs.declared.deployment.Plan.TheVariants as plan
 use Rattle.sat_act.specs.Deployed.{Deployed}
 use Rattle.sat_node.specs.Links.{HeldSeen}
 use Rattle.sat_machines.specs.Acts.{ActSeen}
-use Rattle.sat_machines.specs.Layout.{Planted, planted, trees_of}
+use Rattle.sat_machines.specs.Layout.{planted}
 use Rattle.sat_machines.specs.declared.site_answer.SiteAnswer.{SiteAnswer}
 use Rattle.sat_machines.specs.declared.serial_act.SerialAct.{SerialAct}
 use Rattle.sat_machines.specs.declared.serial_act.SerialAnswer.{SerialAnswer}
 use Rattle.sat_stitch.specs.Kept.{Kept}
-use Rattle.sat_stitch.specs.Places.{Place, AtSite, AtSerializer, InSession}
 use Rattle.sat_stitch.specs.Stitch.{Distinct}
 use Rattle.sat_opened.specs.Keeping.{site_kept, serial_kept, newest}
-use Rattle.sat_opened.specs.Opened.{name_in, tree_names, serial_names, AllOpened, entries_at, lists_of, place_at, node_places}
+use Rattle.sat_opened.specs.Opened.{tree_names, serial_names, AllOpened, lists_of, place_at, node_places}
 use Rattle.sat_opened.specs.Laws.{SitesAreKept, SerialsAreKept, PlacesCover}
 use Rattle.sat_opened.proofs.Layouts.{in-mapped, in-less}
-use Rattle.sat_opened.proofs.Found.{Found, look-up, found-named, entries-of}
+use Rattle.sat_opened.proofs.Found.{look-up, found-named, entries-of}
 
 -- ---- lists
 

@@ -1,6 +1,6 @@
 -- What entries took from a link and what entries put there, as marks of kept lists.
 use Rattle.std.proofs.Common.{◌≡◌, ◌<◌, ℕ, ◌+◌, zero, suc, Bool, true, false, ◌==◌, List, [], ◌∷◌, ◌++◌, length, map, Option, Some, None, slice_get, if◌then◌else◌, refl, sym, ap, ◌∙◌, subst, append_assoc, arith, inl, inr}
-use Rattle.std.proofs.lemmas.List.{map-append, append-nil, length-append}
+use Rattle.std.proofs.lemmas.List.{map-append}
 use Rattle.sat_label.specs.Members.{In}
 use Rattle.sat_label.specs.declared.label.Label.{Label}
 use Rattle.sat_label.proofs.Numbers.{get-map}
@@ -21,8 +21,7 @@ use Rattle.sat_node.specs.Laws.{IsFor}
 use Rattle.sat_node.proofs.Laws.{labels_in_order, taken_came, puts_are_numbered}
 use Rattle.sat_stitch.specs.Kept.{Kept, numbered, marks}
 use Rattle.sat_stitch.specs.Fit.{IsHanded, IsMade}
-use Rattle.sat_opened.specs.Keeping.{behind, newest}
-use Rattle.sat_opened.proofs.Numbers.{same-is}
+use Rattle.sat_opened.specs.Keeping.{newest}
 use Rattle.sat_opened.proofs.Walks.{Along, later, marks-newest}
 use Rattle.sat_label.proofs.Truth.{same-number}
 
@@ -204,9 +203,11 @@ onto-first n o b ts e = ap (λ (o : Option Body). slice_get (onto n o ++ ts) 0) 
 
 pub taking-there : {I A : Type 0} (take : I → A → Option Body) (xs : List (Line I A)) (x : Line I A) (b : Body) → In xs x → take x.input x.answer ≡ Some b → (n : ℕ) × (slice_get (takings take xs) n ≡ Some (envelope x.lamport b))
 taking-there take [] x b m e = absurd m
-taking-there {I} {A} take (y ∷ ys) x b (inl same) e =
-    (0, subst (λ (z : Line I A). slice_get (onto y.lamport (take y.input y.answer) ++ takings take ys) 0 ≡ Some (envelope z.lamport b)) same
-    (onto-first y.lamport (take y.input y.answer) b (takings take ys) (ap (λ (z : Line I A). take z.input z.answer) same ∙ e)))
+taking-there {I} {A} take (y ∷ ys) x b (inl same) e = (
+  0,
+  subst (λ (z : Line I A). slice_get (onto y.lamport (take y.input y.answer) ++ takings take ys) 0 ≡ Some (envelope z.lamport b)) same
+      (onto-first y.lamport (take y.input y.answer) b (takings take ys) (ap (λ (z : Line I A). take z.input z.answer) same ∙ e)),
+)
 taking-there take (y ∷ ys) x b (inr m) e =
     let w : (n : ℕ) × (slice_get (takings take ys) n ≡ Some (envelope x.lamport b)) = taking-there take ys x b m e in
     get-after (onto y.lamport (take y.input y.answer)) (takings take ys) w.0 (envelope x.lamport b) w.1
@@ -239,11 +240,12 @@ came-put put take es fs x b h m e =
 module _ {I A J B : Type 0} (put : I → A → Option Made) (take : J → B → Option Body) (of : Line I A → Kept) (same : (x : Line I A) → (of x).number ≡ x.lamport) (es : List (Line I A)) (fs : List (Line J B)) (h : Handed (takings take fs) (put_by put es)) where
   made-at : {Y : Type 0} (sort : Made → Option Y) (f : List Kept → Kept → Option Y) (x : Line J B) (b : Body) (n : ℕ) (y : Y) → Along of (λ b x. sort_of sort (put x.input x.answer) ≡ f b (of x)) [] es → (p : IsPut (puttings put es) b x.lamport) →
       sort p.thing.made ≡ Some y → length (sorted sort p.before) ≡ n → IsMade (marks f (newest of es)) n y x.lamport
-  made-at {Y} sort f x b n y a p is count =
-      (p.thing.number,
-      ap (λ (zs : List (ℕ × Y)). slice_get zs n) (marks-newest of f es ∙ (sym (sorted-are sort of f put [] es same a) ∙ ap (sorted sort) p.all)) ∙
-      (ap (λ (k : ℕ). slice_get (sorted sort (p.before ++ p.thing ∷ p.after)) k) (sym count) ∙ sorted-at sort p.before p.thing p.after y is),
-      p.less)
+  made-at {Y} sort f x b n y a p is count = (
+    p.thing.number,
+    ap (λ (zs : List (ℕ × Y)). slice_get zs n) (marks-newest of f es ∙ (sym (sorted-are sort of f put [] es same a) ∙ ap (sorted sort) p.all)) ∙
+        (ap (λ (k : ℕ). slice_get (sorted sort (p.before ++ p.thing ∷ p.after)) k) (sym count) ∙ sorted-at sort p.before p.thing p.after y is),
+    p.less,
+  )
 
   pub payload-made : (g n : ℕ) (p : Payload) (f : List Kept → Kept → Option Payload) (x : Line J B) → Along of (λ b x. sort_of (payload_sort g) (put x.input x.answer) ≡ f b (of x)) [] es → In fs x → take x.input x.answer ≡ Some (body.Payload g n p) →
       IsMade (marks f (newest of es)) n p x.lamport

@@ -1,7 +1,6 @@
 -- What a site's entries put on its link to another site, of payloads and beats, is what the kept list makes for that site.
-use Rattle.std.proofs.Common.{◌≡◌, ◌<◌, ℕ, Bool, true, false, ◌==◌, ◌&&◌, not, List, [], ◌∷◌, length, Option, Some, None, slice_get, if◌then◌else◌, refl, sym, ap, ◌∙◌, subst}
+use Rattle.std.proofs.Common.{◌≡◌, ℕ, Bool, true, false, ◌==◌, ◌&&◌, not, List, Option, Some, None, slice_get, if◌then◌else◌, refl, sym, ap, ◌∙◌}
 use Rattle.sat_label.specs.Words.{bit}
-use Rattle.sat_label.specs.declared.site_set.SiteSet.{SiteSet}
 use Rattle.sat_label.specs.declared.label.Kind.{Kind}
 use Rattle.sat_label.specs.declared.label.Kind.TheVariants as kind
 use Rattle.sat_label.specs.declared.label.Label.{Label}
@@ -16,7 +15,7 @@ use Rattle.sat_act.specs.Parts.{BeatNote, is_target, replicates}
 use Rattle.sat_machine.specs.State.{SiteState}
 use Rattle.sat_machine.specs.Input.{SiteInput as Handed}
 use Rattle.sat_machine.specs.Input as given
-use Rattle.sat_machine.specs.Next.{payload_at, value_given, note_of as machine_note}
+use Rattle.sat_machine.specs.Next.{payload_at, note_of as machine_note}
 use Rattle.sat_machine.specs.Reply.{site_answer}
 use Rattle.sat_proxy.specs.Proxy.{note_of}
 use Rattle.sat_site.specs.declared.input.SiteInput.{SiteInput}
@@ -29,9 +28,9 @@ use Rattle.sat_machines.specs.Acts.{ActSeen}
 use Rattle.sat_machines.specs.Layout.{peer}
 use Rattle.sat_machines.specs.declared.site_answer.SiteAnswer.{SiteAnswer}
 use Rattle.sat_machines.specs.Sites.{sent_by, keepers_at, keepers_of, BeatBy, payload_in, beat_in, bulk_to, some_if, label_or, site_puts}
-use Rattle.sat_stitch.specs.Kept.{Kept, history}
+use Rattle.sat_stitch.specs.Kept.{Kept}
 use Rattle.sat_stitch.specs.Nodes.{site_after, payload_made, beat_made, with_input, makes_payload, makes_beat}
-use Rattle.sat_opened.specs.Keeping.{client_in, site_act, site_given, site_kept}
+use Rattle.sat_opened.specs.Keeping.{client_in, site_kept}
 use Rattle.sat_opened.proofs.Numbers.{same-is, and-yes}
 use Rattle.sat_opened.proofs.Handings.{sort_of, payload_sort, beat_sort}
 use Rattle.sat_opened.proofs.Says.{Says, quiet, wrote, moved, gathered, emitted, pulsed, closed, shown, took, stamped, beaten, passed, is_quiet, IsOwn}

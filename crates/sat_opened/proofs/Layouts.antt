@@ -1,5 +1,5 @@
 -- The ends of a node's links: an edge of a tree, or a lane, has one place at both of its nodes.
-use Rattle.std.proofs.Common.{◌≡◌, ◌≢◌, ◌<◌, ◌≤◌, ◌⊎◌, ℕ, ◌+◌, ◌-◌, zero, suc, Bool, true, false, ◌==◌, ◌&&◌, nat_lt, List, [], ◌∷◌, ◌++◌, length, map, filter, get_or, Option, Some, None, slice_get, if◌then◌else◌, refl, sym, ap, ◌∙◌, subst, arith, inl, inr}
+use Rattle.std.proofs.Common.{◌≡◌, ◌<◌, ◌≤◌, ℕ, ◌+◌, ◌-◌, zero, suc, Bool, true, false, ◌==◌, nat_lt, List, [], ◌∷◌, ◌++◌, length, map, get_or, Option, Some, None, slice_get, if◌then◌else◌, refl, sym, ap, ◌∙◌, subst, arith, inl, inr}
 use Rattle.std.specs.List.{flat_map}
 use Rattle.std.proofs.lemmas.List.{length-map}
 use Rattle.sat_label.proofs.Members.{In-left, In-right, In-get, In-parts, into-filter}
@@ -23,7 +23,7 @@ use Rattle.sat_node.specs.Puts.{OutSeen, put_by}
 use Rattle.sat_node.specs.Links.{InSeen, HeldSeen, Handed, takings, out_places as outs_at, in_places as ins_at}
 use Rattle.sat_node.specs.Meanings.{Meaning}
 use Rattle.sat_node.specs.Opened.{AgreeNodes, AgreeOut, AgreeEnds}
-use Rattle.sat_machines.specs.Layout.{Link, Bulk, Edge, turned, peer, Planted, planted, trees_of, site_links, serial_links, links_at, links_of, place_of, place_back, out_places, in_places, label_links, label_link}
+use Rattle.sat_machines.specs.Layout.{Link, Bulk, Edge, turned, peer, Planted, planted, trees_of, serial_links, links_at, links_of, place_of, place_back, out_places, in_places, label_links, label_link}
 use Rattle.sat_opened.specs.Opened.{tree_names, serial_names}
 use Rattle.sat_opened.proofs.Numbers.{same-is, differ, less-is, not-less, above-is}
 use Rattle.sat_opened.proofs.Handings.{get-mapped}

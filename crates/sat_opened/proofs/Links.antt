@@ -1,10 +1,7 @@
 -- All links of opened nodes.
-use Rattle.std.proofs.Common.{◌≡◌, ◌≢◌, ◌<◌, ◌⊎◌, ℕ, ◌-◌, Bool, true, false, ◌==◌, List, [], ◌∷◌, ◌++◌, length, map, nat_lt, Option, Some, None, slice_get, refl, sym, ap, ◌∙◌, subst, inl, inr}
+use Rattle.std.proofs.Common.{◌≡◌, ◌<◌, ℕ, Bool, true, false, ◌==◌, List, [], ◌∷◌, ◌++◌, length, nat_lt, Option, Some, None, slice_get, refl, sym, ap, ◌∙◌, subst, inl, inr}
 use Rattle.sat_label.proofs.Truth.{same-number}
 use Rattle.sat_label.specs.Members.{In}
-use Rattle.sat_label.specs.Words.{below}
-use Rattle.sat_label.specs.declared.label.Label.{Label}
-use Rattle.sat_label.specs.declared.node.NodeId.{NodeId}
 use Rattle.sat_label.specs.declared.node.NodeId.TheVariants.{Site, Serializer}
 use Rattle.sat_label.specs.declared.node.NodeName.{NodeName}
 use Rattle.sat_label.specs.declared.node.NodeName.TheVariants as named
@@ -13,14 +10,14 @@ use Rattle.sat_tree.specs.Cut.{is_edge, neighbours, seat_of, IsNode}
 use Rattle.sat_act.specs.Deployed.{Deployed}
 use Rattle.sat_act.specs.Limits.{IsDeployment}
 use Rattle.sat_act.specs.Parts.{tree_of}
-use Rattle.sat_net.proofs.Edges.{turned-edge, no-edge, at-seat, apart, AreApart, edge-within}
+use Rattle.sat_net.proofs.Edges.{turned-edge, at-seat, apart, AreApart, edge-within}
 use Rattle.sat_node.specs.declared.kept.Kept.{Kept as Line}
 use Rattle.sat_node.specs.Meanings.{Meaning, Runs}
 use Rattle.sat_node.specs.Puts.{put_by}
 use Rattle.sat_node.specs.Links.{HeldSeen, Handed, takings, out_places as outs_at, in_places as ins_at}
 use Rattle.sat_node.specs.Opened.{AgreeNodes, AgreeRow, AgreeAll, AgreeWithin}
 use Rattle.sat_machines.specs.Acts.{ActSeen}
-use Rattle.sat_machines.specs.Layout.{Link, Bulk, Edge, turned, peer, links_of, label_link, out_places, in_places}
+use Rattle.sat_machines.specs.Layout.{Edge, label_link, out_places, in_places}
 use Rattle.sat_machines.specs.declared.site_answer.SiteAnswer.{SiteAnswer}
 use Rattle.sat_machines.specs.declared.serial_act.SerialAct.{SerialAct}
 use Rattle.sat_machines.specs.declared.serial_act.SerialAnswer.{SerialAnswer}
@@ -30,7 +27,7 @@ use Rattle.sat_stitch.specs.Kept.{Kept, numbered, marks}
 use Rattle.sat_stitch.specs.Nodes.{put_on, took_from}
 use Rattle.sat_stitch.specs.Fit.{IsHanded}
 use Rattle.sat_opened.specs.Keeping.{site_kept, serial_kept, newest}
-use Rattle.sat_opened.specs.Opened.{IsOpened, name_in, serial_names, AllOpened, entries_at}
+use Rattle.sat_opened.specs.Opened.{IsOpened, AllOpened, entries_at}
 use Rattle.sat_opened.proofs.Numbers.{less-is, is-less}
 use Rattle.sat_opened.proofs.Walks.{Along, along-more, later, marks-newest}
 use Rattle.sat_opened.proofs.Found.{Found, look-up, find, found-named, two-places}

@@ -1,8 +1,7 @@
 -- What a site's machine answers to each input, as far as it speaks of labels, payloads, beats and epochs.
-use Rattle.std.proofs.Common.{◌≡◌, ◌<◌, ℕ, ◌+◌, ◌-◌, zero, suc, Bool, true, false, ◌==◌, ◌||◌, nat_le, List, [], ◌∷◌, ◌++◌, filter, not, max, length, Option, Some, None, is_some, if◌then◌else◌, refl, sym, ap, ◌∙◌, subst, inl, inr}
+use Rattle.std.proofs.Common.{◌≡◌, ℕ, ◌+◌, ◌-◌, zero, suc, Bool, true, false, ◌==◌, ◌||◌, nat_le, List, [], ◌∷◌, ◌++◌, not, max, length, Option, Some, None, is_some, if◌then◌else◌, refl, sym, ◌∙◌, subst, inl, inr}
 use Rattle.sat_label.proofs.Least.{IsLeast, least-is}
 use Rattle.sat_label.proofs.Members.{In-parts, In-filter}
-use Rattle.sat_label.specs.Least.{least_label}
 use Rattle.sat_label.specs.Members.{In}
 use Rattle.sat_label.specs.Order.{mark, greater_point, point_lt, label_eq, point_at}
 use Rattle.sat_label.specs.Words.{has}
@@ -23,7 +22,7 @@ use Rattle.sat_act.specs.Parts.{BeatNote, is_update, replicates}
 use Rattle.sat_act.specs.Answers.{refused_if, gear_of, turned}
 use Rattle.sat_machine.specs.State.{SiteState, fresh_site}
 use Rattle.sat_machine.specs.Look.{rows, ready_of, stable_of, cut_of, mode_of, waiting_of, best_of, numbers_of}
-use Rattle.sat_machine.specs.Reply.{site_answer, outlook_of, stamp_next, may_come, may_pass, write_by, move_by, read_by}
+use Rattle.sat_machine.specs.Reply.{site_answer, outlook_of, stamp_next, may_come, may_pass, write_by, move_by}
 use Rattle.sat_machine.specs.Next.{site_next}
 use Rattle.sat_machine.specs.Input.{SiteInput as Handed}
 use Rattle.sat_machine.specs.Input as given

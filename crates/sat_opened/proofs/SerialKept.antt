@@ -1,5 +1,5 @@
 -- A serializer's journal as a kept list: whether it is dead, and where its entries stand.
-use Rattle.std.proofs.Common.{◌≡◌, ◌<◌, ℕ, Bool, true, false, ◌==◌, ◌&&◌, List, [], ◌∷◌, Option, Some, None, slice_get, if◌then◌else◌, refl, sym, ap, ◌∙◌, subst}
+use Rattle.std.proofs.Common.{◌≡◌, ℕ, Bool, true, false, ◌==◌, ◌&&◌, List, [], ◌∷◌, Option, Some, if◌then◌else◌, refl, sym, ap, ◌∙◌, subst}
 use Rattle.std.proofs.lemmas.Bool.{and_from}
 use Rattle.sat_label.proofs.Truth.{same-number}
 use Rattle.sat_label.specs.Members.{In}
@@ -8,7 +8,6 @@ use Rattle.sat_label.specs.declared.node.NodeId.{NodeId}
 use Rattle.sat_label.specs.declared.node.NodeId.TheVariants.{Serializer}
 use Rattle.sat_label.specs.declared.node.NodeName.TheVariants as named
 use Rattle.sat_tree.specs.Shape.{TreeShape}
-use Rattle.sat_tree.specs.Cut.{is_edge}
 use Rattle.sat_act.specs.declared.answer.Answer.{Answer}
 use Rattle.sat_act.specs.declared.answer.Answer.TheVariants as ans
 use Rattle.sat_act.specs.declared.answer.Refusal.TheVariants as why
@@ -23,7 +22,7 @@ use Rattle.sat_machines.specs.declared.serial_act.SerialAct.{SerialAct}
 use Rattle.sat_machines.specs.declared.serial_act.SerialAct.TheVariants as serial
 use Rattle.sat_machines.specs.declared.serial_act.SerialAnswer.{SerialAnswer}
 use Rattle.sat_machines.specs.Serials.{SerialFits, SerialAnswers, serial_answer, serial_meaning, dead_after as dead_then}
-use Rattle.sat_stitch.specs.Kept.{Kept, Each}
+use Rattle.sat_stitch.specs.Kept.{Kept}
 use Rattle.sat_stitch.specs.Places.{Place, AtSerializer, places}
 use Rattle.sat_stitch.specs.Nodes.{IsAnswerAt, IsSerialAnswer, hop_in, dead_after, stands}
 use Rattle.sat_opened.specs.Keeping.{serial_act, serial_given, serial_kept, newest}
@@ -67,11 +66,10 @@ serial-along : (d : Deployed) (e z : ℕ) (ks : List Kept) (es : List (Line Seri
 unfolding dead_after
 serial-along d e z ks [] runs = tt
 serial-along d e z ks (k ∷ es) runs =
-    let does_so : Does d runs.1.tree z (dead_after e z ks) k.input k.answer.answer = does d runs.1.tree z (dead_after e z ks) k.input k.answer.answer runs.1.answer in
-    (
+    let does_so : Does d runs.1.tree z (dead_after e z ks) k.input k.answer.answer = does d runs.1.tree z (dead_after e z ks) k.input k.answer.answer runs.1.answer in (
       record { fits_there = runs.0; answers_there = runs.1; does_there = does_so },
       serial-along d e z (serial_kept e z k ∷ ks) es
-      (subst (λ (dead : Bool). RunsFrom (serial_meaning d) (named.Serializer e z) dead es) (then-dead d runs.1.tree e z (dead_after e z ks) k.input k.answer.answer does_so) runs.2),
+          (subst (λ (dead : Bool). RunsFrom (serial_meaning d) (named.Serializer e z) dead es) (then-dead d runs.1.tree e z (dead_after e z ks) k.input k.answer.answer does_so) runs.2),
     )
 
 pub serial-steps : (d : Deployed) (e z : ℕ) (es : List (Line SerialAct SerialAnswer)) → Runs (serial_meaning d) (named.Serializer e z) es → Along (serial_kept e z) (SerialStep d e z) [] es

@@ -1,5 +1,5 @@
 -- What a serializer's entries put on its links and take from them is what the history says.
-use Rattle.std.proofs.Common.{◌≡◌, ◌<◌, ℕ, Bool, true, false, ◌==◌, ◌&&◌, ◌||◌, not, List, [], ◌∷◌, length, filter, Option, Some, None, slice_get, if◌then◌else◌, refl, sym, ap, ◌∙◌, subst, arith, inl, inr}
+use Rattle.std.proofs.Common.{◌≡◌, ℕ, Bool, true, false, ◌==◌, ◌&&◌, ◌||◌, not, List, [], ◌∷◌, filter, Option, Some, None, slice_get, if◌then◌else◌, refl, sym, ap, ◌∙◌, subst, inl, inr}
 use Rattle.std.proofs.lemmas.Bool.{and_from, or_left, or_right}
 use Rattle.sat_label.proofs.Members.{In-get, In-filter, into-filter}
 use Rattle.sat_label.proofs.SameNodes.{same-node, node-self}
@@ -16,24 +16,20 @@ use Rattle.sat_act.specs.declared.answer.Answer.{Answer}
 use Rattle.sat_act.specs.declared.answer.Answer.TheVariants as ans
 use Rattle.sat_act.specs.declared.entry.Entry.{Entry}
 use Rattle.sat_act.specs.Deployed.{Deployed}
-use Rattle.sat_act.specs.Limits.{IsDeployment}
 use Rattle.sat_act.specs.Parts.{handling, tree_of, goes_beyond, entered_entry, taken_entry}
 use Rattle.sat_laws.proofs.Labels.{some_is}
 use Rattle.sat_laws.proofs.Runs.{entry}
-use Rattle.sat_machine.specs.World.{nodes_for}
 use Rattle.sat_node.specs.declared.kept.Kept.{Kept as Line}
-use Rattle.sat_node.specs.declared.kept.Body.{Body}
 use Rattle.sat_node.specs.declared.kept.Body.TheVariants as body
-use Rattle.sat_node.specs.declared.kept.Made.{Made}
 use Rattle.sat_node.specs.declared.kept.Made.TheVariants as made
 use Rattle.sat_machines.specs.declared.serial_act.SerialAct.{SerialAct}
 use Rattle.sat_machines.specs.declared.serial_act.SerialAct.TheVariants as serial
 use Rattle.sat_machines.specs.declared.serial_act.SerialAnswer.{SerialAnswer}
-use Rattle.sat_machines.specs.Serials.{SerialFits, hopped_to, came_over, hop_takes, serial_puts, serial_takes}
+use Rattle.sat_machines.specs.Serials.{SerialFits, hopped_to, hop_takes, serial_puts, serial_takes}
 use Rattle.sat_stitch.specs.Kept.{Kept, history}
 use Rattle.sat_stitch.specs.Nodes.{put_on, took_from, dead_after}
 use Rattle.sat_opened.specs.Keeping.{serial_act, serial_kept}
-use Rattle.sat_opened.proofs.Numbers.{same-turned, differ}
+use Rattle.sat_opened.proofs.Numbers.{same-turned}
 use Rattle.sat_opened.proofs.Handings.{label_made, label_body}
 use Rattle.sat_opened.proofs.SerialKept.{Does, hops, rests, dies, stays, SerialStep}
 

@@ -20,7 +20,7 @@ use Rattle.sat_laws.proofs.Links.{tail_of, In-place}
 use Rattle.sat_laws.proofs.Runs.{entry}
 use Rattle.sat_machine.specs.State.{SiteState}
 use Rattle.sat_machine.specs.Input.{SiteInput as Handed}
-use Rattle.sat_machine.specs.Fits.{fits, is_gear, is_time, is_carried, is_site, is_other, is_note, is_item}
+use Rattle.sat_machine.specs.Fits.{fits, is_gear, is_time, is_carried, is_site, is_other, is_note}
 use Rattle.sat_machine.specs.Next.{site_next, emission_next, view_next}
 use Rattle.sat_machine.specs.Replay.{after}
 use Rattle.sat_site.specs.declared.input.SiteInput.{SiteInput}
@@ -33,13 +33,13 @@ use Rattle.sat_node.specs.Links.{Each as Every}
 use Rattle.sat_machines.specs.Acts.{ActSeen}
 use Rattle.sat_machines.specs.declared.site_answer.SiteAnswer.{SiteAnswer}
 use Rattle.sat_machines.specs.Sites.{FitsAt, AnswersAt, site_meaning, is_standing}
-use Rattle.sat_stitch.specs.Kept.{Kept, Each, history}
+use Rattle.sat_stitch.specs.Kept.{Kept, history}
 use Rattle.sat_stitch.specs.Places.{AtSite, places}
 use Rattle.sat_stitch.specs.Nodes.{input_of as stitched_input, site_after, IsAnswerAt, stands}
 use Rattle.sat_opened.specs.Keeping.{client_in, site_act, site_given, site_kept, newest}
 use Rattle.sat_opened.specs.Fits.{FitsPlace}
 use Rattle.sat_opened.proofs.Numbers.{less-is, at-most, not-is, same-turned}
-use Rattle.sat_opened.proofs.Walks.{Along, along-more, each-behind, Comes, in-newest, rising-newest}
+use Rattle.sat_opened.proofs.Walks.{Along, each-behind, Comes, in-newest, rising-newest}
 use Rattle.sat_opened.proofs.Says.{Says, quiet, wrote, moved, gathered, emitted, pulsed, closed, shown, took, stamped, beaten, passed, is_quiet, Owns, owns-fresh, owns-next, says}
 
 -- ---- what was handed is the input
@@ -139,14 +139,13 @@ site-along : (d : Deployed) (i : ℕ) (ks : List Kept) (es : List (Line ActSeen 
 site-along d i ks [] runs own e v = tt
 site-along d i ks (k ∷ es) runs own e v =
     let say : Says d i (site_after d i ks) k.input.input k.answer.answer = says d i (site_after d i ks) own k.input.input k.answer.answer runs.1.answer in
-    let more : site_next d i (site_after d i ks) (input_of k.input.input) k.answer.answer ≡ site_after d i (site_kept i k ∷ ks) = sym (state-more d i ks k) in
-    (
+    let more : site_next d i (site_after d i ks) (input_of k.input.input) k.answer.answer ≡ site_after d i (site_kept i k ∷ ks) = sym (state-more d i ks k) in (
       record { fits_there = runs.0; answers_there = runs.1; says_there = say; sends_in = e; takes_in = v },
       site-along d i (site_kept i k ∷ ks) es
-      (subst (λ (s : SiteState). RunsFrom (site_meaning d) (named.Site i) s es) more runs.2)
-      (subst (Owns i) more (owns-next d i (site_after d i ks) k.input.input k.answer.answer say own))
-      (emission-more d i (client_in k.input.by) (site_after d i ks) (history ks) k.input.input k.answer.answer say e ∙ (next-emission d i (site_after d i ks) (input_of k.input.input) k.answer.answer ∙ ap (λ (s : SiteState). s.views.emission) more))
-      (view-more d i (client_in k.input.by) (site_after d i ks) (history ks) k.input.input k.answer.answer say v ∙ (next-view d i (site_after d i ks) (input_of k.input.input) k.answer.answer ∙ ap (λ (s : SiteState). s.views.view) more)),
+          (subst (λ (s : SiteState). RunsFrom (site_meaning d) (named.Site i) s es) more runs.2)
+          (subst (Owns i) more (owns-next d i (site_after d i ks) k.input.input k.answer.answer say own))
+          (emission-more d i (client_in k.input.by) (site_after d i ks) (history ks) k.input.input k.answer.answer say e ∙ (next-emission d i (site_after d i ks) (input_of k.input.input) k.answer.answer ∙ ap (λ (s : SiteState). s.views.emission) more))
+          (view-more d i (client_in k.input.by) (site_after d i ks) (history ks) k.input.input k.answer.answer say v ∙ (next-view d i (site_after d i ks) (input_of k.input.input) k.answer.answer ∙ ap (λ (s : SiteState). s.views.view) more)),
     )
 
 pub site-steps : (d : Deployed) (i : ℕ) (es : List (Line ActSeen SiteAnswer)) → Runs (site_meaning d) (named.Site i) es → Along (site_kept i) (SiteStep d i) [] es

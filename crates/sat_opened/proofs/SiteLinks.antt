@@ -1,5 +1,5 @@
 -- What a site's entries put on its link into a tree and take from there is what the history says.
-use Rattle.std.proofs.Common.{◌≡◌, ◌<◌, ◌≤◌, ℕ, ◌+◌, ◌-◌, ◌^◌, Bool, true, false, ◌==◌, ◌&&◌, not, nat_lt, List, [], ◌∷◌, length, Option, Some, None, is_none, slice_get, if◌then◌else◌, refl, sym, ap, ◌∙◌, subst, arith, inl, inr}
+use Rattle.std.proofs.Common.{◌≡◌, ◌<◌, ◌≤◌, ℕ, ◌+◌, ◌-◌, ◌^◌, Bool, true, false, ◌==◌, ◌&&◌, not, nat_lt, List, Option, Some, None, is_none, slice_get, if◌then◌else◌, refl, sym, ap, ◌∙◌, arith}
 use Rattle.std.proofs.lemmas.Bool.{and_parts}
 use Rattle.sat_label.proofs.Bits.{bit-within}
 use Rattle.sat_label.proofs.SameNodes.{node-self}
@@ -14,7 +14,6 @@ use Rattle.sat_label.specs.declared.node.NodeId.{NodeId}
 use Rattle.sat_label.specs.declared.node.NodeId.TheVariants.{Site, Serializer}
 use Rattle.sat_label.specs.declared.node.NodeName.TheVariants as named
 use Rattle.sat_beat.specs.declared.Beat.{Beat}
-use Rattle.sat_bulk.specs.declared.Payload.{Payload}
 use Rattle.sat_tree.specs.Shape.{TreeShape}
 use Rattle.sat_tree.specs.Cut.{seat_of}
 use Rattle.sat_act.specs.declared.act.Act.{Act}
@@ -25,15 +24,12 @@ use Rattle.sat_act.specs.declared.entry.Entry.{Entry}
 use Rattle.sat_act.specs.Deployed.{Deployed}
 use Rattle.sat_act.specs.Limits.{IsDeployment}
 use Rattle.sat_act.specs.Parts.{Handling, handling, emission, view, seat_in, tree_of, goes_beyond, came_from, entered_entry, taken_entry}
-use Rattle.sat_laws.proofs.Labels.{some_is}
 use Rattle.sat_laws.proofs.Runs.{entry}
 use Rattle.sat_machine.specs.State.{SiteState}
 use Rattle.sat_machine.specs.Fits.{fits, is_other, is_gear, is_note}
 use Rattle.sat_machine.specs.Interests.{interest_of}
-use Rattle.sat_machine.specs.Look.{mode_of}
 use Rattle.sat_net.proofs.Edges.{leaves as goes-out, stays}
 use Rattle.sat_net.proofs.Targets.{leads-is}
-use Rattle.sat_serial.specs.Routes.{leads}
 use Rattle.sat_sites.specs.Interested.{is_for, keeps}
 use Rattle.sat_proxy.specs.Proxy.{note_of}
 use Rattle.sat_site.specs.declared.input.SiteInput.{SiteInput}
@@ -44,22 +40,20 @@ use Rattle.sat_site.specs.Inputs.{input_of}
 use Rattle.sat_site.specs.SiteSteps.{emit_sends, has_target}
 use Rattle.sat_site.proofs.Quiet.{target-some, some-target-here}
 use Rattle.sat_node.specs.declared.kept.Kept.{Kept as Line}
-use Rattle.sat_node.specs.declared.kept.Body.{Body}
 use Rattle.sat_node.specs.declared.kept.Body.TheVariants as body
-use Rattle.sat_node.specs.declared.kept.Made.{Made}
 use Rattle.sat_node.specs.declared.kept.Made.TheVariants as made
 use Rattle.sat_machines.specs.Acts.{ActSeen}
 use Rattle.sat_machines.specs.Layout.{peer, label_link}
 use Rattle.sat_machines.specs.declared.site_answer.SiteAnswer.{SiteAnswer}
-use Rattle.sat_machines.specs.Sites.{AnswersAt, sent_by, epoch_by, leaves, keepers_at, keepers_of, payload_in, beat_in, bulk_to, some_if, label_or, site_puts, site_takes, is_turned, label_taken, taken_on}
+use Rattle.sat_machines.specs.Sites.{sent_by, epoch_by, keepers_at, keepers_of, payload_in, beat_in, bulk_to, some_if, label_or, site_puts, site_takes, is_turned, label_taken, taken_on}
 use Rattle.sat_stitch.specs.Kept.{Kept, history}
 use Rattle.sat_stitch.specs.Nodes.{site_after, put_on, took_from}
 use Rattle.sat_opened.specs.Keeping.{client_in, site_act, site_kept}
-use Rattle.sat_opened.proofs.Numbers.{same-is, differ, same-turned, and-no, not-less}
+use Rattle.sat_opened.proofs.Numbers.{same-is, differ, and-no, not-less}
 use Rattle.sat_opened.proofs.Handings.{label_made, label_body}
-use Rattle.sat_opened.proofs.Layouts.{TreeAt, tree-at, one-end}
+use Rattle.sat_opened.proofs.Layouts.{tree-at, one-end}
 use Rattle.sat_opened.proofs.Says.{Says, quiet, wrote, moved, gathered, emitted, pulsed, closed, shown, took, stamped, beaten, passed, is_quiet, IsOwn, IsOwnKind}
-use Rattle.sat_opened.proofs.SiteKept.{SiteStep, IsOther, other-is}
+use Rattle.sat_opened.proofs.SiteKept.{SiteStep, other-is}
 
 -- ---- a label of its own leads out of a site exactly where it has a target
 

@@ -1,6 +1,5 @@
 -- The journals of all opened nodes fit.
-use Rattle.std.proofs.Common.{◌≡◌, ◌⊎◌, ◌<◌, ℕ, Bool, true, false, List, [], ◌∷◌, Some, refl, sym, ap, ◌∙◌, subst, inl, inr}
-use Rattle.sat_label.specs.Members.{In}
+use Rattle.std.proofs.Common.{◌≡◌, ℕ, true, false, List, Some, sym, subst, inl, inr}
 use Rattle.sat_label.specs.declared.node.NodeId.{NodeId}
 use Rattle.sat_label.specs.declared.node.NodeId.TheVariants.{Site, Serializer}
 use Rattle.sat_label.specs.declared.node.NodeName.TheVariants as named
@@ -10,7 +9,6 @@ use Rattle.sat_act.proofs.Valid.{is_valid}
 use Rattle.sat_act.specs.Deployed.{Deployed}
 use Rattle.sat_act.specs.Limits.{IsDeployment}
 use Rattle.sat_act.specs.Parts.{tree_of}
-use Rattle.sat_act.specs.Answers.{InRange}
 use Rattle.sat_net.proofs.Edges.{no-edge}
 use Rattle.sat_node.specs.declared.kept.Kept.{Kept as Line}
 use Rattle.sat_node.specs.Links.{HeldSeen}
@@ -18,16 +16,16 @@ use Rattle.sat_machines.specs.Acts.{ActSeen}
 use Rattle.sat_machines.specs.declared.site_answer.SiteAnswer.{SiteAnswer}
 use Rattle.sat_machines.specs.declared.serial_act.SerialAct.{SerialAct}
 use Rattle.sat_machines.specs.declared.serial_act.SerialAnswer.{SerialAnswer}
-use Rattle.sat_stitch.specs.Kept.{Kept, Each, Rising, marks}
-use Rattle.sat_stitch.specs.Places.{Place, AtSite, AtSerializer, InSession, places, node_place, Session}
-use Rattle.sat_stitch.specs.Nodes.{IsAnswerAt, stands, put_on, took_from}
+use Rattle.sat_stitch.specs.Kept.{Kept, marks}
+use Rattle.sat_stitch.specs.Places.{Place, AtSite, AtSerializer, InSession, node_place, Session}
+use Rattle.sat_stitch.specs.Nodes.{put_on, took_from}
 use Rattle.sat_stitch.specs.Fit.{IsHanded, Fit}
 use Rattle.sat_stitch.proofs.Merges.{merges-run}
 use Rattle.sat_opened.specs.Keeping.{site_kept, serial_kept, newest}
 use Rattle.sat_opened.specs.Opened.{AllOpened, entries_at, lists_of}
 use Rattle.sat_opened.specs.Fits.{FitsPlace, FitsNodes, FitsSessions}
 use Rattle.sat_opened.specs.Laws.{OpenedFit, FitsJoin, OpenedAreRuns}
-use Rattle.sat_opened.proofs.Found.{Found, look-up}
+use Rattle.sat_opened.proofs.Found.{look-up}
 use Rattle.sat_opened.proofs.SiteKept.{site-fits}
 use Rattle.sat_opened.proofs.SerialKept.{serial-fits, nothing-fits}
 use Rattle.sat_opened.proofs.Links.{SiteAt, site-at, SerialAt, serial-at, up-link, down-link, over-link}
