@@ -13,3 +13,4 @@ pub mod Links
 pub mod Bulks
 pub mod Whole
 pub mod Distincts
+pub mod Owners

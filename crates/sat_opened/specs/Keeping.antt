@@ -12,6 +12,7 @@ use Rattle.sat_machines.specs.declared.serial_act.SerialAct.{SerialAct}
 use Rattle.sat_machines.specs.declared.serial_act.SerialAct.TheVariants as serial
 use Rattle.sat_machines.specs.declared.serial_act.SerialAnswer.{SerialAnswer}
 use Rattle.sat_stitch.specs.Kept.{Given, Nothing, OfFront, OfPayload, OfBeat, OfClient, Kept}
+use Rattle.sat_stitch.specs.Places.{Session, Client, Operator}
 
 -- ---- sites
 
@@ -54,6 +55,13 @@ site_given i _ = Nothing
 abbrev pub site_kept : ℕ → Line ActSeen SiteAnswer → Kept
 site_kept i k = record { number = k.lamport; act = site_act i (client_in k.input.by) k.input.input; given = site_given i k.input.input; answer = k.answer.answer }
 
+-- whose session keeps it too: its client's, and the operator's where a site closes or falls
+abbrev pub owner_of : Option ℕ → SiteInput → Option Session
+owner_of (Some c) given = Some (Client c)
+owner_of None input.Close = Some Operator
+owner_of None input.Fall = Some Operator
+owner_of None _ = None
+
 -- ---- serializers
 
 abbrev pub serial_act : ℕ → ℕ → SerialAct → Act
@@ -67,6 +75,11 @@ serial_given serial.Kill = Nothing
 -- an entry of the journal of serializer z of an epoch's tree
 abbrev pub serial_kept : ℕ → ℕ → Line SerialAct SerialAnswer → Kept
 serial_kept e z k = record { number = k.lamport; act = serial_act e z k.input; given = serial_given k.input; answer = k.answer.answer }
+
+-- a kill is the operator's
+abbrev pub serial_owner : SerialAct → Option Session
+serial_owner (serial.Hop u l) = None
+serial_owner serial.Kill = Some Operator
 
 -- ---- whole journals
 

@@ -6,6 +6,7 @@ use Rattle.sat_label.specs.Members.{In}
 use Rattle.sat_act.specs.Deployed.{Deployed}
 use Rattle.sat_act.specs.Limits.{IsDeployment}
 use Rattle.sat_act.specs.Runs.{IsRun}
+use Rattle.sat_node.specs.declared.kept.Kept.{Kept as Line}
 use Rattle.sat_node.specs.Links.{HeldSeen}
 use Rattle.sat_site.specs.Seen.{SiteSeen}
 use Rattle.sat_machines.specs.Acts.{ActSeen}
@@ -14,10 +15,10 @@ use Rattle.sat_machines.specs.declared.site_answer.SiteAnswer.{SiteAnswer}
 use Rattle.sat_machines.specs.declared.serial_act.SerialAct.{SerialAct}
 use Rattle.sat_machines.specs.declared.serial_act.SerialAnswer.{SerialAnswer}
 use Rattle.sat_stitch.specs.Kept.{Kept, history}
-use Rattle.sat_stitch.specs.Places.{Place, AtSite, AtSerializer, Session}
+use Rattle.sat_stitch.specs.Places.{Place, AtSite, AtSerializer, Session, session_of}
 use Rattle.sat_stitch.specs.Fit.{Fit, IsMerge}
 use Rattle.sat_stitch.specs.Stitch.{Distinct}
-use Rattle.sat_opened.specs.Keeping.{site_kept, serial_kept, newest}
+use Rattle.sat_opened.specs.Keeping.{site_kept, serial_kept, owner_of, serial_owner, newest}
 use Rattle.sat_opened.specs.Opened.{AllOpened, lists_of, place_at, node_places}
 use Rattle.sat_opened.specs.Fits.{FitsNodes, FitsSessions}
 
@@ -44,6 +45,14 @@ SitesAreKept = (d : Deployed) (sites : List SiteHeld) (serials : List SerialHeld
 abbrev pub SerialsAreKept : Type 0
 SerialsAreKept = (d : Deployed) (sites : List SiteHeld) (serials : List SerialHeld) (alone : ℕ → List Kept) → AllOpened d sites serials →
     (n e z : ℕ) (h : SerialHeld) → slice_get serials n ≡ Some h → h.node.name ≡ named.Serializer e z → lists_of sites serials alone (AtSerializer e z) ≡ newest (serial_kept e z) h.node.entries
+
+-- an entry is of its client's session, or of the operator's, or of none
+abbrev pub SitesHaveOwners : Type 0
+SitesHaveOwners = (d : Deployed) (sites : List SiteHeld) (serials : List SerialHeld) → AllOpened d sites serials →
+    (n i m : ℕ) (h : SiteHeld) (k : Line ActSeen SiteAnswer) → slice_get sites n ≡ Some h → h.node.name ≡ named.Site i → slice_get h.node.entries m ≡ Some k → session_of (site_kept i k).act ≡ owner_of k.input.by k.input.input
+
+abbrev pub SerialsHaveOwners : Type 0
+SerialsHaveOwners = (e z : ℕ) (k : Line SerialAct SerialAnswer) → session_of (serial_kept e z k).act ≡ serial_owner k.input
 
 -- each place of a node is among these once, and nothing was kept at any other
 abbrev pub PlacesCover : Type 0

@@ -3,7 +3,7 @@
 
 mod opened;
 
-ghost use Rattle.sat_opened.specs.Laws.{OpenedFit, SitesAreKept, SerialsAreKept, PlacesCover, FitsJoin, OpenedAreRuns};
+ghost use Rattle.sat_opened.specs.Laws.{OpenedFit, SitesAreKept, SerialsAreKept, SitesHaveOwners, SerialsHaveOwners, PlacesCover, FitsJoin, OpenedAreRuns};
 
 pub use opened::open;
 
@@ -12,6 +12,8 @@ pub fn opening()
     ensures nodes { OpenedFit }
     ensures sites { SitesAreKept }
     ensures serials { SerialsAreKept }
+    ensures owners { SitesHaveOwners }
+    ensures kills { SerialsHaveOwners }
     ensures places { PlacesCover }
     ensures whole { FitsJoin }
     ensures runs { OpenedAreRuns }
