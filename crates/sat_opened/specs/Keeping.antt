@@ -2,6 +2,7 @@
 use Rattle.std.specs.Prelude.{ℕ, List, [], ◌∷◌, Option, Some, None}
 use Rattle.sat_act.specs.declared.act.Act.{Act}
 use Rattle.sat_act.specs.declared.act.Act.TheVariants as act
+use Rattle.sat_act.specs.declared.entry.Entry.{Entry}
 use Rattle.sat_proxy.specs.Proxy.{note_of}
 use Rattle.sat_site.specs.declared.input.SiteInput.{SiteInput}
 use Rattle.sat_site.specs.declared.input.SiteInput.TheVariants as input
@@ -11,7 +12,7 @@ use Rattle.sat_machines.specs.declared.site_answer.SiteAnswer.{SiteAnswer}
 use Rattle.sat_machines.specs.declared.serial_act.SerialAct.{SerialAct}
 use Rattle.sat_machines.specs.declared.serial_act.SerialAct.TheVariants as serial
 use Rattle.sat_machines.specs.declared.serial_act.SerialAnswer.{SerialAnswer}
-use Rattle.sat_stitch.specs.Kept.{Given, Nothing, OfFront, OfPayload, OfBeat, OfClient, Kept}
+use Rattle.sat_stitch.specs.Kept.{Given, Nothing, OfFront, OfPayload, OfBeat, OfClient, Kept, entry_of}
 use Rattle.sat_stitch.specs.Places.{Session, Client, Operator}
 
 -- ---- sites
@@ -90,3 +91,7 @@ behind of ks (x ∷ xs) = behind of (of x ∷ ks) xs
 
 abbrev pub newest : {X : Type 0} → (X → Kept) → List X → List Kept
 newest of xs = behind of [] xs
+
+-- an entry as one of a history, under its number
+abbrev pub kept_under : {X : Type 0} → (X → Kept) → X → ℕ × Entry
+kept_under of x = ((of x).number, entry_of (of x))

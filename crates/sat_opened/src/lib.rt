@@ -1,10 +1,12 @@
 //! Running nodes whose locks were taken apart: their journals fit together.
 #![tactic(auto)]
 
+mod entries;
 mod opened;
 
 ghost use Rattle.sat_opened.specs.Laws.{OpenedFit, SitesAreKept, SerialsAreKept, SitesHaveOwners, SerialsHaveOwners, PlacesCover, FitsJoin, OpenedAreRuns};
 
+pub use entries::{serial_journal, site_journal};
 pub use opened::open;
 
 /// The journals of all opened nodes are kept lists that fit; with what sessions kept they make one run.
