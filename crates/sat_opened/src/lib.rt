@@ -20,3 +20,6 @@ pub fn opening()
     ensures whole { FitsJoin }
     ensures runs { OpenedAreRuns }
 {}
+
+#[cfg(test)]
+mod tests;
