@@ -15,3 +15,4 @@ pub mod Whole
 pub mod Distincts
 pub mod Owners
 pub mod Ticks
+pub mod Oldest

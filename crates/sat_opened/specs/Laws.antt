@@ -1,5 +1,5 @@
 -- What this crate proves of opened nodes.
-use Rattle.std.specs.Prelude.{◌≡◌, ◌⊎◌, ℕ, List, [], Some, slice_get}
+use Rattle.std.specs.Prelude.{◌≡◌, ◌⊎◌, ℕ, List, [], map, Some, slice_get}
 use Rattle.sat_label.specs.declared.node.NodeName.{NodeName}
 use Rattle.sat_label.specs.declared.node.NodeName.TheVariants as named
 use Rattle.sat_label.specs.Members.{In}
@@ -17,8 +17,8 @@ use Rattle.sat_machines.specs.declared.serial_act.SerialAnswer.{SerialAnswer}
 use Rattle.sat_stitch.specs.Kept.{Kept, history}
 use Rattle.sat_stitch.specs.Places.{Place, AtSite, AtSerializer, Session, session_of}
 use Rattle.sat_stitch.specs.Fit.{Fit, IsMerge}
-use Rattle.sat_stitch.specs.Stitch.{Distinct}
-use Rattle.sat_opened.specs.Keeping.{site_kept, serial_kept, owner_of, serial_owner, newest}
+use Rattle.sat_stitch.specs.Stitch.{Distinct, oldest, entry_under}
+use Rattle.sat_opened.specs.Keeping.{site_kept, serial_kept, owner_of, serial_owner, newest, kept_under}
 use Rattle.sat_opened.specs.Opened.{AllOpened, lists_of, place_at, node_places}
 use Rattle.sat_opened.specs.Fits.{FitsNodes, FitsSessions}
 
@@ -45,6 +45,13 @@ SitesAreKept = (d : Deployed) (sites : List SiteHeld) (serials : List SerialHeld
 abbrev pub SerialsAreKept : Type 0
 SerialsAreKept = (d : Deployed) (sites : List SiteHeld) (serials : List SerialHeld) (alone : ℕ → List Kept) → AllOpened d sites serials →
     (n e z : ℕ) (h : SerialHeld) → slice_get serials n ≡ Some h → h.node.name ≡ named.Serializer e z → lists_of sites serials alone (AtSerializer e z) ≡ newest (serial_kept e z) h.node.entries
+
+-- a node's journal, as the merge of journals takes it, is the list of its place
+abbrev pub SiteJournals : Type 0
+SiteJournals = (i : ℕ) (es : List (Line ActSeen SiteAnswer)) → map (kept_under (site_kept i)) es ≡ map entry_under (oldest (newest (site_kept i) es))
+
+abbrev pub SerialJournals : Type 0
+SerialJournals = (e z : ℕ) (es : List (Line SerialAct SerialAnswer)) → map (kept_under (serial_kept e z)) es ≡ map entry_under (oldest (newest (serial_kept e z) es))
 
 -- an entry is of its client's session, or of the operator's, or of none
 abbrev pub SitesHaveOwners : Type 0

@@ -98,10 +98,7 @@ fn add_serial(
     Ok(())
 }
 
-fn site_entry<N: Laid>(
-    site: u16,
-    kept: &Kept<SiteAct<N>, SiteAnswer>,
-) -> Result<Entry, AllocError>
+fn site_entry<N: Laid>(site: u16, kept: &Kept<SiteAct<N>, SiteAnswer>) -> Result<Entry, AllocError>
     ensures { IfOk result (λ entry. entry ≡ entry_of (site_kept site kept.now)) }
 {
     let client = client_number(kept.input.by());

@@ -4,7 +4,7 @@
 mod entries;
 mod opened;
 
-ghost use Rattle.sat_opened.specs.Laws.{OpenedFit, SitesAreKept, SerialsAreKept, SitesHaveOwners, SerialsHaveOwners, PlacesCover, FitsJoin, OpenedAreRuns};
+ghost use Rattle.sat_opened.specs.Laws.{OpenedFit, SitesAreKept, SerialsAreKept, SiteJournals, SerialJournals, SitesHaveOwners, SerialsHaveOwners, PlacesCover, FitsJoin, OpenedAreRuns};
 
 pub use entries::{serial_journal, site_journal};
 pub use opened::open;
@@ -14,6 +14,8 @@ pub fn opening()
     ensures nodes { OpenedFit }
     ensures sites { SitesAreKept }
     ensures serials { SerialsAreKept }
+    ensures site_journals { SiteJournals }
+    ensures serial_journals { SerialJournals }
     ensures owners { SitesHaveOwners }
     ensures kills { SerialsHaveOwners }
     ensures places { PlacesCover }

@@ -32,10 +32,7 @@ fn alone<N: Laid, W: Names>(
 
 // A tick of gear 0. False where it was not done.
 #[tactic(auto, using(crate::proofs::Ticks::tick_local))]
-fn tick<N: Laid, W: Names>(
-    held: &mut Held<SiteNode<N>, W>,
-    ts: u64,
-) -> Result<bool, AllocError>
+fn tick<N: Laid, W: Names>(held: &mut Held<SiteNode<N>, W>, ts: u64) -> Result<bool, AllocError>
     ensures { OnOk result (held.new.node.name ≡ held.old.node.name) }
 {
     let input = SiteAct::of_site(SiteInput::Tick { gear: 0, ts });
@@ -74,6 +71,13 @@ fn a_site_is_opened(rt: HostRuntime) -> Result<(), Fail> {
     let kept = list.as_slice();
     assert_eq!(rt; kept.len(), 2);
     assert_eq!(rt; kept[1].0, 2);
-    assert!(rt; kept[1].1.act == Act::Tick { site: 0, gear: 0, ts: 9 });
+    assert!(rt;
+        kept[1].1.act
+            == Act::Tick {
+                site: 0,
+                gear: 0,
+                ts: 9
+            }
+    );
     Ok(())
 }
