@@ -1,24 +1,20 @@
 -- Whose session keeps an entry too.
-use Rattle.std.proofs.Common.{◌≡◌, ◌⊎◌, ℕ, zero, suc, Bool, true, false, List, [], ◌∷◌, Option, Some, None, slice_get, refl, sym, ap, ◌∙◌, subst}
+use Rattle.std.proofs.Common.{◌≡◌, ℕ, zero, suc, true, false, List, [], ◌∷◌, Option, Some, None, slice_get, refl, subst}
 use Rattle.sat_label.specs.declared.node.NodeName.{NodeName}
 use Rattle.sat_label.specs.declared.node.NodeName.TheVariants as named
 use Rattle.sat_act.specs.Deployed.{Deployed}
 use Rattle.sat_laws.proofs.Labels.{some_is}
 use Rattle.sat_site.specs.declared.input.SiteInput.{SiteInput}
 use Rattle.sat_site.specs.declared.input.SiteInput.TheVariants as input
-use Rattle.sat_node.specs.declared.kept.Kept.{Kept as Line}
 use Rattle.sat_node.specs.Meanings.{Runs}
-use Rattle.sat_machines.specs.Acts.{ActSeen, IsBy}
+use Rattle.sat_machines.specs.Acts.{IsBy}
 use Rattle.sat_machines.specs.declared.serial_act.SerialAct.{SerialAct}
 use Rattle.sat_machines.specs.declared.serial_act.SerialAct.TheVariants as serial
-use Rattle.sat_machines.specs.declared.serial_act.SerialAnswer.{SerialAnswer}
-use Rattle.sat_machines.specs.declared.site_answer.SiteAnswer.{SiteAnswer}
 use Rattle.sat_machines.specs.Sites.{site_meaning}
 use Rattle.sat_stitch.specs.Kept.{Kept}
 use Rattle.sat_stitch.specs.Places.{session_of}
 use Rattle.sat_opened.specs.Keeping.{client_in, site_act, site_kept, serial_act, owner_of, serial_owner}
-use Rattle.sat_opened.specs.Laws.{SiteHeld, SerialHeld, SitesHaveOwners, SerialsHaveOwners}
-use Rattle.sat_opened.specs.Opened.{IsOpened, AllOpened}
+use Rattle.sat_opened.specs.Laws.{SitesHaveOwners, SerialsHaveOwners}
 use Rattle.sat_opened.proofs.Walks.{Along}
 use Rattle.sat_opened.proofs.SiteKept.{SiteStep, site-steps}
 

@@ -1,5 +1,5 @@
 -- A tick takes nothing from a link, and a site alone has none.
-use Rattle.std.proofs.Common.{◌≡◌, ℕ, ◌-◌, true, List, [], ◌∷◌, ◌++◌, map, Option, None, refl, ap}
+use Rattle.std.proofs.Common.{◌≡◌, ℕ, ◌-◌, true, [], ◌∷◌, ◌++◌, map, Option, None, refl, ap}
 use Rattle.sat_label.specs.declared.node.NodeName.{NodeName}
 use Rattle.sat_label.specs.declared.node.NodeName.TheVariants as named
 use Rattle.sat_act.specs.declared.answer.Answer.{Answer}
@@ -13,13 +13,12 @@ use Rattle.sat_machine.specs.State.{SiteState}
 use Rattle.sat_machine.specs.Reply.{site_answer}
 use Rattle.sat_site.specs.declared.input.SiteInput.TheVariants as input
 use Rattle.sat_site.specs.Inputs.{input_of}
-use Rattle.sat_node.specs.declared.kept.Body.{Body}
 use Rattle.sat_node.specs.Meanings.{replay}
 use Rattle.sat_node.specs.Seen.{NodeSeen}
 use Rattle.sat_node.specs.Links.{IsLocal}
 use Rattle.sat_machines.specs.Acts.{ActSeen}
 use Rattle.sat_machines.specs.declared.site_answer.SiteAnswer.{SiteAnswer}
-use Rattle.sat_machines.specs.Sites.{AnswersAt, is_standing, number_of, site_meaning, site_takes}
+use Rattle.sat_machines.specs.Sites.{is_standing, number_of, site_meaning, site_takes}
 
 ticked : (d : Deployed) (i g t : ℕ) (s : SiteState) (r : Answer) → r ≡ site_answer d i s (input_of (input.Tick g t)) → is_standing r ≡ true
 unfolding site_answer

@@ -1,4 +1,4 @@
-use Rattle.std.proofs.Common.{◌≡◌, ◌∙◌, List, ◌∷◌, [], ap}
+use Rattle.std.proofs.Common.{◌≡◌, ◌∷◌, [], ap}
 use Rattle.sat_act.specs.Deployed.{Deployed}
 use Rattle.sat_act.specs.declared.deployment.Plan.TheVariants as plan
 use Rattle.sat_opened.proofs.Ticks.{no_ends}
