@@ -7,7 +7,7 @@ mod opened;
 ghost use Rattle.sat_opened.specs.Laws.{OpenedFit, SitesAreKept, SerialsAreKept, SiteJournals, SerialJournals, SitesHaveOwners, SerialsHaveOwners, PlacesCover, FitsJoin, OpenedAreRuns};
 
 pub use entries::{serial_journal, site_journal};
-pub use opened::open;
+pub use opened::open_nodes;
 
 /// The journals of all opened nodes are kept lists that fit; with what sessions kept they make one run.
 pub fn opening()

@@ -4,7 +4,7 @@ ghost use Rattle.sat_label.specs.declared.node.NodeName.TheVariants.{Site as AtS
 ghost use Rattle.sat_machines.specs.Layout.{out_places, in_places};
 ghost use Rattle.sat_opened.specs.Opened.{serial_names};
 
-use crate::{open, site_journal};
+use crate::{open_nodes, site_journal};
 use sat_act::{Act, Deployment, Plan};
 use sat_label::NodeName;
 use sat_machines::{Laid, SerialNode, SiteAct, SiteNode};
@@ -56,7 +56,7 @@ fn opened<N: Laid, W: Names>(alloc: Global, d: &Deployment) -> Result<KeptEntrie
     let mut sites = Vec::new(alloc);
     sites.push(held)?;
     let mut serials: Vec<Held<SerialNode<N>, W>> = Vec::new(alloc);
-    open(d, &mut sites, &mut serials);
+    open_nodes(d, &mut sites, &mut serials);
     site_journal(alloc, &sites[0])
 }
 

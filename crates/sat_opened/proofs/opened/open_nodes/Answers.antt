@@ -8,7 +8,7 @@ use Rattle.sat_machines.specs.Serials.{serial_meaning}
 use Rattle.sat_opened.specs.Laws.{SiteHeld, SerialHeld}
 use Rattle.sat_opened.specs.Opened.{IsOpened}
 use Rattle.sat_opened.proofs.Whole.{opened_fit}
-use Rattle.sat_opened.proofs.opened.open.Goals as goal
+use Rattle.sat_opened.proofs.opened.open_nodes.Goals as goal
 
 pub returns-clause-opened : goal.returns-clause-opened
 returns-clause-opened g c =
