@@ -1,0 +1,4 @@
+pub mod Members
+pub mod Neighbours
+pub mod Hops
+pub mod Faults
