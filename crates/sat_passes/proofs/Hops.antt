@@ -173,6 +173,9 @@ hops_then a b c ab bc = record {
 pub hops_none : (a b : SerialHeld) → b.node.name ≡ a.node.name → b.node.machine ≡ a.node.machine → b.node.entries ≡ a.node.entries → Hops a b
 hops_none a b name machine entries = record { name = name; serial = same-self a.node.machine b.node.machine machine; added = ([], entries ∙ sym (append-nil a.node.entries), tt) }
 
+pub hops_same : (a : SerialHeld) → Hops a a
+hops_same a = hops_none a a refl refl refl
+
 -- a hop that was taken or not
 pub take_hops : (d : Deployed) (r : Result SerialAnswer CallFault) (heard : ℕ) (hop : SerialAct) (may : Bool) (old new : SerialHeld) (u : NodeId) (l : Label) → hop ≡ given.Hop u l → Takes heard hop may r old.node new.node
     → SerialStands d old.node.name old.node.machine (replay (serial_meaning d) old.node.name old.node.entries) → SerialStands d new.node.name new.node.machine (replay (serial_meaning d) new.node.name new.node.entries)

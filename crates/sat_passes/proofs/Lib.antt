@@ -2,3 +2,4 @@ pub mod Members
 pub mod Neighbours
 pub mod Hops
 pub mod Faults
+pub mod Drains

@@ -83,6 +83,7 @@ fn take_hop<N: Laid + Names>(
 }
 
 // Pulls the next envelope of a link, and takes it as a hop. False where the link was empty, or the front doesn't fit the machine.
+#[tactic(auto, using(crate::proofs::Drains::pulled_drained, crate::proofs::Drains::pulled_taken, crate::proofs::Hops::hops_none, crate::proofs::Hops::hops_then))]
 fn handle_front<N: Laid + Names, R: Wait, G: Gate>(
     rt: &R,
     held: &mut Held<SerialNode<N>, N>,
@@ -108,6 +109,7 @@ fn handle_front<N: Laid + Names, R: Wait, G: Gate>(
 }
 
 // Takes what comes over a link, until the link was empty or what came doesn't fit the machine.
+#[tactic(auto, using(crate::proofs::Drains::empties_none, crate::proofs::Drains::empties_more, crate::proofs::Drains::empties_drained, crate::proofs::Hops::hops_same, crate::proofs::Hops::hops_then))]
 fn drain<N: Laid + Names, R: Wait, G: Gate>(
     rt: &R,
     held: &mut Held<SerialNode<N>, N>,
@@ -132,6 +134,7 @@ fn drain<N: Laid + Names, R: Wait, G: Gate>(
 }
 
 // Takes what comes over each link.
+#[tactic(auto, using(crate::proofs::Drains::drained_more, crate::proofs::Members::first_none, crate::proofs::Members::first_all, crate::proofs::Hops::hops_same, crate::proofs::Hops::hops_then))]
 fn drain_all<N: Laid + Names, R: Wait, G: Gate>(
     rt: &R,
     held: &mut Held<SerialNode<N>, N>,
