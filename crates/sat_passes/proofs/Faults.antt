@@ -32,5 +32,8 @@ module _ {S M I A : Type 0} (m : Meaning S I A) where
   take_fails (Ok a) input may old new k e tied front takes ins = tt
   take_fails (Err f) input may old new k e tied front takes ins = ⊎_elim worn (λ (is : f ≡ fault.Memory). inl is) takes.only where
     worn : f ≡ fault.Worn last_number → Fails new f
-    worn is = inr (is, ⊎_elim (λ (own : old.node.number ≡ last_number). inl (takes.err.0.3 ∙ own)) (λ (theirs : number_of (front_at old.ins k) ≡ last_number). inr (e, subst (λ (l : List InSeen). IsReceived l e) (sym ins) (front_received old k e tied front), sym (ap number_of front) ∙ theirs))
-      (max-one old.node.number (number_of (front_at old.ins k)) last_number (takes.worn.0 (ap Err is))))
+    worn is = inr (
+      is,
+      ⊎_elim (λ (own : old.node.number ≡ last_number). inl (takes.err.0.3 ∙ own)) (λ (theirs : number_of (front_at old.ins k) ≡ last_number). inr (e, subst (λ (l : List InSeen). IsReceived l e) (sym ins) (front_received old k e tied front), sym (ap number_of front) ∙ theirs))
+          (max-one old.node.number (number_of (front_at old.ins k)) last_number (takes.worn.0 (ap Err is))),
+    )

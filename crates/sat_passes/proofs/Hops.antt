@@ -101,13 +101,17 @@ pub hop_is_of : (d : Deployed) (node : NodeSeen SerialSeen SerialAct SerialAnswe
 hop_is_of d node k u l st alive at = record { stands = λ a h. refl; takes = here; others = away } where
   nodes : List NodeId
   nodes = neighbours node.machine.serial.tree node.machine.serial.number
+
   of : (a : SerialAnswer) → SerialAnswers d (epoch_in node.name) (serial_in node.name) (replay (serial_meaning d) node.name node.entries) (given.Hop u l) a → AnswersHop d node.machine u l a
   of a h = answers-hop d node.name node.machine (replay (serial_meaning d) node.name node.entries) u l a st alive h
+
   over-at : (a : SerialAnswer) (j : ℕ) → SerialAnswers d (epoch_in node.name) (serial_in node.name) (replay (serial_meaning d) node.name node.entries) (given.Hop u l) a
       → hop_takes (slice_get a.ends j) u a.answer ≡ came_over (slice_get nodes j) u l
   over-at a j h = ap (hop_takes (slice_get a.ends j) u) ((of a h).answer) ∙ ap (λ (ns : List NodeId). came_over (slice_get ns j) u l) ((of a h).ends)
+
   here : (a : SerialAnswer) → SerialAnswers d (epoch_in node.name) (serial_in node.name) (replay (serial_meaning d) node.name node.entries) (given.Hop u l) a → hop_takes (slice_get a.ends k) u a.answer ≡ Some (body.Label l)
   here a h = over-at a k h ∙ (ap (λ (o : Option NodeId). came_over o u l) at ∙ ap (λ (b : Bool). if b then Some (body.Label l) else None) (node-self u))
+
   away : (a : SerialAnswer) (j : ℕ) → SerialAnswers d (epoch_in node.name) (serial_in node.name) (replay (serial_meaning d) node.name node.entries) (given.Hop u l) a → j ≢ k → hop_takes (slice_get a.ends j) u a.answer ≡ None
   away a j h differ = over-at a j h ∙ came-none u l (slice_get nodes j) (λ v vj. neighbours_apart node.machine.serial.tree node.machine.serial.number j k v u vj at differ)
 

@@ -3,3 +3,4 @@ pub mod Neighbours
 pub mod Hops
 pub mod Faults
 pub mod Drains
+pub mod Hearing

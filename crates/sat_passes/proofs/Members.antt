@@ -47,9 +47,9 @@ first_more {X} R S n a b c weaker ab bc = (bc.0 ∙ ab.0, each) where
             subst (λ (y : X). S k g.0 y) (sym (h.2.0 no)) (weaker k g.0 h.0 (g.2.0 under))
       ] in
       let above : n + 1 ≤ k → z ≡ g.0 = λ le.
-          let no : k ≢ n = λ e. omega arith in
-          let le' : n ≤ k = omega arith in
-          h.2.0 no ∙ g.2.1 le' in
+      let no : k ≢ n = λ e. omega arith in
+      let le' : n ≤ k = omega arith in
+      h.2.0 no ∙ g.2.1 le' in
       (g.0, g.1, (below, above))
 
 pub first_all : {X : Type 0} (R : ℕ → X → X → Type 0) (n : ℕ) (a b : List X) → length a ≡ n → First n R a b → Both R a b

@@ -1,3 +1,4 @@
 pub mod Members
 pub mod Faults
 pub mod Relays
+pub mod Hearings

@@ -2,6 +2,8 @@
 #![tactic(auto)]
 
 mod flushing;
+mod receiving;
 mod relaying;
 
+pub use receiving::receive;
 pub use relaying::relay;

@@ -15,12 +15,11 @@ pub handle-result-requires-clause-front : goal.handle-result-requires-clause-fro
 handle-result-requires-clause-front g c =
     let d = g.N.Laid.deployment in
     let x = front_hop d c.args.held.now.node.machine c.args.link (front_at c.args.held.now.ins c.args.link) c.args.hop c.requires.hop in
-    let of = hop_is_of d c.args.held.now.node c.args.link x.2.from x.2.label c.sound.ensures.stands c.requires.alive x.2.neighbour in
-    (
+    let of = hop_is_of d c.args.held.now.node c.args.link x.2.from x.2.label c.sound.ensures.stands c.requires.alive x.2.neighbour in (
       x.0,
       x.1,
       subst (λ (hop : SerialAct). IsOf (serial_meaning d) c.args.held.now.node c.args.link x.0.body hop) (sym x.2.hop_is)
-      (rw x.2.body_is of),
+          (rw x.2.body_is of),
     )
 
 pub returns-clause-hops : goal.returns-clause-hops
