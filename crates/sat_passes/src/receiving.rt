@@ -15,7 +15,7 @@ ghost use Rattle.sat_passes.specs.Hearings.{FoundEmpty, Heard, HeardAt, HeardLin
 ghost use Rattle.sat_passes.specs.Members.{Both};
 
 use sat_label::NodeName;
-use sat_machines::{Laid, SiteAct, SiteNode};
+use sat_machines::{Laid, SiteAct, SiteAnswer, SiteNode};
 use sat_node::{Body, CallFault, Held, Names};
 use sat_site::{SiteInput, site_laws};
 use std::alloc::AllocError;
@@ -84,6 +84,7 @@ fn input_from(from: u16, body: &Body) -> Result<Option<SiteInput>, AllocError>
 }
 
 // Whether the site may be handed an act.
+#[tactic(auto, using(crate::proofs::Hearing::takes_now))]
 fn may_take<N: Laid + Names>(held: &Held<SiteNode<N>, N>, act: &SiteAct<N>) -> bool
     ensures state { result ≡ may_take N.deployment held.now.node.name held.now.node.entries act.now.input }
     ensures machine { result ≡ fits_in held.now.node.machine act.now.input }
@@ -116,11 +117,12 @@ fn act_from<N: Laid + Names>(
 }
 
 // Takes the front of a link, which fits.
+#[tactic(auto, using(crate::proofs::Hearing::heard_same))]
 fn take_message<N: Laid + Names>(
     held: &mut Held<SiteNode<N>, N>,
     link: usize,
     act: SiteAct<N>,
-) -> Result<(), CallFault>
+) -> Result<SiteAnswer, CallFault>
     requires message { (e : Sent) × IsMessage held.old link e act }
     requires fits { may_take N.deployment held.old.node.name held.old.node.entries act.input ≡ true }
     requires machine { fits_in held.old.node.machine act.input ≡ true }
@@ -133,13 +135,11 @@ fn take_message<N: Laid + Names>(
     let Ok(copy) = act.copy() else {
         return Err(CallFault::Memory);
     };
-    match held.handle(link, act, copy) {
-        Ok(_) => Ok(()),
-        Err(fault) => Err(fault),
-    }
+    held.handle(link, act, copy)
 }
 
 // Passes over the front of a link, which doesn't fit.
+#[tactic(auto, using(crate::proofs::Hearing::pass_dealt))]
 fn pass_message<N: Laid + Names>(held: &mut Held<SiteNode<N>, N>, link: usize, act: &SiteAct<N>)
     requires link { link < length held.old.ins }
     requires message { (e : Sent) × IsMessage held.old link e act.now }
@@ -151,6 +151,7 @@ fn pass_message<N: Laid + Names>(held: &mut Held<SiteNode<N>, N>, link: usize, a
 }
 
 // Takes the front of a link, or passes over it.
+#[tactic(auto, using(crate::proofs::Hearing::heard_same))]
 fn deal<N: Laid + Names>(
     held: &mut Held<SiteNode<N>, N>,
     link: usize,
@@ -164,13 +165,17 @@ fn deal<N: Laid + Names>(
     ensures fault { IfErr result (Fails held.new) }
 {
     if may_take(held, &act) {
-        return take_message(held, link, act);
+        return match take_message(held, link, act) {
+            Ok(_) => Ok(()),
+            Err(fault) => Err(fault),
+        };
     }
     pass_message(held, link, &act);
     Ok(())
 }
 
 // Pulls the next message of a link, and takes it or passes over it. False where the link was empty.
+#[tactic(auto, using(crate::proofs::Hearing::heard_same, crate::proofs::Hearing::heard_then, crate::proofs::Hearing::pull_empty))]
 fn hear_front<N: Laid + Names, R: Wait>(
     rt: &R,
     held: &mut Held<SiteNode<N>, N>,
@@ -196,6 +201,7 @@ fn hear_front<N: Laid + Names, R: Wait>(
 }
 
 // Takes or passes over what comes over a link, until it was empty.
+#[tactic(auto, using(crate::proofs::Hearing::heard_none))]
 fn hear<N: Laid + Names, R: Wait>(
     rt: &R,
     held: &mut Held<SiteNode<N>, N>,
@@ -220,6 +226,7 @@ fn hear<N: Laid + Names, R: Wait>(
 }
 
 // The same, where there is such a link.
+#[tactic(auto, using(crate::proofs::Hearing::link_absent, crate::proofs::Hearing::heard_same))]
 fn hear_link<N: Laid + Names, R: Wait>(
     rt: &R,
     held: &mut Held<SiteNode<N>, N>,
@@ -239,6 +246,7 @@ fn hear_link<N: Laid + Names, R: Wait>(
 }
 
 // Takes or passes over what comes over each link from another site.
+#[tactic(auto, using(crate::proofs::Hearing::first_heard, crate::proofs::Hearing::all_heard, crate::proofs::Hearing::all_emptied))]
 fn hear_all<N: Laid + Names, R: Wait>(
     rt: &R,
     held: &mut Held<SiteNode<N>, N>,
