@@ -146,6 +146,9 @@ match-some A B o x e h = subst (λ p. MatchOption p A B) (sym e) h
 match-none : {X : Type 0} (A : Type 0) (B : X → Type 0) (o : Option X) → o ≡ None → A → MatchOption o A B
 match-none A B o e h = subst (λ p. MatchOption p A B) (sym e) h
 
+pub match_is : {X : Type 0} (A : Type 0) (B : X → Type 0) (o : Option X) (x : X) → o ≡ Some x → MatchOption o A B → B x
+match_is A B o x e h = subst (λ p. MatchOption p A B) e h
+
 match-map : {X : Type 0} (A C : Type 0) (B D : X → Type 0) (o : Option X) → (A → C) → ((x : X) → B x → D x) → MatchOption o A B → MatchOption o C D
 match-map A C B D None f g h = f h
 match-map A C B D (Some x) f g h = g x h

@@ -4,3 +4,4 @@ pub mod Hops
 pub mod Faults
 pub mod Drains
 pub mod Hearing
+pub mod Sendings

@@ -2,3 +2,4 @@ pub mod Members
 pub mod Faults
 pub mod Relays
 pub mod Hearings
+pub mod Sendings

@@ -1,49 +1,21 @@
 //! What a site's node hears from the other sites.
 ghost use Rattle.std.specs.Prelude.{◌≡◌, ◌+◌, ◌-◌, ◌<◌, true, false, length, nat_lt, [], ◌∷◌, IfErr, IfOk, MatchBool, MatchOption, OnErr, OnOk, Some, None};
-ghost use Rattle.sat_act.specs.Limits.{IsDeployment};
 ghost use Rattle.sat_node.specs.declared.kept.Envelope.{Envelope as Sent};
-ghost use Rattle.sat_node.specs.Links.{Tied, front_at};
-ghost use Rattle.sat_node.specs.Meanings.{replay};
-ghost use Rattle.sat_site.specs.Laws.{EachFits};
+ghost use Rattle.sat_node.specs.Links.{front_at};
 ghost use Rattle.sat_site.specs.Inputs.{fits_in};
 ghost use Rattle.sat_node.specs.declared.kept.CallFault.TheVariants.{Memory};
-ghost use Rattle.sat_site.specs.Seen.{IsSite};
 ghost use Rattle.sat_machines.specs.Layout.{peer};
-ghost use Rattle.sat_machines.specs.Sites.{Stands, number_of, site_meaning};
+ghost use Rattle.sat_machines.specs.Sites.{number_of};
 ghost use Rattle.sat_passes.specs.Faults.{Fails};
 ghost use Rattle.sat_passes.specs.Hearings.{FoundEmpty, Heard, HeardAt, HeardLink, HearsAll, IsHeard, IsMessage, input_from, may_take};
 ghost use Rattle.sat_passes.specs.Members.{Both};
 
-use sat_label::NodeName;
+use crate::sites::{site_of, sound};
 use sat_machines::{Laid, SiteAct, SiteAnswer, SiteNode};
 use sat_node::{Body, CallFault, Held, Names};
-use sat_site::{SiteInput, site_laws};
+use sat_site::SiteInput;
 use std::alloc::AllocError;
 use std::sync::Wait;
-
-// The machine stands for the replay of the journal; what is true of it, and what it takes.
-fn sound<N: Laid + Names>(held: &Held<SiteNode<N>, N>)
-    ensures stands { Stands N.deployment held.now.node.name held.now.node.machine (replay (site_meaning N.deployment) held.now.node.name held.now.node.entries) }
-    ensures tied { Tied (site_meaning N.deployment) held.now }
-    ensures deployment { IsDeployment N.deployment }
-    ensures site { IsSite held.now.node.machine }
-    ensures fits { EachFits }
-{
-    let machine = held.node().machine();
-    let _ = machine.sites();
-    let _ = machine.site().view();
-    site_laws();
-}
-
-// The number of the node's site.
-fn site_of<N: Laid + Names>(held: &Held<SiteNode<N>, N>) -> u16
-    ensures { result ≡ number_of held.now.node.name }
-{
-    match held.node().name() {
-        NodeName::Site(site) => site,
-        NodeName::Serializer { .. } => 0,
-    }
-}
 
 // The site at the other end of a link between sites.
 fn peer(site: u16, link: u16) -> u16

@@ -1,3 +1,5 @@
+use Rattle.std.proofs.Common.{ℕ, subst}
+use Rattle.sat_passes.specs.Hearings.{HeardLink}
 use Rattle.sat_passes.proofs.Hearing.{heard_then, more_heard}
 use Rattle.sat_passes.proofs.receiving.hear_all.Goals as goal
 
@@ -7,5 +9,5 @@ returns-in-Err-clause-heard g c = heard_then _ _ _ c.loop-link.invariant.0 c.hea
 pub loop-link-preserved : goal.loop-link-preserved
 loop-link-preserved g c = (
   heard_then _ _ _ c.loop-link.invariant.0 c.hear_link.ensures.heard,
-  more_heard g.N.Laid.deployment c.loop-link.link _ _ _ c.loop-link.invariant.1 c.in_default.ensures.all,
+  more_heard g.N.Laid.deployment c.loop-link.link _ _ _ c.loop-link.invariant.1 (subst (λ (k : ℕ). HeardLink g.N.Laid.deployment k c.loop-link.held c.hear_link.new.held) c.from.ensures c.in_default.ensures.all),
 )
