@@ -1,5 +1,5 @@
 -- What a site's node sends.
-use Rattle.std.proofs.Common.{◌≡◌, ◌≢◌, ℕ, ◌+◌, ◌-◌, ◌^◌, ◌<◌, ◌≤◌, ◌==◌, ◌&&◌, ◌⊎◌, max, not, nat_lt, Bool, true, false, List, [], ◌∷◌, ◌++◌, length, Option, Some, None, Result, Ok, Err, IfOk, IfErr, slice_get, inl, inr, refl, sym, ap, ◌∙◌, subst, append_assoc, arith, ⊎_elim}
+use Rattle.std.proofs.Common.{◌≡◌, ◌≢◌, ℕ, ◌+◌, ◌-◌, ◌^◌, ◌<◌, ◌≤◌, ◌==◌, ◌&&◌, ◌||◌, ◌⊎◌, max, not, nat_lt, Bool, true, false, List, [], ◌∷◌, ◌++◌, length, Option, Some, None, Result, Ok, Err, IfOk, IfErr, slice_get, inl, inr, refl, sym, ap, ◌∙◌, subst, append_assoc, arith, ⊎_elim}
 use Rattle.std.proofs.lemmas.Bool.{and_parts, cases_Bool, cases_eq, lt-ltb}
 use Rattle.std.proofs.lemmas.Bool.Decides.{nat_tests}
 use Rattle.std.proofs.lemmas.List.{append-nil}
@@ -155,12 +155,12 @@ sent_none a b name entries = record { name = name; added = ([], entries ∙ sym 
 pub sent_same : (a b : SiteHeld) → b.node ≡ a.node → Sent a b
 sent_same a b node = sent_none a b (ap (λ (n : NodeSeen SiteSeen ActSeen SiteAnswer). n.name) node) (ap (λ (n : NodeSeen SiteSeen ActSeen SiteAnswer). n.entries) node)
 
-pub act_sent : (d : Deployed) (r : Result SiteAnswer CallFault) (number : ℕ) (may : Bool) (old new : SiteHeld) (given : SiteInput) → EachStep → IsDeployment d → IsSite old.node.machine
+given-sent : (d : Deployed) (r : Result SiteAnswer CallFault) (number : ℕ) (may : Bool) (old new : SiteHeld) (given : SiteInput) → EachStep → IsDeployment d → IsSite old.node.machine
     → Stands d old.node.name old.node.machine (replay (site_meaning d) old.node.name old.node.entries)
     → is_sending given ≡ true → would_do old.node.machine given ≡ true → Takes number (of_site given) may r old.node new.node
     → IfOk r (λ a. AnswersAt d (number_of old.node.name) (replay (site_meaning d) old.node.name old.node.entries) (of_site given) a) → Sent old new
-act_sent d (Err f) number may old new given law dep site st sends would takes h = sent_none old new takes.err.0.0 takes.err.0.2
-act_sent d (Ok a) number may old new given law dep site st sends would takes h = record {
+given-sent d (Err f) number may old new given law dep site st sends would takes h = sent_none old new takes.err.0.0 takes.err.0.2
+given-sent d (Ok a) number may old new given law dep site st sends would takes h = record {
   name = takes.name;
   added = (
     entry (max old.node.number number + 1) (of_site given) a ∷ [],
@@ -168,6 +168,15 @@ act_sent d (Ok a) number may old new given law dep site st sends would takes h =
     (sends, ap is_done h.answer ∙ done-by d old.node.name old.node.machine (replay (site_meaning d) old.node.name old.node.entries) given law dep site st would, tt),
   );
 }
+
+pub act_sent : (d : Deployed) (r : Result SiteAnswer CallFault) (number : ℕ) (may : Bool) (old new : SiteHeld) (given : SiteInput) (act : ActSeen) → act ≡ of_site given → EachStep → IsDeployment d → IsSite old.node.machine
+    → Stands d old.node.name old.node.machine (replay (site_meaning d) old.node.name old.node.entries)
+    → is_sending given ≡ true → would_do old.node.machine given ≡ true → Takes number act may r old.node new.node
+    → IfOk r (λ a. AnswersAt d (number_of old.node.name) (replay (site_meaning d) old.node.name old.node.entries) act a) → Sent old new
+act_sent d r number may old new given act is law dep site st sends would takes h =
+    given-sent d r number may old new given law dep site st sends would
+    (subst (λ (x : ActSeen). Takes number x may r old.node new.node) is takes)
+    (subst (λ (x : ActSeen). IfOk r (λ a. AnswersAt d (number_of old.node.name) (replay (site_meaning d) old.node.name old.node.entries) x a)) is h)
 
 pub act_fails : (r : Result SiteAnswer CallFault) (may : Bool) (old new : SiteHeld) (act : ActSeen) → Takes 0 act may r old.node new.node → IfErr r (FailsAlone new)
 act_fails (Ok a) may old new act takes = tt
@@ -198,4 +207,19 @@ idle_is n a b c e done sites emit pulse beats none =
         pulse = subst (λ (x : SiteHeld). would_do x.node.machine input.Pulse ≡ false) emit.0 pulse.1;
         beats = subst (λ (m : ℕ). AreTold m a.node.machine) (sym sites) (subst (λ (x : SiteHeld). AreTold n x.node.machine) ca h.1);
       },
+    )
+
+neither : (a b : Bool) → (a || b) ≡ false → (a ≡ false) × (b ≡ false)
+neither true b e = absurd (cc (e))
+neither false b e = (refl, e)
+
+-- one site more
+pub told_on : (n : ℕ) (a b c : SiteHeld) (done more next : Bool) → next ≡ (done || more) → (done ≡ false → (b ≡ a) × AreTold n a.node.machine) → (more ≡ false → (c ≡ b) × IsTold b.node.machine n)
+    → next ≡ false → (c ≡ a) × AreTold (n + 1) a.node.machine
+told_on n a b c done more next is first second none =
+    let w = neither done more (sym is ∙ none) in
+    let f = first w.0 in
+    let s = second w.1 in (
+      s.0 ∙ f.0,
+      told_more a.node.machine n f.1 (subst (λ (x : SiteHeld). IsTold x.node.machine n) f.0 s.1),
     )

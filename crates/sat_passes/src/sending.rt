@@ -1,5 +1,5 @@
 //! What a site's node sends.
-ghost use Rattle.std.specs.Prelude.{◌≡◌, ◌≢◌, ◌+◌, ◌<◌, true, false, length, IfErr, IfOk, OnOk, Some};
+ghost use Rattle.std.specs.Prelude.{◌≡◌, ◌≢◌, ◌+◌, ◌<◌, ◌||◌, true, false, length, IfErr, IfOk, OnOk};
 ghost use Rattle.sat_node.specs.Puts.{Stopped};
 ghost use Rattle.sat_site.specs.declared.input.SiteInput.TheVariants as given;
 ghost use Rattle.sat_passes.specs.Members.{Both};
@@ -109,6 +109,12 @@ fn beat<N: Laid + Names>(held: &mut Held<SiteNode<N>, N>, to: u16) -> Result<boo
     }
 }
 
+fn either(a: bool, b: bool) -> bool
+    ensures { result ≡ (a || b) }
+{
+    a || b
+}
+
 // Makes a beat for each other site for which it would differ from the last one made. False where it made none: then nothing changed.
 #[tactic(auto, using(crate::proofs::Sendings::sent_same, crate::proofs::Sendings::told_none, crate::proofs::Sendings::told_more))]
 fn beat_all<N: Laid + Names>(held: &mut Held<SiteNode<N>, N>) -> Result<bool, CallFault>
@@ -122,7 +128,7 @@ fn beat_all<N: Laid + Names>(held: &mut Held<SiteNode<N>, N>) -> Result<bool, Ca
     let mut done = false;
     for to in 0..sites {
         match beat(held, to) {
-            Ok(more) => done = done || more,
+            Ok(more) => done = either(done, more),
             Err(fault) => return Err(fault),
         }
     }
@@ -130,6 +136,7 @@ fn beat_all<N: Laid + Names>(held: &mut Held<SiteNode<N>, N>) -> Result<bool, Ca
 }
 
 // Emits, or sends a pulse, or makes beats. False where nothing of it was left to do: then nothing changed.
+#[tactic(auto, using(crate::proofs::Sendings::idle_is, crate::proofs::Sendings::shape_sites, crate::proofs::Sendings::sent_same))]
 fn go_on<N: Laid + Names>(held: &mut Held<SiteNode<N>, N>) -> Result<bool, CallFault>
     ensures sent { Sent held.old held.new }
     ensures outs { held.new.outs ≡ held.old.outs }
