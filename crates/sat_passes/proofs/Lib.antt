@@ -5,3 +5,4 @@ pub mod Faults
 pub mod Drains
 pub mod Hearing
 pub mod Sendings
+pub mod Small

@@ -11,3 +11,6 @@ mod sites;
 pub use receiving::receive;
 pub use relaying::relay;
 pub use sending::send;
+
+#[cfg(test)]
+mod tests;
