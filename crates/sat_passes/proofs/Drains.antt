@@ -1,5 +1,5 @@
 -- A link that is drained.
-use Rattle.std.proofs.Common.{◌≡◌, ◌≢◌, ℕ, ◌+◌, ◌⊎◌, ⊎_elim, List, Option, Some, None, MatchOption, slice_get, inl, inr, refl, sym, ap, ◌∙◌, subst}
+use Rattle.std.proofs.Common.{◌≡◌, ◌≢◌, ℕ, ◌+◌, ⊎_elim, List, Option, Some, None, MatchOption, slice_get, inl, inr, refl, sym, ap, ◌∙◌, subst}
 use Rattle.sat_act.specs.Deployed.{Deployed}
 use Rattle.sat_tree.specs.Cut.{neighbours}
 use Rattle.sat_label.specs.declared.label.Label.{Label}

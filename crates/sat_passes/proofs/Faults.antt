@@ -1,12 +1,12 @@
 -- What a take stops at.
-use Rattle.std.proofs.Common.{◌≡◌, ℕ, ◌≤◌, ◌⊎◌, max, Bool, List, [], ◌∷◌, ◌++◌, Option, Some, None, Result, Ok, Err, IfErr, OnErr, slice_get, inl, inr, refl, sym, ap, ◌∙◌, subst, arith, ⊎_elim}
+use Rattle.std.proofs.Common.{◌≡◌, ℕ, ◌⊎◌, max, Bool, List, [], ◌++◌, Option, Some, None, Result, Ok, Err, IfErr, OnErr, slice_get, inl, inr, refl, sym, ap, ◌∙◌, subst, arith, ⊎_elim}
 use Rattle.sat_node.specs.declared.kept.CallFault.{CallFault}
 use Rattle.sat_node.specs.declared.kept.CallFault.TheVariants as fault
 use Rattle.sat_node.specs.declared.kept.Envelope.{Envelope}
 use Rattle.sat_node.specs.Meanings.{Meaning}
 use Rattle.sat_node.specs.Seen.{last_number, Takes}
-use Rattle.sat_node.specs.Links.{HeldSeen, InSeen, Tied, Took, front_at, front_list, kept_front, number_of, takings}
-use Rattle.sat_passes.specs.Faults.{Fails, IsReceived, IsWorn}
+use Rattle.sat_node.specs.Links.{HeldSeen, InSeen, Tied, front_at, front_list, kept_front, number_of}
+use Rattle.sat_passes.specs.Faults.{Fails, IsReceived}
 
 -- one of two numbers is their greatest
 max-one : (a b c : ℕ) → max a b ≡ c → (a ≡ c) ⊎ (b ≡ c)

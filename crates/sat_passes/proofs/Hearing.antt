@@ -1,28 +1,24 @@
 -- Messages that a site's node hears.
-use Rattle.std.proofs.Common.{◌≡◌, ◌≢◌, ℕ, zero, suc, ◌+◌, ◌-◌, ◌^◌, ◌<◌, ◌≤◌, ◌==◌, ◌&&◌, max, nat_le, nat_lt, Bool, true, false, List, [], ◌∷◌, ◌++◌, length, map, drop, if◌then◌else◌, Option, Some, None, MatchOption, Result, Ok, Err, IfOk, OnOk, slice_get, inl, inr, refl, sym, ap, ◌∙◌, subst, append_assoc, arith}
+use Rattle.std.proofs.Common.{◌≡◌, ◌≢◌, ℕ, zero, suc, ◌+◌, ◌-◌, ◌^◌, ◌<◌, ◌≤◌, ◌==◌, ◌&&◌, max, nat_le, nat_lt, Bool, true, false, List, [], ◌∷◌, ◌++◌, length, map, drop, if◌then◌else◌, Option, Some, None, MatchOption, Result, Ok, Err, OnOk, slice_get, inl, inr, refl, sym, ap, ◌∙◌, subst, append_assoc, arith}
 use Rattle.std.proofs.lemmas.Bool.{cases_Bool, ltb-true}
 use Rattle.std.proofs.lemmas.Bool.Decides.{nat_tests}
 use Rattle.std.proofs.lemmas.List.{append-nil, map-append}
 use Rattle.std.proofs.lemmas.Option.{slice_get_within}
 use Rattle.sat_label.specs.declared.node.NodeName.{NodeName}
 use Rattle.sat_label.specs.declared.node.NodeName.TheVariants as named
-use Rattle.sat_beat.specs.declared.Beat.{Beat}
 use Rattle.sat_act.specs.declared.answer.Answer.{Answer}
 use Rattle.sat_act.specs.declared.answer.Answer.TheVariants as ans
 use Rattle.sat_act.specs.Deployed.{Deployed}
 use Rattle.sat_act.specs.Limits.{IsDeployment}
 use Rattle.sat_act.specs.Parts.{BeatNote}
-use Rattle.sat_bulk.specs.declared.Payload.{Payload}
 use Rattle.sat_machine.specs.Fits.{fits}
 use Rattle.sat_machine.specs.Reply.{site_answer}
 use Rattle.sat_machine.specs.Look.{best_of, numbers_of}
 use Rattle.sat_machine.specs.State.{SiteState}
-use Rattle.sat_machine.specs.Input as model
 use Rattle.sat_label.specs.Words.{has}
 use Rattle.sat_site.specs.declared.input.SiteInput.{SiteInput}
 use Rattle.sat_site.specs.declared.input.SiteInput.TheVariants as input
-use Rattle.sat_site.specs.Changes.{shape_for}
-use Rattle.sat_site.specs.Inputs.{fits_in, input_of, is_counted, is_sized}
+use Rattle.sat_site.specs.Inputs.{fits_in, input_of, is_sized}
 use Rattle.sat_site.specs.Laws.{EachFits}
 use Rattle.sat_site.specs.Seen.{SiteSeen, IsSite}
 use Rattle.sat_site.specs.Stands.{StandsSite}
@@ -33,12 +29,12 @@ use Rattle.sat_node.specs.declared.kept.CallFault.{CallFault}
 use Rattle.sat_node.specs.declared.kept.Envelope.{Envelope}
 use Rattle.sat_node.specs.Meanings.{replay}
 use Rattle.sat_node.specs.Seen.{NodeSeen, entry, Takes}
-use Rattle.sat_node.specs.Links.{HeldSeen, InSeen, IsOf, OnlyAt, PassedOver, Popped, Pulled, Cleared, front_at, front_list, kept_front, may_pass, passes}
+use Rattle.sat_node.specs.Links.{InSeen, IsOf, OnlyAt, PassedOver, Popped, Pulled, Cleared, front_at, front_list, kept_front, may_pass, passes}
 use Rattle.sat_machines.specs.declared.site_answer.SiteAnswer.{SiteAnswer}
 use Rattle.sat_machines.specs.Acts.{ActSeen}
 use Rattle.sat_machines.specs.Layout.{peer}
-use Rattle.sat_machines.specs.Sites.{AnswersAt, Stands, is_standing, number_of, site_meaning, some_if, taken_on}
-use Rattle.sat_passes.specs.Hearings.{AreHeard, Came, FoundEmpty, GaveNone, Heard, HeardAt, HeardLink, Hears, HearsAll, IsEmptied, IsHeard, IsMessage, Passed, SiteHeld, SiteKept, came_at, came_between, came_over, has_counts, if_taken, input_from, is_heard, is_small, may_take, of_site, on_link, taken_as}
+use Rattle.sat_machines.specs.Sites.{Stands, is_standing, number_of, site_meaning, some_if, taken_on}
+use Rattle.sat_passes.specs.Hearings.{AreHeard, Came, FoundEmpty, GaveNone, Heard, HeardAt, HeardLink, Hears, HearsAll, IsEmptied, IsHeard, IsMessage, Passed, SiteHeld, SiteKept, came_at, came_over, if_taken, input_from, is_heard, is_small, may_take, of_site, on_link, taken_as}
 use Rattle.sat_passes.specs.Members.{Both}
 use Rattle.sat_passes.proofs.Members.{First, first_more, first_none, only_as, only_same, only_then}
 use Rattle.sat_passes.proofs.Drains.{only_know}
@@ -77,13 +73,13 @@ takes_now d name x ks given law dep site st = takes-by d name x (replay (site_me
 peer-one : (i k j : ℕ) → k ≢ j → (peer i j == peer i k) ≡ false
 peer-one i k j differ = elim (cases_Bool (nat_lt j i)) [
   | inl jl ↦ elim (cases_Bool (nat_lt k i)) [
-      | inl kl ↦ rw (jl, kl) (grind (arith, nat_tests))
-      | inr kl ↦ rw (jl, kl) (grind (arith, nat_tests))
-    ]
+    | inl kl ↦ rw (jl, kl) (grind (arith, nat_tests))
+    | inr kl ↦ rw (jl, kl) (grind (arith, nat_tests))
+  ]
   | inr jl ↦ elim (cases_Bool (nat_lt k i)) [
-      | inl kl ↦ rw (jl, kl) (grind (arith, nat_tests))
-      | inr kl ↦ rw (jl, kl) (grind (arith, nat_tests))
-    ]
+    | inl kl ↦ rw (jl, kl) (grind (arith, nat_tests))
+    | inr kl ↦ rw (jl, kl) (grind (arith, nat_tests))
+  ]
 ]
 
 same-one : (n : ℕ) → (n == n) ≡ true
@@ -102,9 +98,9 @@ message-stands d i j k s (body.Payload gear number payload) given e =
 message-stands d i j k s (body.Beat number beat) given e =
     let is : input.BeatIn j number beat ≡ given = cc (e) in
     subst (λ (g : SiteInput). is_standing (site_answer d i s (input_of g)) ≡ true) is (go (best_of d s j)) where
-  go : (o : Option (ℕ × BeatNote)) → is_standing (elim o [ None ↦ if has ◌==◌ (numbers_of s j) number then ans.Again else ans.Taken | Some b ↦ if nat_le number b.0 then ans.Old else (if has ◌==◌ (numbers_of s j) number then ans.Again else ans.Taken) ]) ≡ true
-  go None = bulk-stands (has ◌==◌ (numbers_of s j) number) ans.Again ans.Taken refl refl
-  go (Some b) = bulk-stands (nat_le number b.0) ans.Old (if has ◌==◌ (numbers_of s j) number then ans.Again else ans.Taken) refl (bulk-stands (has ◌==◌ (numbers_of s j) number) ans.Again ans.Taken refl refl)
+      go : (o : Option (ℕ × BeatNote)) → is_standing (elim o [ None ↦ if has ◌==◌ (numbers_of s j) number then ans.Again else ans.Taken | Some b ↦ if nat_le number b.0 then ans.Old else (if has ◌==◌ (numbers_of s j) number then ans.Again else ans.Taken) ]) ≡ true
+      go None = bulk-stands (has ◌==◌ (numbers_of s j) number) ans.Again ans.Taken refl refl
+      go (Some b) = bulk-stands (nat_le number b.0) ans.Old (if has ◌==◌ (numbers_of s j) number then ans.Again else ans.Taken) refl (bulk-stands (has ◌==◌ (numbers_of s j) number) ans.Again ans.Taken refl refl)
 
 taken-here : (j k : ℕ) (b : Body) (given : SiteInput) (a : SiteAnswer) → input_from j b ≡ Some given → taken_on j k given a ≡ Some b
 taken-here j k (body.Label l) given a e = absurd (cc (e))
@@ -230,20 +226,22 @@ take_dealt d (Err f) number may old new k e act is fit takes outs ins = tt
 take_dealt d (Ok a) number may old new k e act is fit takes outs ins =
     let n = max old.node.number number + 1 in
     let taken : taken_as d old.node.name old.node.entries (on_link k e) ≡ Some act.input =
-    ap (if_taken d old.node.name old.node.entries) is.input ∙ ap (λ (b : Bool). some_if b act.input) fit in
-    (e, record {
-      name = takes.name;
-      outs = outs;
-      added = (
-        entry n act a ∷ [],
-        takes.taken,
-        match-some (Hears d old.node.name old.node.entries [] (entry n act a ∷ []))
-        (λ given. (x : SiteKept) × (rest : List SiteKept) × (entry n act a ∷ [] ≡ x ∷ rest) × (x.input ≡ of_site given) × Hears d old.node.name (old.node.entries ++ x ∷ []) [] rest)
-        (taken_as d old.node.name old.node.entries (on_link k e)) act.input taken
-        (entry n act a, [], refl, (λ i. record { by = is.by i; input = act.input }), refl),
-      );
-      ins = only_as (λ j i. Cleared j i × (slice_get old.ins k ≡ Some j)) (Passed (e ∷ [])) k old.ins new.ins (λ j i h. cleared-passed old.ins k e j i is.front h.1 h.0) (only_from Cleared k old.ins new.ins ins);
-    })
+    ap (if_taken d old.node.name old.node.entries) is.input ∙ ap (λ (b : Bool). some_if b act.input) fit in (
+      e,
+      record {
+        name = takes.name;
+        outs = outs;
+        added = (
+          entry n act a ∷ [],
+          takes.taken,
+          match-some (Hears d old.node.name old.node.entries [] (entry n act a ∷ []))
+              (λ given. (x : SiteKept) × (rest : List SiteKept) × (entry n act a ∷ [] ≡ x ∷ rest) × (x.input ≡ of_site given) × Hears d old.node.name (old.node.entries ++ x ∷ []) [] rest)
+              (taken_as d old.node.name old.node.entries (on_link k e)) act.input taken
+              (entry n act a, [], refl, (λ i. record { by = is.by i; input = act.input }), refl),
+        );
+        ins = only_as (λ j i. Cleared j i × (slice_get old.ins k ≡ Some j)) (Passed (e ∷ [])) k old.ins new.ins (λ j i h. cleared-passed old.ins k e j i is.front h.1 h.0) (only_from Cleared k old.ins new.ins ins);
+      },
+    )
 
 may-pass : (j : ℕ) (b : Body) (given : SiteInput) → input_from j b ≡ Some given → may_pass b ≡ true
 may-pass j (body.Label l) given e = absurd (cc (e))
@@ -258,21 +256,23 @@ pub pass_dealt : (d : Deployed) (over : Bool) (old new : SiteHeld) (k : ℕ) (e 
     → may_take d old.node.name old.node.entries act.input ≡ false → new.node ≡ old.node → new.outs ≡ old.outs → OnlyAt k (PassedOver over) old.ins new.ins → (e : Envelope) × HeardAt d k (e ∷ []) old new
 pass_dealt d over old new k e act is fit node outs ins =
     let taken : taken_as d old.node.name old.node.entries (on_link k e) ≡ None =
-    ap (if_taken d old.node.name old.node.entries) is.input ∙ ap (λ (b : Bool). some_if b act.input) fit in
-    (e, record {
-      name = ap (λ (n : NodeSeen SiteSeen ActSeen SiteAnswer). n.name) node;
-      outs = outs;
-      added = (
-        [],
-        ap (λ (n : NodeSeen SiteSeen ActSeen SiteAnswer). n.entries) node ∙ sym (append-nil old.node.entries),
-        match-none (Hears d old.node.name old.node.entries [] [])
-        (λ given. (x : SiteKept) × (rest : List SiteKept) × ([] ≡ x ∷ rest) × (x.input ≡ of_site given) × Hears d old.node.name (old.node.entries ++ x ∷ []) [] rest)
-        (taken_as d old.node.name old.node.entries (on_link k e)) taken refl,
-      );
-      ins = only_as (λ j i. PassedOver over j i × (slice_get old.ins k ≡ Some j)) (Passed (e ∷ [])) k old.ins new.ins
-      (λ j i h. cleared-passed old.ins k e j i is.front h.1 (over-cleared over j i (ap passes (ap kept_front (sym h.1) ∙ is.front) ∙ may-pass (peer (number_of old.node.name) k) e.body act.input is.input) h.0))
-      (only_from (PassedOver over) k old.ins new.ins ins);
-    })
+    ap (if_taken d old.node.name old.node.entries) is.input ∙ ap (λ (b : Bool). some_if b act.input) fit in (
+      e,
+      record {
+        name = ap (λ (n : NodeSeen SiteSeen ActSeen SiteAnswer). n.name) node;
+        outs = outs;
+        added = (
+          [],
+          ap (λ (n : NodeSeen SiteSeen ActSeen SiteAnswer). n.entries) node ∙ sym (append-nil old.node.entries),
+          match-none (Hears d old.node.name old.node.entries [] [])
+              (λ given. (x : SiteKept) × (rest : List SiteKept) × ([] ≡ x ∷ rest) × (x.input ≡ of_site given) × Hears d old.node.name (old.node.entries ++ x ∷ []) [] rest)
+              (taken_as d old.node.name old.node.entries (on_link k e)) taken refl,
+        );
+        ins = only_as (λ j i. PassedOver over j i × (slice_get old.ins k ≡ Some j)) (Passed (e ∷ [])) k old.ins new.ins
+            (λ j i h. cleared-passed old.ins k e j i is.front h.1 (over-cleared over j i (ap passes (ap kept_front (sym h.1) ∙ is.front) ∙ may-pass (peer (number_of old.node.name) k) e.body act.input is.input) h.0))
+            (only_from (PassedOver over) k old.ins new.ins ins);
+      },
+    )
 
 -- ---- messages of one link
 
@@ -293,7 +293,7 @@ passed-then cs ds j i h a b =
         p.0 ++ q.0,
         q.1 ∙ (ap (λ (l : List Envelope). l ++ q.0) p.1 ∙ append_assoc j.link.received p.0 q.0),
         sym (append_assoc (front_list j.front) p.0 q.0)
-        ∙ (ap (λ (l : List Envelope). l ++ q.0) p.2 ∙ (append_assoc cs (front_list i.front) q.0 ∙ (ap (λ (l : List Envelope). cs ++ l) q.2 ∙ sym (append_assoc cs ds (front_list h.front))))),
+            ∙ (ap (λ (l : List Envelope). l ++ q.0) p.2 ∙ (append_assoc cs (front_list i.front) q.0 ∙ (ap (λ (l : List Envelope). cs ++ l) q.2 ∙ sym (append_assoc cs ds (front_list h.front))))),
       );
     }
 
@@ -307,8 +307,8 @@ dealt_then d k cs ds a b c ab bc =
         m.0 ++ n.0,
         n.1 ∙ (ap (λ (l : List SiteKept). l ++ n.0) m.1 ∙ append_assoc a.node.entries m.0 n.0),
         subst (λ (l : List Came). Hears d a.node.name a.node.entries l (m.0 ++ n.0)) (sym (map-append (on_link k) cs ds))
-        (hears-append d a.node.name a.node.entries (map (on_link k) cs) (map (on_link k) ds) m.0 n.0 m.2
-        (subst (λ (x : NodeName × List SiteKept). Hears d x.0 x.1 (map (on_link k) ds) n.0) (λ i. (ab.name i, m.1 i)) n.2)),
+            (hears-append d a.node.name a.node.entries (map (on_link k) cs) (map (on_link k) ds) m.0 n.0 m.2
+            (subst (λ (x : NodeName × List SiteKept). Hears d x.0 x.1 (map (on_link k) ds) n.0) (λ i. (ab.name i, m.1 i)) n.2)),
       );
       ins = only_then (Passed cs) (Passed ds) (Passed (cs ++ ds)) k a.ins b.ins c.ins (passed-then cs ds) ab.ins bc.ins;
     }
@@ -370,7 +370,7 @@ passed-ended cs j m i a b =
     let received : i.link.received ≡ j.link.received ++ p.0 = b.received ∙ p.1 in (
       record { front = b.front; empties = b.empties ∙ ap rise a.empties; popped = (p.0, received) },
       ap (λ (l : List Envelope). front_list j.front ++ drop (length j.link.received) l) received
-      ∙ (ap (λ (l : List Envelope). front_list j.front ++ l) (drop-front j.link.received p.0) ∙ (p.2 ∙ (ap (λ (f : Option Envelope). cs ++ front_list f) b.before ∙ append-nil cs))),
+          ∙ (ap (λ (l : List Envelope). front_list j.front ++ l) (drop-front j.link.received p.0) ∙ (p.2 ∙ (ap (λ (f : Option Envelope). cs ++ front_list f) b.before ∙ append-nil cs))),
     )
 
 pub link_ended : (d : Deployed) (k : ℕ) (cs : List Envelope) (a b c : SiteHeld) → k < length a.ins → HeardAt d k cs a b → FoundEmpty k b c → HeardLink d k a c

@@ -1,5 +1,5 @@
 -- Hops of a serializer.
-use Rattle.std.proofs.Common.{◌≡◌, ◌≢◌, ℕ, ◌+◌, ◌<◌, ◌⊎◌, max, Bool, true, false, List, [], ◌∷◌, ◌++◌, Option, Some, None, Result, Ok, Err, IfOk, IfErr, OnOk, OnErr, slice_get, unwrap_or, if◌then◌else◌, inl, inr, refl, sym, ap, ◌∙◌, subst, append_assoc, arith, ⊎_elim}
+use Rattle.std.proofs.Common.{◌≡◌, ◌≢◌, ℕ, ◌+◌, max, Bool, true, false, List, [], ◌∷◌, ◌++◌, Option, Some, None, Result, Ok, Err, IfOk, slice_get, unwrap_or, if◌then◌else◌, inl, inr, refl, sym, ap, ◌∙◌, subst, append_assoc}
 use Rattle.std.proofs.lemmas.Bool.{cases_Bool}
 use Rattle.std.proofs.lemmas.List.{append-nil}
 use Rattle.sat_label.specs.declared.label.Label.{Label}
@@ -8,7 +8,6 @@ use Rattle.sat_label.specs.declared.node.NodeName.{NodeName}
 use Rattle.sat_label.specs.declared.node.NodeName.TheVariants as named
 use Rattle.sat_label.specs.Order.{node_eq}
 use Rattle.sat_label.proofs.SameNodes.{same-node, node-self}
-use Rattle.sat_tree.specs.Shape.{TreeShape}
 use Rattle.sat_tree.specs.Cut.{neighbours}
 use Rattle.sat_act.specs.declared.answer.Answer.{Answer}
 use Rattle.sat_act.specs.declared.answer.Answer.TheVariants as ans
@@ -20,17 +19,16 @@ use Rattle.sat_node.specs.declared.kept.Kept.{Kept}
 use Rattle.sat_node.specs.declared.kept.Body.{Body}
 use Rattle.sat_node.specs.declared.kept.Body.TheVariants as body
 use Rattle.sat_node.specs.declared.kept.CallFault.{CallFault}
-use Rattle.sat_node.specs.declared.kept.CallFault.TheVariants as fault
 use Rattle.sat_node.specs.declared.kept.Envelope.{Envelope}
 use Rattle.sat_node.specs.Meanings.{Meaning, state_from, replay}
-use Rattle.sat_node.specs.Seen.{NodeSeen, entry, last_number, Takes}
-use Rattle.sat_node.specs.Links.{HeldSeen, InSeen, IsOf}
+use Rattle.sat_node.specs.Seen.{NodeSeen, entry, Takes}
+use Rattle.sat_node.specs.Links.{IsOf}
 use Rattle.sat_machines.specs.declared.serial_act.SerialAct.{SerialAct}
 use Rattle.sat_machines.specs.declared.serial_act.SerialAct.TheVariants as given
 use Rattle.sat_machines.specs.declared.serial_act.SerialAnswer.{SerialAnswer}
 use Rattle.sat_machines.specs.Serials.{SerialSeen, SerialStands, SerialAnswers, came_over, dead_after, epoch_in, hop_takes, serial_answer, serial_in, serial_meaning, serial_takes_in}
 use Rattle.sat_machines.specs.Sites.{some_if}
-use Rattle.sat_passes.specs.Relays.{SerialHeld, AreHops, Hops, IsDrained, SameEmpties, SameSerial, hop_at, hop_from, hop_with, is_hop}
+use Rattle.sat_passes.specs.Relays.{SerialHeld, AreHops, Hops, SameSerial, hop_at, hop_from, hop_with}
 use Rattle.sat_passes.proofs.Neighbours.{neighbours_apart}
 
 -- ---- which hop a front is

@@ -1,6 +1,6 @@
 -- What a site's node sends.
-use Rattle.std.proofs.Common.{◌≡◌, ◌≢◌, ℕ, ◌+◌, ◌-◌, ◌^◌, ◌<◌, ◌≤◌, ◌==◌, ◌&&◌, ◌||◌, ◌⊎◌, max, not, nat_lt, Bool, true, false, List, [], ◌∷◌, ◌++◌, length, Option, Some, None, Result, Ok, Err, IfOk, IfErr, slice_get, inl, inr, refl, sym, ap, ◌∙◌, subst, append_assoc, arith, ⊎_elim}
-use Rattle.std.proofs.lemmas.Bool.{and_parts, cases_Bool, cases_eq, lt-ltb}
+use Rattle.std.proofs.Common.{◌≡◌, ◌≢◌, ℕ, ◌+◌, ◌<◌, ◌==◌, ◌&&◌, ◌||◌, max, not, Bool, true, false, List, [], ◌∷◌, ◌++◌, Option, Some, None, Result, Ok, Err, IfOk, IfErr, inl, inr, refl, sym, ap, ◌∙◌, subst, append_assoc, arith, ⊎_elim}
+use Rattle.std.proofs.lemmas.Bool.{and_parts, cases_eq, lt-ltb}
 use Rattle.std.proofs.lemmas.Bool.Decides.{nat_tests}
 use Rattle.std.proofs.lemmas.List.{append-nil}
 use Rattle.sat_label.specs.declared.node.NodeName.{NodeName}
@@ -11,7 +11,6 @@ use Rattle.sat_label.proofs.Orders.{same-point}
 use Rattle.sat_beat.specs.declared.Beat.{Beat}
 use Rattle.sat_act.specs.declared.answer.Answer.{Answer}
 use Rattle.sat_act.specs.declared.answer.Answer.TheVariants as ans
-use Rattle.sat_act.specs.declared.answer.Refusal.TheVariants as why
 use Rattle.sat_act.specs.Deployed.{Deployed}
 use Rattle.sat_act.specs.Limits.{IsDeployment}
 use Rattle.sat_act.specs.Settling.{is_done}
@@ -19,7 +18,7 @@ use Rattle.sat_machine.specs.Reply.{site_answer}
 use Rattle.sat_machine.specs.State.{SiteState}
 use Rattle.sat_site.specs.declared.input.SiteInput.{SiteInput}
 use Rattle.sat_site.specs.declared.input.SiteInput.TheVariants as input
-use Rattle.sat_site.specs.Changes.{beat_for, made_for, shape_for}
+use Rattle.sat_site.specs.Changes.{beat_for, made_for}
 use Rattle.sat_site.specs.Inputs.{fits_here, fits_in, input_of}
 use Rattle.sat_site.specs.Laws.{EachStep}
 use Rattle.sat_site.specs.Seen.{SiteSeen, IsSite}
@@ -28,7 +27,7 @@ use Rattle.sat_node.specs.declared.kept.CallFault.{CallFault}
 use Rattle.sat_node.specs.declared.kept.CallFault.TheVariants as fault
 use Rattle.sat_node.specs.Meanings.{replay}
 use Rattle.sat_node.specs.Seen.{NodeSeen, entry, last_number, Takes}
-use Rattle.sat_node.specs.Links.{HeldSeen, IsLocal}
+use Rattle.sat_node.specs.Links.{IsLocal}
 use Rattle.sat_machines.specs.declared.site_answer.SiteAnswer.{SiteAnswer}
 use Rattle.sat_machines.specs.Acts.{ActSeen}
 use Rattle.sat_machines.specs.Layout.{peer}

@@ -1,6 +1,5 @@
 -- The places of the ends of two sites and one serializer.
-use Rattle.std.proofs.Common.{◌≡◌, ℕ, zero, suc, List, [], ◌∷◌, None, Some, slice_get, refl, ap, ◌∙◌, subst}
-use Rattle.sat_label.specs.declared.node.NodeName.{NodeName}
+use Rattle.std.proofs.Common.{◌≡◌, zero, suc, List, [], ◌∷◌, None, Some, refl, ap, ◌∙◌, subst}
 use Rattle.sat_label.specs.declared.node.NodeName.TheVariants as named
 use Rattle.sat_tree.specs.Shape.{TreeShape}
 use Rattle.sat_tree.specs.Cut.{hangs_on, is_edge, neighbours, over, parent_of, seat_of}

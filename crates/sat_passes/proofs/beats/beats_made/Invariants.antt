@@ -1,4 +1,4 @@
-use Rattle.std.proofs.Common.{◌≡◌, ◌-◌, ◌^◌, ◌<◌, ◌≤◌, length}
+use Rattle.std.proofs.Common.{◌-◌, ◌^◌, ◌<◌, ◌≤◌, length}
 use Rattle.sat_site.specs.Changes.{made_for}
 use Rattle.sat_passes.proofs.beats.beats_made.Given as goal
 

@@ -1,4 +1,3 @@
-use Rattle.std.proofs.Common.{◌≡◌}
 use Rattle.sat_machines.specs.Sites.{site_meaning}
 use Rattle.sat_passes.proofs.Hearing.{message_is_of, take_dealt, take_heard}
 use Rattle.sat_passes.proofs.Faults.{take_fails}
