@@ -1,0 +1,53 @@
+-- One column, serializer or seat more.
+use Rattle.std.proofs.Common.{◌≡◌, ℕ, ◌+◌, List, ◌++◌, sym, ap, ◌∙◌, add-one}
+use Rattle.std.proofs.lemmas.List.{append-nil, append_assoc}
+use Rattle.sat_label.specs.declared.node.NodeId.TheVariants.{Site}
+use Rattle.sat_label.specs.Text.{node_text}
+use Rattle.sat_tree.specs.Shape.{TreeShape}
+use Rattle.sat_act.specs.Deployed.{Deployed}
+use Rattle.sat_draw.specs.declared.element.Element.{Element}
+use Rattle.sat_draw.specs.Columns.{site_column}
+use Rattle.sat_draw.specs.Head.{lane, site_lanes, serializer_elements, serializers_elements, seat_elements, seats_elements}
+
+-- what is added behind a part of a list
+one-more : (old mid new part piece whole : List Element) → new ≡ mid ++ piece → mid ≡ old ++ part → whole ≡ part ++ piece → new ≡ old ++ whole
+one-more old mid new part piece whole added so-far next =
+    added ∙ ap (λ (x : List Element). x ++ piece) so-far ∙ append_assoc old part piece ∙ ap (λ (x : List Element). old ++ x) (sym next)
+
+pub no_lanes : (old : List Element) (d : Deployed) (top bottom : ℕ) → old ≡ old ++ site_lanes d top bottom 0
+unfolding site_lanes
+no_lanes old d top bottom = sym (append-nil old)
+
+next-lane : (d : Deployed) (top bottom i : ℕ) → site_lanes d top bottom (i + 1) ≡ site_lanes d top bottom i ++ lane top bottom (site_column d i) (node_text (Site i))
+unfolding site_lanes
+next-lane d top bottom i = ap (site_lanes d top bottom) (add-one i)
+
+pub more_lanes : (old mid new : List Element) (d : Deployed) (top bottom i column : ℕ) (name : List ℕ) → new ≡ mid ++ lane top bottom column name → column ≡ site_column d i → name ≡ node_text (Site i) → mid ≡ old ++ site_lanes d top bottom i → new ≡ old ++ site_lanes d top bottom (i + 1)
+more_lanes old mid new d top bottom i column name added at named so-far =
+    one-more old mid new _ (lane top bottom (site_column d i) (node_text (Site i))) _
+    (added ∙ ap (λ (c : ℕ). mid ++ lane top bottom c name) at ∙ ap (λ (n : List ℕ). mid ++ lane top bottom (site_column d i) n) named)
+    so-far (next-lane d top bottom i)
+
+pub no_serializers : (old : List Element) (d : Deployed) (top bottom epoch y : ℕ) (tree : TreeShape) → old ≡ old ++ serializers_elements d top bottom epoch y tree 0
+unfolding serializers_elements
+no_serializers old d top bottom epoch y tree = sym (append-nil old)
+
+next-serializer : (d : Deployed) (top bottom epoch y : ℕ) (tree : TreeShape) (z : ℕ) → serializers_elements d top bottom epoch y tree (z + 1) ≡ serializers_elements d top bottom epoch y tree z ++ serializer_elements d top bottom epoch y tree z
+unfolding serializers_elements
+next-serializer d top bottom epoch y tree z = ap (serializers_elements d top bottom epoch y tree) (add-one z)
+
+pub more_serializers : (old mid new : List Element) (d : Deployed) (top bottom epoch y : ℕ) (tree : TreeShape) (z : ℕ) → new ≡ mid ++ serializer_elements d top bottom epoch y tree z → mid ≡ old ++ serializers_elements d top bottom epoch y tree z → new ≡ old ++ serializers_elements d top bottom epoch y tree (z + 1)
+more_serializers old mid new d top bottom epoch y tree z added so-far =
+    one-more old mid new _ _ _ added so-far (next-serializer d top bottom epoch y tree z)
+
+pub no_seats : (old : List Element) (d : Deployed) (epoch y : ℕ) (tree : TreeShape) → old ≡ old ++ seats_elements d epoch y tree 0
+unfolding seats_elements
+no_seats old d epoch y tree = sym (append-nil old)
+
+next-seat : (d : Deployed) (epoch y : ℕ) (tree : TreeShape) (i : ℕ) → seats_elements d epoch y tree (i + 1) ≡ seats_elements d epoch y tree i ++ seat_elements d epoch y tree i
+unfolding seats_elements
+next-seat d epoch y tree i = ap (seats_elements d epoch y tree) (add-one i)
+
+pub more_seats : (old mid new : List Element) (d : Deployed) (epoch y : ℕ) (tree : TreeShape) (i : ℕ) → new ≡ mid ++ seat_elements d epoch y tree i → mid ≡ old ++ seats_elements d epoch y tree i → new ≡ old ++ seats_elements d epoch y tree (i + 1)
+more_seats old mid new d epoch y tree i added so-far =
+    one-more old mid new _ _ _ added so-far (next-seat d epoch y tree i)

@@ -1,0 +1,217 @@
+-- Each act is drawn once.
+use Rattle.std.proofs.Common.{◌≡◌, ℕ, zero, suc, ◌+◌, ◌-◌, Bool, true, false, List, [], ◌∷◌, ◌++◌, length, codes, refl, ap, ◌∙◌}
+use Rattle.std.specs.Prelude.{filter, Option, Some, None, if◌then◌else◌}
+use Rattle.std.specs.Fmt.{decimal}
+use Rattle.std.proofs.lemmas.List.{append-nil}
+use Rattle.std.proofs.lemmas.List.Elements.{filter-append}
+use Rattle.sat_label.specs.declared.node.NodeId.TheVariants.{Site, Serializer}
+use Rattle.sat_label.specs.Text.{node_text}
+use Rattle.sat_tree.specs.Shape.{TreeShape}
+use Rattle.sat_tree.specs.Cut.{parent_of, seat_of}
+use Rattle.sat_act.specs.declared.deployment.Plan.{Plan}
+use Rattle.sat_act.specs.declared.deployment.Plan.TheVariants as plan
+use Rattle.sat_act.specs.declared.entry.Entry.{Entry}
+use Rattle.sat_act.specs.declared.act.Act.{Act}
+use Rattle.sat_act.specs.Deployed.{Deployed}
+use Rattle.sat_act.specs.Histories.{listed}
+use Rattle.sat_act.specs.Settling.{is_done}
+use Rattle.sat_draw.specs.declared.element.Ink.{Ink}
+use Rattle.sat_draw.specs.declared.element.Ink.TheVariants as ink
+use Rattle.sat_draw.specs.declared.element.Spot.{Spot}
+use Rattle.sat_draw.specs.declared.element.Element.{Element}
+use Rattle.sat_draw.specs.declared.element.Element.TheVariants.{Line, Dot, Word}
+use Rattle.sat_draw.specs.declared.trail.Trail.{Trail}
+use Rattle.sat_draw.specs.declared.trail.Coming.{Coming}
+use Rattle.sat_draw.specs.declared.geometry.TheConstants.{TREES}
+use Rattle.sat_draw.specs.Columns.{columns, column_x, plan_height, site_column, serializer_column, rows_top, row_y}
+use Rattle.sat_draw.specs.Trails.{comes_from}
+use Rattle.sat_draw.specs.Rows.{spot_at, spot_of, last_spot, arrow, arrows, is_across, rule, mark_of, answer_of, act_of, ways_of, marks_of, ways, marks}
+use Rattle.sat_draw.specs.Head.{lane, node, site_lanes, branch, serializer_spot, site_spot, epoch_name, serializer_elements, serializers_elements, seat_elements, seats_elements, tree_elements, plan_elements, plans_elements, head}
+use Rattle.sat_draw.specs.Drawing.{elements}
+use Rattle.sat_draw.specs.Laws.{is_done_mark, is_refused_mark, done_mark, refused_mark, EachIsDrawnOnce}
+
+-- a test that nothing passes that stands behind the rows
+pub record IsOfRows (p : Element → Bool) : Type 0 where
+  pub lanes : (a b : Spot) → p (Line ink.Lane a b) ≡ false
+  pub edges : (a b : Spot) → p (Line ink.Edge a b) ≡ false
+  pub rules : (a b : Spot) → p (Line ink.Rule a b) ≡ false
+  pub words : (i : Ink) (a : Spot) (text : List ℕ) → p (Word i a text) ≡ false
+  pub nodes : (a : Spot) → p (Dot ink.Node a) ≡ false
+
+-- and no line
+record IsOfActs (p : Element → Bool) : Type 0 where
+  rows : IsOfRows p
+  lines : (i : Ink) (a b : Spot) → p (Line i a b) ≡ false
+
+-- no element of a list passes
+pub record Free (p : Element → Bool) (xs : List Element) : Type 0 where
+  pub free : filter p xs ≡ []
+
+pub nothing : (p : Element → Bool) → Free p []
+nothing p = record { free = refl }
+
+pub skip : (p : Element → Bool) (x : Element) (xs : List Element) → p x ≡ false → Free p xs → Free p (x ∷ xs)
+skip p x xs e rest = record { free = ap (λ (b : Bool). if b then x ∷ filter p xs else filter p xs) e ∙ rest.free }
+
+pub both : (p : Element → Bool) (xs ys : List Element) → Free p xs → Free p ys → Free p (xs ++ ys)
+both p xs ys one two = record { free = filter-append p xs ys ∙ (ap (λ (zs : List Element). zs ++ filter p ys) one.free ∙ two.free) }
+
+-- ---- none above the rows
+
+lane-free : (p : Element → Bool) → IsOfRows p → (top bottom column : ℕ) (name : List ℕ) → Free p (lane top bottom column name)
+lane-free p is top bottom column name =
+    skip p (Line ink.Lane (spot_at (column_x column) (top - 24)) (spot_at (column_x column) bottom)) (Word ink.Name (spot_at (column_x column) (top - 30)) name ∷ []) (is.lanes _ _)
+    (skip p (Word ink.Name (spot_at (column_x column) (top - 30)) name) [] (is.words _ _ _) (nothing p))
+
+site_lanes-free : (p : Element → Bool) → IsOfRows p → (d : Deployed) (top bottom n : ℕ) → Free p (site_lanes d top bottom n)
+unfolding site_lanes
+site_lanes-free p is d top bottom zero = nothing p
+site_lanes-free p is d top bottom (suc i) =
+    both p (site_lanes d top bottom i) (lane top bottom (site_column d i) (node_text (Site i)))
+    (site_lanes-free p is d top bottom i) (lane-free p is top bottom (site_column d i) (node_text (Site i)))
+
+branch-free : (p : Element → Bool) → IsOfRows p → (d : Deployed) (epoch y z : ℕ) (o : Option ℕ) → Free p (branch d epoch y z o)
+branch-free p is d epoch y z None = nothing p
+branch-free p is d epoch y z (Some q) =
+    skip p (Line ink.Edge (serializer_spot d epoch y z) (serializer_spot d epoch y q)) [] (is.edges _ _) (nothing p)
+
+node-free : (p : Element → Bool) → IsOfRows p → (at : Spot) (name : List ℕ) → Free p (node at name)
+node-free p is at name =
+    skip p (Dot ink.Node at) (Word ink.Epoch (spot_at (at.x + 7) (at.y - 5)) name ∷ []) (is.nodes at)
+    (skip p (Word ink.Epoch (spot_at (at.x + 7) (at.y - 5)) name) [] (is.words _ _ _) (nothing p))
+
+serializer-free : (p : Element → Bool) → IsOfRows p → (d : Deployed) (top bottom epoch y : ℕ) (tree : TreeShape) (z : ℕ) → Free p (serializer_elements d top bottom epoch y tree z)
+serializer-free p is d top bottom epoch y tree z =
+    let here = serializer_spot d epoch y z in
+    let name = node_text (Serializer z) in
+    let column = serializer_column d epoch z in
+    let title = decimal epoch ++ 32 ∷ node_text (Serializer z) in
+    both p (branch d epoch y z (parent_of tree.parents z)) (node here name ++ lane top bottom column title)
+    (branch-free p is d epoch y z (parent_of tree.parents z))
+    (both p (node here name) (lane top bottom column title) (node-free p is here name) (lane-free p is top bottom column title))
+
+serializers-free : (p : Element → Bool) → IsOfRows p → (d : Deployed) (top bottom epoch y : ℕ) (tree : TreeShape) (n : ℕ) → Free p (serializers_elements d top bottom epoch y tree n)
+unfolding serializers_elements
+serializers-free p is d top bottom epoch y tree zero = nothing p
+serializers-free p is d top bottom epoch y tree (suc z) =
+    both p (serializers_elements d top bottom epoch y tree z) (serializer_elements d top bottom epoch y tree z)
+    (serializers-free p is d top bottom epoch y tree z) (serializer-free p is d top bottom epoch y tree z)
+
+seat-free : (p : Element → Bool) → IsOfRows p → (d : Deployed) (epoch y : ℕ) (tree : TreeShape) (i : ℕ) → Free p (seat_elements d epoch y tree i)
+seat-free p is d epoch y tree i =
+    skip p (Line ink.Edge (site_spot d y tree i) (serializer_spot d epoch y (seat_of tree i))) (node (site_spot d y tree i) (node_text (Site i)))
+    (is.edges _ _) (node-free p is (site_spot d y tree i) (node_text (Site i)))
+
+seats-free : (p : Element → Bool) → IsOfRows p → (d : Deployed) (epoch y : ℕ) (tree : TreeShape) (n : ℕ) → Free p (seats_elements d epoch y tree n)
+unfolding seats_elements
+seats-free p is d epoch y tree zero = nothing p
+seats-free p is d epoch y tree (suc i) =
+    both p (seats_elements d epoch y tree i) (seat_elements d epoch y tree i) (seats-free p is d epoch y tree i) (seat-free p is d epoch y tree i)
+
+tree-free : (p : Element → Bool) → IsOfRows p → (d : Deployed) (top bottom epoch y : ℕ) (q : Plan) → Free p (tree_elements d top bottom epoch y q)
+tree-free p is d top bottom epoch y plan.Stamp = nothing p
+tree-free p is d top bottom epoch y (plan.Tree tree) =
+    both p (serializers_elements d top bottom epoch y tree (length tree.parents)) (seats_elements d epoch y tree (length tree.seats))
+    (serializers-free p is d top bottom epoch y tree (length tree.parents)) (seats-free p is d epoch y tree (length tree.seats))
+
+plans-free : (p : Element → Bool) → IsOfRows p → (d : Deployed) (top bottom epoch y : ℕ) (ps : List Plan) → Free p (plans_elements d top bottom epoch y ps)
+unfolding plans_elements
+plans-free p is d top bottom epoch y [] = nothing p
+plans-free p is d top bottom epoch y (q ∷ ps) =
+    both p (plan_elements d top bottom epoch y q) (plans_elements d top bottom (epoch + 1) (y + plan_height q) ps)
+    (skip p (Word ink.Epoch (spot_at 8 (y + 24)) (epoch_name epoch q)) (tree_elements d top bottom epoch y q) (is.words _ _ _) (tree-free p is d top bottom epoch y q))
+    (plans-free p is d top bottom (epoch + 1) (y + plan_height q) ps)
+
+pub head-free : (p : Element → Bool) → IsOfRows p → (d : Deployed) (count : ℕ) → Free p (head d count)
+unfolding head
+head-free p is d count =
+    let top = rows_top d in
+    let bottom = row_y d count in
+    both p (lane top bottom 0 (codes "outside")) (site_lanes d top bottom d.sites ++ plans_elements d top bottom 1 TREES d.plans)
+    (lane-free p is top bottom 0 (codes "outside"))
+    (both p (site_lanes d top bottom d.sites) (plans_elements d top bottom 1 TREES d.plans) (site_lanes-free p is d top bottom d.sites) (plans-free p is d top bottom 1 TREES d.plans))
+
+-- ---- one in each row
+
+pub rule-free : (p : Element → Bool) → IsOfRows p → (d : Deployed) (a : Act) (here : Spot) → Free p (rule d a here)
+rule-free p is d a here = go (is_across a)
+  where
+    go : (b : Bool) → Free p (if b then Line ink.Rule here (spot_at (column_x (columns d - 1)) here.y) ∷ [] else [])
+    go true = skip p (Line ink.Rule here (spot_at (column_x (columns d - 1)) here.y)) [] (is.rules here (spot_at (column_x (columns d - 1)) here.y)) (nothing p)
+    go false = nothing p
+
+arrow-free : (p : Element → Bool) → IsOfActs p → (i : Ink) (here : Spot) (o : Option Spot) → Free p (arrow i here o)
+arrow-free p is i here None = nothing p
+arrow-free p is i here (Some there) = skip p (Line i there here) [] (is.lines i there here) (nothing p)
+
+arrows-free : (p : Element → Bool) → IsOfActs p → (found : Trail → Option Spot) (here : Spot) (cs : List Coming) → Free p (arrows found here cs)
+arrows-free p is found here [] = nothing p
+arrows-free p is found here (c ∷ cs) =
+    both p (arrow c.ink here (found c.trail)) (arrows found here cs) (arrow-free p is c.ink here (found c.trail)) (arrows-free p is found here cs)
+
+ways-free : (p : Element → Bool) → IsOfActs p → (d : Deployed) (h : List Entry) → Free p (ways d h)
+unfolding ways
+ways-free p is d [] = nothing p
+ways-free p is d (entry ∷ h) =
+    let here = spot_of d h entry in
+    both p (ways d h) (ways_of d h entry) (ways-free p is d h)
+    (both p (rule d entry.act here) (arrows (last_spot d h) here (comes_from entry.act entry.answer)) (rule-free p is.rows d entry.act here) (arrows-free p is (last_spot d h) here (comes_from entry.act entry.answer)))
+
+-- the mark alone
+one-mark : (p : Element → Bool) → IsOfActs p → (d : Deployed) (h : List Entry) (entry : Entry) → filter p (marks_of d h entry) ≡ filter p (mark_of (spot_of d h entry) entry ∷ [])
+one-mark p is d h entry =
+    let here = spot_of d h entry in
+    let mark = mark_of here entry in
+    let words = answer_of d (length h) here entry ∷ act_of d here entry ∷ [] in
+    filter-append p (mark ∷ []) words
+    ∙ (ap (λ (xs : List Element). filter p (mark ∷ []) ++ xs) (skip p (answer_of d (length h) here entry) (act_of d here entry ∷ []) (is.rows.words _ _ _) (skip p (act_of d here entry) [] (is.rows.words _ _ _) (nothing p))).free
+    ∙ append-nil (filter p (mark ∷ [])))
+
+-- so the marks that pass are those that the entries are to have
+marks-listed : (p : Element → Bool) → IsOfActs p → (d : Deployed) (f : List Entry → Entry → Option Element)
+    → ((h : List Entry) (entry : Entry) → filter p (mark_of (spot_of d h entry) entry ∷ []) ≡ elim (f h entry) [ None ↦ [] | Some x ↦ x ∷ [] ])
+    → (h : List Entry) → filter p (marks d h) ≡ listed f h
+unfolding marks listed
+marks-listed p is d f each [] = refl
+marks-listed p is d f each (entry ∷ h) =
+    filter-append p (marks d h) (marks_of d h entry)
+    ∙ (ap (λ (xs : List Element). xs ++ filter p (marks_of d h entry)) (marks-listed p is d f each h)
+    ∙ ap (λ (xs : List Element). listed f h ++ xs) (one-mark p is d h entry ∙ each h entry))
+
+all-marks : (p : Element → Bool) → IsOfActs p → (d : Deployed) (f : List Entry → Entry → Option Element)
+    → ((h : List Entry) (entry : Entry) → filter p (mark_of (spot_of d h entry) entry ∷ []) ≡ elim (f h entry) [ None ↦ [] | Some x ↦ x ∷ [] ])
+    → (h : List Entry) → filter p (elements d h) ≡ listed f h
+unfolding elements
+all-marks p is d f each h =
+    filter-append p (head d (length h)) (ways d h ++ marks d h)
+    ∙ (ap (λ (xs : List Element). xs ++ filter p (ways d h ++ marks d h)) (head-free p is.rows d (length h)).free
+    ∙ (filter-append p (ways d h) (marks d h)
+    ∙ (ap (λ (xs : List Element). xs ++ filter p (marks d h)) (ways-free p is d h).free ∙ marks-listed p is d f each h)))
+
+-- ---- acts that were done, and acts that changed nothing
+
+of-done : IsOfActs is_done_mark
+of-done = record { rows = record { lanes = λ a b. refl; edges = λ a b. refl; rules = λ a b. refl; words = λ i a text. refl; nodes = λ a. refl }; lines = λ i a b. refl }
+
+of-refused : IsOfActs is_refused_mark
+of-refused = record { rows = record { lanes = λ a b. refl; edges = λ a b. refl; rules = λ a b. refl; words = λ i a text. refl; nodes = λ a. refl }; lines = λ i a b. refl }
+
+done-each : (d : Deployed) (h : List Entry) (entry : Entry) → filter is_done_mark (mark_of (spot_of d h entry) entry ∷ []) ≡ elim (done_mark d h entry) [ None ↦ [] | Some x ↦ x ∷ [] ]
+done-each d h entry = go (is_done entry.answer)
+  where
+    go : (b : Bool) → filter is_done_mark (Dot (if b then ink.Done else ink.Refused) (spot_of d h entry) ∷ []) ≡ elim (if b then Some (Dot ink.Done (spot_of d h entry)) else None) [ None ↦ [] | Some x ↦ x ∷ [] ]
+    go true = refl
+    go false = refl
+
+refused-each : (d : Deployed) (h : List Entry) (entry : Entry) → filter is_refused_mark (mark_of (spot_of d h entry) entry ∷ []) ≡ elim (refused_mark d h entry) [ None ↦ [] | Some x ↦ x ∷ [] ]
+refused-each d h entry = go (is_done entry.answer)
+  where
+    go : (b : Bool) → filter is_refused_mark (Dot (if b then ink.Done else ink.Refused) (spot_of d h entry) ∷ []) ≡ elim (if b then None else Some (Dot ink.Refused (spot_of d h entry))) [ None ↦ [] | Some x ↦ x ∷ [] ]
+    go true = refl
+    go false = refl
+
+pub each_once : (d : Deployed) (h : List Entry) → EachIsDrawnOnce d h
+each_once d h = record {
+  done = all-marks is_done_mark of-done d (done_mark d) (done-each d) h;
+  refused = all-marks is_refused_mark of-refused d (refused_mark d) (refused-each d) h;
+}

@@ -1,0 +1,100 @@
+-- What stands above and behind the rows: the columns with their names, and the tree of each epoch.
+use Rattle.std.specs.Prelude.{ℕ, zero, suc, ◌+◌, ◌-◌, ◌*◌, List, [], ◌∷◌, ◌++◌, length, Option, Some, None, codes}
+use Rattle.std.specs.Fmt.{decimal}
+use Rattle.sat_label.specs.declared.node.NodeId.TheVariants.{Site, Serializer}
+use Rattle.sat_label.specs.Text.{node_text}
+use Rattle.sat_tree.specs.Shape.{TreeShape}
+use Rattle.sat_tree.specs.Cut.{parent_of, seat_of}
+use Rattle.sat_act.specs.declared.deployment.Plan.{Plan}
+use Rattle.sat_act.specs.declared.deployment.Plan.TheVariants as plan
+use Rattle.sat_act.specs.Deployed.{Deployed}
+use Rattle.sat_draw.specs.declared.element.Ink.TheVariants as ink
+use Rattle.sat_draw.specs.declared.element.Spot.{Spot}
+use Rattle.sat_draw.specs.declared.element.Element.{Element}
+use Rattle.sat_draw.specs.declared.element.Element.TheVariants.{Line, Dot, Word}
+use Rattle.sat_draw.specs.declared.geometry.TheConstants.{TREES, STEP}
+use Rattle.sat_draw.specs.Columns.{site_column, serializer_column, column_x, plan_height, rows_top, row_y}
+use Rattle.sat_draw.specs.Rows.{spot_at}
+
+-- a column from above the first row to below the last one, with its name
+abbrev pub lane : ℕ → ℕ → ℕ → List ℕ → List Element
+lane top bottom column name =
+    Line ink.Lane (spot_at (column_x column) (top - 24)) (spot_at (column_x column) bottom)
+    ∷ Word ink.Name (spot_at (column_x column) (top - 30)) name ∷ []
+
+-- the columns of the first n sites
+unfoldable pub site_lanes : Deployed → ℕ → ℕ → ℕ → List Element
+unfolding node_text
+site_lanes d top bottom zero = []
+site_lanes d top bottom (suc i) = site_lanes d top bottom i ++ lane top bottom (site_column d i) (node_text (Site i))
+
+-- ---- an epoch's tree, drawn from y downwards: the root above, each serializer below the one it hangs on, the sites at the bottom
+
+abbrev pub tree_y : ℕ → ℕ → ℕ
+tree_y y place = y + 20 + place * STEP
+
+abbrev pub serializer_spot : Deployed → ℕ → ℕ → ℕ → Spot
+serializer_spot d epoch y z = spot_at (column_x (serializer_column d epoch z)) (tree_y y z)
+
+abbrev pub site_spot : Deployed → ℕ → TreeShape → ℕ → Spot
+site_spot d y tree i = spot_at (column_x (site_column d i)) (tree_y y (length tree.parents))
+
+-- a node and its name
+abbrev pub node : Spot → List ℕ → List Element
+node at name = Dot ink.Node at ∷ Word ink.Epoch (spot_at (at.x + 7) (at.y - 5)) name ∷ []
+
+-- the edge from a serializer to the one that it hangs on
+abbrev pub branch : Deployed → ℕ → ℕ → ℕ → Option ℕ → List Element
+branch d epoch y z None = []
+branch d epoch y z (Some p) = Line ink.Edge (serializer_spot d epoch y z) (serializer_spot d epoch y p) ∷ []
+
+-- what is drawn of a serializer: its edge, its node, and its column
+abbrev pub serializer_elements : Deployed → ℕ → ℕ → ℕ → ℕ → TreeShape → ℕ → List Element
+serializer_elements d top bottom epoch y tree z =
+    branch d epoch y z (parent_of tree.parents z)
+    ++ (node (serializer_spot d epoch y z) (node_text (Serializer z))
+    ++ lane top bottom (serializer_column d epoch z) (decimal epoch ++ 32 ∷ node_text (Serializer z)))
+
+unfoldable pub serializers_elements : Deployed → ℕ → ℕ → ℕ → ℕ → TreeShape → ℕ → List Element
+unfolding node_text parent_of
+serializers_elements d top bottom epoch y tree zero = []
+serializers_elements d top bottom epoch y tree (suc z) =
+    serializers_elements d top bottom epoch y tree z ++ serializer_elements d top bottom epoch y tree z
+
+-- what is drawn of a site in a tree: its edge and its node
+abbrev pub seat_elements : Deployed → ℕ → ℕ → TreeShape → ℕ → List Element
+seat_elements d epoch y tree i =
+    Line ink.Edge (site_spot d y tree i) (serializer_spot d epoch y (seat_of tree i)) ∷ node (site_spot d y tree i) (node_text (Site i))
+
+unfoldable pub seats_elements : Deployed → ℕ → ℕ → TreeShape → ℕ → List Element
+unfolding node_text seat_of
+seats_elements d epoch y tree zero = []
+seats_elements d epoch y tree (suc i) = seats_elements d epoch y tree i ++ seat_elements d epoch y tree i
+
+-- the name of an epoch, and how it goes where it has no tree
+abbrev pub epoch_name : ℕ → Plan → List ℕ
+epoch_name epoch plan.Stamp = codes "epoch " ++ (decimal epoch ++ codes ": by timestamps, without a tree")
+epoch_name epoch (plan.Tree tree) = codes "epoch " ++ decimal epoch
+
+abbrev pub tree_elements : Deployed → ℕ → ℕ → ℕ → ℕ → Plan → List Element
+tree_elements d top bottom epoch y plan.Stamp = []
+tree_elements d top bottom epoch y (plan.Tree tree) =
+    serializers_elements d top bottom epoch y tree (length tree.parents) ++ seats_elements d epoch y tree (length tree.seats)
+
+abbrev pub plan_elements : Deployed → ℕ → ℕ → ℕ → ℕ → Plan → List Element
+plan_elements d top bottom epoch y p =
+    Word ink.Epoch (spot_at 8 (y + 24)) (epoch_name epoch p) ∷ tree_elements d top bottom epoch y p
+
+-- those of the plans from an epoch on, one below the other
+unfoldable pub plans_elements : Deployed → ℕ → ℕ → ℕ → ℕ → List Plan → List Element
+unfolding serializers_elements seats_elements
+plans_elements d top bottom epoch y [] = []
+plans_elements d top bottom epoch y (p ∷ ps) =
+    plan_elements d top bottom epoch y p ++ plans_elements d top bottom (epoch + 1) (y + plan_height p) ps
+
+-- all that stands above and behind so many rows
+unfoldable pub head : Deployed → ℕ → List Element
+unfolding site_lanes plans_elements
+head d count =
+    lane (rows_top d) (row_y d count) 0 (codes "outside")
+    ++ (site_lanes d (rows_top d) (row_y d count) d.sites ++ plans_elements d (rows_top d) (row_y d count) 1 TREES d.plans)

@@ -1,0 +1,11 @@
+pub mod Fronts
+pub mod Elements
+pub mod Columns
+pub mod Trails
+pub mod Acts
+pub mod Rows
+pub mod Tracks
+pub mod Head
+pub mod Legend
+pub mod Drawing
+pub mod Laws

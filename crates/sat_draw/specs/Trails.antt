@@ -1,0 +1,138 @@
+-- What an entry leaves for later ones, and what it comes from.
+use Rattle.std.specs.Prelude.{ℕ, Bool, ◌&&◌, ◌==◌, List, [], ◌∷◌, map, Option, Some, None, unwrap_or, if◌then◌else◌}
+use Rattle.std.specs.Ordering.{nat_cmp, ordering_then}
+use Rattle.std.specs.declared.cmp.Ordering.{Ordering}
+use Rattle.sat_label.specs.declared.label.Label.{Label}
+use Rattle.sat_label.specs.declared.label.Kind.TheVariants.{Close}
+use Rattle.sat_label.specs.declared.node.NodeId.{NodeId}
+use Rattle.sat_label.specs.declared.node.NodeId.TheVariants.{Site, Serializer}
+use Rattle.sat_label.specs.Order.{kind_rank, kind_number}
+use Rattle.sat_act.specs.declared.act.Act.{Act}
+use Rattle.sat_act.specs.declared.act.Act.TheVariants as act
+use Rattle.sat_act.specs.declared.answer.Answer.{Answer}
+use Rattle.sat_act.specs.declared.answer.Answer.TheVariants as ans
+use Rattle.sat_act.specs.Done.{at_site, of_client}
+use Rattle.sat_draw.specs.declared.element.Ink.{Ink}
+use Rattle.sat_draw.specs.declared.element.Ink.TheVariants as ink
+use Rattle.sat_draw.specs.declared.trail.Trail.{Trail}
+use Rattle.sat_draw.specs.declared.trail.Coming.{Coming}
+use Rattle.sat_draw.specs.declared.trail.TheConstants.{MADE, SENT, TO_SITE, TO_SERIALIZER, BROUGHT, BEAT}
+
+-- ---- trails
+
+-- a label at a stop of its way
+abbrev pub label_at : ℕ → ℕ → Label → Trail
+label_at stop at l =
+    record { stop = stop; at = at; ts = l.point.ts; site = l.point.site; gear = l.point.gear; rank = kind_rank l.kind; number = kind_number l.kind }
+
+-- a label that was made
+abbrev pub made : Label → Trail
+made l = label_at MADE 0 l
+
+-- a label that its site sent
+abbrev pub sent : Label → Trail
+sent l = label_at SENT 0 l
+
+-- a label that a serializer handed on to a node
+abbrev pub toward : Label → NodeId → Trail
+toward l (Site j) = label_at TO_SITE j l
+toward l (Serializer z) = label_at TO_SERIALIZER z l
+
+-- an update whose payload was brought to site j
+abbrev pub brought : Label → ℕ → Trail
+brought l j = label_at BROUGHT j l
+
+-- beat n of site i for site j
+abbrev pub beat : ℕ → ℕ → ℕ → Trail
+beat i j n = record { stop = BEAT; at = j; ts = n; site = i; gear = 0; rank = 0; number = 0 }
+
+-- two trails are the same
+abbrev pub trail_eq : Trail → Trail → Bool
+trail_eq s t =
+    (s.stop == t.stop) && ((s.at == t.at) && ((s.ts == t.ts) && ((s.site == t.site) && ((s.gear == t.gear) && ((s.rank == t.rank) && (s.number == t.number))))))
+
+-- how trails compare, as a map compares them
+abbrev pub trail_cmp : Trail → Trail → Ordering
+trail_cmp s t =
+    ordering_then (nat_cmp s.stop t.stop) (ordering_then (nat_cmp s.at t.at) (ordering_then (nat_cmp s.ts t.ts) (ordering_then (nat_cmp s.site t.site)
+    (ordering_then (nat_cmp s.gear t.gear) (ordering_then (nat_cmp s.rank t.rank) (nat_cmp s.number t.number))))))
+
+-- ---- what an entry leaves
+
+-- the site of an act of a site, or 0
+abbrev pub site_in : Act → ℕ
+site_in a = unwrap_or (at_site a) 0
+
+-- the beat that an act makes
+abbrev pub beat_left : Act → ℕ → List Trail
+beat_left (act.Beat i j) n = beat i j n ∷ []
+beat_left _ n = []
+
+-- the trails that an act with this answer leaves: a label that was made, sent or handed on, a payload that was brought, a beat
+unfoldable pub left_by : Act → Answer → List Trail
+left_by a (ans.Wrote l) = made l ∷ []
+left_by a (ans.Moved l) = made l ∷ []
+left_by a (ans.Emitted l) = sent l ∷ []
+left_by a (ans.Pulsed l) = sent l ∷ []
+left_by a (ans.Closed e p) = sent (record { point = p; kind = Close e }) ∷ []
+left_by a (ans.Hopped l to) = map (toward l) to
+left_by a (ans.Brought l) = brought l (site_in a) ∷ []
+left_by a (ans.Beat n) = beat_left a n
+left_by a _ = []
+
+-- ---- what an entry comes from
+
+abbrev pub comes : Ink → Trail → Coming
+comes ink trail = record { ink = ink; trail = trail }
+
+-- a hop takes a label from the node before: from its own site, or from a serializer that handed it on to this one
+abbrev pub hopped_from : Act → Label → List Coming
+hopped_from (act.Hop e (Site i) z) l = comes ink.Label (sent l) ∷ []
+hopped_from (act.Hop e (Serializer y) z) l = comes ink.Label (toward l (Serializer z)) ∷ []
+hopped_from _ l = []
+
+-- an update is shown when its label came, by a turn, and its payload is there
+abbrev pub shown_from : Act → Label → List Coming
+shown_from (act.Turn j) l = comes ink.Label (toward l (Site j)) ∷ comes ink.Store (brought l j) ∷ []
+shown_from (act.Stamp j) l = comes ink.Store (brought l j) ∷ []
+shown_from _ l = []
+
+abbrev pub took_from : Act → Label → List Coming
+took_from (act.Turn j) l = comes ink.Label (toward l (Site j)) ∷ []
+took_from _ l = []
+
+abbrev pub taken_from : Act → List Coming
+taken_from (act.BeatIn i j n) = comes ink.Beat (beat i j n) ∷ []
+taken_from _ = []
+
+-- the trails on which an act with this answer ends, and how each is drawn: a label waits in the sink from its making to its sending, and then
+-- goes over links; a payload goes from its write to its site, and waits there until its update is shown; a beat goes from site to site
+unfoldable pub comes_from : Act → Answer → List Coming
+comes_from a (ans.Emitted l) = comes ink.Sink (made l) ∷ []
+comes_from a (ans.Hopped l to) = hopped_from a l
+comes_from a (ans.Brought l) = comes ink.Payload (made l) ∷ []
+comes_from a (ans.Shown l) = shown_from a l
+comes_from a (ans.Took l) = took_from a l
+comes_from a ans.Taken = taken_from a
+comes_from a _ = []
+
+-- ---- seats
+
+abbrev pub attached_by : Act → Option (ℕ × Option ℕ)
+attached_by (act.Attach c j) = Some (c, Some j)
+attached_by _ = None
+
+abbrev pub freed_by : Act → Option (ℕ × Option ℕ)
+freed_by a = elim (of_client a) [ None ↦ None | Some c ↦ Some (c, None) ]
+
+-- the client whose seat an act with this answer changes, and the new seat
+unfoldable pub reseated : Act → Answer → Option (ℕ × Option ℕ)
+reseated a ans.Attached = attached_by a
+reseated a (ans.Moved l) = freed_by a
+reseated a (ans.Left p) = freed_by a
+reseated a _ = None
+
+-- what is then known of a client's seat, by such a change
+abbrev pub after_change : Option (ℕ × Option ℕ) → Option ℕ → ℕ → Option ℕ
+after_change None before c = before
+after_change (Some change) before c = if change.0 == c then change.1 else before

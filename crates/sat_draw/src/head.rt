@@ -1,0 +1,372 @@
+//! What stands above and behind the rows of a drawing.
+ghost use Rattle.std.specs.Prelude.{◌≡◌, ◌≤◌, ◌<◌, ◌+◌, ◌*◌, ◌++◌, ◌∷◌, [], List, length, OnOk, IfOk, Some, slice_get};
+ghost use Rattle.std.specs.Fmt.{decimal};
+ghost use Rattle.sat_label.specs.declared.node.NodeId.TheVariants.{Site, Serializer};
+ghost use Rattle.sat_label.specs.Text.{node_text};
+ghost use Rattle.sat_tree.specs.Cut.{parent_of, seat_of};
+ghost use Rattle.sat_draw.specs.Columns.{column_x, rows_top, row_y, site_column, serializer_column};
+ghost use Rattle.sat_draw.specs.Head.{lane, site_lanes, tree_y, serializer_spot, site_spot, node, branch, serializer_elements, serializers_elements, seat_elements, seats_elements, epoch_name, tree_elements, plan_elements, plans_elements, head};
+
+use crate::columns::{column_x, plan_height, serializer_column, site_column};
+use crate::element::{Element, Ink, Spot, Text};
+use crate::geometry::{ROW, STEP, TREES};
+use sat_act::{Deployment, Plan};
+use sat_label::NodeId;
+use sat_tree::Tree;
+use std::alloc::{AllocError, Global};
+
+fn node_name(alloc: Global, node: NodeId) -> Result<Text, AllocError>
+    ensures { IfOk result (λ text. text ≡ node_text node) }
+{
+    let name = node.text(alloc)?;
+    Ok(Text::of(name.into_bytes()))
+}
+
+fn push_line(ink: Ink, from: Spot, to: Spot, out: &mut Vec<Element>) -> Result<(), AllocError>
+    ensures { OnOk result (out.new.items ≡ out.old.items ++ Element.Line ink from to ∷ []) }
+{
+    out.push(Element::Line { ink, from, to })?;
+    Ok(())
+}
+
+// A column with its name.
+fn push_lane(
+    top: u64,
+    bottom: u64,
+    column: u64,
+    name: Text,
+    out: &mut Vec<Element>,
+) -> Result<(), AllocError>
+    requires top { 30 ≤ top }
+    requires column { column ≤ 2000000 }
+    ensures { OnOk result (out.new.items ≡ out.old.items ++ lane top bottom column name) }
+{
+    let x = column_x(column);
+    push_line(
+        Ink::Lane,
+        Spot { x, y: top - 24 },
+        Spot { x, y: bottom },
+        out,
+    )?;
+    out.push(Element::Word {
+        ink: Ink::Name,
+        at: Spot { x, y: top - 30 },
+        text: name,
+    })?;
+    Ok(())
+}
+
+// The columns of the sites.
+fn push_site_lanes(
+    alloc: Global,
+    d: &Deployment,
+    top: u64,
+    bottom: u64,
+    out: &mut Vec<Element>,
+) -> Result<(), AllocError>
+    requires { 30 ≤ top }
+    ensures { OnOk result (out.new.items ≡ out.old.items ++ site_lanes d.now top bottom d.now.sites) }
+{
+    for site in 0..d.sites() {
+        let name = node_name(alloc, NodeId::Site(site))?;
+        push_lane(top, bottom, site_column(d, site), name, out)?;
+    }
+    Ok(())
+}
+
+fn tree_y(y: u64, place: u16) -> u64
+    requires { y ≤ 40000000 }
+    ensures result_is { result ≡ tree_y y place }
+    ensures below { 20 ≤ result }
+{
+    y + 20 + u64::from(place) * STEP
+}
+
+fn serializer_spot(d: &Deployment, epoch: u16, y: u64, z: u16) -> Spot
+    requires { y ≤ 40000000 }
+    ensures spot { result ≡ serializer_spot d.now epoch y z }
+    ensures right { result.x ≤ 400000000 }
+    ensures below { 20 ≤ result.y }
+{
+    Spot {
+        x: column_x(serializer_column(d, epoch, z)),
+        y: tree_y(y, z),
+    }
+}
+
+fn site_spot(d: &Deployment, y: u64, tree: &Tree, site: u16) -> Spot
+    requires { y ≤ 40000000 }
+    ensures spot { result ≡ site_spot d.now y tree.now site }
+    ensures right { result.x ≤ 400000000 }
+    ensures below { 20 ≤ result.y }
+{
+    Spot {
+        x: column_x(site_column(d, site)),
+        y: tree_y(y, tree.serializers()),
+    }
+}
+
+// A node and its name.
+fn push_node(at: Spot, name: Text, out: &mut Vec<Element>) -> Result<(), AllocError>
+    requires right { at.x ≤ 400000000 }
+    requires below { 20 ≤ at.y }
+    ensures { OnOk result (out.new.items ≡ out.old.items ++ node at name) }
+{
+    out.push(Element::Dot { ink: Ink::Node, at })?;
+    out.push(Element::Word {
+        ink: Ink::Epoch,
+        at: Spot {
+            x: at.x + 7,
+            y: at.y - 5,
+        },
+        text: name,
+    })?;
+    Ok(())
+}
+
+// The edge from a serializer to the one that it hangs on.
+fn push_branch(
+    d: &Deployment,
+    epoch: u16,
+    y: u64,
+    z: u16,
+    parent: Option<u16>,
+    out: &mut Vec<Element>,
+) -> Result<(), AllocError>
+    requires { y ≤ 40000000 }
+    ensures { OnOk result (out.new.items ≡ out.old.items ++ branch d.now epoch y z parent) }
+{
+    match parent {
+        None => Ok(()),
+        Some(p) => push_line(
+            Ink::Edge,
+            serializer_spot(d, epoch, y, z),
+            serializer_spot(d, epoch, y, p),
+            out,
+        ),
+    }
+}
+
+// The name of a serializer's column: its epoch, and its own name.
+fn column_name(alloc: Global, epoch: u16, z: u16) -> Result<Text, AllocError>
+    ensures { IfOk result (λ text. text ≡ decimal epoch ++ 32 ∷ node_text (Serializer z)) }
+{
+    let node = NodeId::Serializer(z).text(alloc)?;
+    let name = node.as_str();
+    let text = format!(in alloc; "{epoch} {name}")?;
+    Ok(Text::of(text.into_bytes()))
+}
+
+// The serializer that one hangs on.
+#[tactic(auto, unfolding(sat_tree::specs::Cut::parent_of))]
+fn parent_of(tree: &Tree, z: u16) -> Option<u16>
+    requires { z < length tree.now.parents }
+    ensures { result ≡ parent_of tree.now.parents z }
+{
+    tree.parent(z)
+}
+
+#[tactic(auto, unfolding(sat_tree::specs::Cut::seat_of))]
+fn seat_of(tree: &Tree, site: u16) -> u16
+    requires { site < length tree.now.seats }
+    ensures { result ≡ seat_of tree.now site }
+{
+    tree.seat(site)
+}
+
+// What is drawn of a serializer.
+fn push_serializer(
+    alloc: Global,
+    d: &Deployment,
+    top: u64,
+    bottom: u64,
+    epoch: u16,
+    y: u64,
+    tree: &Tree,
+    z: u16,
+    out: &mut Vec<Element>,
+) -> Result<(), AllocError>
+    requires top { 30 ≤ top }
+    requires y { y ≤ 40000000 }
+    requires z { z < length tree.now.parents }
+    ensures { OnOk result (out.new.items ≡ out.old.items ++ serializer_elements d.now top bottom epoch y tree.now z) }
+{
+    push_branch(d, epoch, y, z, parent_of(tree, z), out)?;
+    let name = node_name(alloc, NodeId::Serializer(z))?;
+    push_node(serializer_spot(d, epoch, y, z), name, out)?;
+    let name = column_name(alloc, epoch, z)?;
+    push_lane(top, bottom, serializer_column(d, epoch, z), name, out)
+}
+
+fn push_serializers(
+    alloc: Global,
+    d: &Deployment,
+    top: u64,
+    bottom: u64,
+    epoch: u16,
+    y: u64,
+    tree: &Tree,
+    out: &mut Vec<Element>,
+) -> Result<(), AllocError>
+    requires top { 30 ≤ top }
+    requires y { y ≤ 40000000 }
+    ensures { OnOk result (out.new.items ≡ out.old.items ++ serializers_elements d.now top bottom epoch y tree.now (length tree.now.parents)) }
+{
+    for z in 0..tree.serializers() {
+        push_serializer(alloc, d, top, bottom, epoch, y, tree, z, out)?;
+    }
+    Ok(())
+}
+
+// What is drawn of a site in a tree.
+fn push_seat(
+    alloc: Global,
+    d: &Deployment,
+    epoch: u16,
+    y: u64,
+    tree: &Tree,
+    site: u16,
+    out: &mut Vec<Element>,
+) -> Result<(), AllocError>
+    requires y { y ≤ 40000000 }
+    requires site { site < length tree.now.seats }
+    ensures { OnOk result (out.new.items ≡ out.old.items ++ seat_elements d.now epoch y tree.now site) }
+{
+    let at = site_spot(d, y, tree, site);
+    push_line(
+        Ink::Edge,
+        at,
+        serializer_spot(d, epoch, y, seat_of(tree, site)),
+        out,
+    )?;
+    let name = node_name(alloc, NodeId::Site(site))?;
+    push_node(at, name, out)
+}
+
+fn push_seats(
+    alloc: Global,
+    d: &Deployment,
+    epoch: u16,
+    y: u64,
+    tree: &Tree,
+    out: &mut Vec<Element>,
+) -> Result<(), AllocError>
+    requires { y ≤ 40000000 }
+    ensures { OnOk result (out.new.items ≡ out.old.items ++ seats_elements d.now epoch y tree.now (length tree.now.seats)) }
+{
+    for site in 0..tree.sites() {
+        push_seat(alloc, d, epoch, y, tree, site, out)?;
+    }
+    Ok(())
+}
+
+fn epoch_name(alloc: Global, epoch: u16, plan: &Plan) -> Result<Text, AllocError>
+    ensures { IfOk result (λ text. text ≡ epoch_name epoch plan.now) }
+{
+    let text = match plan {
+        Plan::Stamp => format!(in alloc; "epoch {epoch}: by timestamps, without a tree")?,
+        Plan::Tree(_) => format!(in alloc; "epoch {epoch}")?,
+    };
+    Ok(Text::of(text.into_bytes()))
+}
+
+fn push_tree(
+    alloc: Global,
+    d: &Deployment,
+    top: u64,
+    bottom: u64,
+    epoch: u16,
+    y: u64,
+    plan: &Plan,
+    out: &mut Vec<Element>,
+) -> Result<(), AllocError>
+    requires top { 30 ≤ top }
+    requires y { y ≤ 40000000 }
+    ensures { OnOk result (out.new.items ≡ out.old.items ++ tree_elements d.now top bottom epoch y plan.now) }
+{
+    match plan {
+        Plan::Stamp => Ok(()),
+        Plan::Tree(tree) => {
+            push_serializers(alloc, d, top, bottom, epoch, y, tree, out)?;
+            push_seats(alloc, d, epoch, y, tree, out)
+        }
+    }
+}
+
+fn push_plan(
+    alloc: Global,
+    d: &Deployment,
+    top: u64,
+    bottom: u64,
+    epoch: u16,
+    y: u64,
+    plan: &Plan,
+    out: &mut Vec<Element>,
+) -> Result<(), AllocError>
+    requires top { 30 ≤ top }
+    requires y { y ≤ 40000000 }
+    ensures { OnOk result (out.new.items ≡ out.old.items ++ plan_elements d.now top bottom epoch y plan.now) }
+{
+    let text = epoch_name(alloc, epoch, plan)?;
+    out.push(Element::Word {
+        ink: Ink::Epoch,
+        at: Spot { x: 8, y: y + 24 },
+        text,
+    })?;
+    push_tree(alloc, d, top, bottom, epoch, y, plan, out)
+}
+
+// The plans from an epoch on.
+#[tactic(auto, unfolding(crate::specs::Head::plans_elements))]
+fn push_plans(
+    alloc: Global,
+    d: &Deployment,
+    top: u64,
+    bottom: u64,
+    epoch: u16,
+    y: u64,
+    plans: &[Plan],
+    out: &mut Vec<Element>,
+) -> Result<(), AllocError>
+    requires top { 30 ≤ top }
+    requires epoch { epoch + length plans.now ≤ 17 }
+    requires y { y + length plans.now * 2000000 ≤ 40000000 }
+    ensures { OnOk result (out.new.items ≡ out.old.items ++ plans_elements d.now top bottom epoch y plans.now) }
+{
+    let Some((first, rest)) = plans.split_first() else {
+        return Ok(());
+    };
+    push_plan(alloc, d, top, bottom, epoch, y, first, out)?;
+    push_plans(
+        alloc,
+        d,
+        top,
+        bottom,
+        epoch + 1,
+        y + plan_height(first),
+        rest,
+        out,
+    )
+}
+
+/// All that stands above and behind so many rows.
+#[tactic(auto, unfolding(crate::specs::Head::head))]
+pub(crate) fn head(
+    alloc: Global,
+    d: &Deployment,
+    top: u64,
+    count: u64,
+) -> Result<Vec<Element>, AllocError>
+    requires top { top ≡ rows_top d.now }
+    requires low { top ≤ 40000000 }
+    requires few { count ≤ 4294967296 }
+    ensures { IfOk result (λ all. all.items ≡ head d.now count) }
+{
+    let bottom = top + count * ROW;
+    let mut all = Vec::new(alloc);
+    let name = Text::word(alloc, "outside")?;
+    push_lane(top, bottom, 0, name, &mut all)?;
+    push_site_lanes(alloc, d, top, bottom, &mut all)?;
+    push_plans(alloc, d, top, bottom, 1, TREES, d.plans(), &mut all)?;
+    Ok(all)
+}

@@ -1,0 +1,20 @@
+//! A drawing of the run of a script.
+#![tactic(auto)]
+
+mod acts;
+mod columns;
+mod element;
+mod geometry;
+mod head;
+mod legend;
+mod picture;
+mod rows;
+mod spell;
+mod tracks;
+mod trail;
+
+pub use element::{Element, Ink, Spot, Text};
+pub use picture::draw;
+
+#[cfg(test)]
+mod tests;

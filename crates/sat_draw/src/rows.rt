@@ -1,0 +1,295 @@
+//! The rows of a drawing: one for each entry.
+ghost use Rattle.std.specs.Prelude.{◌≡◌, ◌≤◌, ◌++◌, ◌∷◌, [], ◌^◌, ◌<◌, List, length, OnOk, IfOk};
+ghost use Rattle.sat_act.specs.declared.entry.Entry.{Entry};
+ghost use Rattle.sat_act.specs.Settling.{is_done};
+ghost use Rattle.sat_report.specs.Answers.{answer_line};
+ghost use Rattle.sat_draw.specs.Acts.{act_line};
+ghost use Rattle.sat_draw.specs.Columns.{act_column, rows_top};
+ghost use Rattle.sat_draw.specs.Elements.{spelled};
+ghost use Rattle.sat_draw.specs.Rows.{mark_spot, arrow, arrow_for, arrows, is_across, rule, mark_ink, answer_ink, mark_of, answer_of, act_of, ways_at, marks_at};
+ghost use Rattle.sat_draw.specs.Trails.{comes_from};
+ghost use Rattle.sat_draw.specs.Tracks.{seat_by, spot_by, IsDrawn};
+
+use crate::acts::act_line;
+use crate::columns::{column_x, columns, seat_column, serializer_column, site_column};
+use crate::element::{Element, Ink, Spot, Text};
+use crate::geometry::ROW;
+use crate::spell::append_elements;
+use crate::tracks::{Tracks, seat_by, spot_by};
+use crate::trail::{Coming, Trail, comes_from};
+use sat_act::{Act, Answer, Deployment, Entry};
+use sat_report::write_line;
+use std::alloc::{AllocError, Global};
+use std::collections::BTreeMap;
+
+// The column of an act.
+fn act_column(d: &Deployment, seats: &BTreeMap<u16, Option<u16>>, act: &Act) -> u64
+    ensures column { result ≡ act_column d.now (seat_by d.now seats.now) act.now }
+    ensures small { result ≤ 2000000 }
+{
+    match act {
+        Act::Tick { site, .. } => site_column(d, *site),
+        Act::Clock => 0,
+        Act::Write { client, .. } => seat_column(d, seat_by(d, seats, *client)),
+        Act::Read { client, .. } => seat_column(d, seat_by(d, seats, *client)),
+        Act::Move { client, .. } => seat_column(d, seat_by(d, seats, *client)),
+        Act::Leave { client } => seat_column(d, seat_by(d, seats, *client)),
+        Act::Attach { site, .. } => site_column(d, *site),
+        Act::Gather { site } => site_column(d, *site),
+        Act::Emit { site } => site_column(d, *site),
+        Act::Pulse { site } => site_column(d, *site),
+        Act::Hop { epoch, to, .. } => serializer_column(d, *epoch, *to),
+        Act::Turn { site } => site_column(d, *site),
+        Act::Bulk { to, .. } => site_column(d, *to),
+        Act::Beat { from, .. } => site_column(d, *from),
+        Act::BeatIn { to, .. } => site_column(d, *to),
+        Act::Stamp { site } => site_column(d, *site),
+        Act::Close { site } => site_column(d, *site),
+        Act::Fall { site } => site_column(d, *site),
+        Act::Advance { site } => site_column(d, *site),
+        Act::Kill { epoch, serializer } => serializer_column(d, *epoch, *serializer),
+        Act::Settle => 0,
+    }
+}
+
+// Where the mark of an entry stands.
+fn mark_spot(
+    d: &Deployment,
+    seats: &BTreeMap<u16, Option<u16>>,
+    top: u64,
+    row: u64,
+    entry: &Entry,
+) -> Spot
+    requires top { top ≡ rows_top d.now }
+    requires low { top ≤ 40000000 }
+    requires few { row < 2 ^ 32 }
+    ensures spot { result ≡ mark_spot d.now (seat_by d.now seats.now) row entry.now }
+    ensures right { result.x ≤ 400000000 }
+    ensures below { 100 ≤ result.y }
+    ensures small { result.y ≤ 2 ^ 40 }
+{
+    Spot {
+        x: column_x(act_column(d, seats, &entry.act)),
+        y: top + row * ROW,
+    }
+}
+
+fn push_arrow(
+    spots: &BTreeMap<Trail, Spot>,
+    here: Spot,
+    coming: Coming,
+    out: &mut Vec<Element>,
+) -> Result<(), AllocError>
+    ensures { OnOk result (out.new.items ≡ out.old.items ++ arrow_for (spot_by spots.now) here coming) }
+{
+    match spot_by(spots, coming.trail) {
+        None => Ok(()),
+        Some(there) => {
+            out.push(Element::Line {
+                ink: coming.ink,
+                from: there,
+                to: here,
+            })?;
+            Ok(())
+        }
+    }
+}
+
+fn push_arrows(
+    spots: &BTreeMap<Trail, Spot>,
+    here: Spot,
+    all: &[Coming],
+    out: &mut Vec<Element>,
+) -> Result<(), AllocError>
+    ensures { OnOk result (out.new.items ≡ out.old.items ++ arrows (spot_by spots.now) here all.now) }
+{
+    for coming in all {
+        push_arrow(spots, here, *coming, out)?;
+    }
+    Ok(())
+}
+
+fn is_across(act: &Act) -> bool
+    ensures { result ≡ is_across act.now }
+{
+    match act {
+        Act::Clock => true,
+        Act::Settle => true,
+        _ => false,
+    }
+}
+
+fn push_rule(
+    d: &Deployment,
+    act: &Act,
+    here: Spot,
+    out: &mut Vec<Element>,
+) -> Result<(), AllocError>
+    ensures { OnOk result (out.new.items ≡ out.old.items ++ rule d.now act.now here) }
+{
+    if !is_across(act) {
+        return Ok(());
+    }
+    let end = Spot {
+        x: column_x(columns(d) - 1),
+        y: here.y,
+    };
+    out.push(Element::Line {
+        ink: Ink::Rule,
+        from: here,
+        to: end,
+    })?;
+    Ok(())
+}
+
+fn is_done(answer: &Answer) -> bool
+    ensures { result ≡ is_done answer.now }
+{
+    match answer {
+        Answer::Refused(_) => false,
+        Answer::Again => false,
+        Answer::Old => false,
+        _ => true,
+    }
+}
+
+fn mark_ink(answer: &Answer) -> Ink
+    ensures { result ≡ mark_ink answer.now }
+{
+    if is_done(answer) {
+        Ink::Done
+    } else {
+        Ink::Refused
+    }
+}
+
+fn answer_ink(answer: &Answer) -> Ink
+    ensures { result ≡ answer_ink answer.now }
+{
+    if is_done(answer) {
+        Ink::Said
+    } else {
+        Ink::Denied
+    }
+}
+
+// The line of an answer, with its number.
+fn answer_text(
+    alloc: Global,
+    d: &Deployment,
+    number: u64,
+    answer: &Answer,
+) -> Result<Text, AllocError>
+    ensures { IfOk result (λ text. text ≡ answer_line d.now number answer.now) }
+{
+    let mut bytes = Vec::new(alloc);
+    write_line(d, number, answer, &mut bytes)?;
+    Ok(Text::of(bytes))
+}
+
+fn answer_of(
+    alloc: Global,
+    d: &Deployment,
+    row: u64,
+    here: Spot,
+    entry: &Entry,
+) -> Result<Element, AllocError>
+    requires few { row < 2 ^ 32 }
+    requires right { here.x ≤ 400000000 }
+    requires below { 100 ≤ here.y }
+    ensures { IfOk result (λ element. element ≡ answer_of d.now row here entry.now) }
+{
+    let text = answer_text(alloc, d, row + 1, &entry.answer)?;
+    Ok(Element::Word {
+        ink: answer_ink(&entry.answer),
+        at: Spot {
+            x: here.x + 8,
+            y: here.y - 6,
+        },
+        text,
+    })
+}
+
+fn act_of(alloc: Global, d: &Deployment, here: Spot, entry: &Entry) -> Result<Element, AllocError>
+    requires { here.y ≤ 2 ^ 40 }
+    ensures { IfOk result (λ element. element ≡ act_of d.now here entry.now) }
+{
+    let text = act_line(alloc, d, &entry.act)?;
+    Ok(Element::Word {
+        ink: Ink::Act,
+        at: Spot {
+            x: 8,
+            y: here.y + 4,
+        },
+        text,
+    })
+}
+
+// The mark of an entry and the words of its row.
+fn marks_at(
+    alloc: Global,
+    d: &Deployment,
+    row: u64,
+    here: Spot,
+    entry: &Entry,
+) -> Result<Vec<Element>, AllocError>
+    requires few { row < 2 ^ 32 }
+    requires right { here.x ≤ 400000000 }
+    requires below { 100 ≤ here.y }
+    requires small { here.y ≤ 2 ^ 40 }
+    ensures { IfOk result (λ all. all.items ≡ marks_at d.now row here entry.now) }
+{
+    let answer = answer_of(alloc, d, row, here, entry)?;
+    let act = act_of(alloc, d, here, entry)?;
+    let mut all = Vec::new(alloc);
+    all.push(Element::Dot {
+        ink: mark_ink(&entry.answer),
+        at: here,
+    })?;
+    all.push(answer)?;
+    all.push(act)?;
+    Ok(all)
+}
+
+// What leads to a mark that stands here.
+fn ways_at(
+    alloc: Global,
+    d: &Deployment,
+    spots: &BTreeMap<Trail, Spot>,
+    here: Spot,
+    entry: &Entry,
+) -> Result<Vec<Element>, AllocError>
+    ensures { IfOk result (λ all. all.items ≡ ways_at d.now (spot_by spots.now) here entry.now) }
+{
+    let mut all = Vec::new(alloc);
+    push_rule(d, &entry.act, here, &mut all)?;
+    let coming = comes_from(alloc, entry)?;
+    push_arrows(spots, here, coming.as_slice(), &mut all)?;
+    Ok(all)
+}
+
+/// Appends what leads to the mark of an entry to one text, and the mark and its words to another, and follows the entry.
+pub(crate) fn append_row(
+    alloc: Global,
+    d: &Deployment,
+    tracks: &mut Tracks,
+    top: u64,
+    row: u64,
+    entry: &Entry,
+    lines: &mut Vec<u8>,
+    words: &mut Vec<u8>,
+) -> Result<(), AllocError>
+    requires top { top ≡ rows_top d.now }
+    requires low { top ≤ 40000000 }
+    requires few { row < 2 ^ 32 }
+    ensures { OnOk result ((earlier : List Entry) → row ≡ length earlier
+        → IsDrawn d.now lines.old.items words.old.items tracks.old earlier → IsDrawn d.now lines.new.items words.new.items tracks.new (earlier ++ entry.now ∷ [])) }
+{
+    let here = mark_spot(d, &tracks.seats, top, row, entry);
+    let ways = ways_at(alloc, d, &tracks.spots, here, entry)?;
+    append_elements(ways.as_slice(), lines)?;
+    let marks = marks_at(alloc, d, row, here, entry)?;
+    append_elements(marks.as_slice(), words)?;
+    tracks.follow(alloc, entry, here)?;
+    Ok(())
+}
