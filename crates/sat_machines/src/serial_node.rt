@@ -146,6 +146,23 @@ impl<N: Laid> SerialNode<N> {
 }
 
 impl<N: Laid> SerialNode<N> {
+    /// Whether it was killed.
+    pub fn is_dead(&self) -> bool
+        ensures { result ≡ self.now.serial.killed }
+    {
+        self.serializer.is_dead()
+    }
+
+    /// The neighbour at the other end of the link of this number, None where there is no such link.
+    pub fn neighbour(&self, link: usize) -> Option<NodeId>
+        ensures { result ≡ slice_get (neighbours self.now.serial.tree self.now.serial.number) link }
+    {
+        match self.tree.neighbours(self.number).get(link) {
+            Some(node) => Some(*node),
+            None => None,
+        }
+    }
+
     // What is true of it.
     fn sound(&self)
         ensures deployment { IsSerial N.deployment self.now.epoch self.now.serial.number self.now.serial self.now.serial.tree (interest_of N.deployment) }

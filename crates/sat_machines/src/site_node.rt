@@ -31,6 +31,7 @@ pub struct SiteNode<N: Laid> {
     site: Site,
     interest: Interest,
     links: Counts,
+    sites: u16,
     of: PhantomData<N>,
 }
 
@@ -45,7 +46,7 @@ impl<N: Laid> Model for SiteNode<N> {
 
     ghost view = { λ n. n.site };
 
-    ghost invariant = { λ n. IsDeployment N.deployment × (n.interest ≡ interest_of N.deployment) × (n.links ≡ label_links (N.deployment.sites - 1) N.deployment.plans) };
+    ghost invariant = { λ n. IsDeployment N.deployment × (n.interest ≡ interest_of N.deployment) × (n.links ≡ label_links (N.deployment.sites - 1) N.deployment.plans) × (n.sites ≡ N.deployment.sites) };
 }
 
 impl<N: Laid> SiteNode<N> {
@@ -62,6 +63,7 @@ impl<N: Laid> SiteNode<N> {
             site,
             interest,
             links,
+            sites: d.sites(),
             of: PhantomData,
         })
     }
@@ -71,6 +73,14 @@ impl<N: Laid> SiteNode<N> {
         ensures { result.now ≡ self.now }
     {
         &self.site
+    }
+
+    /// How many sites the deployment has. The first ends of a site's node, one less than these, are for the other sites in order.
+    pub fn sites(&self) -> u16
+        ensures sites { result ≡ N.deployment.sites }
+        ensures limits { IsDeployment N.deployment }
+    {
+        self.sites
     }
 
     // The number of the end for the tree of an epoch.

@@ -35,7 +35,7 @@ all_reverse : {X : Type 0} (P : X → Type 0) (xs : List X) → AllByRecursion P
 all_reverse P [] a = tt
 all_reverse P (x ∷ xs) a = rw (reverse-append (x ∷ []) xs) (all_append P (reverse xs) (x ∷ []) (all_reverse P xs a.1) (a.0, tt))
 
-all_front : {X : Type 0} (P : X → Type 0) (xs ys : List X) → AllByRecursion P (xs ++ ys) → AllByRecursion P xs
+pub all_front : {X : Type 0} (P : X → Type 0) (xs ys : List X) → AllByRecursion P (xs ++ ys) → AllByRecursion P xs
 all_front P [] ys a = tt
 all_front P (x ∷ xs) ys a = (a.0, all_front P xs ys a.1)
 
@@ -43,7 +43,7 @@ ranges : (d : Deployed) (acts : List Act) → AreActsOf d acts → AllInRange d 
 ranges d [] a = tt
 ranges d (x ∷ acts) a = (ranges d acts a.1, in-range d x a.0)
 
-runs : (d : Deployed) (acts : List Act) → AreActsOf d acts → IsRun d (history d acts)
+pub runs : (d : Deployed) (acts : List Act) → AreActsOf d acts → IsRun d (history d acts)
 unfolding history
 runs d acts all = run-is d (reverse acts) (ranges d (reverse acts) (all_reverse _ acts all))
 

@@ -10,3 +10,5 @@ pub mod Ran
 pub mod Plans
 pub mod Placements
 pub mod Done
+pub mod Streamed
+pub mod Meetings

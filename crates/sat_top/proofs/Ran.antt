@@ -13,16 +13,16 @@ use Rattle.sat_top.specs.Runs.{run_text}
 use Rattle.sat_top.proofs.Good.{TheLaws, good_run}
 use Rattle.sat_top.specs.Whole.{IsTextOf, IsOutput, run_status}
 
-zero_fault : (fault : Option ScriptFault) (status : ℕ) → status ≡ run_status fault → status ≡ 0 → fault ≡ None
+pub zero_fault : (fault : Option ScriptFault) (status : ℕ) → status ≡ run_status fault → status ≡ 0 → fault ≡ None
 zero_fault None status means zero = refl
 zero_fault (Some fault) status means zero = absurd (cc)
 
 -- of an Option that is known
-at_some : (o : Option Deployed) (d : Deployed) (P : Deployed → Type 0) → IfSome o P → o ≡ Some d → P d
+pub at_some : (o : Option Deployed) (d : Deployed) (P : Deployed → Type 0) → IfSome o P → o ≡ Some d → P d
 at_some None d P p e = absurd (cc)
 at_some (Some x) d P p e = let same : x ≡ d = cc in subst P same p
 
-front : (text : List ℕ) (found : Reading) → TheLaws → IfSome found.deployment (λ d. IsDeployment d × HaveNames d × AreActsOf d found.acts) → reading false text ≡ found → IsGoodFront text
+pub front : (text : List ℕ) (found : Reading) → TheLaws → IfSome found.deployment (λ d. IsDeployment d × HaveNames d × AreActsOf d found.acts) → reading false text ≡ found → IsGoodFront text
 front text found laws sound same d at =
     let here = at_some found.deployment d (λ x. IsDeployment x × HaveNames x × AreActsOf x found.acts) sound (sym (ap (λ (r : Reading). r.deployment) same) ∙ at) in
     subst (λ (r : Reading). IsGoodRun d r.acts) (sym same) (good_run d found.acts laws here.0 here.2)

@@ -1,7 +1,8 @@
 -- One act more.
-use Rattle.std.proofs.Common.{◌≡◌, ℕ, ◌+◌, List, [], ◌∷◌, ◌++◌, length, refl, sym, ap, ◌∙◌}
+use Rattle.std.proofs.Common.{◌<◌, drop, arith, ◌≡◌, ℕ, ◌+◌, List, [], ◌∷◌, ◌++◌, length, refl, sym, ap, subst, ◌∙◌}
 use Rattle.std.specs.Prelude.{None}
-use Rattle.std.proofs.lemmas.List.{append-nil, reverse-append, length-append}
+use Rattle.std.specs.List.{AllByRecursion}
+use Rattle.std.proofs.lemmas.List.{append-nil, append_assoc, reverse-append, length-append, drop_more}
 use Rattle.sat_act.specs.declared.act.Act.{Act}
 use Rattle.sat_act.specs.declared.act.Act.TheVariants as act
 use Rattle.sat_act.specs.declared.answer.Answer.{Answer}
@@ -93,3 +94,44 @@ runs-none d w stands = record { run = tt; stands = stands }
 pub answers_none : (d : Deployed) (w : WorldSeen) (text : List ℕ) → StandsFor w [] → text ≡ [] → IsAnswering d w text []
 unfolding history run answers printed_count
 answers_none d w text stands empty = record { running = runs-none d w stands; answers = empty; count = refl }
+
+-- ---- several acts more, behind any front of the text
+
+-- these acts more were done, where so many had been done before; the text is longer by their answers
+abbrev pub Answers : Deployed → WorldSeen → List ℕ → ℕ → WorldSeen → List ℕ → List Act → Type 0
+Answers d old text before new longer acts = (front : List ℕ) (done : List Act) → before ≡ length done → IsAnswering d old (front ++ text) done → IsAnswering d new (front ++ longer) (done ++ acts)
+
+pub answers_start : (d : Deployed) (w : WorldSeen) (text : List ℕ) (before : ℕ) → Answers d w text before w text []
+answers_start d w text before front done counted now = subst (λ (acts : List Act). IsAnswering d w (front ++ text) acts) (sym (append-nil done)) now
+
+-- one of them
+pub answers_next : (d e : Deployed) (old mid new : WorldSeen) (text longer more : List ℕ) (before place : ℕ) (acts all : List Act) (a : Act) → e ≡ d → length acts ≡ place → all ≡ acts ++ a ∷ []
+    → Answers d old text before mid longer acts
+    → ((front : List ℕ) (done : List Act) → (before + place) + 1 ≡ length done + 1 → IsAnswering e mid (front ++ longer) done → IsAnswering e new (front ++ more) (done ++ a ∷ []))
+    → Answers d old text before new more all
+answers_next d e old mid new text longer more before place acts all a same long is had one front done counted now =
+    let number : (before + place) + 1 ≡ length (done ++ acts) + 1 = omega (arith, long, counted, length-append done acts) in
+    let here : IsAnswering e mid (front ++ longer) (done ++ acts) = subst (λ (x : Deployed). IsAnswering x mid (front ++ longer) (done ++ acts)) (sym same) (had front done counted now) in
+    let then : IsAnswering d new (front ++ more) ((done ++ acts) ++ a ∷ []) = subst (λ (x : Deployed). IsAnswering x new (front ++ more) ((done ++ acts) ++ a ∷ [])) same (one front (done ++ acts) number here) in
+    subst (λ (xs : List Act). IsAnswering d new (front ++ more) xs) (append_assoc done acts (a ∷ []) ∙ ap (λ xs. done ++ xs) (sym is)) then
+
+-- the lines of acts more stand behind those of the acts before
+line_next : (d : Deployed) (acts : List Act) (a : Act) → IsRun d (history d acts) → (line : List ℕ) × (answers d (history d (acts ++ a ∷ [])) ≡ answers d (history d acts) ++ line)
+line_next d acts a run =
+    let h = history d acts in
+    let r = answer_of d h a in
+    let line = answer_line d (printed_count (with_inner d h a) + 1) r in
+    let same : answers d (with_inner d h a) ≡ answers d h = kept d (answers d) (λ k b e. answers-in d k b) h a run in
+    (line, ap (answers d) (history-next d a acts) ∙ answers-on d (with_inner d h a) a r ∙ ap (λ bytes. bytes ++ line) same)
+
+pub answers_front : (d : Deployed) (done rest : List Act) → ((xs ys : List Act) → done ++ rest ≡ xs ++ ys → IsRun d (history d xs)) → (tail : List ℕ) × (answers d (history d (done ++ rest)) ≡ answers d (history d done) ++ tail)
+answers_front d done [] runs = ([], ap (λ xs. answers d (history d xs)) (append-nil done) ∙ sym (append-nil (answers d (history d done))))
+answers_front d done (a ∷ rest) runs =
+    let e : (done ++ a ∷ []) ++ rest ≡ done ++ a ∷ rest = append_assoc done (a ∷ []) rest in
+    let next = answers_front d (done ++ a ∷ []) rest (λ xs ys is. runs xs ys (sym e ∙ is)) in
+    let one = line_next d done a (runs done (a ∷ rest) refl) in
+    (one.0 ++ next.0, ap (λ xs. answers d (history d xs)) (sym e) ∙ next.1 ∙ ap (λ bytes. bytes ++ next.0) one.1 ∙ append_assoc (answers d (history d done)) one.0 next.0)
+
+-- without the first of the acts that are left
+pub rest_all : (P : Act → Type 0) (xs : List Act) (n : ℕ) (d : Act) → n < length xs → AllByRecursion P (drop n xs) → AllByRecursion P (drop (n + 1) xs)
+rest_all P xs n d inside a = (subst (AllByRecursion P) (drop_more xs n d inside) a).1

@@ -1,5 +1,5 @@
 -- The one contract of the top call, over plain values: the words, the status, and what source and sink told before and after.
-use Rattle.std.specs.Prelude.{ℕ, ◌≡◌, ◌≤◌, ◌+◌, ◌⊎◌, true, List, [], Option, Some, None, length}
+use Rattle.std.specs.Prelude.{ℕ, ◌≡◌, ◌≤◌, ◌+◌, ◌⊎◌, true, List, Option, Some, None, length}
 use Rattle.std.specs.Io.KnownBytes.{Consumes, IsAtEnd}
 use Rattle.sat_outside.specs.Causes.{Rose}
 use Rattle.sat_outside.specs.Streams.{Told, Takes}
@@ -9,7 +9,8 @@ use Rattle.sat_top.specs.declared.stream.TheConstants.{BUFFER_BYTES}
 use Rattle.sat_top.specs.declared.words.Command.{Command}
 use Rattle.sat_top.specs.declared.words.Command.TheVariants.{Run, Plan, Place}
 use Rattle.sat_top.specs.Words.{command_of}
-use Rattle.sat_top.specs.Whole.{IsTextOf, TakesFront, IsDone, IsRefused, reads, refusal, status_of, output_of}
+use Rattle.sat_top.specs.Streaming.{WroteBefore, BrokeOff, GaveUp}
+use Rattle.sat_top.specs.Whole.{IsTextOf, TakesFront, IsDone, IsRefused, reads, refusal, command_status, command_output}
 
 -- how many bytes a command takes at the most, however many the source has: its longest input, and one piece
 abbrev pub most_taken : Option Command → ℕ
@@ -18,23 +19,32 @@ most_taken (Some Plan) = MOST_DELAY_BYTES + BUFFER_BYTES
 most_taken (Some Place) = MOST_DELAY_BYTES + BUFFER_BYTES
 most_taken _ = 0
 
--- What the top call does with these words. `left` is what the source tells that it still gives, `told` what the sink tells that
--- it holds, `failed` and `refused` are the counts of faults of the source and of the sink; each before the call and after it.
-pub record Meets (words : List (List ℕ)) (status : ℕ) (left left_after : Option (List ℕ)) (told told_after : Told) (failed failed_after refused refused_after : ℕ) : Type 0 where
+-- What the top call does with a command, and with words that are none. `left` is what the source tells that it still gives, `told`
+-- what the sink tells that it holds, `failed` and `refused` are the counts of faults of the source and of the sink; each before the
+-- call and after it.
+pub record MeetsCommand (command : Option Command) (status : ℕ) (left left_after : Option (List ℕ)) (told told_after : Told) (failed failed_after refused refused_after : ℕ) : Type 0 where
   -- 0, 1 and 2 say what the words and the text are, and the sink took the whole output
-  pub written : status ≤ 2 → (text : List ℕ) × IsTextOf left text × (status ≡ status_of words text) × Takes told told_after (output_of words text)
-  pub end : status ≡ 0 → reads (command_of words) ≡ true → IsAtEnd left_after
+  pub written : status ≤ 2 → (text : List ℕ) × IsTextOf left text × (status ≡ command_status command text) × Takes told told_after (command_output command text)
+  pub end : status ≡ 0 → reads command ≡ true → IsAtEnd left_after
   -- the same, status by status and command by command
-  pub done : status ≡ 0 → IsDone (command_of words) left told told_after
-  pub bad : status ≡ 1 → IsRefused (command_of words) left told told_after
-  pub no_command : status ≡ 2 → (command_of words ≡ None) × Takes told told_after refusal
-  pub no_source : status ≡ 3 → Rose failed failed_after × (reads (command_of words) ≡ true) × Takes told told_after []
-  pub no_sink : status ≡ 4 → Rose refused refused_after × ((text : List ℕ) × IsTextOf left text × TakesFront told told_after (output_of words text))
-  pub no_memory : status ≡ 5 → Takes told told_after []
+  pub done : status ≡ 0 → IsDone command left told told_after
+  pub bad : status ≡ 1 → IsRefused command left told told_after
+  pub no_command : status ≡ 2 → (command ≡ None) × Takes told told_after refusal
+  -- the source fails between two reads: `run` has written the answers of each whole line that it read, the other commands nothing
+  pub no_source : status ≡ 3 → Rose failed failed_after × (reads command ≡ true) × WroteBefore command left left_after told told_after
+  pub no_sink : status ≡ 4 → Rose refused refused_after × ((text : List ℕ) × IsTextOf left text × TakesFront told told_after (command_output command text))
+  -- where the sink fails or memory runs out, `run` has written the answers of all that came before the last piece that it read
+  pub broken : status ≡ 4 → BrokeOff command left left_after told told_after
+  pub no_memory : status ≡ 5 → GaveUp command left left_after told told_after
   pub statuses : status ≤ 5
   -- the bytes taken have a bound
-  pub bounded : (taken : List ℕ) × Consumes left left_after taken × (length taken ≤ most_taken (command_of words))
+  pub bounded : (taken : List ℕ) × Consumes left left_after taken × (length taken ≤ most_taken command)
   -- no count of faults falls
   pub later : (failed ≤ failed_after) × (refused ≤ refused_after)
   -- where neither has failed, the status is that of the words and the text, unless memory ran out
-  pub complete : (text : List ℕ) → left ≡ Some text → ¬ Rose failed failed_after → ¬ Rose refused refused_after → (status ≡ status_of words text) ⊎ (status ≡ 5)
+  pub complete : (text : List ℕ) → left ≡ Some text → ¬ Rose failed failed_after → ¬ Rose refused refused_after → (status ≡ command_status command text) ⊎ (status ≡ 5)
+
+-- the same of words
+abbrev pub Meets : List (List ℕ) → ℕ → Option (List ℕ) → Option (List ℕ) → Told → Told → ℕ → ℕ → ℕ → ℕ → Type 0
+Meets words status left left_after told told_after failed failed_after refused refused_after =
+    MeetsCommand (command_of words) status left left_after told told_after failed failed_after refused refused_after

@@ -5,4 +5,5 @@ pub mod Good
 pub mod Loading
 pub mod Placing
 pub mod Whole
+pub mod Streaming
 pub mod Contract

@@ -1,22 +1,19 @@
 //! What a command makes in memory, before anything is written.
-ghost use Rattle.std.specs.Prelude.{◌≡◌, ◌≤◌, ℕ, List, IfOk, IsErrOf, Some, true, false, length, map, string_bytes};
+ghost use Rattle.std.specs.Prelude.{◌≡◌, ◌≢◌, ◌≤◌, ℕ, List, IfOk, IsErrOf, Some, true, false, length, map, string_bytes};
 ghost use Rattle.std.specs.Io.KnownBytes.{Consumes, IsAtEnd};
 ghost use Rattle.sat_outside.specs.Causes.{Rose};
 ghost use Rattle.sat_top.specs.declared.stream.Stop.TheVariants.{Memory};
+ghost use Rattle.sat_top.specs.declared.words.Command.TheVariants.{Run};
 ghost use Rattle.sat_top.specs.Words.{command_of};
 ghost use Rattle.sat_top.specs.Whole.{refusal, reads, run_status, IsOutput};
 ghost use Rattle.sat_top.specs.Contract.{most_taken};
 
-use crate::law::good_scripts;
 use crate::loading::load_output;
 use crate::placing::{place_of, place_wide_of};
 use crate::planning::plan_of;
-use crate::run::run_text;
-use crate::stream::{Stop, read_delay_text, read_script};
+use crate::stream::{Stop, read_delay_text};
 use crate::words::{Command, command_of};
-use sat_laws::headline;
 use sat_outside::Source;
-use sat_rest::settles_all;
 use sat_script::Reading;
 use std::alloc::{AllocError, Global};
 use std::thread::Threads;
@@ -50,7 +47,8 @@ fn refusal(alloc: Global) -> Result<Output, AllocError>
     Ok(Output { text, status: 2 })
 }
 
-fn run_status(reading: &Reading) -> u8
+/// The status of a script: 0, or 1 where it has a bad line.
+pub(crate) fn run_status(reading: &Reading) -> u8
     ensures { result ≡ run_status reading.now.fault }
 {
     match reading.fault {
@@ -66,24 +64,6 @@ fn told(alloc: Global, text: &str) -> Result<Output, AllocError>
 {
     let text = text.as_bytes().to_vec(alloc)?;
     Ok(Output { text, status: 0 })
-}
-
-// Reads a script, runs it and makes its report.
-fn run<S: Source>(alloc: Global, source: &mut S) -> Result<Output, Stop>
-    ensures output { IfOk result (λ out. IsOutput (Some Command.Run) (S.left source.old) out.text.items out.status) }
-    ensures end { IfOk result (λ out. out.status ≡ 0 → IsAtEnd (S.left source.new)) }
-    ensures bounded { (taken : List ℕ) × Consumes (S.left source.old) (S.left source.new) taken × (length taken ≤ most_taken (Some Command.Run)) }
-    ensures later { S.faults source.old ≤ S.faults source.new }
-    ensures failed { IsErrOf result Stop.Source → Rose (S.faults source.old) (S.faults source.new) }
-{
-    let reading = read_script(alloc, source)?;
-    // Brings these laws into the proof; they do nothing when they run.
-    headline();
-    settles_all();
-    good_scripts();
-    let status = run_status(&reading);
-    let text = run_text(alloc, reading)?;
-    Ok(Output { text, status })
 }
 
 // Reads a table of delays, and makes the text of its tree.
@@ -129,12 +109,13 @@ pub(crate) fn place_wide<R: Threads + Sync, S: Source>(
     Ok(output)
 }
 
-/// Does the command that the words say, and makes what is to be written.
+/// Does the command that the words say, where it isn't `run`, and makes what is to be written.
 pub(crate) fn make_output<S: Source>(
     alloc: Global,
     words: &[String],
     source: &mut S,
 ) -> Result<Output, Stop>
+    requires { command_of (map string_bytes words.now) ≢ Some Run }
     ensures output { IfOk result (λ out. IsOutput (command_of (map string_bytes words.now)) (S.left source.old) out.text.items out.status) }
     ensures end { IfOk result (λ out. reads (command_of (map string_bytes words.now)) ≡ true → out.status ≡ 0 → IsAtEnd (S.left source.new)) }
     ensures bounded { (taken : List ℕ) × Consumes (S.left source.old) (S.left source.new) taken × (length taken ≤ most_taken (command_of (map string_bytes words.now))) }
@@ -144,7 +125,7 @@ pub(crate) fn make_output<S: Source>(
     ensures asked { IsErrOf result Stop.Source → reads (command_of (map string_bytes words.now)) ≡ true }
 {
     match command_of(words) {
-        Some(Command::Run) => run(alloc, source),
+        Some(Command::Run) => unreachable!(),
         Some(Command::Plan) => plan(alloc, source),
         Some(Command::Place) => place(alloc, source),
         Some(Command::Load { seed, acts }) => {

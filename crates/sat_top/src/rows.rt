@@ -253,3 +253,23 @@ pub const SUMMARIES: &[(&str, &str)] = &[
         "load 7 100000\nwritten 346\nshown 588\nwaiting 0\nunderway 0\nviews 2 2 2 2 2\ndone\n",
     ),
 ];
+
+// Acts behind `HEADER`, and how much is under way after them: the payload that is made and not brought, and the label on a link.
+pub const UNDERWAY: &[(&str, u64)] = &[
+    ("end\n", 0),
+    ("write a x v\nend\n", 1),
+    ("write a x v\ngather 0\nemit 0\nend\n", 2),
+    ("write a x v\ngather 0\nemit 0\nhop 1 s0 z0\nend\n", 2),
+    (
+        "write a x v\ngather 0\nemit 0\nhop 1 s0 z0\nbulk 0 0 1\nend\n",
+        1,
+    ),
+    (
+        "write a x v\ngather 0\nemit 0\nhop 1 s0 z0\nbulk 0 0 1\nturn 1\nend\n",
+        0,
+    ),
+    (
+        "write a x v\nwrite a x w\nwrite a x u\nbulk 0 0 1 1\nend\n",
+        2,
+    ),
+];

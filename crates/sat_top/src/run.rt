@@ -1,17 +1,19 @@
 //! Running a script's acts.
-ghost use Rattle.std.specs.Prelude.{◌≡◌, ◌+◌, ◌++◌, [], ◌∷◌, List, ◌≤◌, IfOk, IfSome, OnOk, length};
+ghost use Rattle.std.specs.Prelude.{◌≡◌, ◌+◌, ◌++◌, ℕ, [], ◌∷◌, List, ◌≤◌, IfOk, IfSome, OnOk, None, Some, length};
 ghost use Rattle.sat_act.specs.declared.act.Act.{Act};
 ghost use Rattle.sat_act.specs.Ranges.{IsActOf};
 ghost use Rattle.sat_act.specs.Limits.{IsDeployment};
 ghost use Rattle.sat_world.specs.Stands.{StandsFor};
+ghost use Rattle.sat_script.specs.Stream.{behind};
 ghost use Rattle.sat_script.specs.Spelled.{HaveNames};
 ghost use Rattle.sat_script.specs.Reading.{AreActsOf};
 ghost use Rattle.sat_act.specs.declared.entry.Entry.{Entry};
 ghost use Rattle.sat_act.specs.Runs.{IsRun};
-ghost use Rattle.sat_top.specs.Runs.{ending, fault_text, run_text};
+ghost use Rattle.sat_top.specs.Runs.{ending, run_text};
 ghost use Rattle.sat_top.specs.Running.{Does, IsAnswering};
+ghost use Rattle.sat_top.specs.Streaming.{AtWorld, DoesMore, IsKnown, IsWorldOf};
 
-use sat_act::{Act, Answer};
+use sat_act::{Act, Answer, Deployment};
 use sat_report::{write_fault, write_holdings, write_line};
 use sat_script::{MOST_ACTS, Reading, ScriptFault};
 use sat_settle::settle;
@@ -45,27 +47,76 @@ fn answer_act(
 ) -> Result<(), AllocError>
     requires act { IsActOf world.old.deployment act.now }
     ensures deployment { world.new.deployment ≡ world.old.deployment }
-    ensures running { OnOk result ((acts : List Act) → number ≡ length acts + 1 → IsAnswering world.old.deployment world.old text.old.items acts
-        → IsAnswering world.old.deployment world.new text.new.items (acts ++ act.now ∷ [])) }
+    ensures running { OnOk result ((front : List ℕ) (acts : List Act) → number ≡ length acts + 1 → IsAnswering world.old.deployment world.old (front ++ text.old.items) acts
+        → IsAnswering world.old.deployment world.new (front ++ text.new.items) (acts ++ act.now ∷ [])) }
 {
     let answer = do_act(world, act)?;
     write_line(world.deployment(), number, &answer, text)?;
     Ok(())
 }
 
-// Does the acts one after another, and gives the lines of their answers.
-fn answer_acts(alloc: Global, world: &mut World, acts: &[Act]) -> Result<Vec<u8>, AllocError>
-    requires fresh { StandsFor world.old [] }
+// Does the acts one after another, and appends the lines of their answers.
+fn answer_acts(
+    world: &mut World,
+    before: u64,
+    acts: &[Act],
+    text: &mut Vec<u8>,
+) -> Result<(), AllocError>
     requires acts { AreActsOf world.old.deployment acts.now }
-    requires few { length acts.now ≤ MOST_ACTS }
+    requires few { before + length acts.now ≤ MOST_ACTS }
     ensures deployment { world.new.deployment ≡ world.old.deployment }
-    ensures running { IfOk result (λ text. IsAnswering world.old.deployment world.new text.items acts.now) }
+    ensures running { OnOk result ((front : List ℕ) (done : List Act) → before ≡ length done → IsAnswering world.old.deployment world.old (front ++ text.old.items) done
+        → IsAnswering world.old.deployment world.new (front ++ text.new.items) (done ++ acts.now)) }
 {
-    let mut text = Vec::new(alloc);
     for (place, act) in acts.iter().enumerate() {
-        answer_act(world, place as u64 + 1, act, &mut text)?;
+        answer_act(world, before + place as u64 + 1, act, text)?;
     }
-    Ok(text)
+    Ok(())
+}
+
+// A new world of a deployment, after acts of it.
+fn begin(
+    alloc: Global,
+    deployment: &Deployment,
+    acts: &[Act],
+    text: &mut Vec<u8>,
+) -> Result<World, AllocError>
+    requires acts { AreActsOf deployment.now acts.now }
+    requires few { length acts.now ≤ MOST_ACTS }
+    ensures deployment { IfOk result (λ world. world.deployment ≡ deployment.now) }
+    ensures running { IfOk result (λ world. text.old.items ≡ [] → IsAnswering deployment.now world text.new.items acts.now) }
+{
+    let deployment = deployment.copy()?;
+    let mut world = World::new(alloc, deployment)?;
+    answer_acts(&mut world, 0, acts, text)?;
+    Ok(world)
+}
+
+/// Does acts that come after so many others, and makes the text of their answers in the place of what the text was. The world is made
+/// as soon as the deployment is known.
+pub(crate) fn answer_more(
+    alloc: Global,
+    deployment: &Option<Deployment>,
+    world: &mut Option<World>,
+    before: u64,
+    acts: &[Act],
+    text: &mut Vec<u8>,
+) -> Result<(), AllocError>
+    requires acts { IfSome deployment.now (λ d. AreActsOf d acts.now) }
+    requires none { deployment.now ≡ None → acts.now ≡ [] }
+    requires known { IsKnown deployment.now world.old }
+    requires few { before + length acts.now ≤ MOST_ACTS }
+    ensures known { OnOk result (IsWorldOf deployment.now world.new) }
+    ensures more { OnOk result (DoesMore world.old before acts.now world.new text.new.items) }
+{
+    text.clear();
+    if let Some(world) = world {
+        return answer_acts(world, before, acts, text);
+    }
+    if let Some(deployment) = deployment {
+        *world = Some(begin(alloc, deployment, acts, text)?);
+    }
+    Ok(())
 }
 
 // Appends the holdings, or the fault's line in their place.
@@ -84,33 +135,37 @@ fn write_ending(
     Ok(())
 }
 
-fn fault_text(alloc: Global, fault: Option<ScriptFault>) -> Result<Vec<u8>, AllocError>
-    ensures { IfOk result (λ text. text.items ≡ fault_text fault) }
-{
-    let mut text = Vec::new(alloc);
-    if let Some(fault) = fault {
-        write_fault(&fault, &mut text)?;
-    }
-    Ok(text)
-}
-
-/// Runs the acts of a reading: the lines of their answers, and behind them the holdings, or the fault's line.
+/// The rest of a report, where so many acts had been done: the answers of the acts that are left, and behind them the holdings, or
+/// the fault's line, in the place of what the text was.
 #[tactic(auto, unfolding(crate::specs::Runs::run_text))]
-pub(crate) fn run_text(alloc: Global, reading: Reading) -> Result<Vec<u8>, AllocError>
-    requires acts { IfSome reading.deployment (λ d. IsDeployment d × HaveNames d × AreActsOf d reading.acts) }
-    requires few { length reading.acts ≤ MOST_ACTS }
-    ensures { IfOk result (λ text. text.items ≡ run_text reading) }
+pub(crate) fn rest_text(
+    alloc: Global,
+    reading: &Reading,
+    world: &mut Option<World>,
+    before: u64,
+    text: &mut Vec<u8>,
+) -> Result<(), AllocError>
+    requires acts { IfSome reading.now.deployment (λ d. AreActsOf d reading.now.acts) }
+    requires none { reading.now.deployment ≡ None → reading.now.acts ≡ [] }
+    requires known { IsKnown reading.now.deployment world.old }
+    requires few { before + length reading.now.acts ≤ MOST_ACTS }
+    ensures { OnOk result ((front : List ℕ) (done : List Act) → before ≡ length done → AtWorld world.old front done → front ++ text.new.items ≡ run_text (behind done reading.now)) }
 {
-    let Reading {
-        deployment,
-        acts,
-        fault,
-    } = reading;
-    let Some(deployment) = deployment else {
-        return fault_text(alloc, fault);
-    };
-    let mut world = World::new(alloc, deployment)?;
-    let mut text = answer_acts(alloc, &mut world, acts.as_slice())?;
-    write_ending(&world, fault, &mut text)?;
-    Ok(text)
+    answer_more(
+        alloc,
+        &reading.deployment,
+        world,
+        before,
+        reading.acts.as_slice(),
+        text,
+    )?;
+    match world {
+        Some(world) => write_ending(world, reading.fault, text),
+        None => {
+            if let Some(fault) = reading.fault {
+                write_fault(&fault, text)?;
+            }
+            Ok(())
+        }
+    }
 }

@@ -1,11 +1,13 @@
 //! The program over sources and sinks in memory.
-use crate::rows::{ANSWERS, HEADER, REPORTS, SUMMARIES};
+use crate::loading::count_writes;
+use crate::rows::{ANSWERS, HEADER, REPORTS, SUMMARIES, UNDERWAY};
 use crate::{saturn, still, still_in_memory};
 use sat_label::{NodeId, Point, write_point};
 use sat_outside::{CleanSink, CleanSource, FreeGate, MemorySink, MemorySource, Source};
-use sat_script::write_script;
+use sat_script::{read_script, sound_readings, write_script};
 use sat_settle::load;
 use sat_tree::Tree;
+use sat_world::World;
 use std::alloc::Global;
 use std::test::Fail;
 
@@ -125,6 +127,28 @@ fn large_scripts_have_their_summaries(rt: HostRuntime) -> Result<(), Fail> {
     Ok(())
 }
 
+// How much is under way after these lines.
+fn underway_after(alloc: Global, lines: &str) -> Result<u64, Fail> {
+    // Brings this law into the proof; it does nothing when it runs.
+    sound_readings();
+    let text = script(alloc, lines)?;
+    let Ok(script) = read_script(alloc, text.as_slice(), false) else {
+        return Err("the script is refused".into());
+    };
+    let mut world = World::new(alloc, script.deployment)?;
+    count_writes(&mut world, script.acts.as_slice())?;
+    Ok(world.underway())
+}
+
+#[test]
+fn what_is_under_way_is_counted(rt: HostRuntime) -> Result<(), Fail> {
+    let alloc = rt.alloc();
+    for (lines, wanted) in UNDERWAY {
+        assert_eq!(rt; underway_after(alloc, lines)?, *wanted);
+    }
+    Ok(())
+}
+
 #[test]
 fn delays_give_a_tree(rt: HostRuntime) -> Result<(), Fail> {
     let alloc = rt.alloc();
@@ -218,6 +242,18 @@ fn a_source_that_fails_leaves_the_sink_empty(rt: HostRuntime) -> Result<(), Fail
     let mut sink = CleanSink::with_room(alloc, 4, ROOM)?;
     assert_eq!(rt; still(alloc, words.as_slice(), &mut source, &mut sink), 3);
     assert_eq!(rt; sink.held(), b"".as_slice());
+    Ok(())
+}
+
+// The first 98 bytes are the header and the first act, and the read after them fails.
+#[test]
+fn an_answer_is_written_before_more_is_read(rt: HostRuntime) -> Result<(), Fail> {
+    let alloc = rt.alloc();
+    let words = words(alloc, "run")?;
+    let mut source = MemorySource::new(script(alloc, ACTS)?, 1, vec![in alloc; 98u64]?);
+    let mut sink = CleanSink::with_room(alloc, 4, ROOM)?;
+    assert_eq!(rt; still(alloc, words.as_slice(), &mut source, &mut sink), 3);
+    assert_eq!(rt; sink.held(), b"1 wrote 1.0.0\n".as_slice());
     Ok(())
 }
 

@@ -1,21 +1,21 @@
 //! The top call.
-ghost use Rattle.std.specs.Prelude.{◌≡◌, false, map, string_bytes, Some};
-ghost use Rattle.sat_top.specs.declared.words.Command.TheVariants.{Place};
+ghost use Rattle.std.specs.Prelude.{◌≡◌, ◌≢◌, false, map, string_bytes, Some};
+ghost use Rattle.sat_top.specs.declared.words.Command.TheVariants.{Place, Run};
 ghost use Rattle.sat_top.specs.Words.{command_of};
 ghost use Rattle.sat_top.specs.Whole.{reads};
-ghost use Rattle.sat_top.specs.Contract.{Meets};
+ghost use Rattle.sat_top.specs.Contract.{Meets, MeetsCommand};
 
 use crate::output::{make_output, place_wide};
-use crate::stream::{Stop, write_text};
+use crate::stream::{Halt, Stop, run_script, write_text};
 use crate::words::{Command, command_of};
 use sat_outside::{Gate, Sink, Source};
 use std::alloc::Global;
 use std::thread::Threads;
 
-/// Does the command that the words say, and answers its status:
+/// Does the command that the words say, and answers its status. `run` reads a piece, does each whole line in it and writes its answer
+/// before it reads more; the other commands write nothing before they have read all. The statuses:
 /// 0, the command was done; 1, the input is refused; 2, the words are no command; 3, the source failed;
 /// 4, the sink failed; 5, memory ran out. It waits for nobody.
-#[tactic(auto, using(crate::proofs::Done::is_done, crate::proofs::Done::is_refused))]
 pub fn still<S: Source, K: Sink>(
     alloc: Global,
     words: &[String],
@@ -25,6 +25,34 @@ pub fn still<S: Source, K: Sink>(
     ensures meets { Meets (map string_bytes words.now) result (S.left source.old) (S.left source.new) (K.told sink.old) (K.told sink.new)
         (S.faults source.old) (S.faults source.new) (K.faults sink.old) (K.faults sink.new) }
     // Words that ask for no input leave the source as it was.
+    ensures unasked { reads (command_of (map string_bytes words.now)) ≡ false → source.new ≡ source.old }
+{
+    match command_of(words) {
+        Some(Command::Run) => streamed(alloc, source, sink),
+        _ => told(alloc, words, source, sink),
+    }
+}
+
+// Runs a script line by line, and answers the status.
+#[tactic(auto, using(crate::proofs::Done::is_done, crate::proofs::Done::is_refused))]
+fn streamed<S: Source, K: Sink>(alloc: Global, source: &mut S, sink: &mut K) -> u8
+    ensures meets { MeetsCommand (Some Run) result (S.left source.old) (S.left source.new) (K.told sink.old) (K.told sink.new)
+        (S.faults source.old) (S.faults source.new) (K.faults sink.old) (K.faults sink.new) }
+{
+    match run_script(alloc, source, sink) {
+        Ok(status) => status,
+        Err(Halt::Source) => 3,
+        Err(Halt::Sink) => 4,
+        Err(Halt::Memory) => 5,
+    }
+}
+
+// Does another command: makes its whole output, writes it, and answers the status.
+#[tactic(auto, using(crate::proofs::Done::is_done, crate::proofs::Done::is_refused))]
+fn told<S: Source, K: Sink>(alloc: Global, words: &[String], source: &mut S, sink: &mut K) -> u8
+    requires { command_of (map string_bytes words.now) ≢ Some Run }
+    ensures meets { Meets (map string_bytes words.now) result (S.left source.old) (S.left source.new) (K.told sink.old) (K.told sink.new)
+        (S.faults source.old) (S.faults source.new) (K.faults sink.old) (K.faults sink.new) }
     ensures unasked { reads (command_of (map string_bytes words.now)) ≡ false → source.new ≡ source.old }
 {
     let output = match make_output(alloc, words, source) {

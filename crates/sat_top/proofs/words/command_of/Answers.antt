@@ -1,4 +1,4 @@
-use Rattle.std.proofs.Common.{◌≤◌, ◌<◌, length, map, arith}
+use Rattle.std.proofs.Common.{map, arith}
 use Rattle.std.specs.Prelude.{string_bytes}
 use Rattle.std.proofs.lemmas.List.{length-map}
 use Rattle.sat_top.proofs.Wordless.{two_words, many_words}

@@ -1,0 +1,237 @@
+-- All links of opened nodes.
+use Rattle.std.proofs.Common.{◌≡◌, ◌<◌, ℕ, Bool, true, false, ◌==◌, List, [], ◌∷◌, ◌++◌, length, nat_lt, Option, Some, None, slice_get, refl, sym, ap, ◌∙◌, subst, inl, inr}
+use Rattle.sat_label.proofs.Truth.{same-number}
+use Rattle.sat_label.specs.Members.{In}
+use Rattle.sat_label.specs.declared.node.NodeId.TheVariants.{Site, Serializer}
+use Rattle.sat_label.specs.declared.node.NodeName.{NodeName}
+use Rattle.sat_label.specs.declared.node.NodeName.TheVariants as named
+use Rattle.sat_tree.specs.Shape.{TreeShape}
+use Rattle.sat_tree.specs.Cut.{is_edge, neighbours, seat_of, IsNode}
+use Rattle.sat_act.specs.Deployed.{Deployed}
+use Rattle.sat_act.specs.Limits.{IsDeployment}
+use Rattle.sat_act.specs.Parts.{tree_of}
+use Rattle.sat_net.proofs.Edges.{turned-edge, at-seat, apart, AreApart, edge-within}
+use Rattle.sat_node.specs.declared.kept.Kept.{Kept as Line}
+use Rattle.sat_node.specs.Meanings.{Meaning, Runs}
+use Rattle.sat_node.specs.Puts.{put_by}
+use Rattle.sat_node.specs.Links.{HeldSeen, Handed, takings, out_places as outs_at, in_places as ins_at}
+use Rattle.sat_node.specs.Opened.{AgreeNodes, AgreeRow, AgreeAll, AgreeWithin}
+use Rattle.sat_machines.specs.Acts.{ActSeen}
+use Rattle.sat_machines.specs.Layout.{Edge, label_link, out_places, in_places}
+use Rattle.sat_machines.specs.declared.site_answer.SiteAnswer.{SiteAnswer}
+use Rattle.sat_machines.specs.declared.serial_act.SerialAct.{SerialAct}
+use Rattle.sat_machines.specs.declared.serial_act.SerialAnswer.{SerialAnswer}
+use Rattle.sat_machines.specs.Sites.{site_meaning, site_puts, site_takes}
+use Rattle.sat_machines.specs.Serials.{serial_meaning, serial_puts, serial_takes}
+use Rattle.sat_stitch.specs.Kept.{Kept, numbered, marks}
+use Rattle.sat_stitch.specs.Nodes.{put_on, took_from}
+use Rattle.sat_stitch.specs.Fit.{IsHanded}
+use Rattle.sat_opened.specs.Keeping.{site_kept, serial_kept, newest}
+use Rattle.sat_opened.specs.Opened.{IsOpened, AllOpened, entries_at}
+use Rattle.sat_opened.proofs.Numbers.{less-is, is-less}
+use Rattle.sat_opened.proofs.Walks.{Along, along-more, later, marks-newest}
+use Rattle.sat_opened.proofs.Found.{Found, look-up, find, found-named, two-places}
+use Rattle.sat_opened.proofs.Handings.{label_made, label_body, handed-on}
+use Rattle.sat_opened.proofs.Layouts.{OutAt, InAt, out-at, in-at, between, tree-end, serial-end, neighbour-there, serial-named, site-named, site-below}
+use Rattle.sat_opened.proofs.SiteKept.{SiteStep, site-steps}
+use Rattle.sat_opened.proofs.SerialKept.{SerialStep, serial-steps}
+use Rattle.sat_opened.proofs.SiteLinks.{site-enters, site-takes-in}
+use Rattle.sat_opened.proofs.SerialLinks.{serial-enters, serial-takes-over, none-taken}
+
+-- ---- nothing taken
+
+nothing-handed : {X : Type 0} (put : List (ℕ × X)) → IsHanded [] put
+nothing-handed put k n x e = absurd (cc)
+
+later-none : {X Y : Type 0} (of : X → Kept) (f : List Kept → Kept → Option Y) (ks : List Kept) (xs : List X) → Along of (λ b x. f b (of x) ≡ None) ks xs → later of f ks xs ≡ []
+later-none of f ks [] a = refl
+later-none {X} {Y} of f ks (x ∷ xs) a =
+    ap (λ (o : Option Y). numbered (of x).number o ++ later of f (of x ∷ ks) xs) a.0 ∙ later-none of f (of x ∷ ks) xs a.1
+
+none-handed : {X Y : Type 0} (of : X → Kept) (f : List Kept → Kept → Option Y) (xs : List X) (put : List (ℕ × Y)) → Along of (λ b x. f b (of x) ≡ None) [] xs → IsHanded (marks f (newest of xs)) put
+none-handed {X} {Y} of f xs put a = subst (λ (took : List (ℕ × Y)). IsHanded took put) (sym (marks-newest of f xs ∙ later-none of f [] xs a)) (nothing-handed put)
+
+-- ---- agreements
+
+pub within : {S M I A : Type 0} (m : Meaning S I A) (hs : List (HeldSeen M I A)) (a b : ℕ) (sender receiver : HeldSeen M I A) → AgreeWithin m hs → (a ≡ b → ⊥) → slice_get hs a ≡ Some sender → slice_get hs b ≡ Some receiver → AgreeNodes m m sender receiver
+unfolding AgreeWithin
+within m hs a b sender receiver agree apart one two = agree a b sender receiver apart one two
+
+pub across : {S T M K I A J B : Type 0} (m : Meaning S I A) (n : Meaning T J B) (hs : List (HeldSeen M I A)) (gs : List (HeldSeen K J B)) (a b : ℕ) (sender : HeldSeen M I A) (receiver : HeldSeen K J B) → AgreeAll m n hs gs →
+    slice_get hs a ≡ Some sender → slice_get gs b ≡ Some receiver → AgreeNodes m n sender receiver
+unfolding AgreeAll AgreeRow
+across m n hs gs a b sender receiver agree one two = agree a sender one b receiver two
+
+-- ---- opened nodes
+
+module _ {M K : Type 0} (d : Deployed) (sites : List (HeldSeen M ActSeen SiteAnswer)) (serials : List (HeldSeen K SerialAct SerialAnswer)) (dep : IsDeployment d) (all : AllOpened d sites serials) where
+  -- a site that was opened, with its journal
+  pub record SiteAt (i : ℕ) : Type 0 where
+    pub found : Found (named.Site i) sites
+    pub inside : i < d.sites
+    pub opened : IsOpened (site_meaning d) found.held
+    pub runs : Runs (site_meaning d) (named.Site i) found.held.node.entries
+    pub steps : Along (site_kept i) (SiteStep d i) [] found.held.node.entries
+    pub outs : outs_at found.held.outs ≡ out_places d (named.Site i)
+    pub ins : ins_at found.held.ins ≡ in_places d (named.Site i)
+
+  pub site-at : (i : ℕ) → Found (named.Site i) sites → SiteAt i
+  site-at i f =
+      let is : IsOpened (site_meaning d) f.held = all.each_site f.index f.held f.there in
+      let run : Runs (site_meaning d) (named.Site i) f.held.node.entries = subst (λ (n : NodeName). Runs (site_meaning d) n f.held.node.entries) f.is_named is.runs in
+      record {
+        found = f;
+        inside = site-below d.sites i (subst (λ (ns : List NodeName). In ns (named.Site i)) all.all_sites (found-named (named.Site i) sites f));
+        opened = is;
+        runs = run;
+        steps = site-steps d i f.held.node.entries run;
+        outs = is.tied.outs ∙ ap (out_places d) f.is_named;
+        ins = is.tied.ins ∙ ap (in_places d) f.is_named;
+      }
+
+  pub find-site : (i : ℕ) → i < d.sites → SiteAt i
+  find-site i lt = site-at i (find (named.Site i) sites (subst (λ (ns : List NodeName). In ns (named.Site i)) (sym all.all_sites) (site-named d.sites i lt)))
+
+  -- and a serializer
+  pub record SerialAt (e z : ℕ) : Type 0 where
+    pub found : Found (named.Serializer e z) serials
+    pub opened : IsOpened (serial_meaning d) found.held
+    pub runs : Runs (serial_meaning d) (named.Serializer e z) found.held.node.entries
+    pub steps : Along (serial_kept e z) (SerialStep d e z) [] found.held.node.entries
+    pub outs : outs_at found.held.outs ≡ out_places d (named.Serializer e z)
+    pub ins : ins_at found.held.ins ≡ in_places d (named.Serializer e z)
+
+  pub serial-at : (e z : ℕ) → Found (named.Serializer e z) serials → SerialAt e z
+  serial-at e z f =
+      let is : IsOpened (serial_meaning d) f.held = all.each_serial f.index f.held f.there in
+      let run : Runs (serial_meaning d) (named.Serializer e z) f.held.node.entries = subst (λ (n : NodeName). Runs (serial_meaning d) n f.held.node.entries) f.is_named is.runs in
+      record {
+        found = f;
+        opened = is;
+        runs = run;
+        steps = serial-steps d e z f.held.node.entries run;
+        outs = is.tied.outs ∙ ap (out_places d) f.is_named;
+        ins = is.tied.ins ∙ ap (in_places d) f.is_named;
+      }
+
+  pub find-serial : (e z : ℕ) (t : TreeShape) → tree_of d e ≡ Some t → z < length t.parents → SerialAt e z
+  find-serial e z t tree lt = serial-at e z (find (named.Serializer e z) serials (subst (λ (ns : List NodeName). In ns (named.Serializer e z)) (sym all.all_serials) (serial-named d e z t tree lt)))
+
+  -- ---- the edges of a tree
+
+  module _ (e : ℕ) (t : TreeShape) (tree : tree_of d e ≡ Some t) where
+    seated : (i : ℕ) → i < d.sites → i < length t.seats
+    seated i lt = subst (λ (n : ℕ). i < n) (sym (dep.all_seated e t tree)) lt
+
+    -- from a site to its serializer
+    up-handed : (i z : ℕ) → seat_of t i ≡ z → is_edge t (Site i) (Serializer z) ≡ true → (s : SiteAt i) (r : SerialAt e z) →
+        IsHanded (marks (took_from d e (Site i) (Serializer z)) (newest (serial_kept e z) r.found.held.node.entries)) (marks (put_on d e t (Site i) (Serializer z)) (newest (site_kept i) s.found.held.node.entries))
+    up-handed i z seat edge s r =
+        let at : (k : ℕ) × (slice_get (neighbours t z) k ≡ Some (Site i)) = neighbour-there t z (Site i) (seated i s.inside) (turned-edge t (Serializer z) (Site i) ∙ edge) in
+        let agree : AgreeNodes (site_meaning d) (serial_meaning d) s.found.held r.found.held = across (site_meaning d) (serial_meaning d) sites serials s.found.index r.found.index s.found.held r.found.held all.from_sites s.found.there r.found.there in
+        let out : OutAt d s.found.held (label_link d e) (Edge e (Site i) (Serializer (seat_of t i))) = out-at d s.found.held (named.Site i) (label_link d e) (Edge e (Site i) (Serializer (seat_of t i))) s.outs (tree-end d i e t tree) in
+        let into : InAt d r.found.held at.0 (Edge e (Serializer z) (Site i)) = in-at d r.found.held (named.Serializer e z) at.0 (Edge e (Serializer z) (Site i)) r.ins (serial-end d e z at.0 t (Site i) tree at.1) in
+        let came : Handed (takings (λ act a. serial_takes at.0 act a) r.found.held.node.entries) (put_by (site_puts s.found.held.node.name (label_link d e)) s.found.held.node.entries) =
+        between (site_meaning d) (serial_meaning d) d s.found.held r.found.held (label_link d e) at.0 (Edge e (Site i) (Serializer (seat_of t i))) (Edge e (Serializer z) (Site i)) agree out into (ap (λ (y : ℕ). Edge e (Site i) (Serializer y)) (sym seat)) in
+        handed-on (site_puts (named.Site i) (label_link d e)) (λ act a. serial_takes at.0 act a) (site_kept i) (serial_kept e z) (put_on d e t (Site i) (Serializer z)) (took_from d e (Site i) (Serializer z)) s.found.held.node.entries r.found.held.node.entries
+        (λ x. refl) (λ x. refl)
+        (subst (λ (y : ℕ). Along (site_kept i) (λ b x. site_puts (named.Site i) (label_link d e) x.input x.answer ≡ label_made (put_on d e t (Site i) (Serializer y) b (site_kept i x))) [] s.found.held.node.entries) seat
+        (along-more (site_kept i) (SiteStep d i) (λ b x. site_puts (named.Site i) (label_link d e) x.input x.answer ≡ label_made (put_on d e t (Site i) (Serializer (seat_of t i)) b (site_kept i x))) [] s.found.held.node.entries (λ b x m step. site-enters d dep i s.inside e t tree b x step) s.steps))
+        (along-more (serial_kept e z) (SerialStep d e z) (λ b x. serial_takes at.0 x.input x.answer ≡ label_body (took_from d e (Site i) (Serializer z) b (serial_kept e z x))) [] r.found.held.node.entries (λ b x m step. serial-takes-over d e z t tree at.0 (Site i) at.1 b x step) r.steps)
+        (subst (λ (n : NodeName). Handed (takings (λ act a. serial_takes at.0 act a) r.found.held.node.entries) (put_by (site_puts n (label_link d e)) s.found.held.node.entries)) s.found.is_named came)
+
+    -- from a serializer to a site
+    down-handed : (i z : ℕ) → seat_of t i ≡ z → is_edge t (Serializer z) (Site i) ≡ true → (s : SerialAt e z) (r : SiteAt i) →
+        IsHanded (marks (took_from d e (Serializer z) (Site i)) (newest (site_kept i) r.found.held.node.entries)) (marks (put_on d e t (Serializer z) (Site i)) (newest (serial_kept e z) s.found.held.node.entries))
+    down-handed i z seat edge s r =
+        let at : (k : ℕ) × (slice_get (neighbours t z) k ≡ Some (Site i)) = neighbour-there t z (Site i) (seated i r.inside) edge in
+        let agree : AgreeNodes (serial_meaning d) (site_meaning d) s.found.held r.found.held = across (serial_meaning d) (site_meaning d) serials sites s.found.index r.found.index s.found.held r.found.held all.from_serials s.found.there r.found.there in
+        let out : OutAt d s.found.held at.0 (Edge e (Serializer z) (Site i)) = out-at d s.found.held (named.Serializer e z) at.0 (Edge e (Serializer z) (Site i)) s.outs (serial-end d e z at.0 t (Site i) tree at.1) in
+        let into : InAt d r.found.held (label_link d e) (Edge e (Site i) (Serializer (seat_of t i))) = in-at d r.found.held (named.Site i) (label_link d e) (Edge e (Site i) (Serializer (seat_of t i))) r.ins (tree-end d i e t tree) in
+        let came : Handed (takings (site_takes r.found.held.node.name (label_link d e)) r.found.held.node.entries) (put_by (λ act a. serial_puts at.0 a) s.found.held.node.entries) =
+        between (serial_meaning d) (site_meaning d) d s.found.held r.found.held at.0 (label_link d e) (Edge e (Serializer z) (Site i)) (Edge e (Site i) (Serializer (seat_of t i))) agree out into (ap (λ (y : ℕ). Edge e (Serializer y) (Site i)) seat) in
+        handed-on (λ act a. serial_puts at.0 a) (site_takes (named.Site i) (label_link d e)) (serial_kept e z) (site_kept i) (put_on d e t (Serializer z) (Site i)) (took_from d e (Serializer z) (Site i)) s.found.held.node.entries r.found.held.node.entries
+        (λ x. refl) (λ x. refl)
+        (along-more (serial_kept e z) (SerialStep d e z) (λ b x. serial_puts at.0 x.answer ≡ label_made (put_on d e t (Serializer z) (Site i) b (serial_kept e z x))) [] s.found.held.node.entries (λ b x m step. serial-enters d e z t tree at.0 (Site i) at.1 b x step) s.steps)
+        (subst (λ (y : ℕ). Along (site_kept i) (λ b x. site_takes (named.Site i) (label_link d e) x.input x.answer ≡ label_body (took_from d e (Serializer y) (Site i) b (site_kept i x))) [] r.found.held.node.entries) seat
+        (along-more (site_kept i) (SiteStep d i) (λ b x. site_takes (named.Site i) (label_link d e) x.input x.answer ≡ label_body (took_from d e (Serializer (seat_of t i)) (Site i) b (site_kept i x))) [] r.found.held.node.entries (λ b x m step. site-takes-in d dep i r.inside e t tree b x step) r.steps))
+        (subst (λ (n : NodeName). Handed (takings (site_takes n (label_link d e)) r.found.held.node.entries) (put_by (λ act a. serial_puts at.0 a) s.found.held.node.entries)) r.found.is_named came)
+
+    -- from a serializer to another
+    names-same : (y z : ℕ) → named.Serializer e y ≡ named.Serializer e z → y ≡ z
+    names-same y z w = cc
+
+    not-one : (y z : ℕ) → (y == z) ≡ false → y ≡ z → ⊥
+    not-one y z w q = let clash : (y == z) ≡ true = ap (λ (n : ℕ). y == n) (sym q) ∙ same-number y in absurd (cc)
+
+    over-handed : (y z : ℕ) → (y == z) ≡ false → y < length t.parents → z < length t.parents → is_edge t (Serializer y) (Serializer z) ≡ true → (s : SerialAt e y) (r : SerialAt e z) →
+        IsHanded (marks (took_from d e (Serializer y) (Serializer z)) (newest (serial_kept e z) r.found.held.node.entries)) (marks (put_on d e t (Serializer y) (Serializer z)) (newest (serial_kept e y) s.found.held.node.entries))
+    over-handed y z ne less more edge s r =
+        let from : (k : ℕ) × (slice_get (neighbours t y) k ≡ Some (Serializer z)) = neighbour-there t y (Serializer z) more edge in
+        let at : (k : ℕ) × (slice_get (neighbours t z) k ≡ Some (Serializer y)) = neighbour-there t z (Serializer y) less (turned-edge t (Serializer z) (Serializer y) ∙ edge) in
+        let agree : AgreeNodes (serial_meaning d) (serial_meaning d) s.found.held r.found.held =
+        within (serial_meaning d) serials s.found.index r.found.index s.found.held r.found.held all.between_serials
+        (two-places (named.Serializer e y) (named.Serializer e z) serials s.found r.found (λ w. not-one y z ne (names-same y z w))) s.found.there r.found.there in
+        let out : OutAt d s.found.held from.0 (Edge e (Serializer y) (Serializer z)) = out-at d s.found.held (named.Serializer e y) from.0 (Edge e (Serializer y) (Serializer z)) s.outs (serial-end d e y from.0 t (Serializer z) tree from.1) in
+        let into : InAt d r.found.held at.0 (Edge e (Serializer z) (Serializer y)) = in-at d r.found.held (named.Serializer e z) at.0 (Edge e (Serializer z) (Serializer y)) r.ins (serial-end d e z at.0 t (Serializer y) tree at.1) in
+        let came : Handed (takings (λ act a. serial_takes at.0 act a) r.found.held.node.entries) (put_by (λ act a. serial_puts from.0 a) s.found.held.node.entries) =
+        between (serial_meaning d) (serial_meaning d) d s.found.held r.found.held from.0 at.0 (Edge e (Serializer y) (Serializer z)) (Edge e (Serializer z) (Serializer y)) agree out into refl in
+        handed-on (λ act a. serial_puts from.0 a) (λ act a. serial_takes at.0 act a) (serial_kept e y) (serial_kept e z) (put_on d e t (Serializer y) (Serializer z)) (took_from d e (Serializer y) (Serializer z)) s.found.held.node.entries r.found.held.node.entries
+        (λ x. refl) (λ x. refl)
+        (along-more (serial_kept e y) (SerialStep d e y) (λ b x. serial_puts from.0 x.answer ≡ label_made (put_on d e t (Serializer y) (Serializer z) b (serial_kept e y x))) [] s.found.held.node.entries (λ b x m step. serial-enters d e y t tree from.0 (Serializer z) from.1 b x step) s.steps)
+        (along-more (serial_kept e z) (SerialStep d e z) (λ b x. serial_takes at.0 x.input x.answer ≡ label_body (took_from d e (Serializer y) (Serializer z) b (serial_kept e z x))) [] r.found.held.node.entries (λ b x m step. serial-takes-over d e z t tree at.0 (Serializer y) at.1 b x step) r.steps)
+        came
+
+    -- ---- all edges
+
+    abbrev site_list : ℕ → List Kept
+    site_list i = newest (site_kept i) (entries_at (named.Site i) sites)
+
+    abbrev serial_list : ℕ → List Kept
+    serial_list z = newest (serial_kept e z) (entries_at (named.Serializer e z) serials)
+
+    -- a list of nobody took nothing
+    nobody : {X Y : Type 0} (of : X → Kept) (f : List Kept → Kept → Option Y) (xs : List X) (put : List (ℕ × Y)) → xs ≡ [] → IsHanded (marks f (newest of xs)) put
+    nobody {X} {Y} of f xs put w = subst (λ (ys : List X). IsHanded (marks f (newest of ys)) put) (sym w) (nothing-handed put)
+
+    pub up-link : (i z : ℕ) → is_edge t (Site i) (Serializer z) ≡ true → IsHanded (marks (took_from d e (Site i) (Serializer z)) (serial_list z)) (marks (put_on d e t (Site i) (Serializer z)) (site_list i))
+    up-link i z edge = elim (look-up (named.Serializer e z) serials) [
+      | inr none ↦ nobody (serial_kept e z) (took_from d e (Site i) (Serializer z)) (entries_at (named.Serializer e z) serials) (marks (put_on d e t (Site i) (Serializer z)) (site_list i)) none
+      | inl f ↦
+          let r : SerialAt e z = serial-at e z f in
+          subst (λ (ls : List (Line SerialAct SerialAnswer)). IsHanded (marks (took_from d e (Site i) (Serializer z)) (newest (serial_kept e z) ls)) (marks (put_on d e t (Site i) (Serializer z)) (site_list i))) (sym r.found.entries_are) (go (nat_lt i d.sites) refl r)
+    ]
+      where
+        out : nat_lt i d.sites ≡ false → IsNode t (Site i) → ⊥
+        out w n = let clash : nat_lt i d.sites ≡ true = is-less i d.sites (subst (λ (m : ℕ). i < m) (dep.all_seated e t tree) n) in absurd (cc)
+
+        go : (b : Bool) → nat_lt i d.sites ≡ b → (r : SerialAt e z) → IsHanded (marks (took_from d e (Site i) (Serializer z)) (newest (serial_kept e z) r.found.held.node.entries)) (marks (put_on d e t (Site i) (Serializer z)) (site_list i))
+        go true w r =
+            let s : SiteAt i = find-site i (less-is i d.sites w) in
+            subst (λ (ls : List (Line ActSeen SiteAnswer)). IsHanded (marks (took_from d e (Site i) (Serializer z)) (newest (serial_kept e z) r.found.held.node.entries)) (marks (put_on d e t (Site i) (Serializer z)) (newest (site_kept i) ls))) (sym s.found.entries_are)
+            (up-handed i z (at-seat t i z edge) edge s r)
+        go false w r =
+            none-handed (serial_kept e z) (took_from d e (Site i) (Serializer z)) r.found.held.node.entries (marks (put_on d e t (Site i) (Serializer z)) (site_list i))
+            (along-more (serial_kept e z) (SerialStep d e z) (λ b x. took_from d e (Site i) (Serializer z) b (serial_kept e z x) ≡ None) [] r.found.held.node.entries (λ b x m step. none-taken d e z t tree (Site i) (out w) b x step) r.steps)
+
+    pub down-link : (i z : ℕ) → is_edge t (Serializer z) (Site i) ≡ true → IsHanded (marks (took_from d e (Serializer z) (Site i)) (site_list i)) (marks (put_on d e t (Serializer z) (Site i)) (serial_list z))
+    down-link i z edge = elim (look-up (named.Site i) sites) [
+      | inr none ↦ nobody (site_kept i) (took_from d e (Serializer z) (Site i)) (entries_at (named.Site i) sites) (marks (put_on d e t (Serializer z) (Site i)) (serial_list z)) none
+      | inl f ↦
+          let back : is_edge t (Site i) (Serializer z) ≡ true = turned-edge t (Site i) (Serializer z) ∙ edge in
+          let r : SiteAt i = site-at i f in
+          let s : SerialAt e z = find-serial e z t tree (edge-within t (Site i) z (dep.trees e t tree) back) in
+          subst (λ (ls : List (Line ActSeen SiteAnswer)). IsHanded (marks (took_from d e (Serializer z) (Site i)) (newest (site_kept i) ls)) (marks (put_on d e t (Serializer z) (Site i)) (serial_list z))) (sym r.found.entries_are)
+          (subst (λ (ls : List (Line SerialAct SerialAnswer)). IsHanded (marks (took_from d e (Serializer z) (Site i)) (newest (site_kept i) r.found.held.node.entries)) (marks (put_on d e t (Serializer z) (Site i)) (newest (serial_kept e z) ls))) (sym s.found.entries_are)
+          (down-handed i z (at-seat t i z back) edge s r))
+    ]
+
+    pub over-link : (y z : ℕ) → is_edge t (Serializer y) (Serializer z) ≡ true → IsHanded (marks (took_from d e (Serializer y) (Serializer z)) (serial_list z)) (marks (put_on d e t (Serializer y) (Serializer z)) (serial_list y))
+    over-link y z edge =
+        let two : AreApart t y z = apart t y z (dep.trees e t tree) edge in
+        let less : y < length t.parents = edge-within t (Serializer z) y (dep.trees e t tree) (turned-edge t (Serializer z) (Serializer y) ∙ edge) in
+        let s : SerialAt e y = find-serial e y t tree less in
+        let r : SerialAt e z = find-serial e z t tree two.second in
+        subst (λ (ls : List (Line SerialAct SerialAnswer)). IsHanded (marks (took_from d e (Serializer y) (Serializer z)) (newest (serial_kept e z) ls)) (marks (put_on d e t (Serializer y) (Serializer z)) (serial_list y))) (sym r.found.entries_are)
+        (subst (λ (ls : List (Line SerialAct SerialAnswer)). IsHanded (marks (took_from d e (Serializer y) (Serializer z)) (newest (serial_kept e z) r.found.held.node.entries)) (marks (put_on d e t (Serializer y) (Serializer z)) (newest (serial_kept e y) ls))) (sym s.found.entries_are)
+        (over-handed y z two.apart less two.second edge s r))

@@ -1,0 +1,217 @@
+//! Journals of nodes, as the merge of journals takes them.
+ghost use Rattle.std.specs.Prelude.{◌≡◌, ◌++◌, map, IfOk, OnOk};
+ghost use Rattle.sat_machines.specs.Serials.{epoch_in, serial_in};
+ghost use Rattle.sat_machines.specs.Sites.{number_of};
+ghost use Rattle.sat_opened.specs.Keeping.{client_in, site_act, site_kept, serial_act, serial_kept, kept_under};
+ghost use Rattle.sat_stitch.specs.Kept.{entry_of};
+
+use sat_act::{Act, Entry};
+use sat_label::NodeName;
+use sat_machines::{Laid, SerialAct, SerialAnswer, SerialNode, SiteAct, SiteAnswer, SiteNode};
+use sat_node::{Held, Kept, Names};
+use sat_site::SiteInput;
+use sat_stitch::KeptEntries;
+use std::alloc::{AllocError, Global};
+
+/// All that a site took, the oldest first, each entry an act by name under its number.
+pub fn site_journal<N: Laid, W: Names>(
+    alloc: Global,
+    held: &Held<SiteNode<N>, W>,
+) -> Result<KeptEntries, AllocError>
+    ensures { IfOk result (λ list. list ≡ map (kept_under (site_kept (number_of held.now.node.name))) held.now.node.entries) }
+{
+    let node = held.node();
+    let site = site_number(node.name());
+    let mut list = KeptEntries::new(alloc);
+    add_site(&mut list, site, node.journal())?;
+    Ok(list)
+}
+
+/// All that a serializer took, the oldest first, each entry an act by name under its number.
+pub fn serial_journal<N: Laid, W: Names>(
+    alloc: Global,
+    held: &Held<SerialNode<N>, W>,
+) -> Result<KeptEntries, AllocError>
+    ensures { IfOk result (λ list. list ≡ map (kept_under (serial_kept (epoch_in held.now.node.name) (serial_in held.now.node.name))) held.now.node.entries) }
+{
+    let node = held.node();
+    let epoch = epoch_number(node.name());
+    let number = serial_number(node.name());
+    let mut list = KeptEntries::new(alloc);
+    add_serial(&mut list, epoch, number, node.journal())?;
+    Ok(list)
+}
+
+fn site_number(name: NodeName) -> u16
+    ensures { result ≡ number_of name }
+{
+    match name {
+        NodeName::Site(site) => site,
+        NodeName::Serializer { .. } => 0,
+    }
+}
+
+fn epoch_number(name: NodeName) -> u16
+    ensures { result ≡ epoch_in name }
+{
+    match name {
+        NodeName::Site(_) => 0,
+        NodeName::Serializer { epoch, .. } => epoch,
+    }
+}
+
+fn serial_number(name: NodeName) -> u16
+    ensures { result ≡ serial_in name }
+{
+    match name {
+        NodeName::Site(_) => 0,
+        NodeName::Serializer { number, .. } => number,
+    }
+}
+
+fn add_site<N: Laid>(
+    list: &mut KeptEntries,
+    site: u16,
+    journal: &[Kept<SiteAct<N>, SiteAnswer>],
+) -> Result<(), AllocError>
+    ensures { OnOk result (list.new ≡ list.old ++ map (kept_under (site_kept site)) journal.now) }
+{
+    for kept in journal {
+        let entry = site_entry(site, kept)?;
+        list.push(kept.lamport, entry)?;
+    }
+    Ok(())
+}
+
+fn add_serial(
+    list: &mut KeptEntries,
+    epoch: u16,
+    number: u16,
+    journal: &[Kept<SerialAct, SerialAnswer>],
+) -> Result<(), AllocError>
+    ensures { OnOk result (list.new ≡ list.old ++ map (kept_under (serial_kept epoch number)) journal.now) }
+{
+    for kept in journal {
+        let entry = serial_entry(epoch, number, kept)?;
+        list.push(kept.lamport, entry)?;
+    }
+    Ok(())
+}
+
+fn site_entry<N: Laid>(site: u16, kept: &Kept<SiteAct<N>, SiteAnswer>) -> Result<Entry, AllocError>
+    ensures { IfOk result (λ entry. entry ≡ entry_of (site_kept site kept.now)) }
+{
+    let client = client_number(kept.input.by());
+    let act = act_at(site, client, kept.input.input())?;
+    let answer = kept.answer.answer.copy()?;
+    Ok(Entry {
+        act,
+        answer,
+        inner: false,
+    })
+}
+
+fn serial_entry(
+    epoch: u16,
+    number: u16,
+    kept: &Kept<SerialAct, SerialAnswer>,
+) -> Result<Entry, AllocError>
+    ensures { IfOk result (λ entry. entry ≡ entry_of (serial_kept epoch number kept.now)) }
+{
+    let act = act_of(epoch, number, &kept.input);
+    let answer = kept.answer.answer.copy()?;
+    Ok(Entry {
+        act,
+        answer,
+        inner: false,
+    })
+}
+
+fn client_number(by: Option<u16>) -> u16
+    ensures { result ≡ client_in by }
+{
+    match by {
+        Some(client) => client,
+        None => 0,
+    }
+}
+
+// The act of a serializer that an input is.
+fn act_of(epoch: u16, number: u16, input: &SerialAct) -> Act
+    ensures { result ≡ serial_act epoch number input.now }
+{
+    match input {
+        SerialAct::Hop { from, label: _ } => Act::Hop {
+            epoch,
+            from: *from,
+            to: number,
+        },
+        SerialAct::Kill => Act::Kill {
+            epoch,
+            serializer: number,
+        },
+    }
+}
+
+// The act of a site that an input is.
+fn act_at(site: u16, client: u16, input: &SiteInput) -> Result<Act, AllocError>
+    ensures { IfOk result (λ act. act ≡ site_act site client input.now) }
+{
+    match input {
+        SiteInput::Tick { gear, ts } => Ok(Act::Tick {
+            site,
+            gear: *gear,
+            ts: *ts,
+        }),
+        SiteInput::Write {
+            carried: _,
+            item,
+            value,
+        } => {
+            let value = value.copy()?;
+            Ok(Act::Write {
+                client,
+                item: *item,
+                value,
+            })
+        }
+        SiteInput::Read { carried: _, item } => Ok(Act::Read {
+            client,
+            item: *item,
+        }),
+        SiteInput::Move { carried: _, to } => Ok(Act::Move { client, site: *to }),
+        SiteInput::Attach { carried: _ } => Ok(Act::Attach { client, site }),
+        SiteInput::Gather => Ok(Act::Gather { site }),
+        SiteInput::Emit => Ok(Act::Emit { site }),
+        SiteInput::Pulse => Ok(Act::Pulse { site }),
+        SiteInput::Turn { front: _ } => Ok(Act::Turn { site }),
+        SiteInput::Bulk {
+            from,
+            gear,
+            number,
+            payload: _,
+        } => Ok(Act::Bulk {
+            from: *from,
+            gear: *gear,
+            to: site,
+            number: Some(*number),
+        }),
+        SiteInput::Beat { to } => Ok(Act::Beat {
+            from: site,
+            to: *to,
+        }),
+        SiteInput::BeatIn {
+            from,
+            number,
+            beat: _,
+        } => Ok(Act::BeatIn {
+            from: *from,
+            to: site,
+            number: *number,
+        }),
+        SiteInput::Stamp => Ok(Act::Stamp { site }),
+        SiteInput::Close => Ok(Act::Close { site }),
+        SiteInput::Fall => Ok(Act::Fall { site }),
+        SiteInput::Advance => Ok(Act::Advance { site }),
+    }
+}

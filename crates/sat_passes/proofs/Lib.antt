@@ -1,0 +1,8 @@
+pub mod Members
+pub mod Neighbours
+pub mod Hops
+pub mod Faults
+pub mod Drains
+pub mod Hearing
+pub mod Sendings
+pub mod Small

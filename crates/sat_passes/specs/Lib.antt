@@ -1,0 +1,5 @@
+pub mod Members
+pub mod Faults
+pub mod Relays
+pub mod Hearings
+pub mod Sendings

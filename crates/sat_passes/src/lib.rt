@@ -1,0 +1,16 @@
+//! What a running node does in one pass, under its own lock.
+#![tactic(auto)]
+
+mod beats;
+mod flushing;
+mod receiving;
+mod relaying;
+mod sending;
+mod sites;
+
+pub use receiving::receive;
+pub use relaying::relay;
+pub use sending::send;
+
+#[cfg(test)]
+mod tests;
