@@ -8,12 +8,15 @@ use Rattle.sat_delay.specs.Table.{DelayTable}
 use Rattle.sat_delay.specs.Reading.{reading as delays_in}
 use Rattle.sat_plan.specs.Texts.{plan_text, result_text}
 use Rattle.sat_top.specs.declared.words.Command.{Command}
-use Rattle.sat_top.specs.declared.words.Command.TheVariants.{Run, Plan, Place, Load, Help, Version}
+use Rattle.sat_top.specs.declared.words.Command.TheVariants.{Run, Draw, Plan, Place, Load, Help, Version}
+use Rattle.sat_report.specs.Faults.{fault_line}
+use Rattle.sat_script.specs.declared.stream.Reading.{Reading}
+use Rattle.sat_top.specs.Drawing.{draw_text, IsGoodDrawing}
 use Rattle.sat_top.specs.Good.{IsGoodScript}
 use Rattle.sat_place.specs.Shape.{Shape, shape_reading}
 use Rattle.sat_place.specs.Texts.{place_text, result_text as place_result}
 use Rattle.sat_top.specs.Placing.{place_status}
-use Rattle.sat_top.specs.Whole.{IsDone, IsRefused, IsOutput, HasRun, HasFault, HasPlan, HasDelayFault, HasPlacement, HasShapeFault, command_output, plan_status, run_status}
+use Rattle.sat_top.specs.Whole.{IsDone, IsRefused, IsOutput, HasRun, HasDrawn, HasLineFault, HasFault, HasPlan, HasDelayFault, HasPlacement, HasShapeFault, command_output, plan_status, run_status}
 
 written : (c : Option Command) (left : Option (List ℕ)) (text : List ℕ) (status : ℕ) (old new : Told) (o : IsOutput c left text status) → Takes old new text → Takes old new (command_output c o.input)
 written c left text status old new o took = subst (λ (bytes : List ℕ). Takes old new bytes) o.output took
@@ -50,6 +53,36 @@ plan-done left text old new o took = go (delays_in o.input) refl
       best = o.proves refl d is;
     }
     go (Err fault) is = absurd (never (o.status_is ∙ ap plan_status is))
+
+draw-done : (left : Option (List ℕ)) (text : List ℕ) (old new : Told) (o : IsOutput (Some Draw) left text 0) → Takes old new text → HasDrawn left old new
+draw-done left text old new o took =
+    let good : IsGoodDrawing o.input = o.proves refl in record {
+      text = o.input;
+      whole = o.whole;
+      deployment = good.deployment;
+      acts = good.acts;
+      spelled = good.spelled;
+      written = subst (λ (bytes : List ℕ). Takes old new bytes) (o.output ∙ good.written) took;
+      once = good.once;
+      told = good.told;
+      good = good.good;
+    }
+
+drawn-fault : (r : Reading) (fault : ScriptFault) → r.fault ≡ Some fault → draw_text r ≡ fault_line fault
+drawn-fault r fault at = rw at refl
+
+draw-refused : (left : Option (List ℕ)) (text : List ℕ) (old new : Told) (o : IsOutput (Some Draw) left text 1) → Takes old new text → HasLineFault left old new
+draw-refused left text old new o took = go (reading false o.input).fault refl
+  where
+    go : (fault : Option ScriptFault) → (reading false o.input).fault ≡ fault → HasLineFault left old new
+    go (Some fault) is = record {
+      text = o.input;
+      whole = o.whole;
+      fault = fault;
+      bad = is;
+      written = subst (λ (bytes : List ℕ). Takes old new bytes) (o.output ∙ drawn-fault (reading false o.input) fault is) took;
+    }
+    go None is = absurd (never (sym (o.status_is ∙ ap run_status is)))
 
 run-refused : (left : Option (List ℕ)) (text : List ℕ) (old new : Told) (o : IsOutput (Some Run) left text 1) → Takes old new text → HasFault left old new
 run-refused left text old new o took = record {
@@ -110,6 +143,7 @@ place-refused left text old new o took = go (shape_reading o.input) refl
 
 pub is_done : (c : Option Command) (left : Option (List ℕ)) (text : List ℕ) (status : ℕ) (old new : Told) → IsOutput c left text status → Takes old new text → status ≡ 0 → IsDone c left old new
 is_done (Some Run) left text status old new o took is-zero = run-done left text old new (subst (λ (n : ℕ). IsOutput (Some Run) left text n) is-zero o) took
+is_done (Some Draw) left text status old new o took is-zero = draw-done left text old new (subst (λ (n : ℕ). IsOutput (Some Draw) left text n) is-zero o) took
 is_done (Some Plan) left text status old new o took is-zero = plan-done left text old new (subst (λ (n : ℕ). IsOutput (Some Plan) left text n) is-zero o) took
 is_done (Some Place) left text status old new o took is-zero = place-done left text old new (subst (λ (n : ℕ). IsOutput (Some Place) left text n) is-zero o) took
 is_done (Some (Load seed acts)) left text status old new o took is-zero = record { written = written (Some (Load seed acts)) left text status old new o took; good = o.proves }
@@ -119,6 +153,7 @@ is_done None left text status old new o took is-zero = absurd (let e : status �
 
 pub is_refused : (c : Option Command) (left : Option (List ℕ)) (text : List ℕ) (status : ℕ) (old new : Told) → IsOutput c left text status → Takes old new text → status ≡ 1 → IsRefused c left old new
 is_refused (Some Run) left text status old new o took is-one = run-refused left text old new (subst (λ (n : ℕ). IsOutput (Some Run) left text n) is-one o) took
+is_refused (Some Draw) left text status old new o took is-one = draw-refused left text old new (subst (λ (n : ℕ). IsOutput (Some Draw) left text n) is-one o) took
 is_refused (Some Plan) left text status old new o took is-one = plan-refused left text old new (subst (λ (n : ℕ). IsOutput (Some Plan) left text n) is-one o) took
 is_refused (Some Place) left text status old new o took is-one = place-refused left text old new (subst (λ (n : ℕ). IsOutput (Some Place) left text n) is-one o) took
 is_refused (Some (Load seed acts)) left text status old new o took is-one = absurd (let e : status ≡ 0 = o.status_is in cc)

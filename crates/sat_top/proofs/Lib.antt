@@ -12,3 +12,5 @@ pub mod Placements
 pub mod Done
 pub mod Streamed
 pub mod Meetings
+pub mod Entering
+pub mod Drawings

@@ -7,7 +7,7 @@ use Rattle.sat_script.specs.declared.limits.TheConstants.{MOST_BYTES}
 use Rattle.sat_delay.specs.declared.read.TheConstants.{MOST_BYTES as MOST_DELAY_BYTES}
 use Rattle.sat_top.specs.declared.stream.TheConstants.{BUFFER_BYTES}
 use Rattle.sat_top.specs.declared.words.Command.{Command}
-use Rattle.sat_top.specs.declared.words.Command.TheVariants.{Run, Plan, Place}
+use Rattle.sat_top.specs.declared.words.Command.TheVariants.{Run, Draw, Plan, Place}
 use Rattle.sat_top.specs.Words.{command_of}
 use Rattle.sat_top.specs.Streaming.{WroteBefore, BrokeOff, GaveUp}
 use Rattle.sat_top.specs.Whole.{IsTextOf, TakesFront, IsDone, IsRefused, reads, refusal, command_status, command_output}
@@ -15,6 +15,7 @@ use Rattle.sat_top.specs.Whole.{IsTextOf, TakesFront, IsDone, IsRefused, reads, 
 -- how many bytes a command takes at the most, however many the source has: its longest input, and one piece
 abbrev pub most_taken : Option Command → ℕ
 most_taken (Some Run) = MOST_BYTES + BUFFER_BYTES
+most_taken (Some Draw) = MOST_BYTES + BUFFER_BYTES
 most_taken (Some Plan) = MOST_DELAY_BYTES + BUFFER_BYTES
 most_taken (Some Place) = MOST_DELAY_BYTES + BUFFER_BYTES
 most_taken _ = 0

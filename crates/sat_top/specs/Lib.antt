@@ -7,3 +7,4 @@ pub mod Placing
 pub mod Whole
 pub mod Streaming
 pub mod Contract
+pub mod Drawing

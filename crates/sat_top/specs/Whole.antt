@@ -16,11 +16,15 @@ use Rattle.sat_plan.specs.Mismatch.{mismatch}
 use Rattle.sat_plan.specs.Steps.{built}
 use Rattle.sat_plan.specs.Texts.{config_text, plan_text}
 use Rattle.sat_top.specs.declared.words.Command.{Command}
-use Rattle.sat_top.specs.declared.words.Command.TheVariants.{Run, Plan, Place, Load, Help, Version}
+use Rattle.sat_top.specs.declared.words.Command.TheVariants.{Run, Draw, Plan, Place, Load, Help, Version}
 use Rattle.sat_place.specs.Placing.{IsLeast, worth}
 use Rattle.sat_place.specs.Search.{least_places}
 use Rattle.sat_place.specs.Shape.{Shape, shape_reading}
 use Rattle.sat_place.specs.Texts.{least_text, place_text, shape_fault_text}
+use Rattle.sat_draw.specs.Drawing.{drawing}
+use Rattle.sat_draw.specs.Laws.{EachIsDrawnOnce, WaysAreTold}
+use Rattle.sat_report.specs.Faults.{fault_line}
+use Rattle.sat_top.specs.Drawing.{draw_text, told_history, IsGoodDrawing}
 use Rattle.sat_top.specs.Loading.{load_text, HasLoaded, IsGoodLoad}
 use Rattle.sat_top.specs.Placing.{IsBestPlacement, place_status}
 use Rattle.sat_top.specs.Words.{command_of}
@@ -37,7 +41,7 @@ refusal = codes "words refused" ++ 10 ∷ []
 
 -- what the program says of itself
 abbrev pub help : List ℕ
-help = codes "saturn: causal order between sites that keep some items each\n\nusage: saturn COMMAND < INPUT\n\n  run          reads a script, and writes the report of its run\n  plan         reads a table of delays as JSON, and writes a tree of serializers\n  place        reads the same with a given tree, and writes the best places of its serializers\n  load SEED N  makes a script of N acts and six more, runs it, and writes a summary\n  --help       writes this text\n  --version    writes the version\n\nstatus: 0 done; 1 the input is refused, and the last line written says where; 2 no such command;\n        3 the input could not be read; 4 the output could not be written; 5 out of memory\n"
+help = codes "saturn: causal order between sites that keep some items each\n\nusage: saturn COMMAND < INPUT\n\n  run          reads a script, and writes the report of its run\n  plan         reads a table of delays as JSON, and writes a tree of serializers\n  place        reads the same with a given tree, and writes the best places of its serializers\n  draw         reads a script, and writes a picture of its run as SVG\n  load SEED N  makes a script of N acts and six more, runs it, and writes a summary\n  --help       writes this text\n  --version    writes the version\n\nstatus: 0 done; 1 the input is refused, and the last line written says where; 2 no such command;\n        3 the input could not be read; 4 the output could not be written; 5 out of memory\n"
 
 abbrev pub version : List ℕ
 version = codes "saturn 0.1.0\n"
@@ -45,6 +49,7 @@ version = codes "saturn 0.1.0\n"
 -- whether the words ask for the source to be read
 abbrev pub reads : Option Command → Bool
 reads (Some Run) = true
+reads (Some Draw) = true
 reads (Some Plan) = true
 reads (Some Place) = true
 reads _ = false
@@ -61,6 +66,7 @@ plan_status (Err fault) = 1
 abbrev pub command_status : Option Command → List ℕ → ℕ
 command_status None text = 2
 command_status (Some Run) text = run_status (reading false text).fault
+command_status (Some Draw) text = run_status (reading false text).fault
 command_status (Some Plan) text = plan_status (delays_in text)
 command_status (Some Place) text = place_status (shape_reading text)
 command_status (Some (Load seed acts)) text = 0
@@ -71,6 +77,7 @@ command_status (Some Version) text = 0
 abbrev pub command_output : Option Command → List ℕ → List ℕ
 command_output None text = refusal
 command_output (Some Run) text = run_text (reading false text)
+command_output (Some Draw) text = draw_text (reading false text)
 command_output (Some Plan) text = plan_text text
 command_output (Some Place) text = place_text text
 command_output (Some (Load seed acts)) text = load_text seed acts
@@ -107,6 +114,27 @@ pub record HasFault (left : Option (List ℕ)) (old new : Told) : Type 0 where
   pub bad : IsSome (reading false text).fault
   pub written : Takes old new (run_text (reading false text))
   pub good : IsGoodFront text
+
+-- The source's text spells a deployment and acts. The sink took the drawing of their run, in which each act is drawn once, an act that
+-- was done as done, and each line of a label, a payload or a beat begins where it was left last.
+pub record HasDrawn (left : Option (List ℕ)) (old new : Told) : Type 0 where
+  pub text : List ℕ
+  pub whole : IsTextOf left text
+  pub deployment : Deployed
+  pub acts : List Act
+  pub spelled : Spells text deployment acts
+  pub written : Takes old new (drawing deployment (told_history deployment acts))
+  pub once : EachIsDrawnOnce deployment (told_history deployment acts)
+  pub told : WaysAreTold deployment (told_history deployment acts)
+  pub good : IsGoodRun deployment acts
+
+-- The source's text has a first bad line. The sink took that line's fault, and nothing else.
+pub record HasLineFault (left : Option (List ℕ)) (old new : Told) : Type 0 where
+  pub text : List ℕ
+  pub whole : IsTextOf left text
+  pub fault : ScriptFault
+  pub bad : (reading false text).fault ≡ Some fault
+  pub written : Takes old new (fault_line fault)
 
 -- The source's text is a table of delays. The sink took the text of the tree that is built from it, with its places, delays and
 -- mismatch; no other delay of one edge, however great, gives a lower mismatch.
@@ -147,6 +175,7 @@ pub record HasShapeFault (left : Option (List ℕ)) (old new : Told) : Type 0 wh
 -- what was done with status 0
 abbrev pub IsDone : Option Command → Option (List ℕ) → Told → Told → Type 0
 IsDone (Some Run) left old new = HasRun left old new
+IsDone (Some Draw) left old new = HasDrawn left old new
 IsDone (Some Plan) left old new = HasPlan left old new
 IsDone (Some Place) left old new = HasPlacement left old new
 IsDone (Some (Load seed acts)) left old new = HasLoaded seed acts old new
@@ -157,6 +186,7 @@ IsDone None left old new = ⊥
 -- which input was refused with status 1
 abbrev pub IsRefused : Option Command → Option (List ℕ) → Told → Told → Type 0
 IsRefused (Some Run) left old new = HasFault left old new
+IsRefused (Some Draw) left old new = HasLineFault left old new
 IsRefused (Some Plan) left old new = HasDelayFault left old new
 IsRefused (Some Place) left old new = HasShapeFault left old new
 IsRefused _ left old new = ⊥
@@ -164,6 +194,7 @@ IsRefused _ left old new = ⊥
 -- what a status says of the text beside the output
 abbrev pub Proves : Option Command → ℕ → List ℕ → Type 0
 Proves (Some Run) status text = (status ≡ 0 → IsGoodScript text) × (status ≡ 1 → IsGoodFront text)
+Proves (Some Draw) status text = status ≡ 0 → IsGoodDrawing text
 Proves (Some Plan) status text = status ≡ 0 → IsBestPlan text
 Proves (Some Place) status text = IsBestPlacement text
 Proves (Some (Load seed acts)) status text = IsGoodLoad seed acts

@@ -8,13 +8,15 @@ ghost use Rattle.sat_top.specs.Words.{command_of};
 ghost use Rattle.sat_top.specs.Whole.{refusal, reads, run_status, IsOutput};
 ghost use Rattle.sat_top.specs.Contract.{most_taken};
 
+use crate::drawing::draw_of;
 use crate::loading::load_output;
+use crate::law::good_drawings;
 use crate::placing::{place_of, place_wide_of};
 use crate::planning::plan_of;
-use crate::stream::{Stop, read_delay_text};
+use crate::stream::{Stop, read_delay_text, read_script};
 use crate::words::{Command, command_of};
 use sat_outside::Source;
-use sat_script::Reading;
+use sat_script::{Reading, sound_readings};
 use std::alloc::{AllocError, Global};
 use std::thread::Threads;
 
@@ -28,7 +30,7 @@ impl From<AllocError> for Stop {
 
 // What the program says of itself.
 const HELP: &str =
-    "saturn: causal order between sites that keep some items each\n\nusage: saturn COMMAND < INPUT\n\n  run          reads a script, and writes the report of its run\n  plan         reads a table of delays as JSON, and writes a tree of serializers\n  place        reads the same with a given tree, and writes the best places of its serializers\n  load SEED N  makes a script of N acts and six more, runs it, and writes a summary\n  --help       writes this text\n  --version    writes the version\n\nstatus: 0 done; 1 the input is refused, and the last line written says where; 2 no such command;\n        3 the input could not be read; 4 the output could not be written; 5 out of memory\n";
+    "saturn: causal order between sites that keep some items each\n\nusage: saturn COMMAND < INPUT\n\n  run          reads a script, and writes the report of its run\n  plan         reads a table of delays as JSON, and writes a tree of serializers\n  place        reads the same with a given tree, and writes the best places of its serializers\n  draw         reads a script, and writes a picture of its run as SVG\n  load SEED N  makes a script of N acts and six more, runs it, and writes a summary\n  --help       writes this text\n  --version    writes the version\n\nstatus: 0 done; 1 the input is refused, and the last line written says where; 2 no such command;\n        3 the input could not be read; 4 the output could not be written; 5 out of memory\n";
 
 const VERSION: &str = "saturn 0.1.0\n";
 
@@ -64,6 +66,22 @@ fn told(alloc: Global, text: &str) -> Result<Output, AllocError>
 {
     let text = text.as_bytes().to_vec(alloc)?;
     Ok(Output { text, status: 0 })
+}
+
+// Reads a script, runs it and draws its run.
+fn draw<S: Source>(alloc: Global, source: &mut S) -> Result<Output, Stop>
+    ensures output { IfOk result (λ out. IsOutput (Some Command.Draw) (S.left source.old) out.text.items out.status) }
+    ensures end { IfOk result (λ out. out.status ≡ 0 → IsAtEnd (S.left source.new)) }
+    ensures bounded { (taken : List ℕ) × Consumes (S.left source.old) (S.left source.new) taken × (length taken ≤ most_taken (Some Command.Draw)) }
+    ensures later { S.faults source.old ≤ S.faults source.new }
+    ensures failed { IsErrOf result Stop.Source → Rose (S.faults source.old) (S.faults source.new) }
+{
+    // Brings these laws into the proof; they do nothing when they run.
+    good_drawings();
+    sound_readings();
+    let reading = read_script(alloc, source)?;
+    let output = draw_of(alloc, reading)?;
+    Ok(output)
 }
 
 // Reads a table of delays, and makes the text of its tree.
@@ -126,6 +144,7 @@ pub(crate) fn make_output<S: Source>(
 {
     match command_of(words) {
         Some(Command::Run) => unreachable!(),
+        Some(Command::Draw) => draw(alloc, source),
         Some(Command::Plan) => plan(alloc, source),
         Some(Command::Place) => place(alloc, source),
         Some(Command::Load { seed, acts }) => {

@@ -4,7 +4,7 @@ ghost use Rattle.std.specs.Io.KnownBytes.{Consumes, IsAtEnd};
 ghost use Rattle.sat_act.specs.Deployed.{Deployed};
 ghost use Rattle.sat_outside.specs.Causes.{Rose, HasCause};
 ghost use Rattle.sat_outside.specs.Streams.{Takes};
-ghost use Rattle.sat_script.specs.Reading.{AreActsOf};
+ghost use Rattle.sat_script.specs.Reading.{reading, AreActsOf};
 ghost use Rattle.sat_script.specs.Stream.{will_be, known_fault, behind, drained, LacksOnlyItsEnd};
 ghost use Rattle.sat_delay.specs.Reading.{reading as delays_in};
 ghost use Rattle.sat_place.specs.Shape.{shape_reading};
@@ -153,6 +153,37 @@ pub fn run_script<S: Source, K: Sink>(
                 }
                 if let Err(_failed) = write_text(sink, text.as_slice()) {
                     return Err(Halt::Sink);
+                }
+            }
+        }
+    }
+    unreachable!()
+}
+
+/// Reads a script until the source has no more, or the first bad line is known.
+pub fn read_script<S: Source>(alloc: Global, source: &mut S) -> Result<Reading, Stop>
+    ensures script { IfOk result (λ found. (text : List ℕ) × IsTextOf (S.left source.old) text × (reading false text ≡ found)) }
+    ensures end { IfOk result (λ found. found.fault ≡ None → IsAtEnd (S.left source.new)) }
+    // The bytes taken have a bound, however much the source has.
+    ensures bounded { (taken : List ℕ) × Consumes (S.left source.old) (S.left source.new) taken × (length taken ≤ MOST_SCRIPT_BYTES + BUFFER_BYTES) }
+    ensures later { S.faults source.old ≤ S.faults source.new }
+    ensures failed { IsErrOf result Stop.Source → Rose (S.faults source.old) (S.faults source.new) }
+{
+    let mut reader = ScriptReader::new(alloc, false);
+    let mut buffer = [0u8; BUFFER_BYTES];
+    let mut taken = 0u64;
+    // A first bad line begins before this byte.
+    while taken < BYTES_END {
+        match source.read(&mut buffer) {
+            Err(_) => return Err(Stop::Source),
+            Ok(0) => return Ok(reader.finish()),
+            Ok(count) => {
+                taken += count as u64;
+                if let Err(fault) = reader.feed(&buffer[..count]) {
+                    if fault.cause == Cause::Memory {
+                        return Err(Stop::Memory);
+                    }
+                    return Ok(reader.finish());
                 }
             }
         }

@@ -117,6 +117,21 @@ fn scripts_have_their_reports(rt: HostRuntime) -> Result<(), Fail> {
 }
 
 #[test]
+fn a_run_is_drawn(rt: HostRuntime) -> Result<(), Fail> {
+    let alloc = rt.alloc();
+    let words = words(alloc, "draw")?;
+    let text = script(alloc, ACTS)?;
+    let (status, sink) = still_in_memory(alloc, words.as_slice(), text, 7, 65_536)?;
+    assert_eq!(rt; status, 0);
+    assert!(rt; sink.held().starts_with(b"<svg "));
+    assert!(rt; sink.held().ends_with(b">read b x</text>\n</svg>\n"));
+    let (status, sink) = ended(alloc, "draw", script(alloc, "gath\nend\n")?)?;
+    assert_eq!(rt; status, 1);
+    assert_eq!(rt; sink.held(), b"line 9: BadAct\n".as_slice());
+    Ok(())
+}
+
+#[test]
 fn large_scripts_have_their_summaries(rt: HostRuntime) -> Result<(), Fail> {
     let alloc = rt.alloc();
     for (line, summary) in SUMMARIES {

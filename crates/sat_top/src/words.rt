@@ -12,6 +12,8 @@ use sat_settle::MOST_LOADED;
 pub enum Command {
     /// Reads a script and writes the report of its run.
     Run,
+    /// Reads a script and writes a drawing of its run.
+    Draw,
     /// Reads a table of delays and writes a tree of serializers.
     Plan,
     /// Reads a table of delays and a tree, and writes the best places of its serializers.
@@ -32,6 +34,7 @@ fn command_named(word: &str) -> Option<Command>
 {
     match word {
         "run" => Some(Command::Run),
+        "draw" => Some(Command::Draw),
         "plan" => Some(Command::Plan),
         "place" => Some(Command::Place),
         "--help" => Some(Command::Help),

@@ -1,0 +1,12 @@
+use Rattle.std.proofs.Common.{◌≡◌, length, take, drop}
+use Rattle.sat_script.specs.Reading.{AreActsOf}
+use Rattle.sat_top.specs.Drawing.{IsEntering}
+use Rattle.sat_top.proofs.drawing.enter_acts.Given as goal
+
+abbrev pub invariant-loop-place : goal.invariant-loop-place
+invariant-loop-place l = record {
+  deployment : l.world.deployment ≡ l.fn.world.deployment;
+  entering : IsEntering l.fn.world.deployment l.world l.entries.items (take l.place l.acts);
+  size : length l.entries.items ≡ l.place;
+  rest : AreActsOf l.fn.world.deployment (drop l.place l.acts);
+}

@@ -1,0 +1,42 @@
+use Rattle.sat_top.proofs.Faults.{has_fault}
+use Rattle.std.proofs.Common.{rules, arith, take, ◌+◌}
+use Rattle.sat_script.specs.Stream.{will_be}
+use Rattle.sat_top.proofs.Progress.{read_start, read_more, read_bounded, read_enough}
+use Rattle.sat_script.specs.declared.limits.TheConstants.{MOST_BYTES}
+use Rattle.sat_top.proofs.stream.read_script.Goals as goal
+
+pub loop-taken-init : goal.loop-taken-init
+loop-taken-init g c =
+    (c.new-reader.ensures.fresh, omega arith, read_start (g.S.Source.left c.args.source.now) (will_be c.new-reader.result) c.new-reader.ensures.script, omega arith, omega (arith, c.new-reader.ensures.counted))
+
+pub loop-taken-preserved : goal.loop-taken-preserved
+loop-taken-preserved g c =
+    let had = c.loop-taken.invariant in
+    let counted = c.in_default.ensures.counted in (
+      c.in_default.ensures.fault,
+      omega (arith, c.in-Ok.ensures.cause.later),
+      read_more (g.S.Source.left c.args.source.now) (g.S.Source.left c.loop-taken.source) (g.S.Source.left c.read.new.self) (will_be c.loop-taken.reader) (will_be c.feed.new.self) (take c.in-Ok.count c.read.new.into) c.loop-taken.taken c.in-Ok.count had.2 c.in-Ok.ensures.bytes.0 c.in_default.ensures.script c.in-Ok.ensures.count.1,
+      omega (arith, counted, c.in-Ok.ensures.count.1),
+      c.in_default.ensures.few,
+    )
+
+pub returns-then-eq-clause-bounded : goal.returns-then-eq-clause-bounded
+returns-then-eq-clause-bounded g c =
+    let had = c.loop-taken.invariant in
+    read_bounded (g.S.Source.left c.args.source.now) (g.S.Source.left c.loop-taken.source) (g.S.Source.left c.read.new.self) (will_be c.loop-taken.reader) (take c.in-Ok.count c.read.new.into) c.loop-taken.taken (MOST_BYTES + 65536) had.2 c.in-Ok.ensures.bytes.0 (omega (arith, c.in-Ok.ensures.count.1, c.in-Ok.ensures.count.0))
+
+pub returns-in-Err-feed-clause-bounded : goal.returns-in-Err-feed-clause-bounded
+returns-in-Err-feed-clause-bounded g c =
+    let had = c.loop-taken.invariant in
+    read_bounded (g.S.Source.left c.args.source.now) (g.S.Source.left c.loop-taken.source) (g.S.Source.left c.read.new.self) (will_be c.loop-taken.reader) (take c.in-Ok.count c.read.new.into) c.loop-taken.taken (MOST_BYTES + 65536) had.2 c.in-Ok.ensures.bytes.0 (omega (arith, c.in-Ok.ensures.count.1, c.in-Ok.ensures.count.0))
+
+pub returns-in-Err-feed-clause-end : goal.returns-in-Err-feed-clause-end
+returns-in-Err-feed-clause-end g c = has_fault c.feed.new.self c.in-Err-feed.fault c.finish-in-Err-feed.result _ (c.in-Err-feed.ensures.fault) c.finish-in-Err-feed.ensures.script
+
+pub returns-in-Err-feed-clause-script : goal.returns-in-Err-feed-clause-script
+returns-in-Err-feed-clause-script g c =
+    let had = c.loop-taken.invariant in
+    let script = c.in-Err-feed.ensures.script (search rules) in
+    read_enough (g.S.Source.left c.args.source.now) (g.S.Source.left c.read.new.self) (will_be c.feed.new.self) c.finish-in-Err-feed.result (c.loop-taken.taken + c.in-Ok.count)
+    (read_more (g.S.Source.left c.args.source.now) (g.S.Source.left c.loop-taken.source) (g.S.Source.left c.read.new.self) (will_be c.loop-taken.reader) (will_be c.feed.new.self) (take c.in-Ok.count c.read.new.into) c.loop-taken.taken c.in-Ok.count had.2 c.in-Ok.ensures.bytes.0 script c.in-Ok.ensures.count.1)
+    c.in-Err-feed.ensures.settled c.finish-in-Err-feed.ensures.script

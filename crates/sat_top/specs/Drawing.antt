@@ -1,0 +1,58 @@
+-- What `draw` makes of a script.
+use Rattle.std.specs.Prelude.{ℕ, ◌≡◌, false, List, [], ◌∷◌, Option, Some, None, if◌then◌else◌, reverse}
+use Rattle.sat_act.specs.declared.act.Act.{Act}
+use Rattle.sat_act.specs.declared.entry.Entry.{Entry}
+use Rattle.sat_act.specs.Deployed.{Deployed}
+use Rattle.sat_outside.specs.Streams.{Told, Takes}
+use Rattle.sat_world.specs.Seen.{WorldSeen}
+use Rattle.sat_script.specs.declared.fault.ScriptFault.{ScriptFault}
+use Rattle.sat_script.specs.declared.stream.Reading.{Reading}
+use Rattle.sat_script.specs.Reading.{reading}
+use Rattle.sat_script.specs.Spelled.{Spells}
+use Rattle.sat_report.specs.Faults.{fault_line}
+use Rattle.sat_draw.specs.Drawing.{drawing}
+use Rattle.sat_draw.specs.Laws.{EachIsDrawnOnce, WaysAreTold}
+use Rattle.sat_top.specs.Good.{IsGoodRun}
+use Rattle.sat_top.specs.Runs.{history}
+use Rattle.sat_top.specs.Running.{IsRunning}
+
+-- the entries of a history but those that a settle made
+unfoldable pub outer : List Entry → List Entry
+outer [] = []
+outer (e ∷ h) = if e.inner then outer h else e ∷ outer h
+
+-- the entries of a script's acts
+unfoldable pub told_history : Deployed → List Act → List Entry
+unfolding outer history
+told_history d acts = outer (history d acts)
+
+-- what is written: the drawing of the run, or the line of the first fault
+abbrev pub drawn : Option Deployed → List Act → Option ScriptFault → List ℕ
+drawn d acts (Some fault) = fault_line fault
+drawn None acts None = []
+drawn (Some d) acts None = drawing d (told_history d acts)
+
+abbrev pub draw_text : Reading → List ℕ
+draw_text r = drawn r.deployment r.acts r.fault
+
+-- the text spells a deployment and acts, and what `draw` makes of it is the drawing of their run: each act is drawn once, an act that was
+-- done as done, and each line of a label, a payload or a beat begins where it was left last. This run is good
+pub record IsGoodDrawing (text : List ℕ) : Type 0 where
+  pub deployment : Deployed
+  pub acts : List Act
+  pub spelled : Spells text deployment acts
+  pub written : draw_text (reading false text) ≡ drawing deployment (told_history deployment acts)
+  pub once : EachIsDrawnOnce deployment (told_history deployment acts)
+  pub told : WaysAreTold deployment (told_history deployment acts)
+  pub good : IsGoodRun deployment acts
+
+-- so it is with each text that is read without a fault
+abbrev pub EveryDrawingIsGood : Type 0
+EveryDrawingIsGood = (text : List ℕ) → (reading false text).fault ≡ None → IsGoodDrawing text
+
+-- ---- a run under way
+
+-- these acts were done, and these are their entries, the oldest first
+pub record IsEntering (d : Deployed) (w : WorldSeen) (entries : List Entry) (acts : List Act) : Type 0 where
+  pub running : IsRunning d w acts
+  pub entries_are : reverse entries ≡ told_history d acts
