@@ -243,7 +243,8 @@ fn hear_all<N: Laid + Names, R: Wait>(
 
 /// What a site's node hears from the other sites: each payload and each beat that came over their links is taken where it fits the
 /// site, and else passed over. How many entries the node kept. `Worn`, with the greatest u64, only where that is the node's number
-/// or a received envelope's after the call; `Memory`. After an error, what was kept by then stays.
+/// or a received envelope's after the call; `Memory`, also for a label on such a link, which no site puts there. After an error, what
+/// was kept by then stays.
 pub fn receive<N: Laid + Names, R: Wait>(
     rt: &R,
     held: &mut Held<SiteNode<N>, N>,
