@@ -1,5 +1,5 @@
 -- Every good script has a good drawing.
-use Rattle.std.proofs.Common.{◌≡◌, ℕ, false, List, Option, Some, None, refl, ap, sym, ◌∙◌}
+use Rattle.std.proofs.Common.{◌≡◌, ℕ, false, List, Option, Some, None, refl, ap, ◌∙◌}
 use Rattle.sat_act.specs.Deployed.{Deployed}
 use Rattle.sat_script.specs.Reading.{reading}
 use Rattle.sat_script.specs.Spelled.{Spells}
@@ -8,7 +8,7 @@ use Rattle.sat_draw.specs.Drawing.{drawing}
 use Rattle.sat_draw.proofs.Marks.{each_once}
 use Rattle.sat_draw.proofs.Arrowed.{ways_told}
 use Rattle.sat_top.specs.declared.words.Command.TheVariants.{Draw}
-use Rattle.sat_top.specs.Drawing.{draw_text, drawn, told_history, EveryDrawingIsGood, IsGoodDrawing}
+use Rattle.sat_top.specs.Drawing.{draw_text, told_history, EveryDrawingIsGood, IsGoodDrawing}
 use Rattle.sat_top.specs.Whole.{IsOutput, IsTextOf, run_status}
 use Rattle.sat_top.proofs.Good.{TheLaws, good_run}
 use Rattle.sat_top.proofs.Ran.{zero_fault}

@@ -9,8 +9,8 @@ ghost use Rattle.sat_top.specs.Whole.{refusal, reads, run_status, IsOutput};
 ghost use Rattle.sat_top.specs.Contract.{most_taken};
 
 use crate::drawing::draw_of;
-use crate::loading::load_output;
 use crate::law::good_drawings;
+use crate::loading::load_output;
 use crate::placing::{place_of, place_wide_of};
 use crate::planning::plan_of;
 use crate::stream::{Stop, read_delay_text, read_script};
