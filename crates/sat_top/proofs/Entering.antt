@@ -11,10 +11,11 @@ use Rattle.sat_act.specs.Settling.{run, inner_entry, with_inner}
 use Rattle.sat_world.specs.Seen.{WorldSeen}
 use Rattle.sat_world.specs.Stands.{StandsFor}
 use Rattle.sat_draw.specs.Drawing.{drawing}
-use Rattle.sat_top.specs.Drawing.{outer, told_history, IsEntering}
+use Rattle.sat_top.specs.Drawing.{outer, told_history}
 use Rattle.sat_top.specs.Runs.{history}
 use Rattle.sat_top.specs.Running.{entry, Does}
 use Rattle.sat_top.proofs.Running.{kept, on, runs-none}
+use Rattle.sat_top.specs.UnderWay.{IsEntering}
 
 -- a settle's own acts leave nothing
 outer-in : (d : Deployed) (k : List Entry) (a : Act) → outer (inner_entry d k a ∷ k) ≡ outer k

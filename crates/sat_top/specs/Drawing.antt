@@ -1,9 +1,8 @@
 -- What `draw` makes of a script.
-use Rattle.std.specs.Prelude.{ℕ, ◌≡◌, false, List, [], ◌∷◌, Option, Some, None, if◌then◌else◌, reverse}
+use Rattle.std.specs.Prelude.{ℕ, ◌≡◌, false, List, [], ◌∷◌, Option, Some, None, if◌then◌else◌}
 use Rattle.sat_act.specs.declared.act.Act.{Act}
 use Rattle.sat_act.specs.declared.entry.Entry.{Entry}
 use Rattle.sat_act.specs.Deployed.{Deployed}
-use Rattle.sat_world.specs.Seen.{WorldSeen}
 use Rattle.sat_script.specs.declared.fault.ScriptFault.{ScriptFault}
 use Rattle.sat_script.specs.declared.stream.Reading.{Reading}
 use Rattle.sat_script.specs.Reading.{reading}
@@ -13,7 +12,6 @@ use Rattle.sat_draw.specs.Drawing.{drawing}
 use Rattle.sat_draw.specs.Laws.{EachIsDrawnOnce, WaysAreTold}
 use Rattle.sat_top.specs.Good.{IsGoodRun}
 use Rattle.sat_top.specs.Runs.{history}
-use Rattle.sat_top.specs.Running.{IsRunning}
 
 -- the entries of a history but those that a settle made
 unfoldable pub outer : List Entry → List Entry
@@ -48,10 +46,3 @@ pub record IsGoodDrawing (text : List ℕ) : Type 0 where
 -- so it is with each text that is read without a fault
 abbrev pub EveryDrawingIsGood : Type 0
 EveryDrawingIsGood = (text : List ℕ) → (reading false text).fault ≡ None → IsGoodDrawing text
-
--- ---- a run under way
-
--- these acts were done, and these are their entries, the oldest first
-pub record IsEntering (d : Deployed) (w : WorldSeen) (entries : List Entry) (acts : List Act) : Type 0 where
-  pub running : IsRunning d w acts
-  pub entries_are : reverse entries ≡ told_history d acts

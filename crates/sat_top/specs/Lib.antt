@@ -8,3 +8,4 @@ pub mod Whole
 pub mod Streaming
 pub mod Contract
 pub mod Drawing
+pub mod UnderWay

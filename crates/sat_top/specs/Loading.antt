@@ -1,19 +1,12 @@
 -- What `load` makes of two numbers.
-use Rattle.std.specs.Prelude.{ℕ, ◌≡◌, List}
-use Rattle.sat_act.specs.declared.act.Act.{Act}
-use Rattle.sat_act.specs.declared.answer.Answer.{Answer}
-use Rattle.sat_act.specs.declared.answer.Answer.TheVariants as ans
+use Rattle.std.specs.Prelude.{ℕ, List}
 use Rattle.sat_act.specs.declared.entry.Entry.{Entry}
-use Rattle.sat_act.specs.Deployed.{Deployed}
 use Rattle.sat_outside.specs.Streams.{Told, Takes}
-use Rattle.sat_world.specs.Seen.{WorldSeen}
 use Rattle.sat_report.specs.Summary.{summary}
-use Rattle.sat_rest.specs.Ends.{wrote_count}
 use Rattle.sat_settle.specs.LoadActs.{load_acts}
 use Rattle.sat_settle.specs.LoadHeader.{load_deployment}
 use Rattle.sat_top.specs.Good.{IsGoodRun}
 use Rattle.sat_top.specs.Runs.{history}
-use Rattle.sat_top.specs.Running.{IsRunning}
 
 -- the history of the script that is made
 unfoldable pub load_history : ℕ → ℕ → List Entry
@@ -33,15 +26,3 @@ IsGoodLoad seed acts = IsGoodRun load_deployment (load_acts seed acts)
 pub record HasLoaded (seed acts : ℕ) (old new : Told) : Type 0 where
   pub written : Takes old new (load_text seed acts)
   pub good : IsGoodLoad seed acts
-
--- ---- a run under way
-
--- how many writes an answer tells of
-abbrev pub writes_in : Answer → ℕ
-writes_in (ans.Wrote l) = 1
-writes_in _ = 0
-
--- these acts were done, and so many of them wrote
-pub record IsCounting (d : Deployed) (w : WorldSeen) (written : ℕ) (acts : List Act) : Type 0 where
-  pub running : IsRunning d w acts
-  pub count : written ≡ wrote_count (history d acts)

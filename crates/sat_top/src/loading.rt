@@ -6,8 +6,9 @@ ghost use Rattle.sat_world.specs.Stands.{StandsFor};
 ghost use Rattle.sat_script.specs.Reading.{AreActsOf};
 ghost use Rattle.sat_settle.specs.LoadActs.{load_acts};
 ghost use Rattle.sat_settle.specs.LoadHeader.{load_deployment};
-ghost use Rattle.sat_top.specs.Loading.{load_text, writes_in, IsCounting, IsGoodLoad};
+ghost use Rattle.sat_top.specs.Loading.{load_text, IsGoodLoad};
 ghost use Rattle.sat_top.specs.Words.{IsCommand};
+ghost use Rattle.sat_top.specs.UnderWay.{IsCounting, writes_in};
 
 use crate::output::Output;
 use crate::run::do_act;

@@ -11,7 +11,7 @@ ghost use Rattle.sat_act.specs.declared.entry.Entry.{Entry};
 ghost use Rattle.sat_act.specs.Runs.{IsRun};
 ghost use Rattle.sat_top.specs.Runs.{ending, run_text};
 ghost use Rattle.sat_top.specs.Running.{Does, IsAnswering};
-ghost use Rattle.sat_top.specs.Streaming.{AtWorld, DoesMore, IsKnown, IsWorldOf};
+ghost use Rattle.sat_top.specs.UnderWay.{AtWorld, DoesMore, IsKnown, IsWorldOf};
 
 use sat_act::{Act, Answer, Deployment};
 use sat_report::{write_fault, write_holdings, write_line};

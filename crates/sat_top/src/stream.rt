@@ -11,8 +11,9 @@ ghost use Rattle.sat_place.specs.Shape.{shape_reading};
 ghost use Rattle.sat_script.specs.declared.limits.TheConstants.{MOST_BYTES as MOST_SCRIPT_BYTES};
 ghost use Rattle.sat_delay.specs.declared.read.TheConstants.{MOST_BYTES as MOST_DELAY_BYTES};
 ghost use Rattle.sat_top.specs.declared.stream.TheConstants.{BUFFER_BYTES};
-ghost use Rattle.sat_top.specs.Streaming.{DoesMore, Ends, EndsBefore, HasAnswered, HasFront, IsKnown, IsWorldOf, WasAnswering};
+ghost use Rattle.sat_top.specs.Streaming.{HasAnswered, HasFront, WasAnswering};
 ghost use Rattle.sat_top.specs.Whole.{IsOutput, IsTextOf, TakesFront, run_status};
+ghost use Rattle.sat_top.specs.UnderWay.{DoesMore, Ends, EndsBefore, IsKnown, IsWorldOf};
 
 use crate::law::good_scripts;
 use crate::output::run_status;

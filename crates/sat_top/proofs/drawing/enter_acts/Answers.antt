@@ -1,9 +1,9 @@
 use Rattle.std.proofs.Common.{◌∙◌, List, [], length, ap, arith, refl, subst, sym}
 use Rattle.sat_act.specs.declared.entry.Entry.{Entry}
-use Rattle.sat_top.specs.Drawing.{IsEntering}
 use Rattle.sat_top.proofs.Counting.{rest-more}
 use Rattle.sat_top.proofs.Entering.{enter-next, enters-none}
 use Rattle.sat_top.proofs.drawing.enter_acts.Goals as goal
+use Rattle.sat_top.specs.UnderWay.{IsEntering}
 
 pub loop-place-init : goal.loop-place-init
 loop-place-init c = record {

@@ -1,7 +1,7 @@
 use Rattle.std.proofs.Common.{◌≡◌, length, take, drop}
 use Rattle.sat_script.specs.Reading.{AreActsOf}
-use Rattle.sat_top.specs.Drawing.{IsEntering}
 use Rattle.sat_top.proofs.drawing.enter_acts.Given as goal
+use Rattle.sat_top.specs.UnderWay.{IsEntering}
 
 abbrev pub invariant-loop-place : goal.invariant-loop-place
 invariant-loop-place l = record {

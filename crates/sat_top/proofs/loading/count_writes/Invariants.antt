@@ -1,7 +1,7 @@
 use Rattle.std.proofs.Common.{◌≡◌, ◌≤◌, take, drop}
 use Rattle.sat_script.specs.Reading.{AreActsOf}
-use Rattle.sat_top.specs.Loading.{IsCounting}
 use Rattle.sat_top.proofs.loading.count_writes.Given as goal
+use Rattle.sat_top.specs.UnderWay.{IsCounting}
 
 abbrev pub invariant-loop-place : goal.invariant-loop-place
 invariant-loop-place l = record {
