@@ -1,0 +1,102 @@
+-- Where what was done are fronts and nothing is lacking, all was done.
+use Rattle.std.proofs.Common.{◌≡◌, ℕ, zero, suc, ◌+◌, ◌≤◌, ◌<◌, ◌==◌, nat_le, Bool, true, false, not, ◌&&◌, List, [], ◌∷◌, ◌++◌, length, filter, Option, Some, None, if◌then◌else◌, ◌⊎◌, inl, inr, refl, sym, ap, ◌∙◌, arith, length-append}
+use Rattle.std.proofs.lemmas.Bool.{eqb-true}
+use Rattle.std.proofs.lemmas.Bool.Decides.{nat_tests}
+use Rattle.std.proofs.lemmas.List.Elements.{filter-append}
+use Rattle.sat_act.specs.declared.act.Act.{Act}
+use Rattle.sat_act.specs.declared.entry.Entry.{Entry}
+use Rattle.sat_stitch.specs.Places.{Session, Client, Operator, session_of, session_eq, is_session}
+use Rattle.sat_undone.specs.declared.undone.Tally.{Tally}
+use Rattle.sat_undone.specs.Undone.{is_of, acts_of, entries_of, waits, most_tries, given_up, acts_behind, acts_done, next_tally, tally_from, no_tally, tally_of, stopped, lacks, lacks_by, lacks_of, undone, undone_behind, IsFront, AreFronts, AreDone, FrontsAreDone}
+
+-- where the client did not stop, as many acts were done as were counted
+done-length : (n : ℕ) (o : Option Act) (t : Tally) (es : List Entry) → t.tries ≡ n → stopped (tally_from t es) ≡ false → length (acts_behind n o es) + t.done ≡ (tally_from t es).done
+done-length n None t [] at on = refl
+done-length n (Some a) t [] at on = go (nat_le most_tries n) refl
+  where
+    go : (b : Bool) → nat_le most_tries n ≡ b → length (if b then a ∷ [] else []) + t.done ≡ t.done
+    go true is = absurd (let e : nat_le most_tries t.tries ≡ true = (rw at is) in cc)
+    go false is = refl
+done-length n o t (e ∷ es) at on = go (waits e) refl
+  where
+    go : (b : Bool) → waits e ≡ b → length (if b then acts_behind (n + 1) (Some e.act) es else e.act ∷ acts_behind 0 None es) + t.done ≡ (tally_from (next_tally t e) es).done
+    go true is =
+        let d : (next_tally t e).done ≡ t.done = (rw is refl) in
+        let r : (next_tally t e).tries ≡ n + 1 = (rw is (ap (λ k. k + 1) at)) in
+        let more = done-length (n + 1) (Some e.act) (next_tally t e) es r on in
+        omega (arith, d, more)
+    go false is =
+        let d : (next_tally t e).done ≡ t.done + 1 = (rw is refl) in
+        let r : (next_tally t e).tries ≡ 0 = (rw is refl) in
+        let more = done-length 0 None (next_tally t e) es r on in
+        omega (arith, d, more)
+
+all-done : (s : Session) (es : List Entry) → stopped (tally_of s es) ≡ false → length (acts_done (entries_of s es)) ≡ (tally_of s es).done
+unfolding tally_of
+all-done s es on = let e = done-length 0 None no_tally (entries_of s es) refl on in omega (arith, e)
+
+session-is : (a s : Session) → session_eq a s ≡ true → a ≡ s
+session-is (Client b) (Client c) e = ap Client (eqb-true b c e)
+session-is (Client b) Operator e = absurd (cc)
+session-is Operator (Client c) e = absurd (cc)
+session-is Operator Operator e = refl
+
+same-session : (s : Session) (o : Option Session) → is_session s o ≡ true → o ≡ Some s
+same-session s None e = absurd (cc)
+same-session s (Some x) e = ap Some (session-is x s e)
+
+-- one act more of a session
+acts-more : (s : Session) (as : List Act) (a : Act) (b : Bool) → is_of s a ≡ b → acts_of s (as ++ a ∷ []) ≡ acts_of s as ++ (if b then a ∷ [] else [])
+acts-more s as a b is = filter-append (is_of s) as (a ∷ []) ∙ (rw is refl)
+
+again : (as bs : List Act) (a : Act) → (as ++ a ∷ []) ++ bs ≡ as ++ a ∷ bs
+again [] bs a = refl
+again (x ∷ as) bs a = ap (λ ys. x ∷ ys) (again as bs a)
+
+append-nil : (as : List Act) → as ++ [] ≡ as
+append-nil [] = refl
+append-nil (x ∷ as) = ap (λ ys. x ∷ ys) (append-nil as)
+
+not-lacking : (t : Tally) (n : ℕ) → stopped t ≡ false → lacks_of t n ≡ false → n < t.done
+not-lacking t n on no = let e : nat_le t.done n ≡ false = (rw on no) in grind (arith, nat_tests)
+
+-- where nothing is lacking and the client did not stop, it has no more acts than were counted
+no-more : (s : Session) (es : List Entry) (before as : List Act) → stopped (tally_of s es) ≡ false → length (acts_of s before) ≤ (tally_of s es).done → undone_behind es before as ≡ None →
+    length (acts_of s (before ++ as)) ≤ (tally_of s es).done
+no-more s es before [] on few none = rw (append-nil before) few
+no-more s es before (a ∷ as) on few none = go (lacks es before a) refl none
+  where
+    go : (l : Bool) → lacks es before a ≡ l → (if l then Some a else undone_behind es (before ++ a ∷ []) as) ≡ None → length (acts_of s (before ++ a ∷ as)) ≤ (tally_of s es).done
+    go true lacking none = absurd (cc)
+    go false lacking none =
+        let fewer : length (acts_of s (before ++ a ∷ [])) ≤ (tally_of s es).done = step (is_of s a) refl lacking in
+        let rest = no-more s es (before ++ a ∷ []) as on fewer none in
+        rw (sym (again before as a)) rest
+      where
+        step : (b : Bool) → is_of s a ≡ b → lacks es before a ≡ false → length (acts_of s (before ++ a ∷ [])) ≤ (tally_of s es).done
+        step true is lacking =
+            let of = same-session s (session_of a) is in
+            let less = not-lacking (tally_of s es) (length (acts_of s before)) on (sym (ap (lacks_by es before) of) ∙ lacking) in
+            let e = ap length (acts-more s before a true is) ∙ length-append (acts_of s before) (a ∷ []) in
+            omega (arith, less, e)
+        step false is lacking =
+            let e = ap length (acts-more s before a false is ∙ append-nil (acts_of s before)) in
+            omega (arith, few, e)
+
+whole : (front rest : List Act) → length (front ++ rest) ≤ length front → front ≡ front ++ rest
+whole [] [] few = refl
+whole [] (x ∷ rest) few = absurd (omega arith)
+whole (x ∷ front) rest few = ap (λ ys. x ∷ ys) (whole front rest (omega (arith, few)))
+
+pub fronts_are_done : FrontsAreDone
+unfolding undone
+fronts_are_done es as fronts none s = go (stopped (tally_of s es)) refl (fronts s)
+  where
+    go : (b : Bool) → stopped (tally_of s es) ≡ b → IsFront (acts_done (entries_of s es)) (acts_of s as) →
+        (acts_done (entries_of s es) ≡ acts_of s as) ⊎ ((stopped (tally_of s es) ≡ true) × IsFront (acts_done (entries_of s es)) (acts_of s as))
+    go true is front = inr (is, front)
+    go false is front =
+        let few = no-more s es [] as is (omega arith) none in
+        let e = all-done s es is in
+        let fewer : length (acts_done (entries_of s es) ++ front.0) ≤ length (acts_done (entries_of s es)) = rw (sym front.1) (omega (arith, few, e)) in
+        inl (whole (acts_done (entries_of s es)) front.0 fewer ∙ sym front.1)

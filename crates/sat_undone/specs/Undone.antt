@@ -1,0 +1,132 @@
+-- Which acts of a script a history of running nodes lacks. Entries and acts come the oldest first.
+use Rattle.std.specs.Prelude.{◌≡◌, ◌⊎◌, ℕ, ◌+◌, ◌<◌, Bool, true, false, ◌&&◌, not, nat_le, nat_lt, List, [], ◌∷◌, ◌++◌, length, filter, Option, Some, None, slice_get, if◌then◌else◌}
+use Rattle.sat_act.specs.declared.act.Act.{Act}
+use Rattle.sat_act.specs.declared.act.Act.TheVariants as act
+use Rattle.sat_act.specs.declared.answer.Answer.{Answer}
+use Rattle.sat_act.specs.declared.answer.Answer.TheVariants as ans
+use Rattle.sat_act.specs.declared.answer.Refusal.TheVariants as why
+use Rattle.sat_act.specs.declared.entry.Entry.{Entry}
+use Rattle.sat_stitch.specs.Places.{Session, Client, Operator, session_of, is_session}
+use Rattle.sat_undone.specs.declared.undone.Tally.{Tally}
+
+-- ---- whose acts
+
+-- the session of this number: that of the client, or behind all clients the operator's
+abbrev pub session_at : ℕ → ℕ → Session
+session_at clients n = if nat_lt n clients then Client n else Operator
+
+-- the number of a session, if it is one of so many clients or the operator
+abbrev pub number_of : ℕ → Option Session → Option ℕ
+number_of clients None = None
+number_of clients (Some (Client c)) = if nat_lt c clients then Some c else None
+number_of clients (Some Operator) = Some clients
+
+abbrev pub is_by : Session → Entry → Bool
+is_by s e = is_session s (session_of e.act)
+
+-- the entries of a session, and its acts in a script
+abbrev pub entries_of : Session → List Entry → List Entry
+entries_of s es = filter (is_by s) es
+
+abbrev pub is_of : Session → Act → Bool
+is_of s a = is_session s (session_of a)
+
+abbrev pub acts_of : Session → List Act → List Act
+acts_of s as = filter (is_of s) as
+
+-- ---- tries
+
+abbrev pub is_attach : Act → Bool
+is_attach (act.Attach c j) = true
+is_attach _ = false
+
+abbrev pub is_not_yet : Answer → Bool
+is_not_yet (ans.Refused why.NotYet) = true
+is_not_yet _ = false
+
+-- an attach that has to wait, and is tried again
+abbrev pub waits : Entry → Bool
+waits e = is_attach e.act && is_not_yet e.answer
+
+-- a client stops at so many in a row
+abbrev pub most_tries : ℕ
+most_tries = 1000
+
+-- what so many attaches in a row are that had to wait, the last of which is this, where nothing comes behind them: one act where they are
+-- the most, else none
+abbrev pub given_up : ℕ → Option Act → List Act
+given_up n None = []
+given_up n (Some a) = if nat_le most_tries n then a ∷ [] else []
+
+-- the acts of these entries of one session, behind so many attaches in a row that had to wait: such an attach and the entry behind it are one act
+abbrev pub acts_behind : ℕ → Option Act → List Entry → List Act
+acts_behind n o [] = given_up n o
+acts_behind n o (e ∷ es) = if waits e then acts_behind (n + 1) (Some e.act) es else e.act ∷ acts_behind 0 None es
+
+abbrev pub acts_done : List Entry → List Act
+acts_done es = acts_behind 0 None es
+
+-- ---- counted
+
+-- after one entry more
+abbrev pub next_tally : Tally → Entry → Tally
+next_tally t e = if waits e then record { done = t.done; tries = t.tries + 1 } else record { done = t.done + 1; tries = 0 }
+
+abbrev pub tally_from : Tally → List Entry → Tally
+tally_from t [] = t
+tally_from t (e ∷ es) = tally_from (next_tally t e) es
+
+abbrev pub no_tally : Tally
+no_tally = record { done = 0; tries = 0 }
+
+-- of a session, in a history
+unfoldable pub tally_of : Session → List Entry → Tally
+tally_of s es = tally_from no_tally (entries_of s es)
+
+-- its client stopped
+abbrev pub stopped : Tally → Bool
+stopped t = nat_le most_tries t.tries
+
+-- how many acts were done
+abbrev pub acts_in : Tally → ℕ
+acts_in t = if stopped t then t.done + 1 else t.done
+
+-- ---- what is lacking
+
+-- the history lacks the act of this number of a session, unless its client stopped
+abbrev pub lacks_of : Tally → ℕ → Bool
+lacks_of t n = not (stopped t) && nat_le t.done n
+
+abbrev pub lacks_by : List Entry → List Act → Option Session → Bool
+lacks_by es before None = false
+lacks_by es before (Some s) = lacks_of (tally_of s es) (length (acts_of s before))
+
+-- a history lacks an act that comes behind others of a script
+abbrev pub lacks : List Entry → List Act → Act → Bool
+lacks es before a = lacks_by es before (session_of a)
+
+abbrev pub undone_behind : List Entry → List Act → List Act → Option Act
+undone_behind es before [] = None
+undone_behind es before (a ∷ as) = if lacks es before a then Some a else undone_behind es (before ++ a ∷ []) as
+
+-- the first act of a script that a history lacks, but for those that stand behind the most refused attaches of their client
+unfoldable pub undone : List Entry → List Act → Option Act
+unfolding tally_of
+undone es as = undone_behind es [] as
+
+-- the first of them are these
+abbrev pub IsFront : List Act → List Act → Type 0
+IsFront front all = (rest : List Act) × (all ≡ front ++ rest)
+
+-- what was done of a session is a front of its acts
+abbrev pub AreFronts : List Entry → List Act → Type 0
+AreFronts es as = (s : Session) → IsFront (acts_done (entries_of s es)) (acts_of s as)
+
+-- of each session all acts were done, in their order; or a front, behind which its client stopped
+abbrev pub AreDone : List Entry → List Act → Type 0
+AreDone es as =
+    (s : Session) → (acts_done (entries_of s es) ≡ acts_of s as) ⊎ ((stopped (tally_of s es) ≡ true) × IsFront (acts_done (entries_of s es)) (acts_of s as))
+
+-- where what was done are fronts and the history lacks nothing, all acts were done
+abbrev pub FrontsAreDone : Type 0
+FrontsAreDone = (es : List Entry) (as : List Act) → AreFronts es as → undone es as ≡ None → AreDone es as

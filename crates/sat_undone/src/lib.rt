@@ -1,0 +1,17 @@
+//! Which acts of a script a history of running nodes lacks.
+#![tactic(auto)]
+
+mod undone;
+
+ghost use Rattle.sat_undone.specs.Undone.{FrontsAreDone};
+
+pub use undone::{MOST_TRIES, undone};
+
+/// Where what each session did is a front of its acts and the history lacks nothing, all acts were done but those of clients that
+/// stopped.
+pub fn doing()
+    ensures done { FrontsAreDone }
+{}
+
+#[cfg(test)]
+mod tests;
