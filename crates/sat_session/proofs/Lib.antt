@@ -4,3 +4,4 @@ pub mod Matches
 pub mod Whole
 pub mod Answering
 pub mod More
+pub mod Begins
