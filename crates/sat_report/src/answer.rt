@@ -138,8 +138,9 @@ fn append_refused(refusal: &Refusal, out: &mut Vec<u8>) -> Result<(), AllocError
     append_refusal(refusal, out)
 }
 
+/// Appends the text of an answer. For want of memory a front of it may stand there.
 #[tactic(auto, unfolding(crate::specs::Answers::answer_text))]
-fn append_answer(d: &Deployment, answer: &Answer, out: &mut Vec<u8>) -> Result<(), AllocError>
+pub fn append_answer(d: &Deployment, answer: &Answer, out: &mut Vec<u8>) -> Result<(), AllocError>
     ensures ok { OnOk result (out.new.items ≡ out.old.items ++ answer_text d.now answer.now) }
     ensures err { OnErr result (Keeps out.old.items out.new.items) }
 {

@@ -7,7 +7,7 @@ mod holdings;
 mod summary;
 mod text;
 
-pub use answer::{write_answer, write_line};
+pub use answer::{append_answer, write_answer, write_line};
 pub use fault::write_fault;
 pub use holdings::write_holdings;
 pub use summary::write_summary;

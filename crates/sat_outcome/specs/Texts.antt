@@ -1,0 +1,66 @@
+-- What is printed of running nodes whose history is not whole.
+use Rattle.std.specs.Prelude.{ℕ, ◌+◌, nat_lt, List, [], ◌∷◌, ◌++◌, length, Option, Some, None, codes, if◌then◌else◌}
+use Rattle.std.specs.Fmt.{decimal}
+use Rattle.sat_label.specs.Text.{point_text}
+use Rattle.sat_label.specs.declared.node.NodeName.{NodeName}
+use Rattle.sat_label.specs.declared.node.NodeName.TheVariants as named
+use Rattle.sat_act.specs.declared.act.Act.{Act}
+use Rattle.sat_act.specs.declared.deployment.Plan.{Plan}
+use Rattle.sat_act.specs.declared.deployment.Plan.TheVariants as plan
+use Rattle.sat_act.specs.Deployed.{Deployed}
+use Rattle.sat_script.specs.Spelled.{act_text}
+use Rattle.sat_report.specs.Answers.{answer_text}
+use Rattle.sat_session.specs.declared.noted.Noted.{Noted}
+
+-- ---- places of nodes
+
+-- how many serializers a plan has
+abbrev pub serials_in : Plan → ℕ
+serials_in plan.Stamp = 0
+serials_in (plan.Tree tree) = length tree.parents
+
+-- how many the plans before that of epoch e have, where the first of them is of epoch k
+abbrev pub serials_before : ℕ → ℕ → List Plan → ℕ
+serials_before k e [] = 0
+serials_before k e (p ∷ ps) = if nat_lt k e then serials_in p + serials_before (k + 1) e ps else 0
+
+-- the place of a node among all: sites by number, then serializers by epoch and number
+abbrev pub node_place : Deployed → NodeName → ℕ
+node_place d (named.Site i) = i
+node_place d (named.Serializer e z) = d.sites + serials_before 1 e d.plans + z
+
+-- ---- lines
+
+-- a number, or a dash where there is none
+abbrev pub number_text : Option ℕ → List ℕ
+number_text None = codes "-"
+number_text (Some n) = decimal n
+
+abbrev pub place_of : Deployed → Option NodeName → Option ℕ
+place_of d None = None
+place_of d (Some name) = Some (node_place d name)
+
+-- where an act was done, and what was carried: the node's place, the point and the goal
+abbrev pub known_text : Deployed → Noted → List ℕ
+known_text d n = number_text (place_of d n.at) ++ 32 ∷ (point_text n.carried.point ++ 32 ∷ number_text n.carried.moving)
+
+-- a note: its number, that, the act's line, and the answer
+abbrev pub note_text : Deployed → Noted → List ℕ
+note_text d n = decimal n.lamport ++ 32 ∷ (known_text d n ++ 32 ∷ (act_text d n.entry.act ++ codes " -> " ++ answer_text d n.entry.answer))
+
+-- what was kept of an act, if anything was
+abbrev pub kept_text : Deployed → Option Noted → List ℕ
+kept_text d None = codes "none"
+kept_text d (Some n) = note_text d n
+
+-- what a node kept, and what a session kept, where they are not the same
+abbrev pub differ_text : Deployed → Option Noted → Option Noted → List ℕ
+differ_text d node session = codes "differ\n" ++ kept_text d node ++ 10 ∷ (kept_text d session ++ 10 ∷ [])
+
+-- the act that a history lacks
+abbrev pub undone_text : Deployed → Act → List ℕ
+undone_text d a = codes "undone\n" ++ act_text d a ++ 10 ∷ []
+
+-- what is left under way after a settle behind the history
+abbrev pub unsettled_text : ℕ → ℕ → List ℕ
+unsettled_text left done = codes "undone\nsettled " ++ decimal left ++ 32 ∷ (decimal done ++ 10 ∷ [])
