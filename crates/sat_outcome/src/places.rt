@@ -1,6 +1,5 @@
 //! Places of nodes.
-ghost use Rattle.std.specs.Prelude.{◌≡◌, ◌+◌, ◌*◌, ◌^◌, ◌<◌, length};
-ghost use Rattle.sat_act.specs.Limits.{IsDeployment};
+ghost use Rattle.std.specs.Prelude.{◌≡◌, ◌+◌, ◌*◌, ◌^◌, ◌<◌, ◌≤◌, length};
 ghost use Rattle.sat_outcome.specs.Texts.{node_place, serials_before, serials_in};
 
 use sat_act::{Deployment, Plan};
@@ -19,7 +18,8 @@ fn serials_in(plan: &Plan) -> u16
 fn add_serials(more: u64, first: u64, epoch: u16, plans: &[Plan]) -> u64
     requires more { more + 65536 * length plans.now < 2 ^ 64 }
     requires first { first + length plans.now < 2 ^ 64 }
-    ensures { result ≡ more + serials_before first epoch plans.now }
+    ensures count { result ≡ more + serials_before first epoch plans.now }
+    ensures few { result ≤ more + 65536 * length plans.now }
 {
     let Some((plan, rest)) = plans.split_first() else {
         return more;
@@ -31,7 +31,6 @@ fn add_serials(more: u64, first: u64, epoch: u16, plans: &[Plan]) -> u64
 }
 
 /// The place of a node among all: sites by number, then serializers by epoch and number.
-#[tactic(auto, using(crate::proofs::Few::few_plans, crate::proofs::Few::few_serials))]
 pub fn node_place(d: &Deployment, name: NodeName) -> u64
     ensures { result ≡ node_place d.now name }
 {
