@@ -1,15 +1,15 @@
 -- The tables of what was counted, after one entry or one act more.
-use Rattle.std.proofs.Common.{◌≡◌, ◌≢◌, ℕ, zero, suc, ◌+◌, ◌<◌, ◌≤◌, ◌==◌, nat_lt, Bool, true, false, List, [], ◌∷◌, ◌++◌, length, filter, get_or, set, Option, Some, None, slice_get, if◌then◌else◌, ◌⊎◌, inl, inr, refl, sym, ap, ◌∙◌, arith}
+use Rattle.std.proofs.Common.{◌≡◌, ◌≢◌, ℕ, zero, suc, ◌+◌, ◌<◌, ◌≤◌, ◌==◌, nat_lt, Bool, true, false, List, [], ◌∷◌, ◌++◌, length, filter, take, drop, get_or, set, Option, Some, None, slice_get, if◌then◌else◌, ◌⊎◌, inl, inr, refl, sym, subst, ap, ◌∙◌, arith, add-one, drop-cons}
 use Rattle.std.proofs.lemmas.Bool.{cases_eq, cases_lt}
 use Rattle.std.proofs.lemmas.Bool.Decides.{nat_tests}
-use Rattle.std.proofs.lemmas.List.{length-set, get_or-set_same, get_or-set_other}
+use Rattle.std.proofs.lemmas.List.{take_more, length-set, get_or-set_same, get_or-set_other}
 use Rattle.std.proofs.lemmas.List.Elements.{filter-append}
 use Rattle.std.proofs.lemmas.Option.{slice_get_within, get_or_from_slice_get}
 use Rattle.sat_act.specs.declared.act.Act.{Act}
 use Rattle.sat_act.specs.declared.entry.Entry.{Entry}
 use Rattle.sat_stitch.specs.Places.{Session, Client, Operator, session_of, is_session}
-use Rattle.sat_undone.specs.declared.undone.Tally.{Tally}
-use Rattle.sat_undone.specs.Undone.{session_at, number_of, is_by, is_of, entries_of, acts_of, waits, next_tally, tally_from, no_tally, tally_of}
+use Rattle.sat_undone.specs.declared.lacking.Tally.{Tally}
+use Rattle.sat_undone.specs.Undone.{session_at, number_of, is_by, is_of, entries_of, acts_of, waits, tally_by, next_tally, tally_from, no_tally, tally_of, lacks, undone_behind}
 use Rattle.sat_undone.specs.Counted.{AreTallies, AreCounts, IsKnown}
 
 -- ---- numbers of sessions
@@ -58,43 +58,65 @@ tally-last : (t : Tally) (es : List Entry) (e : Entry) → tally_from t (es ++ e
 tally-last t [] e = refl
 tally-last t (x ∷ es) e = tally-last (next_tally t x) es e
 
+none-more : {X : Type 0} (xs : List X) → xs ++ [] ≡ xs
+none-more [] = refl
+none-more {X} (x ∷ xs) = ap (λ (ys : List X). x ∷ ys) (none-more xs)
+
+-- a filter of one member more
+filter-by : {X : Type 0} (p : X → Bool) (xs : List X) (x : X) (b : Bool) → p x ≡ b → filter p (xs ++ x ∷ []) ≡ filter p xs ++ (if b then x ∷ [] else [])
+filter-by {X} p xs x b is = filter-append p xs (x ∷ []) ∙ ap (λ (c : Bool). filter p xs ++ (if c then x ∷ [] else [])) is
+
 tally-by : (s : Session) (es : List Entry) (e : Entry) → is_by s e ≡ true → tally_of s (es ++ e ∷ []) ≡ next_tally (tally_of s es) e
 unfolding tally_of
-tally-by s es e is = ap (tally_from no_tally) (filter-append (is_by s) es (e ∷ []) ∙ (rw is refl)) ∙ tally-last no_tally (entries_of s es) e
+tally-by s es e is = ap (tally_from no_tally) (filter-by (is_by s) es e true is) ∙ tally-last no_tally (entries_of s es) e
 
 tally-not : (s : Session) (es : List Entry) (e : Entry) → is_by s e ≡ false → tally_of s (es ++ e ∷ []) ≡ tally_of s es
 unfolding tally_of
-tally-not s es e is = ap (tally_from no_tally) (filter-append (is_by s) es (e ∷ []) ∙ (rw is (append-nil (entries_of s es))))
-  where
-    append-nil : (xs : List Entry) → xs ++ [] ≡ xs
-    append-nil [] = refl
-    append-nil (x ∷ xs) = ap (λ ys. x ∷ ys) (append-nil xs)
+tally-not s es e is = ap (tally_from no_tally) (filter-by (is_by s) es e false is ∙ none-more (entries_of s es))
 
--- an entry of the session of number k, whose tally stands there
-pub tally_more : (clients k : ℕ) (es : List Entry) (e : Entry) (ts : List Tally) (t : Tally) → number_of clients (session_of e.act) ≡ Some k → slice_get ts k ≡ Some t →
-    AreTallies clients es ts → AreTallies clients (es ++ e ∷ []) (set ts k (next_tally t e))
-tally_more clients k es e ts t at there old = record { all = length-set ts k (next_tally t e) ∙ old.all; each = λ n less. go n less (cases_eq n k) }
+-- an entry of the session of number k
+pub tally_more : (clients k : ℕ) (es : List Entry) (e : Entry) (ts : List Tally) → number_of clients (session_of e.act) ≡ Some k → AreTallies clients es ts →
+    AreTallies clients (es ++ e ∷ []) (set ts k (next_tally (get_or ts k no_tally) e))
+tally_more clients k es e ts at old = record { all = length-set ts k (next_tally (get_or ts k no_tally) e) ∙ old.all; each = λ n less. go n less (cases_eq n k) }
   where
-    go : (n : ℕ) → n < clients + 1 → (n ≡ k) ⊎ (n ≡ k → ⊥) → get_or (set ts k (next_tally t e)) n no_tally ≡ tally_of (session_at clients n) (es ++ e ∷ [])
-    go n less (inl refl) =
-        get_or-set_same ts k (next_tally t e) no_tally (slice_get_within ts k t there)
-        ∙ ap (λ x. next_tally x e) (sym (get_or_from_slice_get ts k t no_tally there) ∙ old.each k less)
-        ∙ sym (tally-by (session_at clients k) es e (is-it clients k (session_of e.act) at less))
+    small : k < clients + 1
+    small = number_is clients k (session_of e.act) at
+
+    here : get_or (set ts k (next_tally (get_or ts k no_tally) e)) k no_tally ≡ tally_of (session_at clients k) (es ++ e ∷ [])
+    here =
+        get_or-set_same ts k (next_tally (get_or ts k no_tally) e) no_tally (omega (arith, old.all, small))
+        ∙ ap (λ (x : Tally). next_tally x e) (old.each k small)
+        ∙ sym (tally-by (session_at clients k) es e (is-it clients k (session_of e.act) at small))
+
+    go : (n : ℕ) → n < clients + 1 → (n ≡ k) ⊎ (n ≡ k → ⊥) → get_or (set ts k (next_tally (get_or ts k no_tally) e)) n no_tally ≡ tally_of (session_at clients n) (es ++ e ∷ [])
+    go n less (inl same) =
+        subst (λ m. get_or (set ts k (next_tally (get_or ts k no_tally) e)) m no_tally ≡ tally_of (session_at clients m) (es ++ e ∷ [])) (sym same) here
     go n less (inr other) =
-        get_or-set_other ts k n (next_tally t e) no_tally other ∙ old.each n less ∙ sym (tally-not (session_at clients n) es e (is-other clients n k (session_of e.act) at less other))
+        get_or-set_other ts k n (next_tally (get_or ts k no_tally) e) no_tally other ∙ old.each n less ∙ sym (tally-not (session_at clients n) es e (is-other clients n k (session_of e.act) at less other))
 
 -- an entry of none of these sessions
 pub tally_other : (clients : ℕ) (es : List Entry) (e : Entry) (ts : List Tally) → number_of clients (session_of e.act) ≡ None → AreTallies clients es ts → AreTallies clients (es ++ e ∷ []) ts
 tally_other clients es e ts none old = record { all = old.all; each = λ n less. old.each n less ∙ sym (tally-not (session_at clients n) es e (is-none clients n (session_of e.act) none less)) }
 
+-- a table of nothing, as it grows
+pub none_more : (ts : List Tally) → ((k : ℕ) → get_or ts k no_tally ≡ no_tally) → (k : ℕ) → get_or (ts ++ no_tally ∷ []) k no_tally ≡ no_tally
+none_more [] none zero = refl
+none_more [] none (suc k) = refl
+none_more (t ∷ ts) none zero = none zero
+none_more (t ∷ ts) none (suc k) = none_more ts (λ j. none (suc j)) k
+
+pub none_counted : (clients : ℕ) (ts : List Tally) → length ts ≡ clients + 1 → ((k : ℕ) → get_or ts k no_tally ≡ no_tally) → AreTallies clients [] ts
+unfolding tally_of
+none_counted clients ts all none = record { all = all; each = λ n less. none n }
+
 -- a tally counts no more than there is
+next-size : (b : Bool) (t : Tally) → (tally_by b t).done + (tally_by b t).tries ≤ t.done + t.tries + 1
+next-size true t = omega arith
+next-size false t = omega arith
+
 tally-size : (t : Tally) (es : List Entry) → (tally_from t es).done + (tally_from t es).tries ≤ t.done + t.tries + length es
 tally-size t [] = omega arith
-tally-size t (e ∷ es) = go (waits e) refl
-  where
-    go : (b : Bool) → waits e ≡ b → (tally_from (next_tally t e) es).done + (tally_from (next_tally t e) es).tries ≤ t.done + t.tries + suc (length es)
-    go true is = let more = tally-size (next_tally t e) es in let d : (next_tally t e).done ≡ t.done = (rw is refl) in let r : (next_tally t e).tries ≡ t.tries + 1 = (rw is refl) in omega (arith, more, d, r)
-    go false is = let more = tally-size (next_tally t e) es in let d : (next_tally t e).done ≡ t.done + 1 = (rw is refl) in let r : (next_tally t e).tries ≡ 0 = (rw is refl) in omega (arith, more, d, r)
+tally-size t (e ∷ es) = let more = tally-size (next_tally t e) es in let one = next-size (waits e) t in omega (arith, more, one)
 
 few-filter : {X : Type 0} (p : X → Bool) (xs : List X) → length (filter p xs) ≤ length xs
 few-filter p [] = omega arith
@@ -108,38 +130,55 @@ small-of : (s : Session) (es : List Entry) → (tally_of s es).done + (tally_of 
 unfolding tally_of
 small-of s es = let a = tally-size no_tally (entries_of s es) in let b = few-filter (is_by s) es in omega (arith, a, b)
 
-pub small_tally : (clients k : ℕ) (es : List Entry) (ts : List Tally) (t : Tally) → AreTallies clients es ts → k < clients + 1 → slice_get ts k ≡ Some t → t.done + t.tries ≤ length es
-small_tally clients k es ts t old less there =
-    let e : t ≡ tally_of (session_at clients k) es = sym (get_or_from_slice_get ts k t no_tally there) ∙ old.each k less in
-    let small = small-of (session_at clients k) es in
-    rw e small
+pub small_tally : (clients k : ℕ) (es : List Entry) (ts : List Tally) → AreTallies clients es ts → k < clients + 1 → (get_or ts k no_tally).done + (get_or ts k no_tally).tries ≤ length es
+small_tally clients k es ts old less = subst (λ (t : Tally). t.done + t.tries ≤ length es) (sym (old.each k less)) (small-of (session_at clients k) es)
 
 -- ---- counts
 
-acts-by : (s : Session) (as : List Act) (a : Act) → is_of s a ≡ true → length (acts_of s (as ++ a ∷ [])) ≡ length (acts_of s as) + 1
-acts-by s as a is = ap length (filter-append (is_of s) as (a ∷ []) ∙ (rw is refl)) ∙ longer (acts_of s as) a
-  where
-    longer : (xs : List Act) (x : Act) → length (xs ++ x ∷ []) ≡ length xs + 1
-    longer [] x = refl
-    longer (y ∷ xs) x = let e = longer xs x in omega (arith, e)
+longer : (xs : List Act) (x : Act) → length (xs ++ x ∷ []) ≡ length xs + 1
+longer [] x = refl
+longer (y ∷ xs) x = let e = longer xs x in omega (arith, e)
 
-acts-not : (s : Session) (as : List Act) (a : Act) → is_of s a ≡ false → length (acts_of s (as ++ a ∷ [])) ≡ length (acts_of s as)
-acts-not s as a is = ap length (filter-append (is_of s) as (a ∷ []) ∙ (rw is (append-nil (acts_of s as))))
-  where
-    append-nil : (xs : List Act) → xs ++ [] ≡ xs
-    append-nil [] = refl
-    append-nil (x ∷ xs) = ap (λ ys. x ∷ ys) (append-nil xs)
+acts-by : (s : Session) (acts : List Act) (a : Act) → is_of s a ≡ true → length (acts_of s (acts ++ a ∷ [])) ≡ length (acts_of s acts) + 1
+acts-by s acts a is = ap length (filter-by (is_of s) acts a true is) ∙ longer (acts_of s acts) a
 
-pub count_more : (clients k : ℕ) (as : List Act) (a : Act) (ns : List ℕ) (n : ℕ) → number_of clients (session_of a) ≡ Some k → slice_get ns k ≡ Some n → AreCounts clients as ns →
-    AreCounts clients (as ++ a ∷ []) (set ns k (n + 1))
-count_more clients k as a ns x at there old = record { all = length-set ns k (x + 1) ∙ old.all; each = λ n less. go n less (cases_eq n k) }
-  where
-    go : (n : ℕ) → n < clients + 1 → (n ≡ k) ⊎ (n ≡ k → ⊥) → get_or (set ns k (x + 1)) n 0 ≡ length (acts_of (session_at clients n) (as ++ a ∷ []))
-    go n less (inl refl) =
-        get_or-set_same ns k (x + 1) 0 (slice_get_within ns k x there)
-        ∙ ap (λ y. y + 1) (sym (get_or_from_slice_get ns k x 0 there) ∙ old.each k less)
-        ∙ sym (acts-by (session_at clients k) as a (is-it clients k (session_of a) at less))
-    go n less (inr other) = get_or-set_other ns k n (x + 1) 0 other ∙ old.each n less ∙ sym (acts-not (session_at clients n) as a (is-other clients n k (session_of a) at less other))
+acts-not : (s : Session) (acts : List Act) (a : Act) → is_of s a ≡ false → length (acts_of s (acts ++ a ∷ [])) ≡ length (acts_of s acts)
+acts-not s acts a is = ap length (filter-by (is_of s) acts a false is ∙ none-more (acts_of s acts))
 
-pub count_other : (clients : ℕ) (as : List Act) (a : Act) (ns : List ℕ) → number_of clients (session_of a) ≡ None → AreCounts clients as ns → AreCounts clients (as ++ a ∷ []) ns
-count_other clients as a ns none old = record { all = old.all; each = λ n less. old.each n less ∙ sym (acts-not (session_at clients n) as a (is-none clients n (session_of a) none less)) }
+pub count_one : (clients k : ℕ) (acts : List Act) (a : Act) (ns : List ℕ) → number_of clients (session_of a) ≡ Some k → AreCounts clients acts ns → AreCounts clients (acts ++ a ∷ []) (set ns k (get_or ns k 0 + 1))
+count_one clients k acts a ns at old = record { all = length-set ns k (get_or ns k 0 + 1) ∙ old.all; each = λ n less. go n less (cases_eq n k) }
+  where
+    small : k < clients + 1
+    small = number_is clients k (session_of a) at
+
+    here : get_or (set ns k (get_or ns k 0 + 1)) k 0 ≡ length (acts_of (session_at clients k) (acts ++ a ∷ []))
+    here =
+        get_or-set_same ns k (get_or ns k 0 + 1) 0 (omega (arith, old.all, small))
+        ∙ ap (λ (y : ℕ). y + 1) (old.each k small)
+        ∙ sym (acts-by (session_at clients k) acts a (is-it clients k (session_of a) at small))
+
+    go : (n : ℕ) → n < clients + 1 → (n ≡ k) ⊎ (n ≡ k → ⊥) → get_or (set ns k (get_or ns k 0 + 1)) n 0 ≡ length (acts_of (session_at clients n) (acts ++ a ∷ []))
+    go n less (inl same) = subst (λ m. get_or (set ns k (get_or ns k 0 + 1)) m 0 ≡ length (acts_of (session_at clients m) (acts ++ a ∷ []))) (sym same) here
+    go n less (inr other) = get_or-set_other ns k n (get_or ns k 0 + 1) 0 other ∙ old.each n less ∙ sym (acts-not (session_at clients n) acts a (is-other clients n k (session_of a) at less other))
+
+pub small_count : (clients k : ℕ) (acts : List Act) (ns : List ℕ) → AreCounts clients acts ns → k < clients + 1 → get_or ns k 0 ≤ length acts
+small_count clients k acts ns old less = subst (λ n. n ≤ length acts) (sym (old.each k less)) (few-filter (is_of (session_at clients k)) acts)
+
+pub count_other : (clients : ℕ) (acts : List Act) (a : Act) (ns : List ℕ) → number_of clients (session_of a) ≡ None → AreCounts clients acts ns → AreCounts clients (acts ++ a ∷ []) ns
+count_other clients acts a ns none old = record { all = old.all; each = λ n less. old.each n less ∙ sym (acts-not (session_at clients n) acts a (is-none clients n (session_of a) none less)) }
+
+-- ---- going through lists
+
+pub front-next : {X : Type 0} (xs : List X) (n : ℕ) (x : X) → n < length xs → x ≡ get_or xs n x → take (n + 1) xs ≡ take n xs ++ x ∷ []
+front-next {X} xs n x low is = take_more xs n x low ∙ ap (λ (y : X). take n xs ++ y ∷ []) (sym is)
+
+pub rest-next : {X : Type 0} (xs : List X) (n : ℕ) (x : X) → n < length xs → x ≡ get_or xs n x → drop n xs ≡ x ∷ drop (n + 1) xs
+rest-next {X} xs n x low is = drop-cons xs n x low ∙ ap (λ (y : X). y ∷ drop (suc n) xs) (sym is) ∙ ap (λ (m : ℕ). x ∷ drop m xs) (sym (add-one n))
+
+-- the history lacks this act, or goes on to the next
+pub at-act : (es : List Entry) (acts : List Act) (n : ℕ) (a : Act) (b : Bool) → n < length acts → a ≡ get_or acts n a → lacks es (take n acts) a ≡ b →
+    undone_behind es (take n acts) (drop n acts) ≡ (if b then Some a else undone_behind es (take (n + 1) acts) (drop (n + 1) acts))
+at-act es acts n a b low is lacking =
+    ap (undone_behind es (take n acts)) (rest-next acts n a low is)
+    ∙ ap (λ (c : Bool). if c then Some a else undone_behind es (take n acts ++ a ∷ []) (drop (n + 1) acts)) lacking
+    ∙ ap (λ (xs : List Act). if b then Some a else undone_behind es xs (drop (n + 1) acts)) (sym (front-next acts n a low is))

@@ -7,7 +7,7 @@ use Rattle.sat_act.specs.declared.answer.Answer.TheVariants as ans
 use Rattle.sat_act.specs.declared.answer.Refusal.TheVariants as why
 use Rattle.sat_act.specs.declared.entry.Entry.{Entry}
 use Rattle.sat_stitch.specs.Places.{Session, Client, Operator, session_of, is_session}
-use Rattle.sat_undone.specs.declared.undone.Tally.{Tally}
+use Rattle.sat_undone.specs.declared.lacking.Tally.{Tally}
 
 -- ---- whose acts
 
@@ -32,7 +32,7 @@ abbrev pub is_of : Session → Act → Bool
 is_of s a = is_session s (session_of a)
 
 abbrev pub acts_of : Session → List Act → List Act
-acts_of s as = filter (is_of s) as
+acts_of s acts = filter (is_of s) acts
 
 -- ---- tries
 
@@ -68,9 +68,13 @@ acts_done es = acts_behind 0 None es
 
 -- ---- counted
 
--- after one entry more
+-- after one entry more: an attach that has to wait, or another one
+abbrev pub tally_by : Bool → Tally → Tally
+tally_by true t = record { done = t.done; tries = t.tries + 1 }
+tally_by false t = record { done = t.done + 1; tries = 0 }
+
 abbrev pub next_tally : Tally → Entry → Tally
-next_tally t e = if waits e then record { done = t.done; tries = t.tries + 1 } else record { done = t.done + 1; tries = 0 }
+next_tally t e = tally_by (waits e) t
 
 abbrev pub tally_from : Tally → List Entry → Tally
 tally_from t [] = t
@@ -107,12 +111,12 @@ lacks es before a = lacks_by es before (session_of a)
 
 abbrev pub undone_behind : List Entry → List Act → List Act → Option Act
 undone_behind es before [] = None
-undone_behind es before (a ∷ as) = if lacks es before a then Some a else undone_behind es (before ++ a ∷ []) as
+undone_behind es before (a ∷ acts) = if lacks es before a then Some a else undone_behind es (before ++ a ∷ []) acts
 
 -- the first act of a script that a history lacks, but for those that stand behind the most refused attaches of their client
 unfoldable pub undone : List Entry → List Act → Option Act
 unfolding tally_of
-undone es as = undone_behind es [] as
+undone es acts = undone_behind es [] acts
 
 -- the first of them are these
 abbrev pub IsFront : List Act → List Act → Type 0
@@ -120,13 +124,13 @@ IsFront front all = (rest : List Act) × (all ≡ front ++ rest)
 
 -- what was done of a session is a front of its acts
 abbrev pub AreFronts : List Entry → List Act → Type 0
-AreFronts es as = (s : Session) → IsFront (acts_done (entries_of s es)) (acts_of s as)
+AreFronts es acts = (s : Session) → IsFront (acts_done (entries_of s es)) (acts_of s acts)
 
 -- of each session all acts were done, in their order; or a front, behind which its client stopped
 abbrev pub AreDone : List Entry → List Act → Type 0
-AreDone es as =
-    (s : Session) → (acts_done (entries_of s es) ≡ acts_of s as) ⊎ ((stopped (tally_of s es) ≡ true) × IsFront (acts_done (entries_of s es)) (acts_of s as))
+AreDone es acts =
+    (s : Session) → (acts_done (entries_of s es) ≡ acts_of s acts) ⊎ ((stopped (tally_of s es) ≡ true) × IsFront (acts_done (entries_of s es)) (acts_of s acts))
 
 -- where what was done are fronts and the history lacks nothing, all acts were done
 abbrev pub FrontsAreDone : Type 0
-FrontsAreDone = (es : List Entry) (as : List Act) → AreFronts es as → undone es as ≡ None → AreDone es as
+FrontsAreDone = (es : List Entry) (acts : List Act) → AreFronts es acts → undone es acts ≡ None → AreDone es acts

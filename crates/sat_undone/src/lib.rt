@@ -1,11 +1,11 @@
 //! Which acts of a script a history of running nodes lacks.
 #![tactic(auto)]
 
-mod undone;
+mod lacking;
 
 ghost use Rattle.sat_undone.specs.Undone.{FrontsAreDone};
 
-pub use undone::{MOST_TRIES, undone};
+pub use lacking::{MOST_TRIES, undone};
 
 /// Where what each session did is a front of its acts and the history lacks nothing, all acts were done but those of clients that
 /// stopped.

@@ -1,11 +1,11 @@
 //! What is lacking.
-ghost use Rattle.std.specs.Prelude.{◌≡◌, ◌<◌, ◌+◌, ◌^◌, ◌++◌, List, [], ◌∷◌, length, None, Some, IfOk, MatchOption};
+ghost use Rattle.std.specs.Prelude.{◌≡◌, ◌<◌, ◌+◌, ◌^◌, ◌++◌, List, [], ◌∷◌, get_or, length, set, None, Some, IfOk, MatchOption};
 ghost use Rattle.sat_act.specs.declared.act.Act.{Act as Deed};
 ghost use Rattle.sat_act.specs.declared.entry.Entry.{Entry as Line};
 ghost use Rattle.std.specs.List.{AllByRecursion};
 ghost use Rattle.sat_stitch.specs.Places.{Client, session_of};
 ghost use Rattle.sat_undone.specs.Counted.{AreCounts, AreTallies, IsKnown};
-ghost use Rattle.sat_undone.specs.Undone.{is_attach, is_not_yet, lacks, lacks_of, next_tally, number_of, undone, waits};
+ghost use Rattle.sat_undone.specs.Undone.{is_attach, is_not_yet, lacks, lacks_of, next_tally, no_tally, number_of, undone, waits};
 
 use sat_act::{Act, Answer, Entry, Refusal};
 use std::alloc::{AllocError, Global};
@@ -88,8 +88,22 @@ fn next_tally(tally: Tally, entry: &Entry) -> Tally
     }
 }
 
+// The tally at a place.
+fn tally_at(tallies: &Vec<Tally>, place: usize) -> Tally
+    requires { place < length tallies.now.items }
+    ensures { result ≡ get_or tallies.now.items place no_tally }
+{
+    tallies[place]
+}
+
+fn put_tally(tallies: &mut Vec<Tally>, place: usize, tally: Tally)
+    requires { place < length tallies.old.items }
+    ensures { tallies.new.items ≡ set tallies.old.items place tally }
+{
+    tallies[place] = tally;
+}
+
 // Counts an entry to its session.
-#[tactic(auto, using(crate::proofs::Tables::small_tally, crate::proofs::Tables::tally_other, crate::proofs::Tables::tally_more))]
 fn count_entry(tallies: &mut Vec<Tally>, clients: usize, entry: &Entry)
     requires { (es : List Line) × (length es + 1 < 2 ^ 64) × AreTallies clients es tallies.old.items }
     ensures { (es : List Line) → AreTallies clients es tallies.old.items → AreTallies clients (es ++ entry.now ∷ []) tallies.new.items }
@@ -97,10 +111,8 @@ fn count_entry(tallies: &mut Vec<Tally>, clients: usize, entry: &Entry)
     let Some(number) = session_number(clients, &entry.act) else {
         return;
     };
-    let Some(tally) = tallies.get_mut(number) else {
-        return;
-    };
-    *tally = next_tally(*tally, entry);
+    let tally = next_tally(tally_at(tallies, number), entry);
+    put_tally(tallies, number, tally);
 }
 
 // Of each session of so many clients, and of the operator.
@@ -122,7 +134,10 @@ fn no_tallies(alloc: Global, clients: usize) -> Result<Vec<Tally>, AllocError>
     ensures { IfOk result (λ list. AreTallies clients [] list.items) }
 {
     let mut list = Vec::new(alloc);
-    list.resize(clients + 1, Tally { done: 0, tries: 0 })?;
+    for number in 0..clients + 1 {
+        let _ = number;
+        list.push(Tally { done: 0, tries: 0 })?;
+    }
     Ok(list)
 }
 
@@ -143,26 +158,32 @@ fn lacks_of(tally: Tally, number: u64) -> bool
     tally.tries < MOST_TRIES && tally.done <= number
 }
 
+// Counts one more at a place, and answers how many were counted there before.
+fn count_more(counts: &mut Vec<u64>, place: usize) -> u64
+    requires place { place < length counts.old.items }
+    requires small { get_or counts.old.items place 0 + 1 < 2 ^ 64 }
+    ensures before { result ≡ get_or counts.old.items place 0 }
+    ensures counts { counts.new.items ≡ set counts.old.items place (get_or counts.old.items place 0 + 1) }
+{
+    let count = counts[place];
+    counts[place] = count + 1;
+    count
+}
+
 // Whether the history lacks an act, which is counted to its session.
-fn lacks(tallies: &[Tally], counts: &mut Vec<u64>, clients: usize, act: &Act) -> bool
+fn lacks(tallies: &Vec<Tally>, counts: &mut Vec<u64>, clients: usize, act: &Act) -> bool
     requires known { IsKnown clients act.now }
-    requires tallies { (es : List Line) × AreTallies clients es tallies.now }
+    requires tallies { (es : List Line) × AreTallies clients es tallies.now.items }
     requires counts { (before : List Deed) × (length before + 1 < 2 ^ 64) × AreCounts clients before counts.old.items }
-    ensures lacks { (es : List Line) (before : List Deed) → AreTallies clients es tallies.now → AreCounts clients before counts.old.items → result ≡ lacks es before act.now }
+    ensures lacks { (es : List Line) (before : List Deed) → AreTallies clients es tallies.now.items → AreCounts clients before counts.old.items → result ≡ lacks es before act.now }
     ensures counts { (before : List Deed) → AreCounts clients before counts.old.items → AreCounts clients (before ++ act.now ∷ []) counts.new.items }
 {
     let Some(number) = session_number(clients, act) else {
         return false;
     };
-    let Some(tally) = tallies.get(number) else {
-        return false;
-    };
-    let Some(count) = counts.get_mut(number) else {
-        return false;
-    };
-    let lacks = lacks_of(*tally, *count);
-    *count += 1;
-    lacks
+    let tally = tally_at(tallies, number);
+    let count = count_more(counts, number);
+    lacks_of(tally, count)
 }
 
 /// The first act of a script that a history of running nodes lacks, None where it lacks none: of a client, or of the operator, it
