@@ -2,6 +2,3 @@ pub mod Walks
 pub mod Owned
 pub mod Matches
 pub mod Whole
-pub mod Answering
-pub mod More
-pub mod Begins

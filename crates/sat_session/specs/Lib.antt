@@ -1,4 +1,2 @@
 pub mod Notes
 pub mod Sessions
-pub mod Calls
-pub mod Replies
