@@ -1,5 +1,5 @@
 -- What the machines answer to the acts of sessions.
-use Rattle.std.proofs.Common.{◌≡◌, ◌<◌, ◌+◌, ◌==◌, ◌&&◌, not, max, ℕ, Bool, true, false, nat_lt, nat_le, List, Option, Some, None, if◌then◌else◌, refl, sym, ap, ◌∙◌, subst, arith, inl, inr}
+use Rattle.std.proofs.Common.{◌≡◌, ◌<◌, ◌+◌, ◌==◌, ◌&&◌, not, max, ℕ, Bool, true, false, nat_lt, nat_le, List, length, Option, Some, None, if◌then◌else◌, refl, sym, ap, ◌∙◌, subst, arith, inl, inr}
 use Rattle.std.proofs.lemmas.Bool.{and_from, and_parts}
 use Rattle.std.proofs.lemmas.Bool.Decides.{nat_tests}
 use Rattle.sat_label.proofs.Orders.{ts-lt}
@@ -84,11 +84,15 @@ module _ (d : Deployed) (seen : Carried) where
 
     pub closed-so : r ≡ site_answer d i s given.Close → IsReply d seen (act.Close i) r
     unfolding site_answer
-    closed-so e = subst (IsReply d seen (act.Close i)) (sym e) (refused (act.Close i) _ why.NoNextEpoch _ refl (λ _. refused (act.Close i) _ why.Behind _ refl (λ _. closed i s.views.emission (cut_of d i s))))
+    closed-so e =
+        subst (IsReply d seen (act.Close i)) (sym e) (refused (act.Close i) (s.views.emission == length d.plans) why.NoNextEpoch (refused_if (s.views.emission == s.views.view + 1) why.Behind (ans.Closed s.views.emission (cut_of d i s))) refl (λ _.
+        refused (act.Close i) (s.views.emission == s.views.view + 1) why.Behind (ans.Closed s.views.emission (cut_of d i s)) refl (λ _. closed i s.views.emission (cut_of d i s))))
 
     pub fallen-so : r ≡ site_answer d i s given.Fall → IsReply d seen (act.Fall i) r
     unfolding site_answer
-    fallen-so e = subst (IsReply d seen (act.Fall i)) (sym e) (refused (act.Fall i) (mode_of d s) why.StampOrder _ refl (λ _. refused (act.Fall i) _ why.NotClosed _ refl (λ _. fallen i)))
+    fallen-so e =
+        subst (IsReply d seen (act.Fall i)) (sym e) (refused (act.Fall i) (mode_of d s) why.StampOrder (refused_if (s.views.emission == s.views.view) why.NotClosed ans.Fallen) refl (λ _.
+        refused (act.Fall i) (s.views.emission == s.views.view) why.NotClosed ans.Fallen refl (λ _. fallen i)))
 
 -- ---- which replies are plain
 

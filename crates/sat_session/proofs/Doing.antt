@@ -18,11 +18,12 @@ use Rattle.sat_machines.specs.Plain.{is_plain}
 use Rattle.sat_stitch.specs.Kept.{OfClient}
 use Rattle.sat_stitch.specs.Places.{Place, AtSite, InSession, places, Session, Client as Owner, Operator, session_of}
 use Rattle.sat_stitch.specs.Nodes.{IsSessionAnswer}
+use Rattle.sat_session.specs.declared.noted.Noted.{Noted}
 use Rattle.sat_session.specs.Notes.{SessionSeen, session_at}
 use Rattle.sat_session.specs.Sessions.{note_places, IsSession}
 use Rattle.sat_session.specs.Calls.{note, told, Notes, IsFault, AtNone, AtNode}
-use Rattle.sat_session.specs.Replies.{IsReply, refuses, left, HasSpare, given_of, own_answer, Asks}
-use Rattle.sat_session.proofs.More.{session_then, session-more}
+use Rattle.sat_session.specs.Replies.{IsReply, refuses, left, MayMove, HasSpare, given_of, own_answer, Asks}
+use Rattle.sat_session.proofs.More.{session_then, session-more, may-move}
 use Rattle.sat_session.proofs.Begins.{of-client}
 
 -- ---- at a node
@@ -46,7 +47,7 @@ node-failed {M} {I} {A} a input answer_of may f old new x t = record {
   name = t.name;
   unchanged = t.err.0;
   notes = record { noted = tt; client = tt; lamport = tt; same = refl; err = refl };
-  worn = λ e. let g : f ≡ fault.Worn last_number = cc in t.worn.0 (ap (λ (y : CallFault). Err {T = A} y) g);
+  worn = λ e. let g : f ≡ fault.Worn last_number = cc in t.worn.0 (let w : ◌≡◌ {A = Result A CallFault} (Err f) (Err (fault.Worn last_number)) = ap (λ (y : CallFault). Err y) g in w);
   spent = λ e. tt;
   only = t.only;
 }
@@ -77,6 +78,22 @@ pub node-session : {S M I A : Type 0} (d : Deployed) (m : Meaning S I A) (answer
     IsSession d x → Asks d m answer_of x node input a spare → m.answers node.name (replay m node.name node.entries) input given → n ≡ max node.number x.lamport + 1 → IsSession d (session_then n (Some node.name) a (answer_of given) x)
 node-session d m answer_of x node input a spare given n is asks answers e =
     session-more d x n (Some node.name) a (answer_of given) is (above node.number x.lamport n e) asks.own asks.placed (λ w. absurd (cc)) (λ w. absurd (cc)) (asks.replies given answers)
+
+-- the same of the code's values: what the session was, by its fields, and what became of them
+module _ {S M I A : Type 0} (d : Deployed) (m : Meaning S I A) (answer_of : A → Answer) (x : SessionSeen) (node : NodeSeen M I A) (input : I) (a : Act) (spare : Option Answer) (given : A) (y : SessionSeen) (same : y ≡ x)
+    (asks : Asks d m answer_of x node input a spare) (answers : m.answers node.name (replay m node.name node.entries) input given) where
+  asked : Asks d m answer_of y node input a spare
+  asked = subst (λ (z : SessionSeen). Asks d m answer_of z node input a spare) (sym same) asks
+
+  pub node_moves : MayMove (answer_of given) y.client
+  node_moves = may-move d y.client a (answer_of given) (asked.replies given answers)
+
+  pub node_kept : (n : ℕ) (name : NodeName) (client : Client) (olds news : List Noted) → IsSession d y → n ≡ max node.number y.lamport + 1 → name ≡ node.name → olds ≡ y.noted → news ≡ olds ++ note n (Some name) y.client.carried a (answer_of given) ∷ [] →
+      client ≡ told a (answer_of given) y.client → IsSession d (record { number = y.number; client = client; lamport = n; noted = news })
+  node_kept n name client olds news is number named kept noted tells =
+      subst (λ (z : SessionSeen). IsSession d z)
+      (λ i. record { number = y.number; client = sym tells i; lamport = n; noted = sym (noted ∙ (λ j. kept j ++ note n (Some (named j)) y.client.carried a (answer_of given) ∷ [])) i })
+      (node-session d m answer_of y node input a spare given n is asked answers number)
 
 -- ---- at none
 
@@ -149,3 +166,13 @@ alone-done a r x ne = record {
   worn = (λ w. absurd (cc), λ w. absurd (ne w));
   only = tt;
 }
+
+pub alone_kept : (d : Deployed) (x : SessionSeen) (a : Act) (r : Answer) (y : SessionSeen) (client : Client) (olds news : List Noted) → y ≡ x → IsSession d y → x.number < length d.clients → session_of a ≡ Some (Owner x.number) → InRange d a →
+    places a (OfClient x.client.carried x.client.seat) ≡ InSession x.number ∷ [] → r ≡ own_answer y.client a → olds ≡ y.noted → news ≡ olds ++ note (y.lamport + 1) None y.client.carried a r ∷ [] → client ≡ told a r y.client →
+    IsSession d (record { number = y.number; client = client; lamport = y.lamport + 1; noted = news })
+alone_kept d x a r y client olds news same is lt own range placed answer kept noted tells =
+    subst (λ (z : SessionSeen). IsSession d z)
+    (λ i. record { number = y.number; client = sym tells i; lamport = y.lamport + 1; noted = sym (noted ∙ (λ j. kept j ++ note (y.lamport + 1) None y.client.carried a r ∷ [])) i })
+    (alone-session d y a r is (subst (λ (z : SessionSeen). z.number < length d.clients) (sym same) lt) answer
+    (subst (λ (z : SessionSeen). session_of a ≡ Some (Owner z.number)) (sym same) own) range
+    (subst (λ (z : SessionSeen). places a (OfClient z.client.carried z.client.seat) ≡ InSession z.number ∷ []) (sym same) placed))

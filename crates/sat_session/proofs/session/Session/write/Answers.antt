@@ -1,0 +1,4 @@
+use Rattle.sat_session.proofs.session.Session.write.Goals as goal
+
+pub at_site-requires : goal.at_site-requires
+at_site-requires g c = ?
