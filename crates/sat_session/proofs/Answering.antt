@@ -66,9 +66,9 @@ module _ (d : Deployed) (seen : Carried) where
   -- ---- by the site's answer
 
   module _ (i : ℕ) (s : SiteState) (r : Answer) where
-    pub wrote-so : (c n : ℕ) (value : List ℕ) → is_site d i ≡ true → r ≡ site_answer d i s (given.Write seen n value) → IsReply d seen (act.Write c n value) r
+    pub wrote-so : (c n : ℕ) (value handed : List ℕ) → is_site d i ≡ true → r ≡ site_answer d i s (given.Write seen n handed) → IsReply d seen (act.Write c n value) r
     unfolding site_answer
-    wrote-so c n value here e = subst (IsReply d seen (act.Write c n value)) (sym e) (write-reply i c n value (s.gears (gear_of d n)).promise here)
+    wrote-so c n value handed here e = subst (IsReply d seen (act.Write c n value)) (sym e) (write-reply i c n value (s.gears (gear_of d n)).promise here)
 
     pub read-so : (c n : ℕ) → ((p : Payload) → s.store n ≡ Some p → is_point d p.label.point ≡ true) → r ≡ site_answer d i s (given.Read seen n) → IsReply d seen (act.Read c n) r
     unfolding site_answer

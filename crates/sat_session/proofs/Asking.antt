@@ -1,7 +1,10 @@
 -- What sessions take to nodes meets what is asked of it.
-use Rattle.std.proofs.Common.{◌≡◌, ◌<◌, ℕ, Bool, true, false, List, [], ◌∷◌, length, Option, Some, None, refl, sym, ap, ◌∙◌, subst, arith}
+use Rattle.std.proofs.Common.{◌≡◌, ◌<◌, ◌==◌, ℕ, Bool, true, false, List, [], ◌∷◌, length, Option, Some, None, is_some, refl, sym, ap, ◌∙◌, subst, arith}
 use Rattle.sat_label.specs.declared.node.NodeName.{NodeName}
 use Rattle.sat_label.specs.declared.node.NodeName.TheVariants as named
+use Rattle.std.proofs.lemmas.Bool.{and_parts}
+use Rattle.sat_label.specs.Order.{name_eq}
+use Rattle.sat_opened.proofs.Numbers.{same-is}
 use Rattle.sat_act.specs.declared.act.Act.{Act}
 use Rattle.sat_act.specs.declared.act.Act.TheVariants as act
 use Rattle.sat_act.specs.declared.answer.Answer.{Answer}
@@ -84,11 +87,11 @@ module _ {M : Type 0} (d : Deployed) (x : SessionSeen) (node : NodeSeen M ActSee
         here : is_site d (number_of node.name) ≡ true
         here = ap (is_site d) number-is ∙ subst (λ (o : Option ℕ). is_goal d o ≡ true) seated is.sits
 
-        pub asks-write : (n : ℕ) (value : List ℕ) → Asks d (site_meaning d) of_site x node (asked_by (Some x.number) (input.Write x.client.carried n value)) (act.Write x.number n value) None
-        asks-write n value =
-            asks (Some x.number) (input.Write x.client.carried n value) (act.Write x.number n value) refl refl (own-client (act.Write x.number n value) refl)
+        pub asks-write : (n : ℕ) (value handed : List ℕ) → Asks d (site_meaning d) of_site x node (asked_by (Some x.number) (input.Write x.client.carried n handed)) (act.Write x.number n value) None
+        asks-write n value handed =
+            asks (Some x.number) (input.Write x.client.carried n handed) (act.Write x.number n value) refl refl (own-client (act.Write x.number n value) refl)
             (placed-here (act.Write x.number n value) (ap (seat_places x.number) seated))
-            (λ r w. wrote-so d x.client.carried (number_of node.name) state r.answer x.number n value here w.answer)
+            (λ r w. wrote-so d x.client.carried (number_of node.name) state r.answer x.number n value handed here w.answer)
 
         pub asks-move : (j : ℕ) → is_site d j ≡ true → Asks d (site_meaning d) of_site x node (asked_by (Some x.number) (input.Move x.client.carried j)) (act.Move x.number j) None
         asks-move j there =
@@ -151,3 +154,22 @@ asks-kill d x node e z operator at =
       spares = λ r w. plain-spare r.answer None (plain-reply d x.client.carried (act.Kill e z) r.answer (subst (IsReply d x.client.carried (act.Kill e z)) (sym w.answer) (kill-reply d x e z dead)) refl);
       stays = record { stands = λ r w. refl; takes = λ r k w. refl };
     }
+
+-- ---- as the code has it
+
+pub same-name : (m n : NodeName) → name_eq m n ≡ true → m ≡ n
+same-name (named.Site i) (named.Site k) e = ap named.Site (same-is i k e)
+same-name (named.Serializer e y) (named.Serializer f z) w =
+    let k = and_parts (e == f) (y == z) w in
+    ap (λ (n : ℕ). named.Serializer n y) (same-is e f k.0) ∙ ap (named.Serializer f) (same-is y z k.1)
+same-name _ _ e = absurd (cc)
+
+pub none-is : (o : Option ℕ) → is_some o ≡ false → o ≡ None
+none-is None e = refl
+none-is (Some n) e = absurd (cc)
+
+-- a session by its fields, and an input that was made
+pub asks-by : {M : Type 0} (d : Deployed) (x y : SessionSeen) (node : NodeSeen M ActSeen SiteAnswer) (input made : ActSeen) (a : Act) (spare : Option Answer) → y ≡ x → made ≡ input →
+    Asks d (site_meaning d) of_site y node input a spare → Asks d (site_meaning d) of_site x node made a spare
+asks-by d x y node input made a spare same is asked =
+    subst (λ (z : SessionSeen). Asks d (site_meaning d) of_site z node made a spare) same (subst (λ (w : ActSeen). Asks d (site_meaning d) of_site y node w a spare) (sym is) asked)

@@ -6,4 +6,5 @@ pub mod Answering
 pub mod More
 pub mod Begins
 pub mod Asking
+pub mod Looks
 pub mod Doing
