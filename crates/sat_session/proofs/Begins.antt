@@ -13,6 +13,7 @@ use Rattle.sat_client.specs.Clients.{first_seat}
 use Rattle.sat_machine.specs.Fits.{is_time, is_site, is_point, is_goal, is_carried}
 use Rattle.sat_stitch.specs.Places.{Session, Client as Owner, Operator}
 use Rattle.sat_opened.proofs.Numbers.{is-less, not-less}
+use Rattle.sat_session.specs.declared.noted.Noted.{Noted}
 use Rattle.sat_session.specs.Notes.{SessionSeen, session_at, nothing_carried}
 use Rattle.sat_session.specs.Sessions.{client_after, IsSession}
 
@@ -66,3 +67,10 @@ operator_begins d dep = record {
   carries = none-carried d dep.some_site;
   sits = refl;
 }
+
+-- as the code makes it
+pub client_made : (d e : Deployed) (c site : ℕ) (client : Client) (noted : List Noted) → e ≡ d → IsDeployment d → c < length d.clients → home d c ≡ Some site → client ≡ first_seat site → noted ≡ [] →
+    IsSession e (record { number = c; client = client; lamport = 0; noted = noted })
+client_made d e c site client noted same dep lt at seated none =
+    subst (λ (z : Deployed). IsSession z (record { number = c; client = client; lamport = 0; noted = noted })) (sym same)
+    (subst (λ (z : SessionSeen). IsSession d z) (λ i. record { number = c; client = sym seated i; lamport = 0; noted = sym none i }) (client_begins d c site dep lt at))

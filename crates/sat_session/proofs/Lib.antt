@@ -5,3 +5,6 @@ pub mod Whole
 pub mod Answering
 pub mod More
 pub mod Begins
+pub mod Asking
+pub mod Looks
+pub mod Doing

@@ -122,7 +122,7 @@ of-self : (a : Act) (c : ℕ) → of_client a ≡ Some c → is_of a c ≡ true
 of-self a c e = ap (λ (o : Option ℕ). elim o [ None ↦ false | Some b ↦ b == c ]) e ∙ same-number c
 
 told-then : (d : Deployed) (c : ℕ) (x : Client) (a : Act) (r : Answer) → IsReply d x.carried a r → of_client a ≡ Some c → told a r x ≡ client_then c x a r
-told-then d c x a r (refuses b y) e = refl
+told-then d c x a r (refuses b y p) e = refl
 told-then d c x a r (wrote b n value l p) e =
     let w : is_of (act.Write b n value) c ≡ true = of-self (act.Write b n value) c e in
     λ i. record { carried = record { point = sym (if-so (is_of (act.Write b n value) c) (greater_point l.point x.carried.point) x.carried.point w) i; moving = x.carried.moving }; seat = x.seat }
@@ -149,7 +149,7 @@ told-then d c x a r (killed f z) e = absurd (cc)
 
 -- an act of the operator changes no client
 told-operator : (d : Deployed) (x : Client) (a : Act) (r : Answer) → IsReply d x.carried a r → session_of a ≡ Some Operator → told a r x ≡ x
-told-operator d x a r (refuses b y) e = refl
+told-operator d x a r (refuses b y p) e = refl
 told-operator d x a r (wrote b n value l p) e = absurd (cc)
 told-operator d x a r (read_none b n) e = absurd (cc)
 told-operator d x a r (read_some b n l value p) e = absurd (cc)
@@ -190,7 +190,7 @@ module _ (d : Deployed) where
   seen-still seen e = and_from (is_point d seen.point) true (and_parts (is_point d seen.point) (is_goal d seen.moving) e).0 refl
 
   reply-carries : (x : Client) (a : Act) (r : Answer) → IsReply d x.carried a r → is_carried d x.carried ≡ true → is_carried d (told a r x).carried ≡ true
-  reply-carries x a r (refuses b y) e = e
+  reply-carries x a r (refuses b y p) e = e
   reply-carries x a r (wrote b n value l p) e = seen-more l x.carried p e
   reply-carries x a r (read_none b n) e = e
   reply-carries x a r (read_some b n l value p) e = seen-more l x.carried p e
@@ -202,7 +202,7 @@ module _ (d : Deployed) where
   reply-carries x a r (killed f z) e = e
 
   reply-sits : (x : Client) (a : Act) (r : Answer) → IsReply d x.carried a r → is_goal d x.seat ≡ true → is_goal d (told a r x).seat ≡ true
-  reply-sits x a r (refuses b y) e = e
+  reply-sits x a r (refuses b y p) e = e
   reply-sits x a r (wrote b n value l p) e = e
   reply-sits x a r (read_none b n) e = e
   reply-sits x a r (read_some b n l value p) e = e
@@ -214,7 +214,7 @@ module _ (d : Deployed) where
   reply-sits x a r (killed f z) e = e
 
   pub may-move : (x : Client) (a : Act) (r : Answer) → IsReply d x.carried a r → MayMove r x
-  may-move x a r (refuses b y) = λ l e. absurd (cc)
+  may-move x a r (refuses b y p) = λ l e. absurd (cc)
   may-move x a r (wrote b n value l p) = λ m e. absurd (cc)
   may-move x a r (read_none b n) = λ l e. absurd (cc)
   may-move x a r (read_some b n l value p) = λ m e. absurd (cc)

@@ -11,6 +11,10 @@ use Rattle.sat_client.specs.Clients.{after_observe, after_move, after_leave, aft
 use Rattle.sat_node.specs.declared.kept.CallFault.{CallFault}
 use Rattle.sat_node.specs.declared.kept.CallFault.TheVariants as fault
 use Rattle.sat_node.specs.Seen.{NodeSeen, SameNode, last_number, entry}
+use Rattle.sat_site.specs.declared.input.SiteInput.{SiteInput}
+use Rattle.sat_machines.specs.Acts.{ActSeen}
+use Rattle.sat_machines.specs.declared.site_answer.SiteAnswer.{SiteAnswer}
+use Rattle.sat_machines.specs.declared.serial_act.SerialAnswer.{SerialAnswer}
 use Rattle.sat_session.specs.declared.noted.Noted.{Noted}
 use Rattle.sat_session.specs.Notes.{SessionSeen}
 
@@ -56,3 +60,14 @@ pub record AtNode {M I A : Type 0} (a : Act) (input : I) (answer_of : A → Answ
   pub worn : IsErrOf result (fault.Worn last_number) → max old.number before.lamport ≡ last_number
   pub spent : max old.number before.lamport ≡ last_number → IfOk result (λ r. ⊥)
   pub only : IfErr result IsFault
+
+-- the history's answer in a site's, and in a serializer's
+abbrev pub of_site : SiteAnswer → Answer
+of_site a = a.answer
+
+abbrev pub of_serial : SerialAnswer → Answer
+of_serial a = a.answer
+
+-- an input of a site by this client, or by none
+abbrev pub asked_by : Option ℕ → SiteInput → ActSeen
+asked_by client given = record { by = client; input = given }

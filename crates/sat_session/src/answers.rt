@@ -1,13 +1,14 @@
 //! Answers: what they make of a session's client, and copies of them.
-ghost use Rattle.std.specs.Prelude.{◌≡◌, true, false, Some};
+ghost use Rattle.std.specs.Prelude.{◌≡◌, ◌<◌, ◌++◌, [], ◌∷◌, true, vec_len, vec_capacity};
 ghost use Rattle.sat_act.specs.declared.answer.Answer.TheVariants as ans;
 ghost use Rattle.sat_machines.specs.Plain.{is_plain};
-ghost use Rattle.sat_session.specs.Calls.{told};
+ghost use Rattle.sat_session.specs.Calls.{note, told};
 ghost use Rattle.sat_session.specs.Replies.{MayMove, HasSpare, own_answer, leave_answer};
 
-use sat_act::{Act, Answer, Refusal};
+use crate::Noted;
+use sat_act::{Act, Answer, Entry, Refusal};
 use sat_client::Client;
-use sat_label::Point;
+use sat_label::{NodeName, Point};
 
 // What a granted attach makes of a client.
 fn join(client: &mut Client, act: &Act)
@@ -19,8 +20,8 @@ fn join(client: &mut Client, act: &Act)
     }
 }
 
-/// Tells a client the answer to its act.
-pub(crate) fn tell(client: &mut Client, act: &Act, answer: &Answer)
+// Tells a client the answer to its act.
+fn tell(client: &mut Client, act: &Act, answer: &Answer)
     requires { MayMove answer.now client.old }
     ensures { client.new ≡ told act.now answer.now client.old }
 {
@@ -108,8 +109,8 @@ fn copy_plain(answer: &Answer) -> Answer
     }
 }
 
-/// The same answer again, which is the spare one where it holds a list. It takes no memory.
-pub(crate) fn again(answer: &Answer, spare: Option<Answer>) -> Answer
+// The same answer again, which is the spare one where it holds a list. It takes no memory.
+fn again(answer: &Answer, spare: Option<Answer>) -> Answer
     requires { HasSpare answer.now spare }
     ensures { result ≡ answer.now }
 {
@@ -117,4 +118,36 @@ pub(crate) fn again(answer: &Answer, spare: Option<Answer>) -> Answer
         return copy_plain(answer);
     }
     spare.unwrap()
+}
+
+/// Notes an act with its answer under a number, and tells the client of it. It takes no memory.
+pub(crate) fn keep(
+    noted: &mut Vec<Noted>,
+    client: &mut Client,
+    lamport: u64,
+    at: Option<NodeName>,
+    act: Act,
+    answer: &Answer,
+    spare: Option<Answer>,
+)
+    requires room { vec_len noted.old < vec_capacity noted.old }
+    requires spare { HasSpare answer.now spare }
+    requires moves { MayMove answer.now client.old }
+    ensures noted { noted.new.items ≡ noted.old.items ++ note lamport at client.old.carried act answer.now ∷ [] }
+    ensures client { client.new ≡ told act answer.now client.old }
+{
+    let carried = client.carried;
+    let copy = again(answer, spare);
+    tell(client, &act, answer);
+    let entry = Entry {
+        act,
+        answer: copy,
+        inner: false,
+    };
+    noted.push_reserved(Noted {
+        lamport,
+        at,
+        carried,
+        entry,
+    });
 }

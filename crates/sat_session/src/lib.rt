@@ -3,7 +3,9 @@
 
 mod answers;
 mod noted;
+mod serial;
 mod session;
+mod site;
 
 ghost use Rattle.sat_session.specs.Sessions.{SessionsFit};
 

@@ -10,8 +10,8 @@ ghost use Rattle.sat_session.specs.Sessions.{IsSession};
 ghost use Rattle.sat_session.specs.Calls.{AtNone};
 
 use crate::Noted;
-use crate::answers::{again, own_answer, tell};
-use sat_act::{Act, Answer, Deployment, Entry};
+use crate::answers::{keep, own_answer};
+use sat_act::{Act, Answer, Deployment};
 use sat_client::Client;
 use sat_label::{Carried, Point};
 use sat_machines::Laid;
@@ -143,21 +143,16 @@ impl<N: Laid> Session<N> {
             return Err(CallFault::Memory);
         }
         let answer = own_answer(&self.client, &act);
-        let copy = again(&answer, None);
-        let carried = self.client.carried;
         let lamport = self.lamport + 1;
-        tell(&mut self.client, &act, &answer);
-        let entry = Entry {
-            act,
-            answer: copy,
-            inner: false,
-        };
-        self.noted.push_reserved(Noted {
+        keep(
+            &mut self.noted,
+            &mut self.client,
             lamport,
-            at: None,
-            carried,
-            entry,
-        });
+            None,
+            act,
+            &answer,
+            None,
+        );
         self.lamport = lamport;
         Ok(answer)
     }
