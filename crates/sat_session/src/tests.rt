@@ -56,12 +56,22 @@ fn alone<N: Laid, W: Names>(
     Ok(Held::new(node, Vec::new(alloc), Vec::new(alloc)))
 }
 
-// A client that wrote, read, left and came again.
+// What was noted, and under which numbers.
+fn told<N: Laid>(alloc: Global, session: &Session<N>) -> Result<Vec<(u64, Answer)>, AllocError> {
+    let mut list = Vec::new(alloc);
+    for note in session.noted() {
+        let answer = note.entry.answer.copy()?;
+        list.push((note.lamport, answer))?;
+    }
+    Ok(list)
+}
+
+// What a client noted that wrote, read, left and came again.
 fn visited<N: Laid, W: Names>(
     alloc: Global,
     d: &Deployment,
     value: &Value,
-) -> Result<Session<N>, CallFault>
+) -> Result<Vec<(u64, Answer)>, CallFault>
     requires deployment { N.deployment ≡ d.now }
     requires site { d.now.sites ≡ 1 }
     requires item { length d.now.items ≡ 1 }
@@ -74,7 +84,8 @@ fn visited<N: Laid, W: Names>(
     let _ = session.read(&mut held, 0)?;
     let _ = session.alone(Act::Leave { client: 0 })?;
     let _ = session.attach(&mut held, 0)?;
-    Ok(session)
+    let list = told(alloc, &session)?;
+    Ok(list)
 }
 
 #[test]
@@ -82,20 +93,20 @@ fn a_client_comes_again(rt: HostRuntime) -> Result<(), Fail> {
     let alloc = rt.alloc();
     let d = small(alloc)?;
     let value = Value::of(alloc, b"v")?.ok_or("no value")?;
-    let session = visited::<Brand, Brand>(alloc, &d, &value)?;
-    let noted = session.noted();
-    assert_eq!(rt; noted.len(), 4);
-    assert!(rt; noted[0].entry.answer == Answer::Wrote(FIRST));
+    let list = visited::<Brand, Brand>(alloc, &d, &value)?;
+    assert_eq!(rt; list.len(), 4);
+    assert!(rt; list[0] == (1, Answer::Wrote(FIRST)));
     assert!(rt;
-        noted[1].entry.answer
-            == Answer::ReadSome {
-                label: FIRST,
-                value
-            }
+        list[1]
+            == (
+                2,
+                Answer::ReadSome {
+                    label: FIRST,
+                    value
+                }
+            )
     );
-    assert!(rt; noted[2].entry.answer == Answer::Left(FIRST.point));
-    assert!(rt; noted[3].entry.answer == Answer::Attached);
-    assert_eq!(rt; noted[2].at, None);
-    assert_eq!(rt; noted[3].lamport, 4);
+    assert!(rt; list[2] == (3, Answer::Left(FIRST.point)));
+    assert!(rt; list[3] == (4, Answer::Attached));
     Ok(())
 }
