@@ -16,3 +16,6 @@ pub use session::Session;
 pub fn sessions()
     ensures fit { SessionsFit }
 {}
+
+#[cfg(test)]
+mod tests;
