@@ -2,7 +2,6 @@ pub mod Fronts
 pub mod Elements
 pub mod Columns
 pub mod Trails
-pub mod Acts
 pub mod Rows
 pub mod Tracks
 pub mod Head

@@ -19,7 +19,8 @@ use Rattle.sat_draw.specs.declared.trail.Trail.{Trail}
 use Rattle.sat_draw.specs.declared.trail.Coming.{Coming}
 use Rattle.sat_draw.specs.Columns.{act_column, columns, column_x, row_y}
 use Rattle.sat_draw.specs.Trails.{trail_eq, left_by, comes_from}
-use Rattle.sat_draw.specs.Acts.{act_line}
+use Rattle.sat_script.specs.Spelled.{act_text}
+use Rattle.sat_script.specs.Table.{act_words}
 
 abbrev pub spot_at : ℕ → ℕ → Spot
 spot_at x y = record { x = x; y = y }
@@ -80,7 +81,7 @@ abbrev pub answer_of : Deployed → ℕ → Spot → Entry → Element
 answer_of d row here entry = Word (answer_ink entry.answer) (spot_at (here.x + 8) (here.y - 6)) (answer_line d (row + 1) entry.answer)
 
 abbrev pub act_of : Deployed → Spot → Entry → Element
-act_of d here entry = Word ink.Act (spot_at 8 (here.y + 4)) (act_line d entry.act)
+act_of d here entry = Word ink.Act (spot_at 8 (here.y + 4)) (act_text d entry.act)
 
 -- what leads to a mark that stands here, by where trails were left
 abbrev pub ways_at : Deployed → (Trail → Option Spot) → Spot → Entry → List Element
@@ -104,6 +105,6 @@ ways d [] = []
 ways d (entry ∷ before) = ways d before ++ ways_of d before entry
 
 unfoldable pub marks : Deployed → List Entry → List Element
-unfolding answer_line act_line seat
+unfolding answer_line act_words seat
 marks d [] = []
 marks d (entry ∷ before) = marks d before ++ marks_of d before entry

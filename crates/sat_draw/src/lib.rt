@@ -1,7 +1,6 @@
 //! A drawing of the run of a script.
 #![tactic(auto)]
 
-mod acts;
 mod columns;
 mod element;
 mod geometry;

@@ -3,14 +3,12 @@ ghost use Rattle.std.specs.Prelude.{◌≡◌, ◌≤◌, ◌++◌, ◌∷◌, [
 ghost use Rattle.sat_act.specs.declared.entry.Entry.{Entry};
 ghost use Rattle.sat_act.specs.Settling.{is_done};
 ghost use Rattle.sat_report.specs.Answers.{answer_line};
-ghost use Rattle.sat_draw.specs.Acts.{act_line};
 ghost use Rattle.sat_draw.specs.Columns.{act_column, rows_top};
 ghost use Rattle.sat_draw.specs.Elements.{spelled};
 ghost use Rattle.sat_draw.specs.Rows.{mark_spot, arrow, arrow_for, arrows, is_across, rule, mark_ink, answer_ink, mark_of, answer_of, act_of, ways_at, marks_at};
 ghost use Rattle.sat_draw.specs.Trails.{comes_from};
 ghost use Rattle.sat_draw.specs.Tracks.{seat_by, spot_by, IsDrawn};
 
-use crate::acts::act_line;
 use crate::columns::{column_x, columns, seat_column, serializer_column, site_column};
 use crate::element::{Element, Ink, Spot, Text};
 use crate::geometry::ROW;
@@ -19,6 +17,7 @@ use crate::tracks::{Tracks, seat_by, spot_by};
 use crate::trail::{Coming, Trail, comes_from};
 use sat_act::{Act, Answer, Deployment, Entry};
 use sat_report::write_line;
+use sat_script::act_line;
 use std::alloc::{AllocError, Global};
 use std::collections::BTreeMap;
 
@@ -214,14 +213,14 @@ fn act_of(alloc: Global, d: &Deployment, here: Spot, entry: &Entry) -> Result<El
     requires { here.y ≤ 2 ^ 40 }
     ensures { IfOk result (λ element. element ≡ act_of d.now here entry.now) }
 {
-    let text = act_line(alloc, d, &entry.act)?;
+    let line = act_line(alloc, d, &entry.act)?;
     Ok(Element::Word {
         ink: Ink::Act,
         at: Spot {
             x: 8,
             y: here.y + 4,
         },
-        text,
+        text: Text::of(line),
     })
 }
 

@@ -2,7 +2,7 @@
 use Rattle.std.proofs.Common.{◌≡◌, ℕ, ◌<◌, ◌≤◌, ◌^◌, ◌-◌, Bool, true, false, ◌&&◌, ◌||◌, cond, eqb, ltb, List, [], ◌∷◌, length, Option, Some, None, Result, Ok, Err, sym, ap, ◌∙◌, refl, subst, arith}
 use Rattle.std.specs.Str.{bytes_eq}
 use Rattle.std.specs.Option.{option_map}
-use Rattle.std.proofs.lemmas.Bool.{and_from, and_parts, eqb-true, lt-ltb, ltb-true}
+use Rattle.std.proofs.lemmas.Bool.{and_from, and_parts, eqb-true, false_from_ne_true, lt-ltb, ltb-true}
 use Rattle.std.proofs.lemmas.Bool.Decides.{nat_tests}
 use Rattle.sat_label.specs.Text.{is_value, node_text}
 use Rattle.sat_label.specs.declared.node.NodeId.{NodeId}
@@ -37,16 +37,13 @@ use Rattle.sat_script.proofs.Stands.{ActStands}
 
 -- ---- nodes, as in sat_script
 
-byte_is : (a b : ℕ) → eqb a b ≡ true → a ≡ b
-byte_is a b h = grind (arith, nat_tests)
-
 pub serializer_is : (t : TreeShape) (word : List ℕ) (z : ℕ) → length t.parents ≤ 15 → is_serializer word ≡ true → serializer_in t word ≡ Some z → (z < length t.parents) × (word ≡ node_text (Serializer z))
 unfolding serializer_in is_serializer node_text
 serializer_is t [] z few shape h = absurd (cc)
 serializer_is t (byte ∷ number) z few shape h =
     let b = and_parts (eqb byte 122) (is_number number) shape in
     let is = below_is (length t.parents) number z (omega arith) h in
-    (is.0, ap (λ n. n ∷ number) (byte_is byte 122 b.0) ∙ ap (λ n. 122 ∷ n) is.1)
+    (is.0, ap (λ n. n ∷ number) (eqb-true byte 122 b.0) ∙ ap (λ n. 122 ∷ n) is.1)
 
 pub mapped : {X Y : Type 0} (f : X → Y) (o : Option X) (y : Y) → option_map f o ≡ Some y → (x : X) × (o ≡ Some x) × (y ≡ f x)
 mapped f (Some x) y h = (x, refl, cc)
@@ -67,7 +64,7 @@ node_is t (byte ∷ number) u few seats shape h = go (eqb byte 115) refl h
     go true e h =
         let m = mapped Site (number_below (length t.seats) number) u h in
         let is = below_is (length t.seats) number m.0 (omega arith) m.1 in
-        subst (λ (u : NodeId). IsNode t u × ((byte ∷ number) ≡ node_text u)) (sym m.2) (is.0, ap (λ n. n ∷ number) (byte_is byte 115 e) ∙ ap (λ n. 115 ∷ n) is.1)
+        subst (λ (u : NodeId). IsNode t u × ((byte ∷ number) ≡ node_text u)) (sym m.2) (is.0, ap (λ n. n ∷ number) (eqb-true byte 115 e) ∙ ap (λ n. 115 ∷ n) is.1)
     go false e h =
         let m = mapped Serializer (number_below (length t.parents) number) u h in
         let is = below_is (length t.parents) number m.0 (omega arith) m.1 in
@@ -249,11 +246,7 @@ act_is form.Settle [] a k h = row act.Settle a h
 act_is _ _ a k h = absurd (cc)
 
 eq_test : (i j : ℕ) (c : Cause) → cond (eqb i j) (Some c) None ≡ None → eqb i j ≡ false
-eq_test i j c h = go (eqb i j) refl h
-  where
-    go : (b : Bool) → eqb i j ≡ b → cond b (Some c) None ≡ None → eqb i j ≡ false
-    go true e h = absurd (cc)
-    go false e h = e
+eq_test i j c h = false_from_ne_true (eqb i j) (λ e. let never : Some c ≡ None = rw e at h in cc)
 
 edge_is : (o : Option TreeShape) (t : TreeShape) (v : NodeId) (z : ℕ) → o ≡ Some t → edge_cause o v z ≡ None → is_edge t v (Serializer z) ≡ true
 edge_is None t v z e h = absurd (cc)
@@ -273,23 +266,15 @@ act_fits d act.Clock h u = tt
 act_fits d (act.Write c x v) h u = (h.0, h.1.0, h.1.1.0)
 act_fits d (act.Read c x) h u = (h.0, h.1.0)
 act_fits d (act.Move c j) h u = (h.0, h.1.0)
-act_fits d (act.Leave c) h u = h.0
 act_fits d (act.Attach c j) h u = (h.0, h.1.0)
-act_fits d (act.Gather i) h u = h.0
-act_fits d (act.Emit i) h u = h.0
-act_fits d (act.Pulse i) h u = h.0
 act_fits d (act.Hop e v z) h u = (h.0, h.2, h.1, h.3.0, edge_is (tree_of d e) h.0 v z h.1 u)
-act_fits d (act.Turn i) h u = h.0
 act_fits d (act.Bulk i g j None) h u = ((h.0, h.1.1.0, eq_test i j OutOfRange u), h.1.0, tt)
 act_fits d (act.Bulk i g j (Some n)) h u = ((h.0, h.1.1.0, eq_test i j OutOfRange u), h.1.0, h.1.1.1.0)
 act_fits d (act.Beat i j) h u = (h.0, h.1.0, eq_test i j OutOfRange u)
 act_fits d (act.BeatIn i j n) h u = ((h.0, h.1.0, eq_test i j OutOfRange u), h.1.1.0)
-act_fits d (act.Stamp i) h u = h.0
-act_fits d (act.Close i) h u = h.0
-act_fits d (act.Fall i) h u = h.0
-act_fits d (act.Advance i) h u = h.0
 act_fits d (act.Kill e z) h u = (h.0, h.2, h.1, h.3.0)
 act_fits d act.Settle h u = tt
+act_fits d _ h u = h.0
 
 form_is : (word : List ℕ) (n : ℕ) (fs : List Form) (f : Form) → found_form word n fs ≡ Some f → word ≡ word_of f
 form_is word n [] f h = absurd (cc)

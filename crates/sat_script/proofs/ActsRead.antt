@@ -1,9 +1,9 @@
 -- The spelling of an act is read as the act.
-use Rattle.std.proofs.Common.{◌≡◌, ℕ, zero, suc, ◌<◌, ◌≤◌, ◌^◌, ◌-◌, true, false, ◌&&◌, cond, eqb, ltb, leb, List, [], ◌∷◌, length, Option, Some, None, Ok, is_some, ap, ◌∙◌, refl, arith}
+use Rattle.std.proofs.Common.{◌≡◌, ℕ, ◌<◌, ◌≤◌, ◌^◌, ◌-◌, true, false, ◌&&◌, cond, eqb, ltb, leb, List, [], ◌∷◌, length, Option, Some, None, Ok, is_some, ap, ◌∙◌, refl, arith}
 use Rattle.std.specs.Option.{option_map}
-use Rattle.std.specs.List.{slice_get, list_all, AllByRecursion}
+use Rattle.std.specs.List.{list_all}
 use Rattle.std.proofs.lemmas.Bool.{and_from, and_parts, lt-ltb}
-use Rattle.std.proofs.lemmas.Option.{slice_get_within}
+use Rattle.std.proofs.lemmas.Option.{slice_get_within, slice_get-get_or}
 use Rattle.sat_label.specs.Text.{is_name, is_value, is_between, node_text}
 use Rattle.sat_label.specs.declared.node.NodeId.{NodeId}
 use Rattle.sat_label.specs.declared.node.NodeId.TheVariants.{Site, Serializer}
@@ -33,24 +33,15 @@ use Rattle.sat_script.specs.declared.form.Kind.{Kind}
 use Rattle.sat_script.specs.declared.form.Kind.TheVariants as kind
 use Rattle.sat_script.proofs.Acts.{Fits, AllFit, IsSmall, no_small, shape_small, stands_free}
 use Rattle.sat_script.proofs.Digits.{decimal_number, below_reads, to_reads, up_to_reads}
-use Rattle.sat_script.proofs.Lookup.{client_reads, item_reads}
+use Rattle.sat_script.proofs.Lists.{all_at}
+use Rattle.sat_script.proofs.Lookup.{client_at, client_reads, item_at, item_reads, no_client, no_item}
 use Rattle.sat_script.proofs.Stands.{ActStands}
 
 pub named_client : (d : Deployed) (c : ℕ) → HaveNames d → c < length d.clients → is_name (client_name d c) ≡ true
-named_client d c names inside = go d.clients c names.clients inside
-  where
-    go : (lines : List ClientLine) (c : ℕ) → AllByRecursion (λ (line : ClientLine). is_name line.name ≡ true) lines → c < length lines → is_name (elim (slice_get lines c) [ None ↦ [] | Some line ↦ line.name ]) ≡ true
-    go [] c h less = absurd (omega arith)
-    go (line ∷ lines) zero h less = h.0
-    go (line ∷ lines) (suc c) h less = go lines c h.1 (omega arith)
+named_client d c names inside = ap is_name (client_at d c inside) ∙ all_at (λ (line : ClientLine). is_name line.name ≡ true) d.clients c _ names.clients (slice_get-get_or d.clients c no_client inside)
 
 pub named_item : (d : Deployed) (x : ℕ) → HaveNames d → x < length d.items → is_name (item_name d x) ≡ true
-named_item d x names inside = go d.items x names.items inside
-  where
-    go : (items : List Item) (x : ℕ) → AllByRecursion (λ (item : Item). is_name item.name ≡ true) items → x < length items → is_name (elim (slice_get items x) [ None ↦ [] | Some item ↦ item.name ]) ≡ true
-    go [] x h less = absurd (omega arith)
-    go (item ∷ items) zero h less = h.0
-    go (item ∷ items) (suc x) h less = go items x h.1 (omega arith)
+named_item d x names inside = ap is_name (item_at d x inside) ∙ all_at (λ (item : Item). is_name item.name ≡ true) d.items x _ names.items (slice_get-get_or d.items x no_item inside)
 
 pub token : (value : List ℕ) → is_value value ≡ true → is_token value ≡ true
 token value h =
@@ -151,25 +142,17 @@ args_fit d act.Clock is h = (tt, refl)
 args_fit d (act.Write c x v) is h = ((h.0, (h.1, (h.2, tt))), refl)
 args_fit d (act.Read c x) is h = ((h.0, (h.1, tt)), refl)
 args_fit d (act.Move c j) is h = ((h.0, (h.1, tt)), refl)
-args_fit d (act.Leave c) is h = ((h, tt), refl)
 args_fit d (act.Attach c j) is h = ((h.0, (h.1, tt)), refl)
-args_fit d (act.Gather i) is h = ((h, tt), refl)
-args_fit d (act.Emit i) is h = ((h, tt), refl)
-args_fit d (act.Pulse i) is h = ((h, tt), refl)
 args_fit d (act.Hop e u z) is h =
     let less = edge-end h.0 (is.trees e h.0 h.2) u z h.4 in
     ((h.0, h.2, h.1, (h.3, (less, tt))), edge_again (tree_of d e) h.0 u z h.2 h.3 less h.4)
-args_fit d (act.Turn i) is h = ((h, tt), refl)
 args_fit d (act.Bulk i g j None) is h = ((h.0.0, (h.1, (h.0.1, tt))), apart i j OutOfRange h.0.2)
 args_fit d (act.Bulk i g j (Some n)) is h = ((h.0.0, (h.1, (h.0.1, (h.2, tt)))), apart i j OutOfRange h.0.2)
 args_fit d (act.Beat i j) is h = ((h.0, (h.1, tt)), apart i j OutOfRange h.2)
 args_fit d (act.BeatIn i j n) is h = ((h.0.0, (h.0.1, (h.1, tt))), apart i j OutOfRange h.0.2)
-args_fit d (act.Stamp i) is h = ((h, tt), refl)
-args_fit d (act.Close i) is h = ((h, tt), refl)
-args_fit d (act.Fall i) is h = ((h, tt), refl)
-args_fit d (act.Advance i) is h = ((h, tt), refl)
 args_fit d (act.Kill e z) is h = ((h.0, h.2, h.1, (h.3, tt)), refl)
 args_fit d act.Settle is h = (tt, refl)
+args_fit d _ is h = ((h, tt), refl)
 
 pub acts_read : ActsAreRead
 unfolding act_line act_words form_line

@@ -19,6 +19,11 @@ pub unbarred : {Y : Type 0} (o : Option Cause) (r : Result Y Cause) (p : Y) → 
 unbarred None r p h = (refl, h)
 unbarred (Some cause) r p h = absurd (cc)
 
+-- a value under a test
+pub tested : {X : Type 0} (b : Bool) (x y : X) → cond b (Some x) None ≡ Some y → (b ≡ true) × (x ≡ y)
+tested true x y h = (refl, cc)
+tested false x y h = absurd (cc)
+
 -- a value that must be there
 pub found : {X Y : Type 0} (o : Option X) (e : Cause) (next : X → Result Y Cause) (p : Y) → given e o next ≡ Ok p → (x : X) × (o ≡ Some x) × (next x ≡ Ok p)
 found (Some x) e next p h = (x, refl, h)

@@ -24,16 +24,22 @@ use Rattle.sat_script.specs.declared.line.Parsed.TheVariants as parsed
 use Rattle.sat_script.specs.declared.line.Stage.{Stage}
 use Rattle.sat_script.specs.declared.line.Stage.TheVariants as stage
 use Rattle.sat_script.specs.declared.stream.Reading.{Reading}
+use Rattle.sat_script.proofs.Choices.{tested}
 use Rattle.sat_script.proofs.Fits.{line_is, fit_after}
 use Rattle.sat_script.proofs.Meaning.{IsStuck, stuck_cause, goes_on-stuck}
-use Rattle.sat_script.proofs.Pieces.{settled, fresh, part_keeps, line_fails, line_goes}
+use Rattle.sat_script.proofs.Pieces.{fresh, part_keeps, line_fails, line_goes}
 use Rattle.sat_script.proofs.Whole.{read_spells, line_counted, lines_counted, said_after, few_after}
 
 -- ---- a fault that is known
 
+-- after a fault it matters not what has begun
+stopped_same : (l : WholeLines) (begun now more later : List ℕ) (told : ScriptFault) → l.seen.fault ≡ Some told → means l begun more ≡ means l now later
+stopped_same l begun now more later told e =
+    ap (λ (f : Option ScriptFault). meaning f l.seen.state (kept l.deployment l.acts) begun more) e ∙ sym (ap (λ (f : Option ScriptFault). meaning f l.seen.state (kept l.deployment l.acts) now later) e)
+
 pub after_fault : (r : Came) (told : ScriptFault) → known_fault r ≡ Some told → (more : List ℕ) → will_be r more ≡ will_be r []
 unfolding will_be
-after_fault r told e more = settled r.lines.seen (kept r.lines.deployment r.lines.acts) r.begun more told e
+after_fault r told e more = stopped_same r.lines r.begun r.begun more [] told e
 
 pub stopped_whole : (old new : WholeLines) (told : ScriptFault) → AreWhole old → new ≡ stopped_at old told → AreWhole new
 stopped_whole old new told whole e = subst AreWhole (sym e) (record { fit = whole.fit; whole = whole.whole; none = whole.none; few = whole.few; said = λ never. absurd (cc) })
@@ -54,12 +60,9 @@ bad_stops old new line told cause e is none bad = record {
 }
 
 pub whole_said : (dialect : Dialect) (here : Stage) (d : Deployed) (deployment : Option Deployed) (acts : List Act) → HasHeader here d → HasSaid dialect here d deployment acts → IfSome deployment (λ d. IsWhole d × AreActsOf d acts) × (deployment ≡ None → acts ≡ [])
-whole_said dialect stage.Start d deployment acts kept h = (subst (λ (o : Option Deployed). IfSome o (λ d. IsWhole d × AreActsOf d acts)) (sym h.0) tt, λ _. h.1)
-whole_said dialect stage.Sites d deployment acts kept h = (subst (λ (o : Option Deployed). IfSome o (λ d. IsWhole d × AreActsOf d acts)) (sym h.0) tt, λ _. h.1)
-whole_said dialect stage.Gears d deployment acts kept h = (subst (λ (o : Option Deployed). IfSome o (λ d. IsWhole d × AreActsOf d acts)) (sym h.0) tt, λ _. h.1)
-whole_said dialect stage.Header d deployment acts kept h = (subst (λ (o : Option Deployed). IfSome o (λ d. IsWhole d × AreActsOf d acts)) (sym h.0) tt, λ _. h.1)
 whole_said dialect stage.Body d deployment acts kept h = (subst (λ (o : Option Deployed). IfSome o (λ d. IsWhole d × AreActsOf d acts)) (sym h.0) (kept, h.1), λ e. absurd (let never : Some d ≡ None = sym h.0 ∙ e in cc))
 whole_said dialect stage.Ended d deployment acts kept h = (subst (λ (o : Option Deployed). IfSome o (λ d. IsWhole d × AreActsOf d acts)) (sym h.0) (kept, h.1), λ e. absurd (let never : Some d ≡ None = sym h.0 ∙ e in cc))
+whole_said dialect _ d deployment acts kept h = (subst (λ (o : Option Deployed). IfSome o (λ d. IsWhole d × AreActsOf d acts)) (sym h.0) tt, λ _. h.1)
 
 pub good_goes : (old new : WholeLines) (line : List ℕ) (p : Parsed) → AreWhole old → old.seen.fault ≡ None → line_at old.seen.state line ≡ Ok p
     → new.seen ≡ running (after old.seen.state p) → kept new.deployment new.acts ≡ with_line (kept old.deployment old.acts) (told_line old.seen.state.header p) → GoesOn old new line
@@ -115,11 +118,6 @@ kept_line old new line p (Err told) whole none good ok err =
     record { takes = bad_stops old new line told Memory stays err.0 none (λ other. absurd (other refl)); whole = stopped_whole old new told whole stays }
 
 -- ---- pieces
-
--- after a fault it matters not what has begun
-stopped_same : (l : WholeLines) (begun now more later : List ℕ) (told : ScriptFault) → l.seen.fault ≡ Some told → means l begun more ≡ means l now later
-stopped_same l begun now more later told e =
-    ap (λ (f : Option ScriptFault). meaning f l.seen.state (kept l.deployment l.acts) begun more) e ∙ sym (ap (λ (f : Option ScriptFault). meaning f l.seen.state (kept l.deployment l.acts) now later) e)
 
 -- one piece after another
 pub taken_on : (old mid new : Came) (a b : List ℕ) (result : Result (Unit {0}) ScriptFault) → HasTaken old mid a → TakesPiece mid new result b → TakesPiece old new result (a ++ b)
@@ -189,11 +187,7 @@ begun_takes old new result none empty takes = line_takes old new [] old.begun re
 
 -- a line that can't go on
 long_at : (n : ℕ) (cause : Cause) → cond (ltb LONGEST_LINE n) (Some LongLine) None ≡ Some cause → (LONGEST_LINE < n) × (LongLine ≡ cause)
-long_at n cause h = go (ltb LONGEST_LINE n) refl h
-  where
-    go : (l : Bool) → ltb LONGEST_LINE n ≡ l → cond l (Some LongLine) None ≡ Some cause → (LONGEST_LINE < n) × (LongLine ≡ cause)
-    go true e h = (ltb-true LONGEST_LINE n e, cc)
-    go false e h = absurd (cc)
+long_at n cause h = let t = tested (ltb LONGEST_LINE n) LongLine cause h in (ltb-true LONGEST_LINE n t.0, t.1)
 
 abbrev Stuck : Stage → ℕ → ℕ → Cause → Type 0
 Stuck here n m cause = ((LONGEST_LINE < n) ⊎ ((here ≡ stage.Ended) × (0 < m))) × (stuck_cause here ≡ cause)
@@ -210,11 +204,7 @@ stuck_at stage.Ended n m cause few h = go (ltb 0 m) refl h
         let long = (long_at n cause h).0 in
         let none : m ≤ 0 = ltb-false 0 m e in
         absurd (omega (arith, long))
-stuck_at stage.Start n m cause few h = stuck_long stage.Start n m cause refl h
-stuck_at stage.Sites n m cause few h = stuck_long stage.Sites n m cause refl h
-stuck_at stage.Gears n m cause few h = stuck_long stage.Gears n m cause refl h
-stuck_at stage.Header n m cause few h = stuck_long stage.Header n m cause refl h
-stuck_at stage.Body n m cause few h = stuck_long stage.Body n m cause refl h
+stuck_at here n m cause few h = stuck_long here n m cause refl h
 
 -- as long as the line is with the part, it can't go on
 grown_stuck : (s : State) (begun part : List ℕ) → (LONGEST_LINE < length begun + length part) ⊎ ((s.stage ≡ stage.Ended) × (0 < length part)) → IsStuck s (begun ++ part)

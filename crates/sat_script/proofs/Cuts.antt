@@ -1,15 +1,14 @@
 -- Where a byte first stands in a text, and how the text is cut there.
-use Rattle.std.proofs.Common.{◌&&◌, Bor, map, append_assoc, length-append, ◌≡◌, ℕ, ◌+◌, ◌-◌, ◌<◌, ◌≤◌, true, false, eqb, List, [], ◌∷◌, ◌++◌, length, take, drop, get_or, Some, None, sym, ap, ◌∙◌, refl, arith, length-take, length-drop, take_all}
+use Rattle.std.proofs.Common.{Bor, map, append_assoc, length-append, ◌≡◌, ℕ, ◌+◌, ◌-◌, ◌<◌, ◌≤◌, true, false, eqb, List, [], ◌∷◌, ◌++◌, length, take, drop, get_or, Some, None, sym, ap, ◌∙◌, refl, arith, length-take, length-drop, take_all}
 use Rattle.std.specs.List.{slice_split, list_all}
 use Rattle.std.proofs.lemmas.Bool.Decides.{nat_tests}
 use Rattle.std.proofs.lemmas.Bool.{and_parts, false_from_ne_true, eqb-true, eq-eqb}
-use Rattle.std.proofs.lemmas.List.{drop_more, take-append-drop, take-append-le, get_or-take, length-map}
+use Rattle.std.proofs.lemmas.List.{drop_more, take-append-drop, take-append-le, get_or-take, length-map, map-append}
 use Rattle.std.proofs.lemmas.List.Elements.{All-from_get_or, All-nil, All-cons}
 use Rattle.std.proofs.lemmas.List.Splits.{slice_split_at, slice_split_none}
 use Rattle.memchr.specs.Find.{IsFirstByte, is_byte}
-use Rattle.sat_script.specs.Words.{HasNo, IsCut, is_text, words_of}
+use Rattle.sat_script.specs.Words.{HasNo, IsCut, words_of}
 use Rattle.sat_label.specs.Text.{is_between}
-use Rattle.sat_script.proofs.Lists.{map_next}
 
 none_up : (b : ℕ) (xs : List ℕ) (n : ℕ) → n ≤ length xs → ((k : ℕ) → 0 ≤ k → k < n → ¬ (eqb (get_or xs k 0) b ≡ true)) → HasNo b (take n xs)
 none_up b xs n few h =
@@ -44,7 +43,7 @@ texts words = map (λ word. word.now) words
 pub words_next : (words now : List (Bor (List ℕ))) (word : Bor (List ℕ)) (line rest more : List ℕ) (n : ℕ) → now ≡ words ++ word ∷ [] → IsCut 32 rest word.now more
     → texts words ++ words_of rest ≡ words_of line → length words ≡ n → (texts now ++ words_of more ≡ words_of line) × (length now ≡ n + 1)
 words_next words now word line rest more n is c had size = (
-  ap (λ ws. texts ws ++ words_of more) is ∙ ap (λ ws. ws ++ words_of more) (map_next (λ w. w.now) words word) ∙ append_assoc (texts words) (word.now ∷ []) (words_of more)
+  ap (λ ws. texts ws ++ words_of more) is ∙ ap (λ ws. ws ++ words_of more) (map-append (λ w. w.now) words (word ∷ [])) ∙ append_assoc (texts words) (word.now ∷ []) (words_of more)
       ∙ ap (λ ws. texts words ++ ws) (sym (split_cut 32 rest word.now more c)) ∙ had,
   omega (arith, ap length is, length-append words (word ∷ [])),
 )
@@ -55,7 +54,7 @@ whole_front ws all is few = sym (take_all 6 ws few) ∙ ap (take 6) is
 pub words_last : (words now : List (Bor (List ℕ))) (word : Bor (List ℕ)) (line : List ℕ) (n : ℕ) → now ≡ words ++ word ∷ [] → HasNo 32 word.now
     → texts words ++ words_of word.now ≡ words_of line → length words ≡ n → n < 6 → texts now ≡ take 6 (words_of line)
 words_last words now word line n is none had size few =
-    let all : texts now ≡ words_of line = ap texts is ∙ map_next (λ w. w.now) words word ∙ ap (λ ws. texts words ++ ws) (sym (split_uncut 32 word.now none)) ∙ had in
+    let all : texts now ≡ words_of line = ap texts is ∙ map-append (λ w. w.now) words (word ∷ []) ∙ ap (λ ws. texts words ++ ws) (sym (split_uncut 32 word.now none)) ∙ had in
     whole_front (texts now) (words_of line) all (omega (arith, length-map now (λ (w : Bor (List ℕ)). w.now), ap length is, length-append words (word ∷ [])))
 
 pub words_full : (words : List (Bor (List ℕ))) (line rest : List ℕ) → texts words ++ words_of rest ≡ words_of line → length words ≡ 6 → texts words ≡ take 6 (words_of line)
@@ -74,9 +73,3 @@ unseen_byte x h other = grind (arith, nat_tests)
 pub seen_none : (xs : List ℕ) → list_all (is_between 33 126) xs ≡ true → HasNo 32 xs
 seen_none [] h = All-nil (λ x. eqb x 32 ≡ false)
 seen_none (x ∷ xs) h = let b = and_parts (is_between 33 126 x) (list_all (is_between 33 126) xs) h in All-cons (λ x. eqb x 32 ≡ false) x xs (seen_byte x b.0).0 (seen_none xs b.1)
-
-seen_text : (xs ys : List ℕ) → list_all (is_between 33 126) xs ≡ true → is_text (xs ++ ys) ≡ is_text ys
-seen_text [] ys h = refl
-seen_text (x ∷ xs) ys h =
-    let b = and_parts (is_between 33 126 x) (list_all (is_between 33 126) xs) h in
-    ap (λ t. t && is_text (xs ++ ys)) (seen_byte x b.0).1 ∙ seen_text xs ys b.1

@@ -1,6 +1,6 @@
 -- Numbers and their digits.
-use Rattle.std.proofs.Common.{◌≡◌, ℕ, zero, suc, ◌<◌, ◌≤◌, ◌^◌, Bool, true, false, not, ◌&&◌, ◌||◌, cond, eqb, ltb, leb, List, [], ◌∷◌, length, get_or, Some, None, sym, ap, ◌∙◌, refl, arith}
-use Rattle.std.specs.List.{list_all}
+use Rattle.std.proofs.Common.{◌≡◌, ℕ, zero, suc, ◌<◌, ◌≤◌, ◌^◌, true, not, ◌&&◌, ◌||◌, eqb, ltb, leb, List, [], ◌∷◌, length, map, get_or, Some, sym, ap, ◌∙◌, refl, subst, arith}
+use Rattle.std.specs.List.{list_all, slice_get}
 use Rattle.std.specs.Str.{all_ascii_digits}
 use Rattle.std.specs.Str.Parse.{digits_value}
 use Rattle.std.specs.Char.{is_ascii_digit}
@@ -9,10 +9,13 @@ use Rattle.std.proofs.lemmas.Bool.{and_from, and_parts, leb-true, ltb-true}
 use Rattle.std.proofs.lemmas.Bool.Decides.{nat_tests}
 use Rattle.std.proofs.lemmas.Fmt.{decimal-digits_value, digits_decimal, digits_value-decimal, decimal_nonempty, first_decimal, decimal_digit, length-decimal-le}
 use Rattle.std.proofs.lemmas.Str.Parse.{IsNumeralModel, numerals_by_value, tells_all_ascii_digits}
+use Rattle.std.proofs.lemmas.List.Sums.{AllPass-from_list_all}
+use Rattle.std.proofs.lemmas.Option.{get_or_from_slice_get, slice_get_within}
 use Rattle.sat_label.specs.Text.{is_between}
 use Rattle.sat_script.specs.Words.{is_number, value_of, number_below, number_to, number_up_to}
+use Rattle.sat_script.proofs.Choices.{tested}
 
-own : IsNumeralModel (λ ds. all_ascii_digits ds ≡ true) (digits_value 10)
+pub own : IsNumeralModel (λ ds. all_ascii_digits ds ≡ true) (digits_value 10)
 own = numerals_by_value _ tells_all_ascii_digits
 
 no_zero : (text : List ℕ) → (eqb (length text) 1 || not (eqb (get_or text 0 0) 48)) ≡ true → get_or text 0 0 ≡ 48 → length text ≡ 1
@@ -54,10 +57,6 @@ pub decimal_short : (n : ℕ) → n < 2 ^ 64 → length (decimal n) ≤ 20
 decimal_short n small = length-decimal-le 20 n (omega arith) (omega arith) (omega arith)
 
 -- ---- numbers below a limit
-
-pub tested : (b : Bool) (n m : ℕ) → cond b (Some n) None ≡ Some m → (b ≡ true) × (n ≡ m)
-tested true n m h = (refl, cc)
-tested false n m h = cc
 
 pub below_is : (limit : ℕ) (word : List ℕ) (n : ℕ) → limit ≤ 2 ^ 16 → number_below limit word ≡ Some n → (n < limit) × (word ≡ decimal n)
 unfolding number_below
@@ -112,3 +111,26 @@ up_to_reads limit n less few =
     let value = decimal_value n (omega arith) in
     let test : leb n limit ≡ true = grind (arith, nat_tests) in
     rw (number, value, test) refl
+
+-- ---- lists of small numbers
+
+abbrev pub AreSmall : List ℕ → Type 0
+AreSmall ns = (k n : ℕ) → slice_get ns k ≡ Some n → n < 2 ^ 16
+
+pub values_back : (ns : List ℕ) → AreSmall ns → map value_of (map decimal ns) ≡ ns
+values_back [] h = refl
+values_back (n ∷ ns) h =
+    let less = h 0 n refl in
+    ap (λ (v : ℕ). v ∷ map value_of (map decimal ns)) (decimal_value n (omega arith)) ∙ ap (λ (vs : List ℕ). n ∷ vs) (values_back ns (λ k m at. h (suc k) m at))
+
+pub numbers_back : (ns : List ℕ) → AreSmall ns → list_all is_number (map decimal ns) ≡ true
+numbers_back [] h = refl
+numbers_back (n ∷ ns) h =
+    let less = h 0 n refl in
+    and_from (is_number (decimal n)) (list_all is_number (map decimal ns)) (decimal_number n (omega arith)) (numbers_back ns (λ k m at. h (suc k) m at))
+
+pub all_small : (ns : List ℕ) → list_all (λ n. ltb n 64) ns ≡ true → AreSmall ns
+all_small ns h k n at =
+    let inside = AllPass-from_list_all (λ m. ltb m 64) ns h k 0 (slice_get_within ns k n at) in
+    let less = ltb-true n 64 (subst (λ m. ltb m 64 ≡ true) (get_or_from_slice_get ns k n 0 at) inside) in
+    omega arith

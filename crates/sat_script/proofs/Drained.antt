@@ -79,15 +79,17 @@ record IsSo (s : State) (r : Reading) : Type 0 where
   said : HasSaid s.dialect s.stage s.header r.deployment r.acts
   few : length r.acts ≤ s.acts
 
-record IsSoundIn (dialect : Dialect) (r : Reading) : Type 0 where
+-- and a deployment that is known stays
+record IsSoundIn (dialect : Dialect) (old r : Reading) : Type 0 where
   whole : IfSome r.deployment (λ d. IsWhole d × AreActsOf d r.acts)
   none : r.deployment ≡ None → r.acts ≡ []
   few : length r.acts ≤ (limits_of dialect).acts
+  stays : (d : Deployed) → old.deployment ≡ Some d → r.deployment ≡ Some d
 
-so_sound : (s : State) (r : Reading) → IsSo s r → IsSoundIn s.dialect r
+so_sound : (s : State) (r : Reading) → IsSo s r → IsSoundIn s.dialect r r
 so_sound s r so =
     let w = whole_said s.dialect s.stage s.header r.deployment r.acts so.fit.header so.said in
-    record { whole = w.0; none = w.1; few = omega (arith, so.few, so.fit.acts) }
+    record { whole = w.0; none = w.1; few = omega (arith, so.few, so.fit.acts); stays = λ d e. e }
 
 so_after : (s : State) (r : Reading) (line : List ℕ) (p : Parsed) → IsSo s r → line_at s line ≡ Ok p → IsSo (after s p) (with_line r (told_line s.header p))
 so_after s r line p so good = record {
@@ -96,16 +98,24 @@ so_after s r line p so good = record {
   few = few_after s.header s.acts p r so.few;
 }
 
-closed_sound : (s : State) (r : Reading) (o : Option Cause) → IsSo s r → IsSoundIn s.dialect (closed s r o)
+closed_sound : (s : State) (r : Reading) (o : Option Cause) → IsSo s r → IsSoundIn s.dialect r (closed s r o)
 closed_sound s r None so = so_sound s r so
-closed_sound s r (Some cause) so = let is = so_sound s r so in record { whole = is.whole; none = is.none; few = is.few }
+closed_sound s r (Some cause) so = let is = so_sound s r so in record { whole = is.whole; none = is.none; few = is.few; stays = λ d e. e }
 
-after_sound : (s : State) (r : Reading) (line : List ℕ) (go_on : State → Reading → Reading) → IsSo s r → ((p : Parsed) → IsSo (after s p) (with_line r (told_line s.header p)) → IsSoundIn s.dialect (go_on (after s p) (with_line r (told_line s.header p))))
-    → (said : Result Parsed Cause) → line_at s line ≡ said → IsSoundIn s.dialect (after_line s r go_on said)
-after_sound s r line go_on so on (Ok p) e = on p (so_after s r line p so e)
+line_deploys : (here : Stage) (s : State) (d : Deployed) (p : Parsed) (r : Reading) → Stands here s p → HasSaid s.dialect here s.header r.deployment r.acts → r.deployment ≡ Some d → (with_line r (told_line s.header p)).deployment ≡ Some d
+line_deploys stage.Header s d parsed.Begin r h said e = absurd (let never : None ≡ Some d = sym said.0 ∙ e in cc)
+line_deploys _ s d parsed.Begin r h said e = absurd h
+line_deploys _ s d _ r h said e = e
+
+after_sound : (s : State) (r : Reading) (line : List ℕ) (go_on : State → Reading → Reading) → IsSo s r
+    → ((p : Parsed) → IsSo (after s p) (with_line r (told_line s.header p)) → IsSoundIn s.dialect (with_line r (told_line s.header p)) (go_on (after s p) (with_line r (told_line s.header p))))
+    → (said : Result Parsed Cause) → line_at s line ≡ said → IsSoundIn s.dialect r (after_line s r go_on said)
+after_sound s r line go_on so on (Ok p) e =
+    let next = on p (so_after s r line p so e) in
+    record { whole = next.whole; none = next.none; few = next.few; stays = λ d has. next.stays d (line_deploys s.stage s d p r (line_is s line p so.fit e).stands so.said has) }
 after_sound s r line go_on so on (Err cause) e = closed_sound s r (Some cause) so
 
-from_sound : (s : State) (r : Reading) (parts : List (List ℕ)) → IsSo s r → IsSoundIn s.dialect (script_from s r parts)
+from_sound : (s : State) (r : Reading) (parts : List (List ℕ)) → IsSo s r → IsSoundIn s.dialect r (script_from s r parts)
 unfolding script_from
 from_sound s r [] so = closed_sound s r (close_at s []) so
 from_sound s r (rest ∷ []) so = closed_sound s r (close_at s rest) so
@@ -123,57 +133,9 @@ reading_sound live text =
     let is = from_sound (start (dialect_of live)) nothing (slice_split is_newline text) so in
     record { whole = whole_deployment _ _ is.whole; none = is.none; few = is.few }
 
--- ---- a deployment that is known stays
-
-abbrev Deploys : Deployed → Reading → Type 0
-Deploys d r = r.deployment ≡ Some d
-
--- what stands after `begin` says no deployment
-record IsBegun (d : Deployed) (s : State) (r : Reading) : Type 0 where
-  so : IsSo s r
-  deploys : Deploys d r
-
-line_deploys : (here : Stage) (s : State) (d : Deployed) (p : Parsed) (r : Reading) → Stands here s p → HasSaid s.dialect here s.header r.deployment r.acts → Deploys d r → Deploys d (with_line r (told_line s.header p))
-line_deploys here s d parsed.Format r h said e = e
-line_deploys here s d (parsed.Sites k) r h said e = e
-line_deploys here s d (parsed.Gears k) r h said e = e
-line_deploys here s d (parsed.Item item) r h said e = e
-line_deploys here s d (parsed.Client line) r h said e = e
-line_deploys here s d (parsed.Plan p) r h said e = e
-line_deploys here s d (parsed.Act a) r h said e = e
-line_deploys here s d parsed.End r h said e = e
-line_deploys stage.Header s d parsed.Begin r h said e = absurd (let never : None ≡ Some d = sym said.0 ∙ e in cc)
-line_deploys stage.Start s d parsed.Begin r h said e = absurd h
-line_deploys stage.Sites s d parsed.Begin r h said e = absurd h
-line_deploys stage.Gears s d parsed.Begin r h said e = absurd h
-line_deploys stage.Body s d parsed.Begin r h said e = absurd h
-line_deploys stage.Ended s d parsed.Begin r h said e = absurd h
-
-closed_deploys : (s : State) (d : Deployed) (r : Reading) (o : Option Cause) → Deploys d r → Deploys d (closed s r o)
-closed_deploys s d r None e = e
-closed_deploys s d r (Some cause) e = e
-
-begun_after : (d : Deployed) (s : State) (r : Reading) (line : List ℕ) (p : Parsed) → IsBegun d s r → line_at s line ≡ Ok p → IsBegun d (after s p) (with_line r (told_line s.header p))
-begun_after d s r line p begun good = record {
-  so = so_after s r line p begun.so good;
-  deploys = line_deploys s.stage s d p r (line_is s line p begun.so.fit good).stands begun.so.said begun.deploys;
-}
-
-after_deploys : (s : State) (d : Deployed) (r : Reading) (line : List ℕ) (go_on : State → Reading → Reading) → IsBegun d s r → ((p : Parsed) → IsBegun d (after s p) (with_line r (told_line s.header p)) → Deploys d (go_on (after s p) (with_line r (told_line s.header p))))
-    → (said : Result Parsed Cause) → line_at s line ≡ said → Deploys d (after_line s r go_on said)
-after_deploys s d r line go_on begun on (Ok p) e = on p (begun_after d s r line p begun e)
-after_deploys s d r line go_on begun on (Err cause) e = begun.deploys
-
-from_deploys : (s : State) (d : Deployed) (r : Reading) (parts : List (List ℕ)) → IsBegun d s r → Deploys d (script_from s r parts)
-unfolding script_from
-from_deploys s d r [] begun = closed_deploys s d r (close_at s []) begun.deploys
-from_deploys s d r (rest ∷ []) begun = closed_deploys s d r (close_at s rest) begun.deploys
-from_deploys s d r (line ∷ part ∷ parts) begun =
-    after_deploys s d r line (λ later more. script_from later more (part ∷ parts)) begun (λ p next. from_deploys (after s p) d (with_line r (told_line s.header p)) (part ∷ parts) next) (line_at s line) refl
-
-meaning_deploys : (o : Option ScriptFault) (s : State) (d : Deployed) (r : Reading) (begun more : List ℕ) → Deploys d r → (o ≡ None → IsSo s r) → Deploys d (meaning o s r begun more)
+meaning_deploys : (o : Option ScriptFault) (s : State) (d : Deployed) (r : Reading) (begun more : List ℕ) → r.deployment ≡ Some d → (o ≡ None → IsSo s r) → (meaning o s r begun more).deployment ≡ Some d
 unfolding goes_on
-meaning_deploys None s d r begun more e so = from_deploys s d r (onto_front begun (slice_split is_newline more)) (record { so = so refl; deploys = e })
+meaning_deploys None s d r begun more e so = (from_sound s r (onto_front begun (slice_split is_newline more)) (so refl)).stays d e
 meaning_deploys (Some fault) s d r begun more e so = e
 
 pub means_deploys : (l : WholeLines) (d : Deployed) (begun more : List ℕ) → AreWhole l → l.deployment ≡ Some d → (means l begun more).deployment ≡ Some d
@@ -196,11 +158,7 @@ ends_as r = end_deployment r.lines.seen.fault r.lines.seen.state (kept r.lines.d
 close_lacks : (here : Stage) (rest : List ℕ) → length rest ≤ LONGEST_LINE → (is_ended here ≡ true → rest ≡ []) → IfSome (close_in here rest) (λ cause. cause ≡ NoEnd)
 unfolding close_in
 close_lacks stage.Ended rest few ended = rw (ended refl) tt
-close_lacks stage.Start rest few ended = let test : ltb LONGEST_LINE (length rest) ≡ false = grind (arith, nat_tests) in rw test refl
-close_lacks stage.Sites rest few ended = let test : ltb LONGEST_LINE (length rest) ≡ false = grind (arith, nat_tests) in rw test refl
-close_lacks stage.Gears rest few ended = let test : ltb LONGEST_LINE (length rest) ≡ false = grind (arith, nat_tests) in rw test refl
-close_lacks stage.Header rest few ended = let test : ltb LONGEST_LINE (length rest) ≡ false = grind (arith, nat_tests) in rw test refl
-close_lacks stage.Body rest few ended = let test : ltb LONGEST_LINE (length rest) ≡ false = grind (arith, nat_tests) in rw test refl
+close_lacks _ rest few ended = let test : ltb LONGEST_LINE (length rest) ≡ false = grind (arith, nat_tests) in rw test refl
 
 closed_lacks : (s : State) (r : Reading) (o : Option Cause) → r.fault ≡ None → IfSome o (λ cause. cause ≡ NoEnd) → LacksOnlyItsEnd (closed s r o)
 closed_lacks s r None none is = subst (λ (o : Option ScriptFault). IfSome o (λ fault. fault.cause ≡ NoEnd)) (sym none) tt
@@ -217,12 +175,9 @@ lacks_its_end r none few ended = meaning_lacks r.lines.seen.fault r.lines.seen.s
 -- ---- as the calls have it
 
 drained_said : (dialect : Dialect) (here : Stage) (d : Deployed) (said : Option Deployed) (acts : List Act) → HasSaid dialect here d said acts → HasSaid dialect here d said []
-drained_said dialect stage.Start d said acts h = (h.0, refl)
-drained_said dialect stage.Sites d said acts h = (h.0, refl)
-drained_said dialect stage.Gears d said acts h = (h.0, refl)
-drained_said dialect stage.Header d said acts h = (h.0, refl)
 drained_said dialect stage.Body d said acts h = (h.0, tt, tt)
 drained_said dialect stage.Ended d said acts h = (h.0, tt, tt)
+drained_said dialect _ d said acts h = (h.0, refl)
 
 drained_whole : (l : WholeLines) → AreWhole l → AreWhole (without_acts l)
 drained_whole l whole =

@@ -3,12 +3,14 @@ use Rattle.std.proofs.Common.{◌≡◌, ℕ, zero, suc, ◌+◌, ◌<◌, ◌�
 use Rattle.std.specs.List.{slice_get, list_any, AllByRecursion}
 use Rattle.std.specs.Str.{bytes_eq}
 use Rattle.std.specs.Prelude.{codes}
-use Rattle.std.proofs.lemmas.List.{length-append}
+use Rattle.std.proofs.lemmas.List.{length-append, take-append-le}
+use Rattle.std.proofs.Math.Seq.{take-append_seam}
 use Rattle.std.proofs.lemmas.Bool.Decides.{nat_tests}
-use Rattle.std.proofs.lemmas.Bool.{and_from}
+use Rattle.std.proofs.lemmas.Bool.{and_from, le-leb, lt-ltb}
 use Rattle.sat_label.specs.Text.{is_name}
 use Rattle.sat_label.specs.Words.{first_failing}
 use Rattle.sat_label.proofs.First.{first_more, first_none, first_start}
+use Rattle.sat_label.proofs.Numbers.{get-front}
 use Rattle.sat_tree.specs.Shape.{TreeShape}
 use Rattle.sat_tree.specs.Flaw.{IsSmallTree}
 use Rattle.sat_act.specs.Deployed.{Deployed}
@@ -25,14 +27,12 @@ use Rattle.sat_script.specs.Causes.{bar, has_client, has_item}
 use Rattle.sat_script.specs.Table.{act_line}
 use Rattle.sat_script.specs.Grammar.{of_act}
 use Rattle.sat_script.specs.declared.dialect.Dialect.{Dialect}
-use Rattle.sat_script.specs.declared.dialect.Dialect.TheVariants as dialect
-use Rattle.sat_script.specs.declared.dialect.Limits.{Limits}
 use Rattle.sat_script.specs.declared.fault.Cause.{Cause}
 use Rattle.sat_script.specs.Kept.{IsSited, IsOpened, IsWhole, HasHeader, IsFit}
 use Rattle.sat_script.specs.Dialect.{limits_of}
 use Rattle.sat_script.specs.State.{State, start}
 use Rattle.sat_script.specs.Words.{words_of, is_text}
-use Rattle.sat_script.specs.declared.limits.TheConstants.{LONGEST_LINE, MOST_GEARS, MOST_ITEMS, MOST_PLANS, MOST_ACTS, MOST_SETTLES}
+use Rattle.sat_script.specs.declared.limits.TheConstants.{LONGEST_LINE, MOST_GEARS, MOST_PLANS}
 use Rattle.sat_script.specs.declared.line.Parsed.{Parsed}
 use Rattle.sat_script.specs.declared.line.Parsed.TheVariants as parsed
 use Rattle.sat_script.specs.declared.line.Stage.{Stage}
@@ -40,23 +40,9 @@ use Rattle.sat_script.specs.declared.line.Stage.TheVariants as stage
 use Rattle.sat_script.proofs.Acts.{acts_spelled, form_stands, act_room, settle_room}
 use Rattle.sat_script.proofs.Choices.{passed, skipped, same_ok, word_is}
 use Rattle.sat_script.proofs.Headers.{format_is, sites_is, gears_is, header_is}
-use Rattle.sat_script.proofs.Lists.{all_more}
-use Rattle.sat_script.proofs.Stands.{Stands, IsGood, ItemStands, ClientStands, IsPlanFor, PlanStands}
+use Rattle.sat_script.proofs.Lists.{all_more, get_mid}
+use Rattle.sat_script.proofs.Stands.{Stands, IsGood, limits_few, ItemStands, ClientStands, IsPlanFor, PlanStands}
 use Rattle.sat_script.proofs.Trees.{tree_small}
-
--- ---- limits
-
--- no dialect has higher limits than these
-pub record AreFew (l : Limits) : Type 0 where
-  pub sites : l.sites ≤ 16
-  pub items : l.items ≤ MOST_ITEMS
-  pub clients : l.clients ≤ 1024
-  pub acts : l.acts ≤ MOST_ACTS
-  pub settles : l.settles ≤ MOST_SETTLES
-
-pub limits_few : (dialect : Dialect) → AreFew (limits_of dialect)
-limits_few dialect.Run = record { sites = omega arith; items = omega arith; clients = omega arith; acts = omega arith; settles = omega arith }
-limits_few dialect.Live = record { sites = omega arith; items = omega arith; clients = omega arith; acts = omega arith; settles = omega arith }
 
 -- ---- any line
 
@@ -108,26 +94,17 @@ failing_to old new n (suc m) none less same =
 failing_push : (old new : ℕ → Bool) (n m : ℕ) → first_failing old n ≡ None → ((k : ℕ) → k < n → new k ≡ old k) → new n ≡ true → m ≡ n + 1 → first_failing new m ≡ None
 failing_push old new n m none same here e = subst (λ (k : ℕ). first_failing new k ≡ None) (sym e) (first_more new n (failing_to old new n n none (omega arith) same) here)
 
-get_front : {X : Type 0} (xs : List X) (x : X) (k : ℕ) → k < length xs → slice_get (xs ++ x ∷ []) k ≡ slice_get xs k
-get_front [] x k less = absurd (omega arith)
-get_front (y ∷ xs) x zero less = refl
-get_front (y ∷ xs) x (suc k) less = get_front xs x k (omega arith)
-
-get_last : {X : Type 0} (xs : List X) (x : X) → slice_get (xs ++ x ∷ []) (length xs) ≡ Some x
-get_last [] x = refl
-get_last (y ∷ xs) x = get_last xs x
-
-take_front : {X : Type 0} (xs : List X) (x : X) (k : ℕ) → k ≤ length xs → take k (xs ++ x ∷ []) ≡ take k xs
-take_front xs x zero less = refl
-take_front [] x (suc k) less = absurd (omega arith)
-take_front {X = X} (y ∷ xs) x (suc k) less = ap (λ (zs : List X). y ∷ zs) (take_front xs x k (omega arith))
-
-take_whole : {X : Type 0} (xs : List X) (x : X) → take (length xs) (xs ++ x ∷ []) ≡ xs
-take_whole [] x = refl
-take_whole {X = X} (y ∷ xs) x = ap (λ (zs : List X). y ∷ zs) (take_whole xs x)
-
 push_length : {X : Type 0} (xs : List X) (x : X) → length (xs ++ x ∷ []) ≡ length xs + 1
 push_length xs x = length-append xs (x ∷ [])
+
+-- each member fits those before it, and so does one more
+grown : {X : Type 0} (fits : List X → Option X → Bool) (xs : List X) (x : X) → first_failing (λ k. fits (take k xs) (slice_get xs k)) (length xs) ≡ None → fits xs (Some x) ≡ true
+    → first_failing (λ k. fits (take k (xs ++ x ∷ [])) (slice_get (xs ++ x ∷ []) k)) (length (xs ++ x ∷ [])) ≡ None
+grown {X = X} fits xs x none here =
+    failing_push (λ k. fits (take k xs) (slice_get xs k)) (λ k. fits (take k (xs ++ x ∷ [])) (slice_get (xs ++ x ∷ []) k)) (length xs) (length (xs ++ x ∷ [])) none
+    (λ k less. ap (fits (take k (xs ++ x ∷ []))) (get-front xs (x ∷ []) k less) ∙ ap (λ (earlier : List X). fits earlier (slice_get xs k)) (take-append-le k xs (x ∷ []) (omega arith)))
+    (ap (fits (take (length xs) (xs ++ x ∷ []))) (get_mid xs [] x) ∙ ap (λ (earlier : List X). fits earlier (Some x)) (take-append_seam xs (x ∷ [])) ∙ here)
+    (push_length xs x)
 
 -- ---- items, clients and plans
 
@@ -137,54 +114,27 @@ item_at sites earlier o = elim o [ None ↦ true | Some item ↦ are_sites sites
 abbrev client_at : ℕ → List ClientLine → Option ClientLine → Bool
 client_at sites earlier o = elim o [ None ↦ true | Some line ↦ ltb line.site sites && not (list_any (λ (other : ClientLine). bytes_eq other.name line.name) earlier) ]
 
-items_same : (sites : ℕ) (items : List Item) (x : Item) (k : ℕ) → k < length items → item_fits sites (items ++ x ∷ []) k ≡ item_fits sites items k
-unfolding item_fits
-items_same sites items x k less = ap (item_at sites (take k (items ++ x ∷ []))) (get_front items x k less) ∙ ap (λ (earlier : List Item). item_at sites earlier (slice_get items k)) (take_front items x k (omega arith))
-
-item_last : (sites : ℕ) (items : List Item) (x : Item) → are_sites sites x.replicas.bits ≡ true → list_any (λ (item : Item). bytes_eq item.name x.name) items ≡ false → item_fits sites (items ++ x ∷ []) (length items) ≡ true
-unfolding item_fits
-item_last sites items x are new =
-    ap (item_at sites (take (length items) (items ++ x ∷ []))) (get_last items x)
-    ∙ ap (λ (earlier : List Item). item_at sites earlier (Some x)) (take_whole items x)
-    ∙ and_from (are_sites sites x.replicas.bits) (not (list_any (λ (item : Item). bytes_eq item.name x.name) items)) are (ap not new)
-
 items_push : (sites : ℕ) (items : List Item) (x : Item) → first_failing (item_fits sites items) (length items) ≡ None → are_sites sites x.replicas.bits ≡ true → list_any (λ (item : Item). bytes_eq item.name x.name) items ≡ false
     → first_failing (item_fits sites (items ++ x ∷ [])) (length (items ++ x ∷ [])) ≡ None
-items_push sites items x none are new = failing_push (item_fits sites items) (item_fits sites (items ++ x ∷ [])) (length items) (length (items ++ x ∷ [])) none (items_same sites items x) (item_last sites items x are new) (push_length items x)
-
-clients_same : (sites : ℕ) (clients : List ClientLine) (x : ClientLine) (k : ℕ) → k < length clients → client_fits sites (clients ++ x ∷ []) k ≡ client_fits sites clients k
-unfolding client_fits
-clients_same sites clients x k less = ap (client_at sites (take k (clients ++ x ∷ []))) (get_front clients x k less) ∙ ap (λ (earlier : List ClientLine). client_at sites earlier (slice_get clients k)) (take_front clients x k (omega arith))
-
-client_last : (sites : ℕ) (clients : List ClientLine) (x : ClientLine) → x.site < sites → list_any (λ (line : ClientLine). bytes_eq line.name x.name) clients ≡ false → client_fits sites (clients ++ x ∷ []) (length clients) ≡ true
-unfolding client_fits
-client_last sites clients x home new =
-    let less : ltb x.site sites ≡ true = grind (arith, nat_tests) in
-    ap (client_at sites (take (length clients) (clients ++ x ∷ []))) (get_last clients x)
-    ∙ ap (λ (earlier : List ClientLine). client_at sites earlier (Some x)) (take_whole clients x)
-    ∙ and_from (ltb x.site sites) (not (list_any (λ (line : ClientLine). bytes_eq line.name x.name) clients)) less (ap not new)
+unfolding item_fits
+items_push sites items x none are new = grown (item_at sites) items x none (and_from (are_sites sites x.replicas.bits) (not (list_any (λ (item : Item). bytes_eq item.name x.name) items)) are (ap not new))
 
 clients_push : (sites : ℕ) (clients : List ClientLine) (x : ClientLine) → first_failing (client_fits sites clients) (length clients) ≡ None → x.site < sites → list_any (λ (line : ClientLine). bytes_eq line.name x.name) clients ≡ false
     → first_failing (client_fits sites (clients ++ x ∷ [])) (length (clients ++ x ∷ [])) ≡ None
-clients_push sites clients x none home new = failing_push (client_fits sites clients) (client_fits sites (clients ++ x ∷ [])) (length clients) (length (clients ++ x ∷ [])) none (clients_same sites clients x) (client_last sites clients x home new) (push_length clients x)
+unfolding client_fits
+clients_push sites clients x none home new =
+    grown (client_at sites) clients x none (and_from (ltb x.site sites) (not (list_any (λ (line : ClientLine). bytes_eq line.name x.name) clients)) (lt-ltb x.site sites home) (ap not new))
 
 abbrev plan_at : ℕ → Option Plan → Bool
 plan_at sites o = elim o [ None ↦ true | Some p ↦ elim p [ plan.Stamp ↦ true | plan.Tree t ↦ eqb (length t.seats) sites ] ]
-
-plans_same : (sites : ℕ) (plans : List Plan) (x : Plan) (k : ℕ) → k < length plans → plan_fits sites (plans ++ x ∷ []) k ≡ plan_fits sites plans k
-unfolding plan_fits
-plans_same sites plans x k less = ap (plan_at sites) (get_front plans x k less)
 
 plan_seats : (sites : ℕ) (p : Plan) → sites ≤ 16 → IsPlanFor sites p → plan_at sites (Some p) ≡ true
 plan_seats sites plan.Stamp few h = refl
 plan_seats sites (plan.Tree t) few h = let seats = (tree_small sites t h few).1 in grind (arith, nat_tests)
 
-plan_last : (sites : ℕ) (plans : List Plan) (x : Plan) → plan_at sites (Some x) ≡ true → plan_fits sites (plans ++ x ∷ []) (length plans) ≡ true
-unfolding plan_fits
-plan_last sites plans x h = ap (plan_at sites) (get_last plans x) ∙ h
-
 plans_push : (sites : ℕ) (plans : List Plan) (x : Plan) → sites ≤ 16 → first_failing (plan_fits sites plans) (length plans) ≡ None → IsPlanFor sites x → first_failing (plan_fits sites (plans ++ x ∷ [])) (length (plans ++ x ∷ [])) ≡ None
-plans_push sites plans x few none h = failing_push (plan_fits sites plans) (plan_fits sites (plans ++ x ∷ [])) (length plans) (length (plans ++ x ∷ [])) none (plans_same sites plans x) (plan_last sites plans x (plan_seats sites x few h)) (push_length plans x)
+unfolding plan_fits
+plans_push sites plans x few none h = grown (λ earlier. plan_at sites) plans x none (plan_seats sites x few h)
 
 trees_push : (plans : List Plan) (x : Plan) → HaveTrees plans → ((t : TreeShape) → x ≡ plan.Tree t → IsSmallTree t) → HaveTrees (plans ++ x ∷ [])
 trees_push [] x old here zero t at = here t (let e : x ≡ plan.Tree t = cc in e)
@@ -198,10 +148,7 @@ no_trees e t at = absurd (cc)
 -- ---- a whole header
 
 within : (low high n : ℕ) → low ≤ n → n ≤ high → is_within low high n ≡ true
-within low high n a b = let one : leb low n ≡ true = grind (arith, nat_tests) in let two : leb n high ≡ true = grind (arith, nat_tests) in and_from (leb low n) (leb n high) one two
-
-at_most : (n m : ℕ) → n ≤ m → leb n m ≡ true
-at_most n m h = grind (arith, nat_tests)
+within low high n a b = and_from (leb low n) (leb n high) (le-leb low n a) (le-leb n high b)
 
 pub flawless : (d : Deployed) → IsOpened d → 0 < length d.plans → length d.items ≤ 4096 → length d.clients ≤ 1024 → length d.plans ≤ 16 → flaw d ≡ None
 unfolding flaw wrong_size
@@ -209,8 +156,8 @@ flawless d is some items clients plans =
     rw (
       within 1 16 d.sites (omega (arith, is.some_site)) is.few_sites,
       within 1 8 d.gears (omega (arith, is.some_gear)) is.few_gears,
-      at_most (length d.items) 4096 items,
-      at_most (length d.clients) 1024 clients,
+      le-leb (length d.items) 4096 items,
+      le-leb (length d.clients) 1024 clients,
       within 1 16 (length d.plans) (omega arith) plans,
       is.items,
       is.clients,
@@ -360,16 +307,11 @@ pub fit_after : (s : State) (line : List ℕ) (p : Parsed) → IsFit s → line_
 fit_after s line p fit h = stands_after s p fit (line_is s line p fit h).stands
 
 new_of : (here : Stage) (s : State) (p : Parsed) → Stands here s p → IsNew s.header p
-new_of stage.Start s parsed.Format h = tt
-new_of stage.Sites s (parsed.Sites n) h = tt
-new_of stage.Gears s (parsed.Gears n) h = tt
 new_of stage.Header s (parsed.Item item) h = h.new
 new_of stage.Header s (parsed.Client line) h = h.new
-new_of stage.Header s (parsed.Plan p) h = tt
-new_of stage.Header s parsed.Begin h = tt
-new_of stage.Body s (parsed.Act a) h = tt
-new_of stage.Body s parsed.End h = tt
-new_of _ s _ h = absurd h
+new_of _ s (parsed.Item item) h = absurd h
+new_of _ s (parsed.Client line) h = absurd h
+new_of _ s _ h = tt
 
 -- and a name that a good line brings is new
 pub new_after : (s : State) (line : List ℕ) (p : Parsed) → IsFit s → line_at s line ≡ Ok p → IsNew s.header p

@@ -1,12 +1,14 @@
 -- The lines of the header: what each says, and that it is spelled so.
-use Rattle.std.proofs.Common.{◌≡◌, ℕ, suc, ◌+◌, ◌<◌, ◌≤◌, ◌^◌, Bool, true, false, not, ◌&&◌, cond, eqb, ltb, List, [], ◌∷◌, ◌++◌, length, map, filter, take, drop, get_or, position, Option, Some, None, Result, Ok, Err, sym, ap, ◌∙◌, refl, subst, arith}
+use Rattle.std.proofs.Common.{◌≡◌, ℕ, ◌+◌, ◌<◌, ◌≤◌, ◌^◌, Bool, true, false, not, ◌&&◌, cond, eqb, ltb, List, [], ◌∷◌, ◌++◌, length, map, filter, take, drop, get_or, position, Option, Some, None, Result, Ok, Err, sym, ap, ◌∙◌, refl, subst, arith}
 use Rattle.std.specs.Str.{bytes_eq}
 use Rattle.std.specs.Prelude.{codes}
 use Rattle.std.specs.Fmt.{decimal}
 use Rattle.std.specs.List.{list_all, join_with_byte}
-use Rattle.std.proofs.lemmas.Bool.{and_from, and_parts, lt-ltb, ltb-true}
+use Rattle.std.proofs.lemmas.Bool.{and_from, and_parts, eqb-true, false_from_ne_true, lt-ltb, ltb-true}
 use Rattle.std.proofs.lemmas.Bool.Decides.{nat_tests}
-use Rattle.std.proofs.lemmas.List.{drop_more, take-append-drop}
+use Rattle.std.proofs.lemmas.List.{drop_more, length-map, take-append-drop}
+use Rattle.std.proofs.lemmas.List.Folds.{list_all-map}
+use Rattle.std.proofs.lemmas.Simd.{map-map}
 use Rattle.std.proofs.lemmas.List.Splits.{join_with_byte-slice_split, length-slice_split}
 use Rattle.std.proofs.lemmas.List.Quantifiers.{position-Some}
 use Rattle.sat_label.specs.Text.{is_name}
@@ -16,8 +18,6 @@ use Rattle.sat_tree.specs.Shape.{TreeShape}
 use Rattle.sat_act.specs.declared.deployment.Plan.TheVariants as plan
 use Rattle.sat_act.specs.Flaw.{are_sites}
 use Rattle.sat_script.specs.Dialect.{limits_of}
-use Rattle.sat_script.specs.declared.dialect.Dialect.{Dialect}
-use Rattle.sat_script.specs.declared.dialect.Dialect.TheVariants as dialect
 use Rattle.sat_script.specs.Causes.{bar, has_room, has_client, has_item}
 use Rattle.sat_script.specs.Grammar.{format_line, counted, of_count, sites_line, gears_line, item_line, client_line, begin_line, are_parents, parent_number, tree_on, tree_in, is_tree, tree_line, is_slash, parted_line, stamp_line, plan_line, named_line, header_form, header_line}
 use Rattle.sat_script.specs.Spelled.{sites_text}
@@ -31,19 +31,20 @@ use Rattle.sat_script.specs.declared.limits.TheConstants.{MOST_GEARS, MOST_PLANS
 use Rattle.sat_script.specs.declared.line.Parsed.{Parsed}
 use Rattle.sat_script.specs.declared.line.Parsed.TheVariants as parsed
 use Rattle.sat_script.proofs.Bars.{free}
-use Rattle.sat_script.proofs.Choices.{passed, skipped, unbarred, found, same_ok, word_is}
+use Rattle.sat_script.proofs.Choices.{passed, skipped, unbarred, tested, found, same_ok, word_is}
 use Rattle.sat_script.proofs.Digits.{number_is, below_is, to_is}
+use Rattle.sat_script.proofs.Lists.{all_weaker}
 use Rattle.sat_script.proofs.Rising.{set_members, set_small}
-use Rattle.sat_script.proofs.Sites.{bit_set_of}
-use Rattle.sat_script.proofs.Stands.{IsGood}
+use Rattle.sat_script.proofs.Sites.{bit_set_of, bit_zero}
+use Rattle.sat_script.proofs.Stands.{IsGood, limits_few}
 use Rattle.sat_script.specs.declared.line.Stage.TheVariants as stage
-use Rattle.sat_script.proofs.Trees.{tree_parts, seats_below, parents_below}
+use Rattle.sat_script.proofs.Trees.{empty_line, parents_below, seats_below, tree_small}
 
 -- ---- numbers
 
 pub empty : {X : Type 0} (xs : List X) → eqb (length xs) 0 ≡ true → xs ≡ []
 empty [] h = refl
-empty (x ∷ xs) h = absurd (let n : length xs + 1 ≡ 0 = grind (arith, nat_tests) in omega arith)
+empty (x ∷ xs) h = absurd (let n = eqb-true (length (x ∷ xs)) 0 h in omega arith)
 
 -- numbers below a limit are spelled in digits
 pub digits_of : (limit : ℕ) (words : List (List ℕ)) → limit ≤ 2 ^ 16 → list_all is_number words ≡ true → are_below limit words ≡ true → words ≡ map decimal (map value_of words)
@@ -55,19 +56,8 @@ digits_of limit (w ∷ words) few numbers low =
     let word = number_is w n.0 (omega arith) in
     ap (λ v. v ∷ words) word ∙ ap (λ ws. decimal (value_of w) ∷ ws) (digits_of limit words few n.1 l.1)
 
-values_under : (limit : ℕ) (words : List (List ℕ)) → are_below limit words ≡ true → list_all (λ x. ltb x limit) (map value_of words) ≡ true
-values_under limit [] h = refl
-values_under limit (w ∷ words) h = let b = and_parts (ltb (value_of w) limit) (are_below limit words) h in and_from (ltb (value_of w) limit) (list_all (λ x. ltb x limit) (map value_of words)) b.0 (values_under limit words b.1)
-
 wide : (limit n : ℕ) (xs : List ℕ) → limit ≤ n → list_all (λ x. ltb x limit) xs ≡ true → list_all (λ x. ltb x n) xs ≡ true
-wide limit n [] few h = refl
-wide limit n (x ∷ xs) few h =
-    let b = and_parts (ltb x limit) (list_all (λ x. ltb x limit) xs) h in
-    let less = ltb-true x limit b.0 in
-    and_from (ltb x n) (list_all (λ x. ltb x n) xs) (low x n (omega arith)) (wide limit n xs few b.1)
-  where
-    low : (x n : ℕ) → x < n → ltb x n ≡ true
-    low x n h = grind (arith, nat_tests)
+wide limit n xs few h = all_weaker (λ x. ltb x limit) (λ x. ltb x n) (λ x low. let less = ltb-true x limit low in lt-ltb x n (omega arith)) xs h
 
 -- ---- a list of sites
 
@@ -75,29 +65,14 @@ among_some : (x : ℕ) (xs : List ℕ) → bit (set_of (x ∷ xs)) x ≡ true
 among_some x xs = bit_set_of (x ∷ xs) x ∙ (let same : eqb x x ≡ true = grind (arith, nat_tests) in rw same refl)
 
 pub bit_none : (n k : ℕ) → n ≡ 0 → bit n k ≡ true → ⊥
-bit_none n k e h = absurd (let z : bit 0 k ≡ false = Rattle.sat_script.proofs.Sites.bit_zero k in let o : bit 0 k ≡ true = subst (λ (n : ℕ). bit n k ≡ true) e h in let never : true ≡ false = sym o ∙ z in cc)
+bit_none n k e h = let never : true ≡ false = sym h ∙ ap (λ n. bit n k) e ∙ bit_zero k in cc
 
 pub not_zero : (n : ℕ) → (n ≡ 0 → ⊥) → not (eqb n 0) ≡ true
-not_zero n h = go (eqb n 0) refl
-  where
-    go : (b : Bool) → eqb n 0 ≡ b → not b ≡ true
-    go true e = absurd (h (zero_is n e))
-      where
-        zero_is : (n : ℕ) → eqb n 0 ≡ true → n ≡ 0
-        zero_is n e = grind (arith, nat_tests)
-    go false e = refl
+not_zero n h = ap not (false_from_ne_true (eqb n 0) (λ t. h (eqb-true n 0 t)))
 
 some_member : (xs : List ℕ) → 0 < length xs → not (eqb (set_of xs) 0) ≡ true
 some_member [] some = absurd (omega arith)
 some_member (x ∷ xs) some = not_zero (set_of (x ∷ xs)) (λ e. bit_none (set_of (x ∷ xs)) x e (among_some x xs))
-
-length_values : (words : List (List ℕ)) → length (map value_of words) ≡ length words
-length_values [] = refl
-length_values (w ∷ words) = ap suc (length_values words)
-
-chosen_set : (b : Bool) (n : ℕ) (set : SiteSet) → cond b (Some (let s : SiteSet = record { bits = n } in s)) None ≡ Some set → (b ≡ true) × (set ≡ record { bits = n })
-chosen_set true n set h = (refl, cc)
-chosen_set false n set h = absurd (cc)
 
 rises : (parts : List (List ℕ)) → are_rising parts ≡ true → (list_all is_number parts ≡ true) × (is_rising (map value_of parts) ≡ true)
 unfolding are_rising
@@ -111,13 +86,13 @@ pub list_is : (limit : ℕ) (list : List ℕ) (set : SiteSet) → limit ≤ 16 �
 unfolding sites_among sites_text
 list_is limit list set few rising h =
     let parts : List (List ℕ) = parts_of list in
-    let c = chosen_set (are_below limit parts) (set_of (map value_of parts)) set h in
+    let c = tested (are_below limit parts) (let s : SiteSet = record { bits = set_of (map value_of parts) } in s) set h in
     let r = rises parts rising in
-    let under = values_under limit parts c.0 in
+    let under = list_all-map (λ x. ltb x limit) value_of parts ∙ c.0 in
     let members = set_members (map value_of parts) 64 r.1 (wide limit 64 (map value_of parts) (omega arith) under) in
     let digits = digits_of limit parts (omega arith) r.0 c.0 in
-    let bits : set.bits ≡ set_of (map value_of parts) = ap (λ (s : SiteSet). s.bits) c.1 in
-    let some : 0 < length (map value_of parts) = omega (arith, length_values parts, length-slice_split is_comma list) in (
+    let bits : set.bits ≡ set_of (map value_of parts) = ap (λ (s : SiteSet). s.bits) (sym c.1) in
+    let some : 0 < length (map value_of parts) = omega (arith, length-map parts value_of, length-slice_split is_comma list) in (
       sym (join_with_byte-slice_split 44 list)
           ∙ ap (join_with_byte 44) digits
           ∙ ap (λ (xs : List ℕ). join_with_byte 44 (map decimal xs)) (sym members)
@@ -136,14 +111,12 @@ three_words a b c x y z h k m = rw (h, k, m) refl
 
 pub format_is : (s : State) (words : List (List ℕ)) (p : Parsed) → format_line words ≡ Ok p → IsGood stage.Start s words p
 unfolding format_line
-format_is s [] p h = absurd (cc)
-format_is s (word ∷ []) p h = absurd (cc)
 format_is s (word ∷ number ∷ []) p h =
     let t = passed (bytes_eq word (codes "saturn") && bytes_eq number (codes "1")) _ _ _ h in
     let b = and_parts (bytes_eq word (codes "saturn")) (bytes_eq number (codes "1")) t.0 in
     subst (λ (p : Parsed). IsGood stage.Start s (word ∷ number ∷ []) p) (same_ok _ p t.1)
     (record { spelled = two_words word number _ _ (word_is word (codes "saturn") b.0) (word_is number (codes "1") b.1); stands = tt })
-format_is s (word ∷ number ∷ other ∷ words) p h = absurd (cc)
+format_is s _ p h = absurd (cc)
 
 counted_is : (keyword : List ℕ) (limit : ℕ) (word number : List ℕ) (n : ℕ) → limit < 2 ^ 16 → counted keyword limit word number ≡ Ok n → (word ≡ keyword) × (number ≡ decimal n) × (1 ≤ n) × (n ≤ limit)
 unfolding counted
@@ -159,30 +132,22 @@ of_count_is : (says : ℕ → Parsed) (r : Result ℕ Cause) (p : Parsed) → of
 of_count_is says (Ok n) p h = (n, refl, same_ok (says n) p h)
 of_count_is says (Err cause) p h = absurd (cc)
 
-small_sites : (dialect : Dialect) → (limits_of dialect).sites ≤ 16
-small_sites dialect.Run = omega arith
-small_sites dialect.Live = omega arith
-
 pub sites_is : (s : State) (words : List (List ℕ)) (p : Parsed) → sites_line s.dialect words ≡ Ok p → IsGood stage.Sites s words p
 unfolding sites_line
-sites_is s [] p h = absurd (cc)
-sites_is s (word ∷ []) p h = absurd (cc)
 sites_is s (word ∷ number ∷ []) p h =
-    let few = small_sites s.dialect in
+    let few = (limits_few s.dialect).sites in
     let c = of_count_is parsed.Sites (counted (codes "sites") (limits_of s.dialect).sites word number) p h in
     let is = counted_is (codes "sites") (limits_of s.dialect).sites word number c.0 (omega arith) c.1 in
     subst (λ (p : Parsed). IsGood stage.Sites s (word ∷ number ∷ []) p) c.2 (record { spelled = two_words word number _ _ is.0 is.1; stands = (is.2, is.3) })
-sites_is s (word ∷ number ∷ other ∷ words) p h = absurd (cc)
+sites_is s _ p h = absurd (cc)
 
 pub gears_is : (s : State) (words : List (List ℕ)) (p : Parsed) → gears_line words ≡ Ok p → IsGood stage.Gears s words p
 unfolding gears_line
-gears_is s [] p h = absurd (cc)
-gears_is s (word ∷ []) p h = absurd (cc)
 gears_is s (word ∷ number ∷ []) p h =
     let c = of_count_is parsed.Gears (counted (codes "gears") MOST_GEARS word number) p h in
     let is = counted_is (codes "gears") MOST_GEARS word number c.0 (omega arith) c.1 in
     subst (λ (p : Parsed). IsGood stage.Gears s (word ∷ number ∷ []) p) c.2 (record { spelled = two_words word number _ _ is.0 is.1; stands = (is.2, is.3) })
-gears_is s (word ∷ number ∷ other ∷ words) p h = absurd (cc)
+gears_is s _ p h = absurd (cc)
 
 -- ---- items and clients
 
@@ -223,42 +188,34 @@ client_says s word name site p few is h =
 
 -- ---- plans
 
-parents_text : (words : List (List ℕ)) → map parent_text (map parent_number words) ≡ map decimal (map value_of words)
-parents_text [] = refl
-parents_text (w ∷ words) = ap (λ (ws : List (List ℕ)). decimal (value_of w) ∷ ws) (parents_text words)
-
-length_parents : (words : List (List ℕ)) → length (map parent_number words) ≡ length words
-length_parents [] = refl
-length_parents (w ∷ words) = ap suc (length_parents words)
-
 -- the words of a tree are those of its parents and seats
-rooted : (sites : ℕ) (words seats : List (List ℕ)) → list_all is_number words ≡ true → list_all is_number seats ≡ true → is_tree sites (tree_on words seats) ≡ true
+rooted : (sites : ℕ) (words seats : List (List ℕ)) → sites ≤ 16 → list_all is_number words ≡ true → list_all is_number seats ≡ true → is_tree sites (tree_on words seats) ≡ true
     → (words ≡ map parent_text (map parent_number words)) × (seats ≡ map decimal (map value_of seats))
-rooted sites words seats numbers places h =
+rooted sites words seats few numbers places h =
     let t : TreeShape = tree_on words seats in
-    let is = tree_parts t (Rattle.sat_script.proofs.Trees.tree_is sites t h).0 in
-    let few = is.few in (
-      digits_of (length t.parents) words (omega arith) numbers (parents_below t words is refl) ∙ sym (parents_text words),
-      digits_of (length t.parents) seats (omega arith) places (seats_below t seats is refl),
+    let is = (tree_small sites t h few).0 in
+    let most = is.few_serializers in (
+      digits_of (length t.parents) words (omega arith) numbers (parents_below t words is.tree refl) ∙ map-map decimal value_of words ∙ sym (map-map parent_text parent_number words),
+      digits_of (length t.parents) seats (omega arith) places (seats_below t seats is.tree refl),
     )
 
-tree_says : (s : State) (parents seats : List (List ℕ)) (p : Parsed) → tree_line s parents seats ≡ Ok p
+tree_says : (s : State) (parents seats : List (List ℕ)) (p : Parsed) → s.header.sites ≤ 16 → tree_line s parents seats ≡ Ok p
     → (t : TreeShape) × (p ≡ parsed.Plan (plan.Tree t)) × (is_tree s.header.sites t ≡ true) × (length s.header.plans < MOST_PLANS) × (parents ≡ map parent_text t.parents) × (seats ≡ map decimal t.seats)
 unfolding tree_line are_parents tree_in has_room
-tree_says s [] seats p h =
+tree_says s [] seats p few h =
     let w = passed (list_all is_number seats) _ _ _ h in
     let b = unbarred (bar s form.PlanTree) _ p w.1 in
     let tree : TreeShape = record { parents = []; seats = map value_of seats } in
     let t = passed (is_tree s.header.sites tree) (Ok (parsed.Plan (plan.Tree tree))) BadTree p b.1 in
-    let none : is_tree s.header.sites tree ≡ false = Rattle.sat_script.proofs.Trees.empty_line s.header.sites seats in
+    let none : is_tree s.header.sites tree ≡ false = empty_line s.header.sites seats few in
     absurd (let never : true ≡ false = sym t.0 ∙ none in cc)
-tree_says s (root ∷ words) seats p h =
+tree_says s (root ∷ words) seats p few h =
     let w = passed ((bytes_eq root (codes "-") && list_all is_number words) && list_all is_number seats) _ _ _ h in
     let shapes = and_parts (bytes_eq root (codes "-") && list_all is_number words) (list_all is_number seats) w.0 in
     let inner = and_parts (bytes_eq root (codes "-")) (list_all is_number words) shapes.0 in
     let b = unbarred (bar s form.PlanTree) _ p w.1 in
     let t = passed (is_tree s.header.sites (tree_on words seats)) _ _ _ b.1 in
-    let text = rooted s.header.sites words seats inner.1 shapes.1 t.0 in
+    let text = rooted s.header.sites words seats few inner.1 shapes.1 t.0 in
     let room = (free s form.PlanTree b.0).room in (
       tree_on words seats,
       sym (same_ok _ p t.1),
@@ -274,11 +231,11 @@ parted_words words k h =
     let next = drop_more words k [] at.0 in
     sym (take-append-drop k words) ∙ ap (λ (ws : List (List ℕ)). take k words ++ ws) (next ∙ ap (λ (w : List ℕ). w ∷ drop (k + 1) words) (word_is (get_or words k []) (codes "/") at.1))
 
-parted_says : (s : State) (words : List (List ℕ)) (o : Option ℕ) (p : Parsed) → position is_slash words ≡ o → parted_line s words o ≡ Ok p → IsGood stage.Header s (codes "plan" ∷ codes "tree" ∷ words) p
+parted_says : (s : State) (words : List (List ℕ)) (o : Option ℕ) (p : Parsed) → s.header.sites ≤ 16 → position is_slash words ≡ o → parted_line s words o ≡ Ok p → IsGood stage.Header s (codes "plan" ∷ codes "tree" ∷ words) p
 unfolding parted_line
-parted_says s words None p at h = absurd (cc)
-parted_says s words (Some k) p at h =
-    let t = tree_says s (take k words) (drop (k + 1) words) p h in
+parted_says s words None p few at h = absurd (cc)
+parted_says s words (Some k) p few at h =
+    let t = tree_says s (take k words) (drop (k + 1) words) p few h in
     subst (λ (p : Parsed). IsGood stage.Header s (codes "plan" ∷ codes "tree" ∷ words) p) (sym t.1)
     (record {
       spelled = ap (λ (ws : List (List ℕ)). codes "plan" ∷ codes "tree" ∷ ws) (parted_words words k at ∙ ap (λ (ws : List (List ℕ)). ws ++ codes "/" ∷ drop (k + 1) words) t.4 ∙ ap (λ (ws : List (List ℕ)). map parent_text t.0.parents ++ codes "/" ∷ ws) t.5);
@@ -301,12 +258,12 @@ by_word {X} word text r other p yields later h = go (bytes_eq word text) refl h
     go true e h = yields (word_is word text e) h
     go false e h = later h
 
-plan_says : (s : State) (word : List ℕ) (words : List (List ℕ)) (p : Parsed) → word ≡ codes "plan" → plan_line s words ≡ Ok p → IsGood stage.Header s (word ∷ words) p
+plan_says : (s : State) (word : List ℕ) (words : List (List ℕ)) (p : Parsed) → s.header.sites ≤ 16 → word ≡ codes "plan" → plan_line s words ≡ Ok p → IsGood stage.Header s (word ∷ words) p
 unfolding plan_line
-plan_says s word [] p is h = absurd (cc)
-plan_says s word (kind ∷ words) p is h =
+plan_says s word [] p few is h = absurd (cc)
+plan_says s word (kind ∷ words) p few is h =
     by_word kind (codes "tree") (parted_line s words (position is_slash words)) _ p
-    (λ tree good. subst (λ (w : List ℕ). IsGood stage.Header s (w ∷ kind ∷ words) p) (sym is) (subst (λ (k : List ℕ). IsGood stage.Header s (codes "plan" ∷ k ∷ words) p) (sym tree) (parted_says s words (position is_slash words) p refl good)))
+    (λ tree good. subst (λ (w : List ℕ). IsGood stage.Header s (w ∷ kind ∷ words) p) (sym is) (subst (λ (k : List ℕ). IsGood stage.Header s (codes "plan" ∷ k ∷ words) p) (sym tree) (parted_says s words (position is_slash words) p few refl good)))
     (λ other.
     let t = passed (bytes_eq kind (codes "stamp") && eqb (length words) 0) _ _ _ other in
     let b = and_parts (bytes_eq kind (codes "stamp")) (eqb (length words) 0) t.0 in
@@ -321,13 +278,12 @@ begin_says s word p is h =
 form_says : (s : State) (word : List ℕ) (words : List (List ℕ)) (p : Parsed) → s.header.sites ≤ 16 → header_form s word words ≡ Ok p → IsGood stage.Header s (word ∷ words) p
 unfolding header_form named_line
 form_says s word [] p few h = by_word word (codes "begin") (begin_line s.header) _ p (begin_says s word p) (λ e. absurd (cc)) h
-form_says s word (name ∷ []) p few h = absurd (cc)
 form_says s word (name ∷ place ∷ []) p few h =
     by_word word (codes "item") (item_line s name place) _ p (item_says s word name place p few)
     (by_word word (codes "client") (client_line s name place) _ p (client_says s word name place p few) (λ e. absurd (cc))) h
-form_says s word (name ∷ place ∷ other ∷ words) p few h = absurd (cc)
+form_says s word _ p few h = absurd (cc)
 
 pub header_is : (s : State) (words : List (List ℕ)) (p : Parsed) → s.header.sites ≤ 16 → header_line s words ≡ Ok p → IsGood stage.Header s words p
 unfolding header_line
 header_is s [] p few h = absurd (cc)
-header_is s (word ∷ words) p few h = by_word word (codes "plan") (plan_line s words) _ p (plan_says s word words p) (form_says s word words p few) h
+header_is s (word ∷ words) p few h = by_word word (codes "plan") (plan_line s words) _ p (plan_says s word words p few) (form_says s word words p few) h

@@ -1,12 +1,15 @@
 -- The spelling of a header's line is read as what it says.
-use Rattle.std.proofs.Common.{◌≡◌, ℕ, ◌<◌, ◌≤◌, ◌^◌, Bool, true, false, ◌||◌, eqb, ltb, List, [], ◌∷◌, length, map, filter, Some, None, Ok, sym, ap, ◌∙◌, refl, subst, arith}
+use Rattle.std.proofs.Common.{◌≡◌, ℕ, ◌<◌, ◌≤◌, ◌^◌, true, false, eqb, ltb, List, [], ◌∷◌, length, map, filter, Some, None, Ok, sym, ap, ◌∙◌, refl, subst, arith}
 use Rattle.std.specs.Str.{bytes_eq}
 use Rattle.std.specs.Prelude.{codes}
 use Rattle.std.specs.Fmt.{decimal}
 use Rattle.std.specs.List.{list_all, join_with_byte}
 use Rattle.std.proofs.lemmas.Bool.{and_from, and_parts, lt-ltb, ltb-true}
 use Rattle.std.proofs.lemmas.Bool.Decides.{nat_tests}
+use Rattle.std.proofs.lemmas.List.Elements.{filter_passes}
+use Rattle.std.proofs.lemmas.List.Folds.{list_all-map}
 use Rattle.std.proofs.lemmas.List.Splits.{slice_split_at, slice_split_none}
+use Rattle.std.proofs.lemmas.List.Sums.{list_all-from_AllPass}
 use Rattle.sat_label.specs.Text.{is_between}
 use Rattle.sat_label.specs.Words.{bit, below}
 use Rattle.sat_label.specs.declared.site_set.SiteSet.{SiteSet}
@@ -26,37 +29,16 @@ use Rattle.sat_script.specs.declared.form.Form.TheVariants as form
 use Rattle.sat_script.specs.declared.limits.TheConstants.{MOST_GEARS, MOST_PLANS}
 use Rattle.sat_script.specs.declared.line.Parsed.TheVariants as parsed
 use Rattle.sat_script.proofs.Bars.{bars_nothing}
-use Rattle.sat_script.proofs.Digits.{decimal_number, decimal_value, decimal_between, below_reads, to_reads}
+use Rattle.sat_script.proofs.Digits.{decimal_number, decimal_between, below_reads, to_reads, all_small, numbers_back, values_back}
 use Rattle.sat_script.proofs.Rising.{members_rise, members_under, members_are, members_set}
 use Rattle.sat_script.proofs.Sites.{among}
-use Rattle.sat_script.proofs.Stands.{ItemStands, ClientStands}
+use Rattle.sat_script.proofs.Stands.{ItemStands, ClientStands, limits_few}
 use Rattle.sat_script.proofs.Texts.{lacks}
 
--- ---- numbers below 64
-
-small_values : (ns : List ℕ) → list_all (λ n. ltb n 64) ns ≡ true → map value_of (map decimal ns) ≡ ns
-small_values [] h = refl
-small_values (n ∷ ns) h =
-    let b = and_parts (ltb n 64) (list_all (λ n. ltb n 64) ns) h in
-    let less = ltb-true n 64 b.0 in
-    ap (λ (v : ℕ). v ∷ map value_of (map decimal ns)) (decimal_value n (omega arith)) ∙ ap (λ (vs : List ℕ). n ∷ vs) (small_values ns b.1)
-
-small_numbers : (ns : List ℕ) → list_all (λ n. ltb n 64) ns ≡ true → list_all is_number (map decimal ns) ≡ true
-small_numbers [] h = refl
-small_numbers (n ∷ ns) h =
-    let b = and_parts (ltb n 64) (list_all (λ n. ltb n 64) ns) h in
-    let less = ltb-true n 64 b.0 in
-    and_from (is_number (decimal n)) (list_all is_number (map decimal ns)) (decimal_number n (omega arith)) (small_numbers ns b.1)
+-- ---- a list of sites
 
 small_below : (limit : ℕ) (ns : List ℕ) → list_all (λ n. ltb n 64) ns ≡ true → list_all (λ n. ltb n limit) ns ≡ true → are_below limit (map decimal ns) ≡ true
-small_below limit [] h k = refl
-small_below limit (n ∷ ns) h k =
-    let b = and_parts (ltb n 64) (list_all (λ n. ltb n 64) ns) h in
-    let c = and_parts (ltb n limit) (list_all (λ n. ltb n limit) ns) k in
-    let less = ltb-true n 64 b.0 in
-    and_from (ltb (value_of (decimal n)) limit) (are_below limit (map decimal ns)) (ap (λ (v : ℕ). ltb v limit) (decimal_value n (omega arith)) ∙ c.0) (small_below limit ns b.1 c.1)
-
--- ---- a list of sites
+small_below limit ns h k = sym (list_all-map (λ n. ltb n limit) value_of (map decimal ns)) ∙ ap (list_all (λ n. ltb n limit)) (values_back ns (all_small ns h)) ∙ k
 
 no_comma : (x : ℕ) → is_between 48 57 x ≡ true → is_comma x ≡ false
 no_comma x h = grind (arith, nat_tests)
@@ -71,20 +53,6 @@ parts_again (a ∷ b ∷ ns) h some =
     let less = ltb-true a 64 c.0 in
     slice_split_at is_comma (decimal a) 44 (join_with_byte 44 (map decimal (b ∷ ns))) (lacks is_comma (is_between 48 57) no_comma (decimal a) (decimal_between a (omega arith))) refl
     ∙ ap (λ (ws : List (List ℕ)). decimal a ∷ ws) (parts_again (b ∷ ns) c.1 (omega arith))
-
-by_members : (limit : ℕ) (ns : List ℕ) → ((k : ℕ) → among ns k ≡ true → k < limit) → list_all (λ n. ltb n limit) ns ≡ true
-by_members limit [] h = refl
-by_members limit (n ∷ ns) h = and_from (ltb n limit) (list_all (λ n. ltb n limit) ns) (low n (h n (here n))) (by_members limit ns (λ k m. h k (ap (λ b. eqb k n || b) m ∙ or_true (eqb k n))))
-  where
-    here : (n : ℕ) → among (n ∷ ns) n ≡ true
-    here n = let same : eqb n n ≡ true = grind (arith, nat_tests) in rw same refl
-
-    low : (n : ℕ) → n < limit → ltb n limit ≡ true
-    low n h = grind (arith, nat_tests)
-
-    or_true : (b : Bool) → (b || true) ≡ true
-    or_true true = refl
-    or_true false = refl
 
 has_member : (ns : List ℕ) (k : ℕ) → among ns k ≡ true → 0 < length ns
 has_member [] k h = absurd (cc)
@@ -106,8 +74,8 @@ numbers_read : (limit : ℕ) (ns : List ℕ) (set : SiteSet) → list_all (λ n.
     → (is_list (join_with_byte 44 (map decimal ns)) ≡ true) × (sites_among limit (parts_of (join_with_byte 44 (map decimal ns))) ≡ Some set)
 numbers_read limit ns set small lt-ltb rising some whole =
     let parts = parts_again ns small some in
-    let values = small_values ns small in (
-      ap are_rising parts ∙ rises (map decimal ns) (small_numbers ns small) (ap is_rising values ∙ rising),
+    let values = values_back ns (all_small ns small) in (
+      ap are_rising parts ∙ rises (map decimal ns) (numbers_back ns (all_small ns small)) (ap is_rising values ∙ rising),
       ap (sites_among limit) parts ∙ named limit (map decimal ns) set (small_below limit ns small lt-ltb) (ap set_of values ∙ whole),
     )
 
@@ -118,7 +86,7 @@ members_read limit n set e few is =
     let first = is.inside is.some.0 is.some.1 in
     let member : among (filter (bit set.bits) (below n)) is.some.0 ≡ true = members_are (bit set.bits) n is.some.0 ∙ and_from (bit set.bits is.some.0) (ltb is.some.0 n) is.some.1 (lt-ltb is.some.0 n (omega arith)) in
     numbers_read limit (filter (bit set.bits) (below n)) set small
-    (by_members limit (filter (bit set.bits) (below n)) (λ k m. is.inside k (and_parts (bit set.bits k) (ltb k n) (sym (members_are (bit set.bits) n k) ∙ m)).0))
+    (list_all-from_AllPass (λ x. ltb x limit) (filter (bit set.bits) (below n)) (λ k d inside. lt-ltb _ limit (is.inside _ (filter_passes (bit set.bits) (below n) k d inside))))
     (members_rise (bit set.bits) n) (has_member (filter (bit set.bits) (below n)) is.some.0 member) (members_set set.bits n (λ k h. let inside = is.inside k h in omega arith))
 
 pub list_reads : (limit : ℕ) (set : SiteSet) → limit ≤ 16 → IsSites limit set → (is_list (sites_text set) ≡ true) × (sites_among limit (parts_of (sites_text set)) ≡ Some set)
@@ -135,13 +103,9 @@ counted_reads : (keyword : List ℕ) (limit n : ℕ) → bytes_eq keyword keywor
 unfolding counted
 counted_reads keyword limit n same some few small = rw (to_reads limit n some few small, same, decimal_number n (omega arith)) refl
 
-small_sites : (dialect : Dialect) → (limits_of dialect).sites ≤ 16
-small_sites dialect.Run = omega arith
-small_sites dialect.Live = omega arith
-
 pub sites_reads : (dialect : Dialect) (n : ℕ) → 1 ≤ n → n ≤ (limits_of dialect).sites → sites_line dialect (codes "sites" ∷ decimal n ∷ []) ≡ Ok (parsed.Sites n)
 unfolding sites_line
-sites_reads dialect n some few = let most = small_sites dialect in ap (of_count parsed.Sites) (counted_reads (codes "sites") (limits_of dialect).sites n refl some few (omega arith))
+sites_reads dialect n some few = let most = (limits_few dialect).sites in ap (of_count parsed.Sites) (counted_reads (codes "sites") (limits_of dialect).sites n refl some few (omega arith))
 
 pub gears_reads : (n : ℕ) → 1 ≤ n → n ≤ MOST_GEARS → gears_line (codes "gears" ∷ decimal n ∷ []) ≡ Ok (parsed.Gears n)
 unfolding gears_line

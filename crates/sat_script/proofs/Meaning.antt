@@ -76,16 +76,8 @@ stuck_cause _ = LongLine
 line_refused : (here : Stage) (line : List ℕ) (r : Result Parsed Cause) → (LONGEST_LINE < length line) ⊎ ((here ≡ stage.Ended) × (0 < length line))
     → refused AfterEnd (is_ended here) (refused LongLine (ltb LONGEST_LINE (length line)) r) ≡ Err (stuck_cause here)
 line_refused stage.Ended line r stuck = refl
-line_refused stage.Start line r (inl long) = let test : ltb LONGEST_LINE (length line) ≡ true = grind (arith, nat_tests) in rw test refl
-line_refused stage.Sites line r (inl long) = let test : ltb LONGEST_LINE (length line) ≡ true = grind (arith, nat_tests) in rw test refl
-line_refused stage.Gears line r (inl long) = let test : ltb LONGEST_LINE (length line) ≡ true = grind (arith, nat_tests) in rw test refl
-line_refused stage.Header line r (inl long) = let test : ltb LONGEST_LINE (length line) ≡ true = grind (arith, nat_tests) in rw test refl
-line_refused stage.Body line r (inl long) = let test : ltb LONGEST_LINE (length line) ≡ true = grind (arith, nat_tests) in rw test refl
-line_refused stage.Start line r (inr e) = absurd (let never = e.0 in cc)
-line_refused stage.Sites line r (inr e) = absurd (let never = e.0 in cc)
-line_refused stage.Gears line r (inr e) = absurd (let never = e.0 in cc)
-line_refused stage.Header line r (inr e) = absurd (let never = e.0 in cc)
-line_refused stage.Body line r (inr e) = absurd (let never = e.0 in cc)
+line_refused _ line r (inl long) = let test : ltb LONGEST_LINE (length line) ≡ true = grind (arith, nat_tests) in rw test refl
+line_refused _ line r (inr e) = absurd (let never = e.0 in cc)
 
 stuck_line : (s : State) (line : List ℕ) → IsStuck s line → line_at s line ≡ Err (stuck_cause s.stage)
 unfolding line_at
@@ -96,16 +88,8 @@ unfolding close_in
 end_refused stage.Ended [] (inl long) = absurd (omega arith)
 end_refused stage.Ended [] (inr e) = absurd (omega (arith, e.1))
 end_refused stage.Ended (b ∷ rest) stuck = refl
-end_refused stage.Start rest (inl long) = let test : ltb LONGEST_LINE (length rest) ≡ true = grind (arith, nat_tests) in rw test refl
-end_refused stage.Sites rest (inl long) = let test : ltb LONGEST_LINE (length rest) ≡ true = grind (arith, nat_tests) in rw test refl
-end_refused stage.Gears rest (inl long) = let test : ltb LONGEST_LINE (length rest) ≡ true = grind (arith, nat_tests) in rw test refl
-end_refused stage.Header rest (inl long) = let test : ltb LONGEST_LINE (length rest) ≡ true = grind (arith, nat_tests) in rw test refl
-end_refused stage.Body rest (inl long) = let test : ltb LONGEST_LINE (length rest) ≡ true = grind (arith, nat_tests) in rw test refl
-end_refused stage.Start rest (inr e) = absurd (let never = e.0 in cc)
-end_refused stage.Sites rest (inr e) = absurd (let never = e.0 in cc)
-end_refused stage.Gears rest (inr e) = absurd (let never = e.0 in cc)
-end_refused stage.Header rest (inr e) = absurd (let never = e.0 in cc)
-end_refused stage.Body rest (inr e) = absurd (let never = e.0 in cc)
+end_refused _ rest (inl long) = let test : ltb LONGEST_LINE (length rest) ≡ true = grind (arith, nat_tests) in rw test refl
+end_refused _ rest (inr e) = absurd (let never = e.0 in cc)
 
 pub stuck_end : (s : State) (rest : List ℕ) → IsStuck s rest → close_at s rest ≡ Some (stuck_cause s.stage)
 stuck_end s rest stuck = end_refused s.stage rest stuck

@@ -1,11 +1,10 @@
 -- A good word is read once: what it says tells the rest of its shape, and that the header has its name.
 use Rattle.std.proofs.Common.{◌≡◌, ℕ, ◌+◌, ◌^◌, ◌-◌, ◌<◌, ◌≤◌, Bool, true, false, ◌&&◌, ◌||◌, cond, eqb, ltb, leb, List, [], ◌∷◌, ◌++◌, length, map, drop, get_or, Option, Some, None, Result, Ok, is_some, sym, ap, ◌∙◌, refl, subst}
-use Rattle.std.specs.List.{list_all}
 use Rattle.std.specs.Option.{option_map}
 use Rattle.std.proofs.lemmas.Bool.{and_from, and_parts}
-use Rattle.std.proofs.lemmas.List.{append-nil, append_assoc, drop_all, drop_more, drop-map}
+use Rattle.std.proofs.lemmas.List.{append-nil, append_assoc, drop_all, drop_more, drop-map, map-append}
 use Rattle.std.specs.Borrow.{Bor}
-use Rattle.sat_label.specs.Text.{is_between, is_value}
+use Rattle.sat_label.specs.Text.{is_value}
 use Rattle.sat_label.specs.declared.node.NodeId.{NodeId}
 use Rattle.sat_label.specs.declared.node.NodeId.TheVariants.{Site, Serializer}
 use Rattle.sat_tree.specs.Shape.{TreeShape}
@@ -17,7 +16,7 @@ use Rattle.sat_script.specs.Grammar.{is_end, of_act, body_line}
 use Rattle.sat_script.specs.Said.{said_of, begins, IsReadWord, AreRead}
 use Rattle.sat_script.specs.Table.{Said, place, num, bytes, at, shape, known, says, shapes, all_known, all_say, in_tree, onto, no_tree, kinds_of, act_forms, found_form, said_act, form_line, act_line}
 use Rattle.sat_script.specs.State.{State}
-use Rattle.sat_script.specs.Words.{is_token, is_number, is_node, is_serializer, value_of, number_below, number_to, number_up_to, node_in, serializer_in}
+use Rattle.sat_script.specs.Words.{is_number, is_node, is_serializer, value_of, number_below, number_to, number_up_to, node_in, serializer_in}
 use Rattle.sat_script.specs.declared.fault.Cause.{Cause}
 use Rattle.sat_script.specs.declared.fault.Cause.TheVariants.{OutOfRange, NoEdge}
 use Rattle.sat_script.specs.declared.form.Form.{Form}
@@ -27,8 +26,8 @@ use Rattle.sat_script.specs.declared.said.Said.{Said as Kept}
 use Rattle.sat_script.specs.declared.said.Said.TheVariants as kept
 use Rattle.sat_script.specs.declared.line.Parsed.TheVariants as parsed
 use Rattle.sat_script.proofs.Acts.{mapped}
-use Rattle.sat_script.proofs.Digits.{tested}
-use Rattle.sat_script.proofs.Lists.{map_next}
+use Rattle.sat_script.proofs.ActsRead.{token}
+use Rattle.sat_script.proofs.Choices.{tested}
 
 -- ---- a word
 
@@ -43,16 +42,6 @@ to_told limit word n h = (and_parts (is_number word) (ltb 0 (value_of word) && l
 up_to_told : (limit : ℕ) (word : List ℕ) (n : ℕ) → number_up_to limit word ≡ Some n → is_number word ≡ true
 unfolding number_up_to
 up_to_told limit word n h = (and_parts (is_number word) (leb (value_of word) limit) (tested (is_number word && leb (value_of word) limit) (value_of word) n h).0).0
-
-value_token : (word : List ℕ) → is_value word ≡ true → is_token word ≡ true
-value_token word h =
-    let some = and_parts (ltb 0 (length word)) (leb (length word) 256 && list_all (is_between 33 126) word) h in
-    let rest = and_parts (leb (length word) 256) (list_all (is_between 33 126) word) some.1 in
-    and_from (ltb 0 (length word)) (list_all (is_between 33 126) word) some.0 rest.1
-
-told : {X : Type 0} (b : Bool) (x y : X) → cond b (Some x) None ≡ Some y → b ≡ true
-told true x y h = refl
-told false x y h = absurd (cc)
 
 node_told : (t : TreeShape) (word : List ℕ) (u : NodeId) → begins kind.Node word ≡ true → node_in t word ≡ Some u → is_node word ≡ true
 unfolding node_in is_node
@@ -72,7 +61,7 @@ serializer_told t (byte ∷ number) z b h = and_from (eqb byte 122) (is_number n
 pub word_told : (d : Deployed) (t : TreeShape) (k : Kind) (word : List ℕ) (a : Said) → begins k word ≡ true → says d t k word ≡ Some a → (shape k word ≡ true) × (known d k word ≡ true)
 word_told d t kind.Client word a b h = let m = mapped place (client_of d word) a h in (b, ap is_some m.1)
 word_told d t kind.Item word a b h = let m = mapped place (item_of d word) a h in (b, ap is_some m.1)
-word_told d t kind.Value word a b h = (value_token word (told (is_value word) (bytes word) a h), refl)
+word_told d t kind.Value word a b h = (token word (tested (is_value word) (bytes word) a h).0, refl)
 word_told d t kind.Site word a b h = let m = mapped place (number_below d.sites word) a h in (below_told d.sites word m.0 m.1, refl)
 word_told d t kind.Gear word a b h = let m = mapped place (number_below d.gears word) a h in (below_told d.gears word m.0 m.1, refl)
 word_told d t kind.Ts word a b h = let m = mapped num (number_up_to (2 ^ 62) word) a h in (up_to_told (2 ^ 62) word m.0 m.1, refl)
@@ -94,21 +83,13 @@ word_read d t k word a other b h =
   where
     stays : (k : Kind) → (k ≡ kind.Epoch → ⊥) → (next : TreeShape → Result (List Said) Cause) → in_tree d k t a next ≡ next t
     stays kind.Epoch other next = absurd (other refl)
-    stays kind.Client other next = refl
-    stays kind.Item other next = refl
-    stays kind.Value other next = refl
-    stays kind.Site other next = refl
-    stays kind.Gear other next = refl
-    stays kind.Ts other next = refl
-    stays kind.Count other next = refl
-    stays kind.Node other next = refl
-    stays kind.Serializer other next = refl
+    stays _ other next = refl
 
 -- ---- a word that is added
 
 pub added_word : (d : Deployed) (t : TreeShape) (k : Kind) (word : List ℕ) (old new : List Kept) (one : Kept) → new ≡ old ++ one ∷ [] → (k ≡ kind.Epoch → ⊥) → begins k word ≡ true → says d t k word ≡ Some (said_of one)
     → (a : Said) × (map said_of new ≡ map said_of old ++ a ∷ []) × IsReadWord d t k word a t
-added_word d t k word old new one grown other b h = (said_of one, ap (map said_of) grown ∙ map_next said_of old one, word_read d t k word (said_of one) other b h)
+added_word d t k word old new one grown other b h = (said_of one, ap (map said_of) grown ∙ map-append said_of old (one ∷ []), word_read d t k word (said_of one) other b h)
 
 -- a word of such a kind was added
 abbrev pub IsAdded : Deployed → TreeShape → Kind → List ℕ → List Kept → List Kept → Type 0

@@ -25,11 +25,6 @@ fresh seen r begun more e = ap (λ (f : Option ScriptFault). meaning f seen.stat
 fault_is : (s : State) (told : ScriptFault) → told.line ≡ number_of s → fault_at s told.cause ≡ told
 fault_is s told line = ap (λ (n : ℕ). (let f : ScriptFault = record { line = n; cause = told.cause } in f)) (sym line)
 
--- what comes after a fault changes nothing
-pub settled : (seen : Seen) (r : Reading) (begun more : List ℕ) (told : ScriptFault) → seen.fault ≡ Some told → means seen r begun more ≡ means seen r begun []
-settled seen r begun more told e =
-    ap (λ (f : Option ScriptFault). meaning f seen.state r begun more) e ∙ sym (ap (λ (f : Option ScriptFault). meaning f seen.state r begun []) e)
-
 -- ---- bytes of a line
 
 -- they make it longer

@@ -1,11 +1,14 @@
 -- Sets of sites as bits, and the lists that name them.
-use Rattle.std.proofs.Common.{◌≡◌, ℕ, ◌<◌, ◌^◌, Bool, false, ◌||◌, eqb, List, [], ◌∷◌, ap, ◌∙◌, arith}
+use Rattle.std.proofs.Common.{◌≡◌, ℕ, ◌<◌, ◌^◌, Bool, false, ◌||◌, eqb, List, [], ◌∷◌, ◌++◌, ap, ◌∙◌, arith}
+use Rattle.std.specs.List.{list_any}
+use Rattle.std.proofs.lemmas.List.Folds.{list_any-append}
 use Rattle.std.specs.Int.{bit_at}
 use Rattle.std.proofs.lemmas.Nat.Bits.{same_from_bits, bit_at-lt, bit_at-zero}
 use Rattle.std.proofs.lemmas.Bool.Decides.{nat_tests}
 use Rattle.sat_label.specs.Words.{bit}
 use Rattle.std.proofs.lemmas.Nat.Bits.{bit_at-pow_same, bit_at-pow_other}
 use Rattle.sat_label.proofs.Bits.{bit-or}
+use Rattle.sat_label.proofs.Truth.{or-false}
 use Rattle.sat_script.specs.Words.{set_of}
 
 pub bit_pow : (s k : ℕ) → bit (2 ^ s) k ≡ eqb k s
@@ -23,8 +26,10 @@ bit_zero k = ap (λ n. eqb n 1) (bit_at-zero k)
 
 -- whether a number is one of some
 abbrev pub among : List ℕ → ℕ → Bool
-among [] k = false
-among (x ∷ xs) k = eqb k x || among xs k
+among xs k = list_any (eqb k) xs
+
+pub among_push : (xs : List ℕ) (x k : ℕ) → among (xs ++ x ∷ []) k ≡ (among xs k || eqb k x)
+among_push xs x k = list_any-append (eqb k) xs (x ∷ []) ∙ ap (λ b. among xs k || b) (or-false (eqb k x))
 
 pub bit_set_of : (xs : List ℕ) (k : ℕ) → bit (set_of xs) k ≡ among xs k
 bit_set_of [] k = bit_zero k

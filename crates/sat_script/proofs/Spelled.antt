@@ -1,11 +1,14 @@
 -- The spelling of a deployment and acts of it is read as them.
-use Rattle.std.proofs.Common.{◌≡◌, ℕ, zero, suc, ◌+◌, ◌-◌, ◌<◌, ◌≤◌, ◌^◌, Bool, true, false, not, ◌||◌, cond, eqb, ltb, List, [], ◌∷◌, ◌++◌, length, filter, Option, Some, None, Ok, sym, ap, ◌∙◌, refl, subst, arith}
+use Rattle.std.proofs.Common.{◌≡◌, ℕ, ◌+◌, ◌-◌, ◌<◌, ◌≤◌, ◌^◌, Bool, true, false, not, cond, eqb, ltb, List, [], ◌∷◌, ◌++◌, length, filter, Some, None, Ok, sym, ap, ◌∙◌, refl, subst, arith}
 use Rattle.std.specs.List.{slice_split, slice_get, list_any, AllByRecursion}
 use Rattle.std.specs.Prelude.{codes}
 use Rattle.std.specs.Fmt.{decimal}
 use Rattle.std.specs.Str.{bytes_eq}
 use Rattle.std.proofs.lemmas.List.{append-nil, append_assoc, length-append}
+use Rattle.std.proofs.lemmas.List.Folds.{Any-from_list_any}
 use Rattle.std.proofs.lemmas.List.Splits.{slice_split_at, length-slice_split}
+use Rattle.std.proofs.lemmas.Option.{slice_get-get_or}
+use Rattle.sat_label.proofs.Numbers.{get-front}
 use Rattle.std.proofs.lemmas.Bool.{and_from, false_from_ne_true, lt-ltb}
 use Rattle.sat_label.specs.Text.{is_between, is_name}
 use Rattle.sat_label.specs.Words.{bit, below}
@@ -13,7 +16,7 @@ use Rattle.sat_tree.specs.Shape.{TreeShape}
 use Rattle.sat_act.specs.Deployed.{Deployed}
 use Rattle.sat_act.specs.Flaw.{are_sites}
 use Rattle.sat_act.specs.Limits.{IsDeployment}
-use Rattle.sat_act.specs.Parts.{tree_of}
+use Rattle.sat_act.specs.Parts.{planned_tree, tree_of}
 use Rattle.sat_act.proofs.Plans.{tree_from_plans}
 use Rattle.sat_act.specs.declared.act.Act.{Act}
 use Rattle.sat_act.specs.declared.act.Act.TheVariants as act
@@ -28,6 +31,7 @@ use Rattle.sat_script.specs.Causes.{bar, has_client, has_item}
 use Rattle.sat_script.specs.Grammar.{is_ended, body_line, words_line, line_at, close_in, after, with_settle}
 use Rattle.sat_script.specs.Table.{act_line, act_words}
 use Rattle.sat_script.specs.Kept.{IsWhole, IsFit}
+use Rattle.sat_script.specs.Names.{client_name_of, item_name_of}
 use Rattle.sat_script.specs.Reading.{script_from, reading, nothing, after_line, good, told_line, with_line, AreActsOf, AreAllowed, IsAllowed, IsWithin, settles_of}
 use Rattle.sat_script.specs.Spelled.{line_text, item_words, client_words, plan_words, ended, items_text, clients_text, plans_text, acts_text, header_text, spelling, HaveNames, Spells}
 use Rattle.sat_script.specs.State.{State, start}
@@ -44,11 +48,13 @@ use Rattle.sat_script.specs.Grammar.{of_act}
 use Rattle.sat_script.proofs.Choices.{word_is}
 use Rattle.sat_script.proofs.Fits.{fit_start, stands_after}
 use Rattle.sat_script.proofs.Headers.{not_zero, bit_none}
+use Rattle.sat_script.proofs.Lists.{get_mid}
 use Rattle.sat_script.proofs.HeadersRead.{IsSites, format_reads, sites_reads, gears_reads, item_reads, client_reads, begin_reads}
 use Rattle.sat_script.proofs.Rising.{members_set, members_under, set_small}
 use Rattle.sat_script.proofs.Stands.{ItemStands, ClientStands, IsPlanFor, PlanStands, ActStands}
 use Rattle.sat_script.proofs.Texts.{IsLine, line_fits, is_text-line, line_at-words, lacks, no_newline}
-use Rattle.sat_script.proofs.TreesRead.{plan_reads, tree_fits}
+use Rattle.sat_script.proofs.TreesRead.{plan_reads}
+use Rattle.sat_script.proofs.Trees.{tree_fits}
 
 -- ---- a line
 
@@ -102,26 +108,9 @@ body_reads dialect d (a ∷ more) n m r is each free few settles =
 
 -- ---- places in lists
 
-get_mid : {X : Type 0} (front back : List X) (x : X) → slice_get (front ++ x ∷ back) (length front) ≡ Some x
-get_mid [] back x = refl
-get_mid (y ∷ front) back x = get_mid front back x
-
-get_early : {X : Type 0} (front back : List X) (k : ℕ) (y : X) → slice_get front k ≡ Some y → slice_get (front ++ back) k ≡ Some y
-get_early [] back k y at = absurd (cc)
-get_early (z ∷ front) back zero y at = at
-get_early (z ∷ front) back (suc k) y at = get_early front back k y at
-
 all_mid : {X : Type 0} (P : X → Type 0) (front back : List X) (x : X) → AllByRecursion P (front ++ x ∷ back) → P x
 all_mid P [] back x h = h.0
 all_mid P (y ∷ front) back x h = all_mid P front back x h.1
-
-any_at : {X : Type 0} (p : X → Bool) (xs : List X) → list_any p xs ≡ true → (k : ℕ) × (y : X) × (slice_get xs k ≡ Some y) × (p y ≡ true) × (k < length xs)
-any_at p [] h = absurd (cc)
-any_at {X = X} p (x ∷ xs) h = go (p x) refl h (λ later. any_at p xs later)
-  where
-    go : (b : Bool) → p x ≡ b → (b || list_any p xs) ≡ true → (list_any p xs ≡ true → (k : ℕ) × (y : X) × (slice_get xs k ≡ Some y) × (p y ≡ true) × (k < length xs)) → (k : ℕ) × (y : X) × (slice_get (x ∷ xs) k ≡ Some y) × (p y ≡ true) × (k < length (x ∷ xs))
-    go true e h later = (0, x, refl, e, omega arith)
-    go false e h later = let l = later h in (suc l.0, l.1, l.2, l.3, omega (arith, l.4))
 
 -- ---- the items
 
@@ -140,14 +129,19 @@ sites_are sites bits some inside =
     let small : bits < 2 ^ sites = subst (λ (n : ℕ). n < 2 ^ sites) whole (set_small (filter (bit bits) (below sites)) sites (members_under (bit bits) sites)) in
     and_from (not (eqb bits 0)) (ltb bits (2 ^ sites)) (not_zero bits (λ e. bit_none bits some.0 e some.1)) (lt-ltb bits (2 ^ sites) small)
 
+-- none before it has its name
+new_name : {X : Type 0} (name : X → List ℕ) (all done todo : List X) (x : X) → ((j k : ℕ) (y z : X) → slice_get all j ≡ Some y → slice_get all k ≡ Some z → name y ≡ name z → j ≡ k) → all ≡ done ++ x ∷ todo
+    → list_any (λ y. bytes_eq (name y) (name x)) done ≡ false
+new_name {X = X} name all done todo x apart e = false_from_ne_true (list_any (λ y. bytes_eq (name y) (name x)) done) (λ h.
+    let at = Any-from_list_any (λ y. bytes_eq (name y) (name x)) done h in
+    let early : slice_get all at.0 ≡ Some at.1 = ap (λ (xs : List X). slice_get xs at.0) e ∙ get-front done (x ∷ todo) at.0 at.2 ∙ slice_get-get_or done at.0 at.1 at.2 ∙ ap (λ (y : X). Some y) at.3 in
+    let here : slice_get all (length done) ≡ Some x = ap (λ (xs : List X). slice_get xs (length done)) e ∙ get_mid done todo x in
+    let same = apart at.0 (length done) at.1 x early here (word_is (name at.1) (name x) at.4) in
+    omega (arith, at.2))
+
 item_new : (d : Deployed) (done todo : List Item) (item : Item) → IsDeployment d → d.items ≡ done ++ item ∷ todo → has_item (of_items d done) item.name ≡ false
 unfolding has_item
-item_new d done todo item is e = false_from_ne_true (list_any (λ (other : Item). bytes_eq other.name item.name) done) (λ h.
-    let at = any_at (λ (other : Item). bytes_eq other.name item.name) done h in
-    let early : slice_get d.items at.0 ≡ Some at.1 = ap (λ (xs : List Item). slice_get xs at.0) e ∙ get_early done (item ∷ todo) at.0 at.1 at.2 in
-    let here : slice_get d.items (length done) ≡ Some item = ap (λ (xs : List Item). slice_get xs (length done)) e ∙ get_mid done todo item in
-    let same = is.item_names at.0 (length done) at.1 item early here (word_is at.1.name item.name at.3) in
-    omega (arith, at.4))
+item_new d done todo item is e = new_name item_name_of d.items done todo item is.item_names e
 
 all_items : (dialect : Dialect) → (limits_of dialect).items ≡ MOST_ITEMS
 all_items dialect.Run = refl
@@ -196,12 +190,7 @@ of_clients d clients = record { sites = d.sites; gears = d.gears; items = d.item
 
 client_new : (d : Deployed) (done todo : List ClientLine) (line : ClientLine) → IsDeployment d → d.clients ≡ done ++ line ∷ todo → has_client (of_clients d done) line.name ≡ false
 unfolding has_client
-client_new d done todo line is e = false_from_ne_true (list_any (λ (other : ClientLine). bytes_eq other.name line.name) done) (λ h.
-    let at = any_at (λ (other : ClientLine). bytes_eq other.name line.name) done h in
-    let early : slice_get d.clients at.0 ≡ Some at.1 = ap (λ (xs : List ClientLine). slice_get xs at.0) e ∙ get_early done (line ∷ todo) at.0 at.1 at.2 in
-    let here : slice_get d.clients (length done) ≡ Some line = ap (λ (xs : List ClientLine). slice_get xs (length done)) e ∙ get_mid done todo line in
-    let same = is.client_names at.0 (length done) at.1 line early here (word_is at.1.name line.name at.3) in
-    omega (arith, at.4))
+client_new d done todo line is e = new_name client_name_of d.clients done todo line is.client_names e
 
 client_stands : (dialect : Dialect) (d : Deployed) (done todo : List ClientLine) (line : ClientLine) → IsDeployment d → HaveNames d → length d.clients ≤ (limits_of dialect).clients → d.clients ≡ done ++ line ∷ todo → ClientStands (lines dialect (of_clients d done)) line
 client_stands dialect d done todo line is names few e =
@@ -236,14 +225,11 @@ clients_read dialect d done (line ∷ todo) r rest is names few fit e =
 abbrev of_plans : Deployed → List Plan → Deployed
 of_plans d plans = record { sites = d.sites; gears = d.gears; items = d.items; clients = d.clients; plans = plans }
 
-abbrev plan_tree : Option Plan → Option TreeShape
-plan_tree o = elim o [ None ↦ None | Some p ↦ elim p [ plan.Stamp ↦ None | plan.Tree t ↦ Some t ] ]
-
 tree_at : (d : Deployed) (k : ℕ) (t : TreeShape) → slice_get d.plans k ≡ Some (plan.Tree t) → tree_of d (k + 1) ≡ Some t
 tree_at d k t at =
     tree_from_plans d (k + 1) (omega arith)
-    ∙ ap (λ (n : ℕ). plan_tree (slice_get d.plans n)) (let e : (k + 1) - 1 ≡ k = omega arith in e)
-    ∙ ap plan_tree at
+    ∙ ap (planned_tree d.plans) (let e : (k + 1) - 1 ≡ k = omega arith in e)
+    ∙ rw (at, planned_tree) refl
 
 plan_for : (d : Deployed) (k : ℕ) (p : Plan) → IsDeployment d → slice_get d.plans k ≡ Some p → IsPlanFor d.sites p
 plan_for d k plan.Stamp is at = tt
@@ -251,7 +237,9 @@ plan_for d k (plan.Tree t) is at =
     let here = tree_at d k t at in
     let tree = is.trees (k + 1) t here in
     let root = tree.seats 0 in
-    tree_fits d.sites t tree (omega arith) (is.few_serializers (k + 1) t here) (is.all_seated (k + 1) t here)
+    let seated = is.all_seated (k + 1) t here in
+    let few = is.few_sites in
+    tree_fits d.sites t (record { tree = tree; some_serializer = omega (arith, root); few_serializers = is.few_serializers (k + 1) t here; few_seats = omega (arith, seated) }) seated
 
 plan_stands : (dialect : Dialect) (d : Deployed) (done todo : List Plan) (p : Plan) → IsDeployment d → d.plans ≡ done ++ p ∷ todo → PlanStands (lines dialect (of_plans d done)) p
 plan_stands dialect d done todo p is e =

@@ -1,5 +1,5 @@
 -- What a good line says, where it may stand.
-use Rattle.std.proofs.Common.{◌≡◌, ℕ, ◌<◌, ◌≤◌, true, false, List, [], ◌∷◌, length}
+use Rattle.std.proofs.Common.{◌≡◌, ℕ, ◌<◌, ◌≤◌, true, false, List, [], ◌∷◌, length, arith}
 use Rattle.std.specs.Prelude.{codes}
 use Rattle.std.specs.Fmt.{decimal}
 use Rattle.sat_label.specs.Text.{is_name}
@@ -17,11 +17,30 @@ use Rattle.sat_script.specs.Grammar.{is_tree}
 use Rattle.sat_script.specs.Spelled.{item_words, client_words, plan_words}
 use Rattle.sat_script.specs.Table.{form_of, act_words}
 use Rattle.sat_script.specs.State.{State}
-use Rattle.sat_script.specs.declared.limits.TheConstants.{MOST_GEARS, MOST_PLANS}
+use Rattle.sat_script.specs.declared.dialect.Dialect.{Dialect}
+use Rattle.sat_script.specs.declared.dialect.Dialect.TheVariants as dialect
+use Rattle.sat_script.specs.declared.dialect.Limits.{Limits}
+use Rattle.sat_script.specs.declared.limits.TheConstants.{MOST_ACTS, MOST_GEARS, MOST_ITEMS, MOST_PLANS, MOST_SETTLES}
 use Rattle.sat_script.specs.declared.line.Parsed.{Parsed}
 use Rattle.sat_script.specs.declared.line.Parsed.TheVariants as parsed
 use Rattle.sat_script.specs.declared.line.Stage.{Stage}
 use Rattle.sat_script.specs.declared.line.Stage.TheVariants as stage
+
+-- ---- limits
+
+-- no dialect has higher limits than these
+pub record AreFew (l : Limits) : Type 0 where
+  pub sites : l.sites ≤ 16
+  pub items : l.items ≤ MOST_ITEMS
+  pub clients : l.clients ≤ 1024
+  pub acts : l.acts ≤ MOST_ACTS
+  pub settles : l.settles ≤ MOST_SETTLES
+
+pub limits_few : (dialect : Dialect) → AreFew (limits_of dialect)
+limits_few dialect.Run = record { sites = omega arith; items = omega arith; clients = omega arith; acts = omega arith; settles = omega arith }
+limits_few dialect.Live = record { sites = omega arith; items = omega arith; clients = omega arith; acts = omega arith; settles = omega arith }
+
+-- ---- lines
 
 -- the words of what a line says
 abbrev pub parsed_words : Deployed → Parsed → List (List ℕ)

@@ -1,9 +1,10 @@
 -- Lines of words and their bytes.
-use Rattle.std.proofs.Common.{◌≡◌, ℕ, zero, suc, ◌+◌, ◌*◌, ◌<◌, ◌≤◌, ◌^◌, Bool, true, false, ◌&&◌, cond, ltb, leb, List, [], ◌∷◌, ◌++◌, length, map, filter, All, Option, Some, None, ap, ◌∙◌, refl, subst, arith}
+use Rattle.std.proofs.Common.{◌≡◌, ℕ, suc, ◌+◌, ◌*◌, ◌<◌, ◌≤◌, ◌^◌, Bool, true, false, not, ◌&&◌, ltb, leb, List, [], ◌∷◌, ◌++◌, length, map, filter, All, Option, Some, None, ap, ◌∙◌, refl, arith}
 use Rattle.std.specs.List.{slice_get, join_with_byte, list_all, AllByRecursion}
 use Rattle.std.specs.Prelude.{codes}
 use Rattle.std.specs.Fmt.{decimal}
 use Rattle.std.proofs.lemmas.List.{length-append}
+use Rattle.std.proofs.lemmas.List.Filters.{length-filter_both}
 use Rattle.std.proofs.lemmas.List.Folds.{list_all-append}
 use Rattle.std.proofs.lemmas.List.Splits.{join_with_byte-slice_split, slice_split_at, slice_split_none}
 use Rattle.std.proofs.lemmas.List.Sums.{AllPass-from_list_all}
@@ -19,13 +20,12 @@ use Rattle.sat_tree.specs.Shape.{TreeShape}
 use Rattle.sat_tree.specs.Cut.{IsNode, parent_of, seat_of}
 use Rattle.sat_tree.specs.Flaw.{IsSmallTree}
 use Rattle.std.specs.Prelude.{unwrap_or}
-use Rattle.sat_script.proofs.Fits.{limits_few}
+use Rattle.sat_script.proofs.Lists.{all_append, all_weaker}
 use Rattle.sat_act.specs.Deployed.{Deployed}
 use Rattle.sat_act.specs.Ranges.{IsActOf}
 use Rattle.sat_act.specs.declared.act.Act.{Act}
 use Rattle.sat_act.specs.declared.act.Act.TheVariants as act
 use Rattle.sat_act.specs.declared.deployment.Item.{Item}
-use Rattle.sat_act.specs.declared.deployment.ClientLine.{ClientLine}
 use Rattle.sat_act.specs.declared.deployment.Plan.{Plan}
 use Rattle.sat_act.specs.declared.deployment.Plan.TheVariants as plan
 use Rattle.sat_script.specs.Grammar.{words_line, line_at, is_ended}
@@ -37,7 +37,7 @@ use Rattle.sat_act.specs.Limits.{IsDeployment}
 use Rattle.sat_script.specs.declared.form.Kind.{Kind}
 use Rattle.sat_script.specs.declared.form.Kind.TheVariants as kind
 use Rattle.sat_script.proofs.Acts.{Fits, AllFit, IsSmall, no_small, shape_small}
-use Rattle.sat_script.proofs.ActsRead.{args_fit, epoch_inside}
+use Rattle.sat_script.proofs.ActsRead.{args_fit, epoch_inside, named_client, named_item}
 use Rattle.sat_script.specs.State.{State}
 use Rattle.sat_script.specs.Words.{is_newline, is_blank, is_text, words_of}
 use Rattle.sat_script.specs.declared.limits.TheConstants.{LONGEST_LINE, LINE_BYTES}
@@ -48,7 +48,7 @@ use Rattle.sat_script.specs.declared.line.Stage.TheVariants as stage
 use Rattle.sat_script.proofs.Digits.{decimal_between, decimal_length, decimal_short}
 use Rattle.sat_script.proofs.Lookup.{name_parts}
 use Rattle.sat_script.proofs.Rising.{members_under}
-use Rattle.sat_script.proofs.Stands.{parsed_words, Stands, ItemStands, IsPlanFor}
+use Rattle.sat_script.proofs.Stands.{parsed_words, Stands, ItemStands, IsPlanFor, limits_few}
 use Rattle.sat_script.proofs.Trees.{tree_small}
 
 -- ---- words
@@ -56,12 +56,6 @@ use Rattle.sat_script.proofs.Trees.{tree_small}
 -- bytes from 33 to 126 only
 abbrev pub IsWord : List ℕ → Type 0
 IsWord word = list_all (is_between 33 126) word ≡ true
-
-list_all_weaker : (p q : ℕ → Bool) → ((x : ℕ) → p x ≡ true → q x ≡ true) → (xs : List ℕ) → list_all p xs ≡ true → list_all q xs ≡ true
-list_all_weaker p q w [] h = refl
-list_all_weaker p q w (x ∷ xs) h =
-    let b = and_parts (p x) (list_all p xs) h in
-    and_from (q x) (list_all q xs) (w x b.0) (list_all_weaker p q w xs b.1)
 
 pub lacks : (p : ℕ → Bool) (q : ℕ → Bool) → ((x : ℕ) → q x ≡ true → p x ≡ false) → (xs : List ℕ) → list_all q xs ≡ true → All (λ x. p x ≡ false) xs
 lacks p q w xs h = λ k d inside. w _ (AllPass-from_list_all q xs h k d inside)
@@ -104,9 +98,9 @@ line_size words is = let n = text_size words is.some in let m = is.short in omeg
 
 line_is_text : (words : List (List ℕ)) → AllByRecursion IsWord words → is_text (line_text words) ≡ true
 line_is_text [] h = refl
-line_is_text (a ∷ []) h = list_all_weaker (is_between 33 126) (is_between 32 126) word_byte a h.0
+line_is_text (a ∷ []) h = all_weaker (is_between 33 126) (is_between 32 126) word_byte a h.0
 line_is_text (a ∷ b ∷ words) h =
-    let front = list_all_weaker (is_between 33 126) (is_between 32 126) word_byte a h.0 in
+    let front = all_weaker (is_between 33 126) (is_between 32 126) word_byte a h.0 in
     let more = line_is_text (b ∷ words) h.1 in
     rw (list_all-append (is_between 32 126) a (32 ∷ line_text (b ∷ words)), front, more) refl
 
@@ -134,7 +128,7 @@ line_at-words s words is going =
 -- ---- the words of good lines
 
 name_word : (name : List ℕ) → is_name name ≡ true → IsWord name × (length name ≤ 32)
-name_word name h = let n = name_parts name h in (list_all_weaker is_name_byte (is_between 33 126) name_byte name n.0, n.1)
+name_word name h = let n = name_parts name h in (all_weaker is_name_byte (is_between 33 126) name_byte name n.0, n.1)
 
 value_word : (value : List ℕ) → is_value value ≡ true → IsWord value × (length value ≤ 256)
 value_word value h =
@@ -143,26 +137,7 @@ value_word value h =
     (short.1, leb-true (length value) 256 short.0)
 
 number_word : (n : ℕ) → n < 2 ^ 16 → IsWord (decimal n) × (length (decimal n) ≤ 5)
-number_word n small = (list_all_weaker (is_between 48 57) (is_between 33 126) digit_byte (decimal n) (decimal_between n (omega arith)), decimal_length n small)
-
-all_at : {X : Type 0} (P : X → Type 0) (xs : List X) (k : ℕ) (x : X) → AllByRecursion P xs → slice_get xs k ≡ Some x → P x
-all_at P [] k x h here = absurd (cc)
-all_at P (y ∷ xs) zero x h here = let same : y ≡ x = cc in subst P same h.0
-all_at P (y ∷ xs) (suc k) x h here = all_at P xs k x h.1 here
-
-client_word : (d : Deployed) (c : ℕ) → HaveNames d → IsWord (client_name d c) × (length (client_name d c) ≤ 32)
-client_word d c names = go (slice_get d.clients c) refl
-  where
-    go : (o : Option ClientLine) → slice_get d.clients c ≡ o → IsWord (elim o [ None ↦ [] | Some line ↦ line.name ]) × (length {A = ℕ} (elim o [ None ↦ [] | Some line ↦ line.name ]) ≤ 32)
-    go None e = (refl, omega arith)
-    go (Some line) e = name_word line.name (all_at (λ (line : ClientLine). is_name line.name ≡ true) d.clients c line names.clients e)
-
-item_word : (d : Deployed) (x : ℕ) → HaveNames d → IsWord (item_name d x) × (length (item_name d x) ≤ 32)
-item_word d x names = go (slice_get d.items x) refl
-  where
-    go : (o : Option Item) → slice_get d.items x ≡ o → IsWord (elim o [ None ↦ [] | Some item ↦ item.name ]) × (length {A = ℕ} (elim o [ None ↦ [] | Some item ↦ item.name ]) ≤ 32)
-    go None e = (refl, omega arith)
-    go (Some item) e = name_word item.name (all_at (λ (item : Item). is_name item.name ≡ true) d.items x item names.items e)
+number_word n small = (all_weaker (is_between 48 57) (is_between 33 126) digit_byte (decimal n) (decimal_between n (omega arith)), decimal_length n small)
 
 -- a letter and a number
 lettered : (letter n : ℕ) → is_between 33 126 letter ≡ true → n < 2 ^ 16 → IsWord (letter ∷ decimal n) × (length (letter ∷ decimal n) ≤ 6)
@@ -187,7 +162,7 @@ seat_at t k n here = ap (λ (o : Option ℕ). unwrap_or o 0) here
 
 -- a ts or a payload's number
 long_number : (n : ℕ) → n < 2 ^ 64 → IsWord (decimal n) × (length (decimal n) ≤ 20)
-long_number n small = (list_all_weaker (is_between 48 57) (is_between 33 126) digit_byte (decimal n) (decimal_between n small), decimal_short n small)
+long_number n small = (all_weaker (is_between 48 57) (is_between 33 126) digit_byte (decimal n) (decimal_between n small), decimal_short n small)
 
 -- the most bytes of a word of a kind and its blank
 abbrev most : Kind → ℕ
@@ -203,8 +178,8 @@ most_of (k ∷ ks) = most k + most_of ks
 -- a word of an act
 word_fits : (d : Deployed) (t : TreeShape) (k : Kind) (a : Said) → IsSmall d t → HaveNames d → Fits d t k a → IsWord (text d k a) × (length (text d k a) + 1 ≤ most k)
 unfolding node_text
-word_fits d t kind.Client (place c) small names h = let w = client_word d c names in (w.0, omega (arith, w.1))
-word_fits d t kind.Item (place x) small names h = let w = item_word d x names in (w.0, omega (arith, w.1))
+word_fits d t kind.Client (place c) small names h = let w = name_word (client_name d c) (named_client d c names h) in (w.0, omega (arith, w.1))
+word_fits d t kind.Item (place x) small names h = let w = name_word (item_name d x) (named_item d x names h) in (w.0, omega (arith, w.1))
 word_fits d t kind.Value (bytes v) small names h = let w = value_word v h in (w.0, omega (arith, w.1))
 word_fits d t kind.Site (place i) small names h = let few = small.sites in let w = number_word i (omega (arith, h)) in (w.0, omega (arith, w.1))
 word_fits d t kind.Gear (place g) small names h = let few = small.gears in let w = number_word g (omega (arith, h)) in (w.0, omega (arith, w.1))
@@ -257,12 +232,7 @@ joined_word (a ∷ b ∷ ns) h =
     (list_all_join (decimal a) (join_with_byte 44 (map decimal (b ∷ ns))) w.0 more.0, omega (arith, w.1, more.1, length-append (decimal a) (44 ∷ join_with_byte 44 (map decimal (b ∷ ns)))))
 
 filter_short : (p : ℕ → Bool) (xs : List ℕ) → length (filter p xs) ≤ length xs
-filter_short p [] = omega arith
-filter_short p (x ∷ xs) = go (p x) (filter_short p xs)
-  where
-    go : (b : Bool) → length (filter p xs) ≤ length xs → length (cond b (x ∷ filter p xs) (filter p xs)) ≤ length (x ∷ xs)
-    go true h = omega arith
-    go false h = omega arith
+filter_short p xs = let both = length-filter_both p (λ x. not (p x)) (λ x. refl) xs in omega arith
 
 pub sites_word : (set : SiteSet) → IsWord (sites_text set) × (length (sites_text set) ≤ 384)
 unfolding sites_text
@@ -279,10 +249,6 @@ item_line_fits s item is =
     record { each = (refl, (n.0, (w.0, tt))); some = omega arith; short = omega (arith, n.1, w.1) }
 
 -- ---- trees
-
-all_append : (P : List ℕ → Type 0) (xs ys : List (List ℕ)) → AllByRecursion P xs → AllByRecursion P ys → AllByRecursion P (xs ++ ys)
-all_append P [] ys h k = k
-all_append P (x ∷ xs) ys h k = (h.0, all_append P xs ys h.1 k)
 
 size_append : (xs ys : List (List ℕ)) → size (xs ++ ys) ≡ size xs + size ys
 size_append [] ys = omega arith

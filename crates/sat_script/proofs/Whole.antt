@@ -1,9 +1,10 @@
 -- A text has no fault exactly where it is the spelling of its deployment and its acts.
 use Rattle.std.proofs.Common.{◌≡◌, ℕ, ◌+◌, ◌-◌, ◌*◌, ◌≤◌, Bool, true, false, cond, ltb, List, [], ◌∷◌, ◌++◌, length, Option, Some, None, Result, Ok, Err, sym, ap, ◌∙◌, refl, subst, arith}
-use Rattle.std.specs.List.{filter, slice_split, join_with_byte}
+use Rattle.std.specs.List.{filter, flat_map, slice_split, join_with_byte}
 use Rattle.std.specs.Prelude.{codes}
 use Rattle.std.specs.Fmt.{decimal}
 use Rattle.std.proofs.lemmas.List.{append-nil, append_assoc, length-append}
+use Rattle.std.proofs.lemmas.Grind.{flat_map-append}
 use Rattle.std.proofs.lemmas.List.Elements.{filter-append}
 use Rattle.std.proofs.lemmas.List.Splits.{join_with_byte-slice_split}
 use Rattle.sat_act.specs.Deployed.{Deployed}
@@ -33,8 +34,8 @@ use Rattle.sat_script.specs.declared.line.Stage.{Stage}
 use Rattle.sat_script.specs.declared.line.Stage.TheVariants as stage
 use Rattle.sat_script.specs.declared.stream.Reading.{Reading}
 use Rattle.sat_script.proofs.Lists.{all_more}
-use Rattle.sat_script.proofs.Stands.{parsed_words, Stands}
-use Rattle.sat_script.proofs.Fits.{line_is, fit_start, fit_after, limits_few}
+use Rattle.sat_script.proofs.Stands.{parsed_words, Stands, limits_few}
+use Rattle.sat_script.proofs.Fits.{line_is, fit_start, fit_after}
 use Rattle.sat_script.proofs.Texts.{line_fits, line_size, line_text-words}
 
 -- ---- counting lines and bytes
@@ -54,19 +55,11 @@ number-after _ s _ h = absurd h
 
 first_some : (here : Stage) → 1 ≤ first_of here
 first_some stage.Start = omega arith
-first_some stage.Sites = omega arith
-first_some stage.Gears = omega arith
-first_some stage.Header = omega arith
-first_some stage.Body = omega arith
-first_some stage.Ended = omega arith
+first_some _ = omega arith
 
 first_few : (here : Stage) → first_of here ≤ 6
 first_few stage.Start = omega arith
-first_few stage.Sites = omega arith
-first_few stage.Gears = omega arith
-first_few stage.Header = omega arith
-first_few stage.Body = omega arith
-first_few stage.Ended = omega arith
+first_few _ = omega arith
 
 -- a good line has few bytes, and is one line more
 pub line_counted : (s : State) (line : List ℕ) (p : Parsed) → IsFit s → line_at s line ≡ Ok p → LINE_BYTES * (number_of s - 1) + length line + 1 ≤ LINE_BYTES * (number_of (after s p) - 1)
@@ -106,15 +99,8 @@ said_after stage.Body s parsed.End r h said = said
 said_after _ s _ r h said = absurd h
 
 pub few_after : (d : Deployed) (n : ℕ) (p : Parsed) (r : Reading) → length r.acts ≤ n → length (with_line r (told_line d p)).acts ≤ with_act n p
-few_after d n parsed.Format r few = few
-few_after d n (parsed.Sites k) r few = few
-few_after d n (parsed.Gears k) r few = few
-few_after d n (parsed.Item item) r few = few
-few_after d n (parsed.Client line) r few = few
-few_after d n (parsed.Plan p) r few = few
-few_after d n parsed.Begin r few = few
 few_after d n (parsed.Act a) r few = omega (arith, length-append r.acts (a ∷ []))
-few_after d n parsed.End r few = few
+few_after d n _ r few = few
 
 -- one act more: it is a settle, or not
 settles_push : (n : ℕ) (acts : List Act) (a : Act) → settles_of acts ≤ n → settles_of (acts ++ a ∷ []) ≤ with_settle n (parsed.Act a)
@@ -122,33 +108,13 @@ settles_push n acts act.Settle few = let more = ap length (filter-append is_sett
 settles_push n acts a few = let more = ap length (filter-append is_settle acts (a ∷ [])) ∙ length-append (filter is_settle acts) (filter is_settle (a ∷ [])) in omega (arith, more)
 
 pub settles_after : (d : Deployed) (n : ℕ) (p : Parsed) (r : Reading) → settles_of r.acts ≤ n → settles_of (with_line r (told_line d p)).acts ≤ with_settle n p
-settles_after d n parsed.Format r few = few
-settles_after d n (parsed.Sites k) r few = few
-settles_after d n (parsed.Gears k) r few = few
-settles_after d n (parsed.Item item) r few = few
-settles_after d n (parsed.Client line) r few = few
-settles_after d n (parsed.Plan p) r few = few
-settles_after d n parsed.Begin r few = few
 settles_after d n (parsed.Act a) r few = settles_push n r.acts a few
-settles_after d n parsed.End r few = few
+settles_after d n _ r few = few
 
 -- ---- the text of good lines
 
-items-more : (items : List Item) (item : Item) → items_text (items ++ item ∷ []) ≡ items_text items ++ ended (item_words item)
-items-more [] item = append-nil (ended (item_words item))
-items-more (x ∷ items) item = ap (λ (bs : List ℕ). ended (item_words x) ++ bs) (items-more items item) ∙ sym (append_assoc (ended (item_words x)) (items_text items) (ended (item_words item)))
-
-clients-more : (lines : List ClientLine) (line : ClientLine) → clients_text (lines ++ line ∷ []) ≡ clients_text lines ++ ended (client_words line)
-clients-more [] line = append-nil (ended (client_words line))
-clients-more (x ∷ lines) line = ap (λ (bs : List ℕ). ended (client_words x) ++ bs) (clients-more lines line) ∙ sym (append_assoc (ended (client_words x)) (clients_text lines) (ended (client_words line)))
-
-plans-more : (plans : List Plan) (p : Plan) → plans_text (plans ++ p ∷ []) ≡ plans_text plans ++ ended (plan_words p)
-plans-more [] p = append-nil (ended (plan_words p))
-plans-more (x ∷ plans) p = ap (λ (bs : List ℕ). ended (plan_words x) ++ bs) (plans-more plans p) ∙ sym (append_assoc (ended (plan_words x)) (plans_text plans) (ended (plan_words p)))
-
-acts-more : (d : Deployed) (acts : List Act) (a : Act) → acts_text d (acts ++ a ∷ []) ≡ acts_text d acts ++ ended (act_words d a)
-acts-more d [] a = append-nil (ended (act_words d a))
-acts-more d (x ∷ acts) a = ap (λ (bs : List ℕ). ended (act_words d x) ++ bs) (acts-more d acts a) ∙ sym (append_assoc (ended (act_words d x)) (acts_text d acts) (ended (act_words d a)))
+text_more : {X : Type 0} (text : X → List ℕ) (xs : List X) (x : X) → flat_map text (xs ++ x ∷ []) ≡ flat_map text xs ++ text x
+text_more text xs x = flat_map-append text xs (x ∷ []) ∙ ap (λ (bs : List ℕ). flat_map text xs ++ bs) (append-nil (text x))
 
 -- the lines so far
 abbrev front : Stage → Deployed → List Act → List ℕ
@@ -187,14 +153,14 @@ front-after stage.Gears s (parsed.Gears k) r kept h said =
 front-after stage.Header s (parsed.Item item) r kept h said =
     let clients = h.clients in
     let plans = h.plans in
-    rw (clients, plans, items-more s.header.items item) (item_front (ended (codes "saturn" ∷ codes "1" ∷ [])) (ended (codes "sites" ∷ decimal s.header.sites ∷ [])) (ended (codes "gears" ∷ decimal s.header.gears ∷ [])) (items_text s.header.items) (ended (item_words item)))
+    rw (clients, plans, text_more (λ (item : Item). ended (item_words item)) s.header.items item) (item_front (ended (codes "saturn" ∷ codes "1" ∷ [])) (ended (codes "sites" ∷ decimal s.header.sites ∷ [])) (ended (codes "gears" ∷ decimal s.header.gears ∷ [])) (items_text s.header.items) (ended (item_words item)))
 front-after stage.Header s (parsed.Client line) r kept h said =
     let plans = h.plans in
-    rw (plans, clients-more s.header.clients line) (client_front (ended (codes "saturn" ∷ codes "1" ∷ [])) (ended (codes "sites" ∷ decimal s.header.sites ∷ [])) (ended (codes "gears" ∷ decimal s.header.gears ∷ [])) (items_text s.header.items) (clients_text s.header.clients) (ended (client_words line)))
+    rw (plans, text_more (λ (line : ClientLine). ended (client_words line)) s.header.clients line) (client_front (ended (codes "saturn" ∷ codes "1" ∷ [])) (ended (codes "sites" ∷ decimal s.header.sites ∷ [])) (ended (codes "gears" ∷ decimal s.header.gears ∷ [])) (items_text s.header.items) (clients_text s.header.clients) (ended (client_words line)))
 front-after stage.Header s (parsed.Plan p) r kept h said =
-    rw (plans-more s.header.plans p) (plan_front (ended (codes "saturn" ∷ codes "1" ∷ [])) (ended (codes "sites" ∷ decimal s.header.sites ∷ [])) (ended (codes "gears" ∷ decimal s.header.gears ∷ [])) (items_text s.header.items) (clients_text s.header.clients) (plans_text s.header.plans) (ended (plan_words p)))
+    rw (text_more (λ (p : Plan). ended (plan_words p)) s.header.plans p) (plan_front (ended (codes "saturn" ∷ codes "1" ∷ [])) (ended (codes "sites" ∷ decimal s.header.sites ∷ [])) (ended (codes "gears" ∷ decimal s.header.gears ∷ [])) (items_text s.header.items) (clients_text s.header.clients) (plans_text s.header.plans) (ended (plan_words p)))
 front-after stage.Header s parsed.Begin r kept h said = ap (λ (acts : List Act). header_text s.header ++ (ended (codes "begin" ∷ []) ++ acts_text s.header acts)) said.1 ∙ ap (λ (bs : List ℕ). header_text s.header ++ bs) (append-nil (ended (codes "begin" ∷ [])))
-front-after stage.Body s (parsed.Act a) r kept h said = ap (λ (bs : List ℕ). header_text s.header ++ (ended (codes "begin" ∷ []) ++ bs)) (acts-more s.header r.acts a) ∙ body_front (header_text s.header) (ended (codes "begin" ∷ [])) (acts_text s.header r.acts) (ended (act_words s.header a))
+front-after stage.Body s (parsed.Act a) r kept h said = ap (λ (bs : List ℕ). header_text s.header ++ (ended (codes "begin" ∷ []) ++ bs)) (text_more (λ (a : Act). ended (act_words s.header a)) r.acts a) ∙ body_front (header_text s.header) (ended (codes "begin" ∷ [])) (acts_text s.header r.acts) (ended (act_words s.header a))
 front-after stage.Body s parsed.End r kept h said = body_front (header_text s.header) (ended (codes "begin" ∷ [])) (acts_text s.header r.acts) (ended (codes "end" ∷ []))
 front-after _ s _ r kept h said = absurd h
 
@@ -239,11 +205,7 @@ close_ends : (here : Stage) (rest : List ℕ) → close_in here rest ≡ None �
 unfolding close_in
 close_ends stage.Ended [] h = (refl, refl)
 close_ends stage.Ended (b ∷ rest) h = absurd (cc)
-close_ends stage.Start rest h = absurd (never_none (ltb LONGEST_LINE (length rest)) LongLine NoEnd h)
-close_ends stage.Sites rest h = absurd (never_none (ltb LONGEST_LINE (length rest)) LongLine NoEnd h)
-close_ends stage.Gears rest h = absurd (never_none (ltb LONGEST_LINE (length rest)) LongLine NoEnd h)
-close_ends stage.Header rest h = absurd (never_none (ltb LONGEST_LINE (length rest)) LongLine NoEnd h)
-close_ends stage.Body rest h = absurd (never_none (ltb LONGEST_LINE (length rest)) LongLine NoEnd h)
+close_ends _ rest h = absurd (never_none (ltb LONGEST_LINE (length rest)) LongLine NoEnd h)
 
 read_ended : (s : State) (r : Reading) (text rest : List ℕ) → IsSo s r text → s.stage ≡ stage.Ended → rest ≡ [] → IsReadIn s.dialect r (text ++ rest)
 unfolding spelling

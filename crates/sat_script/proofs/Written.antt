@@ -2,7 +2,7 @@
 use Rattle.std.proofs.Common.{◌≡◌, ℕ, zero, suc, ◌+◌, ◌<◌, ◌^◌, Bool, true, false, cond, List, [], ◌∷◌, ◌++◌, length, map, filter, Result, Ok, Err, sym, ap, ◌∙◌, refl, subst, arith, add-one}
 use Rattle.std.specs.List.{join_with_byte, AllByRecursion}
 use Rattle.std.specs.Fmt.{decimal}
-use Rattle.std.proofs.lemmas.List.{append_assoc, length-append}
+use Rattle.std.proofs.lemmas.List.{append_assoc, length-append, map-append}
 use Rattle.std.proofs.lemmas.Fmt.{decimal_nonempty}
 use Rattle.sat_label.specs.Words.{below, bit}
 use Rattle.sat_label.specs.declared.site_set.SiteSet.{SiteSet}
@@ -15,6 +15,7 @@ use Rattle.sat_script.specs.Spelled.{sites_text, line_text, with_comma, acts_tex
 use Rattle.sat_tree.specs.PlanLine.{spaced}
 use Rattle.sat_tree.proofs.PlanLine.{joined-spaced, spaced-append}
 use Rattle.sat_script.proofs.Lists.{all_more}
+use Rattle.sat_script.proofs.Rising.{chosen}
 
 -- ---- numbers with commas between them
 
@@ -37,23 +38,16 @@ join_push (a ∷ b ∷ words) word h =
     ∙ sym (append_assoc a (44 ∷ join_with_byte 44 (b ∷ words)) (44 ∷ word))
     ∙ sym (with_comma_some (a ++ 44 ∷ join_with_byte 44 (b ∷ words)) word (omega (arith, length-append a (44 ∷ join_with_byte 44 (b ∷ words)))))
 
-numbers_push : (p : ℕ → Bool) (xs : List ℕ) (n : ℕ) → map decimal (filter p (xs ++ n ∷ [])) ≡ cond (p n) (map decimal (filter p xs) ++ decimal n ∷ []) (map decimal (filter p xs))
-numbers_push p [] n = go (p n)
+numbers_push : (p : ℕ → Bool) (n : ℕ) → map decimal (filter p (below (suc n))) ≡ cond (p n) (map decimal (filter p (below n)) ++ decimal n ∷ []) (map decimal (filter p (below n)))
+numbers_push p n = ap (map decimal) (chosen p n) ∙ go (p n)
   where
-    go : (b : Bool) → map decimal (cond b (n ∷ []) []) ≡ cond b (decimal n ∷ []) []
-    go true = refl
+    go : (b : Bool) → map decimal (cond b (filter p (below n) ++ n ∷ []) (filter p (below n))) ≡ cond b (map decimal (filter p (below n)) ++ decimal n ∷ []) (map decimal (filter p (below n)))
+    go true = map-append decimal (filter p (below n)) (n ∷ [])
     go false = refl
-numbers_push p (x ∷ xs) n = go (p x) (p n) (numbers_push p xs n)
-  where
-    go : (b c : Bool) → map decimal (filter p (xs ++ n ∷ [])) ≡ cond c (map decimal (filter p xs) ++ decimal n ∷ []) (map decimal (filter p xs))
-        → map decimal (cond b (x ∷ filter p (xs ++ n ∷ [])) (filter p (xs ++ n ∷ []))) ≡ cond c (map decimal (cond b (x ∷ filter p xs) (filter p xs)) ++ decimal n ∷ []) (map decimal (cond b (x ∷ filter p xs) (filter p xs)))
-    go false c h = h
-    go true true h = ap (λ words. decimal x ∷ words) h
-    go true false h = ap (λ words. decimal x ∷ words) h
 
 numbers_some : (p : ℕ → Bool) (n : ℕ) → n < 2 ^ 64 → AllByRecursion IsSome (map decimal (filter p (below n)))
 numbers_some p zero small = tt
-numbers_some p (suc n) small = subst (λ words. AllByRecursion IsSome words) (sym (numbers_push p (below n) n)) (go (p n) (numbers_some p n (omega arith)))
+numbers_some p (suc n) small = subst (λ words. AllByRecursion IsSome words) (sym (numbers_push p n)) (go (p n) (numbers_some p n (omega arith)))
   where
     go : (b : Bool) → AllByRecursion IsSome (map decimal (filter p (below n))) → AllByRecursion IsSome (cond b (map decimal (filter p (below n)) ++ decimal n ∷ []) (map decimal (filter p (below n))))
     go true before = all_more IsSome (map decimal (filter p (below n))) (decimal n) before (decimal_nonempty n (omega arith))
@@ -63,7 +57,7 @@ abbrev sites_below : ℕ → ℕ → List ℕ
 sites_below bits n = join_with_byte 44 (map decimal (filter (bit bits) (below n)))
 
 sites_suc : (bits n : ℕ) → n < 2 ^ 64 → sites_below bits (suc n) ≡ cond (bit bits n) (with_comma (sites_below bits n) (decimal n)) (sites_below bits n)
-sites_suc bits n small = ap (join_with_byte 44) (numbers_push (bit bits) (below n) n) ∙ go (bit bits n)
+sites_suc bits n small = ap (join_with_byte 44) (numbers_push (bit bits) n) ∙ go (bit bits n)
   where
     go : (b : Bool) → join_with_byte 44 (cond b (map decimal (filter (bit bits) (below n)) ++ decimal n ∷ []) (map decimal (filter (bit bits) (below n)))) ≡ cond b (with_comma (sites_below bits n) (decimal n)) (sites_below bits n)
     go true = join_push (map decimal (filter (bit bits) (below n))) (decimal n) (numbers_some (bit bits) n small)

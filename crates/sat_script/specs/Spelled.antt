@@ -1,6 +1,6 @@
 -- How scripts are spelled.
 use Rattle.std.specs.Prelude.{ℕ, ◌≡◌, ◌≤◌, true, List, [], ◌∷◌, ◌++◌, length, map, filter, codes}
-use Rattle.std.specs.List.{join_with_byte, AllByRecursion}
+use Rattle.std.specs.List.{flat_map, join_with_byte, AllByRecursion}
 use Rattle.std.specs.Fmt.{decimal}
 use Rattle.sat_label.specs.Words.{below, bit}
 use Rattle.sat_label.specs.Text.{is_name}
@@ -42,6 +42,10 @@ abbrev pub plan_words : Plan → List (List ℕ)
 plan_words plan.Stamp = codes "plan" ∷ codes "stamp" ∷ []
 plan_words (plan.Tree t) = tree_words t
 
+-- the line of an act, without its byte 10
+abbrev pub act_text : Deployed → Act → List ℕ
+act_text d a = line_text (act_words d a)
+
 -- ---- texts
 
 -- a line with its byte 10
@@ -49,20 +53,16 @@ abbrev pub ended : List (List ℕ) → List ℕ
 ended words = line_text words ++ 10 ∷ []
 
 abbrev pub items_text : List Item → List ℕ
-items_text [] = []
-items_text (item ∷ items) = ended (item_words item) ++ items_text items
+items_text items = flat_map (λ item. ended (item_words item)) items
 
 abbrev pub clients_text : List ClientLine → List ℕ
-clients_text [] = []
-clients_text (line ∷ lines) = ended (client_words line) ++ clients_text lines
+clients_text lines = flat_map (λ line. ended (client_words line)) lines
 
 abbrev pub plans_text : List Plan → List ℕ
-plans_text [] = []
-plans_text (p ∷ plans) = ended (plan_words p) ++ plans_text plans
+plans_text plans = flat_map (λ p. ended (plan_words p)) plans
 
 abbrev pub acts_text : Deployed → List Act → List ℕ
-acts_text d [] = []
-acts_text d (a ∷ acts) = ended (act_words d a) ++ acts_text d acts
+acts_text d acts = flat_map (λ a. ended (act_words d a)) acts
 
 -- the lines before `begin`
 unfoldable pub header_text : Deployed → List ℕ

@@ -35,3 +35,4 @@ pub use reader::Reader;
 pub use script::{Script, one_spelling, read_script, sound_readings};
 pub use stream::{Reading, ScriptReader};
 pub use write::write_script;
+pub use write_lines::act_line;

@@ -1,5 +1,5 @@
 //! Lists of sites, and lists of numbers.
-ghost use Rattle.std.specs.Prelude.{◌≡◌, ◌≤◌, ◌<◌, true, false, nat_lt, IfOk, MatchOption, map, All};
+ghost use Rattle.std.specs.Prelude.{◌≡◌, ◌≤◌, ◌<◌, ◌∷◌, true, false, nat_lt, IfOk, MatchOption, map, All};
 ghost use Rattle.std.specs.List.{list_all};
 ghost use Rattle.sat_script.specs.Words.{is_number, value_of, is_rising, set_of, are_below, parts_of};
 
@@ -14,17 +14,27 @@ pub fn parts_of(alloc: Global, list: &[u8]) -> Result<Vec<&[u8]>, AllocError>
     list.split(|byte| *byte == b',').collect(alloc)
 }
 
+// Whether each number is above the one before it, of a first one and the others.
+fn rise(first: &[u8], others: &[&[u8]]) -> bool
+    requires first { is_number first.now ≡ true }
+    requires others { list_all is_number (map (λ number. number.now) others.now) ≡ true }
+    ensures { result ≡ is_rising (value_of first.now ∷ map value_of (map (λ number. number.now) others.now)) }
+{
+    let Some((second, others)) = others.split_first() else {
+        return true;
+    };
+    is_less(first, second) && rise(second, others)
+}
+
 /// Whether each number is above the one before it.
 pub fn is_rising(numbers: &[&[u8]]) -> bool
     requires { list_all is_number (map (λ number. number.now) numbers.now) ≡ true }
     ensures { result ≡ is_rising (map value_of (map (λ number. number.now) numbers.now)) }
 {
-    for place in 1..numbers.len() {
-        if !is_less(numbers[place - 1], numbers[place]) {
-            return false;
-        }
+    match numbers.split_first() {
+        Some((first, others)) => rise(first, others),
+        None => true,
     }
-    true
 }
 
 /// The numbers that words stand for, where all are below a limit.

@@ -1,5 +1,5 @@
 //! What the words of an act's line say, and the act that they make.
-ghost use Rattle.std.specs.Prelude.{◌≡◌, [], ◌∷◌, Ok, map};
+ghost use Rattle.std.specs.Prelude.{◌≡◌, ◌≤◌, Ok, length, map};
 ghost use Rattle.sat_script.specs.Causes.{given};
 ghost use Rattle.sat_script.specs.Lines.{Gives};
 ghost use Rattle.sat_script.specs.Said.{said_of};
@@ -93,81 +93,64 @@ fn write_of(alloc: Global, said: &[Said]) -> Result<Act, Cause>
 pub fn act_of(alloc: Global, form: Form, said: &[Said]) -> Result<Act, Cause>
     ensures { Gives result (given OutOfRange (act_of form (map said_of said.now)) Ok) }
 {
+    let first = place_at(said, 0);
     let act = match form {
         Form::Tick => Act::Tick {
-            site: place_at(said, 0),
+            site: first,
             gear: place_at(said, 1),
             ts: num_at(said, 2),
         },
         Form::Clock => Act::Clock,
         Form::Write => return write_of(alloc, said),
         Form::Read => Act::Read {
-            client: place_at(said, 0),
+            client: first,
             item: place_at(said, 1),
         },
         Form::Move => Act::Move {
-            client: place_at(said, 0),
+            client: first,
             site: place_at(said, 1),
         },
-        Form::Leave => Act::Leave {
-            client: place_at(said, 0),
-        },
+        Form::Leave => Act::Leave { client: first },
         Form::Attach => Act::Attach {
-            client: place_at(said, 0),
+            client: first,
             site: place_at(said, 1),
         },
-        Form::Gather => Act::Gather {
-            site: place_at(said, 0),
-        },
-        Form::Emit => Act::Emit {
-            site: place_at(said, 0),
-        },
-        Form::Pulse => Act::Pulse {
-            site: place_at(said, 0),
-        },
+        Form::Gather => Act::Gather { site: first },
+        Form::Emit => Act::Emit { site: first },
+        Form::Pulse => Act::Pulse { site: first },
         Form::Hop => Act::Hop {
-            epoch: place_at(said, 0),
+            epoch: first,
             from: node_at(said, 1),
             to: place_at(said, 2),
         },
-        Form::Turn => Act::Turn {
-            site: place_at(said, 0),
-        },
+        Form::Turn => Act::Turn { site: first },
         Form::Bulk => Act::Bulk {
-            from: place_at(said, 0),
+            from: first,
             gear: place_at(said, 1),
             to: place_at(said, 2),
             number: None,
         },
         Form::NumberedBulk => Act::Bulk {
-            from: place_at(said, 0),
+            from: first,
             gear: place_at(said, 1),
             to: place_at(said, 2),
             number: Some(num_at(said, 3)),
         },
         Form::Beat => Act::Beat {
-            from: place_at(said, 0),
+            from: first,
             to: place_at(said, 1),
         },
         Form::BeatIn => Act::BeatIn {
-            from: place_at(said, 0),
+            from: first,
             to: place_at(said, 1),
             number: num_at(said, 2),
         },
-        Form::Stamp => Act::Stamp {
-            site: place_at(said, 0),
-        },
-        Form::Close => Act::Close {
-            site: place_at(said, 0),
-        },
-        Form::Fall => Act::Fall {
-            site: place_at(said, 0),
-        },
-        Form::Advance => Act::Advance {
-            site: place_at(said, 0),
-        },
+        Form::Stamp => Act::Stamp { site: first },
+        Form::Close => Act::Close { site: first },
+        Form::Fall => Act::Fall { site: first },
+        Form::Advance => Act::Advance { site: first },
         Form::Kill => Act::Kill {
-            epoch: place_at(said, 0),
+            epoch: first,
             serializer: place_at(said, 1),
         },
         Form::Settle => Act::Settle,
@@ -176,42 +159,16 @@ pub fn act_of(alloc: Global, form: Form, said: &[Said]) -> Result<Act, Cause>
     Ok(act)
 }
 
-fn none<'a>() -> Args<'a>
-    ensures { result.items ≡ [] }
+// What words say, as a list.
+fn args<'a>(said: &[Said<'a>]) -> Args<'a>
+    requires { length said.now ≤ 4 }
+    ensures { result.items ≡ said.now }
 {
-    ArrayVec::new()
-}
-
-fn one<'a>(a: Said<'a>) -> Args<'a>
-    ensures { result.items ≡ a.entry ∷ [] }
-{
-    let mut args = none();
-    args.push(a);
-    args
-}
-
-fn two<'a>(a: Said<'a>, b: Said<'a>) -> Args<'a>
-    ensures { result.items ≡ a.entry ∷ b.entry ∷ [] }
-{
-    let mut args = one(a);
-    args.push(b);
-    args
-}
-
-fn three<'a>(a: Said<'a>, b: Said<'a>, c: Said<'a>) -> Args<'a>
-    ensures { result.items ≡ a.entry ∷ b.entry ∷ c.entry ∷ [] }
-{
-    let mut args = two(a, b);
-    args.push(c);
-    args
-}
-
-fn four<'a>(a: Said<'a>, b: Said<'a>, c: Said<'a>, d: Said<'a>) -> Args<'a>
-    ensures { result.items ≡ a.entry ∷ b.entry ∷ c.entry ∷ d.entry ∷ [] }
-{
-    let mut args = three(a, b, c);
-    args.push(d);
-    args
+    let mut args = ArrayVec::new();
+    match args.try_extend_from_slice(said) {
+        Ok(()) => args,
+        Err(_) => unreachable!(),
+    }
 }
 
 /// The form of an act, and what the words after its first say.
@@ -222,35 +179,44 @@ pub fn parts_of(act: &Act) -> (Form, Args)
     match act {
         Act::Tick { site, gear, ts } => (
             Form::Tick,
-            three(Said::Place(*site), Said::Place(*gear), Said::Number(*ts)),
+            args(&[Said::Place(*site), Said::Place(*gear), Said::Number(*ts)]),
         ),
-        Act::Clock => (Form::Clock, none()),
+        Act::Clock => (Form::Clock, args(&[])),
         Act::Write {
             client,
             item,
             value,
         } => (
             Form::Write,
-            three(
+            args(&[
                 Said::Place(*client),
                 Said::Place(*item),
                 Said::Bytes(value.bytes()),
-            ),
+            ]),
         ),
-        Act::Read { client, item } => (Form::Read, two(Said::Place(*client), Said::Place(*item))),
-        Act::Move { client, site } => (Form::Move, two(Said::Place(*client), Said::Place(*site))),
-        Act::Leave { client } => (Form::Leave, one(Said::Place(*client))),
+        Act::Read { client, item } => (
+            Form::Read,
+            args(&[Said::Place(*client), Said::Place(*item)]),
+        ),
+        Act::Move { client, site } => (
+            Form::Move,
+            args(&[Said::Place(*client), Said::Place(*site)]),
+        ),
+        Act::Leave { client } => (Form::Leave, args(&[Said::Place(*client)])),
         Act::Attach { client, site } => {
-            (Form::Attach, two(Said::Place(*client), Said::Place(*site)))
+            (
+                Form::Attach,
+                args(&[Said::Place(*client), Said::Place(*site)]),
+            )
         }
-        Act::Gather { site } => (Form::Gather, one(Said::Place(*site))),
-        Act::Emit { site } => (Form::Emit, one(Said::Place(*site))),
-        Act::Pulse { site } => (Form::Pulse, one(Said::Place(*site))),
+        Act::Gather { site } => (Form::Gather, args(&[Said::Place(*site)])),
+        Act::Emit { site } => (Form::Emit, args(&[Said::Place(*site)])),
+        Act::Pulse { site } => (Form::Pulse, args(&[Said::Place(*site)])),
         Act::Hop { epoch, from, to } => (
             Form::Hop,
-            three(Said::Place(*epoch), Said::Node(*from), Said::Place(*to)),
+            args(&[Said::Place(*epoch), Said::Node(*from), Said::Place(*to)]),
         ),
-        Act::Turn { site } => (Form::Turn, one(Said::Place(*site))),
+        Act::Turn { site } => (Form::Turn, args(&[Said::Place(*site)])),
         Act::Bulk {
             from,
             gear,
@@ -258,7 +224,7 @@ pub fn parts_of(act: &Act) -> (Form, Args)
             number: None,
         } => (
             Form::Bulk,
-            three(Said::Place(*from), Said::Place(*gear), Said::Place(*to)),
+            args(&[Said::Place(*from), Said::Place(*gear), Said::Place(*to)]),
         ),
         Act::Bulk {
             from,
@@ -267,28 +233,28 @@ pub fn parts_of(act: &Act) -> (Form, Args)
             number: Some(number),
         } => (
             Form::NumberedBulk,
-            four(
+            args(&[
                 Said::Place(*from),
                 Said::Place(*gear),
                 Said::Place(*to),
                 Said::Number(*number),
-            ),
+            ]),
         ),
-        Act::Beat { from, to } => (Form::Beat, two(Said::Place(*from), Said::Place(*to))),
+        Act::Beat { from, to } => (Form::Beat, args(&[Said::Place(*from), Said::Place(*to)])),
         Act::BeatIn { from, to, number } => (
             Form::BeatIn,
-            three(Said::Place(*from), Said::Place(*to), Said::Number(*number)),
+            args(&[Said::Place(*from), Said::Place(*to), Said::Number(*number)]),
         ),
-        Act::Stamp { site } => (Form::Stamp, one(Said::Place(*site))),
-        Act::Close { site } => (Form::Close, one(Said::Place(*site))),
-        Act::Fall { site } => (Form::Fall, one(Said::Place(*site))),
-        Act::Advance { site } => (Form::Advance, one(Said::Place(*site))),
+        Act::Stamp { site } => (Form::Stamp, args(&[Said::Place(*site)])),
+        Act::Close { site } => (Form::Close, args(&[Said::Place(*site)])),
+        Act::Fall { site } => (Form::Fall, args(&[Said::Place(*site)])),
+        Act::Advance { site } => (Form::Advance, args(&[Said::Place(*site)])),
         Act::Kill { epoch, serializer } => {
             (
                 Form::Kill,
-                two(Said::Place(*epoch), Said::Place(*serializer)),
+                args(&[Said::Place(*epoch), Said::Place(*serializer)]),
             )
         }
-        Act::Settle => (Form::Settle, none()),
+        Act::Settle => (Form::Settle, args(&[])),
     }
 }

@@ -87,12 +87,10 @@ pub fn is_token(word: &[u8]) -> bool
 pub fn are_numbers(words: &[&[u8]]) -> bool
     ensures { result ≡ list_all is_number (map (λ word. word.now) words.now) }
 {
-    for word in words {
-        if !is_number(word) {
-            return false;
-        }
-    }
-    true
+    let Some((word, words)) = words.split_first() else {
+        return true;
+    };
+    is_number(word) && are_numbers(words)
 }
 
 /// Whether a word is `s` and a number, or `z` and a number.

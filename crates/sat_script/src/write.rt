@@ -1,9 +1,9 @@
 //! Writing scripts: the one spelling of each.
 ghost use Rattle.std.specs.Prelude.{◌≡◌, ◌++◌, ◌∷◌, [], codes, OnOk, OnErr, IfOk};
 ghost use Rattle.sat_label.specs.Text.{AppendsFront};
-ghost use Rattle.sat_script.specs.Spelled.{items_text, clients_text, plans_text, header_text, ended, spelling};
+ghost use Rattle.sat_script.specs.Spelled.{items_text, clients_text, plans_text, act_text, header_text, ended, spelling};
 
-use crate::write_lines::{client_line, ended_act, item_line, number_line, plan_line, push_line};
+use crate::write_lines::{act_line, client_line, item_line, number_line, plan_line, push_line};
 use sat_act::{Act, ClientLine, Deployment, Item, Plan};
 use std::alloc::{AllocError, Global};
 
@@ -62,6 +62,15 @@ fn header_bytes(alloc: Global, d: &Deployment) -> Result<Vec<u8>, AllocError>
     text.extend_from_slice(plans.as_slice())?;
     push_line(&mut text, b"begin")?;
     Ok(text)
+}
+
+// The line of an act and its byte 10.
+fn ended_act(alloc: Global, d: &Deployment, act: &Act) -> Result<Vec<u8>, AllocError>
+    ensures { IfOk result (λ line. line.items ≡ act_text d.now act.now ++ 10 ∷ []) }
+{
+    let mut line = act_line(alloc, d, act)?;
+    line.push(b'\n')?;
+    Ok(line)
 }
 
 /// Appends the spelling of a deployment and of acts of it. For want of memory a front of it may stand there.

@@ -3,9 +3,9 @@ ghost use Rattle.std.specs.Prelude.{◌≡◌, ◌++◌, ◌∷◌, [], OnOk, If
 ghost use Rattle.std.specs.Fmt.{decimal};
 ghost use Rattle.sat_label.specs.Text.{node_text};
 ghost use Rattle.sat_label.specs.Words.{bit};
-ghost use Rattle.sat_script.specs.Spelled.{with_comma, line_text, sites_text, item_words, client_words, plan_words, ended};
+ghost use Rattle.sat_script.specs.Spelled.{with_comma, line_text, sites_text, item_words, client_words, plan_words, act_text};
 ghost use Rattle.sat_tree.specs.PlanLine.{spaced, parent_text};
-ghost use Rattle.sat_script.specs.Table.{client_name, item_name, act_words, text, texts};
+ghost use Rattle.sat_script.specs.Table.{client_name, item_name, text, texts};
 ghost use Rattle.sat_script.specs.Said.{said_of};
 
 use crate::form::{Kind, kinds_of, word_of};
@@ -246,14 +246,13 @@ fn add_texts(
     add_texts(alloc, line, d, kinds, said)
 }
 
-/// The line of an act and its byte 10.
+/// The line of an act, without its byte 10. A client or an item that the deployment doesn't have is written with an empty name.
 #[tactic(auto, unfolding(crate::specs::Table::act_words))]
-pub fn ended_act(alloc: Global, d: &Deployment, act: &Act) -> Result<Vec<u8>, AllocError>
-    ensures { IfOk result (λ line. line.items ≡ ended (act_words d.now act.now)) }
+pub fn act_line(alloc: Global, d: &Deployment, act: &Act) -> Result<Vec<u8>, AllocError>
+    ensures { IfOk result (λ line. line.items ≡ act_text d.now act.now) }
 {
     let (form, said) = parts_of(act);
     let mut line = word_of(form).to_vec(alloc)?;
     add_texts(alloc, &mut line, d, kinds_of(form), said.as_slice())?;
-    line.push(b'\n')?;
     Ok(line)
 }

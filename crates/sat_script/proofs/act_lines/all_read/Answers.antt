@@ -1,11 +1,10 @@
 use Rattle.std.proofs.Common.{◌≡◌, ◌+◌, [], ◌∷◌, ◌∙◌, ap, map, drop, get_or, arith, length, length-append, rules}
 use Rattle.std.specs.Prelude.{option_copied}
-use Rattle.std.proofs.lemmas.List.{drop_more, length-map}
+use Rattle.std.proofs.lemmas.List.{drop_more, length-map, map-append}
 use Rattle.sat_script.specs.Said.{said_of, shape_of}
 use Rattle.sat_script.specs.Table.{place}
 use Rattle.sat_script.specs.declared.form.Kind.TheVariants as kind
 use Rattle.sat_script.specs.declared.said.Said.TheVariants as kept
-use Rattle.sat_script.proofs.Lists.{map_next}
 use Rattle.sat_script.proofs.Once.{goes_on, goes_all, texts_more}
 use Rattle.sat_script.proofs.act_lines.all_read.Goals as goal
 
@@ -16,7 +15,7 @@ loop-place-preserved-then-eq c =
           c.in-Some.found.now c.loop-place.place _ _ c.loop-place.invariant.0
           (drop_more c.args.kinds.now c.loop-place.place _ (omega (arith, c.loop-place-test.true)) ∙ ap (λ k. k ∷ drop (c.loop-place.place + 1) c.args.kinds.now) epoch)
           (texts_more c.args.words.now c.loop-place.place _ (omega (arith, c.loop-place-test.true, c.if-words-kinds.false)))
-          (place c.in-Some.epoch, ap (map said_of) c.push.ensures.items ∙ map_next said_of c.loop-place.said.items (kept.Place c.in-Some.epoch), c.in-Some.ensures (shape_of (option_copied c.loop-place.tree))),
+          (place c.in-Some.epoch, ap (map said_of) c.push.ensures.items ∙ map-append said_of c.loop-place.said.items (kept.Place c.in-Some.epoch ∷ []), c.in-Some.ensures (shape_of (option_copied c.loop-place.tree))),
       omega (arith, c.push.ensures.len, c.loop-place.invariant.1),
     )
 

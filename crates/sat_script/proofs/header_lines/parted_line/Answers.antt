@@ -1,6 +1,7 @@
-use Rattle.std.proofs.Common.{◌≡◌, ◌∙◌, sym, ap, subst, ◌+◌, ◌-◌, length, Result, map, take, drop, position, None, Some, List, ℕ, Bor}
+use Rattle.std.proofs.Common.{◌≡◌, ◌∙◌, sym, ap, subst, ◌+◌, ◌-◌, length, Result, take, drop, position, None, Some, List, ℕ, Bor}
 use Rattle.sat_script.specs.Grammar.{parted_line, tree_line, is_slash}
 use Rattle.sat_script.specs.Lines.{Gives}
+use Rattle.sat_script.proofs.Cuts.{texts}
 use Rattle.sat_script.proofs.Lookup.{position_by}
 use Rattle.sat_script.proofs.Steps.{front_texts, rest_texts}
 use Rattle.sat_script.proofs.header_lines.parted_line.Goals as goal
@@ -8,9 +9,6 @@ use Rattle.std.proofs.Common.{refl}
 use Rattle.sat_script.specs.State.{State}
 use Rattle.sat_script.specs.declared.fault.Cause.{Cause}
 use Rattle.sat_script.specs.declared.line.Parsed.{Parsed}
-
-abbrev texts : List (Bor (List ℕ)) → List (List ℕ)
-texts words = map (λ word. word.now) words
 
 place : (words : List (Bor (List ℕ))) → position (λ (word : Bor (List ℕ)). is_slash word.now) words ≡ position is_slash (texts words)
 place words = position_by (λ (word : Bor (List ℕ)). word.now) (λ (word : Bor (List ℕ)). is_slash word.now) is_slash (λ word. refl) words

@@ -1,23 +1,21 @@
-use Rattle.std.proofs.Common.{rules, ◌≡◌, ◌∙◌, sym, ap, false, ◌+◌, length, subst, map, ℕ, List, Bor}
+use Rattle.std.proofs.Common.{rules, ◌≡◌, ◌∙◌, ap, false, ◌+◌, length, subst, map, ℕ, List, Bor}
 use Rattle.sat_tree.specs.Shape.{TreeShape}
 use Rattle.sat_script.specs.Words.{are_below, value_of}
 use Rattle.sat_script.specs.Lines.{IsTreeOf}
-use Rattle.sat_script.proofs.Lookup.{length_by}
+use Rattle.std.proofs.lemmas.List.{length-map}
+use Rattle.sat_script.proofs.Cuts.{texts}
 use Rattle.sat_script.proofs.Trees.{wrong_parents, wrong_seats, tree_named}
 use Rattle.sat_script.proofs.header_lines.tree_on.Goals as goal
-
-abbrev texts : List (Bor (List ℕ)) → List (List ℕ)
-texts words = map (λ word. word.now) words
 
 pub returns-in_default : goal.returns-in_default
 returns-in_default c =
     let none : are_below (length c.args.words.now + 1) (texts c.args.words.now) ≡ false = search rules in
-    wrong_parents c.args.sites (texts c.args.words.now) (texts c.args.seats.now) (ap (λ n. are_below (n + 1) (texts c.args.words.now)) (sym (length_by (λ (word : Bor (List ℕ)). word.now) c.args.words.now)) ∙ none)
+    wrong_parents c.args.sites (texts c.args.words.now) (texts c.args.seats.now) c.requires.few (ap (λ n. are_below (n + 1) (texts c.args.words.now)) (length-map c.args.words.now (λ (word : Bor (List ℕ)). word.now)) ∙ none)
 
 pub returns-in_default-2 : goal.returns-in_default-2
 returns-in_default-2 c =
     let none : are_below (length c.args.words.now + 1) (texts c.args.seats.now) ≡ false = search rules in
-    wrong_seats c.args.sites (texts c.args.words.now) (texts c.args.seats.now) (ap (λ n. are_below (n + 1) (texts c.args.seats.now)) (sym (length_by (λ (word : Bor (List ℕ)). word.now) c.args.words.now)) ∙ none)
+    wrong_seats c.args.sites (texts c.args.words.now) (texts c.args.seats.now) c.requires.few (ap (λ n. are_below (n + 1) (texts c.args.seats.now)) (length-map c.args.words.now (λ (word : Bor (List ℕ)). word.now)) ∙ none)
 
 pub returns : goal.returns
 returns c =

@@ -1,12 +1,12 @@
 use Rattle.std.proofs.Common.{◌∙◌, sym}
 use Rattle.sat_script.specs.Causes.{item_of}
-use Rattle.sat_script.proofs.Lookup.{item_place}
+use Rattle.sat_script.proofs.Lookup.{place_named}
 use Rattle.sat_script.proofs.header.Header.item_of.Goals as goal
 
 pub returns-in-Some : goal.returns-in-Some
 unfolding item_of
-returns-in-Some c = rw (← c.self.view_is) (sym c.in-Some.is ∙ c.place_of.ensures.place ∙ item_place c.self.inside.items.items c.self.inside.item_names c.args.name.now c.self.invariant.items_named)
+returns-in-Some c = rw (← c.self.view_is) (sym c.in-Some.is ∙ c.place_of.ensures.place ∙ place_named _ c.self.inside.items.items c.self.inside.item_names c.args.name.now c.self.invariant.items_named)
 
 pub returns-in-None : goal.returns-in-None
 unfolding item_of
-returns-in-None c = rw (← c.self.view_is) (sym c.in-None.is ∙ c.place_of.ensures.place ∙ item_place c.self.inside.items.items c.self.inside.item_names c.args.name.now c.self.invariant.items_named)
+returns-in-None c = rw (← c.self.view_is) (sym c.in-None.is ∙ c.place_of.ensures.place ∙ place_named _ c.self.inside.items.items c.self.inside.item_names c.args.name.now c.self.invariant.items_named)
