@@ -1,5 +1,5 @@
 //! The texts.
-ghost use Rattle.std.specs.Prelude.{◌≡◌, ◌++◌, ◌∷◌, codes, OnOk};
+ghost use Rattle.std.specs.Prelude.{◌≡◌, ◌++◌, ◌∷◌, [], codes, OnOk};
 ghost use Rattle.std.specs.Fmt.{decimal};
 ghost use Rattle.sat_script.specs.Spelled.{act_text};
 ghost use Rattle.sat_report.specs.Answers.{answer_text};
