@@ -10,3 +10,6 @@ mod wires;
 
 pub use made::AllNodes;
 pub use wires::Wires;
+
+#[cfg(test)]
+mod tests;

@@ -66,7 +66,7 @@ fn make_pairs(alloc: Global, capacity: usize, count: usize) -> Result<Pairs, All
         ins: Vec::new(alloc),
         outs: Vec::new(alloc),
     };
-    for _ in 0..count {
+    'pairs: for _ in 0..count {
         add_pair(&mut pairs, alloc, capacity)?;
     }
     Ok(pairs)

@@ -1,0 +1,178 @@
+//! A cluster: the locked nodes of a deployment, and its sessions.
+ghost use Rattle.std.specs.Prelude.{◌≡◌, ◌<◌, ◌+◌, true, false, length, get_or, replicate, set, vec_len, MatchOption, IsErrOf, IsOk, IfOk, IfSome, OnErr, Some};
+ghost use Rattle.sat_opened.specs.Opened.{serial_names};
+ghost use Rattle.sat_cluster.specs.Clusters.{client_of, count_given, none_given, operator_number, session_fault};
+
+use crate::locks::{lock_all, unlock_all};
+use sat_act::Deployment;
+use sat_label::Name;
+use sat_machines::{Laid, SerialNode, SiteNode};
+use sat_node::{Held, Locked, Names};
+use sat_wires::{AllNodes, Wires};
+use std::alloc::{AllocError, Global};
+use std::marker::Model;
+
+/// Why a session isn't given.
+#[derive(Clone, Copy, Debug, PartialEq, Eq)]
+pub enum SessionFault {
+    /// No client has the name.
+    NoSuch,
+    /// It was given before.
+    Taken,
+    /// Memory ran out.
+    Memory,
+}
+
+/// The sites and serializers of N's deployment, each under its lock, and which sessions were given. Contracts see the latter: by the
+/// number of its client, the operator's last.
+#[derive(Drop)]
+pub struct Cluster<N: Laid + Names> {
+    d: Deployment,
+    sites: Vec<Locked<SiteNode<N>, N>>,
+    serials: Vec<Locked<SerialNode<N>, N>>,
+    site_room: Vec<Held<SiteNode<N>, N>>,
+    serial_room: Vec<Held<SerialNode<N>, N>>,
+    given: Vec<bool>,
+}
+
+impl<N: Laid + Names> Model for Cluster<N> {
+    ghost use Rattle.std.specs.Prelude.{◌≡◌, [], vec_capacity, vec_len};
+    ghost use Rattle.sat_cluster.specs.Clusters.{ClusterSeen, IsCluster};
+
+    ghost Value = { ClusterSeen };
+
+    ghost view = { λ c. record { given = c.given.items } };
+
+    ghost invariant = { λ c. IsCluster N.deployment c.d (vec_len c.sites) (vec_len c.serials) (vec_capacity c.site_room) (vec_capacity c.serial_room) c.given.items × (c.site_room.items ≡ []) × (c.serial_room.items ≡ []) };
+}
+
+/// The nodes of a cluster whose locks were taken apart, and how many sessions were given.
+#[derive(Drop)]
+pub struct Unlocked<N: Laid + Names> {
+    pub deployment: Deployment,
+    pub sites: Vec<Held<SiteNode<N>, N>>,
+    pub serials: Vec<Held<SerialNode<N>, N>>,
+    pub given: u64,
+}
+
+// Marks for so many sessions, of which none was given.
+fn marks(alloc: Global, count: usize) -> Result<Vec<bool>, AllocError>
+    ensures { IfOk result (λ marks. marks.items ≡ replicate count false) }
+{
+    let mut marks = Vec::new(alloc);
+    'marks: for _ in 0..count {
+        marks.push(false)?;
+    }
+    Ok(marks)
+}
+
+// How many were given.
+fn count_marks(marks: &[bool]) -> u64
+    ensures { result ≡ count_given marks.now }
+{
+    marks.iter().filter(|mark| **mark).count() as u64
+}
+
+impl<N: Laid + Names> Cluster<N> {
+    /// Puts each site and each serializer of N's deployment under a lock of its own, with its ends of the links. It asks that the links
+    /// were made for that deployment, and that N's list of wires is theirs. No session was given.
+    pub fn new(alloc: Global, d: Deployment, wires: Wires) -> Result<Cluster<N>, AllocError>
+        requires deployment { N.deployment ≡ d }
+        requires made { wires.deployment ≡ d }
+        requires wires { N.wires ≡ wires.wires }
+        ensures { IfOk result (λ cluster. cluster.given ≡ none_given d) }
+    {
+        let AllNodes { sites, serials } = AllNodes::<N>::new(alloc, &d, wires)?;
+        let site_room = Vec::with_capacity(alloc, sites.len())?;
+        let serial_room = Vec::with_capacity(alloc, serials.len())?;
+        let given = marks(alloc, d.clients().len() + 1)?;
+        Ok(Cluster {
+            d,
+            sites: lock_all(alloc, sites)?,
+            serials: lock_all(alloc, serials)?,
+            site_room,
+            serial_room,
+            given,
+        })
+    }
+
+    /// The deployment.
+    pub fn deployment(&self) -> &Deployment
+        ensures { result.now ≡ N.deployment }
+    {
+        &self.d
+    }
+
+    // Gives the session of this number, which wasn't given before.
+    fn give(&mut self, number: usize) -> Result<u16, SessionFault>
+        requires { number < length self.old.given }
+        ensures fault { MatchOption (session_fault (Some number) self.old.given) (IsOk result) (λ fault. IsErrOf result fault) }
+        ensures ok { IfOk result (λ n. (n ≡ number) × (self.new.given ≡ set self.old.given number true)) }
+        ensures err { OnErr result (self.new ≡ self.old) }
+    {
+        if self.given[number] {
+            return Err(SessionFault::Taken);
+        }
+        self.given[number] = true;
+        Ok(number as u16)
+    }
+
+    // The number of the client of a name.
+    fn client(&self, name: &Name) -> Option<usize>
+        ensures client { result ≡ client_of N.deployment name.now }
+        ensures inside { IfSome result (λ number. number < length self.now.given) }
+    {
+        let bytes = name.bytes();
+        self.d
+            .clients()
+            .iter()
+            .position(|line| line.name.bytes() == bytes)
+    }
+
+    /// Gives the session of the client of a name, by its number. `NoSuch` exactly where no client has the name, `Taken` exactly where its
+    /// session was given before. After an error nothing changed.
+    pub fn session(&mut self, name: &Name) -> Result<u16, SessionFault>
+        ensures fault { MatchOption (session_fault (client_of N.deployment name.now) self.old.given) (IsOk result) (λ fault. IsErrOf result fault) }
+        ensures client { IfOk result (λ n. client_of N.deployment name.now ≡ Some n) }
+        ensures given { IfOk result (λ n. self.new.given ≡ set self.old.given n true) }
+        ensures err { OnErr result (self.new ≡ self.old) }
+    {
+        match self.client(name) {
+            Some(number) => self.give(number),
+            None => Err(SessionFault::NoSuch),
+        }
+    }
+
+    /// Gives the operator's session, by its number. `Taken` exactly where it was given before, and then nothing changed.
+    pub fn operator(&mut self) -> Result<u16, SessionFault>
+        ensures fault { MatchOption (session_fault (Some (operator_number N.deployment)) self.old.given) (IsOk result) (λ fault. IsErrOf result fault) }
+        ensures given { IfOk result (λ n. (n ≡ operator_number N.deployment) × (self.new.given ≡ set self.old.given n true)) }
+        ensures err { OnErr result (self.new ≡ self.old) }
+    {
+        let number = self.d.clients().len();
+        self.give(number)
+    }
+
+    /// Takes all locks apart. It takes no memory.
+    pub fn open(self) -> Unlocked<N>
+        ensures deployment { result.deployment ≡ N.deployment }
+        ensures sites { length result.sites.items ≡ N.deployment.sites }
+        ensures serials { length result.serials.items ≡ length (serial_names N.deployment) }
+        ensures given { result.given ≡ count_given self.given }
+    {
+        let Cluster {
+            d,
+            sites,
+            serials,
+            site_room,
+            serial_room,
+            given,
+        } = self;
+        Unlocked {
+            deployment: d,
+            sites: unlock_all(sites, site_room),
+            serials: unlock_all(serials, serial_room),
+            given: count_marks(given.as_slice()),
+        }
+    }
+}

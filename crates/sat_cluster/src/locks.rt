@@ -1,0 +1,55 @@
+//! Nodes under their locks.
+ghost use Rattle.std.specs.Prelude.{◌≡◌, ◌≤◌, [], length, vec_capacity, vec_len, IfOk, IfSome};
+ghost use Rattle.std.specs.Sync.Mutex.{mutex_guard_value};
+
+use sat_label::NodeName;
+use sat_node::{Held, Locked, Machine, Names};
+use std::alloc::{AllocError, Global};
+use std::sync::{Mutex, MutexGuard, Wait};
+
+/// Puts each node under a lock, in their order.
+pub fn lock_all<M: Machine + Drop, N: Names>(
+    alloc: Global,
+    nodes: Vec<Held<M, N>>,
+) -> Result<Vec<Locked<M, N>>, AllocError>
+    ensures { IfOk result (λ locks. vec_len locks ≡ vec_len nodes) }
+{
+    let mut locks = Vec::new(alloc);
+    for held in nodes {
+        locks.push(Mutex::new(held))?;
+    }
+    Ok(locks)
+}
+
+/// Takes all locks apart. There is room for the nodes.
+pub fn unlock_all<M: Machine + Drop, N: Names>(
+    locks: Vec<Locked<M, N>>,
+    room: Vec<Held<M, N>>,
+) -> Vec<Held<M, N>>
+    requires { (room.items ≡ []) × (vec_len locks ≤ vec_capacity room) }
+    ensures { length result.items ≡ vec_len locks }
+{
+    let mut nodes = room;
+    for lock in locks {
+        nodes.push_reserved(lock.into_inner());
+    }
+    nodes
+}
+
+/// Takes the lock of this number, if its node has this name. `None` where there is no such lock, or its node has another name.
+pub fn locked<'a, M: Machine + Drop, N: Names, R: Wait>(
+    rt: &R,
+    locks: &'a [Locked<M, N>],
+    number: usize,
+    name: NodeName,
+) -> Option<MutexGuard<'a, Held<M, N>>>
+    ensures { IfSome result (λ guard. (mutex_guard_value guard).node.name ≡ name) }
+{
+    let lock = locks.get(number)?;
+    let guard = lock.lock(rt);
+    if guard.node().name().is_same(&name) {
+        Some(guard)
+    } else {
+        None
+    }
+}
