@@ -1,27 +1,21 @@
 //! A cluster: the locked nodes of a deployment, and its sessions.
-ghost use Rattle.std.specs.Prelude.{◌≡◌, ◌<◌, ◌+◌, true, false, length, get_or, replicate, set, vec_len, MatchOption, IsErrOf, IsOk, IfOk, IfSome, OnErr, Some};
+ghost use Rattle.std.specs.Prelude.{◌≡◌, ◌<◌, ◌+◌, true, false, length, position, replicate, set, vec_len, MatchOption, IsErrOf, IsOk, IfOk, IfSome, OnErr, Some};
+ghost use Rattle.std.specs.Sync.Mutex.{mutex_guard_value};
+ghost use Rattle.sat_label.specs.Order.{name_eq};
+ghost use Rattle.sat_label.specs.declared.node.NodeName.TheVariants.{Serializer as AtSerializer, Site as AtSite};
 ghost use Rattle.sat_opened.specs.Opened.{serial_names};
 ghost use Rattle.sat_cluster.specs.Clusters.{client_of, count_given, none_given, operator_number, session_fault};
 
-use crate::locks::{lock_all, unlock_all};
+use crate::fault::SessionFault;
+use crate::locks::{lock_all, locked, names_of, unlock_all};
 use sat_act::Deployment;
-use sat_label::Name;
+use sat_label::{Name, NodeName};
 use sat_machines::{Laid, SerialNode, SiteNode};
 use sat_node::{Held, Locked, Names};
 use sat_wires::{AllNodes, Wires};
 use std::alloc::{AllocError, Global};
 use std::marker::Model;
-
-/// Why a session isn't given.
-#[derive(Clone, Copy, Debug, PartialEq, Eq)]
-pub enum SessionFault {
-    /// No client has the name.
-    NoSuch,
-    /// It was given before.
-    Taken,
-    /// Memory ran out.
-    Memory,
-}
+use std::sync::{MutexGuard, Wait};
 
 /// The sites and serializers of N's deployment, each under its lock, and which sessions were given. Contracts see the latter: by the
 /// number of its client, the operator's last.
@@ -30,6 +24,7 @@ pub struct Cluster<N: Laid + Names> {
     d: Deployment,
     sites: Vec<Locked<SiteNode<N>, N>>,
     serials: Vec<Locked<SerialNode<N>, N>>,
+    names: Vec<NodeName>,
     site_room: Vec<Held<SiteNode<N>, N>>,
     serial_room: Vec<Held<SerialNode<N>, N>>,
     given: Vec<bool>,
@@ -43,7 +38,7 @@ impl<N: Laid + Names> Model for Cluster<N> {
 
     ghost view = { λ c. record { given = c.given.items } };
 
-    ghost invariant = { λ c. IsCluster N.deployment c.d (vec_len c.sites) (vec_len c.serials) (vec_capacity c.site_room) (vec_capacity c.serial_room) c.given.items × (c.site_room.items ≡ []) × (c.serial_room.items ≡ []) };
+    ghost invariant = { λ c. IsCluster N.deployment c.d (vec_len c.sites) (vec_len c.serials) (vec_capacity c.site_room) (vec_capacity c.serial_room) c.names.items c.given.items × (c.site_room.items ≡ []) × (c.serial_room.items ≡ []) };
 }
 
 /// The nodes of a cluster whose locks were taken apart, and how many sessions were given.
@@ -85,11 +80,13 @@ impl<N: Laid + Names> Cluster<N> {
         let AllNodes { sites, serials } = AllNodes::<N>::new(alloc, &d, wires)?;
         let site_room = Vec::with_capacity(alloc, sites.len())?;
         let serial_room = Vec::with_capacity(alloc, serials.len())?;
+        let names = names_of(alloc, serials.as_slice())?;
         let given = marks(alloc, d.clients().len() + 1)?;
         Ok(Cluster {
             d,
             sites: lock_all(alloc, sites)?,
             serials: lock_all(alloc, serials)?,
+            names,
             site_room,
             serial_room,
             given,
@@ -101,6 +98,40 @@ impl<N: Laid + Names> Cluster<N> {
         ensures { result.now ≡ N.deployment }
     {
         &self.d
+    }
+
+    // Takes the lock of a site. `None` where its node has another name, which never is.
+    pub(crate) fn site<R: Wait>(
+        &self,
+        rt: &R,
+        site: u16,
+    ) -> Option<MutexGuard<'_, Held<SiteNode<N>, N>>>
+        ensures { IfSome result (λ guard. (mutex_guard_value guard).node.name ≡ AtSite site) }
+    {
+        let name = NodeName::Site(site);
+        locked(rt, self.sites.as_slice(), usize::from(site), name)
+    }
+
+    // Takes the lock of a serializer of an epoch's tree. `None` where there is none of this name, or its node has another one, which
+    // never is.
+    pub(crate) fn serial<R: Wait>(
+        &self,
+        rt: &R,
+        epoch: u16,
+        number: u16,
+    ) -> Option<MutexGuard<'_, Held<SerialNode<N>, N>>>
+        ensures { IfSome result (λ guard. (mutex_guard_value guard).node.name ≡ AtSerializer epoch number) }
+    {
+        let name = NodeName::Serializer { epoch, number };
+        let place = self.place(&name)?;
+        locked(rt, self.serials.as_slice(), place, name)
+    }
+
+    // The place of a serializer among all.
+    fn place(&self, name: &NodeName) -> Option<usize>
+        ensures { result ≡ position (name_eq name.now) (serial_names N.deployment) }
+    {
+        self.names.iter().position(|other| name.is_same(other))
     }
 
     // Gives the session of this number, which wasn't given before.
@@ -164,6 +195,7 @@ impl<N: Laid + Names> Cluster<N> {
             d,
             sites,
             serials,
+            names: _,
             site_room,
             serial_room,
             given,

@@ -2,6 +2,11 @@
 #![tactic(auto)]
 
 mod cluster;
+mod fault;
 mod locks;
 
-pub use cluster::{Cluster, SessionFault, Unlocked};
+pub use cluster::{Cluster, Unlocked};
+pub use fault::SessionFault;
+
+#[cfg(test)]
+mod tests;

@@ -1,11 +1,26 @@
 //! Nodes under their locks.
-ghost use Rattle.std.specs.Prelude.{◌≡◌, ◌≤◌, [], length, vec_capacity, vec_len, IfOk, IfSome};
+ghost use Rattle.std.specs.Prelude.{◌≡◌, ◌≤◌, [], length, map, vec_capacity, vec_len, IfOk, IfSome};
 ghost use Rattle.std.specs.Sync.Mutex.{mutex_guard_value};
+ghost use Rattle.sat_opened.specs.Opened.{name_in};
 
 use sat_label::NodeName;
 use sat_node::{Held, Locked, Machine, Names};
 use std::alloc::{AllocError, Global};
 use std::sync::{Mutex, MutexGuard, Wait};
+
+/// The names of nodes, in their order.
+pub fn names_of<M: Machine, N: Names>(
+    alloc: Global,
+    nodes: &[Held<M, N>],
+) -> Result<Vec<NodeName>, AllocError>
+    ensures { IfOk result (λ names. names.items ≡ map name_in nodes.now) }
+{
+    let mut names = Vec::new(alloc);
+    for held in nodes {
+        names.push(held.node().name())?;
+    }
+    Ok(names)
+}
 
 /// Puts each node under a lock, in their order.
 pub fn lock_all<M: Machine + Drop, N: Names>(

@@ -27,7 +27,7 @@ pub struct AllNodes<N: Laid + Names> {
 }
 
 // A site.
-#[tactic(auto, using(crate::proofs::Places::site_outs, crate::proofs::Places::site_ins))]
+#[tactic(auto, using(crate::proofs::Places::site_outs, crate::proofs::Places::site_ins, crate::proofs::Pairs::outs_new, crate::proofs::Pairs::ins_new))]
 fn make_site<N: Laid + Names>(
     alloc: Global,
     d: &Deployment,
@@ -71,7 +71,7 @@ fn make_sites<N: Laid + Names>(
 }
 
 // A serializer of the tree of an epoch.
-#[tactic(auto, using(crate::proofs::Places::serial_outs, crate::proofs::Places::serial_ins))]
+#[tactic(auto, using(crate::proofs::Places::serial_outs, crate::proofs::Places::serial_ins, crate::proofs::Pairs::outs_new, crate::proofs::Pairs::ins_new))]
 fn make_serial<N: Laid + Names>(
     alloc: Global,
     d: &Deployment,

@@ -1,5 +1,5 @@
 //! Lists of ways. Contracts see the links.
-ghost use Rattle.std.specs.Prelude.{◌≡◌, ◌++◌, [], ◌∷◌, map, position, OnOk};
+ghost use Rattle.std.specs.Prelude.{◌≡◌, ◌++◌, [], ◌∷◌, length, map, position, OnOk};
 ghost use Rattle.sat_machines.specs.Layout.{link_eq};
 ghost use Rattle.sat_wires.specs.Ways.{link_of};
 
@@ -39,6 +39,13 @@ impl Ways {
     {
         self.items.push(way)?;
         Ok(())
+    }
+
+    /// How many there are.
+    pub fn len(&self) -> usize
+        ensures { result ≡ length self.now }
+    {
+        self.items.len()
     }
 
     /// The ways in order.

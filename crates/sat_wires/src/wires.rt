@@ -44,8 +44,8 @@ struct Pairs {
 // One link more.
 #[tactic(auto, using(crate::proofs::Pairs::pair_more, crate::proofs::Pairs::one_more))]
 fn add_pair(pairs: &mut Pairs, alloc: Global, capacity: usize) -> Result<(), AllocError>
-    requires { 0 < capacity }
-    requires { ArePairs capacity pairs.old.ins.items pairs.old.outs.items }
+    requires capacity { 0 < capacity }
+    requires pairs { ArePairs capacity pairs.old.ins.items pairs.old.outs.items }
     ensures many { OnOk result (length pairs.new.ins.items ≡ length pairs.old.ins.items + 1) }
     ensures pairs { OnOk result (ArePairs capacity pairs.new.ins.items pairs.new.outs.items) }
 {
@@ -74,6 +74,7 @@ fn make_pairs(alloc: Global, capacity: usize, count: usize) -> Result<Pairs, All
 
 impl Wires {
     /// The links of a deployment, each of which holds at most `capacity` messages.
+    #[tactic(auto, using(crate::proofs::Pairs::are_wires, crate::proofs::Pairs::have_room))]
     pub fn new(alloc: Global, d: &Deployment, capacity: usize) -> Result<Wires, AllocError>
         requires { 0 < capacity }
         ensures deployment { IfOk result (λ wires. wires.deployment ≡ d.now) }
@@ -81,7 +82,7 @@ impl Wires {
         ensures capacity { IfOk result (λ wires. HaveRoom capacity wires.wires) }
     {
         let ways = all_ways(alloc, d)?;
-        let Pairs { ins, outs } = make_pairs(alloc, capacity, ways.as_slice().len())?;
+        let Pairs { ins, outs } = make_pairs(alloc, capacity, ways.len())?;
         Ok(Wires {
             made_for: Snapshot::of(d),
             ways,
