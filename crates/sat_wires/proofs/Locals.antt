@@ -1,14 +1,17 @@
 -- A write and a gather take nothing from a link, and stand.
-use Rattle.std.proofs.Common.{◌≡◌, ℕ, List, Bool, true, false, Option, Some, None, max, not, nat_le, refl, ap, ◌∙◌}
+use Rattle.std.proofs.Common.{◌≡◌, ◌+◌, ℕ, List, Bool, true, false, Option, Some, None, max, not, nat_le, refl, ap, ◌∙◌}
 use Rattle.sat_label.specs.declared.carried.Carried.{Carried}
 use Rattle.sat_label.specs.declared.limits.TheConstants.{TS_END}
+use Rattle.sat_label.specs.declared.label.Kind.TheVariants as kind
+use Rattle.sat_label.specs.Order.{point_at}
 use Rattle.sat_label.specs.declared.node.NodeName.{NodeName}
 use Rattle.sat_label.specs.declared.node.NodeName.TheVariants as named
 use Rattle.sat_act.specs.declared.answer.Answer.{Answer}
 use Rattle.sat_act.specs.declared.answer.Answer.TheVariants as ans
 use Rattle.sat_act.specs.declared.answer.Refusal.{Refusal}
 use Rattle.sat_act.specs.declared.answer.Refusal.TheVariants as why
-use Rattle.sat_act.specs.Answers.{refused_if}
+use Rattle.sat_act.specs.Answers.{gear_of, refused_if}
+use Rattle.sat_act.specs.Parts.{replicates}
 use Rattle.sat_act.specs.Deployed.{Deployed}
 use Rattle.sat_machine.specs.State.{SiteState}
 use Rattle.sat_machine.specs.Reply.{site_answer, write_by}
@@ -25,8 +28,13 @@ standing-if : (b : Bool) (f : Refusal) (r : Answer) → is_standing (ans.Refused
 standing-if true f r a e = a
 standing-if false f r a e = e
 
+-- the label of a write that is done
+abbrev wrote : Deployed → ℕ → ℕ → ℕ → ℕ → Answer
+wrote d i x promise ts = ans.Wrote (record { point = point_at (max promise ts + 1) i (gear_of d x); kind = kind.Update x })
+
 write-stands : (d : Deployed) (i x promise ts : ℕ) → is_standing (write_by d i x promise ts) ≡ true
-write-stands d i x promise ts = standing-if _ why.NotHere _ refl (standing-if _ why.Spent _ refl refl)
+write-stands d i x promise ts = standing-if (not (replicates d x i)) why.NotHere (refused_if (nat_le TS_END (max promise ts)) why.Spent (wrote d i x promise ts)) refl
+    (standing-if (nat_le TS_END (max promise ts)) why.Spent (wrote d i x promise ts) refl refl)
 
 written : (d : Deployed) (i x : ℕ) (seen : Carried) (value : List ℕ) (s : SiteState) (r : Answer) → r ≡ site_answer d i s (input_of (input.Write seen x value)) → is_standing r ≡ true
 unfolding site_answer

@@ -1,8 +1,8 @@
 -- The lists of ways, one more at a time, and the places of links.
 use Rattle.std.specs.Prelude.{◌≡◌, ◌<◌, ◌≤◌, ◌+◌, ◌-◌, ◌^◌, ℕ, suc, Bool, nat_lt, not, cond, List, [], ◌∷◌, ◌++◌, length, map, position, unwrap_or, Option, Some, None}
 use Rattle.std.specs.List.{flat_map, prefix_len}
-use Rattle.std.proofs.Common.{refl, sym, ap, ◌∙◌, subst, arith, length-map}
-use Rattle.std.proofs.lemmas.List.{append-nil, map-append}
+use Rattle.std.proofs.Common.{refl, sym, ap, ◌∙◌, subst, arith}
+use Rattle.std.proofs.lemmas.List.{append-nil, length-map, map-append}
 use Rattle.std.proofs.lemmas.List.Concat.{flat_map-append}
 use Rattle.sat_label.specs.declared.node.NodeName.TheVariants.{Serializer as AtSerializer, Site as AtSite}
 use Rattle.sat_label.specs.Words.{below}
@@ -11,7 +11,7 @@ use Rattle.sat_tree.specs.Cut.{neighbours, seat_of}
 use Rattle.sat_act.specs.Deployed.{Deployed}
 use Rattle.sat_act.specs.Limits.{IsDeployment}
 use Rattle.sat_act.specs.Parts.{tree_of}
-use Rattle.sat_machines.specs.Layout.{Link, Bulk, Planted, all_links, in_places, link_eq, links_of, out_places, peer, place_back, place_of, serial_links, site_links}
+use Rattle.sat_machines.specs.Layout.{Link, Bulk, Planted, all_links, in_places, link_eq, links_of, out_places, peer, place_back, place_of, serial_links, site_links, turned}
 use Rattle.sat_opened.proofs.Layouts.{tree-at}
 use Rattle.sat_wires.specs.declared.way.Way.{Way}
 use Rattle.sat_wires.specs.Ways.{bulk_links, link_of, place_back_in, place_in}
@@ -54,6 +54,9 @@ position_mapped p ws =
 
 pub placed : (all : List Link) (l : Link) (o : Option ℕ) (k : ℕ) → o ≡ position (link_eq l) all → o ≡ Some k → k ≡ place_in all l
 placed all l o k e f = ap (λ (o : Option ℕ). unwrap_or o 0) (sym f ∙ e)
+
+pub placed_back : (all : List Link) (l b : Link) (o : Option ℕ) (k : ℕ) → b ≡ turned l → o ≡ position (link_eq b) all → o ≡ Some k → k ≡ place_back_in all l
+placed_back all l b o k t e f = ap (λ (o : Option ℕ). unwrap_or o 0) (sym f ∙ e) ∙ ap (place_in all) t
 
 -- the ends of a site lie where its links do
 pub site_outs : (d : Deployed) (i : ℕ) (all own : List Link) (ks : List ℕ) → all ≡ all_links d → own ≡ site_links d i → ks ≡ map (place_in all) own → ks ≡ out_places d (AtSite i)

@@ -83,7 +83,7 @@ impl<N: Names> Ends<N> {
     }
 
     // Takes the sending end at a place out, None where it is not there.
-    #[tactic(auto, using(crate::proofs::Pairs::out_left, crate::proofs::Pairs::out_there))]
+    #[tactic(auto, using(crate::proofs::Pairs::out_left))]
     fn take_out(&mut self, place: usize) -> Option<Out<N>>
         ensures { IfSome result (λ o. OutAt place o) }
     {
@@ -94,7 +94,7 @@ impl<N: Names> Ends<N> {
     }
 
     // Takes the receiving end at a place out, None where it is not there.
-    #[tactic(auto, using(crate::proofs::Pairs::in_left, crate::proofs::Pairs::in_there))]
+    #[tactic(auto, using(crate::proofs::Pairs::in_left))]
     fn take_in(&mut self, place: usize) -> Option<In<N>>
         ensures { IfSome result (λ i. InAt place i) }
     {
@@ -118,12 +118,13 @@ impl<N: Names> Ends<N> {
         }
     }
 
-    // The receiving end of the link of a way. Each is there once; without it the answer is want of memory.
-    #[tactic(auto, using(crate::proofs::Places::placed))]
+    // The receiving end of the link that leads the other way. Each is there once; without it the answer is want of memory.
+    #[tactic(auto, using(crate::proofs::Places::placed_back))]
     fn receiver(&mut self, all: &Ways, way: &Way) -> Result<In<N>, AllocError>
-        ensures { IfOk result (λ i. InAt (place_in all.now (link_of way.now)) i) }
+        ensures { IfOk result (λ i. InAt (place_back_in all.now (link_of way.now)) i) }
     {
-        let Some(place) = all.place(way) else {
+        let back = way.turned();
+        let Some(place) = all.place(&back) else {
             return Err(AllocError);
         };
         match self.take_in(place) {
@@ -133,6 +134,7 @@ impl<N: Names> Ends<N> {
     }
 
     /// Takes out the sending ends of a node's links.
+    #[tactic(auto, using(crate::proofs::Pairs::outs_start))]
     pub fn outs(&mut self, alloc: Global, all: &Ways, own: &Ways) -> Result<Vec<Out<N>>, AllocError>
         ensures places { IfOk result (λ outs. out_places outs.items ≡ map (place_in all.now) own.now) }
         ensures fresh { IfOk result (λ outs. Each outs.items (λ _ o. IsFreshOut o)) }
@@ -146,13 +148,14 @@ impl<N: Names> Ends<N> {
     }
 
     /// Takes out the receiving ends of the links that lead the other way.
+    #[tactic(auto, using(crate::proofs::Pairs::ins_start))]
     pub fn ins(&mut self, alloc: Global, all: &Ways, own: &Ways) -> Result<Vec<In<N>>, AllocError>
         ensures places { IfOk result (λ ins. in_places ins.items ≡ map (place_back_in all.now) own.now) }
         ensures fresh { IfOk result (λ ins. Each ins.items (λ _ i. IsFreshIn i)) }
     {
         let mut ins = Vec::new(alloc);
         for way in own.as_slice() {
-            let end = self.receiver(all, &way.turned())?;
+            let end = self.receiver(all, way)?;
             ins.push(end)?;
         }
         Ok(ins)

@@ -27,7 +27,7 @@ pub struct AllNodes<N: Laid + Names> {
 }
 
 // A site.
-#[tactic(auto, using(crate::proofs::Places::site_outs, crate::proofs::Places::site_ins, crate::proofs::Pairs::outs_new, crate::proofs::Pairs::ins_new))]
+#[tactic(auto, using(crate::proofs::Places::site_outs, crate::proofs::Places::site_ins))]
 fn make_site<N: Laid + Names>(
     alloc: Global,
     d: &Deployment,
@@ -50,7 +50,7 @@ fn make_site<N: Laid + Names>(
 }
 
 // All sites, in order.
-#[tactic(auto, using(crate::proofs::Names::sites_more, crate::proofs::Names::new_more))]
+#[tactic(auto, using(crate::proofs::Names::none_new))]
 fn make_sites<N: Laid + Names>(
     alloc: Global,
     d: &Deployment,
@@ -71,7 +71,6 @@ fn make_sites<N: Laid + Names>(
 }
 
 // A serializer of the tree of an epoch.
-#[tactic(auto, using(crate::proofs::Places::serial_outs, crate::proofs::Places::serial_ins, crate::proofs::Pairs::outs_new, crate::proofs::Pairs::ins_new))]
 fn make_serial<N: Laid + Names>(
     alloc: Global,
     d: &Deployment,
@@ -97,7 +96,7 @@ fn make_serial<N: Laid + Names>(
 }
 
 // All serializers of the tree of an epoch, behind those that there are.
-#[tactic(auto, using(crate::proofs::Names::serials_more, crate::proofs::Names::new_more))]
+#[tactic(auto, using(crate::proofs::Names::serials_start))]
 fn add_tree<N: Laid + Names>(
     serials: &mut Vec<Held<SerialNode<N>, N>>,
     alloc: Global,

@@ -23,6 +23,13 @@ impl Model for Ways {
     ghost view = { λ w. map link_of w.items.items };
 }
 
+// The first place of a way.
+fn find(ways: &[Way], way: &Way) -> Option<usize>
+    ensures { result ≡ position (λ other. link_eq (link_of way.now) (link_of other)) ways.now }
+{
+    ways.iter().position(|other| way.is_same(other))
+}
+
 impl Ways {
     /// No ways. It takes no memory.
     pub fn new(alloc: Global) -> Ways
@@ -60,6 +67,6 @@ impl Ways {
     pub fn place(&self, way: &Way) -> Option<usize>
         ensures { result ≡ position (link_eq (link_of way.now)) self.now }
     {
-        self.items.iter().position(|other| way.is_same(other))
+        find(self.items.as_slice(), way)
     }
 }

@@ -42,7 +42,7 @@ struct Pairs {
 }
 
 // One link more.
-#[tactic(auto, using(crate::proofs::Pairs::pair_more, crate::proofs::Pairs::one_more))]
+#[tactic(auto, using(crate::proofs::Pairs::one_more))]
 fn add_pair(pairs: &mut Pairs, alloc: Global, capacity: usize) -> Result<(), AllocError>
     requires capacity { 0 < capacity }
     requires pairs { ArePairs capacity pairs.old.ins.items pairs.old.outs.items }

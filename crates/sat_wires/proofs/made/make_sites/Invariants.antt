@@ -1,9 +1,8 @@
-use Rattle.std.proofs.Common.{◌≡◌, map}
+use Rattle.std.proofs.Common.{map}
 use Rattle.sat_label.specs.declared.node.NodeName.TheVariants.{Site as AtSite}
 use Rattle.sat_label.specs.Words.{below}
-use Rattle.sat_opened.specs.Opened.{name_in}
-use Rattle.sat_wires.specs.Wires.{AllNew}
+use Rattle.sat_wires.proofs.Names.{AreNew}
 use Rattle.sat_wires.proofs.made.make_sites.Given as goal
 
 abbrev pub invariant-loop-site : goal.invariant-loop-site
-invariant-loop-site g l = (map name_in l.sites.items ≡ map AtSite (below l.site)) × AllNew l.sites.items
+invariant-loop-site g l = AreNew (map AtSite (below l.site)) l.sites.items
