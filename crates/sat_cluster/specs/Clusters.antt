@@ -42,7 +42,7 @@ pub record IsCluster (d own : Deployed) (sites serials site_room serial_room : �
   pub deployment : own ≡ d
   pub site_locks : sites ≡ d.sites
   pub serial_locks : serials ≡ length (serial_names d)
-  pub site_room : sites ≤ site_room
-  pub serial_room : serials ≤ serial_room
+  pub sites_fit : sites ≤ site_room
+  pub serials_fit : serials ≤ serial_room
   pub names_are : names ≡ serial_names d
   pub marks : length given ≡ operator_number d + 1

@@ -4,10 +4,9 @@ ghost use Rattle.std.specs.Prelude.{◌≡◌};
 use crate::{Cluster, SessionFault};
 use sat_act::{ClientLine, Deployment, Plan};
 use sat_label::Name;
-use sat_machines::Laid;
-use sat_node::{CallFault, Names};
-use sat_outside::FreeGate;
-use sat_passes::{receive, relay, send};
+use sat_machines::{Laid, SiteAct, SiteNode};
+use sat_node::{Held, Names};
+use sat_site::SiteInput;
 use sat_tree::Tree;
 use sat_wires::Wires;
 use std::alloc::{AllocError, Global};
@@ -64,52 +63,54 @@ fn note(found: &mut Vec<u64>, word: u64) -> Result<(), AllocError> {
     Ok(())
 }
 
-// How many entries a pass added, 1,000 where there was none.
-fn count(answer: Result<u64, CallFault>) -> u64 {
-    match answer {
-        Ok(count) => count,
-        Err(_) => 1000,
+// A tick of gear 0 of a site. False where it was not done.
+#[tactic(auto, using(sat_opened::proofs::Ticks::tick_local))]
+fn tick<N: Laid + Names>(held: &mut Held<SiteNode<N>, N>, ts: u64) -> Result<bool, AllocError> {
+    let input = SiteAct::of_site(SiteInput::Tick { gear: 0, ts });
+    let copy = input.copy()?;
+    if !held.fits(&input) {
+        return Ok(false);
     }
+    Ok(held.act(0, input, copy).is_ok())
 }
 
-fn sent<N: Laid + Names, R: Wait>(rt: &R, cluster: &Cluster<N>, site: u16) -> u64 {
+// Ticks a site under its lock. The number of its node's last entry, 1,000 where there is no such site.
+fn ticked<N: Laid + Names, R: Wait>(rt: &R, cluster: &Cluster<N>, site: u16, ts: u64) -> u64 {
     match cluster.site(rt, site) {
-        Some(mut guard) => count(send(rt, &mut *guard)),
+        Some(mut guard) => {
+            let held = &mut *guard;
+            let _ = tick(held, ts);
+            held.node().lamport()
+        }
         None => 1000,
     }
 }
 
-fn received<N: Laid + Names, R: Wait>(rt: &R, cluster: &Cluster<N>, site: u16) -> u64 {
-    match cluster.site(rt, site) {
-        Some(mut guard) => count(receive(rt, &mut *guard)),
+// The number of a serializer's last entry, 1,000 where there is no such serializer.
+fn number<N: Laid + Names, R: Wait>(rt: &R, cluster: &Cluster<N>, serializer: u16) -> u64 {
+    match cluster.serial(rt, 1, serializer) {
+        Some(guard) => guard.node().lamport(),
         None => 1000,
     }
 }
 
-fn relayed<N: Laid + Names, R: Wait>(rt: &R, cluster: &Cluster<N>, number: u16) -> u64 {
-    match cluster.serial(rt, 1, number) {
-        Some(mut guard) => count(relay(rt, &mut *guard, &FreeGate)),
-        None => 1000,
-    }
-}
-
-// Each site makes a beat for the other, in a thread of its own, and then takes the other's.
-fn passes<N: Laid + Names + Send + Sync, R: Threads + Wait + Sync>(
+// Each site is ticked in a thread of its own, and then the first once more.
+fn ticks<N: Laid + Names + Send + Sync, R: Threads + Wait + Sync>(
     rt: &R,
     cluster: &Cluster<N>,
     found: &mut Vec<u64>,
 ) -> Result<(), AllocError> {
     let (first, second) = thread::join(
         rt,
-        move || sent(rt, cluster, 0),
-        move || sent(rt, cluster, 1),
+        move || ticked(rt, cluster, 0, 5),
+        move || ticked(rt, cluster, 1, 6),
     );
     note(found, first)?;
     note(found, second)?;
-    note(found, received(rt, cluster, 0))?;
-    note(found, received(rt, cluster, 1))?;
-    note(found, relayed(rt, cluster, 0))?;
-    note(found, relayed(rt, cluster, 1))
+    note(found, ticked(rt, cluster, 0, 7))?;
+    note(found, ticked(rt, cluster, 2, 7))?;
+    note(found, number(rt, cluster, 0))?;
+    note(found, number(rt, cluster, 1))
 }
 
 fn sessions<N: Laid + Names>(
@@ -140,7 +141,7 @@ fn running<N: Laid + Names + Send + Sync, R: Threads + Wait + Sync>(
     let mut found = Vec::new(alloc);
     note(&mut found, u64::from(cluster.deployment().sites()))?;
     sessions(alloc, &mut cluster, &mut found)?;
-    passes(rt, &cluster, &mut found)?;
+    ticks(rt, &cluster, &mut found)?;
     let opened = cluster.open();
     note(&mut found, opened.given)?;
     note(&mut found, opened.sites.len() as u64)?;
@@ -154,7 +155,7 @@ fn a_cluster_in_two_threads(rt: HostRuntime) -> Result<(), Fail> {
     let d = deployment(alloc)?;
     let wires = Wires::new(alloc, &d, 3)?;
     let found = running::<Brand, _>(&rt, alloc, d, wires)?;
-    let rows = [2, 0, 101, 100, 1, 101, 1, 1, 1, 1, 0, 1000, 2, 2, 1];
+    let rows = [2, 0, 101, 100, 1, 101, 1, 1, 2, 1000, 0, 1000, 2, 2, 1];
     assert_eq!(rt; found.as_slice(), rows.as_slice());
     Ok(())
 }

@@ -1,7 +1,8 @@
--- A write and a gather take nothing from a link, and stand.
+-- A write, a gather and an emit take nothing from a link, and stand.
 use Rattle.std.proofs.Common.{◌≡◌, ◌+◌, ℕ, List, Bool, true, false, Option, Some, None, max, not, nat_le, refl, ap, ◌∙◌}
 use Rattle.sat_label.specs.declared.carried.Carried.{Carried}
 use Rattle.sat_label.specs.declared.limits.TheConstants.{TS_END}
+use Rattle.sat_label.specs.declared.label.Label.{Label}
 use Rattle.sat_label.specs.declared.label.Kind.TheVariants as kind
 use Rattle.sat_label.specs.Order.{point_at}
 use Rattle.sat_label.specs.declared.node.NodeName.{NodeName}
@@ -14,6 +15,7 @@ use Rattle.sat_act.specs.Answers.{gear_of, refused_if}
 use Rattle.sat_act.specs.Parts.{replicates}
 use Rattle.sat_act.specs.Deployed.{Deployed}
 use Rattle.sat_machine.specs.State.{SiteState}
+use Rattle.sat_machine.specs.Look.{ready_of}
 use Rattle.sat_machine.specs.Reply.{site_answer, write_by}
 use Rattle.sat_site.specs.declared.input.SiteInput.TheVariants as input
 use Rattle.sat_site.specs.Inputs.{input_of}
@@ -62,4 +64,22 @@ pub gather_local : {M : Type 0} (d : Deployed) (node : NodeSeen M ActSeen SiteAn
 gather_local d node = record {
   stands = λ a e. gathered d (number_of node.name) (replay (site_meaning d) node.name node.entries) a.answer e.answer;
   takes = λ a k e. gather-takes node.name k None a;
+}
+
+emitted : (o : Option Label) → is_standing (elim o [ None ↦ ans.Refused why.Idle | Some l ↦ ans.Emitted l ]) ≡ true
+emitted None = refl
+emitted (Some l) = refl
+
+emit-stands : (d : Deployed) (i : ℕ) (s : SiteState) (r : Answer) → r ≡ site_answer d i s (input_of input.Emit) → is_standing r ≡ true
+unfolding site_answer
+emit-stands d i s r e = ap is_standing e ∙ emitted (ready_of d s)
+
+emit-takes : (name : NodeName) (k : ℕ) (by : Option ℕ) (a : SiteAnswer) → site_takes name k (record { by = by; input = input.Emit }) a ≡ None
+emit-takes (named.Site i) k by a = refl
+emit-takes (named.Serializer e z) k by a = refl
+
+pub emit_local : {M : Type 0} (d : Deployed) (node : NodeSeen M ActSeen SiteAnswer) → IsLocal (site_meaning d) node (record { by = None; input = input.Emit })
+emit_local d node = record {
+  stands = λ a e. emit-stands d (number_of node.name) (replay (site_meaning d) node.name node.entries) a.answer e.answer;
+  takes = λ a k e. emit-takes node.name k None a;
 }

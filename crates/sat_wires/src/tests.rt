@@ -5,9 +5,7 @@ use crate::{AllNodes, Wires};
 use sat_act::{ClientLine, Deployment, Item, Plan};
 use sat_label::{Carried, Name, Point, SiteSet, Value};
 use sat_machines::{Laid, SiteAct, SiteNode};
-use sat_node::{CallFault, Held, Names};
-use sat_outside::FreeGate;
-use sat_passes::{receive, relay, send};
+use sat_node::{Body, CallFault, Held, Machine, Names};
 use sat_site::SiteInput;
 use sat_tree::Tree;
 use std::alloc::{AllocError, Global};
@@ -107,21 +105,56 @@ fn gather<N: Laid + Names>(held: &mut Held<SiteNode<N>, N>) -> Result<(), CallFa
     Ok(())
 }
 
-fn note(found: &mut Vec<u64>, count: u64) -> Result<(), CallFault> {
-    found.push(count)?;
+// The site sends the least label that it made.
+#[tactic(auto, using(crate::proofs::Locals::emit_local))]
+fn emit<N: Laid + Names>(held: &mut Held<SiteNode<N>, N>) -> Result<(), CallFault> {
+    let input = SiteAct::of_site(SiteInput::Emit);
+    let copy = input.copy()?;
+    if !held.fits(&input) {
+        return Err(CallFault::Memory);
+    }
+    held.act(0, input, copy)?;
     Ok(())
 }
 
-// 1 where a label came over the second link.
-fn came<N: Laid + Names, R: Wait>(rt: &R, held: &mut Held<SiteNode<N>, N>) -> u64 {
-    if held.ins().len() != 2 {
-        return 0;
+// Sends what waits for a link.
+fn sent<M: Machine, N: Names, R: Wait>(
+    rt: &R,
+    held: &mut Held<M, N>,
+    link: usize,
+) -> Result<(), AllocError> {
+    if link >= held.outs().len() {
+        return Ok(());
     }
-    held.pull(rt, 1);
-    u64::from(held.front(1).is_some())
+    held.flush(rt, link)
 }
 
-// How many entries each pass added.
+// What comes over a link: 100 and a label's time, 200 for a payload, 300 for a beat, 1 for nothing, 0 where there is no such link.
+fn came<M: Machine, N: Names, R: Wait>(rt: &R, held: &mut Held<M, N>, link: usize) -> u64 {
+    if link >= held.ins().len() {
+        return 0;
+    }
+    held.pull(rt, link);
+    match held.front(link) {
+        None => 1,
+        Some(envelope) => word(&envelope.body),
+    }
+}
+
+fn word(body: &Body) -> u64 {
+    match body {
+        Body::Label(label) => 100 + label.point.ts % 100,
+        Body::Payload { .. } => 200,
+        Body::Beat { .. } => 300,
+    }
+}
+
+fn note(found: &mut Vec<u64>, word: u64) -> Result<(), AllocError> {
+    found.push(word)?;
+    Ok(())
+}
+
+// What comes over the links to the other site and to the serializer, and over those that lead elsewhere.
 fn through<N: Laid + Names, R: Wait>(
     rt: &R,
     alloc: Global,
@@ -144,12 +177,16 @@ fn through<N: Laid + Names, R: Wait>(
     let first = &mut sites[0];
     write(alloc, first)?;
     gather(first)?;
-    note(&mut found, send(rt, first)?)?;
-    let serial = &mut serials[0];
-    note(&mut found, relay(rt, serial, &FreeGate)?)?;
+    emit(first)?;
+    sent(rt, first, 0)?;
+    sent(rt, first, 1)?;
+    note(&mut found, came(rt, first, 0))?;
     let second = &mut sites[1];
-    note(&mut found, receive(rt, second)?)?;
-    note(&mut found, came(rt, second))?;
+    note(&mut found, came(rt, second, 0))?;
+    note(&mut found, came(rt, second, 1))?;
+    let serial = &mut serials[0];
+    note(&mut found, came(rt, serial, 0))?;
+    note(&mut found, came(rt, serial, 1))?;
     Ok(found)
 }
 
@@ -161,8 +198,8 @@ fn a_write_from_site_to_site(rt: HostRuntime) -> Result<(), Fail> {
     let Ok(found) = through::<Brand, _>(&rt, alloc, &d, wires) else {
         return Err(Fail::from("no memory"));
     };
-    // The label, a pulse and a beat; two hops; the payload and the beat; the label.
-    let rows = [3, 2, 2, 1];
+    // The other site gets the payload, and the serializer the label.
+    let rows = [1, 200, 1, 101, 1];
     assert_eq!(rt; found.as_slice(), rows.as_slice());
     Ok(())
 }
