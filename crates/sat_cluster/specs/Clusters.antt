@@ -1,5 +1,5 @@
 -- What contracts see of a cluster, and which sessions it gives.
-use Rattle.std.specs.Prelude.{ℕ, ◌≡◌, ◌≤◌, ◌+◌, Bool, true, false, List, [], length, filter, get_or, position, replicate, Option, Some, None}
+use Rattle.std.specs.Prelude.{ℕ, ◌≡◌, ◌+◌, Bool, true, false, List, [], length, filter, get_or, position, replicate, Option, Some, None}
 use Rattle.std.specs.Str.{bytes_eq}
 use Rattle.sat_label.specs.declared.node.NodeName.{NodeName}
 use Rattle.sat_act.specs.Deployed.{Deployed}
@@ -36,13 +36,10 @@ abbrev pub session_fault : Option ℕ → List Bool → Option SessionFault
 session_fault None given = Some fault.NoSuch
 session_fault (Some number) given = taken_if (get_or given number false)
 
--- what a cluster keeps: its deployment, a lock for each node, the names of the serializers, room to take the locks
--- apart, and a mark for each session
-pub record IsCluster (d own : Deployed) (sites serials site_room serial_room : ℕ) (names : List NodeName) (given : List Bool) : Type 0 where
+-- what a cluster keeps: its deployment, a lock for each node, the names of the serializers, and a mark for each session
+pub record IsCluster (d own : Deployed) (sites serials : ℕ) (names : List NodeName) (given : List Bool) : Type 0 where
   pub deployment : own ≡ d
   pub site_locks : sites ≡ d.sites
   pub serial_locks : serials ≡ length (serial_names d)
-  pub sites_fit : sites ≤ site_room
-  pub serials_fit : serials ≤ serial_room
   pub names_are : names ≡ serial_names d
   pub marks : length given ≡ operator_number d + 1

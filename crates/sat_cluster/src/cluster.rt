@@ -1,5 +1,5 @@
 //! A cluster: the locked nodes of a deployment, and its sessions.
-ghost use Rattle.std.specs.Prelude.{◌≡◌, ◌<◌, ◌+◌, true, false, length, position, replicate, set, vec_len, MatchOption, IsErrOf, IsOk, IfOk, IfSome, OnErr, Some};
+ghost use Rattle.std.specs.Prelude.{◌≡◌, ◌<◌, ◌+◌, ◌^◌, true, false, length, position, replicate, set, MatchOption, IsErrOf, IsOk, IfOk, IfSome, OnErr, Some};
 ghost use Rattle.std.specs.Sync.Mutex.{mutex_guard_value};
 ghost use Rattle.sat_label.specs.Order.{name_eq};
 ghost use Rattle.sat_label.specs.declared.node.NodeName.TheVariants.{Serializer as AtSerializer, Site as AtSite};
@@ -7,11 +7,11 @@ ghost use Rattle.sat_opened.specs.Opened.{serial_names};
 ghost use Rattle.sat_cluster.specs.Clusters.{client_of, count_given, none_given, operator_number, session_fault};
 
 use crate::fault::SessionFault;
-use crate::locks::{lock_all, locked, names_of, unlock_all};
+use crate::locks::{Locks, names_of};
 use sat_act::Deployment;
 use sat_label::{Name, NodeName};
 use sat_machines::{Laid, SerialNode, SiteNode};
-use sat_node::{Held, Locked, Names};
+use sat_node::{Held, Names};
 use sat_wires::{AllNodes, Wires};
 use std::alloc::{AllocError, Global};
 use std::marker::Model;
@@ -22,23 +22,20 @@ use std::sync::{MutexGuard, Wait};
 #[derive(Drop)]
 pub struct Cluster<N: Laid + Names> {
     d: Deployment,
-    sites: Vec<Locked<SiteNode<N>, N>>,
-    serials: Vec<Locked<SerialNode<N>, N>>,
+    sites: Locks<SiteNode<N>, N>,
+    serials: Locks<SerialNode<N>, N>,
     names: Vec<NodeName>,
-    site_room: Vec<Held<SiteNode<N>, N>>,
-    serial_room: Vec<Held<SerialNode<N>, N>>,
     given: Vec<bool>,
 }
 
 impl<N: Laid + Names> Model for Cluster<N> {
-    ghost use Rattle.std.specs.Prelude.{◌≡◌, [], vec_capacity, vec_len};
     ghost use Rattle.sat_cluster.specs.Clusters.{ClusterSeen, IsCluster};
 
     ghost Value = { ClusterSeen };
 
     ghost view = { λ c. record { given = c.given.items } };
 
-    ghost invariant = { λ c. IsCluster N.deployment c.d (vec_len c.sites) (vec_len c.serials) (vec_capacity c.site_room) (vec_capacity c.serial_room) c.names.items c.given.items × (c.site_room.items ≡ []) × (c.serial_room.items ≡ []) };
+    ghost invariant = { λ c. IsCluster N.deployment c.d c.sites c.serials c.names.items c.given.items };
 }
 
 /// The nodes of a cluster whose locks were taken apart, and how many sessions were given.
@@ -71,6 +68,7 @@ fn count_marks(marks: &[bool]) -> u64
 impl<N: Laid + Names> Cluster<N> {
     /// Puts each site and each serializer of N's deployment under a lock of its own, with its ends of the links. It asks that the links
     /// were made for that deployment, and that N's list of wires is theirs. No session was given.
+    #[tactic(auto, using(crate::proofs::Marks::is_cluster))]
     pub fn new(alloc: Global, d: Deployment, wires: Wires) -> Result<Cluster<N>, AllocError>
         requires deployment { N.deployment ≡ d }
         requires made { wires.deployment ≡ d }
@@ -78,17 +76,15 @@ impl<N: Laid + Names> Cluster<N> {
         ensures { IfOk result (λ cluster. cluster.given ≡ none_given d) }
     {
         let AllNodes { sites, serials } = AllNodes::<N>::new(alloc, &d, wires)?;
-        let site_room = Vec::with_capacity(alloc, sites.len())?;
-        let serial_room = Vec::with_capacity(alloc, serials.len())?;
         let names = names_of(alloc, serials.as_slice())?;
         let given = marks(alloc, d.clients().len() + 1)?;
+        let sites = Locks::new(alloc, sites)?;
+        let serials = Locks::new(alloc, serials)?;
         Ok(Cluster {
             d,
-            sites: lock_all(alloc, sites)?,
-            serials: lock_all(alloc, serials)?,
+            sites,
+            serials,
             names,
-            site_room,
-            serial_room,
             given,
         })
     }
@@ -109,7 +105,7 @@ impl<N: Laid + Names> Cluster<N> {
         ensures { IfSome result (λ guard. (mutex_guard_value guard).node.name ≡ AtSite site) }
     {
         let name = NodeName::Site(site);
-        locked(rt, self.sites.as_slice(), usize::from(site), name)
+        self.sites.lock(rt, usize::from(site), name)
     }
 
     // Takes the lock of a serializer of an epoch's tree. `None` where there is none of this name, or its node has another one, which
@@ -124,7 +120,7 @@ impl<N: Laid + Names> Cluster<N> {
     {
         let name = NodeName::Serializer { epoch, number };
         let place = self.place(&name)?;
-        locked(rt, self.serials.as_slice(), place, name)
+        self.serials.lock(rt, place, name)
     }
 
     // The place of a serializer among all.
@@ -134,6 +130,14 @@ impl<N: Laid + Names> Cluster<N> {
         self.names.iter().position(|other| name.is_same(other))
     }
 
+    // There are few sessions.
+    #[tactic(auto, using(crate::proofs::Marks::few_marks))]
+    fn few(&self)
+        ensures { length self.now.given < 2 ^ 16 }
+    {
+        let _ = self.d.clients();
+    }
+
     // Gives the session of this number, which wasn't given before.
     fn give(&mut self, number: usize) -> Result<u16, SessionFault>
         requires { number < length self.old.given }
@@ -141,6 +145,7 @@ impl<N: Laid + Names> Cluster<N> {
         ensures ok { IfOk result (λ n. (n ≡ number) × (self.new.given ≡ set self.old.given number true)) }
         ensures err { OnErr result (self.new ≡ self.old) }
     {
+        self.few();
         if self.given[number] {
             return Err(SessionFault::Taken);
         }
@@ -196,14 +201,12 @@ impl<N: Laid + Names> Cluster<N> {
             sites,
             serials,
             names: _,
-            site_room,
-            serial_room,
             given,
         } = self;
         Unlocked {
             deployment: d,
-            sites: unlock_all(sites, site_room),
-            serials: unlock_all(serials, serial_room),
+            sites: sites.open(),
+            serials: serials.open(),
             given: count_marks(given.as_slice()),
         }
     }

@@ -6,6 +6,7 @@ ghost use Rattle.sat_opened.specs.Opened.{name_in};
 use sat_label::NodeName;
 use sat_node::{Held, Locked, Machine, Names};
 use std::alloc::{AllocError, Global};
+use std::marker::Model;
 use std::sync::{Mutex, MutexGuard, Wait};
 
 /// The names of nodes, in their order.
@@ -22,8 +23,25 @@ pub fn names_of<M: Machine, N: Names>(
     Ok(names)
 }
 
-/// Puts each node under a lock, in their order.
-pub fn lock_all<M: Machine + Drop, N: Names>(
+/// Nodes, each under its lock, with the room to take the locks apart. Contracts see how many there are.
+#[derive(Drop)]
+pub struct Locks<M: Machine, N: Names> {
+    locks: Vec<Locked<M, N>>,
+    room: Vec<Held<M, N>>,
+}
+
+impl<M: Machine, N: Names> Model for Locks<M, N> {
+    ghost use Rattle.std.specs.Prelude.{ℕ, ◌≡◌, ◌≤◌, [], vec_capacity, vec_len};
+
+    ghost Value = { ℕ };
+
+    ghost view = { λ l. vec_len l.locks };
+
+    ghost invariant = { λ l. (l.room.items ≡ []) × (vec_len l.locks ≤ vec_capacity l.room) };
+}
+
+// Puts each node under a lock, in their order.
+fn lock_all<M: Machine + Drop, N: Names>(
     alloc: Global,
     nodes: Vec<Held<M, N>>,
 ) -> Result<Vec<Locked<M, N>>, AllocError>
@@ -36,8 +54,8 @@ pub fn lock_all<M: Machine + Drop, N: Names>(
     Ok(locks)
 }
 
-/// Takes all locks apart. There is room for the nodes.
-pub fn unlock_all<M: Machine + Drop, N: Names>(
+// Takes all locks apart. There is room for the nodes.
+fn unlock_all<M: Machine + Drop, N: Names>(
     locks: Vec<Locked<M, N>>,
     room: Vec<Held<M, N>>,
 ) -> Vec<Held<M, N>>
@@ -51,8 +69,38 @@ pub fn unlock_all<M: Machine + Drop, N: Names>(
     nodes
 }
 
-/// Takes the lock of this number, if its node has this name. `None` where there is no such lock, or its node has another name.
-pub fn locked<'a, M: Machine + Drop, N: Names, R: Wait>(
+impl<M: Machine + Drop, N: Names> Locks<M, N> {
+    /// Puts each node under a lock, in their order.
+    pub fn new(alloc: Global, nodes: Vec<Held<M, N>>) -> Result<Locks<M, N>, AllocError>
+        ensures { IfOk result (λ locks. locks ≡ length nodes.items) }
+    {
+        let room = Vec::with_capacity(alloc, nodes.len())?;
+        let locks = lock_all(alloc, nodes)?;
+        Ok(Locks { locks, room })
+    }
+
+    /// Takes all locks apart. It takes no memory.
+    pub fn open(self) -> Vec<Held<M, N>>
+        ensures { length result.items ≡ self }
+    {
+        let Locks { locks, room } = self;
+        unlock_all(locks, room)
+    }
+
+    /// Takes the lock of this number, if its node has this name. `None` where there is no such lock, or its node has another name.
+    pub fn lock<R: Wait>(
+        &self,
+        rt: &R,
+        number: usize,
+        name: NodeName,
+    ) -> Option<MutexGuard<'_, Held<M, N>>>
+        ensures { IfSome result (λ guard. (mutex_guard_value guard).node.name ≡ name) }
+    {
+        locked(rt, self.locks.as_slice(), number, name)
+    }
+}
+
+fn locked<'a, M: Machine + Drop, N: Names, R: Wait>(
     rt: &R,
     locks: &'a [Locked<M, N>],
     number: usize,
