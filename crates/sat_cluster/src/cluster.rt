@@ -68,7 +68,6 @@ fn count_marks(marks: &[bool]) -> u64
 impl<N: Laid + Names> Cluster<N> {
     /// Puts each site and each serializer of N's deployment under a lock of its own, with its ends of the links. It asks that the links
     /// were made for that deployment, and that N's list of wires is theirs. No session was given.
-    #[tactic(auto, using(crate::proofs::Marks::is_cluster))]
     pub fn new(alloc: Global, d: Deployment, wires: Wires) -> Result<Cluster<N>, AllocError>
         requires deployment { N.deployment ≡ d }
         requires made { wires.deployment ≡ d }
