@@ -1,0 +1,212 @@
+//! A cluster: the locked nodes of a deployment, and its sessions.
+ghost use Rattle.std.specs.Prelude.{◌≡◌, ◌<◌, ◌+◌, ◌^◌, true, false, length, position, replicate, set, MatchOption, IsErrOf, IsOk, IfOk, IfSome, OnErr, Some};
+ghost use Rattle.std.specs.Sync.Mutex.{mutex_guard_value};
+ghost use Rattle.sat_label.specs.Order.{name_eq};
+ghost use Rattle.sat_label.specs.declared.node.NodeName.TheVariants.{Serializer as AtSerializer, Site as AtSite};
+ghost use Rattle.sat_opened.specs.Opened.{serial_names};
+ghost use Rattle.sat_cluster.specs.Clusters.{client_of, count_given, none_given, operator_number, session_fault};
+
+use crate::fault::SessionFault;
+use crate::locks::{Locks, names_of};
+use sat_act::Deployment;
+use sat_label::{Name, NodeName};
+use sat_machines::{Laid, SerialNode, SiteNode};
+use sat_node::{Held, Names};
+use sat_wires::{AllNodes, Wires};
+use std::alloc::{AllocError, Global};
+use std::marker::Model;
+use std::sync::{MutexGuard, Wait};
+
+/// The sites and serializers of N's deployment, each under its lock, and which sessions were given. Contracts see the latter: by the
+/// number of its client, the operator's last.
+#[derive(Drop)]
+pub struct Cluster<N: Laid + Names> {
+    d: Deployment,
+    sites: Locks<SiteNode<N>, N>,
+    serials: Locks<SerialNode<N>, N>,
+    names: Vec<NodeName>,
+    given: Vec<bool>,
+}
+
+impl<N: Laid + Names> Model for Cluster<N> {
+    ghost use Rattle.sat_cluster.specs.Clusters.{ClusterSeen, IsCluster};
+
+    ghost Value = { ClusterSeen };
+
+    ghost view = { λ c. record { given = c.given.items } };
+
+    ghost invariant = { λ c. IsCluster N.deployment c.d c.sites c.serials c.names.items c.given.items };
+}
+
+/// The nodes of a cluster whose locks were taken apart, and how many sessions were given.
+#[derive(Drop)]
+pub struct Unlocked<N: Laid + Names> {
+    pub deployment: Deployment,
+    pub sites: Vec<Held<SiteNode<N>, N>>,
+    pub serials: Vec<Held<SerialNode<N>, N>>,
+    pub given: u64,
+}
+
+// Marks for so many sessions, of which none was given.
+fn marks(alloc: Global, count: usize) -> Result<Vec<bool>, AllocError>
+    ensures { IfOk result (λ marks. marks.items ≡ replicate count false) }
+{
+    let mut marks = Vec::new(alloc);
+    'marks: for _ in 0..count {
+        marks.push(false)?;
+    }
+    Ok(marks)
+}
+
+// How many were given.
+fn count_marks(marks: &[bool]) -> u64
+    ensures { result ≡ count_given marks.now }
+{
+    marks.iter().filter(|mark| **mark).count() as u64
+}
+
+impl<N: Laid + Names> Cluster<N> {
+    /// Puts each site and each serializer of N's deployment under a lock of its own, with its ends of the links. It asks that the links
+    /// were made for that deployment, and that N's list of wires is theirs. No session was given.
+    pub fn new(alloc: Global, d: Deployment, wires: Wires) -> Result<Cluster<N>, AllocError>
+        requires deployment { N.deployment ≡ d }
+        requires made { wires.deployment ≡ d }
+        requires wires { N.wires ≡ wires.wires }
+        ensures { IfOk result (λ cluster. cluster.given ≡ none_given d) }
+    {
+        let AllNodes { sites, serials } = AllNodes::<N>::new(alloc, &d, wires)?;
+        let names = names_of(alloc, serials.as_slice())?;
+        let given = marks(alloc, d.clients().len() + 1)?;
+        let sites = Locks::new(alloc, sites)?;
+        let serials = Locks::new(alloc, serials)?;
+        Ok(Cluster {
+            d,
+            sites,
+            serials,
+            names,
+            given,
+        })
+    }
+
+    /// The deployment.
+    pub fn deployment(&self) -> &Deployment
+        ensures { result.now ≡ N.deployment }
+    {
+        &self.d
+    }
+
+    // Takes the lock of a site. `None` where its node has another name, which never is.
+    pub(crate) fn site<R: Wait>(
+        &self,
+        rt: &R,
+        site: u16,
+    ) -> Option<MutexGuard<'_, Held<SiteNode<N>, N>>>
+        ensures { IfSome result (λ guard. (mutex_guard_value guard).node.name ≡ AtSite site) }
+    {
+        let name = NodeName::Site(site);
+        self.sites.lock(rt, usize::from(site), name)
+    }
+
+    // Takes the lock of a serializer of an epoch's tree. `None` where there is none of this name, or its node has another one, which
+    // never is.
+    pub(crate) fn serial<R: Wait>(
+        &self,
+        rt: &R,
+        epoch: u16,
+        number: u16,
+    ) -> Option<MutexGuard<'_, Held<SerialNode<N>, N>>>
+        ensures { IfSome result (λ guard. (mutex_guard_value guard).node.name ≡ AtSerializer epoch number) }
+    {
+        let name = NodeName::Serializer { epoch, number };
+        let place = self.place(&name)?;
+        self.serials.lock(rt, place, name)
+    }
+
+    // The place of a serializer among all.
+    fn place(&self, name: &NodeName) -> Option<usize>
+        ensures { result ≡ position (name_eq name.now) (serial_names N.deployment) }
+    {
+        self.names.iter().position(|other| name.is_same(other))
+    }
+
+    // There are few sessions.
+    #[tactic(auto, using(crate::proofs::Marks::few_marks))]
+    fn few(&self)
+        ensures { length self.now.given < 2 ^ 16 }
+    {
+        let _ = self.d.clients();
+    }
+
+    // Gives the session of this number, which wasn't given before.
+    fn give(&mut self, number: usize) -> Result<u16, SessionFault>
+        requires { number < length self.old.given }
+        ensures fault { MatchOption (session_fault (Some number) self.old.given) (IsOk result) (λ fault. IsErrOf result fault) }
+        ensures ok { IfOk result (λ n. (n ≡ number) × (self.new.given ≡ set self.old.given number true)) }
+        ensures err { OnErr result (self.new ≡ self.old) }
+    {
+        self.few();
+        if self.given[number] {
+            return Err(SessionFault::Taken);
+        }
+        self.given[number] = true;
+        Ok(number as u16)
+    }
+
+    // The number of the client of a name.
+    fn client(&self, name: &Name) -> Option<usize>
+        ensures client { result ≡ client_of N.deployment name.now }
+        ensures inside { IfSome result (λ number. number < length self.now.given) }
+    {
+        let bytes = name.bytes();
+        self.d
+            .clients()
+            .iter()
+            .position(|line| line.name.bytes() == bytes)
+    }
+
+    /// Gives the session of the client of a name, by its number. `NoSuch` exactly where no client has the name, `Taken` exactly where its
+    /// session was given before. After an error nothing changed.
+    pub fn session(&mut self, name: &Name) -> Result<u16, SessionFault>
+        ensures fault { MatchOption (session_fault (client_of N.deployment name.now) self.old.given) (IsOk result) (λ fault. IsErrOf result fault) }
+        ensures client { IfOk result (λ n. client_of N.deployment name.now ≡ Some n) }
+        ensures given { IfOk result (λ n. self.new.given ≡ set self.old.given n true) }
+        ensures err { OnErr result (self.new ≡ self.old) }
+    {
+        match self.client(name) {
+            Some(number) => self.give(number),
+            None => Err(SessionFault::NoSuch),
+        }
+    }
+
+    /// Gives the operator's session, by its number. `Taken` exactly where it was given before, and then nothing changed.
+    pub fn operator(&mut self) -> Result<u16, SessionFault>
+        ensures fault { MatchOption (session_fault (Some (operator_number N.deployment)) self.old.given) (IsOk result) (λ fault. IsErrOf result fault) }
+        ensures given { IfOk result (λ n. (n ≡ operator_number N.deployment) × (self.new.given ≡ set self.old.given n true)) }
+        ensures err { OnErr result (self.new ≡ self.old) }
+    {
+        let number = self.d.clients().len();
+        self.give(number)
+    }
+
+    /// Takes all locks apart. It takes no memory.
+    pub fn open(self) -> Unlocked<N>
+        ensures deployment { result.deployment ≡ N.deployment }
+        ensures sites { length result.sites.items ≡ N.deployment.sites }
+        ensures serials { length result.serials.items ≡ length (serial_names N.deployment) }
+        ensures given { result.given ≡ count_given self.given }
+    {
+        let Cluster {
+            d,
+            sites,
+            serials,
+            names: _,
+            given,
+        } = self;
+        Unlocked {
+            deployment: d,
+            sites: sites.open(),
+            serials: serials.open(),
+            given: count_marks(given.as_slice()),
+        }
+    }
+}
