@@ -1,0 +1,11 @@
+-- What a comparison of notes found.
+use Rattle.std.specs.Prelude.{List, Option, Some, None}
+use Rattle.sat_session.specs.Notes.{Owned}
+use Rattle.sat_session.specs.Sessions.{SameNotes}
+use Rattle.sat_finish.specs.declared.compare.Difference.{Difference}
+use Rattle.sat_finish.specs.Differences.{IsDifference}
+
+-- nothing where nodes and sessions kept the same, and else a difference
+abbrev pub IsCompared : List Owned → List Owned → Option Difference → Type 0
+IsCompared nodes sessions None = SameNotes nodes sessions
+IsCompared nodes sessions (Some f) = IsDifference nodes sessions f.node f.session

@@ -1,0 +1,4 @@
+pub mod Filing
+pub mod Differences
+pub mod Ending
+pub mod Finishing
