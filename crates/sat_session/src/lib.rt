@@ -3,4 +3,11 @@
 
 mod noted;
 
+ghost use Rattle.sat_session.specs.Sessions.{SessionsFit};
+
 pub use noted::Noted;
+
+/// What sessions kept, with the journals of opened nodes that noted the same, makes one run.
+pub fn sessions()
+    ensures fit { SessionsFit }
+{}

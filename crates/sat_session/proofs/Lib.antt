@@ -1,0 +1,4 @@
+pub mod Walks
+pub mod Owned
+pub mod Matches
+pub mod Whole
