@@ -43,7 +43,7 @@ module _ (d : Deployed) (s : Session) where
   kept-along before (n ∷ ns) f =
       kept-along (note_kept d s before n ∷ before) ns f.1
       ∙ (ap (λ (e : Entry). noted_entries ns ++ (e ∷ history before)) (sym (note-entry before n f.0.outer))
-        ∙ (sym (append_assoc (noted_entries ns) (n.entry ∷ []) (history before)) ∙ ap (λ (es : List Entry). es ++ history before) (sym (reverse-cons n.entry (map note_entry ns)))))
+      ∙ (sym (append_assoc (noted_entries ns) (n.entry ∷ []) (history before)) ∙ ap (λ (es : List Entry). es ++ history before) (sym (reverse-cons n.entry (map note_entry ns)))))
 
   pub kept-is : (ns : List Noted) → NotesFrom d s [] ns → history (kept_notes d s ns) ≡ noted_entries ns
   kept-is ns f = kept-along [] ns f ∙ append-nil (noted_entries ns)

@@ -58,7 +58,7 @@ index-ranks k [] apart = tt
 index-ranks k (p ∷ ps) apart = (
   ap (λ (b : Bool). if b then k else index_from (k + 1) ps p) (place-self p),
   ranks-as (index_from (k + 1) ps) (index_from k (p ∷ ps)) (k + 1) ps
-  (λ q i. ap (λ (b : Bool). if b then k else index_from (k + 1) ps q) (other-place p q ps apart.1 i)) (index-ranks (k + 1) ps apart.0),
+      (λ q i. ap (λ (b : Bool). if b then k else index_from (k + 1) ps q) (other-place p q ps apart.1 i)) (index-ranks (k + 1) ps apart.0),
 )
 
 of-name : (base : ℕ) (ps : List Place) (name : NodeName) → rank_at base ps (place_at name) ≡ index_from 0 ps (place_at name)
@@ -70,7 +70,7 @@ pub node-ranks : (base : ℕ) (names : List NodeName) → Distinct (map place_at
 node-ranks base names apart =
     ranks-as (index_from 0 (map place_at names)) (rank_at base (map place_at names)) 0 (map place_at names)
     (λ p i. let w : (n : NodeName) × In names n × (place_at n ≡ p) = in-mapped place_at names p i in
-      subst (λ (q : Place). rank_at base (map place_at names) q ≡ index_from 0 (map place_at names) q) w.2 (of-name base (map place_at names) w.0))
+    subst (λ (q : Place). rank_at base (map place_at names) q ≡ index_from 0 (map place_at names) q) w.2 (of-name base (map place_at names) w.0))
     (index-ranks 0 (map place_at names) apart)
 
 -- ---- journals at places
@@ -150,4 +150,4 @@ module _ (d : Deployed) (sites : List SiteHeld) (serials : List SerialHeld) (alo
   nodes-are-lines =
       subst (λ (ps : List Place). AreLines lists ps (node_lines sites serials)) all-places
       (lines-join lists (map place_at (map name_in sites)) (map place_at (map name_in serials)) (map site_lines sites) (map serial_lines serials)
-        (held-lines lists site_lines sites site-line) (held-lines lists serial_lines serials serial-line))
+      (held-lines lists site_lines sites site-line) (held-lines lists serial_lines serials serial-line))

@@ -7,7 +7,7 @@ use Rattle.sat_stitch.specs.Places.{Session}
 use Rattle.sat_session.specs.declared.noted.Noted.{Noted}
 use Rattle.sat_session.specs.Notes.{Owned}
 use Rattle.sat_session.specs.Sessions.{SameNotes}
-use Rattle.sat_finish.specs.Filing.{comes_before, Ascending, IsUnderSame}
+use Rattle.sat_finish.specs.Filing.{comes_before, Ascending, IsUnderSame, AllBefore, AllBehind}
 use Rattle.sat_finish.specs.Differences.{IsKeptUnder, IsDifference}
 use Rattle.sat_finish.proofs.Keys.{not-before-same, before-from-left, before-from-right, ascending-back, ascending-across}
 
@@ -24,13 +24,6 @@ front-at (y ∷ xs) zero x e = ap (λ z. z ∷ []) (some_is y x e)
 front-at (y ∷ xs) (suc n) x e = ap (λ zs. y ∷ zs) (front-at xs n x e)
 
 -- ---- a note that the others don't have
-
--- all of these come before a note
-abbrev pub AllBefore : List Owned → Owned → Type 0
-AllBefore xs a = (x : Owned) → In xs x → comes_before x a ≡ true
-
-abbrev pub AllBehind : List Owned → Owned → Type 0
-AllBehind xs a = (x : Owned) → In xs x → comes_before a x ≡ true
 
 missing : (front back : List Owned) (a : Owned) → AllBefore front a → AllBehind back a → IsKeptUnder (front ++ back) a.0 a.1.lamport None
 missing front back a f b n i e = elim (In-parts front back (a.0, n) i) [

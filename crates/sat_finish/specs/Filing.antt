@@ -28,3 +28,10 @@ Ascending (x ∷ xs) = Ascending xs × ((y : Owned) → In xs y → comes_before
 -- a session's note under the same number
 abbrev pub IsUnderSame : Owned → Owned → Type 0
 IsUnderSame a b = (a.0 ≡ b.0) × (a.1.lamport ≡ b.1.lamport)
+
+-- all of these come before a note, and all of these behind it
+abbrev pub AllBefore : List Owned → Owned → Type 0
+AllBefore xs a = (x : Owned) → In xs x → comes_before x a ≡ true
+
+abbrev pub AllBehind : List Owned → Owned → Type 0
+AllBehind xs a = (x : Owned) → In xs x → comes_before a x ≡ true
