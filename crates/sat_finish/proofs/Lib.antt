@@ -5,3 +5,4 @@ pub mod Places
 pub mod Alone
 pub mod Sessions
 pub mod Whole
+pub mod Loops

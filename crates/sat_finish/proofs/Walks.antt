@@ -71,7 +71,7 @@ two-kept nodes sessions a b i j same ne = record {
 
 -- what stands from a place on is behind a note that comes before the first of it
 pub behind-first : (xs : List Owned) (n : ℕ) (x a : Owned) → Ascending xs → slice_get xs n ≡ Some x → comes_before a x ≡ true → AllBehind (drop n xs) a
-behind-first [] n x a asc e lt = absurd (cc)
+behind-first [] n x a asc e lt z i = absurd (cc)
 behind-first (y ∷ xs) zero x a asc e lt z (inl w) = subst (λ (v : Owned). comes_before a v ≡ true) (sym (some_is y x e) ∙ w) lt
 behind-first (y ∷ xs) zero x a asc e lt z (inr i) = before-from-right a x z lt (subst (λ (v : Owned). comes_before z v ≡ false) (some_is y x e) (asc.1 z i))
 behind-first (y ∷ xs) (suc n) x a asc e lt z i = behind-first xs n x a asc.0 e lt z i
@@ -112,7 +112,7 @@ pub same-through : (a b c d : List Owned) → SameNotes a b → SameNotes c d �
 same-through a b c d f g h s n = (λ i. (g s n).1 ((h s n).0 ((f s n).0 i)), λ i. (f s n).1 ((h s n).1 ((g s n).0 i)))
 
 kept-moves : (a b : List Owned) → SameNotes a b → (s : Session) (number : ℕ) (o : Option Noted) → IsKeptUnder b s number o → IsKeptUnder a s number o
-kept-moves a b f s number None k n i e = k n ((f s n).0 i) e
+kept-moves a b f s number None k = λ n i e. k n ((f s n).0 i) e
 kept-moves a b f s number (Some n) k = ((f s n).1 k.0, k.1)
 
 pub difference-moves : (a b c d : List Owned) (node session : Option Noted) → SameNotes a b → SameNotes c d → IsDifference b d node session → IsDifference a c node session

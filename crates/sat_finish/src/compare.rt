@@ -1,5 +1,5 @@
 //! Where what nodes kept and what sessions kept differ first.
-ghost use Rattle.std.specs.Prelude.{◌≡◌, ◌≤◌, ⊥, length, take, drop, Some, slice_get, MatchOption, IfOk, OnOk};
+ghost use Rattle.std.specs.Prelude.{◌≡◌, ◌≤◌, ◌+◌, true, length, take, drop, Some, slice_get, MatchOption, IfOk, OnOk};
 ghost use Rattle.std.specs.Bool.{Decides};
 ghost use Rattle.sat_label.specs.Members.{In};
 ghost use Rattle.sat_session.specs.Notes.{node_notes, session_notes};

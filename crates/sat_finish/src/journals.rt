@@ -1,5 +1,5 @@
 //! The journals of all nodes and sessions, and their merge.
-ghost use Rattle.std.specs.Prelude.{◌≡◌, ◌+◌, ◌++◌, [], ◌∷◌, length, map, IfOk, OnOk};
+ghost use Rattle.std.specs.Prelude.{◌≡◌, ◌+◌, ◌++◌, List, [], ◌∷◌, length, map, IfOk, OnOk};
 ghost use Rattle.sat_stitch.specs.Stitch.{seen};
 ghost use Rattle.sat_finish.specs.Finishing.{Lines, site_lines, serial_lines, alone_line, alone_lines, at_places, node_lines, session_journal, journals_of};
 

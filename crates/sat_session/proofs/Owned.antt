@@ -55,7 +55,7 @@ in-behind {X} of ks (x ∷ xs) k i = elim (in-behind of (of x ∷ ks) xs k i) [
 
 -- ---- notes with their sessions
 
-one-owned : (t s : Session) (m n : Noted) → t ≡ s → m ≡ n → (t, m) ≡ (s, n)
+one-owned : (t s : Session) (m n : Noted) → t ≡ s → m ≡ n → ◌≡◌ {A = Owned} (t, m) (s, n)
 one-owned t s m n e w = λ j. (e j, w j)
 
 into-owned : (o : Option Session) (m n : Noted) (s : Session) → o ≡ Some s → m ≡ n → In (owned_by o m) (s, n)

@@ -2,10 +2,12 @@
 #![tactic(auto)]
 
 mod noted;
+mod session;
 
 ghost use Rattle.sat_session.specs.Sessions.{SessionsFit};
 
 pub use noted::Noted;
+pub use session::Session;
 
 /// What sessions kept, with the journals of opened nodes that noted the same, makes one run.
 pub fn sessions()
