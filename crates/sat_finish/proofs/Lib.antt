@@ -6,3 +6,4 @@ pub mod Alone
 pub mod Sessions
 pub mod Whole
 pub mod Loops
+pub mod SameAnswers

@@ -1,7 +1,7 @@
 -- One step more of each loop.
 use Rattle.std.proofs.Common.{◌≡◌, ◌⊎◌, ◌<◌, ◌≤◌, ℕ, ◌+◌, zero, suc, Bool, true, false, List, [], ◌∷◌, ◌++◌, map, length, take, ◌==◌, get_or, refl, sym, ap, ◌∙◌, subst, append_assoc, add-one, arith, eq-eqb, inl, inr}
 use Rattle.std.proofs.Math.ListN.{set}
-use Rattle.std.proofs.lemmas.List.{append-nil, map-append, take_more, get_or-set_same, get_or-set_other, length-set}
+use Rattle.std.proofs.lemmas.List.{append-nil, map-append, take_more, get_or-set_same, get_or-set_other, get_or_read, length-set, length-map, length-append}
 use Rattle.std.specs.List.{flat_map}
 use Rattle.std.proofs.lemmas.Grind.{flat_map-append}
 use Rattle.sat_label.specs.declared.node.NodeName.{NodeName}
@@ -19,17 +19,24 @@ use Rattle.sat_machines.specs.declared.site_answer.SiteAnswer.{SiteAnswer}
 use Rattle.sat_machines.specs.declared.serial_act.SerialAct.{SerialAct}
 use Rattle.sat_machines.specs.declared.serial_act.SerialAnswer.{SerialAnswer}
 use Rattle.sat_stitch.specs.Places.{Session}
-use Rattle.sat_stitch.specs.Stitch.{Numbered, Distinct}
+use Rattle.sat_stitch.specs.Stitch.{Numbered, Distinct, seen}
 use Rattle.sat_opened.specs.Keeping.{owner_of, serial_owner}
 use Rattle.sat_session.specs.declared.noted.Noted.{Noted}
 use Rattle.sat_session.specs.Notes.{SessionSeen, Owned, owned_by, site_note, site_notes, serial_note, serial_notes, at_node, own_notes, notes_of, session_notes}
-use Rattle.sat_session.specs.Sessions.{session_number}
-use Rattle.sat_finish.specs.Finishing.{Lines, alone_line, alone_lines, at_places}
+use Rattle.sat_session.specs.Sessions.{session_number, IsSession, AreSessions}
+use Rattle.sat_finish.specs.Finishing.{Lines, site_lines, serial_lines, node_lines, alone_line, alone_lines, at_places}
+use Rattle.sat_finish.specs.Naming.{plan_names}
+use Rattle.sat_act.specs.declared.deployment.Plan.{Plan}
+use Rattle.sat_act.specs.declared.deployment.Plan.TheVariants as plan
+use Rattle.sat_machines.specs.Layout.{planted}
+use Rattle.sat_stitch.specs.declared.journal.Journal.{Journal}
+use Rattle.sat_opened.specs.Opened.{tree_names}
+use Rattle.sat_opened.specs.Laws.{SiteHeld, SerialHeld}
 
 -- ---- lists that grow by what one member gives
 
 module _ {X Y : Type 0} (f : List X → List Y) (one : X → List Y) (step : (xs : List X) (x : X) → f (xs ++ x ∷ []) ≡ f xs ++ one x) where
-  taken-more : (es : List X) (i : ℕ) (x : X) → i < length es → x ≡ get_or es i x → f (take (i + 1) es) ≡ f (take i es) ++ one x
+  pub taken-more : (es : List X) (i : ℕ) (x : X) → i < length es → x ≡ get_or es i x → f (take (i + 1) es) ≡ f (take i es) ++ one x
   taken-more es i x lt is = ap f (take_more es i x lt ∙ ap (λ (y : X). take i es ++ y ∷ []) (sym is)) ∙ step (take i es) x
 
   pub grow : (es : List X) (i : ℕ) (x : X) → i < length es → x ≡ get_or es i x → (initial now next : List Y) → now ≡ initial ++ f (take i es) → next ≡ now ++ one x → next ≡ initial ++ f (take (i + 1) es)
@@ -94,14 +101,12 @@ name-is (named.Serializer e y) (named.Site k) w = absurd (cc)
 
 -- ---- marks of numbers
 
--- none of these sessions is there twice, and each has its mark
-pub record Marked (clients : ℕ) (xs : List SessionSeen) (marks : List Bool) : Type 0 where
-  pub long : length marks ≡ clients + 1
+-- these are sessions, none of them is there twice, and each has its mark
+pub record Marked (d : Deployed) (xs : List SessionSeen) (marks : List Bool) : Type 0 where
+  pub long : length marks ≡ length d.clients + 1
+  pub each : (x : SessionSeen) → In xs x → IsSession d x
   pub apart : Distinct (map session_number xs)
   pub marked : (n : ℕ) → In (map session_number xs) n → get_or marks n false ≡ true
-
-pub none-marked : (clients : ℕ) (marks : List Bool) → length marks ≡ clients + 1 → Marked clients [] marks
-none-marked clients marks e = record { long = e; apart = tt; marked = λ n i. absurd i }
 
 distinct-end : (ns : List ℕ) (n : ℕ) → Distinct ns → (In ns n → ⊥) → Distinct (ns ++ n ∷ [])
 distinct-end [] n a f = (tt, λ i. i)
@@ -110,9 +115,14 @@ distinct-end (m ∷ ns) n a f = (
   λ i. elim (In-parts ns (n ∷ []) m i) [ inl j ↦ a.1 j | inr j ↦ elim j [ inl e ↦ f (inl (sym e)) | inr z ↦ absurd z ] ],
 )
 
-pub one-marked : (clients : ℕ) (xs : List SessionSeen) (x : SessionSeen) (marks : List Bool) → x.number < length marks → get_or marks x.number false ≡ false → Marked clients xs marks → Marked clients (xs ++ x ∷ []) (set marks x.number true)
-one-marked clients xs x marks lt free m = record {
+one-marked : (d : Deployed) (xs : List SessionSeen) (x : SessionSeen) (marks : List Bool) → IsSession d x → x.number < length marks → get_or marks x.number false ≡ false → Marked d xs marks →
+    Marked d (xs ++ x ∷ []) (set marks x.number true)
+one-marked d xs x marks is lt free m = record {
   long = length-set marks x.number true ∙ m.long;
+  each = λ y i. elim (In-parts xs (x ∷ []) y i) [
+    | inl j ↦ m.each y j
+    | inr j ↦ elim j [ inl e ↦ subst (λ (z : SessionSeen). IsSession d z) e is | inr z ↦ absurd z ]
+  ];
   apart = subst Distinct (sym (map-step session_number xs x)) (distinct-end (map session_number xs) x.number m.apart (λ i. let t : get_or marks x.number false ≡ true = m.marked x.number i in cc));
   marked = λ n i. go n (In-parts (map session_number xs) (x.number ∷ []) n (subst (λ (ns : List ℕ). In ns n) (map-step session_number xs x) i)) (n == x.number) refl;
 }
@@ -128,3 +138,44 @@ one-marked clients xs x marks lt free m = record {
     go n (inl i) false e = other n (λ w. let t : (n == x.number) ≡ true = eq-eqb n x.number w in cc) i
     go n (inr (inl w)) false e = same n (sym w)
     go n (inr (inr z)) false e = absurd z
+
+within : (n c k : ℕ) → n ≤ c → k ≡ c + 1 → n < k
+within n c k le e = omega arith
+
+pub mark-more : (d : Deployed) (xs : List SessionSeen) (i : ℕ) (x : SessionSeen) (n : ℕ) (marks : List Bool) (b : Bool) → i < length xs → x ≡ get_or xs i x → n ≡ x.number → IsSession d x → b ≡ get_or marks n b → b ≡ false →
+    Marked d (take i xs) marks → Marked d (take (i + 1) xs) (set marks n true)
+mark-more d xs i x n marks b lt is e session read free m =
+    let here : x.number < length marks = within x.number (length d.clients) (length marks) session.limit m.long in
+    let there : n < length marks = subst (λ (k : ℕ). k < length marks) (sym e) here in
+    let open_mark : get_or marks x.number false ≡ false = ap (λ (k : ℕ). get_or marks k false) (sym e) ∙ (sym (get_or_read marks n b there read false) ∙ free) in
+    subst (λ (ys : List SessionSeen). Marked d ys (set marks n true)) (sym (take_more xs i x lt ∙ ap (λ (y : SessionSeen). take i xs ++ y ∷ []) (sym is)))
+    (subst (λ (k : ℕ). Marked d (take i xs ++ x ∷ []) (set marks k true)) (sym e) (one-marked d (take i xs) x marks session here open_mark m))
+
+pub all-marked : (d : Deployed) (xs : List SessionSeen) (marks : List Bool) → Marked d xs marks → AreSessions d xs
+all-marked d xs marks m = record { each = m.each; apart = m.apart }
+
+-- ---- journals, one by one
+
+journals-long : (js : List Journal) (lines : List Lines) → map seen js ≡ at_places 0 lines → length js ≡ length lines
+journals-long js lines e = sym (length-map js seen) ∙ (ap length e ∙ places-long 0 lines)
+
+same-length : (a b : ℕ) → a ≡ b → a ≡ 0 + b
+same-length a b e = omega arith
+
+pub add-place : (now next : List Journal) (lines : List Lines) (l kept : Lines) → map seen now ≡ at_places 0 lines → map seen next ≡ map seen now ++ (length now, kept) ∷ [] → kept ≡ l → map seen next ≡ at_places 0 (lines ++ l ∷ [])
+add-place now next lines l kept e w k =
+    let long : length now ≡ 0 + length lines = same-length (length now) (length lines) (journals-long now lines e) in
+    w ∙ ((λ i. e i ++ (long i, k i) ∷ []) ∙ sym (places-step 0 lines l))
+
+pub base-is : (js : List Journal) (sites : List SiteHeld) (serials : List SerialHeld) (b n : ℕ) → b ≡ n → n ≡ length js → map seen js ≡ at_places 0 (node_lines sites serials) → b ≡ length sites + length serials
+base-is js sites serials b n e w at =
+    let long : length js ≡ length (node_lines sites serials) = journals-long js (node_lines sites serials) at in
+    let sum : length (node_lines sites serials) ≡ length sites + length serials =
+    length-append (map site_lines sites) (map serial_lines serials) ∙ (λ i. length-map sites site_lines i + length-map serials serial_lines i) in
+    e ∙ (w ∙ (long ∙ sum))
+
+-- ---- plans
+
+pub planted-step : (e : ℕ) (p : Plan) (ps : List Plan) → flat_map tree_names (planted e (p ∷ ps)) ≡ plan_names e p ++ flat_map tree_names (planted (e + 1) ps)
+planted-step e plan.Stamp ps = refl
+planted-step e (plan.Tree t) ps = refl

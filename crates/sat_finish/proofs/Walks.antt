@@ -9,6 +9,9 @@ use Rattle.sat_session.specs.Notes.{Owned}
 use Rattle.sat_session.specs.Sessions.{SameNotes}
 use Rattle.sat_finish.specs.Filing.{comes_before, Ascending, IsUnderSame, AllBefore, AllBehind}
 use Rattle.sat_finish.specs.Differences.{IsKeptUnder, IsDifference}
+use Rattle.sat_finish.specs.declared.compare.Difference.{Difference}
+use Rattle.sat_finish.specs.Ending.{IsCompared, IsPair}
+use Rattle.std.proofs.lemmas.List.{take-append-drop}
 use Rattle.sat_finish.proofs.Keys.{not-before-same, before-from-left, before-from-right, ascending-back, ascending-across}
 
 -- ---- lists at a place
@@ -108,7 +111,7 @@ nothing-before (x ∷ xs) a y i = absurd i
 pub same-is : (xs ys : List Owned) → xs ≡ ys → SameNotes xs ys
 same-is xs ys e s n = (subst (λ (zs : List Owned). In zs (s, n)) e, subst (λ (zs : List Owned). In zs (s, n)) (sym e))
 
-pub same-through : (a b c d : List Owned) → SameNotes a b → SameNotes c d → SameNotes b d → SameNotes a c
+same-through : (a b c d : List Owned) → SameNotes a b → SameNotes c d → SameNotes b d → SameNotes a c
 same-through a b c d f g h s n = (λ i. (g s n).1 ((h s n).0 ((f s n).0 i)), λ i. (f s n).1 ((h s n).1 ((g s n).0 i)))
 
 kept-moves : (a b : List Owned) → SameNotes a b → (s : Session) (number : ℕ) (o : Option Noted) → IsKeptUnder b s number o → IsKeptUnder a s number o
@@ -123,3 +126,32 @@ difference-moves a b c d node session f g h = record {
   at_session = kept-moves c d g h.owner h.number session h.at_session;
   apart = h.apart;
 }
+
+-- ---- what the calls ask
+
+pub last-in : (xs : List Owned) (n m : ℕ) (p : Owned) → slice_get xs n ≡ Some p → suc n ≡ m → In (take m xs) p
+last-in xs n m p e w = subst (λ (k : ℕ). In (take k xs) p) w (subst (λ (zs : List Owned). In zs p) (sym (front-at xs n p e)) (In-right (take n xs) (p ∷ []) p (inl refl)))
+
+pub last-all : (xs : List Owned) (n m : ℕ) (p a : Owned) → Ascending xs → slice_get xs n ≡ Some p → suc n ≡ m → comes_before p a ≡ true → AllBefore (take m xs) a
+last-all xs n m p a asc e w lt = subst (λ (k : ℕ). AllBefore (take k xs) a) w (last-before xs n p a asc e lt)
+
+pub in-taken : (xs : List Owned) (n : ℕ) (x : Owned) → In (take n xs) x → In xs x
+in-taken xs n x i = subst (λ (zs : List Owned). In zs x) (take-append-drop n xs) (In-left (take n xs) (drop n xs) x i)
+
+one-more : (xs ys : List Owned) (n : ℕ) (a b : Owned) → slice_get xs n ≡ Some a → slice_get ys n ≡ Some b → a ≡ b → take n xs ≡ take n ys → take (suc n) xs ≡ take (suc n) ys
+one-more xs ys n a b e w same t = front-at xs n a e ∙ ((λ i. t i ++ same i ∷ []) ∙ sym (front-at ys n b w))
+
+one-up : (n : ℕ) → suc n ≡ n + 1
+one-up n = omega arith
+
+pub both-more : (xs ys : List Owned) (n : ℕ) (a b : Owned) → slice_get xs n ≡ Some a → slice_get ys n ≡ Some b → IsUnderSame a b → a.1 ≡ b.1 → take n xs ≡ take n ys → take (n + 1) xs ≡ take (n + 1) ys
+both-more xs ys n a b e w same notes t = subst (λ (k : ℕ). take k xs ≡ take k ys) (one-up n) (one-more xs ys n a b e w (λ i. (same.0 i, notes i)) t)
+
+pub pair-differs : (nodes sessions : List Owned) (a b : Owned) (f : Difference) → In nodes a → In sessions b → IsUnderSame a b → IsPair a b f → IsDifference nodes sessions f.node f.session
+pair-differs nodes sessions a b f i j same p =
+    subst (λ (o : Option Noted). IsDifference nodes sessions o f.session) (sym p.node_is)
+    (subst (λ (o : Option Noted). IsDifference nodes sessions (Some a.1) o) (sym p.session_is) (two-kept nodes sessions a b i j same p.apart))
+
+pub compared-moves : (a b c d : List Owned) (o : Option Difference) → SameNotes a b → SameNotes c d → IsCompared b d o → IsCompared a c o
+compared-moves a b c d None f g h = same-through a b c d f g h
+compared-moves a b c d (Some x) f g h = difference-moves a b c d x.node x.session f g h

@@ -4,3 +4,4 @@ pub mod Ending
 pub mod Finishing
 pub mod Findings
 pub mod Ends
+pub mod Naming

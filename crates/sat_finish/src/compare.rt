@@ -37,10 +37,24 @@ pub(crate) fn compare<N: Laid, W: Names>(
 {
     let mut nodes = node_notes(alloc, sites, serials)?;
     let mut noted = session_notes(alloc, d, sessions)?;
-    sort(&mut nodes)?;
-    sort(&mut noted)?;
-    let place = common(nodes.as_slice(), noted.as_slice());
-    difference_at(nodes.as_slice(), noted.as_slice(), place)
+    let found = compared(&mut nodes, &mut noted)?;
+    Ok(found)
+}
+
+// Puts both in order, and looks for the first difference.
+fn compared(
+    nodes: &mut Vec<Filed>,
+    noted: &mut Vec<Filed>,
+) -> Result<Option<Difference>, AllocError>
+    ensures { IfOk result (λ o. IsCompared nodes.old.items noted.old.items o) }
+{
+    sort(nodes)?;
+    sort(noted)?;
+    let kept = nodes.as_slice();
+    let told = noted.as_slice();
+    let place = common(kept, told);
+    let found = difference_at(kept, told, place)?;
+    Ok(found)
 }
 
 // Puts notes in order.
@@ -148,7 +162,10 @@ fn node_alone(
     ensures { IfOk result (λ f. IsDifference nodes.now sessions.now f.node f.session) }
 {
     match same_before(nodes, place, node) {
-        Some(session) => pair(node, session),
+        Some(session) => {
+            let found = pair(node, session)?;
+            Ok(found)
+        }
         None => {
             let node = copy_noted(node.noted())?;
             Ok(Difference {

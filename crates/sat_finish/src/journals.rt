@@ -84,10 +84,22 @@ fn add_sessions<N: Laid>(
     ensures { OnOk result (map seen list.new.items ≡ map seen list.old.items ++ map (session_journal base) sessions.now) }
 {
     for session in sessions {
-        let kept = alone(alloc, session.noted())?;
-        let place = behind(base, session.number())?;
-        list.push(Journal { place, kept })?;
+        add_session(alloc, list, base, session)?;
     }
+    Ok(())
+}
+
+fn add_session<N: Laid>(
+    alloc: Global,
+    list: &mut Vec<Journal>,
+    base: u32,
+    session: &Session<N>,
+) -> Result<(), AllocError>
+    ensures { OnOk result (map seen list.new.items ≡ map seen list.old.items ++ session_journal base session.now ∷ []) }
+{
+    let kept = alone(alloc, session.noted())?;
+    let place = behind(base, session.number())?;
+    list.push(Journal { place, kept })?;
     Ok(())
 }
 

@@ -4,9 +4,10 @@ ghost use Rattle.std.specs.List.{flat_map};
 ghost use Rattle.sat_label.specs.declared.node.NodeName.TheVariants as named;
 ghost use Rattle.sat_label.specs.Words.{below};
 ghost use Rattle.sat_machines.specs.Layout.{planted};
-ghost use Rattle.sat_stitch.specs.Stitch.{Distinct};
 ghost use Rattle.sat_opened.specs.Opened.{name_in, tree_names, serial_names};
-ghost use Rattle.sat_session.specs.Sessions.{session_number};
+ghost use Rattle.sat_session.specs.Sessions.{AreSessions};
+ghost use Rattle.sat_finish.specs.Naming.{plan_names};
+ghost use Rattle.sat_act.specs.Limits.{IsDeployment};
 
 use sat_act::{Deployment, Plan};
 use sat_label::NodeName;
@@ -17,7 +18,8 @@ use std::alloc::{AllocError, Global};
 
 /// The names of all sites, in order.
 pub(crate) fn site_names(alloc: Global, d: &Deployment) -> Result<Vec<NodeName>, AllocError>
-    ensures { IfOk result (λ names. names.items ≡ map named.Site (below d.now.sites)) }
+    ensures names { IfOk result (λ names. names.items ≡ map named.Site (below d.now.sites)) }
+    ensures limits { IsDeployment d.now }
 {
     let mut names = Vec::new(alloc);
     for site in 0..d.sites() {
@@ -42,10 +44,21 @@ fn add_trees(names: &mut Vec<NodeName>, epoch: u16, plans: &[Plan]) -> Result<()
     let Some((plan, rest)) = plans.split_first() else {
         return Ok(());
     };
-    if let Plan::Tree(tree) = plan {
-        add_tree(names, epoch, tree.serializers())?;
+    add_plan(names, epoch, plan)?;
+    add_trees(names, epoch + 1, rest)?;
+    Ok(())
+}
+
+fn add_plan(names: &mut Vec<NodeName>, epoch: u16, plan: &Plan) -> Result<(), AllocError>
+    ensures { OnOk result (names.new.items ≡ names.old.items ++ plan_names epoch plan.now) }
+{
+    match plan {
+        Plan::Stamp => Ok(()),
+        Plan::Tree(tree) => {
+            add_tree(names, epoch, tree.serializers())?;
+            Ok(())
+        }
     }
-    add_trees(names, epoch + 1, rest)
 }
 
 fn add_tree(names: &mut Vec<NodeName>, epoch: u16, count: u16) -> Result<(), AllocError>
@@ -57,8 +70,8 @@ fn add_tree(names: &mut Vec<NodeName>, epoch: u16, count: u16) -> Result<(), All
     Ok(())
 }
 
-/// Whether these nodes have these names, in their order.
-pub(crate) fn are_named<M: Machine, W: Names>(nodes: &[Held<M, W>], names: &[NodeName]) -> bool
+// Whether these nodes have these names, in their order.
+fn are_named<M: Machine, W: Names>(nodes: &[Held<M, W>], names: &[NodeName]) -> bool
     ensures { result ≡ true → map name_in nodes.now ≡ names.now }
 {
     if nodes.len() != names.len() {
@@ -72,22 +85,35 @@ pub(crate) fn are_named<M: Machine, W: Names>(nodes: &[Held<M, W>], names: &[Nod
     true
 }
 
-/// Whether no two sessions have the same number.
-pub(crate) fn are_distinct<N: Laid>(
+/// Ok where these nodes have these names, in their order. No cluster has others.
+pub(crate) fn check_names<M: Machine, W: Names>(
+    nodes: &[Held<M, W>],
+    names: &[NodeName],
+) -> Result<(), AllocError>
+    ensures { OnOk result (map name_in nodes.now ≡ names.now) }
+{
+    if are_named(nodes, names) {
+        return Ok(());
+    }
+    Err(AllocError)
+}
+
+/// Ok where no two sessions have the same number. No cluster gives one twice.
+pub(crate) fn check_sessions<N: Laid>(
     alloc: Global,
     d: &Deployment,
     sessions: &[Session<N>],
-) -> Result<bool, AllocError>
+) -> Result<(), AllocError>
     requires { N.deployment ≡ d.now }
-    ensures { IfOk result (λ b. b ≡ true → Distinct (map session_number sessions.now)) }
+    ensures { OnOk result (AreSessions N.deployment sessions.now) }
 {
     let mut given = vec![in alloc; false; d.clients().len() + 1]?;
     for session in sessions {
         let number = session.number() as usize;
         if given[number] {
-            return Ok(false);
+            return Err(AllocError);
         }
         given[number] = true;
     }
-    Ok(true)
+    Ok(())
 }
