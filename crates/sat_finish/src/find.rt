@@ -16,15 +16,33 @@ use sat_session::Session;
 use sat_stitch::stitch;
 use std::alloc::{AllocError, Global};
 
-/// A difference, or the journal.
+/// A difference, or the journal, or that there was no memory.
 #[derive(Drop)]
 pub(crate) enum Found {
     Apart(Difference),
     Whole(Entries),
+    Memory,
 }
 
-/// Compares what nodes and sessions kept, and merges it where it is the same.
+/// Compares what nodes and sessions kept, and merges it where it is the same. The nodes stay as they are.
 pub(crate) fn find<N: Laid, W: Names>(
+    alloc: Global,
+    d: &Deployment,
+    sites: &mut Vec<Held<SiteNode<N>, W>>,
+    serials: &mut Vec<Held<SerialNode<N>, W>>,
+    sessions: &[Session<N>],
+) -> Found
+    requires { N.deployment ≡ d.now }
+    ensures same { (sites.new.items ≡ sites.old.items) × (serials.new.items ≡ serials.old.items) }
+    ensures found { IsFound N.deployment sites.old.items serials.old.items sessions.now result }
+{
+    match look(alloc, d, sites, serials, sessions) {
+        Ok(found) => found,
+        Err(_) => Found::Memory,
+    }
+}
+
+fn look<N: Laid, W: Names>(
     alloc: Global,
     d: &Deployment,
     sites: &mut Vec<Held<SiteNode<N>, W>>,

@@ -39,15 +39,15 @@ impl<N: Laid + Names> Opened<N> {
             &mut serials,
             sessions.as_slice(),
         ) {
-            Ok(Found::Whole(journal)) => Ok(Ended {
+            Found::Whole(journal) => Ok(Ended {
                 deployment,
                 journal,
             }),
-            Ok(Found::Apart(difference)) => Err(FinishFault::Differ {
+            Found::Apart(difference) => Err(FinishFault::Differ {
                 node: difference.node,
                 session: difference.session,
             }),
-            Err(_) => Err(FinishFault::Memory {
+            Found::Memory => Err(FinishFault::Memory {
                 opened: Opened {
                     deployment,
                     sites,
