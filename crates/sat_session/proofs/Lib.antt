@@ -2,3 +2,9 @@ pub mod Walks
 pub mod Owned
 pub mod Matches
 pub mod Whole
+pub mod Answering
+pub mod More
+pub mod Begins
+pub mod Asking
+pub mod Looks
+pub mod Doing

@@ -1,2 +1,4 @@
 pub mod Notes
 pub mod Sessions
+pub mod Calls
+pub mod Replies

@@ -1,8 +1,11 @@
 //! Sessions: what a client or the operator does at running nodes, and what was noted of it.
 #![tactic(auto)]
 
+mod answers;
 mod noted;
+mod serial;
 mod session;
+mod site;
 
 ghost use Rattle.sat_session.specs.Sessions.{SessionsFit};
 

@@ -1,0 +1,280 @@
+//! What sessions do at sites.
+ghost use Rattle.std.specs.Prelude.{◌≡◌, ◌<◌, length, Some, None, IfOk};
+ghost use Rattle.sat_label.specs.Order.{name_eq};
+ghost use Rattle.sat_label.specs.declared.node.NodeName.{NodeName as Name};
+ghost use Rattle.sat_site.specs.declared.input.SiteInput.TheVariants as given;
+ghost use Rattle.sat_node.specs.Meanings.{replay};
+ghost use Rattle.sat_machines.specs.Sites.{number_of, site_meaning};
+ghost use Rattle.sat_session.specs.Calls.{AtNode, of_site, asked_by};
+ghost use Rattle.sat_session.specs.Replies.{Asks, Looked};
+
+use crate::Session;
+use crate::answers::keep;
+use sat_act::{Act, Answer};
+use sat_label::{NodeName, TS_END, Value};
+use sat_machines::{Laid, SiteAct, SiteAnswer, SiteNode};
+use sat_node::{CallFault, Held, Machine, Names};
+use sat_site::SiteInput;
+use std::alloc::AllocError;
+
+/// Whether it is the node of this name.
+pub(crate) fn is_at<M: Machine, W: Names>(held: &Held<M, W>, place: NodeName) -> bool
+    ensures { result ≡ name_eq held.now.node.name place }
+{
+    held.node().name().is_same(&place)
+}
+
+// What a read would answer, where that is a value. Its point is one of the deployment; else the answer is want of memory.
+fn look<N: Laid, W: Names>(
+    held: &Held<SiteNode<N>, W>,
+    item: u16,
+) -> Result<Option<Answer>, AllocError>
+    requires { item < length N.deployment.items }
+    ensures { IfOk result (λ spare. Looked N.deployment (number_of held.now.node.name) (replay (site_meaning N.deployment) held.now.node.name held.now.node.entries) item spare) }
+{
+    let machine = held.node().machine();
+    let sites = machine.sites();
+    let Some(version) = machine.site().version(item) else {
+        return Ok(None);
+    };
+    if version.label.point.ts > TS_END {
+        return Err(AllocError);
+    }
+    if version.label.point.site >= sites {
+        return Err(AllocError);
+    }
+    let value = version.value.copy()?;
+    Ok(Some(Answer::ReadSome {
+        label: version.label,
+        value,
+    }))
+}
+
+impl<N: Laid> Session<N> {
+    // Takes an act to the site at which it stands.
+    fn at_site<W: Names>(
+        &mut self,
+        held: &mut Held<SiteNode<N>, W>,
+        input: SiteAct<N>,
+        act: Act,
+        spare: Option<Answer>,
+    ) -> Result<Answer, CallFault>
+        requires { Asks N.deployment (site_meaning N.deployment) of_site self.old held.old.node input act spare }
+        ensures done { AtNode act input of_site result held.old.node held.new.node self.old self.new }
+        ensures outs { held.new.outs ≡ held.old.outs }
+        ensures ins { held.new.ins ≡ held.old.ins }
+    {
+        let Ok(copy) = input.copy() else {
+            return Err(CallFault::Memory);
+        };
+        if !held.fits(&input) {
+            return Err(CallFault::Memory);
+        }
+        if self.noted.reserve(1).is_err() {
+            return Err(CallFault::Memory);
+        }
+        let name = held.node().name();
+        match held.act(self.lamport, input, copy) {
+            Ok(given) => {
+                let SiteAnswer {
+                    answer,
+                    link: _,
+                    sent: _,
+                    keepers: _,
+                    beat: _,
+                } = given;
+                let lamport = held.node().lamport();
+                keep(
+                    &mut self.noted,
+                    &mut self.client,
+                    lamport,
+                    Some(name),
+                    act,
+                    &answer,
+                    spare,
+                );
+                self.lamport = lamport;
+                Ok(answer)
+            }
+            Err(fault) => Err(fault),
+        }
+    }
+
+    /// Writes an item at the site where the client is seated. Where that is another site, the answer is `Memory`, as for want of memory;
+    /// `Worn`, with the greatest u64, comes only where the session's number or the node's is that. After an error all is as before.
+    pub fn write<W: Names>(
+        &mut self,
+        held: &mut Held<SiteNode<N>, W>,
+        item: u16,
+        value: &Value,
+    ) -> Result<Answer, CallFault>
+        requires client { self.old.number < length N.deployment.clients }
+        requires item { item < length N.deployment.items }
+        ensures done { AtNode (Act.Write self.old.number item value.now) (asked_by (Some self.old.number) (given.Write self.old.client.carried item value.now)) of_site result held.old.node held.new.node self.old self.new }
+        ensures outs { held.new.outs ≡ held.old.outs }
+        ensures ins { held.new.ins ≡ held.old.ins }
+    {
+        let Some(seat) = self.client.seat else {
+            return Err(CallFault::Memory);
+        };
+        if !is_at(held, NodeName::Site(seat)) {
+            return Err(CallFault::Memory);
+        }
+        let Ok(first) = value.copy() else {
+            return Err(CallFault::Memory);
+        };
+        let Ok(second) = value.copy() else {
+            return Err(CallFault::Memory);
+        };
+        let input = SiteAct::of_client(
+            self.number,
+            SiteInput::Write {
+                carried: self.client.carried,
+                item,
+                value: first,
+            },
+        );
+        let act = Act::Write {
+            client: self.number,
+            item,
+            value: second,
+        };
+        self.at_site(held, input, act, None)
+    }
+
+    /// Reads an item at the site where the client is seated. Errors come as in `write`.
+    pub fn read<W: Names>(
+        &mut self,
+        held: &mut Held<SiteNode<N>, W>,
+        item: u16,
+    ) -> Result<Answer, CallFault>
+        requires client { self.old.number < length N.deployment.clients }
+        requires item { item < length N.deployment.items }
+        ensures done { AtNode (Act.Read self.old.number item) (asked_by (Some self.old.number) (given.Read self.old.client.carried item)) of_site result held.old.node held.new.node self.old self.new }
+        ensures outs { held.new.outs ≡ held.old.outs }
+        ensures ins { held.new.ins ≡ held.old.ins }
+    {
+        let Some(seat) = self.client.seat else {
+            return Err(CallFault::Memory);
+        };
+        if !is_at(held, NodeName::Site(seat)) {
+            return Err(CallFault::Memory);
+        }
+        let Ok(spare) = look(held, item) else {
+            return Err(CallFault::Memory);
+        };
+        let input = SiteAct::of_client(
+            self.number,
+            SiteInput::Read {
+                carried: self.client.carried,
+                item,
+            },
+        );
+        let act = Act::Read {
+            client: self.number,
+            item,
+        };
+        self.at_site(held, input, act, spare)
+    }
+
+    /// Gives up the client's seat at its site, to go to another one. Errors come as in `write`.
+    pub fn move_to<W: Names>(
+        &mut self,
+        held: &mut Held<SiteNode<N>, W>,
+        site: u16,
+    ) -> Result<Answer, CallFault>
+        requires client { self.old.number < length N.deployment.clients }
+        requires site { site < N.deployment.sites }
+        ensures done { AtNode (Act.Move self.old.number site) (asked_by (Some self.old.number) (given.Move self.old.client.carried site)) of_site result held.old.node held.new.node self.old self.new }
+        ensures outs { held.new.outs ≡ held.old.outs }
+        ensures ins { held.new.ins ≡ held.old.ins }
+    {
+        let Some(seat) = self.client.seat else {
+            return Err(CallFault::Memory);
+        };
+        if !is_at(held, NodeName::Site(seat)) {
+            return Err(CallFault::Memory);
+        }
+        let input = SiteAct::of_client(
+            self.number,
+            SiteInput::Move {
+                carried: self.client.carried,
+                to: site,
+            },
+        );
+        let act = Act::Move {
+            client: self.number,
+            site,
+        };
+        self.at_site(held, input, act, None)
+    }
+
+    /// Asks a site for a seat. Where the client has one, or this is another site, the answer is `Memory`; errors come as in `write`.
+    pub fn attach<W: Names>(
+        &mut self,
+        held: &mut Held<SiteNode<N>, W>,
+        site: u16,
+    ) -> Result<Answer, CallFault>
+        requires client { self.old.number < length N.deployment.clients }
+        requires site { site < N.deployment.sites }
+        ensures done { AtNode (Act.Attach self.old.number site) (asked_by (Some self.old.number) (given.Attach self.old.client.carried)) of_site result held.old.node held.new.node self.old self.new }
+        ensures outs { held.new.outs ≡ held.old.outs }
+        ensures ins { held.new.ins ≡ held.old.ins }
+    {
+        if self.client.seat.is_some() {
+            return Err(CallFault::Memory);
+        }
+        if !is_at(held, NodeName::Site(site)) {
+            return Err(CallFault::Memory);
+        }
+        let input = SiteAct::of_client(
+            self.number,
+            SiteInput::Attach {
+                carried: self.client.carried,
+            },
+        );
+        let act = Act::Attach {
+            client: self.number,
+            site,
+        };
+        self.at_site(held, input, act, None)
+    }
+
+    /// The operator closes the emission epoch of a site. Where this is another site, the answer is `Memory`; errors come as in `write`.
+    pub fn close<W: Names>(
+        &mut self,
+        held: &mut Held<SiteNode<N>, W>,
+        site: u16,
+    ) -> Result<Answer, CallFault>
+        requires { self.old.number ≡ length N.deployment.clients }
+        ensures done { AtNode (Act.Close site) (asked_by None given.Close) of_site result held.old.node held.new.node self.old self.new }
+        ensures outs { held.new.outs ≡ held.old.outs }
+        ensures ins { held.new.ins ≡ held.old.ins }
+    {
+        if !is_at(held, NodeName::Site(site)) {
+            return Err(CallFault::Memory);
+        }
+        let input = SiteAct::of_site(SiteInput::Close);
+        let act = Act::Close { site };
+        self.at_site(held, input, act, None)
+    }
+
+    /// The operator makes a site go by timestamp order. Where this is another site, the answer is `Memory`; errors come as in `write`.
+    pub fn fall<W: Names>(
+        &mut self,
+        held: &mut Held<SiteNode<N>, W>,
+        site: u16,
+    ) -> Result<Answer, CallFault>
+        requires { self.old.number ≡ length N.deployment.clients }
+        ensures done { AtNode (Act.Fall site) (asked_by None given.Fall) of_site result held.old.node held.new.node self.old self.new }
+        ensures outs { held.new.outs ≡ held.old.outs }
+        ensures ins { held.new.ins ≡ held.old.ins }
+    {
+        if !is_at(held, NodeName::Site(site)) {
+            return Err(CallFault::Memory);
+        }
+        let input = SiteAct::of_site(SiteInput::Fall);
+        let act = Act::Fall { site };
+        self.at_site(held, input, act, None)
+    }
+}
