@@ -22,7 +22,7 @@ use Rattle.sat_stitch.specs.Places.{Session}
 use Rattle.sat_stitch.specs.Stitch.{Numbered, Distinct, seen}
 use Rattle.sat_opened.specs.Keeping.{owner_of, serial_owner}
 use Rattle.sat_session.specs.declared.noted.Noted.{Noted}
-use Rattle.sat_session.specs.Notes.{SessionSeen, Owned, owned_by, site_note, site_notes, serial_note, serial_notes, at_node, own_notes, notes_of, session_notes}
+use Rattle.sat_session.specs.Notes.{SessionSeen, session_at, Owned, owned_by, site_note, site_notes, serial_note, serial_notes, at_node, own_notes, notes_of, session_notes}
 use Rattle.sat_session.specs.Sessions.{session_number, IsSession, AreSessions}
 use Rattle.sat_finish.specs.Finishing.{Lines, site_lines, serial_lines, node_lines, alone_line, alone_lines, at_places}
 use Rattle.sat_finish.specs.Naming.{plan_names}
@@ -73,6 +73,10 @@ flat-step {X} {Y} f xs x = flat_map-append f xs (x ∷ []) ∙ ap (λ (ys : List
 
 pub map-step : {X Y : Type 0} (f : X → Y) (xs : List X) (x : X) → map f (xs ++ x ∷ []) ≡ map f xs ++ f x ∷ []
 map-step f xs x = map-append f xs (x ∷ [])
+
+-- what was added of a session is what it noted
+pub session-adds : (d : Deployed) (x : SessionSeen) (s : Session) (ns : List Noted) (now next : List Owned) → s ≡ session_at d x.number → ns ≡ x.noted → next ≡ now ++ own_notes s ns → next ≡ now ++ notes_of d x
+session-adds d x s ns now next e f w = w ∙ (λ i. now ++ own_notes (e i) (f i))
 
 -- ---- journals at places
 

@@ -14,3 +14,6 @@ mod same;
 
 pub use fault::{Ended, FinishFault};
 pub use opened::Opened;
+
+#[cfg(test)]
+mod tests;
