@@ -1,0 +1,7 @@
+pub mod Filing
+pub mod Differences
+pub mod Ending
+pub mod Finishing
+pub mod Findings
+pub mod Ends
+pub mod Naming

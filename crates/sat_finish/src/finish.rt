@@ -1,0 +1,61 @@
+//! The end of a run.
+ghost use Rattle.std.specs.Prelude.{MatchResult};
+ghost use Rattle.sat_finish.specs.Ends.{IsEnd, IsFault};
+
+use crate::fault::{Ended, FinishFault};
+use crate::find::{Found, find};
+use crate::opened::Opened;
+use sat_machines::Laid;
+use sat_node::Names;
+use sat_session::Session;
+use std::alloc::Global;
+
+impl<N: Laid + Names> Opened<N> {
+    /// Merges what all nodes and sessions kept into one journal. `SessionsOut` exactly where not as many sessions came back as were
+    /// given, and else `Differ` exactly where nodes and sessions did not keep the same of acts at nodes.
+    pub fn finish(self, alloc: Global, sessions: Vec<Session<N>>) -> Result<Ended, FinishFault<N>>
+        ensures { MatchResult result (IsEnd N.deployment self sessions.items) (IsFault N.deployment self sessions.items) }
+    {
+        let returned = sessions.len() as u64;
+        let given = self.given;
+        if given != returned {
+            return Err(FinishFault::SessionsOut {
+                given,
+                returned,
+                opened: self,
+                sessions,
+            });
+        }
+        let Opened {
+            deployment,
+            mut sites,
+            mut serials,
+            given,
+        } = self;
+        match find(
+            alloc,
+            &deployment,
+            &mut sites,
+            &mut serials,
+            sessions.as_slice(),
+        ) {
+            Found::Whole(journal) => Ok(Ended {
+                deployment,
+                journal,
+            }),
+            Found::Apart(difference) => Err(FinishFault::Differ {
+                node: difference.node,
+                session: difference.session,
+            }),
+            Found::Memory => Err(FinishFault::Memory {
+                opened: Opened {
+                    deployment,
+                    sites,
+                    serials,
+                    given,
+                },
+                sessions,
+            }),
+        }
+    }
+}
