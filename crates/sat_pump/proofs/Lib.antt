@@ -1,0 +1,4 @@
+pub mod Acting
+pub mod Times
+pub mod Showing
+pub mod Passing
