@@ -267,9 +267,8 @@ pub absent_spent : (x : SiteSeen) (link : ℕ) (a : List InSeen) → length a �
 absent_spent x link a le = (refl, λ k y at. (y, at, λ e. absurd (let less : k < length a = slice_get_within a k y at in omega arith)))
 
 spent-after : (x : SiteSeen) (j i h : InSeen) → Grows j i → IsSpent x i h → IsSpent x j h
-spent-after x j i h g spent =
-    ⊎_elim (λ (e : (h.front ≡ None) × (rise i.link.empties ≤ h.link.empties)). inl (e.0, rise-least j.link.empties i.link.empties h.link.empties last_number g.empties e.1))
-    (λ (e : (e : Envelope) × (h.front ≡ Some e) × (label_with x e.body ≡ None)). inr e) spent
+spent-after x j i h g (inl e) = inl (e.0, rise-least j.link.empties i.link.empties h.link.empties last_number g.empties e.1)
+spent-after x j i h g (inr e) = inr e
 
 looked-after : (s : Bool) (x : SiteSeen) (n link : ℕ) (a b c : List InSeen) → EndsGoOn n a b → IsLooked s x link b c → IsLooked s x link a c
 looked-after true x n link a b c ab bc = tt
@@ -302,7 +301,8 @@ rests_is d a b c turn other =
 -- ---- faults
 
 pub alone_fails : (h : SiteHeld) (f : CallFault) → FailsAlone h f → Fails h f
-alone_fails h f fails = ⊎_elim (λ e. inl e) (λ e. inr (e.0, inl e.1)) fails
+alone_fails h f (inl e) = inl e
+alone_fails h f (inr e) = inr (e.0, inl e.1)
 
 pub fails_of : {X : Type 0} (r : Result X CallFault) (h : SiteHeld) → IfErr r (FailsAlone h) → IfErr r (Fails h)
 fails_of (Ok x) h e = tt

@@ -1,7 +1,6 @@
 -- The timestamp to which a site's gears are raised.
 use Rattle.std.proofs.Common.{◌≡◌, ℕ, zero, suc, ◌+◌, ◌<◌, ◌≤◌, ◌==◌, ◌||◌, max, Bool, true, false, List, [], ◌∷◌, length, drop, Option, Some, None, slice_get, inl, inr, refl, sym, ap, ◌∙◌, subst, arith}
-use Rattle.std.proofs.lemmas.Bool.{cases_eq, lt-ltb}
-use Rattle.std.proofs.lemmas.Bool.Decides.{nat_tests}
+use Rattle.std.proofs.lemmas.Bool.{cases_eq, le-leb, lt-ltb}
 use Rattle.std.proofs.lemmas.Option.{slice_get_past, slice_get-get_or}
 use Rattle.sat_label.specs.declared.limits.TheConstants.{TS_END}
 use Rattle.sat_label.specs.declared.node.NodeName.{NodeName}
@@ -9,7 +8,6 @@ use Rattle.sat_label.specs.declared.node.NodeName.TheVariants as named
 use Rattle.sat_act.specs.Deployed.{Deployed}
 use Rattle.sat_act.specs.Settling.{is_done}
 use Rattle.sat_gear.specs.Gear.{GearSeen}
-use Rattle.sat_machine.specs.Fits.{is_time}
 use Rattle.sat_machine.specs.State.{SiteState}
 use Rattle.sat_site.specs.declared.input.SiteInput.TheVariants as input
 use Rattle.sat_site.specs.Inputs.{fits_here}
@@ -71,13 +69,10 @@ answer-done : (o : Option GearSeen) (t : ℕ) → is_done (tick_answer o t) ≡ 
 answer-done None t = refl
 answer-done (Some gear) t = refl
 
-is-time : (t : ℕ) → t ≤ TS_END → is_time t ≡ true
-is-time t le = grind (arith, nat_tests)
-
 -- a tick of a gear that there is, to a timestamp, is done
 pub tick_done : (x : SiteSeen) (g t : ℕ) → g < x.shape.gears → t ≤ TS_END → would_do x (input.Tick g t) ≡ true
 unfolding fits_here site_answers
-tick_done x g t less le = λ n. ((lt-ltb g x.shape.gears less n && is-time t le n) && true) && answer-done (slice_get x.gears g) t n
+tick_done x g t less le = λ n. ((lt-ltb g x.shape.gears less n && le-leb t TS_END le n) && true) && answer-done (slice_get x.gears g) t n
 
 -- ---- gear by gear
 

@@ -1,6 +1,7 @@
-use Rattle.std.proofs.Common.{◌<◌, ◌∙◌, refl, ap, arith}
+use Rattle.std.proofs.Common.{◌≡◌, ◌<◌, ◌∙◌, ℕ, refl, ap, subst, arith}
 use Rattle.sat_act.specs.Deployed.{Deployed}
 use Rattle.sat_pump.specs.Adds.{is_tick_to}
+use Rattle.sat_pump.specs.Times.{AreUp}
 use Rattle.sat_pump.proofs.Acting.{adds_same, adds_then}
 use Rattle.sat_pump.proofs.Times.{still_on, up_none, up_on}
 use Rattle.sat_pump.proofs.keeping.tick_all.Goals as goal
@@ -26,3 +27,18 @@ pub returns-in-Err-clause-still : goal.returns-in-Err-clause-still
 returns-in-Err-clause-still g c =
     let less : c.loop-gear.gear < g.N.Laid.deployment.gears = (let e = ap (λ (x : Deployed). x.gears) c.requires in let n = c.gears.ensures.gears in let t = c.loop-gear-test.true in omega arith) in
     still_on g.N.Laid.deployment.gears c.loop-gear.gear c.args.ts c.args.held.now c.loop-gear.held c.tick.new.held less c.loop-gear.invariant.4 c.tick.ensures.still
+
+pub tick-requires : goal.tick-requires
+tick-requires g c = (let e = ap (λ (x : Deployed). x.gears) c.requires in let n = c.gears.ensures.gears in let t = c.loop-gear-test.true in omega arith)
+
+pub returns-clause-none : goal.returns-clause-none
+returns-clause-none g c = λ none.
+    let e = ap (λ (x : Deployed). x.gears) c.requires in
+    let n = c.gears.ensures.gears in
+    let past = c.loop-gear-test.false in
+    let most = c.loop-gear.auto.gear-end in
+    let same : c.loop-gear.gear ≡ g.N.Laid.deployment.gears = omega arith in
+    let h = c.loop-gear.invariant.3 none in (
+      h.0,
+      subst (λ (m : ℕ). AreUp m c.args.held.now.node.machine c.args.ts) same h.1,
+    )
