@@ -1,4 +1,4 @@
-pub mod Acting
+pub mod Doing
 pub mod Times
-pub mod Showing
-pub mod Passing
+pub mod Turns
+pub mod Entries

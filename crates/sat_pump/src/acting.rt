@@ -10,7 +10,7 @@ use sat_node::{CallFault, Held, Names};
 use sat_site::SiteInput;
 
 /// Does what the site would do by itself: a tick, a gather, a stamp or an advance. After an error nothing changed.
-#[tactic(auto, using(sat_passes::proofs::Sendings::would_fit, crate::proofs::Acting::own_is_site))]
+#[tactic(auto, using(sat_passes::proofs::Sendings::would_fit, crate::proofs::Doing::own_is_site))]
 pub fn act<N: Laid + Names>(
     held: &mut Held<SiteNode<N>, N>,
     input: SiteInput,

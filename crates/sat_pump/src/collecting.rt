@@ -13,7 +13,7 @@ use sat_site::SiteInput;
 use std::sync::Wait;
 
 // Gathers, if there is something to gather. False where there is nothing: then nothing changed.
-#[tactic(auto, using(crate::proofs::Acting::adds_same, crate::proofs::Acting::gather_done))]
+#[tactic(auto, using(crate::proofs::Doing::adds_same, crate::proofs::Doing::gather_done))]
 fn gather<N: Laid + Names>(held: &mut Held<SiteNode<N>, N>) -> Result<bool, CallFault>
     ensures gathers { Adds is_gather held.old held.new }
     ensures outs { held.new.outs ≡ held.old.outs }
@@ -32,7 +32,7 @@ fn gather<N: Laid + Names>(held: &mut Held<SiteNode<N>, N>) -> Result<bool, Call
 }
 
 // Gathers until there is nothing to gather.
-#[tactic(auto, using(crate::proofs::Acting::adds_same))]
+#[tactic(auto, using(crate::proofs::Doing::adds_same))]
 fn gather_all<N: Laid + Names, R: Wait>(
     rt: &R,
     held: &mut Held<SiteNode<N>, N>,

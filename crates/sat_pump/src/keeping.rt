@@ -83,7 +83,7 @@ fn greatest<N: Laid + Names>(held: &Held<SiteNode<N>, N>, d: &Deployment, ts: u6
 }
 
 // Raises a gear's promise to a timestamp, if it is below that. False where it is not: then nothing changed.
-#[tactic(auto, using(crate::proofs::Acting::adds_same, crate::proofs::Times::tick_done, crate::proofs::Times::shape_gears))]
+#[tactic(auto, using(crate::proofs::Doing::adds_same, crate::proofs::Times::tick_done, crate::proofs::Times::shape_gears))]
 fn tick<N: Laid + Names>(
     held: &mut Held<SiteNode<N>, N>,
     gear: u16,
@@ -122,7 +122,7 @@ fn either(a: bool, b: bool) -> bool
 }
 
 // Raises each gear's promise that is below a timestamp. False where none is: then nothing changed.
-#[tactic(auto, using(crate::proofs::Acting::adds_same, crate::proofs::Times::up_none))]
+#[tactic(auto, using(crate::proofs::Doing::adds_same, crate::proofs::Times::up_none))]
 fn tick_all<N: Laid + Names>(
     held: &mut Held<SiteNode<N>, N>,
     d: &Deployment,
@@ -147,7 +147,7 @@ fn tick_all<N: Laid + Names>(
 }
 
 // The same until none is below it.
-#[tactic(auto, using(crate::proofs::Acting::adds_same))]
+#[tactic(auto, using(crate::proofs::Doing::adds_same))]
 fn raise<N: Laid + Names, R: Wait>(
     rt: &R,
     held: &mut Held<SiteNode<N>, N>,

@@ -102,7 +102,7 @@ fn take_label<N: Laid + Names>(
 
 // Pulls the next envelope of the link of the view's tree, and shows or takes it. False where the link was empty, or the front can't be
 // shown or taken now.
-#[tactic(auto, using(crate::proofs::Acting::adds_same, crate::proofs::Showing::pulled_spent, crate::proofs::Showing::ends_pulled))]
+#[tactic(auto, using(crate::proofs::Doing::adds_same, crate::proofs::Turns::pulled_spent, crate::proofs::Turns::ends_pulled))]
 fn turn_front<N: Laid + Names, R: Wait>(
     rt: &R,
     held: &mut Held<SiteNode<N>, N>,
@@ -128,7 +128,7 @@ fn turn_front<N: Laid + Names, R: Wait>(
 }
 
 // The same, where there is such a link.
-#[tactic(auto, using(crate::proofs::Acting::adds_same, crate::proofs::Showing::ends_same))]
+#[tactic(auto, using(crate::proofs::Doing::adds_same, crate::proofs::Turns::ends_same))]
 fn turn_link<N: Laid + Names, R: Wait>(
     rt: &R,
     held: &mut Held<SiteNode<N>, N>,
@@ -153,7 +153,7 @@ fn turn_link<N: Laid + Names, R: Wait>(
 }
 
 // Shows or takes the next label of the view's tree. False where the site goes by timestamp order, or nothing can be shown or taken.
-#[tactic(auto, using(crate::proofs::Acting::adds_same, crate::proofs::Showing::ends_same))]
+#[tactic(auto, using(crate::proofs::Doing::adds_same, crate::proofs::Turns::ends_same))]
 fn turn<N: Laid + Names, R: Wait>(
     rt: &R,
     held: &mut Held<SiteNode<N>, N>,
@@ -174,7 +174,7 @@ fn turn<N: Laid + Names, R: Wait>(
 }
 
 // Shows the next update in timestamp order. False where there is none to show: then nothing changed.
-#[tactic(auto, using(crate::proofs::Acting::adds_same))]
+#[tactic(auto, using(crate::proofs::Doing::adds_same))]
 fn stamp<N: Laid + Names>(held: &mut Held<SiteNode<N>, N>) -> Result<bool, CallFault>
     ensures shows { Adds is_showing held.old held.new }
     ensures outs { held.new.outs ≡ held.old.outs }
@@ -192,7 +192,7 @@ fn stamp<N: Laid + Names>(held: &mut Held<SiteNode<N>, N>) -> Result<bool, CallF
 }
 
 // Goes on to the next epoch. False where the site can't: then nothing changed.
-#[tactic(auto, using(crate::proofs::Acting::adds_same))]
+#[tactic(auto, using(crate::proofs::Doing::adds_same))]
 fn advance<N: Laid + Names>(held: &mut Held<SiteNode<N>, N>) -> Result<bool, CallFault>
     ensures shows { Adds is_showing held.old held.new }
     ensures outs { held.new.outs ≡ held.old.outs }
@@ -210,7 +210,7 @@ fn advance<N: Laid + Names>(held: &mut Held<SiteNode<N>, N>) -> Result<bool, Cal
 }
 
 // Shows the next update in timestamp order, or goes on to the next epoch.
-#[tactic(auto, using(crate::proofs::Acting::adds_then))]
+#[tactic(auto, using(crate::proofs::Doing::adds_then))]
 fn stamp_or_advance<N: Laid + Names>(held: &mut Held<SiteNode<N>, N>) -> Result<bool, CallFault>
     ensures shows { Adds is_showing held.old held.new }
     ensures outs { held.new.outs ≡ held.old.outs }
@@ -226,7 +226,7 @@ fn stamp_or_advance<N: Laid + Names>(held: &mut Held<SiteNode<N>, N>) -> Result<
 }
 
 // Turns, shows the next update in timestamp order, or goes on to the next epoch. False where nothing of it was left to do.
-#[tactic(auto, using(crate::proofs::Acting::adds_then, crate::proofs::Showing::ends_then, crate::proofs::Showing::ends_same))]
+#[tactic(auto, using(crate::proofs::Doing::adds_then, crate::proofs::Turns::ends_then, crate::proofs::Turns::ends_same))]
 fn go_on<N: Laid + Names, R: Wait>(
     rt: &R,
     held: &mut Held<SiteNode<N>, N>,
@@ -247,7 +247,7 @@ fn go_on<N: Laid + Names, R: Wait>(
 }
 
 // The same until nothing of it is left to do.
-#[tactic(auto, using(crate::proofs::Acting::adds_same, crate::proofs::Showing::ends_same))]
+#[tactic(auto, using(crate::proofs::Doing::adds_same, crate::proofs::Turns::ends_same))]
 fn show_all<N: Laid + Names, R: Wait>(
     rt: &R,
     held: &mut Held<SiteNode<N>, N>,

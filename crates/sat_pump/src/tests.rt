@@ -230,15 +230,26 @@ fn through_site<N: Laid + Names, R: Wait>(
     requires ins { (slice_get N.wires 0 ≡ Some from.output.wire) × (slice_get N.wires 5 ≡ Some down.output.wire) × (from.output.received ≡ []) × (down.output.received ≡ []) }
     requires outs { (slice_get N.wires 2 ≡ Some to.input.wire) × (slice_get N.wires 3 ≡ Some up.input.wire) × (to.input.sent ≡ []) × (up.input.sent ≡ []) }
 {
-    let outs = outs::<N>(alloc, to.input, up.input)?;
-    let ins = ins::<N>(alloc, from.output, down.output)?;
+    let Ends {
+        input: from,
+        output: first,
+    } = from;
+    let Ends {
+        input: down,
+        output: second,
+    } = down;
+    let Ends {
+        input: third,
+        output: to,
+    } = to;
+    let Ends {
+        input: fourth,
+        output: up,
+    } = up;
+    let outs = outs::<N>(alloc, third, fourth)?;
+    let ins = ins::<N>(alloc, first, second)?;
     let mut held = site::<N>(alloc, d, tree, outs, ins)?;
-    let mut far = Far {
-        from: from.input,
-        down: down.input,
-        to: to.output,
-        up: up.output,
-    };
+    let mut far = Far { from, down, to, up };
     pass_by_pass(rt, alloc, &mut held, d, &mut far)
 }
 

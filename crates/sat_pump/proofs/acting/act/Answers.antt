@@ -3,7 +3,7 @@ use Rattle.sat_node.specs.Links.{IsLocal}
 use Rattle.sat_machines.specs.Acts.{ActSeen}
 use Rattle.sat_machines.specs.Sites.{site_meaning}
 use Rattle.sat_passes.proofs.Sendings.{act_fails}
-use Rattle.sat_pump.proofs.Acting.{own_local, take_adds}
+use Rattle.sat_pump.proofs.Doing.{own_local, take_adds}
 use Rattle.sat_pump.proofs.acting.act.Goals as goal
 
 pub act-requires-clause-local : goal.act-requires-clause-local

@@ -3,7 +3,7 @@ use Rattle.std.specs.List.{list_any}
 use Rattle.sat_gear.specs.Gear.{is_due}
 use Rattle.sat_passes.specs.Hearings.{SiteHeld}
 use Rattle.sat_pump.specs.Adds.{is_gather}
-use Rattle.sat_pump.proofs.Acting.{adds_then}
+use Rattle.sat_pump.proofs.Doing.{adds_then}
 use Rattle.sat_pump.proofs.Times.{still_then}
 use Rattle.sat_pump.proofs.collecting.gather_all.Goals as goal
 

@@ -2,7 +2,7 @@ use Rattle.std.proofs.Common.{◌∙◌}
 use Rattle.sat_passes.specs.Hearings.{SiteHeld}
 use Rattle.sat_pump.specs.Adds.{is_tick_to}
 use Rattle.sat_pump.specs.Times.{AreUp}
-use Rattle.sat_pump.proofs.Acting.{adds_then}
+use Rattle.sat_pump.proofs.Doing.{adds_then}
 use Rattle.sat_pump.proofs.Times.{still_then}
 use Rattle.sat_pump.proofs.keeping.raise.Goals as goal
 

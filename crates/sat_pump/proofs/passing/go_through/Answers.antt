@@ -1,25 +1,25 @@
-use Rattle.sat_pump.proofs.Passing.{gathers_passed, heard_passed, passed_then, sent_passed, shows_passed, ticks_passed}
-use Rattle.sat_pump.proofs.Showing.{alone_fails}
+use Rattle.sat_pump.proofs.Entries.{gathers_passed, heard_passed, passed_then, sent_passed, shows_passed, ticks_passed}
+use Rattle.sat_pump.proofs.Turns.{alone_fails}
 use Rattle.sat_pump.proofs.passing.go_through.Goals as goal
 
 pub returns-in-Err-clause-added : goal.returns-in-Err-clause-added
 returns-in-Err-clause-added g c = ticks_passed _ _ _ c.keep_up.ensures.ticks
 
 pub returns-in-Err-clause-fault : goal.returns-in-Err-clause-fault
-returns-in-Err-clause-fault g c = alone_fails _ _ c.in-Err.ensures.fault
+returns-in-Err-clause-fault g c = alone_fails c.keep_up.new.held _ c.in-Err.ensures.fault
 
 pub returns-in-Err-collect-clause-added : goal.returns-in-Err-collect-clause-added
 returns-in-Err-collect-clause-added g c = passed_then _ _ _ (ticks_passed _ _ _ c.keep_up.ensures.ticks) (gathers_passed _ _ c.collect.ensures.gathers)
 
 pub returns-in-Err-collect-clause-fault : goal.returns-in-Err-collect-clause-fault
-returns-in-Err-collect-clause-fault g c = alone_fails _ _ c.in-Err-collect.ensures.fault
+returns-in-Err-collect-clause-fault g c = alone_fails c.collect.new.held _ c.in-Err-collect.ensures.fault
 
 pub returns-in-Err-send-clause-added : goal.returns-in-Err-send-clause-added
 returns-in-Err-send-clause-added g c =
     passed_then _ _ _ (passed_then _ _ _ (ticks_passed _ _ _ c.keep_up.ensures.ticks) (gathers_passed _ _ c.collect.ensures.gathers)) (sent_passed _ _ c.send.ensures.made)
 
 pub returns-in-Err-send-clause-fault : goal.returns-in-Err-send-clause-fault
-returns-in-Err-send-clause-fault g c = alone_fails _ _ c.in-Err-send.ensures.fault
+returns-in-Err-send-clause-fault g c = alone_fails c.send.new.held _ c.in-Err-send.ensures.fault
 
 pub returns-in-Err-receive-clause-added : goal.returns-in-Err-receive-clause-added
 returns-in-Err-receive-clause-added g c =

@@ -1,6 +1,6 @@
 use Rattle.sat_pump.specs.Adds.{is_showing}
-use Rattle.sat_pump.proofs.Acting.{adds_then}
-use Rattle.sat_pump.proofs.Showing.{ends_same, ends_then, fails_of, rests_of}
+use Rattle.sat_pump.proofs.Doing.{adds_then}
+use Rattle.sat_pump.proofs.Turns.{ends_same, ends_then, fails_of, rests_of}
 use Rattle.sat_pump.proofs.showing.go_on.Goals as goal
 
 pub returns-in-Ok-false-clause-shows : goal.returns-in-Ok-false-clause-shows

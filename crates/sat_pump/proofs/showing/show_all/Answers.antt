@@ -1,7 +1,7 @@
 use Rattle.std.proofs.Common.{◌∙◌}
 use Rattle.sat_pump.specs.Adds.{is_showing}
-use Rattle.sat_pump.proofs.Acting.{adds_then}
-use Rattle.sat_pump.proofs.Showing.{ends_then, rests_after}
+use Rattle.sat_pump.proofs.Doing.{adds_then}
+use Rattle.sat_pump.proofs.Turns.{ends_then, rests_after}
 use Rattle.sat_pump.proofs.showing.show_all.Goals as goal
 
 pub showing-preserved : goal.showing-preserved

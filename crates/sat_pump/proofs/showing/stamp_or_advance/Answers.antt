@@ -1,6 +1,6 @@
 use Rattle.sat_pump.specs.Adds.{is_showing}
-use Rattle.sat_pump.proofs.Acting.{adds_then}
-use Rattle.sat_pump.proofs.Showing.{both_none}
+use Rattle.sat_pump.proofs.Doing.{adds_then}
+use Rattle.sat_pump.proofs.Turns.{both_none}
 use Rattle.sat_pump.proofs.showing.stamp_or_advance.Goals as goal
 
 pub returns-in-Ok-false-clause-shows : goal.returns-in-Ok-false-clause-shows

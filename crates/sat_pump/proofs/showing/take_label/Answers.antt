@@ -7,8 +7,8 @@ use Rattle.sat_machines.specs.Sites.{site_meaning}
 use Rattle.sat_passes.proofs.Faults.{take_fails}
 use Rattle.sat_passes.specs.Hearings.{of_site}
 use Rattle.sat_pump.specs.Adds.{is_showing}
-use Rattle.sat_pump.proofs.Acting.{take_adds}
-use Rattle.sat_pump.proofs.Showing.{turn_is_of}
+use Rattle.sat_pump.proofs.Doing.{take_adds}
+use Rattle.sat_pump.proofs.Turns.{turn_is_of}
 use Rattle.sat_pump.proofs.showing.take_label.Goals as goal
 
 pub handle-requires-clause-front : goal.handle-requires-clause-front

@@ -1,5 +1,5 @@
 use Rattle.std.proofs.Common.{◌≤◌, length, refl, ap, arith}
-use Rattle.sat_pump.proofs.Showing.{absent_spent}
+use Rattle.sat_pump.proofs.Turns.{absent_spent}
 use Rattle.sat_pump.proofs.showing.turn_link.Goals as goal
 
 pub returns-then-link-ins-clause-none : goal.returns-then-link-ins-clause-none

@@ -1,5 +1,5 @@
 -- What is left to show, and the ends of the links to a site.
-use Rattle.std.proofs.Common.{◌≡◌, ◌≢◌, ℕ, ◌+◌, ◌-◌, ◌<◌, ◌≤◌, ◌==◌, ◌&&◌, min, nat_lt, Bool, true, false, List, [], ◌∷◌, ◌++◌, length, Option, Some, None, MatchOption, Result, Ok, Err, IfErr, IfOk, slice_get, unwrap_or, inl, inr, refl, sym, ap, ◌∙◌, subst, append_assoc, arith, ⊎_elim}
+use Rattle.std.proofs.Common.{◌≡◌, ◌≢◌, ℕ, ◌+◌, ◌-◌, ◌<◌, ◌≤◌, ◌==◌, ◌&&◌, min, nat_lt, Bool, true, false, List, [], ◌∷◌, ◌++◌, length, Option, Some, None, MatchOption, Result, Ok, Err, IfErr, IfOk, OnErr, OnOk, slice_get, unwrap_or, inl, inr, refl, sym, ap, ◌∙◌, subst, append_assoc, arith, ⊎_elim}
 use Rattle.std.proofs.lemmas.Bool.{and_parts, cases_Bool, cases_eq, le-ltb}
 use Rattle.std.proofs.lemmas.Bool.Decides.{nat_tests}
 use Rattle.std.proofs.lemmas.List.{append-nil}
@@ -43,7 +43,7 @@ use Rattle.sat_passes.specs.Members.{Both}
 use Rattle.sat_passes.specs.Sendings.{FailsAlone, would_do}
 use Rattle.sat_passes.proofs.Drains.{only_know}
 use Rattle.sat_pump.specs.Shows.{EndsGoOn, GoesOn, Grows, IsLooked, IsSpent, ShowsNoMore, label_at, label_with}
-use Rattle.sat_pump.proofs.Acting.{done_by, done_stands, same_number}
+use Rattle.sat_pump.proofs.Doing.{done_by, done_stands, same_number}
 
 -- ---- which label a front is
 
@@ -236,6 +236,11 @@ ends_pulled n link a b behind ab = ends_only Pulled n link a b behind grows_pull
 
 pub ends_cleared : (n link : ℕ) (a b : List InSeen) → n ≤ link → OnlyAt link Cleared a b → EndsGoOn n a b
 ends_cleared n link a b behind ab = ends_only Cleared n link a b behind grows-cleared ab
+
+-- a front was pulled, and then taken or not
+pub ends_taken : (r : Result SiteAnswer CallFault) (n link : ℕ) (a b c : List InSeen) → n ≤ link → EndsGoOn n a b → OnOk r (OnlyAt link Cleared b c) → OnErr r (c ≡ b) → EndsGoOn n a c
+ends_taken (Ok x) n link a b c behind ab taken err = ends_then n a b c ab (ends_cleared n link b c behind taken)
+ends_taken (Err f) n link a b c behind ab taken err = ends_then n a b c ab (ends_same n b c err)
 
 -- ---- an end with nothing left
 
