@@ -1,16 +1,11 @@
 -- The entries of a whole pass.
-use Rattle.std.proofs.Common.{◌≡◌, ℕ, ◌&&◌, ◌||◌, ◌==◌, Bool, true, false, List, [], ◌∷◌, ◌++◌, refl, sym, ap, ◌∙◌, append_assoc}
-use Rattle.std.proofs.lemmas.List.{append-nil}
+use Rattle.std.proofs.Common.{◌≡◌, ℕ, ◌&&◌, ◌||◌, Bool, true, false, List, [], ◌∷◌, ◌++◌, refl, ap, ◌∙◌, append_assoc}
 use Rattle.sat_act.specs.Settling.{is_done}
 use Rattle.sat_site.specs.declared.input.SiteInput.{SiteInput}
 use Rattle.sat_site.specs.declared.input.SiteInput.TheVariants as input
-use Rattle.sat_node.specs.Seen.{NodeSeen}
-use Rattle.sat_machines.specs.declared.site_answer.SiteAnswer.{SiteAnswer}
-use Rattle.sat_machines.specs.Acts.{ActSeen}
-use Rattle.sat_site.specs.Seen.{SiteSeen}
 use Rattle.sat_passes.specs.Hearings.{AreHeard, Heard, SiteHeld, SiteKept, is_heard}
 use Rattle.sat_passes.specs.Sendings.{AreSent, Sent, is_sending}
-use Rattle.sat_pump.specs.Adds.{Adds, AreDone, ArePassed, Passed, is_gather, is_part, is_passed, is_showing, is_tick_to}
+use Rattle.sat_pump.specs.Adds.{Adds, AreDone, ArePassed, Passed, is_gather, is_part, is_showing, is_tick_to}
 
 arepassed-append : (xs ys : List SiteKept) → ArePassed xs → ArePassed ys → ArePassed (xs ++ ys)
 arepassed-append [] ys a b = b

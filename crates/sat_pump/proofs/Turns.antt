@@ -1,6 +1,6 @@
 -- What is left to show, and the ends of the links to a site.
-use Rattle.std.proofs.Common.{◌≡◌, ◌≢◌, ℕ, ◌+◌, ◌-◌, ◌<◌, ◌≤◌, ◌==◌, ◌&&◌, min, nat_lt, Bool, true, false, List, [], ◌∷◌, ◌++◌, length, Option, Some, None, MatchOption, Result, Ok, Err, IfErr, IfOk, OnErr, OnOk, slice_get, unwrap_or, inl, inr, refl, sym, ap, ◌∙◌, subst, append_assoc, arith, ⊎_elim}
-use Rattle.std.proofs.lemmas.Bool.{and_parts, cases_Bool, cases_eq, le-ltb}
+use Rattle.std.proofs.Common.{◌≡◌, ◌≢◌, ℕ, ◌+◌, ◌<◌, ◌≤◌, ◌==◌, ◌&&◌, min, nat_lt, Bool, true, false, List, [], ◌∷◌, ◌++◌, length, Option, Some, None, MatchOption, Result, Ok, Err, IfErr, IfOk, OnErr, OnOk, slice_get, inl, inr, refl, sym, ap, ◌∙◌, subst, append_assoc, arith}
+use Rattle.std.proofs.lemmas.Bool.{and_parts, cases_eq, le-ltb}
 use Rattle.std.proofs.lemmas.Bool.Decides.{nat_tests}
 use Rattle.std.proofs.lemmas.List.{append-nil}
 use Rattle.std.proofs.lemmas.Option.{slice_get_within}
@@ -19,7 +19,6 @@ use Rattle.sat_proxy.specs.Answers.{done_answer, front_answer}
 use Rattle.sat_proxy.specs.Steps.{turn_fault}
 use Rattle.sat_proxy.specs.declared.proxy.TurnFault.{TurnFault}
 use Rattle.sat_proxy.specs.declared.proxy.TurnFault.TheVariants as turn
-use Rattle.sat_site.specs.declared.input.SiteInput.{SiteInput}
 use Rattle.sat_site.specs.declared.input.SiteInput.TheVariants as input
 use Rattle.sat_site.specs.Inputs.{fits_in, input_of}
 use Rattle.sat_site.specs.Laws.{EachStep}
@@ -36,14 +35,13 @@ use Rattle.sat_node.specs.Links.{Cleared, InSeen, IsOf, OnlyAt, Popped, Pulled, 
 use Rattle.sat_machines.specs.declared.site_answer.SiteAnswer.{SiteAnswer}
 use Rattle.sat_machines.specs.Acts.{ActSeen}
 use Rattle.sat_machines.specs.Layout.{label_link}
-use Rattle.sat_machines.specs.Sites.{Stands, epoch_by, is_turned, label_taken, number_of, site_meaning, some_if}
+use Rattle.sat_machines.specs.Sites.{Stands, epoch_by, is_turned, label_taken, site_meaning, some_if}
 use Rattle.sat_passes.specs.Faults.{Fails}
 use Rattle.sat_passes.specs.Hearings.{SiteHeld, SiteKept, of_site}
-use Rattle.sat_passes.specs.Members.{Both}
 use Rattle.sat_passes.specs.Sendings.{FailsAlone, would_do}
 use Rattle.sat_passes.proofs.Drains.{only_know}
 use Rattle.sat_pump.specs.Shows.{EndsGoOn, GoesOn, Grows, IsLooked, IsSpent, ShowsNoMore, label_at, label_with}
-use Rattle.sat_pump.proofs.Doing.{done_by, done_stands, same_number}
+use Rattle.sat_pump.proofs.Doing.{done_stands, same_number}
 
 -- ---- which label a front is
 

@@ -1,11 +1,11 @@
 -- The parts of a pass, and a whole one.
-use Rattle.std.specs.Prelude.{◌≡◌, ℕ, ◌-◌, ◌≤◌, Bool, true, false, nat_lt, List}
+use Rattle.std.specs.Prelude.{◌≡◌, ℕ, ◌-◌, false, nat_lt}
 use Rattle.std.specs.List.{list_any}
 use Rattle.sat_act.specs.Deployed.{Deployed}
 use Rattle.sat_gear.specs.Gear.{is_due}
 use Rattle.sat_site.specs.Seen.{IsSite}
 use Rattle.sat_node.specs.Meanings.{replay}
-use Rattle.sat_node.specs.Puts.{OutSeen, Stopped}
+use Rattle.sat_node.specs.Puts.{Stopped}
 use Rattle.sat_machines.specs.Sites.{Stands, site_meaning}
 use Rattle.sat_passes.specs.Hearings.{Heard, HearsAll, IsHeard, SiteHeld}
 use Rattle.sat_passes.specs.Members.{Both}

@@ -1,4 +1,4 @@
-use Rattle.std.proofs.Common.{◌≡◌, ◌∙◌, ℕ, ◌+◌, ◌<◌, refl, ap, subst, arith}
+use Rattle.std.proofs.Common.{◌≡◌, ◌∙◌, ℕ, ◌+◌, refl, ap, subst, arith}
 use Rattle.sat_act.specs.Deployed.{Deployed}
 use Rattle.sat_pump.specs.Times.{most_promised}
 use Rattle.sat_pump.proofs.Times.{promised_more}

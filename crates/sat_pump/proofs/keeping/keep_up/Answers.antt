@@ -1,4 +1,4 @@
-use Rattle.std.proofs.Common.{◌≡◌, ◌∙◌, ℕ, ap, sym, subst}
+use Rattle.std.proofs.Common.{◌≡◌, ◌∙◌, ℕ, ap, subst}
 use Rattle.sat_pump.specs.Adds.{Adds, is_tick_to}
 use Rattle.sat_pump.specs.Steps.{IsRaised}
 use Rattle.sat_pump.specs.Times.{most_promised, time_of}

@@ -1,4 +1,4 @@
-use Rattle.std.proofs.Common.{◌≡◌, ◌∙◌, ℕ, ◌+◌, ◌≤◌, max, List, drop, length, refl, sym, ap, arith}
+use Rattle.std.proofs.Common.{◌∙◌, ℕ, ◌+◌, ◌≤◌, max, List, drop, length, refl, sym, ap, arith}
 use Rattle.std.proofs.lemmas.Option.{slice_get_read}
 use Rattle.sat_site.specs.Seen.{SiteSeen}
 use Rattle.sat_node.specs.Seen.{NodeSeen}

@@ -1,4 +1,4 @@
-use Rattle.std.proofs.Common.{◌<◌, ◌≤◌, refl, arith}
+use Rattle.std.proofs.Common.{◌<◌, refl, arith}
 use Rattle.sat_pump.specs.Adds.{is_tick_to}
 use Rattle.sat_pump.proofs.Doing.{adds_same, same_number}
 use Rattle.sat_pump.proofs.Times.{shape_gears, tick_done}

@@ -1,4 +1,4 @@
-use Rattle.std.proofs.Common.{◌≡◌, Some, refl, subst, sym}
+use Rattle.std.proofs.Common.{Some, refl, subst, sym}
 use Rattle.sat_site.specs.declared.input.SiteInput.TheVariants as given
 use Rattle.sat_node.specs.Links.{IsOf}
 use Rattle.sat_node.specs.declared.kept.Body.{Body}

@@ -1,5 +1,4 @@
 use Rattle.std.proofs.Common.{◌≡◌, ◌∙◌, ap, refl, sym}
-use Rattle.sat_act.specs.Deployed.{Deployed}
 use Rattle.sat_epoch.specs.Epochs.{in_stamp}
 use Rattle.sat_site.specs.Seen.{SiteSeen}
 use Rattle.sat_site.specs.declared.output.SiteView.{SiteView}
