@@ -1,0 +1,4 @@
+pub mod Doing
+pub mod Times
+pub mod Turns
+pub mod Entries

@@ -1,0 +1,112 @@
+-- The timestamp to which a site's gears are raised.
+use Rattle.std.proofs.Common.{◌≡◌, ℕ, zero, suc, ◌+◌, ◌<◌, ◌≤◌, ◌&&◌, ◌||◌, max, Bool, true, false, List, [], ◌∷◌, length, drop, Option, Some, None, slice_get, inl, inr, refl, sym, ap, ◌∙◌, subst, arith}
+use Rattle.std.proofs.lemmas.Bool.{cases_eq, le-leb, lt-ltb}
+use Rattle.sat_label.specs.declared.limits.TheConstants.{TS_END}
+use Rattle.sat_label.specs.declared.node.NodeName.{NodeName}
+use Rattle.sat_label.specs.declared.node.NodeName.TheVariants as named
+use Rattle.sat_act.specs.Deployed.{Deployed}
+use Rattle.sat_act.specs.Settling.{is_done}
+use Rattle.sat_gear.specs.Gear.{GearSeen}
+use Rattle.sat_machine.specs.State.{SiteState}
+use Rattle.sat_site.specs.declared.input.SiteInput.TheVariants as input
+use Rattle.sat_site.specs.Inputs.{fits_here}
+use Rattle.sat_site.specs.Seen.{SiteSeen, IsSite}
+use Rattle.sat_site.specs.SiteSteps.{site_answers, tick_answer}
+use Rattle.sat_machines.specs.Sites.{Stands}
+use Rattle.sat_passes.specs.Hearings.{SiteHeld, SiteKept}
+use Rattle.sat_passes.specs.Sendings.{would_do}
+use Rattle.sat_pump.specs.Times.{AreUp, most_in, most_promised, promise_at, promise_in, ts_in}
+
+-- ---- the entries that are looked at
+
+-- the entry at a place is the first from there on
+pub drop_at : {X : Type 0} (n : ℕ) (xs : List X) (x : X) → slice_get xs n ≡ Some x → drop n xs ≡ x ∷ drop (suc n) xs
+drop_at zero [] x e = absurd (cc (e))
+drop_at zero (y ∷ ys) x e = (let same : y ≡ x = cc (e) in ap (λ z. z ∷ ys) same)
+drop_at (suc n) [] x e = absurd (cc (e))
+drop_at (suc n) (y ∷ ys) x e = drop_at n ys x e
+
+-- one entry more
+pub most_next : (t n next : ℕ) (ks : List SiteKept) (k : SiteKept) → slice_get ks n ≡ Some k → next ≡ n + 1 → most_in (max t (ts_in k.input.input)) (drop next ks) ≡ most_in t (drop n ks)
+most_next t n next ks k at is =
+    let one : next ≡ suc n = omega arith in
+    ap (λ (m : ℕ). most_in (max t (ts_in k.input.input)) (drop m ks)) one ∙ sym (ap (most_in t) (drop_at n ks k at))
+
+past : {X : Type 0} (xs : List X) (n : ℕ) → length xs ≤ n → drop n xs ≡ []
+past [] zero le = refl
+past [] (suc n) le = refl
+past (x ∷ xs) zero le = absurd (omega arith)
+past (x ∷ xs) (suc n) le = past xs n (omega arith)
+
+-- no entry more
+pub most_done : (t n : ℕ) (ks : List SiteKept) → length ks ≤ n → most_in t (drop n ks) ≡ t
+most_done t n ks le = ap (most_in t) (past ks n le)
+
+pub none_past : {X : Type 0} (xs : List X) (n : ℕ) → slice_get xs n ≡ None → length xs ≤ n
+none_past [] n e = omega arith
+none_past (x ∷ xs) zero e = absurd (cc (e))
+none_past (x ∷ xs) (suc n) e = (let h = none_past xs n e in omega arith)
+
+-- ---- promises
+
+pub shape_gears : (d : Deployed) (name : NodeName) (x : SiteSeen) (s : SiteState) → Stands d name x s → x.shape.gears ≡ d.gears
+shape_gears d (named.Site i) x s st = λ n. (st.shape n).gears
+shape_gears d (named.Serializer e z) x s st = absurd st
+
+pub promise_is : (x : SiteSeen) (g r : ℕ) → IsSite x → g < x.shape.gears → ((gear : GearSeen) → slice_get x.gears g ≡ Some gear → r ≡ gear.promise) → r ≡ promise_at x g
+promise_is x g r site less is = go (slice_get x.gears g) refl where
+  go : (o : Option GearSeen) → slice_get x.gears g ≡ o → r ≡ promise_at x g
+  go None e = absurd (let h : length x.gears ≤ g = none_past x.gears g e in let c : length x.gears ≡ x.shape.gears = site.gears.count in omega arith)
+  go (Some gear) e = is gear e ∙ ap promise_in (sym e)
+
+pub promised_more : (x : SiteSeen) (t n next most p : ℕ) → next ≡ n + 1 → most ≡ most_promised x t n → p ≡ promise_at x n → max most p ≡ most_promised x t next
+promised_more x t n next most p is m q =
+    let one : next ≡ suc n = omega arith in
+    (λ i. max (m i) (q i)) ∙ ap (most_promised x t) (sym one)
+
+answer-done : (o : Option GearSeen) (t : ℕ) → is_done (tick_answer o t) ≡ true
+answer-done None t = refl
+answer-done (Some gear) t = refl
+
+-- a tick of a gear that there is, to a timestamp, is done
+pub tick_done : (x : SiteSeen) (g t : ℕ) → g < x.shape.gears → t ≤ TS_END → would_do x (input.Tick g t) ≡ true
+unfolding fits_here site_answers
+tick_done x g t less le = λ n. ((lt-ltb g x.shape.gears less n && le-leb t TS_END le n) && true) && answer-done (slice_get x.gears g) t n
+
+-- ---- gear by gear
+
+pub up_none : (x : SiteSeen) (t : ℕ) → AreUp 0 x t
+up_none x t = λ g less. absurd (omega arith)
+
+up-more : (x : SiteSeen) (t n : ℕ) → AreUp n x t → t ≤ promise_at x n → AreUp (n + 1) x t
+up-more x t n all here = λ g less. elim (cases_eq g n) [
+  | inl same ↦ subst (λ (m : ℕ). t ≤ promise_at x m) (sym same) here
+  | inr other ↦ all g (omega arith)
+]
+
+neither : (a b : Bool) → (a || b) ≡ false → (a ≡ false) × (b ≡ false)
+neither true b e = absurd (cc (e))
+neither false b e = (refl, e)
+
+-- one gear more
+pub up_on : (n t : ℕ) (a b c : SiteHeld) (done more next : Bool) → next ≡ (done || more) → (done ≡ false → (b ≡ a) × AreUp n a.node.machine t) → (more ≡ false → (c ≡ b) × (t ≤ promise_at b.node.machine n))
+    → next ≡ false → (c ≡ a) × AreUp (n + 1) a.node.machine t
+up_on n t a b c done more next is first second none =
+    let w = neither done more (sym is ∙ none) in
+    let f = first w.0 in
+    let s = second w.1 in (
+      s.0 ∙ f.0,
+      up-more a.node.machine t n f.1 (subst (λ (h : SiteHeld). t ≤ promise_at h.node.machine n) f.0 s.1),
+    )
+
+-- where none is below it, one gear more changes nothing
+pub still_on : (gears n t : ℕ) (a b c : SiteHeld) → n < gears → (AreUp gears a.node.machine t → b ≡ a) → (t ≤ promise_at b.node.machine n → c ≡ b) → AreUp gears a.node.machine t → c ≡ a
+still_on gears n t a b c less first second up =
+    let f = first up in
+    second (subst (λ (h : SiteHeld). t ≤ promise_at h.node.machine n) (sym f) (up n less)) ∙ f
+
+-- where none is below it, one more round changes nothing
+pub still_then : (P : SiteHeld → Type 0) (a b c : SiteHeld) → (P a → b ≡ a) → (P b → c ≡ b) → P a → c ≡ a
+still_then P a b c first second h =
+    let f = first h in
+    second (subst P (sym f) h) ∙ f

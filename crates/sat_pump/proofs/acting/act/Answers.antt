@@ -1,0 +1,20 @@
+use Rattle.std.proofs.Common.{subst, sym}
+use Rattle.sat_node.specs.Links.{IsLocal}
+use Rattle.sat_machines.specs.Acts.{ActSeen}
+use Rattle.sat_machines.specs.Sites.{site_meaning}
+use Rattle.sat_passes.proofs.Sendings.{act_fails}
+use Rattle.sat_pump.proofs.Doing.{own_local, take_adds}
+use Rattle.sat_pump.proofs.acting.act.Goals as goal
+
+pub act-requires-clause-local : goal.act-requires-clause-local
+act-requires-clause-local g c =
+    subst (λ (x : ActSeen). IsLocal (site_meaning g.N.Laid.deployment) c.args.held.now.node x) (sym c.of_site.ensures)
+    (own_local g.N.Laid.deployment c.args.held.now c.args.input c.sound.ensures.steps c.sound.ensures.deployment c.sound.ensures.site c.sound.ensures.stands c.requires.own c.requires.done)
+
+pub returns-clause-added : goal.returns-clause-added
+returns-clause-added g c = λ p is.
+    take_adds p g.N.Laid.deployment c.act.result _ _ c.args.held.now c.act.new.self c.args.input _ c.of_site.ensures c.sound.ensures.steps c.sound.ensures.deployment c.sound.ensures.site c.sound.ensures.stands is c.requires.done
+    c.act.ensures.takes c.act.ensures.answer
+
+pub returns-clause-fault : goal.returns-clause-fault
+returns-clause-fault g c = act_fails c.act.result _ c.args.held.now c.act.new.self _ c.act.ensures.takes

@@ -1,0 +1,44 @@
+use Rattle.std.proofs.Common.{◌≡◌, ◌<◌, ◌∙◌, ℕ, refl, ap, subst, arith}
+use Rattle.sat_act.specs.Deployed.{Deployed}
+use Rattle.sat_pump.specs.Adds.{is_tick_to}
+use Rattle.sat_pump.specs.Times.{AreUp}
+use Rattle.sat_pump.proofs.Doing.{adds_same, adds_then}
+use Rattle.sat_pump.proofs.Times.{still_on, up_none, up_on}
+use Rattle.sat_pump.proofs.keeping.tick_all.Goals as goal
+
+pub loop-gear-init : goal.loop-gear-init
+loop-gear-init g c = (adds_same (is_tick_to c.args.ts) _ _ refl, refl, refl, (λ e. (refl, up_none c.args.held.now.node.machine c.args.ts)), (λ e. refl))
+
+pub loop-gear-preserved : goal.loop-gear-preserved
+loop-gear-preserved g c =
+    let v = c.loop-gear.invariant in
+    let less : c.loop-gear.gear < g.N.Laid.deployment.gears = (let e = ap (λ (x : Deployed). x.gears) c.requires in let n = c.gears-gear-end.ensures.gears in let t = c.loop-gear-test.true in omega arith) in (
+      adds_then (is_tick_to c.args.ts) _ _ _ v.0 c.tick.ensures.ticks,
+      c.tick.ensures.outs ∙ v.1,
+      c.tick.ensures.ins ∙ v.2,
+      up_on c.loop-gear.gear c.args.ts c.args.held.now c.loop-gear.held c.tick.new.held c.loop-gear.done c.in-Ok.more c.either-done.result c.either-done.ensures v.3 c.in-Ok.ensures.none,
+      still_on g.N.Laid.deployment.gears c.loop-gear.gear c.args.ts c.args.held.now c.loop-gear.held c.tick.new.held less v.4 c.tick.ensures.still,
+    )
+
+pub returns-in-Err-clause-ticks : goal.returns-in-Err-clause-ticks
+returns-in-Err-clause-ticks g c = adds_then (is_tick_to c.args.ts) _ _ _ c.loop-gear.invariant.0 c.tick.ensures.ticks
+
+pub returns-in-Err-clause-still : goal.returns-in-Err-clause-still
+returns-in-Err-clause-still g c =
+    let less : c.loop-gear.gear < g.N.Laid.deployment.gears = (let e = ap (λ (x : Deployed). x.gears) c.requires in let n = c.gears-gear-end.ensures.gears in let t = c.loop-gear-test.true in omega arith) in
+    still_on g.N.Laid.deployment.gears c.loop-gear.gear c.args.ts c.args.held.now c.loop-gear.held c.tick.new.held less c.loop-gear.invariant.4 c.tick.ensures.still
+
+pub tick-requires : goal.tick-requires
+tick-requires g c = (let e = ap (λ (x : Deployed). x.gears) c.requires in let n = c.gears-gear-end.ensures.gears in let t = c.loop-gear-test.true in omega arith)
+
+pub returns-clause-none : goal.returns-clause-none
+returns-clause-none g c = λ none.
+    let e = ap (λ (x : Deployed). x.gears) c.requires in
+    let n = c.gears-gear-end.ensures.gears in
+    let past = c.loop-gear-test.false in
+    let most = c.loop-gear.auto.gear-end in
+    let same : c.loop-gear.gear ≡ g.N.Laid.deployment.gears = omega arith in
+    let h = c.loop-gear.invariant.3 none in (
+      h.0,
+      subst (λ (m : ℕ). AreUp m c.args.held.now.node.machine c.args.ts) same h.1,
+    )

@@ -1,0 +1,4 @@
+pub mod Adds
+pub mod Times
+pub mod Shows
+pub mod Steps

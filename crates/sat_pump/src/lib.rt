@@ -1,0 +1,18 @@
+//! A site's whole pass: beside what its node sends and hears, its gears keep up, its sink collects what they made, and what can be
+//! shown is shown.
+#![tactic(auto)]
+
+mod acting;
+mod collecting;
+mod keeping;
+mod passing;
+mod showing;
+mod sites;
+
+pub use collecting::collect;
+pub use keeping::{Seen, keep_up};
+pub use passing::pass;
+pub use showing::show;
+
+#[cfg(test)]
+mod tests;
