@@ -92,11 +92,7 @@ fn append_note(d: &Deployment, note: &Noted, out: &mut Vec<u8>) -> Result<(), Al
 }
 
 // What was kept of an act, and a new line.
-fn append_kept(
-    d: &Deployment,
-    note: &Option<Noted>,
-    out: &mut Vec<u8>,
-) -> Result<(), AllocError>
+fn append_kept(d: &Deployment, note: &Option<Noted>, out: &mut Vec<u8>) -> Result<(), AllocError>
     ensures { OnOk result (out.new.items ≡ out.old.items ++ (kept_text d.now note.now ++ 10 ∷ [])) }
 {
     match note {
