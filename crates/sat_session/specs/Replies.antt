@@ -57,12 +57,6 @@ abbrev pub given_of : Session → Client → Given
 given_of (Owner c) x = OfClient x.carried x.seat
 given_of Operator x = Nothing
 
--- whether a client sits at the site of this name
-abbrev pub sits_at : Option ℕ → NodeName → Bool
-sits_at None name = false
-sits_at (Some i) (named.Site k) = i == k
-sits_at (Some i) (named.Serializer e z) = false
-
 -- what a session answers alone
 abbrev pub leave_answer : Point → Option ℕ → Answer
 leave_answer p None = ans.Refused why.NoSession
