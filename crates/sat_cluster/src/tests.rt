@@ -1,4 +1,4 @@
-//! Two sites and a tree of one serializer, in two threads.
+//! Two sites and a tree of one serializer, under locks.
 ghost use Rattle.std.specs.Prelude.{◌≡◌};
 
 use crate::{Cluster, SessionFault};
@@ -13,8 +13,6 @@ use std::alloc::{AllocError, Global};
 use std::marker::Brand;
 use std::sync::Wait;
 use std::test::*;
-use std::thread;
-use std::thread::Threads;
 
 fn name(alloc: Global, text: &[u8]) -> Result<Name, AllocError> {
     match Name::of(alloc, text)? {
@@ -94,19 +92,14 @@ fn number<N: Laid + Names, R: Wait>(rt: &R, cluster: &Cluster<N>, serializer: u1
     }
 }
 
-// Each site is ticked in a thread of its own, and then the first once more.
-fn ticks<N: Laid + Names + Send + Sync, R: Threads + Wait + Sync>(
+// Each site is ticked, and then the first once more.
+fn ticks<N: Laid + Names, R: Wait>(
     rt: &R,
     cluster: &Cluster<N>,
     found: &mut Vec<u64>,
 ) -> Result<(), AllocError> {
-    let (first, second) = thread::join(
-        rt,
-        move || ticked(rt, cluster, 0, 5),
-        move || ticked(rt, cluster, 1, 6),
-    );
-    note(found, first)?;
-    note(found, second)?;
+    note(found, ticked(rt, cluster, 0, 5))?;
+    note(found, ticked(rt, cluster, 1, 6))?;
     note(found, ticked(rt, cluster, 0, 7))?;
     note(found, ticked(rt, cluster, 2, 7))?;
     note(found, number(rt, cluster, 0))?;
@@ -127,7 +120,7 @@ fn sessions<N: Laid + Names>(
     note(found, told(cluster.operator()))
 }
 
-fn running<N: Laid + Names + Send + Sync, R: Threads + Wait + Sync>(
+fn running<N: Laid + Names, R: Wait>(
     rt: &R,
     alloc: Global,
     d: Deployment,
@@ -150,7 +143,7 @@ fn running<N: Laid + Names + Send + Sync, R: Threads + Wait + Sync>(
 }
 
 #[test]
-fn a_cluster_in_two_threads(rt: HostRuntime) -> Result<(), Fail> {
+fn a_cluster(rt: HostRuntime) -> Result<(), Fail> {
     let alloc = rt.alloc();
     let d = deployment(alloc)?;
     let wires = Wires::new(alloc, &d, 3)?;
