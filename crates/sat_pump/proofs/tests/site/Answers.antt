@@ -1,6 +1,4 @@
-use Rattle.std.proofs.Common.{◌≡◌, ◌∙◌, sym, ap}
-use Rattle.sat_label.specs.declared.node.NodeName.{NodeName}
-use Rattle.sat_act.specs.Deployed.{Deployed}
+use Rattle.std.proofs.Common.{◌∙◌, sym}
 use Rattle.sat_machines.specs.Layout.{in_places, out_places}
 use Rattle.sat_passes.proofs.Small.{site_ins, site_outs}
 use Rattle.sat_pump.proofs.tests.site.Goals as goal
