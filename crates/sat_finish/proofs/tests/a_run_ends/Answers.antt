@@ -9,3 +9,15 @@ end-requires-clause-places g c =
     let is = c.in_ok-d.ensures.deployment in
     let plans : c.in_ok-d.d.plans ≡ plan.Stamp ∷ [] = cc (is, c.in_ok-push.ensures.items, c.new-plans.ensures.items) in
     no_ends c.in_ok-d.d (ap (λ (d : Deployed). d.sites) is) plans
+
+pub end-requires-2-clause-places : goal.end-requires-2-clause-places
+end-requires-2-clause-places g c =
+    let is = c.in_ok-d.ensures.deployment in
+    let plans : c.in_ok-d.d.plans ≡ plan.Stamp ∷ [] = cc (is, c.in_ok-push.ensures.items, c.new-plans.ensures.items) in
+    no_ends c.in_ok-d.d (ap (λ (d : Deployed). d.sites) is) plans
+
+pub end-requires-3-clause-places : goal.end-requires-3-clause-places
+end-requires-3-clause-places g c =
+    let is = c.in_ok-d.ensures.deployment in
+    let plans : c.in_ok-d.d.plans ≡ plan.Stamp ∷ [] = cc (is, c.in_ok-push.ensures.items, c.new-plans.ensures.items) in
+    no_ends c.in_ok-d.d (ap (λ (d : Deployed). d.sites) is) plans
