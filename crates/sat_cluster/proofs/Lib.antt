@@ -1,1 +1,4 @@
 mod Marks
+mod Answering
+mod Doing
+mod Ending

@@ -1,0 +1,5 @@
+mod Owning
+mod Standing
+mod Trying
+mod Serving
+mod Hiring
