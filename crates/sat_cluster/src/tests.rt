@@ -1,5 +1,7 @@
 //! Two sites and a tree of one serializer, in two threads: the sessions, their calls, the nodes' passes and the end.
-ghost use Rattle.std.specs.Prelude.{◌≡◌, ◌<◌, length};
+ghost use Rattle.std.specs.Prelude.{◌≡◌, ◌<◌, [], ◌∷◌, length, IfOk};
+ghost use Rattle.sat_tree.specs.Shape.{TreeShape};
+ghost use Rattle.sat_act.specs.declared.deployment.Plan.TheVariants as plan;
 ghost use Rattle.sat_act.specs.Ranges.{IsActOf};
 
 use crate::{Cluster, SessionFault};
@@ -25,8 +27,10 @@ fn name(alloc: Global, text: &[u8]) -> Result<Name, AllocError> {
     }
 }
 
-// A serializer at which both sites sit.
-fn plans(alloc: Global) -> Result<Vec<Plan>, AllocError> {
+// A serializer at which both sites sit, and then timestamp order.
+fn plans(alloc: Global) -> Result<Vec<Plan>, AllocError>
+    ensures { IfOk result (λ plans. (tree : TreeShape) × (plans.items ≡ plan.Tree tree ∷ plan.Stamp ∷ []) × (length tree.parents ≡ 1)) }
+{
     let parents: [Option<u16>; 1] = [None];
     let seats: [u16; 2] = [0, 0];
     let Ok(tree) = Tree::new(alloc, parents.as_slice(), seats.as_slice()) else {
@@ -34,20 +38,24 @@ fn plans(alloc: Global) -> Result<Vec<Plan>, AllocError> {
     };
     let mut plans = Vec::new(alloc);
     plans.push(Plan::Tree(tree))?;
+    plans.push(Plan::Stamp)?;
     Ok(plans)
 }
 
-fn deployment(alloc: Global) -> Result<Deployment, AllocError> {
+// Two sites, an item at both, and a client.
+fn deployment(alloc: Global) -> Result<Deployment, AllocError>
+    ensures { IfOk result (λ d. (d.sites ≡ 2) × (length d.items ≡ 1) × IsActOf d (Act.Kill 1 0)) }
+{
     let plans = plans(alloc)?;
-    let mut clients = Vec::new(alloc);
-    clients.push(ClientLine {
-        name: name(alloc, b"a")?,
-        site: 0,
-    })?;
     let mut items = Vec::new(alloc);
     items.push(Item {
         name: name(alloc, b"x")?,
         replicas: SiteSet { bits: 3 },
+    })?;
+    let mut clients = Vec::new(alloc);
+    clients.push(ClientLine {
+        name: name(alloc, b"a")?,
+        site: 0,
     })?;
     match Deployment::new(alloc, 2, 1, items, clients, plans) {
         Ok(d) => Ok(d),
@@ -102,6 +110,11 @@ fn passes<N: Laid + Names, R: Wait>(rt: &R, cluster: &Cluster<N>) {
         );
         let _ = cluster.round(rt, NodeName::Site(1), &FreeGate);
     }
+}
+
+// The same in two threads at once.
+fn together<N: Laid + Names + Send + Sync, R: Threads + Wait + Sync>(rt: &R, cluster: &Cluster<N>) {
+    let _ = thread::join(rt, move || passes(rt, cluster), move || passes(rt, cluster));
 }
 
 // A client writes at its first site, and goes to the other one.
@@ -189,7 +202,7 @@ fn running<N: Laid + Names + Send + Sync, R: Threads + Wait + Sync>(
         return Err(AllocError);
     };
     goes(rt, &cluster, &mut client, &value, &mut found)?;
-    let (_, _) = thread::join(rt, || passes(rt, &cluster), || passes(rt, &cluster));
+    together(rt, &cluster);
     passes(rt, &cluster);
     comes(rt, &cluster, &mut client, &mut found)?;
     ends(rt, &cluster, &mut operator, &mut found)?;
@@ -197,10 +210,7 @@ fn running<N: Laid + Names + Send + Sync, R: Threads + Wait + Sync>(
     sessions.push(client)?;
     sessions.push(operator)?;
     match cluster.finish(alloc, sessions) {
-        Ok(ended) => {
-            let _ = ended.journal.as_slice();
-            note(&mut found, 12)?;
-        }
+        Ok(_) => note(&mut found, 12)?,
         Err(_) => note(&mut found, 13)?,
     }
     Ok(found)

@@ -112,6 +112,16 @@ fn collect<N: Laid>(workers: Vec<Worker<N>>, room: Vec<Session<N>>) -> Vec<Sessi
 
 // ---- the work
 
+// The fault at which a worker stopped, if any.
+fn fault_at<N: Laid>(worker: &Worker<N>) -> Option<CallFault>
+    ensures { result ≡ fault_of worker.now }
+{
+    match worker {
+        Worker::Caller(caller) => caller.fault,
+        Worker::Passer(passer) => passer.fault,
+    }
+}
+
 // The first fault at which a worker stopped.
 fn first_fault<N: Laid>(workers: &[Worker<N>]) -> Option<CallFault>
     requires { AllByRecursion HasFault workers.now }
@@ -123,16 +133,6 @@ fn first_fault<N: Laid>(workers: &[Worker<N>]) -> Option<CallFault>
     match fault_at(first) {
         Some(fault) => Some(fault),
         None => first_fault(rest),
-    }
-}
-
-// The fault at which a worker stopped, if any.
-fn fault_at<N: Laid>(worker: &Worker<N>) -> Option<CallFault>
-    ensures { result ≡ fault_of worker.now }
-{
-    match worker {
-        Worker::Caller(caller) => caller.fault,
-        Worker::Passer(passer) => passer.fault,
     }
 }
 
@@ -151,11 +151,11 @@ fn work_all<N: Laid + Names + Send + Sync, R: Threads + Wait + Sync, G: Gate>(
     ensures { AllZip (Works N.deployment acts.now) workers.old workers.new }
 {
     let threads = workers.len().max(1);
-    let run = |_: usize, worker: &mut Worker<N>|
+    let each = |_: usize, worker: &mut Worker<N>|
         requires { AllByRecursion (IsActOf N.deployment) acts.now }
         ensures { Works N.deployment acts.entry.now worker.entry.now worker.exit.now }
     { work(rt, cluster, acts, worker, gate, left) };
-    thread::for_each_mut(rt, workers, threads, &run);
+    thread::for_each_mut(rt, workers, threads, &each);
 }
 
 // All workers work, and then the nodes make passes until nothing is left to do. Where a worker stopped at a fault, no passes are made.
