@@ -2,6 +2,7 @@
 use Rattle.std.proofs.Common.{◌≡◌, ◌≤◌, ◌<◌, ℕ, zero, suc, ◌+◌, Bool, true, false, List, [], ◌∷◌, ◌++◌, length, map, Option, Some, None, IfSome, refl, sym, ap, ◌∙◌, subst, arith, inl, inr}
 use Rattle.std.specs.Prelude.{slice_index_or}
 use Rattle.std.specs.List.{AllByRecursion, AllZip}
+use Rattle.std.proofs.lemmas.Slice.Zip.{AllZip-long}
 use Rattle.sat_act.specs.declared.act.Act.{Act}
 use Rattle.sat_act.specs.declared.entry.Entry.{Entry}
 use Rattle.sat_act.specs.Deployed.{Deployed}
@@ -122,15 +123,18 @@ back_as d acts xs ys front bs e f w = subst (λ (zs : List SessionSeen). AllZip 
 pub through_as : (d : Deployed) (acts : List Act) (xs ys front bs : List SessionSeen) → front ≡ xs → bs ≡ ys → AllZip (CameThrough d acts) front bs → AllZip (CameThrough d acts) xs ys
 through_as d acts xs ys front bs e f w = subst (λ (zs : List SessionSeen). AllZip (CameThrough d acts) xs zs) f (subst (λ (zs : List SessionSeen). AllZip (CameThrough d acts) zs bs) e w)
 
--- as many sessions come back
-back_many : (d : Deployed) (acts : List Act) (xs ys : List SessionSeen) → AllZip (CameBack d acts) xs ys → length ys ≡ length xs
-back_many d acts [] [] w = refl
-back_many d acts [] (y ∷ ys) w = absurd w
-back_many d acts (x ∷ xs) [] w = absurd w
-back_many d acts (x ∷ xs) (y ∷ ys) w = ap (λ (n : ℕ). suc n) (back_many d acts xs ys w.1)
+-- ---- how many
 
-pub have_room : (d : Deployed) (acts : List Act) (xs front bs : List SessionSeen) (room : ℕ) → front ≡ xs → AllZip (CameBack d acts) front bs → length xs ≤ room → length bs ≤ room
-have_room d acts xs front bs room e w fits =
-    let many = back_many d acts front bs w in
-    let same = ap (λ (zs : List SessionSeen). length zs) e in
-    omega (arith, many, same, fits)
+-- those of the sessions, and then those of the nodes
+pub hired : {N : Type 0} (callers passers new : List (Worker N)) (xs : List SessionSeen) → sessions_in callers ≡ xs → sessions_in passers ≡ [] → new ≡ callers ++ passers → sessions_in new ≡ xs
+hired callers passers new xs held none e =
+    ap sessions_in e ∙ (sessions-append callers passers ∙ ((λ i. held i ++ none i) ∙ append-none xs))
+
+pub works_many : {N : Type 0} (d : Deployed) (acts : List Act) (xs ys : List (Worker N)) → AllZip (Works d acts) xs ys → length ys ≡ length xs
+works_many d acts xs ys w = AllZip-long (Works d acts) xs ys w
+
+-- there is room for one session more, where there is room for all workers
+pub few_sessions : {N : Type 0} (ws : List (Worker N)) → length (sessions_in ws) ≤ length ws
+few_sessions [] = omega arith
+few_sessions (worker.Caller x ∷ ws) = let few = few_sessions ws in omega (arith, few)
+few_sessions (worker.Passer x ∷ ws) = let few = few_sessions ws in omega (arith, few)

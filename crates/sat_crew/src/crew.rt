@@ -1,5 +1,5 @@
 //! A crew at work.
-ghost use Rattle.std.specs.Prelude.{◌≡◌, ◌≤◌, [], length, vec_capacity, vec_len, IfErr, IfOk, MatchOption, OnOk};
+ghost use Rattle.std.specs.Prelude.{◌≡◌, ◌≤◌, ◌+◌, ◌++◌, [], vec_capacity, vec_len, IfErr, IfOk, IfSome, MatchOption, OnOk};
 ghost use Rattle.std.specs.List.{AllByRecursion, AllZip};
 ghost use Rattle.sat_act.specs.Ranges.{IsActOf};
 ghost use Rattle.sat_session.specs.Calls.{IsFault};
@@ -25,19 +25,12 @@ use std::thread::Threads;
 
 // ---- the workers
 
-// A worker for each session, in their order. There is room for them.
-fn callers<N: Laid>(room: Vec<Worker<N>>, sessions: Vec<Session<N>>) -> Vec<Worker<N>>
-    requires { (room.items ≡ []) × (vec_len sessions ≤ vec_capacity room) }
-    ensures { sessions_in result.items ≡ sessions.items }
-{
-    let mut workers = room;
-    for session in sessions {
-        workers.push_reserved(Worker::Caller(Caller {
-            session,
-            fault: None,
-        }));
-    }
-    workers
+// The workers of nodes, and room for all workers and for the sessions when they come back.
+#[derive(Drop)]
+struct Rooms<N: Laid> {
+    passers: Vec<Worker<N>>,
+    places: Vec<Worker<N>>,
+    room: Vec<Session<N>>,
 }
 
 // A worker more, for a node.
@@ -80,21 +73,91 @@ fn add_sites<N: Laid + Names>(
 }
 
 // A worker for each node: the serializers, and then the sites.
-fn add_passers<N: Laid + Names>(
-    workers: &mut Vec<Worker<N>>,
+fn passers<N: Laid + Names>(
+    alloc: Global,
     cluster: &Cluster<N>,
-) -> Result<(), AllocError>
-    ensures { sessions_in workers.new.items ≡ sessions_in workers.old.items }
+) -> Result<Vec<Worker<N>>, AllocError>
+    ensures { IfOk result (λ workers. sessions_in workers.items ≡ []) }
 {
-    if let Err(fault) = add_serials(workers, cluster) {
-        return Err(fault);
+    let mut workers = Vec::new(alloc);
+    add_serials(&mut workers, cluster)?;
+    add_sites(&mut workers, cluster)?;
+    Ok(workers)
+}
+
+// All that is made before so many sessions are handed to workers, since nothing may be wanting behind that.
+fn rooms<N: Laid + Names>(alloc: Global, cluster: &Cluster<N>, count: usize) -> Option<Rooms<N>>
+    ensures passers { IfSome result (λ r. sessions_in r.passers.items ≡ []) }
+    ensures places { IfSome result (λ r. (r.places.items ≡ []) × (count + vec_len r.passers ≤ vec_capacity r.places)) }
+    ensures room { IfSome result (λ r. (r.room.items ≡ []) × (count + vec_len r.passers ≤ vec_capacity r.room)) }
+{
+    let Ok(passers) = passers(alloc, cluster) else {
+        return None;
+    };
+    let Some(most) = count.checked_add(passers.len()) else {
+        return None;
+    };
+    let Ok(places) = Vec::with_capacity(alloc, most) else {
+        return None;
+    };
+    let Ok(room) = Vec::with_capacity(alloc, most) else {
+        return None;
+    };
+    Some(Rooms {
+        passers,
+        places,
+        room,
+    })
+}
+
+// A worker for each session, in their order. There is room for them.
+fn callers<N: Laid>(places: Vec<Worker<N>>, sessions: Vec<Session<N>>) -> Vec<Worker<N>>
+    requires { (places.items ≡ []) × (vec_len sessions ≤ vec_capacity places) }
+    ensures sessions { sessions_in result.items ≡ sessions.items }
+    ensures many { vec_len result ≡ vec_len sessions }
+    ensures room { vec_capacity result ≡ vec_capacity places }
+{
+    let mut workers = places;
+    for session in sessions {
+        workers.push_reserved(Worker::Caller(Caller {
+            session,
+            fault: None,
+        }));
     }
-    add_sites(workers, cluster)
+    workers
+}
+
+// Workers behind others. There is room for them.
+fn with_passers<N: Laid>(callers: Vec<Worker<N>>, passers: Vec<Worker<N>>) -> Vec<Worker<N>>
+    requires { vec_len callers + vec_len passers ≤ vec_capacity callers }
+    ensures { result.items ≡ callers.items ++ passers.items }
+{
+    let mut workers = callers;
+    for passer in passers {
+        workers.push_reserved(passer);
+    }
+    workers
+}
+
+// All workers: those of the sessions, in their order, and then those of the nodes.
+#[tactic(auto, using(crate::proofs::Hiring::hired))]
+fn hire<N: Laid>(
+    places: Vec<Worker<N>>,
+    sessions: Vec<Session<N>>,
+    passers: Vec<Worker<N>>,
+) -> Vec<Worker<N>>
+    requires passers { sessions_in passers.items ≡ [] }
+    requires places { (places.items ≡ []) × (vec_len sessions + vec_len passers ≤ vec_capacity places) }
+    ensures sessions { sessions_in result.items ≡ sessions.items }
+    ensures many { vec_len result ≡ vec_len sessions + vec_len passers }
+{
+    let callers = callers(places, sessions);
+    with_passers(callers, passers)
 }
 
 // The sessions that the workers hold. There is room for them.
 fn collect<N: Laid>(workers: Vec<Worker<N>>, room: Vec<Session<N>>) -> Vec<Session<N>>
-    requires { (room.items ≡ []) × (length (sessions_in workers.items) ≤ vec_capacity room) }
+    requires { (room.items ≡ []) × (vec_len workers ≤ vec_capacity room) }
     ensures { result.items ≡ sessions_in workers.items }
 {
     let mut sessions = room;
@@ -159,21 +222,23 @@ fn work_all<N: Laid + Names + Send + Sync, R: Threads + Wait + Sync, G: Gate>(
 }
 
 // All workers work, and then the nodes make passes until nothing is left to do. Where a worker stopped at a fault, no passes are made.
-#[tactic(auto, using(crate::proofs::Hiring::have_faults))]
+#[tactic(auto, using(crate::proofs::Hiring::have_faults, crate::proofs::Hiring::back, crate::proofs::Hiring::through, crate::proofs::Hiring::works_many))]
 fn run<N: Laid + Names + Send + Sync, R: Threads + Wait + Sync, G: Gate>(
     rt: &R,
     cluster: &Cluster<N>,
     acts: &[Act],
     workers: &mut Vec<Worker<N>>,
     gate: &G,
-    callers: u64,
+    count: u64,
 ) -> Result<(), CallFault>
     requires acts { AllByRecursion (IsActOf N.deployment) acts.now }
-    ensures works { AllZip (Works N.deployment acts.now) workers.old.items workers.new.items }
-    ensures well { OnOk result (AllByRecursion IsWell workers.new.items) }
+    requires fresh { AllByRecursion IsFresh (sessions_in workers.old.items) }
+    ensures many { vec_len workers.new ≡ vec_len workers.old }
+    ensures back { AllZip (CameBack N.deployment acts.now) (sessions_in workers.old.items) (sessions_in workers.new.items) }
+    ensures through { OnOk result (AllZip (CameThrough N.deployment acts.now) (sessions_in workers.old.items) (sessions_in workers.new.items)) }
     ensures fault { IfErr result IsFault }
 {
-    let left = AtomicU64::new(callers);
+    let left = AtomicU64::new(count);
     work_all(rt, cluster, acts, workers.as_mut_slice(), gate, &left);
     match first_fault(workers.as_slice()) {
         Some(fault) => Err(fault),
@@ -181,34 +246,12 @@ fn run<N: Laid + Names + Send + Sync, R: Threads + Wait + Sync, G: Gate>(
     }
 }
 
-// Works with the workers, once there is one for each session.
-#[tactic(auto, using(crate::proofs::Hiring::back, crate::proofs::Hiring::through, crate::proofs::Hiring::untouched))]
-fn staffed<N: Laid + Names + Send + Sync, R: Threads + Wait + Sync, G: Gate>(
-    rt: &R,
-    cluster: &Cluster<N>,
-    acts: &[Act],
-    workers: &mut Vec<Worker<N>>,
-    gate: &G,
-    callers: u64,
-) -> Result<(), CallFault>
-    requires acts { AllByRecursion (IsActOf N.deployment) acts.now }
-    requires fresh { AllByRecursion IsFresh (sessions_in workers.old.items) }
-    ensures back { AllZip (CameBack N.deployment acts.now) (sessions_in workers.old.items) (sessions_in workers.new.items) }
-    ensures through { OnOk result (AllZip (CameThrough N.deployment acts.now) (sessions_in workers.old.items) (sessions_in workers.new.items)) }
-    ensures fault { IfErr result IsFault }
-{
-    if add_passers(workers, cluster).is_err() {
-        return Err(CallFault::Memory);
-    }
-    run(rt, cluster, acts, workers, gate, callers)
-}
-
 /// Does a script at the nodes of a cluster, on threads: one for each session, which does its acts in their order, and one for each
 /// serializer and each site, which makes its passes until all sessions' threads have returned. A client whose attach has to wait tries
 /// again, `MOST_TRIES` times in a row at the most, and then leaves out its further acts. At the end the nodes make passes until nothing is
 /// left to do. After Ok each session did all its acts, or its client gave up at the end of what it did; after an error each did a front of
 /// its acts. `Worn`, with the greatest u64, where a worker's call answered it; `Memory`. All sessions come back, in their order.
-#[tactic(auto, using(crate::proofs::Hiring::untouched, crate::proofs::Hiring::back_as, crate::proofs::Hiring::through_as, crate::proofs::Hiring::have_room))]
+#[tactic(auto, using(crate::proofs::Hiring::untouched, crate::proofs::Hiring::back_as, crate::proofs::Hiring::through_as))]
 pub fn crew<N: Laid + Names + Send + Sync, R: Threads + Wait + Sync, G: Gate>(
     rt: &R,
     alloc: Global,
@@ -222,21 +265,20 @@ pub fn crew<N: Laid + Names + Send + Sync, R: Threads + Wait + Sync, G: Gate>(
     ensures ok { IfOk result (λ back. AllZip (CameThrough N.deployment acts.now) sessions.items back.items) }
     ensures err { IfErr result (λ f. IsFault f.fault × AllZip (CameBack N.deployment acts.now) sessions.items f.sessions.items) }
 {
-    let Ok(room) = Vec::with_capacity(alloc, sessions.len()) else {
+    let Some(rooms) = rooms(alloc, cluster, sessions.len()) else {
         return Err(CrewFault {
             fault: CallFault::Memory,
             sessions,
         });
     };
-    let Ok(places) = Vec::with_capacity(alloc, sessions.len()) else {
-        return Err(CrewFault {
-            fault: CallFault::Memory,
-            sessions,
-        });
-    };
+    let Rooms {
+        passers,
+        places,
+        room,
+    } = rooms;
     let count = sessions.len() as u64;
-    let mut workers = callers(places, sessions);
-    let result = staffed(rt, cluster, acts, &mut workers, gate, count);
+    let mut workers = hire(places, sessions, passers);
+    let result = run(rt, cluster, acts, &mut workers, gate, count);
     let sessions = collect(workers, room);
     match result {
         Ok(()) => Ok(sessions),

@@ -4,7 +4,7 @@ ghost use Rattle.std.specs.List.{AllByRecursion};
 ghost use Rattle.sat_crew.specs.Crews.{IsFresh};
 
 use crate::crew;
-use sat_act::{Act, Answer, ClientLine, Deployment, Plan};
+use sat_act::{Act, Answer, ClientLine, Deployment, Plan, Refusal};
 use sat_cluster::Cluster;
 use sat_label::Name;
 use sat_machines::Laid;
@@ -26,7 +26,7 @@ fn name(alloc: Global, text: &[u8]) -> Result<Name, AllocError> {
     }
 }
 
-// A serializer at which both sites sit, and then timestamp order.
+// A serializer at which both sites sit.
 fn plans(alloc: Global) -> Result<Vec<Plan>, AllocError> {
     let parents: [Option<u16>; 1] = [None];
     let seats: [u16; 2] = [0, 0];
@@ -35,7 +35,6 @@ fn plans(alloc: Global) -> Result<Vec<Plan>, AllocError> {
     };
     let mut plans = Vec::new(alloc);
     plans.push(Plan::Tree(tree))?;
-    plans.push(Plan::Stamp)?;
     Ok(plans)
 }
 
@@ -62,8 +61,8 @@ fn note<N: Laid>(session: &Session<N>, found: &mut Vec<u64>) -> Result<(), Alloc
             Answer::Moved(_) => found.push(1)?,
             Answer::Attached => found.push(2)?,
             Answer::Left(_) => found.push(3)?,
-            Answer::Closed { .. } => found.push(4)?,
-            Answer::Refused(_) => {}
+            Answer::Refused(Refusal::NotYet) => {}
+            Answer::Refused(_) => found.push(4)?,
             _ => found.push(0)?,
         }
     }
@@ -106,7 +105,7 @@ fn worked<N: Laid + Names + Send + Sync, R: Threads + Wait + Sync>(
     let sessions = sessions(alloc, &mut cluster)?;
     let acts = [
         Act::Move { client: 0, site: 1 },
-        Act::Close { site: 0 },
+        Act::Fall { site: 1 },
         Act::Attach { client: 0, site: 1 },
         Act::Leave { client: 0 },
     ];
