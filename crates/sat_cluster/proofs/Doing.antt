@@ -207,6 +207,24 @@ pub pass_fault : {M I A : Type 0} (h : HeldSeen M I A) (result : Result ℕ Call
 pass_fault h (Ok n) f = tt
 pass_fault h (Err y) f = fault-of h y f
 
+-- ---- the same act by the same client
+
+module _ (n c : ℕ) (result : Result Answer CallFault) (old new : SessionSeen) (same : n ≡ c) where
+  pub as_write : (item : ℕ) (value : List ℕ) → Did (act.Write n item value) result old new → Did (act.Write c item value) result old new
+  as_write item value = subst (λ (x : ℕ). Did (act.Write x item value) result old new) same
+
+  pub as_read : (item : ℕ) → Did (act.Read n item) result old new → Did (act.Read c item) result old new
+  as_read item = subst (λ (x : ℕ). Did (act.Read x item) result old new) same
+
+  pub as_move : (j : ℕ) → Did (act.Move n j) result old new → Did (act.Move c j) result old new
+  as_move j = subst (λ (x : ℕ). Did (act.Move x j) result old new) same
+
+  pub as_leave : Did (act.Leave n) result old new → Did (act.Leave c) result old new
+  as_leave = subst (λ (x : ℕ). Did (act.Leave x) result old new) same
+
+  pub as_attach : (j : ℕ) → Did (act.Attach n j) result old new → Did (act.Attach c j) result old new
+  as_attach j = subst (λ (x : ℕ). Did (act.Attach x j) result old new) same
+
 -- ---- where an act is done
 
 pub site_seat : (i : ℕ) (seat : Option ℕ) → seat ≡ Some i → site_named seat ≡ Some (named.Site i)

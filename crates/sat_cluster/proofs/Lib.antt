@@ -1,4 +1,4 @@
 mod Marks
 mod Answering
-mod Doing
+pub mod Doing
 mod Ending

@@ -29,7 +29,7 @@ pub(crate) fn alone<N: Laid>(session: &mut Session<N>, act: Act) -> Result<Answe
 }
 
 /// A write of a client without a seat. That the session has no number left comes before want of memory for the value.
-#[tactic(auto, using(crate::proofs::Doing::did_worn, crate::proofs::Doing::did_stop))]
+#[tactic(auto, using(crate::proofs::Doing::did_worn, crate::proofs::Doing::did_stop, crate::proofs::Doing::as_write))]
 pub(crate) fn write_alone<N: Laid>(
     session: &mut Session<N>,
     item: u16,
@@ -42,7 +42,7 @@ pub(crate) fn write_alone<N: Laid>(
     if session.lamport() == u64::MAX {
         return Err(CallFault::Worn(u64::MAX));
     }
-    let Ok(value) = value.copy() else {
+    let Ok(copy) = value.copy() else {
         return Err(CallFault::Memory);
     };
     let client = session.number();
@@ -51,7 +51,7 @@ pub(crate) fn write_alone<N: Laid>(
         Act::Write {
             client,
             item,
-            value,
+            value: copy,
         },
     )
 }

@@ -121,6 +121,7 @@ impl<N: Laid + Names> Cluster<N> {
     }
 
     /// A client reads an item at the site where it is seated. Refusals and errors come as in `write`.
+    #[tactic(auto, using(crate::proofs::Doing::as_read))]
     pub fn read<R: Wait>(
         &self,
         rt: &R,
@@ -141,6 +142,7 @@ impl<N: Laid + Names> Cluster<N> {
     }
 
     /// A client gives up its seat, to go to another site. Refusals and errors come as in `write`.
+    #[tactic(auto, using(crate::proofs::Doing::as_move))]
     pub fn move_to<R: Wait>(
         &self,
         rt: &R,
@@ -161,6 +163,7 @@ impl<N: Laid + Names> Cluster<N> {
     }
 
     /// A client leaves its seat, which no node is told. `NoSession` exactly where it has none; errors come as in `write` without a seat.
+    #[tactic(auto, using(crate::proofs::Doing::as_leave))]
     pub fn leave(&self, session: &mut Session<N>) -> Result<Answer, CallFault>
         requires client { session.old.number < length N.deployment.clients }
         ensures { Did (Act.Leave session.old.number) result session.old session.new }
@@ -170,6 +173,7 @@ impl<N: Laid + Names> Cluster<N> {
     }
 
     /// A client asks a site for a seat. `Joined` exactly where it has one, which the session answers alone; errors come as in `write`.
+    #[tactic(auto, using(crate::proofs::Doing::as_attach))]
     pub fn attach<R: Wait>(
         &self,
         rt: &R,

@@ -1,17 +1,13 @@
 -- Whose an act is.
-use Rattle.std.proofs.Common.{◌≡◌, ◌<◌, ◌≤◌, ℕ, ◌==◌, ◌&&◌, nat_le, nat_lt, not, Bool, true, false, List, length, Option, Some, None, Result, if◌then◌else◌, refl, sym, ap, ◌∙◌, subst, arith}
+use Rattle.std.proofs.Common.{◌≡◌, ◌<◌, ◌≤◌, ℕ, ◌==◌, ◌&&◌, nat_le, nat_lt, not, Bool, true, false, List, length, if◌then◌else◌, refl, sym, ap, ◌∙◌, subst, arith}
 use Rattle.std.proofs.lemmas.Bool.Decides.{nat_tests}
 use Rattle.std.proofs.lemmas.Bool.{eqb-true}
 use Rattle.sat_act.specs.declared.act.Act.{Act}
-use Rattle.sat_act.specs.declared.act.Act.TheVariants as act
-use Rattle.sat_act.specs.declared.answer.Answer.{Answer}
 use Rattle.sat_act.specs.Deployed.{Deployed}
-use Rattle.sat_node.specs.declared.kept.CallFault.{CallFault}
 use Rattle.sat_stitch.specs.Places.{Session, Client, Operator, session_eq}
 use Rattle.sat_session.specs.Notes.{SessionSeen, session_at}
 use Rattle.sat_session.specs.Sessions.{IsSession}
 use Rattle.sat_undone.specs.Undone.{is_of}
-use Rattle.sat_cluster.specs.Doing.{Did}
 
 -- ---- the test
 
@@ -51,26 +47,9 @@ outside-by n m false less most own = grind (arith, nat_tests)
 pub at_operator : (d : Deployed) (x : SessionSeen) → IsSession d x → session_eq Operator (session_at d x.number) ≡ true → x.number ≡ length d.clients
 at_operator d x is own = outside-by x.number (length d.clients) (nat_lt x.number (length d.clients)) refl is.limit own
 
--- ---- a call of the session's own act
-
-module _ (d : Deployed) (c : ℕ) (result : Result Answer CallFault) (old new : SessionSeen) (own : session_eq (Client c) (session_at d old.number) ≡ true) where
-  is-own : old.number ≡ c
-  is-own = sym (same-client d old.number c own)
-
-  pub as_write : (n : ℕ) (value : List ℕ) → Did (act.Write old.number n value) result old new → Did (act.Write c n value) result old new
-  as_write n value = subst (λ (x : ℕ). Did (act.Write x n value) result old new) is-own
-
-  pub as_read : (n : ℕ) → Did (act.Read old.number n) result old new → Did (act.Read c n) result old new
-  as_read n = subst (λ (x : ℕ). Did (act.Read x n) result old new) is-own
-
-  pub as_move : (j : ℕ) → Did (act.Move old.number j) result old new → Did (act.Move c j) result old new
-  as_move j = subst (λ (x : ℕ). Did (act.Move x j) result old new) is-own
-
-  pub as_leave : Did (act.Leave old.number) result old new → Did (act.Leave c) result old new
-  as_leave = subst (λ (x : ℕ). Did (act.Leave x) result old new) is-own
-
-  pub as_attach : (j : ℕ) → Did (act.Attach old.number j) result old new → Did (act.Attach c j) result old new
-  as_attach j = subst (λ (x : ℕ). Did (act.Attach x j) result old new) is-own
+-- the client of its own act is the session's
+pub own_number : (d : Deployed) (n c : ℕ) → session_eq (Client c) (session_at d n) ≡ true → n ≡ c
+own_number d n c own = sym (same-client d n c own)
 
 -- the session is the same while its act is tried
 pub own_still : (d : Deployed) (n m : ℕ) (a : Act) → m ≡ n → is_of (session_at d n) a ≡ true → is_of (session_at d m) a ≡ true

@@ -51,7 +51,7 @@ pub(crate) fn is_own<N: Laid>(session: &Session<N>, d: &Deployment, act: &Act) -
 // ---- the call of an act
 
 /// The cluster's call of a session's act.
-#[tactic(auto, using(crate::proofs::Owning::inside, crate::proofs::Owning::at_operator, crate::proofs::Owning::as_write, crate::proofs::Owning::as_read, crate::proofs::Owning::as_move, crate::proofs::Owning::as_leave, crate::proofs::Owning::as_attach))]
+#[tactic(auto, using(crate::proofs::Owning::inside, crate::proofs::Owning::at_operator, crate::proofs::Owning::own_number, sat_cluster::proofs::Doing::as_write, sat_cluster::proofs::Doing::as_read, sat_cluster::proofs::Doing::as_move, sat_cluster::proofs::Doing::as_leave, sat_cluster::proofs::Doing::as_attach))]
 fn call<N: Laid + Names, R: Wait>(
     rt: &R,
     cluster: &Cluster<N>,

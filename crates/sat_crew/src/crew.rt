@@ -175,13 +175,32 @@ fn collect<N: Laid>(workers: Vec<Worker<N>>, room: Vec<Session<N>>) -> Vec<Sessi
 
 // ---- the work
 
+// The same fault again.
+fn same_fault(fault: &CallFault) -> CallFault
+    ensures { result ≡ fault.now }
+{
+    match fault {
+        CallFault::Worn(number) => CallFault::Worn(*number),
+        CallFault::Memory => CallFault::Memory,
+    }
+}
+
+fn same_if(fault: &Option<CallFault>) -> Option<CallFault>
+    ensures { result ≡ fault.now }
+{
+    match fault {
+        Some(fault) => Some(same_fault(fault)),
+        None => None,
+    }
+}
+
 // The fault at which a worker stopped, if any.
 fn fault_at<N: Laid>(worker: &Worker<N>) -> Option<CallFault>
     ensures { result ≡ fault_of worker.now }
 {
     match worker {
-        Worker::Caller(caller) => caller.fault,
-        Worker::Passer(passer) => passer.fault,
+        Worker::Caller(caller) => same_if(&caller.fault),
+        Worker::Passer(passer) => same_if(&passer.fault),
     }
 }
 
