@@ -1,5 +1,5 @@
 mod Owning
 mod Standing
 mod Trying
-mod Serving
+mod Scripts
 mod Hiring

@@ -21,7 +21,7 @@ use std::sync::Wait;
 use std::sync::atomic::{AtomicU64, Ordering};
 
 /// Does a session's acts of a script, in their order, until its client gives up or a call fails.
-#[tactic(auto, using(crate::proofs::Serving::serving_start, crate::proofs::Serving::serving_act, crate::proofs::Serving::serving_other, crate::proofs::Serving::serving_own, crate::proofs::Serving::worked_failed, crate::proofs::Serving::worked_given_up, crate::proofs::Serving::worked_all))]
+#[tactic(auto, using(crate::proofs::Scripts::serving_start, crate::proofs::Scripts::serving_act, crate::proofs::Scripts::serving_other, crate::proofs::Scripts::serving_own, crate::proofs::Scripts::worked_failed, crate::proofs::Scripts::worked_given_up, crate::proofs::Scripts::worked_all))]
 fn serve<N: Laid + Names, R: Wait, G: Gate>(
     rt: &R,
     cluster: &Cluster<N>,
@@ -48,7 +48,7 @@ fn serve<N: Laid + Names, R: Wait, G: Gate>(
 }
 
 // A session's worker.
-#[tactic(auto, using(crate::proofs::Serving::serves))]
+#[tactic(auto, using(crate::proofs::Scripts::serves))]
 fn work_caller<N: Laid + Names, R: Wait, G: Gate>(
     rt: &R,
     cluster: &Cluster<N>,
@@ -63,7 +63,7 @@ fn work_caller<N: Laid + Names, R: Wait, G: Gate>(
 }
 
 // A node's worker.
-#[tactic(auto, using(crate::proofs::Serving::passes))]
+#[tactic(auto, using(crate::proofs::Scripts::passes))]
 fn work_passer<N: Laid + Names, R: Wait, G: Gate>(
     rt: &R,
     cluster: &Cluster<N>,
