@@ -3,3 +3,4 @@ mod Standing
 mod Trying
 mod Scripts
 mod Hiring
+mod Parts
