@@ -1,13 +1,14 @@
 -- What sessions did, in the journal of all.
-use Rattle.std.proofs.Common.{◌≡◌, ◌⊎◌, Bool, true, false, List, [], ◌∷◌, ◌++◌, filter, map, reverse, if◌then◌else◌, refl, sym, ap, ◌∙◌, subst, inl, inr}
-use Rattle.std.proofs.lemmas.List.{reverse-reverse}
+use Rattle.std.proofs.Common.{◌≡◌, ◌⊎◌, Bool, true, false, List, [], ◌∷◌, ◌++◌, filter, map, reverse, cond, if◌then◌else◌, refl, sym, ap, ◌∙◌, subst, inl, inr}
+use Rattle.std.proofs.lemmas.List.{append-nil, reverse-reverse}
+use Rattle.std.proofs.lemmas.List.Elements.{filter-append}
 use Rattle.std.specs.List.{AllZip}
 use Rattle.sat_label.specs.Members.{In}
 use Rattle.sat_act.specs.declared.act.Act.{Act}
 use Rattle.sat_act.specs.declared.entry.Entry.{Entry}
 use Rattle.sat_act.specs.Deployed.{Deployed}
 use Rattle.sat_stitch.specs.Places.{Session, entry_if, is_session, session_eq, session_of, session_part}
-use Rattle.sat_stitch.proofs.Stitches.{filter-reversed}
+use Rattle.sat_stitch.proofs.Stitches.{reverse-cons}
 use Rattle.sat_stitch.proofs.Tables.{session-is, session-self}
 use Rattle.sat_finish.specs.Finishing.{note_entry, noted_entries}
 use Rattle.sat_session.specs.Notes.{SessionSeen, session_at}
@@ -24,6 +25,14 @@ part-is : (s : Session) (h : List Entry) → session_part h s ≡ filter (is_by 
 unfolding session_part
 part-is s [] = refl
 part-is s (e ∷ h) = entry-as (is_session s (session_of e.act)) e (session_part h s) ∙ ap (λ (es : List Entry). if is_by s e then e ∷ es else es) (part-is s h)
+
+filter-reversed : (q : Entry → Bool) (xs : List Entry) → filter q (reverse xs) ≡ reverse (filter q xs)
+filter-reversed q [] = refl
+filter-reversed q (x ∷ xs) = ap (λ (ys : List Entry). filter q ys) (reverse-cons x xs) ∙ (filter-append q (reverse xs) (x ∷ []) ∙ go (q x) (filter-reversed q xs))
+  where
+    go : (b : Bool) → filter q (reverse xs) ≡ reverse (filter q xs) → filter q (reverse xs) ++ cond b (x ∷ []) [] ≡ reverse (cond b (x ∷ filter q xs) (filter q xs))
+    go true e = ap (λ (ys : List Entry). ys ++ x ∷ []) e ∙ sym (reverse-cons x (filter q xs))
+    go false e = append-nil (filter q (reverse xs)) ∙ e
 
 -- where it is this list, the newest first, the session's entries are this list, the oldest first
 entries-are : (s : Session) (journal es : List Entry) → session_part (reverse journal) s ≡ reverse es → entries_of s journal ≡ es
