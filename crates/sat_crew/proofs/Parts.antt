@@ -46,21 +46,21 @@ pub data Found (d : Deployed) (s : Session) (ys : List SessionSeen) : Type 0 whe
   held : (y : SessionSeen) → In ys y → session_at d y.number ≡ s → Found d s ys
   none : ((y : SessionSeen) → In ys y → session_at d y.number ≡ s → ⊥) → Found d s ys
 
+other-still : (d : Deployed) (s : Session) (y : SessionSeen) (ys : List SessionSeen) → session_eq (session_at d y.number) s ≡ false → ((z : SessionSeen) → In ys z → session_at d z.number ≡ s → ⊥) → (z : SessionSeen) → In (y ∷ ys) z → session_at d z.number ≡ s → ⊥
+other-still d s y ys is f z (inl same) e =
+    let t : session_at d y.number ≡ s = ap (λ (x : SessionSeen). session_at d x.number) same ∙ e in
+    let w : true ≡ false = sym (session-self s) ∙ (ap (λ (x : Session). session_eq x s) (sym t) ∙ is) in
+    cc
+other-still d s y ys is f z (inr i) e = f z i e
+
+find-by : (d : Deployed) (s : Session) (y : SessionSeen) (ys : List SessionSeen) (b : Bool) → session_eq (session_at d y.number) s ≡ b → Found d s ys → Found d s (y ∷ ys)
+find-by d s y ys true is f = held y (inl refl) (session-is (session_at d y.number) s is)
+find-by d s y ys false is (held z i e) = held z (inr i) e
+find-by d s y ys false is (none f) = none (other-still d s y ys is f)
+
 find : (d : Deployed) (s : Session) (ys : List SessionSeen) → Found d s ys
 find d s [] = none (λ y i e. i)
-find d s (y ∷ ys) = go (session_eq (session_at d y.number) s) refl (find d s ys)
-  where
-    go : (b : Bool) → session_eq (session_at d y.number) s ≡ b → Found d s ys → Found d s (y ∷ ys)
-    go true is f = held y (inl refl) (session-is (session_at d y.number) s is)
-    go false is (held z i e) = held z (inr i) e
-    go false is (none f) = none (λ z i e. other z i e)
-      where
-        other : (z : SessionSeen) → In (y ∷ ys) z → session_at d z.number ≡ s → ⊥
-        other z (inl same) e =
-            let t : session_at d y.number ≡ s = ap (λ (x : SessionSeen). session_at d x.number) same ∙ e in
-            let w : true ≡ false = sym (session-self s) ∙ (ap (λ (x : Session). session_eq x s) (sym t) ∙ is) in
-            cc
-        other z (inr i) e = f z i e
+find d s (y ∷ ys) = find-by d s y ys (session_eq (session_at d y.number) s) refl (find d s ys)
 
 -- ---- fronts
 
