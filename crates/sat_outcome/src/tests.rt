@@ -75,7 +75,7 @@ fn each_text_says_what_is_missing(rt: HostRuntime) -> Result<(), Fail> {
     write_undone(&d, &Act::Leave { client: 0 }, &mut out)?;
     write_unsettled(2, 31, &mut out)?;
     let want =
-        b"differ\n7 0 5.0.0 - read a x -> read none\nnone\ndiffer\nnone\n7 2 5.0.0 - kill 2 0 -> killed\nundone\nleave a\nundone\nsettled 2 31\n";
+        b"differ\n7 0 5.0.0 - read a x -> read none\nnone\ndiffer\nnone\n7 2 5.0.0 - kill 2 z0 -> killed\nundone\nleave a\nundone\nsettled 2 31\n";
     assert_eq!(rt; out.as_slice(), want.as_slice());
     Ok(())
 }
