@@ -1,1 +1,5 @@
 mod Marks
+mod Answering
+pub mod Doing
+mod Ending
+mod Fixtures

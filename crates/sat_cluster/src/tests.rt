@@ -1,18 +1,24 @@
-//! Two sites and a tree of one serializer, under locks.
-ghost use Rattle.std.specs.Prelude.{◌≡◌};
+//! Two sites and a tree of one serializer, in two threads: the sessions, their calls, the nodes' passes and the end.
+ghost use Rattle.std.specs.Prelude.{◌≡◌, ◌<◌, [], ◌∷◌, length, IfOk};
+ghost use Rattle.sat_tree.specs.Shape.{TreeShape};
+ghost use Rattle.sat_act.specs.declared.deployment.Plan.TheVariants as plan;
+ghost use Rattle.sat_act.specs.Ranges.{IsActOf};
 
 use crate::{Cluster, SessionFault};
-use sat_act::{ClientLine, Deployment, Plan};
-use sat_label::Name;
-use sat_machines::{Laid, SiteAct, SiteNode};
-use sat_node::{Held, Names};
-use sat_site::SiteInput;
+use sat_act::{Act, Answer, ClientLine, Deployment, Item, Plan, Refusal};
+use sat_label::{Name, NodeName, SiteSet, Value};
+use sat_machines::Laid;
+use sat_node::{CallFault, Names};
+use sat_outside::FreeGate;
+use sat_session::Session;
 use sat_tree::Tree;
 use sat_wires::Wires;
 use std::alloc::{AllocError, Global};
 use std::marker::Brand;
 use std::sync::Wait;
 use std::test::*;
+use std::thread;
+use std::thread::Threads;
 
 fn name(alloc: Global, text: &[u8]) -> Result<Name, AllocError> {
     match Name::of(alloc, text)? {
@@ -21,8 +27,10 @@ fn name(alloc: Global, text: &[u8]) -> Result<Name, AllocError> {
     }
 }
 
-// A serializer at which both sites sit.
-fn plans(alloc: Global) -> Result<Vec<Plan>, AllocError> {
+// A serializer at which both sites sit, and then timestamp order.
+fn plans(alloc: Global) -> Result<Vec<Plan>, AllocError>
+    ensures { IfOk result (λ plans. (tree : TreeShape) × (plans.items ≡ plan.Tree tree ∷ plan.Stamp ∷ []) × (length tree.parents ≡ 1)) }
+{
     let parents: [Option<u16>; 1] = [None];
     let seats: [u16; 2] = [0, 0];
     let Ok(tree) = Tree::new(alloc, parents.as_slice(), seats.as_slice()) else {
@@ -30,26 +38,36 @@ fn plans(alloc: Global) -> Result<Vec<Plan>, AllocError> {
     };
     let mut plans = Vec::new(alloc);
     plans.push(Plan::Tree(tree))?;
+    plans.push(Plan::Stamp)?;
     Ok(plans)
 }
 
-fn deployment(alloc: Global) -> Result<Deployment, AllocError> {
+// Two sites, an item at both, and a client.
+#[tactic(auto, using(crate::proofs::Fixtures::first_kill))]
+fn deployment(alloc: Global) -> Result<Deployment, AllocError>
+    ensures { IfOk result (λ d. (d.sites ≡ 2) × (length d.items ≡ 1) × IsActOf d (Act.Kill 1 0)) }
+{
     let plans = plans(alloc)?;
+    let mut items = Vec::new(alloc);
+    items.push(Item {
+        name: name(alloc, b"x")?,
+        replicas: SiteSet { bits: 3 },
+    })?;
     let mut clients = Vec::new(alloc);
     clients.push(ClientLine {
         name: name(alloc, b"a")?,
         site: 0,
     })?;
-    match Deployment::new(alloc, 2, 1, Vec::new(alloc), clients, plans) {
+    match Deployment::new(alloc, 2, 1, items, clients, plans) {
         Ok(d) => Ok(d),
         Err(_) => Err(AllocError),
     }
 }
 
 // A session's number, 100 where there is no such client, 101 where it was given.
-fn told(answer: Result<u16, SessionFault>) -> u64 {
+fn told<N: Laid>(answer: &Result<Session<N>, SessionFault>) -> u64 {
     match answer {
-        Ok(number) => u64::from(number),
+        Ok(session) => u64::from(session.number()),
         Err(SessionFault::NoSuch) => 100,
         Err(SessionFault::Taken) => 101,
         Err(SessionFault::Memory) => 102,
@@ -61,66 +79,101 @@ fn note(found: &mut Vec<u64>, word: u64) -> Result<(), AllocError> {
     Ok(())
 }
 
-// A tick of gear 0 of a site. False where it was not done.
-#[tactic(auto, using(sat_opened::proofs::Ticks::tick_local))]
-fn tick<N: Laid + Names>(held: &mut Held<SiteNode<N>, N>, ts: u64) -> Result<bool, AllocError> {
-    let input = SiteAct::of_site(SiteInput::Tick { gear: 0, ts });
-    let copy = input.copy()?;
-    if !held.fits(&input) {
-        return Ok(false);
-    }
-    Ok(held.act(0, input, copy).is_ok())
-}
-
-// Ticks a site under its lock. The number of its node's last entry, 1,000 where there is no such site.
-fn ticked<N: Laid + Names, R: Wait>(rt: &R, cluster: &Cluster<N>, site: u16, ts: u64) -> u64 {
-    match cluster.site(rt, site) {
-        Some(mut guard) => {
-            let held = &mut *guard;
-            let _ = tick(held, ts);
-            held.node().lamport()
-        }
-        None => 1000,
+// A number for each answer of this test, 0 for others.
+fn code(answer: &Result<Answer, CallFault>) -> u64 {
+    match answer {
+        Ok(Answer::Wrote(_)) => 1,
+        Ok(Answer::ReadSome { .. }) => 2,
+        Ok(Answer::Moved(_)) => 3,
+        Ok(Answer::Attached) => 4,
+        Ok(Answer::Left(_)) => 5,
+        Ok(Answer::Closed { .. }) => 6,
+        Ok(Answer::Fallen) => 7,
+        Ok(Answer::Killed) => 8,
+        Ok(Answer::Refused(Refusal::NoSession)) => 9,
+        Ok(Answer::Refused(Refusal::Joined)) => 10,
+        Ok(Answer::Refused(Refusal::NotYet)) => 11,
+        _ => 0,
     }
 }
 
-// The number of a serializer's last entry, 1,000 where there is no such serializer.
-fn number<N: Laid + Names, R: Wait>(rt: &R, cluster: &Cluster<N>, serializer: u16) -> u64 {
-    match cluster.serial(rt, 1, serializer) {
-        Some(guard) => guard.node().lamport(),
-        None => 1000,
+// Four passes over all nodes.
+fn passes<N: Laid + Names, R: Wait>(rt: &R, cluster: &Cluster<N>) {
+    for _ in 0..4usize {
+        let _ = cluster.round(rt, NodeName::Site(0), &FreeGate);
+        let _ = cluster.round(
+            rt,
+            NodeName::Serializer {
+                epoch: 1,
+                number: 0,
+            },
+            &FreeGate,
+        );
+        let _ = cluster.round(rt, NodeName::Site(1), &FreeGate);
     }
 }
 
-// Each site is ticked, and then the first once more.
-fn ticks<N: Laid + Names, R: Wait>(
+// The same in two threads at once.
+fn together<N: Laid + Names + Send + Sync, R: Threads + Wait + Sync>(rt: &R, cluster: &Cluster<N>) {
+    let _ = thread::join(rt, move || passes(rt, cluster), move || passes(rt, cluster));
+}
+
+// A client writes at its first site, and goes to the other one.
+fn goes<N: Laid + Names, R: Wait>(
     rt: &R,
     cluster: &Cluster<N>,
+    session: &mut Session<N>,
+    value: &Value,
     found: &mut Vec<u64>,
-) -> Result<(), AllocError> {
-    note(found, ticked(rt, cluster, 0, 5))?;
-    note(found, ticked(rt, cluster, 1, 6))?;
-    note(found, ticked(rt, cluster, 0, 7))?;
-    note(found, ticked(rt, cluster, 2, 7))?;
-    note(found, number(rt, cluster, 0))?;
-    note(found, number(rt, cluster, 1))
+) -> Result<(), AllocError>
+    requires client { session.old.number < length N.deployment.clients }
+    requires items { length N.deployment.items ≡ 1 }
+    requires sites { N.deployment.sites ≡ 2 }
+    ensures number { session.new.number ≡ session.old.number }
+{
+    note(found, code(&cluster.attach(rt, session, 1)))?;
+    note(found, code(&cluster.write(rt, session, 0, value)))?;
+    note(found, code(&cluster.move_to(rt, session, 1)))?;
+    note(found, code(&cluster.write(rt, session, 0, value)))?;
+    note(found, code(&cluster.attach(rt, session, 1)))?;
+    Ok(())
 }
 
-fn sessions<N: Laid + Names>(
-    alloc: Global,
-    cluster: &mut Cluster<N>,
+// And comes there.
+fn comes<N: Laid + Names, R: Wait>(
+    rt: &R,
+    cluster: &Cluster<N>,
+    session: &mut Session<N>,
     found: &mut Vec<u64>,
-) -> Result<(), AllocError> {
-    let known = name(alloc, b"a")?;
-    let unknown = name(alloc, b"b")?;
-    note(found, told(cluster.session(&known)))?;
-    note(found, told(cluster.session(&known)))?;
-    note(found, told(cluster.session(&unknown)))?;
-    note(found, told(cluster.operator()))?;
-    note(found, told(cluster.operator()))
+) -> Result<(), AllocError>
+    requires client { session.old.number < length N.deployment.clients }
+    requires items { length N.deployment.items ≡ 1 }
+    requires sites { N.deployment.sites ≡ 2 }
+{
+    note(found, code(&cluster.attach(rt, session, 1)))?;
+    note(found, code(&cluster.read(rt, session, 0)))?;
+    note(found, code(&cluster.leave(session)))?;
+    Ok(())
 }
 
-fn running<N: Laid + Names, R: Wait>(
+// The operator's acts.
+fn ends<N: Laid + Names, R: Wait>(
+    rt: &R,
+    cluster: &Cluster<N>,
+    session: &mut Session<N>,
+    found: &mut Vec<u64>,
+) -> Result<(), AllocError>
+    requires operator { session.old.number ≡ length N.deployment.clients }
+    requires sites { N.deployment.sites ≡ 2 }
+    requires serializer { IsActOf N.deployment (Act.Kill 1 0) }
+{
+    note(found, code(&cluster.close_epoch(rt, session, 0)))?;
+    note(found, code(&cluster.fall(rt, session, 0)))?;
+    note(found, code(&cluster.kill(rt, session, 1, 0)))?;
+    Ok(())
+}
+
+fn running<N: Laid + Names + Send + Sync, R: Threads + Wait + Sync>(
     rt: &R,
     alloc: Global,
     d: Deployment,
@@ -129,26 +182,48 @@ fn running<N: Laid + Names, R: Wait>(
     requires deployment { N.deployment ≡ d }
     requires made { wires.deployment ≡ d }
     requires wires { N.wires ≡ wires.wires }
+    requires items { length d.items ≡ 1 }
+    requires sites { d.sites ≡ 2 }
+    requires serializer { IsActOf d (Act.Kill 1 0) }
 {
     let mut cluster = Cluster::<N>::new(alloc, d, wires)?;
+    let known = name(alloc, b"a")?;
+    let unknown = name(alloc, b"b")?;
     let mut found = Vec::new(alloc);
-    note(&mut found, u64::from(cluster.deployment().sites()))?;
-    sessions(alloc, &mut cluster, &mut found)?;
-    ticks(rt, &cluster, &mut found)?;
-    let opened = cluster.open();
-    note(&mut found, opened.given)?;
-    note(&mut found, opened.sites.len() as u64)?;
-    note(&mut found, opened.serials.len() as u64)?;
+    note(&mut found, told(&cluster.session(alloc, &unknown)))?;
+    let Ok(mut client) = cluster.session(alloc, &known) else {
+        return Err(AllocError);
+    };
+    let Ok(mut operator) = cluster.operator(alloc) else {
+        return Err(AllocError);
+    };
+    note(&mut found, told(&cluster.session(alloc, &known)))?;
+    note(&mut found, told(&cluster.operator(alloc)))?;
+    let Some(value) = Value::of(alloc, b"v")? else {
+        return Err(AllocError);
+    };
+    goes(rt, &cluster, &mut client, &value, &mut found)?;
+    together(rt, &cluster);
+    passes(rt, &cluster);
+    comes(rt, &cluster, &mut client, &mut found)?;
+    ends(rt, &cluster, &mut operator, &mut found)?;
+    let mut sessions = Vec::new(alloc);
+    sessions.push(client)?;
+    sessions.push(operator)?;
+    match cluster.finish(alloc, sessions) {
+        Ok(_) => note(&mut found, 12)?,
+        Err(_) => note(&mut found, 13)?,
+    }
     Ok(found)
 }
 
 #[test]
-fn a_cluster(rt: HostRuntime) -> Result<(), Fail> {
+fn a_cluster_in_two_threads(rt: HostRuntime) -> Result<(), Fail> {
     let alloc = rt.alloc();
     let d = deployment(alloc)?;
     let wires = Wires::new(alloc, &d, 3)?;
     let found = running::<Brand, _>(&rt, alloc, d, wires)?;
-    let rows = [2, 0, 101, 100, 1, 101, 1, 1, 2, 1000, 0, 1000, 2, 2, 1];
+    let rows = [100, 101, 101, 10, 1, 3, 9, 11, 4, 2, 5, 6, 7, 8, 12];
     assert_eq!(rt; found.as_slice(), rows.as_slice());
     Ok(())
 }
