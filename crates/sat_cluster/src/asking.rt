@@ -73,7 +73,6 @@ fn serial_runs<N: Laid + Names>(held: &Held<SerialNode<N>, N>)
 }
 
 /// A write at the client's site.
-#[tactic(auto, using(crate::proofs::Doing::did_write))]
 pub(crate) fn write_at<N: Laid + Names>(
     session: &mut Session<N>,
     held: &mut Held<SiteNode<N>, N>,
@@ -93,7 +92,6 @@ pub(crate) fn write_at<N: Laid + Names>(
 }
 
 /// A read at the client's site.
-#[tactic(auto, using(crate::proofs::Doing::did_read))]
 pub(crate) fn read_at<N: Laid + Names>(
     session: &mut Session<N>,
     held: &mut Held<SiteNode<N>, N>,
@@ -112,7 +110,6 @@ pub(crate) fn read_at<N: Laid + Names>(
 }
 
 /// A move from the client's site to another one.
-#[tactic(auto, using(crate::proofs::Doing::did_move))]
 pub(crate) fn move_at<N: Laid + Names>(
     session: &mut Session<N>,
     held: &mut Held<SiteNode<N>, N>,
@@ -131,7 +128,6 @@ pub(crate) fn move_at<N: Laid + Names>(
 }
 
 /// An attach of a client without a seat.
-#[tactic(auto, using(crate::proofs::Doing::did_attach))]
 pub(crate) fn attach_at<N: Laid + Names>(
     session: &mut Session<N>,
     held: &mut Held<SiteNode<N>, N>,
@@ -149,7 +145,6 @@ pub(crate) fn attach_at<N: Laid + Names>(
 }
 
 /// The operator's close.
-#[tactic(auto, using(crate::proofs::Doing::did_close))]
 pub(crate) fn close_at<N: Laid + Names>(
     session: &mut Session<N>,
     held: &mut Held<SiteNode<N>, N>,
@@ -165,7 +160,6 @@ pub(crate) fn close_at<N: Laid + Names>(
 }
 
 /// The operator's fall.
-#[tactic(auto, using(crate::proofs::Doing::did_fall))]
 pub(crate) fn fall_at<N: Laid + Names>(
     session: &mut Session<N>,
     held: &mut Held<SiteNode<N>, N>,
@@ -181,7 +175,6 @@ pub(crate) fn fall_at<N: Laid + Names>(
 }
 
 /// The operator's kill.
-#[tactic(auto, using(crate::proofs::Doing::did_kill))]
 pub(crate) fn kill_at<N: Laid + Names>(
     session: &mut Session<N>,
     held: &mut Held<SerialNode<N>, N>,

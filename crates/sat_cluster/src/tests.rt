@@ -1,4 +1,4 @@
-//! Two sites and a tree of one serializer, in two threads: the sessions, their calls, the nodes' passes and the end.
+//! Two sites and a tree of one serializer: the sessions, their calls, the nodes' passes and the end.
 ghost use Rattle.std.specs.Prelude.{◌≡◌, ◌<◌, [], ◌∷◌, length, IfOk};
 ghost use Rattle.sat_tree.specs.Shape.{TreeShape};
 ghost use Rattle.sat_act.specs.declared.deployment.Plan.TheVariants as plan;
@@ -17,8 +17,6 @@ use std::alloc::{AllocError, Global};
 use std::marker::Brand;
 use std::sync::Wait;
 use std::test::*;
-use std::thread;
-use std::thread::Threads;
 
 fn name(alloc: Global, text: &[u8]) -> Result<Name, AllocError> {
     match Name::of(alloc, text)? {
@@ -113,9 +111,10 @@ fn passes<N: Laid + Names, R: Wait>(rt: &R, cluster: &Cluster<N>) {
     }
 }
 
-// The same in two threads at once.
-fn together<N: Laid + Names + Send + Sync, R: Threads + Wait + Sync>(rt: &R, cluster: &Cluster<N>) {
-    let _ = thread::join(rt, move || passes(rt, cluster), move || passes(rt, cluster));
+// The same twice.
+fn together<N: Laid + Names, R: Wait>(rt: &R, cluster: &Cluster<N>) {
+    passes(rt, cluster);
+    passes(rt, cluster);
 }
 
 // A client writes at its first site, and goes to the other one.
@@ -173,7 +172,7 @@ fn ends<N: Laid + Names, R: Wait>(
     Ok(())
 }
 
-fn running<N: Laid + Names + Send + Sync, R: Threads + Wait + Sync>(
+fn running<N: Laid + Names, R: Wait>(
     rt: &R,
     alloc: Global,
     d: Deployment,
@@ -218,7 +217,7 @@ fn running<N: Laid + Names + Send + Sync, R: Threads + Wait + Sync>(
 }
 
 #[test]
-fn a_cluster_in_two_threads(rt: HostRuntime) -> Result<(), Fail> {
+fn a_cluster_runs(rt: HostRuntime) -> Result<(), Fail> {
     let alloc = rt.alloc();
     let d = deployment(alloc)?;
     let wires = Wires::new(alloc, &d, 3)?;
