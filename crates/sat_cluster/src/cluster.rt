@@ -9,6 +9,7 @@ ghost use Rattle.sat_cluster.specs.Ends.{Ends};
 
 use crate::fault::SessionFault;
 use crate::locks::{Locks, names_of};
+use crate::room::Room;
 use sat_act::Deployment;
 use sat_finish::{Ended, FinishFault, Opened};
 use sat_label::{Name, NodeName};
@@ -29,6 +30,7 @@ pub struct Cluster<N: Laid + Names> {
     d: Deployment,
     sites: Locks<SiteNode<N>, N>,
     serials: Locks<SerialNode<N>, N>,
+    room: Mutex<Room<N>>,
     names: Vec<NodeName>,
     looks: Vec<Mutex<Seen>>,
     given: Vec<bool>,
@@ -86,12 +88,14 @@ impl<N: Laid + Names> Cluster<N> {
         let names = names_of(alloc, serials.as_slice())?;
         let looks = no_looks(alloc, d.sites())?;
         let given = marks(alloc, d.clients().len() + 1)?;
+        let room = Room::new(alloc, usize::from(d.sites()), names.len())?;
         let sites = Locks::new(alloc, sites)?;
         let serials = Locks::new(alloc, serials)?;
         Ok(Cluster {
             d,
             sites,
             serials,
+            room: Mutex::new(room),
             names,
             looks,
             given,
@@ -251,12 +255,14 @@ impl<N: Laid + Names> Cluster<N> {
             d,
             sites,
             serials,
+            room,
             names: _,
             looks: _,
             given,
         } = self;
+        let room = room.into_inner();
         let given = count_marks(given.as_slice());
-        Opened::new(d, sites.open(), serials.open(), given)
+        Opened::new(d, sites.open(room.sites), serials.open(room.serials), given)
     }
 
     /// Takes all locks apart, and merges what nodes and sessions kept into one journal. `SessionsOut` exactly where not as many sessions

@@ -8,6 +8,7 @@ mod cluster;
 mod fault;
 mod locks;
 mod passing;
+mod room;
 
 pub use cluster::Cluster;
 pub use fault::SessionFault;
