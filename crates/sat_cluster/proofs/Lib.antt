@@ -2,4 +2,3 @@ mod Marks
 mod Answering
 pub mod Doing
 mod Ending
-mod Fixtures

@@ -12,6 +12,3 @@ mod room;
 
 pub use cluster::Cluster;
 pub use fault::SessionFault;
-
-#[cfg(test)]
-mod tests;

@@ -38,7 +38,7 @@ use Rattle.sat_top.specs.UnderWay.{AtWorld, DoesMore, Ends, EndsBefore, IsKnown,
 -- what was read so far, and the answers of the acts in it
 pub record IsUnder (before now : Option (List ℕ)) (n : ℕ) (r : Came) (w : Option WorldSeen) (count : ℕ) (written : List ℕ) : Type 0 where
   pub done : List Act
-  pub read : HasRead before now (λ more. behind done (will_be r more)) n
+  pub read : HasRead false before now (λ more. behind done (will_be r more)) n
   pub number : count ≡ length done
   pub world : AtWorld w written done
 

@@ -6,6 +6,7 @@ pub mod Loading
 pub mod Placing
 pub mod Whole
 pub mod Streaming
+pub mod Living
 pub mod Contract
 pub mod Drawing
 pub mod UnderWay

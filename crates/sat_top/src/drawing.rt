@@ -66,8 +66,8 @@ fn draw_acts(alloc: Global, d: Deployment, acts: &[Act]) -> Result<Vec<u8>, Allo
     Ok(text)
 }
 
-// The line of a fault.
-fn fault_output(alloc: Global, fault: &ScriptFault) -> Result<Output, AllocError>
+/// The line of a fault.
+pub(crate) fn fault_output(alloc: Global, fault: &ScriptFault) -> Result<Output, AllocError>
     ensures text { IfOk result (λ out. out.text.items ≡ fault_line fault.now) }
     ensures status { IfOk result (λ out. out.status ≡ 1) }
 {

@@ -1,11 +1,12 @@
-//! Two sites and a tree of one serializer: the sessions, their calls, the nodes' passes and the end.
+//! Two sites and a tree of one serializer, in two threads: the sessions, their calls, the nodes' passes and the end.
 ghost use Rattle.std.specs.Prelude.{◌≡◌, ◌<◌, [], ◌∷◌, length, IfOk};
 ghost use Rattle.sat_tree.specs.Shape.{TreeShape};
 ghost use Rattle.sat_act.specs.declared.deployment.Plan.TheVariants as plan;
 ghost use Rattle.sat_act.specs.Ranges.{IsActOf};
 
-use crate::{Cluster, SessionFault};
 use sat_act::{Act, Answer, ClientLine, Deployment, Item, Plan, Refusal};
+use sat_cluster::{Cluster, SessionFault};
+use sat_finish::FinishFault;
 use sat_label::{Name, NodeName, SiteSet, Value};
 use sat_machines::Laid;
 use sat_node::{CallFault, Names};
@@ -17,6 +18,8 @@ use std::alloc::{AllocError, Global};
 use std::marker::Brand;
 use std::sync::Wait;
 use std::test::*;
+use std::thread;
+use std::thread::Threads;
 
 fn name(alloc: Global, text: &[u8]) -> Result<Name, AllocError> {
     match Name::of(alloc, text)? {
@@ -111,10 +114,9 @@ fn passes<N: Laid + Names, R: Wait>(rt: &R, cluster: &Cluster<N>) {
     }
 }
 
-// The same twice.
-fn together<N: Laid + Names, R: Wait>(rt: &R, cluster: &Cluster<N>) {
-    passes(rt, cluster);
-    passes(rt, cluster);
+// The same in two threads at once.
+fn together<N: Laid + Names + Send + Sync, R: Threads + Wait + Sync>(rt: &R, cluster: &Cluster<N>) {
+    let _ = thread::join(rt, move || passes(rt, cluster), move || passes(rt, cluster));
 }
 
 // A client writes at its first site, and goes to the other one.
@@ -172,7 +174,7 @@ fn ends<N: Laid + Names, R: Wait>(
     Ok(())
 }
 
-fn running<N: Laid + Names, R: Wait>(
+fn running<N: Laid + Names + Send + Sync, R: Threads + Wait + Sync>(
     rt: &R,
     alloc: Global,
     d: Deployment,
@@ -216,8 +218,49 @@ fn running<N: Laid + Names, R: Wait>(
     Ok(found)
 }
 
+// The numbers of sessions given and returned, where one of two comes back; none where that is not told.
+fn one_comes_back<N: Laid + Names>(
+    alloc: Global,
+    d: Deployment,
+    wires: Wires,
+) -> Result<Vec<u64>, AllocError>
+    requires deployment { N.deployment ≡ d }
+    requires made { wires.deployment ≡ d }
+    requires wires { N.wires ≡ wires.wires }
+{
+    let mut cluster = Cluster::<N>::new(alloc, d, wires)?;
+    let known = name(alloc, b"a")?;
+    let Ok(client) = cluster.session(alloc, &known) else {
+        return Err(AllocError);
+    };
+    let Ok(_operator) = cluster.operator(alloc) else {
+        return Err(AllocError);
+    };
+    let mut sessions = Vec::new(alloc);
+    sessions.push(client)?;
+    let mut found = Vec::new(alloc);
+    if let Err(FinishFault::SessionsOut {
+        given, returned, ..
+    }) = cluster.finish(alloc, sessions)
+    {
+        found.push(given)?;
+        found.push(returned)?;
+    }
+    Ok(found)
+}
+
 #[test]
-fn a_cluster_runs(rt: HostRuntime) -> Result<(), Fail> {
+fn sessions_are_counted(rt: HostRuntime) -> Result<(), Fail> {
+    let alloc = rt.alloc();
+    let d = deployment(alloc)?;
+    let wires = Wires::new(alloc, &d, 3)?;
+    let found = one_comes_back::<Brand>(alloc, d, wires)?;
+    assert_eq!(rt; found.as_slice(), [2u64, 1].as_slice());
+    Ok(())
+}
+
+#[test]
+fn a_cluster_in_two_threads(rt: HostRuntime) -> Result<(), Fail> {
     let alloc = rt.alloc();
     let d = deployment(alloc)?;
     let wires = Wires::new(alloc, &d, 3)?;

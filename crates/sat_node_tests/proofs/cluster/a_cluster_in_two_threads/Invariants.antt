@@ -1,4 +1,4 @@
-use Rattle.sat_cluster.proofs.tests.a_cluster_runs.Given as goal
+use Rattle.sat_node_tests.proofs.cluster.a_cluster_in_two_threads.Given as goal
 
 -- the deployment and the wires that were just made
 abbrev pub ghosts-running-N-Laid : goal.ghosts-running-N-Laid

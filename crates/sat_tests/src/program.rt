@@ -1,7 +1,6 @@
 //! The program over sources and sinks in memory.
-use crate::loading::count_writes;
 use crate::rows::{ANSWERS, HEADER, REPORTS, SUMMARIES, UNDERWAY};
-use crate::{saturn, still, still_in_memory};
+use sat_top::{saturn, still, still_in_memory};
 use sat_label::{NodeId, Point, write_point};
 use sat_outside::{CleanSink, CleanSource, FreeGate, MemorySink, MemorySource, Source};
 use sat_script::{read_script, sound_readings, write_script};
