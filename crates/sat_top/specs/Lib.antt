@@ -1,6 +1,4 @@
 pub mod Words
-pub mod Runs
-pub mod Running
 pub mod Good
 pub mod Loading
 pub mod Placing

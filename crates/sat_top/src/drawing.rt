@@ -12,10 +12,10 @@ ghost use Rattle.sat_top.specs.Whole.{run_status};
 ghost use Rattle.sat_top.specs.UnderWay.{IsEntering};
 
 use crate::output::Output;
-use crate::run::do_act;
 use sat_act::{Act, Deployment, Entry};
 use sat_draw::draw;
 use sat_report::write_fault;
+use sat_runs::do_act;
 use sat_script::{MOST_ACTS, Reading, ScriptFault};
 use sat_world::World;
 use std::alloc::{AllocError, Global};

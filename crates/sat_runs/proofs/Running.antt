@@ -19,8 +19,8 @@ use Rattle.sat_world.proofs.Meets.{in-range}
 use Rattle.sat_world.specs.Seen.{WorldSeen}
 use Rattle.sat_world.specs.Stands.{StandsFor}
 use Rattle.sat_report.specs.Answers.{answers, answer_line, printed_count}
-use Rattle.sat_top.specs.Runs.{history}
-use Rattle.sat_top.specs.Running.{entry, HasDone, Does, IsRunning, IsAnswering}
+use Rattle.sat_runs.specs.Runs.{history}
+use Rattle.sat_runs.specs.Running.{entry, HasDone, Does, IsRunning, IsAnswering}
 
 -- ---- the entries of a settle's acts
 

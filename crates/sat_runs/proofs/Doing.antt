@@ -10,7 +10,7 @@ use Rattle.sat_act.specs.Runs.{IsRun, is_settle}
 use Rattle.sat_act.specs.Settling.{answer_of, settle, with_inner}
 use Rattle.sat_world.specs.Seen.{WorldSeen}
 use Rattle.sat_world.specs.Stands.{StandsFor}
-use Rattle.sat_top.specs.Running.{entry, Does}
+use Rattle.sat_runs.specs.Running.{entry, Does}
 
 pub is_plain : (a : Act) → (a ≡ act.Settle → ⊥) → is_settle a ≡ false
 is_plain act.Settle other = absurd (other refl)

@@ -9,7 +9,7 @@ use Rattle.sat_act.specs.Settling.{answer_of, with_inner}
 use Rattle.sat_world.specs.Seen.{WorldSeen}
 use Rattle.sat_world.specs.Stands.{StandsFor}
 use Rattle.sat_report.specs.Answers.{answers, printed_count}
-use Rattle.sat_top.specs.Runs.{history}
+use Rattle.sat_runs.specs.Runs.{history}
 
 -- an act's entry
 abbrev pub entry : Act → Answer → Entry

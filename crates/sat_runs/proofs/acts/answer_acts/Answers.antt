@@ -2,8 +2,8 @@ use Rattle.std.proofs.Common.{ap, ◌<◌, get_or, ◌≡◌, ◌∷◌, ◌++�
 use Rattle.std.proofs.lemmas.List.{take_more, take_all}
 use Rattle.sat_act.specs.declared.act.Act.{Act}
 use Rattle.sat_act.specs.Ranges.{IsActOf}
-use Rattle.sat_top.proofs.Running.{answers_start, answers_next, rest_all}
-use Rattle.sat_top.proofs.run.answer_acts.Goals as goal
+use Rattle.sat_runs.proofs.Running.{answers_start, answers_next, rest_all}
+use Rattle.sat_runs.proofs.acts.answer_acts.Goals as goal
 
 pub loop-place-init : goal.loop-place-init
 loop-place-init c = record { deployment = refl; rest = c.requires.acts; running = answers_start c.args.world.now.deployment c.args.world.now c.args.text.now.items c.args.before }

@@ -1,5 +1,5 @@
-use Rattle.sat_top.proofs.Doing.{did, is_plain, settled}
-use Rattle.sat_top.proofs.run.do_act.Goals as goal
+use Rattle.sat_runs.proofs.Doing.{did, is_plain, settled}
+use Rattle.sat_runs.proofs.acts.do_act.Goals as goal
 
 pub apply-requires-clause-plain : goal.apply-requires-clause-plain
 apply-requires-clause-plain c = is_plain c.args.act.now c.in_default.not-Settle

@@ -2,8 +2,8 @@ use Rattle.std.proofs.Common.{ap, ◌++◌, ◌∙◌, List, ℕ, sym}
 use Rattle.std.proofs.lemmas.List.{append_assoc}
 use Rattle.sat_report.specs.Answers.{answer_line}
 use Rattle.sat_act.specs.Deployed.{Deployed}
-use Rattle.sat_top.proofs.Running.{answers_more}
-use Rattle.sat_top.proofs.run.answer_act.Goals as goal
+use Rattle.sat_runs.proofs.Running.{answers_more}
+use Rattle.sat_runs.proofs.acts.answer_act.Goals as goal
 
 pub returns-clause-running : goal.returns-clause-running
 returns-clause-running c = λ front acts counted now.

@@ -1,7 +1,7 @@
 use Rattle.std.proofs.Common.{◌≡◌, take, drop}
 use Rattle.sat_script.specs.Reading.{AreActsOf}
-use Rattle.sat_top.proofs.Running.{Answers}
-use Rattle.sat_top.proofs.run.answer_acts.Given as goal
+use Rattle.sat_runs.proofs.Running.{Answers}
+use Rattle.sat_runs.proofs.acts.answer_acts.Given as goal
 
 abbrev pub invariant-loop-place : goal.invariant-loop-place
 invariant-loop-place l = record {
