@@ -1,10 +1,11 @@
 //! The program over sources and sinks in memory.
 use crate::rows::{ANSWERS, HEADER, REPORTS, SUMMARIES, UNDERWAY};
-use sat_top::{saturn, still, still_in_memory};
 use sat_label::{NodeId, Point, write_point};
 use sat_outside::{CleanSink, CleanSource, FreeGate, MemorySink, MemorySource, Source};
+use sat_runs::answer_acts;
 use sat_script::{read_script, sound_readings, write_script};
 use sat_settle::load;
+use sat_top::{saturn, still, still_in_memory};
 use sat_tree::Tree;
 use sat_world::World;
 use std::alloc::Global;
@@ -150,7 +151,8 @@ fn underway_after(alloc: Global, lines: &str) -> Result<u64, Fail> {
         return Err("the script is refused".into());
     };
     let mut world = World::new(alloc, script.deployment)?;
-    count_writes(&mut world, script.acts.as_slice())?;
+    let mut answers = Vec::new(alloc);
+    answer_acts(&mut world, 0, script.acts.as_slice(), &mut answers)?;
     Ok(world.underway())
 }
 
