@@ -86,7 +86,7 @@ fn passers<N: Laid + Names>(
 }
 
 // All that is made before so many sessions are handed to workers, since nothing may be wanting behind that.
-fn rooms<N: Laid + Names>(alloc: Global, cluster: &Cluster<N>, count: usize) -> Option<Rooms<N>>
+fn make_rooms<N: Laid + Names>(alloc: Global, cluster: &Cluster<N>, count: usize) -> Option<Rooms<N>>
     ensures passers { IfSome result (λ r. sessions_in r.passers.items ≡ []) }
     ensures places { IfSome result (λ r. (r.places.items ≡ []) × (count + vec_len r.passers ≤ vec_capacity r.places)) }
     ensures room { IfSome result (λ r. (r.room.items ≡ []) × (count + vec_len r.passers ≤ vec_capacity r.room)) }
@@ -284,7 +284,7 @@ pub fn crew<N: Laid + Names + Send + Sync, R: Threads + Wait + Sync, G: Gate>(
     ensures ok { IfOk result (λ back. AllZip (CameThrough N.deployment acts.now) sessions.items back.items) }
     ensures err { IfErr result (λ f. IsFault f.fault × AllZip (CameBack N.deployment acts.now) sessions.items f.sessions.items) }
 {
-    let Some(rooms) = rooms(alloc, cluster, sessions.len()) else {
+    let Some(rooms) = make_rooms(alloc, cluster, sessions.len()) else {
         return Err(CrewFault {
             fault: CallFault::Memory,
             sessions,

@@ -4,7 +4,7 @@ use Rattle.std.proofs.lemmas.Iterator.Adapters.{YieldsList-from_vec}
 use Rattle.std.proofs.lemmas.Iterator.Consumers.{YieldsList-turn, YieldsList-end}
 use Rattle.sat_crew.specs.Workers.{sessions_in}
 use Rattle.sat_crew.proofs.Hiring.{few_sessions}
-use Rattle.sat_crew.proofs.crew.collect.Goals as goal
+use Rattle.sat_crew.proofs.together.collect.Goals as goal
 
 pub push_reserved-requires : goal.push_reserved-requires
 push_reserved-requires g c =

@@ -1,7 +1,7 @@
 use Rattle.std.proofs.Common.{◌≡◌, ◌∙◌, length, sym, subst, arith}
 use Rattle.sat_crew.specs.Workers.{Works}
 use Rattle.sat_crew.proofs.Hiring.{zip_each}
-use Rattle.sat_crew.proofs.crew.work_all.Goals as goal
+use Rattle.sat_crew.proofs.together.work_all.Goals as goal
 
 pub returns : goal.returns
 returns g c =
