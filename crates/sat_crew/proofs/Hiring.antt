@@ -50,6 +50,13 @@ one_passer ws new p e = ap sessions_in e ∙ (sessions-append ws (worker.Passer 
 pub one_caller : {N : Type 0} (ws new : List (Worker N)) (c : Caller N) → new ≡ ws ++ worker.Caller c ∷ [] → sessions_in new ≡ sessions_in ws ++ c.session ∷ []
 one_caller ws new c e = ap sessions_in e ∙ sessions-append ws (worker.Caller c ∷ [])
 
+-- a worker more, of either kind
+pub more_caller : {N : Type 0} (ws : List (Worker N)) (w : Worker N) (c : Caller N) → w ≡ worker.Caller c → sessions_in (ws ++ w ∷ []) ≡ sessions_in ws ++ c.session ∷ []
+more_caller ws w c e = one_caller ws (ws ++ w ∷ []) c (ap (λ x. ws ++ x ∷ []) e)
+
+pub more_passer : {N : Type 0} (ws : List (Worker N)) (w : Worker N) (p : Passer) → w ≡ worker.Passer p → sessions_in (ws ++ w ∷ []) ≡ sessions_in ws
+more_passer ws w p e = one_passer ws (ws ++ w ∷ []) p (ap (λ x. ws ++ x ∷ []) e)
+
 -- ---- faults
 
 fault-in : {N : Type 0} (d : Deployed) (acts : List Act) (x y : Worker N) → Works d acts x y → HasFault y
