@@ -31,6 +31,13 @@ zip_each R (x ∷ xs) (y ∷ ys) e f = (
   zip_each R xs ys (omega (arith, e)) (λ i d less. f (suc i) d (omega (arith, less))),
 )
 
+-- what was said of each place, by what was there before and what is left
+pub all_work : {N : Type 0} (d : Deployed) (acts : List Act) (xs ys : List (Worker N)) → length ys ≡ length xs →
+    ((i : ℕ) (w : Worker N) → i < length xs → (x : Worker N) × (y : Worker N) × (x ≡ slice_index_or xs i w) × (y ≡ slice_index_or ys i w) × Works d acts x y) → AllZip (Works d acts) xs ys
+all_work d acts xs ys same each = zip_each (Works d acts) xs ys same (λ i w less.
+    let k = each i w less in
+    subst (λ y. Works d acts (slice_index_or xs i w) y) k.3 (subst (λ x. Works d acts x k.1) k.2 k.4))
+
 -- ---- sessions among workers
 
 pub sessions-append : {N : Type 0} (ws vs : List (Worker N)) → sessions_in (ws ++ vs) ≡ sessions_in ws ++ sessions_in vs

@@ -240,8 +240,24 @@ fn work_all<N: Laid + Names + Send + Sync, R: Threads + Wait + Sync, G: Gate>(
     thread::for_each_mut(rt, workers, threads, &each);
 }
 
+// The same of a whole list of workers.
+fn work_whole<N: Laid + Names + Send + Sync, R: Threads + Wait + Sync, G: Gate>(
+    rt: &R,
+    cluster: &Cluster<N>,
+    acts: &[Act],
+    workers: &mut Vec<Worker<N>>,
+    gate: &G,
+    left: &AtomicU64,
+)
+    requires acts { AllByRecursion (IsActOf N.deployment) acts.now }
+    ensures many { vec_len workers.new ≡ vec_len workers.old }
+    ensures works { AllZip (Works N.deployment acts.now) workers.old.items workers.new.items }
+{
+    work_all(rt, cluster, acts, workers.as_mut_slice(), gate, left);
+}
+
 // All workers work, and then the nodes make passes until nothing is left to do. Where a worker stopped at a fault, no passes are made.
-#[tactic(auto, using(crate::proofs::Hiring::have_faults, crate::proofs::Hiring::back, crate::proofs::Hiring::through, crate::proofs::Hiring::works_many))]
+#[tactic(auto, using(crate::proofs::Hiring::back, crate::proofs::Hiring::through))]
 fn run<N: Laid + Names + Send + Sync, R: Threads + Wait + Sync, G: Gate>(
     rt: &R,
     cluster: &Cluster<N>,
@@ -258,7 +274,7 @@ fn run<N: Laid + Names + Send + Sync, R: Threads + Wait + Sync, G: Gate>(
     ensures fault { IfErr result IsFault }
 {
     let left = AtomicU64::new(count);
-    work_all(rt, cluster, acts, workers.as_mut_slice(), gate, &left);
+    work_whole(rt, cluster, acts, workers, gate, &left);
     match first_fault(workers.as_slice()) {
         Some(fault) => Err(fault),
         None => pass_to_end(rt, cluster, gate),

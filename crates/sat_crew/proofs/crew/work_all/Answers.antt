@@ -1,10 +1,8 @@
-use Rattle.std.proofs.Common.{◌≡◌, ◌∙◌, length, sym, subst, arith}
-use Rattle.sat_crew.specs.Workers.{Works}
-use Rattle.sat_crew.proofs.Hiring.{zip_each}
+use Rattle.std.proofs.Common.{arith}
+use Rattle.sat_crew.proofs.Hiring.{all_work}
 use Rattle.sat_crew.proofs.together.work_all.Goals as goal
 
 pub returns : goal.returns
-returns g c =
-    zip_each (Works g.N.Laid.deployment c.args.acts.now) c.args.workers.now c.for_each_mut.new.s (omega arith) (λ i d h.
-    let k = (c.for_each_mut.ensures i d h).1 in
-    subst (λ y. Works g.N.Laid.deployment c.args.acts.now _ y) k.left (subst (λ x. Works g.N.Laid.deployment c.args.acts.now x _) k.argument_is k.call))
+returns g c = all_work g.N.Laid.deployment c.args.acts.now c.args.workers.now c.for_each_mut.new.s (omega arith) (λ i w less.
+    let k = (c.for_each_mut.ensures i w less).1 in
+    (k.argument.now, k.after_call.now, k.argument_is, k.left, k.call))
