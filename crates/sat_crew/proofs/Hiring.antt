@@ -1,15 +1,13 @@
 -- Workers, and what all of them together did.
-use Rattle.std.proofs.Common.{◌≡◌, ◌≤◌, ◌<◌, ℕ, zero, suc, ◌+◌, Bool, true, false, List, [], ◌∷◌, ◌++◌, length, map, Option, Some, None, IfSome, refl, sym, ap, ◌∙◌, subst, arith, inl, inr}
+use Rattle.std.proofs.Common.{◌≡◌, ◌≤◌, ◌<◌, ℕ, suc, List, [], ◌∷◌, ◌++◌, length, map, Option, Some, None, refl, sym, ap, ◌∙◌, subst, arith, inl, inr}
 use Rattle.std.specs.Prelude.{slice_index_or}
 use Rattle.std.specs.List.{AllByRecursion, AllZip}
 use Rattle.std.proofs.lemmas.Slice.Zip.{AllZip-long}
 use Rattle.sat_act.specs.declared.act.Act.{Act}
 use Rattle.sat_act.specs.declared.entry.Entry.{Entry}
 use Rattle.sat_act.specs.Deployed.{Deployed}
-use Rattle.sat_label.specs.declared.node.NodeName.{NodeName}
 use Rattle.sat_finish.specs.Finishing.{note_entry}
 use Rattle.sat_node.specs.declared.kept.CallFault.{CallFault}
-use Rattle.sat_session.specs.Calls.{IsFault}
 use Rattle.sat_session.specs.Notes.{SessionSeen}
 use Rattle.sat_undone.specs.Undone.{acts_done}
 use Rattle.sat_crew.specs.declared.worker.Caller.{Caller}
@@ -18,7 +16,7 @@ use Rattle.sat_crew.specs.declared.worker.Worker.{Worker}
 use Rattle.sat_crew.specs.declared.worker.Worker.TheVariants as worker
 use Rattle.sat_crew.specs.Crews.{CameBack, CameThrough, DoesAll, DoesFront, IsFresh, entries_in, own_acts}
 use Rattle.sat_crew.specs.Standing.{Worked}
-use Rattle.sat_crew.specs.Workers.{HasFault, IsWell, Passes, Serves, Works, fault_of, sessions_in}
+use Rattle.sat_crew.specs.Workers.{HasFault, IsWell, Serves, Works, sessions_in}
 
 -- ---- lists of two lengths
 

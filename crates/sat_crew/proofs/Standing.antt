@@ -1,11 +1,10 @@
 -- How a session stands in its acts.
-use Rattle.std.proofs.Common.{◌≡◌, ◌≤◌, ℕ, ◌+◌, nat_le, Bool, true, false, List, [], ◌∷◌, ◌++◌, Option, Some, None, if◌then◌else◌, IfSome, refl, sym, ap, ◌∙◌, subst, arith}
+use Rattle.std.proofs.Common.{◌≡◌, ◌≤◌, ℕ, ◌+◌, nat_le, Bool, true, false, List, [], ◌∷◌, ◌++◌, Option, Some, None, if◌then◌else◌, IfSome, refl, sym, ap, ◌∙◌, arith}
 use Rattle.std.proofs.lemmas.Bool.Decides.{nat_tests}
 use Rattle.std.proofs.lemmas.List.{append_assoc, append-nil}
 use Rattle.sat_act.specs.declared.act.Act.{Act}
 use Rattle.sat_act.specs.declared.entry.Entry.{Entry}
 use Rattle.sat_undone.specs.Undone.{IsFront, acts_behind, acts_done, given_up, most_tries, next_tally, no_tally, stopped, tally_by, tally_from, waits}
-use Rattle.sat_crew.specs.Crews.{DoesAll, DoesFront}
 use Rattle.sat_crew.specs.Standing.{Stood}
 
 pub stood-none : Stood [] 0 None []

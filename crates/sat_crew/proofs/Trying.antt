@@ -1,5 +1,5 @@
 -- Tries of one act.
-use Rattle.std.proofs.Common.{◌≡◌, ◌≤◌, ◌⊎◌, ℕ, zero, suc, ◌+◌, ◌&&◌, Bool, true, false, List, [], ◌∷◌, ◌++◌, map, Option, Some, None, Result, Ok, Err, IfSome, refl, sym, ap, ◌∙◌, subst, arith, inl, inr}
+use Rattle.std.proofs.Common.{◌≡◌, ◌≤◌, ◌⊎◌, ℕ, ◌+◌, ◌&&◌, Bool, true, false, List, [], ◌∷◌, ◌++◌, map, Option, Some, None, Result, Ok, Err, refl, sym, ap, ◌∙◌, subst, arith, inl, inr}
 use Rattle.std.proofs.lemmas.List.{map-append}
 use Rattle.sat_act.specs.declared.act.Act.{Act}
 use Rattle.sat_act.specs.declared.answer.Answer.{Answer}
@@ -8,11 +8,11 @@ use Rattle.sat_node.specs.declared.kept.CallFault.{CallFault}
 use Rattle.sat_finish.specs.Finishing.{note_entry}
 use Rattle.sat_session.specs.Calls.{IsFault, note}
 use Rattle.sat_session.specs.Notes.{SessionSeen}
-use Rattle.sat_undone.specs.Undone.{is_attach, is_not_yet, most_tries, waits}
+use Rattle.sat_undone.specs.Undone.{is_attach, is_not_yet, most_tries}
 use Rattle.sat_cluster.specs.Doing.{Did, node_of}
 use Rattle.sat_crew.specs.Crews.{entries_in}
 use Rattle.sat_crew.specs.Standing.{Came, OneMore, Stood, Tried, Trying}
-use Rattle.sat_crew.proofs.Standing.{stood-done, stood-none, stood-waits}
+use Rattle.sat_crew.proofs.Standing.{stood-done, stood-waits}
 
 -- ---- one try
 

@@ -86,7 +86,11 @@ fn passers<N: Laid + Names>(
 }
 
 // All that is made before so many sessions are handed to workers, since nothing may be wanting behind that.
-fn make_rooms<N: Laid + Names>(alloc: Global, cluster: &Cluster<N>, count: usize) -> Option<Rooms<N>>
+fn make_rooms<N: Laid + Names>(
+    alloc: Global,
+    cluster: &Cluster<N>,
+    count: usize,
+) -> Option<Rooms<N>>
     ensures passers { IfSome result (λ r. sessions_in r.passers.items ≡ []) }
     ensures places { IfSome result (λ r. (r.places.items ≡ []) × (count + vec_len r.passers ≤ vec_capacity r.places)) }
     ensures room { IfSome result (λ r. (r.room.items ≡ []) × (count + vec_len r.passers ≤ vec_capacity r.room)) }

@@ -10,8 +10,8 @@ mod worker;
 
 ghost use Rattle.sat_crew.specs.Crews.{GiveFronts};
 
-pub use together::crew;
 pub use fault::CrewFault;
+pub use together::crew;
 
 /// Where a journal has of the sessions that came back what they noted, and of no other session anything, what each session did in it is a
 /// front of its acts.

@@ -1,4 +1,4 @@
-use Rattle.std.proofs.Common.{◌≡◌, ◌≤◌, ◌∙◌, true, false, Result, Ok, Err, arith}
+use Rattle.std.proofs.Common.{◌≡◌, ◌≤◌, ◌∙◌, true, false, Ok, arith}
 use Rattle.sat_undone.specs.Undone.{most_tries}
 use Rattle.sat_crew.specs.Crews.{entries_in}
 use Rattle.sat_crew.proofs.Trying.{tried_fault, trying_done, trying_failed, trying_given_up, trying_more}
@@ -14,9 +14,12 @@ returns-in-Err-clause-came g c = λ done s.
     trying_failed done c.args.act.now c.trying.counter c.in-Err.fault c.try_act.result (entries_in c.trying.session) (entries_in c.try_act.new.session) (c.trying.invariant.1 done s) c.try_act.ensures.tried c.in-Err.is
 
 pub trying-preserved : goal.trying-preserved
-trying-preserved g c = (c.try_act.ensures.number ∙ c.trying.invariant.0, λ done s.
-    let is : c.try_act.result ≡ Ok true = cc in
-    trying_more done c.args.act.now c.trying.counter c.try_act.result (entries_in c.trying.session) (entries_in c.try_act.new.session) (c.trying.invariant.1 done s) c.try_act.ensures.tried is)
+trying-preserved g c = (
+  c.try_act.ensures.number ∙ c.trying.invariant.0,
+  λ done s.
+      let is : c.try_act.result ≡ Ok true = cc in
+      trying_more done c.args.act.now c.trying.counter c.try_act.result (entries_in c.trying.session) (entries_in c.try_act.new.session) (c.trying.invariant.1 done s) c.try_act.ensures.tried is,
+)
 
 pub returns-clause-came : goal.returns-clause-came
 returns-clause-came g c = λ done s.

@@ -34,8 +34,7 @@ loop-session-preserved g c =
     let s = c.in-Some.session in
     let many : length new ≡ length ws + 1 = ap length c.push_reserved.ensures.items ∙ length-append ws _ in
     let all : length (c.loop-session.yielded ++ s ∷ []) ≡ length c.loop-session.yielded + 1 = length-append c.loop-session.yielded (s ∷ []) in
-    let held = one_caller ws new (record { session = s; fault = None }) c.push_reserved.ensures.items in
-    (
+    let held = one_caller ws new (record { session = s; fault = None }) c.push_reserved.ensures.items in (
       held ∙ ap (λ (xs : List SessionSeen). xs ++ s ∷ []) c.loop-session.invariant.0,
       many ∙ (ap (λ n. n + 1) c.loop-session.invariant.1 ∙ sym all),
       c.push_reserved.ensures.capacity ∙ c.loop-session.invariant.2,

@@ -1,4 +1,4 @@
-use Rattle.std.proofs.Common.{rules, ◌≡◌, ◌<◌, ◌≤◌, ◌+◌, ◌∙◌, List, [], ◌∷◌, ◌++◌, sym, ap, length, vec_len, vec_capacity, arith, length-append}
+use Rattle.std.proofs.Common.{rules, ◌≡◌, ◌<◌, ◌≤◌, ◌∙◌, List, [], ◌∷◌, ◌++◌, sym, ap, length, vec_len, vec_capacity, arith}
 use Rattle.std.proofs.lemmas.List.{map-id}
 use Rattle.std.proofs.lemmas.Iterator.Adapters.{YieldsList-from_vec}
 use Rattle.std.proofs.lemmas.Iterator.Consumers.{YieldsList-turn, YieldsList-end}
@@ -26,8 +26,7 @@ returns g c =
 
 pub loop-worker-preserved-in-Caller : goal.loop-worker-preserved-in-Caller
 loop-worker-preserved-in-Caller g c =
-    let more = more_caller c.loop-worker.yielded c.in-Some.worker c.in-Caller.caller c.in-Caller.is in
-    (
+    let more = more_caller c.loop-worker.yielded c.in-Some.worker c.in-Caller.caller c.in-Caller.is in (
       c.push_reserved.ensures.items ∙ (ap (λ (xs : List SessionSeen). xs ++ c.in-Caller.caller.session ∷ []) c.loop-worker.invariant.0 ∙ sym more),
       c.push_reserved.ensures.capacity ∙ c.loop-worker.invariant.1,
     )

@@ -1,4 +1,4 @@
-use Rattle.std.proofs.Common.{◌≡◌, ◌<◌, ◌+◌, ◌∙◌, true, false, Result, Ok, Err, length, get_or, sym, subst, arith}
+use Rattle.std.proofs.Common.{◌≡◌, ◌+◌, ◌∙◌, true, false, Ok, sym, subst}
 use Rattle.sat_session.specs.Notes.{session_at}
 use Rattle.sat_undone.specs.Undone.{is_of}
 use Rattle.sat_crew.specs.Standing.{Serving}
@@ -28,11 +28,11 @@ loop-place-preserved g c =
     let y = c.loop-place.session in
     let a = c.index-acts-place.result in
     elim c.if-is_own.branch [
-      then-is_own+in-Ok-true w ↦
-        let own : is_of (session_at d y.number) a ≡ true = sym c.is_own.ensures ∙ w.if-is_own.true in
-        let ok : w.do_act.result ≡ Ok true = cc in
-        subst (Serving d acts (n + 1) x) (sym w.session-is) (serving_own d acts n x y w.do_act.new.session a w.do_act.result c.loop-place.invariant c.loop-place-test.true c.index-acts-place.is own w.do_act.ensures.number w.do_act.ensures.came ok)
-    | else-is_own w ↦
-        let other : is_of (session_at d y.number) a ≡ false = sym c.is_own.ensures ∙ w.if-is_own.false in
-        subst (Serving d acts (n + 1) x) (sym w.session-is) (serving_other d acts n x y a c.loop-place.invariant c.loop-place-test.true c.index-acts-place.is other)
+      | then-is_own+in-Ok-true w ↦
+          let own : is_of (session_at d y.number) a ≡ true = sym c.is_own.ensures ∙ w.if-is_own.true in
+          let ok : w.do_act.result ≡ Ok true = cc in
+          subst (Serving d acts (n + 1) x) (sym w.session-is) (serving_own d acts n x y w.do_act.new.session a w.do_act.result c.loop-place.invariant c.loop-place-test.true c.index-acts-place.is own w.do_act.ensures.number w.do_act.ensures.came ok)
+      | else-is_own w ↦
+          let other : is_of (session_at d y.number) a ≡ false = sym c.is_own.ensures ∙ w.if-is_own.false in
+          subst (Serving d acts (n + 1) x) (sym w.session-is) (serving_other d acts n x y a c.loop-place.invariant c.loop-place-test.true c.index-acts-place.is other)
     ]

@@ -1,4 +1,4 @@
-use Rattle.std.proofs.Common.{List, sym, subst}
+use Rattle.std.proofs.Common.{sym, subst}
 use Rattle.std.specs.List.{AllByRecursion}
 use Rattle.sat_crew.specs.Workers.{HasFault}
 use Rattle.sat_crew.proofs.Hiring.{have_faults}
