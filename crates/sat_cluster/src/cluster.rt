@@ -221,6 +221,7 @@ impl<N: Laid + Names> Cluster<N> {
     pub fn session(&mut self, alloc: Global, name: &Name) -> Result<Session<N>, SessionFault>
         ensures fault { MatchOption (session_fault (client_of N.deployment name.now) self.old.given) (IsOk result) (λ fault. IsErrOf result fault) }
         ensures client { IfOk result (λ s. client_of N.deployment name.now ≡ Some s.number) }
+        ensures inside { IfOk result (λ s. s.number < length N.deployment.clients) }
         ensures fresh { IfOk result (λ s. (s.noted ≡ []) × (s.lamport ≡ 0)) }
         ensures given { IfOk result (λ s. self.new.given ≡ set self.old.given s.number true) }
         ensures err { OnErr result (self.new ≡ self.old) }

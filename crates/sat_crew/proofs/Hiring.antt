@@ -1,15 +1,13 @@
 -- Workers, and what all of them together did.
-use Rattle.std.proofs.Common.{◌≡◌, ◌≤◌, ◌<◌, ℕ, zero, suc, ◌+◌, Bool, true, false, List, [], ◌∷◌, ◌++◌, length, map, Option, Some, None, IfSome, refl, sym, ap, ◌∙◌, subst, arith, inl, inr}
+use Rattle.std.proofs.Common.{◌≡◌, ◌≤◌, ◌<◌, ℕ, suc, List, [], ◌∷◌, ◌++◌, length, map, Option, Some, None, refl, sym, ap, ◌∙◌, subst, arith, inl, inr}
 use Rattle.std.specs.Prelude.{slice_index_or}
 use Rattle.std.specs.List.{AllByRecursion, AllZip}
 use Rattle.std.proofs.lemmas.Slice.Zip.{AllZip-long}
 use Rattle.sat_act.specs.declared.act.Act.{Act}
 use Rattle.sat_act.specs.declared.entry.Entry.{Entry}
 use Rattle.sat_act.specs.Deployed.{Deployed}
-use Rattle.sat_label.specs.declared.node.NodeName.{NodeName}
 use Rattle.sat_finish.specs.Finishing.{note_entry}
 use Rattle.sat_node.specs.declared.kept.CallFault.{CallFault}
-use Rattle.sat_session.specs.Calls.{IsFault}
 use Rattle.sat_session.specs.Notes.{SessionSeen}
 use Rattle.sat_undone.specs.Undone.{acts_done}
 use Rattle.sat_crew.specs.declared.worker.Caller.{Caller}
@@ -18,7 +16,7 @@ use Rattle.sat_crew.specs.declared.worker.Worker.{Worker}
 use Rattle.sat_crew.specs.declared.worker.Worker.TheVariants as worker
 use Rattle.sat_crew.specs.Crews.{CameBack, CameThrough, DoesAll, DoesFront, IsFresh, entries_in, own_acts}
 use Rattle.sat_crew.specs.Standing.{Worked}
-use Rattle.sat_crew.specs.Workers.{HasFault, IsWell, Passes, Serves, Works, fault_of, sessions_in}
+use Rattle.sat_crew.specs.Workers.{HasFault, IsWell, Serves, Works, sessions_in}
 
 -- ---- lists of two lengths
 
@@ -30,6 +28,13 @@ zip_each R (x ∷ xs) (y ∷ ys) e f = (
   f 0 x (omega arith),
   zip_each R xs ys (omega (arith, e)) (λ i d less. f (suc i) d (omega (arith, less))),
 )
+
+-- what was said of each place, by what was there before and what is left
+pub all_work : {N : Type 0} (d : Deployed) (acts : List Act) (xs ys : List (Worker N)) → length ys ≡ length xs →
+    ((i : ℕ) (w : Worker N) → i < length xs → (x : Worker N) × (y : Worker N) × (x ≡ slice_index_or xs i w) × (y ≡ slice_index_or ys i w) × Works d acts x y) → AllZip (Works d acts) xs ys
+all_work d acts xs ys same each = zip_each (Works d acts) xs ys same (λ i w less.
+    let k = each i w less in
+    subst (λ y. Works d acts (slice_index_or xs i w) y) k.3 (subst (λ x. Works d acts x k.1) k.2 k.4))
 
 -- ---- sessions among workers
 
@@ -49,6 +54,13 @@ one_passer ws new p e = ap sessions_in e ∙ (sessions-append ws (worker.Passer 
 -- a session's worker more
 pub one_caller : {N : Type 0} (ws new : List (Worker N)) (c : Caller N) → new ≡ ws ++ worker.Caller c ∷ [] → sessions_in new ≡ sessions_in ws ++ c.session ∷ []
 one_caller ws new c e = ap sessions_in e ∙ sessions-append ws (worker.Caller c ∷ [])
+
+-- a worker more, of either kind
+pub more_caller : {N : Type 0} (ws : List (Worker N)) (w : Worker N) (c : Caller N) → w ≡ worker.Caller c → sessions_in (ws ++ w ∷ []) ≡ sessions_in ws ++ c.session ∷ []
+more_caller ws w c e = one_caller ws (ws ++ w ∷ []) c (ap (λ x. ws ++ x ∷ []) e)
+
+pub more_passer : {N : Type 0} (ws : List (Worker N)) (w : Worker N) (p : Passer) → w ≡ worker.Passer p → sessions_in (ws ++ w ∷ []) ≡ sessions_in ws
+more_passer ws w p e = one_passer ws (ws ++ w ∷ []) p (ap (λ x. ws ++ x ∷ []) e)
 
 -- ---- faults
 

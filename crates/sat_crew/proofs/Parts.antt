@@ -1,5 +1,5 @@
 -- What sessions did, in the journal of all.
-use Rattle.std.proofs.Common.{◌≡◌, ◌⊎◌, Bool, true, false, List, [], ◌∷◌, ◌++◌, filter, map, reverse, cond, if◌then◌else◌, refl, sym, ap, ◌∙◌, subst, inl, inr}
+use Rattle.std.proofs.Common.{◌≡◌, Bool, true, false, List, [], ◌∷◌, ◌++◌, filter, reverse, cond, if◌then◌else◌, refl, sym, ap, ◌∙◌, subst, inl, inr}
 use Rattle.std.proofs.lemmas.List.{append-nil, reverse-reverse}
 use Rattle.std.proofs.lemmas.List.Elements.{filter-append}
 use Rattle.std.specs.List.{AllZip}
@@ -10,10 +10,9 @@ use Rattle.sat_act.specs.Deployed.{Deployed}
 use Rattle.sat_stitch.specs.Places.{Session, entry_if, is_session, session_eq, session_of, session_part}
 use Rattle.sat_stitch.proofs.Stitches.{reverse-cons}
 use Rattle.sat_stitch.proofs.Tables.{session-is, session-self}
-use Rattle.sat_finish.specs.Finishing.{note_entry, noted_entries}
 use Rattle.sat_session.specs.Notes.{SessionSeen, session_at}
 use Rattle.sat_undone.specs.Undone.{IsFront, acts_done, acts_of, entries_of, is_by}
-use Rattle.sat_crew.specs.Crews.{CameBack, DoesFront, GiveFronts, HoldsSessions, entries_in, own_acts}
+use Rattle.sat_crew.specs.Crews.{CameBack, GiveFronts, entries_in}
 
 -- ---- a session's part of a journal, in both orders
 

@@ -1,22 +1,21 @@
 -- A session goes through a script.
-use Rattle.std.proofs.Common.{◌≡◌, ◌≤◌, ◌<◌, ℕ, ◌+◌, Bool, true, false, List, [], ◌∷◌, ◌++◌, length, map, take, drop, get_or, Option, Some, None, Result, Ok, Err, if◌then◌else◌, IfSome, IfErr, refl, sym, ap, ◌∙◌, subst, arith, inl, inr}
+use Rattle.std.proofs.Common.{◌≡◌, ◌≤◌, ◌<◌, ℕ, ◌+◌, Bool, true, false, List, [], ◌∷◌, ◌++◌, length, map, take, drop, get_or, Option, Some, None, Result, Ok, Err, if◌then◌else◌, IfSome, IfErr, refl, sym, ap, ◌∙◌, subst, inl, inr}
 use Rattle.std.proofs.lemmas.List.{append-nil, take-append-drop, take_all}
 use Rattle.std.proofs.lemmas.List.Elements.{filter-append}
 use Rattle.std.specs.List.{AllByRecursion}
 use Rattle.std.specs.Result.{result_err}
 use Rattle.sat_act.specs.declared.act.Act.{Act}
-use Rattle.sat_act.specs.declared.entry.Entry.{Entry}
 use Rattle.sat_act.specs.Deployed.{Deployed}
 use Rattle.sat_act.specs.Ranges.{IsActOf}
 use Rattle.sat_node.specs.declared.kept.CallFault.{CallFault}
 use Rattle.sat_finish.specs.Finishing.{note_entry}
 use Rattle.sat_session.specs.Calls.{IsFault}
 use Rattle.sat_session.specs.Notes.{SessionSeen, session_at}
-use Rattle.sat_undone.specs.Undone.{IsFront, acts_done, acts_of, is_of, most_tries, no_tally, stopped, tally_from}
+use Rattle.sat_undone.specs.Undone.{IsFront, acts_done, acts_of, is_of}
 use Rattle.sat_undone.proofs.Tables.{front-next, rest-next}
 use Rattle.sat_crew.specs.declared.worker.Caller.{Caller}
 use Rattle.sat_crew.specs.declared.worker.Passer.{Passer}
-use Rattle.sat_crew.specs.Crews.{DoesAll, DoesFront, entries_in, own_acts}
+use Rattle.sat_crew.specs.Crews.{entries_in, own_acts}
 use Rattle.sat_crew.specs.Standing.{Came, Serving, Stood, Worked}
 use Rattle.sat_crew.specs.Workers.{Passes, Serves}
 use Rattle.sat_crew.proofs.Standing.{front-on, stood-all, stood-front, stood-none, stood-stopped}

@@ -1,18 +1,16 @@
 -- How a session stands in its acts.
-use Rattle.std.proofs.Common.{◌≡◌, ◌≤◌, ℕ, ◌+◌, nat_le, Bool, true, false, List, [], ◌∷◌, ◌++◌, Option, Some, None, if◌then◌else◌, IfSome, refl, sym, ap, ◌∙◌, subst, arith}
+use Rattle.std.proofs.Common.{◌≡◌, ◌≤◌, ℕ, ◌+◌, nat_le, Bool, true, false, List, [], ◌∷◌, ◌++◌, Option, Some, None, if◌then◌else◌, IfSome, refl, sym, ap, ◌∙◌, arith}
 use Rattle.std.proofs.lemmas.Bool.Decides.{nat_tests}
 use Rattle.std.proofs.lemmas.List.{append_assoc, append-nil}
 use Rattle.sat_act.specs.declared.act.Act.{Act}
 use Rattle.sat_act.specs.declared.entry.Entry.{Entry}
-use Rattle.sat_undone.specs.declared.lacking.Tally.{Tally}
 use Rattle.sat_undone.specs.Undone.{IsFront, acts_behind, acts_done, given_up, most_tries, next_tally, no_tally, stopped, tally_by, tally_from, waits}
-use Rattle.sat_crew.specs.Crews.{DoesAll, DoesFront}
 use Rattle.sat_crew.specs.Standing.{Stood}
 
 pub stood-none : Stood [] 0 None []
 stood-none = record { reads = λ more. refl; tries = refl }
 
-tally-more : (t : Tally) (es : List Entry) (e : Entry) → tally_from t (es ++ e ∷ []) ≡ next_tally (tally_from t es) e
+tally-more : (t : _) (es : List Entry) (e : Entry) → tally_from t (es ++ e ∷ []) ≡ next_tally (tally_from t es) e
 tally-more t [] e = refl
 tally-more t (x ∷ es) e = tally-more (next_tally t x) es e
 
@@ -22,7 +20,7 @@ stood-waits done n o es e s w = record {
   reads = λ more.
       ap (acts_behind 0 None) (append_assoc es (e ∷ []) more)
       ∙ (s.reads (e ∷ more) ∙ ap (λ (b : Bool). done ++ (if b then acts_behind (n + 1) (Some e.act) more else e.act ∷ acts_behind 0 None more)) w);
-  tries = ap (λ (t : Tally). t.tries) (tally-more no_tally es e ∙ ap (λ (b : Bool). tally_by b (tally_from no_tally es)) w) ∙ ap (λ (m : ℕ). m + 1) s.tries;
+  tries = ap (λ (t : _). t.tries) (tally-more no_tally es e ∙ ap (λ (b : Bool). tally_by b (tally_from no_tally es)) w) ∙ ap (λ (m : ℕ). m + 1) s.tries;
 }
 
 -- an entry more that was done
@@ -31,7 +29,7 @@ stood-done done n o es e s w = record {
   reads = λ more.
       ap (acts_behind 0 None) (append_assoc es (e ∷ []) more)
       ∙ (s.reads (e ∷ more) ∙ (ap (λ (b : Bool). done ++ (if b then acts_behind (n + 1) (Some e.act) more else e.act ∷ acts_behind 0 None more)) w ∙ sym (append_assoc done (e.act ∷ []) (acts_behind 0 None more))));
-  tries = ap (λ (t : Tally). t.tries) (tally-more no_tally es e ∙ ap (λ (b : Bool). tally_by b (tally_from no_tally es)) w);
+  tries = ap (λ (t : _). t.tries) (tally-more no_tally es e ∙ ap (λ (b : Bool). tally_by b (tally_from no_tally es)) w);
 }
 
 -- what was done, where nothing more comes

@@ -1,5 +1,5 @@
 -- Tries of one act.
-use Rattle.std.proofs.Common.{◌≡◌, ◌≤◌, ◌⊎◌, ℕ, zero, suc, ◌+◌, ◌&&◌, Bool, true, false, List, [], ◌∷◌, ◌++◌, map, Option, Some, None, Result, Ok, Err, IfSome, refl, sym, ap, ◌∙◌, subst, arith, inl, inr}
+use Rattle.std.proofs.Common.{◌≡◌, ◌≤◌, ◌⊎◌, ℕ, ◌+◌, ◌&&◌, Bool, true, false, List, [], ◌∷◌, ◌++◌, map, Option, Some, None, Result, Ok, Err, refl, sym, ap, ◌∙◌, subst, arith, inl, inr}
 use Rattle.std.proofs.lemmas.List.{map-append}
 use Rattle.sat_act.specs.declared.act.Act.{Act}
 use Rattle.sat_act.specs.declared.answer.Answer.{Answer}
@@ -8,11 +8,11 @@ use Rattle.sat_node.specs.declared.kept.CallFault.{CallFault}
 use Rattle.sat_finish.specs.Finishing.{note_entry}
 use Rattle.sat_session.specs.Calls.{IsFault, note}
 use Rattle.sat_session.specs.Notes.{SessionSeen}
-use Rattle.sat_undone.specs.Undone.{is_attach, is_not_yet, most_tries, waits}
+use Rattle.sat_undone.specs.Undone.{is_attach, is_not_yet, most_tries}
 use Rattle.sat_cluster.specs.Doing.{Did, node_of}
 use Rattle.sat_crew.specs.Crews.{entries_in}
 use Rattle.sat_crew.specs.Standing.{Came, OneMore, Stood, Tried, Trying}
-use Rattle.sat_crew.proofs.Standing.{stood-done, stood-none, stood-waits}
+use Rattle.sat_crew.proofs.Standing.{stood-done, stood-waits}
 
 -- ---- one try
 
@@ -39,6 +39,9 @@ tried_failed a f result old new did is =
     let failed : Did a (Err f) old new = subst (λ (x : Result Answer CallFault). Did a x old new) is did in
     (failed.only, inl (ap entries_in failed.err))
 
+pub tried_fault : (a : Act) (f : CallFault) (result : Result Bool CallFault) (old new : List Entry) → Tried a result old new → result ≡ Err f → IsFault f
+tried_fault a f result old new tried is = let x : Tried a (Err f) old new = subst (λ (x : Result Bool CallFault). Tried a x old new) is tried in x.0
+
 -- ---- tries in a row
 
 pub trying_start : (done : List Act) (a : Act) (es : List Entry) → Stood done 0 None es → Trying done a 0 es
@@ -63,8 +66,8 @@ trying_done done a n result es new t tried is =
     subst (λ (x : Act). Stood (done ++ x ∷ []) 0 None new) m.act w
 
 failed-by : (done : List Act) (a : Act) (n : ℕ) (f : CallFault) (es new : List Entry) → Trying done a n es → IsFault f → (new ≡ es) ⊎ OneMore a true es new → Came done a (Err f) new
-failed-by done a n f es new t fault (inl same) = (fault, n, t.last, t.is_act, subst (Stood done n t.last) (sym same) t.stood)
-failed-by done a n f es new t fault (inr more) = let x = trying-next done a n es new t more in (fault, n + 1, x.last, x.is_act, x.stood)
+failed-by done a n f es new t fault (inl same) = (fault, (n, t.last, t.is_act, subst (Stood done n t.last) (sym same) t.stood))
+failed-by done a n f es new t fault (inr more) = let x = trying-next done a n es new t more in (fault, (n + 1, x.last, x.is_act, x.stood))
 
 pub trying_failed : (done : List Act) (a : Act) (n : ℕ) (f : CallFault) (result : Result Bool CallFault) (es new : List Entry) → Trying done a n es → Tried a result es new → result ≡ Err f → Came done a (Err f) new
 trying_failed done a n f result es new t tried is =

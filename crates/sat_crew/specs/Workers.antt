@@ -1,5 +1,5 @@
 -- What the workers of a crew do.
-use Rattle.std.specs.Prelude.{◌≡◌, List, [], ◌∷◌, Option, Some, None, IfSome}
+use Rattle.std.specs.Prelude.{◌≡◌, List, [], ◌∷◌, Option, None, IfSome}
 use Rattle.sat_act.specs.declared.act.Act.{Act}
 use Rattle.sat_act.specs.Deployed.{Deployed}
 use Rattle.sat_node.specs.declared.kept.CallFault.{CallFault}

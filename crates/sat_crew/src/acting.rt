@@ -1,7 +1,8 @@
 //! One act of a script, done by its session.
-ghost use Rattle.std.specs.Prelude.{◌≡◌, ◌==◌, ◌&&◌, true, nat_lt, List, length, None};
+ghost use Rattle.std.specs.Prelude.{◌≡◌, ◌==◌, ◌&&◌, true, nat_lt, List, length, None, IfErr};
 ghost use Rattle.sat_act.specs.declared.act.Act.{Act as Deed};
 ghost use Rattle.sat_act.specs.Ranges.{IsActOf};
+ghost use Rattle.sat_session.specs.Calls.{IsFault};
 ghost use Rattle.sat_session.specs.Notes.{session_at};
 ghost use Rattle.sat_undone.specs.Undone.{is_attach, is_not_yet, is_of};
 ghost use Rattle.sat_cluster.specs.Doing.{Did};
@@ -154,6 +155,7 @@ pub(crate) fn do_act<N: Laid + Names, R: Wait, G: Gate>(
     requires own { is_of (session_at N.deployment session.old.number) act.now ≡ true }
     ensures number { session.new.number ≡ session.old.number }
     ensures came { (done : List Deed) → Stood done 0 None (entries_in session.old) → Came done act.now result (entries_in session.new) }
+    ensures fault { IfErr result IsFault }
 {
     'trying: for _ in 0..MOST_TRIES {
         match try_act(rt, cluster, session, act, gate) {

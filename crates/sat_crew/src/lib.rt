@@ -2,16 +2,16 @@
 #![tactic(auto)]
 
 mod acting;
-mod crew;
 mod fault;
 mod passing;
 mod serving;
+mod together;
 mod worker;
 
 ghost use Rattle.sat_crew.specs.Crews.{GiveFronts};
 
-pub use crew::crew;
 pub use fault::CrewFault;
+pub use together::crew;
 
 /// Where a journal has of the sessions that came back what they noted, and of no other session anything, what each session did in it is a
 /// front of its acts.

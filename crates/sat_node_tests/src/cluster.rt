@@ -174,6 +174,77 @@ fn ends<N: Laid + Names, R: Wait>(
     Ok(())
 }
 
+// The client's session. Before it was given there is none for another name, and then none for this one.
+fn ask_client<N: Laid + Names>(
+    alloc: Global,
+    cluster: &mut Cluster<N>,
+    found: &mut Vec<u64>,
+) -> Result<Session<N>, AllocError>
+    ensures { IfOk result (λ s. s.number < length N.deployment.clients) }
+{
+    let known = name(alloc, b"a")?;
+    let unknown = name(alloc, b"b")?;
+    note(found, told(&cluster.session(alloc, &unknown)))?;
+    let Ok(client) = cluster.session(alloc, &known) else {
+        return Err(AllocError);
+    };
+    note(found, told(&cluster.session(alloc, &known)))?;
+    Ok(client)
+}
+
+// The operator's session, which is given once.
+fn ask_operator<N: Laid + Names>(
+    alloc: Global,
+    cluster: &mut Cluster<N>,
+    found: &mut Vec<u64>,
+) -> Result<Session<N>, AllocError>
+    ensures { IfOk result (λ s. s.number ≡ length N.deployment.clients) }
+{
+    let Ok(operator) = cluster.operator(alloc) else {
+        return Err(AllocError);
+    };
+    note(found, told(&cluster.operator(alloc)))?;
+    Ok(operator)
+}
+
+// What both do, with the nodes' passes between.
+fn acts<N: Laid + Names + Send + Sync, R: Threads + Wait + Sync>(
+    rt: &R,
+    cluster: &Cluster<N>,
+    client: &mut Session<N>,
+    operator: &mut Session<N>,
+    value: &Value,
+    found: &mut Vec<u64>,
+) -> Result<(), AllocError>
+    requires client { client.old.number < length N.deployment.clients }
+    requires operator { operator.old.number ≡ length N.deployment.clients }
+    requires items { length N.deployment.items ≡ 1 }
+    requires sites { N.deployment.sites ≡ 2 }
+    requires serializer { IsActOf N.deployment (Act.Kill 1 0) }
+{
+    goes(rt, cluster, client, value, found)?;
+    together(rt, cluster);
+    passes(rt, cluster);
+    comes(rt, cluster, client, found)?;
+    ends(rt, cluster, operator, found)
+}
+
+// How it ends, as a number: 12 with a journal.
+fn finished<N: Laid + Names>(
+    alloc: Global,
+    cluster: Cluster<N>,
+    client: Session<N>,
+    operator: Session<N>,
+) -> Result<u64, AllocError> {
+    let mut sessions = Vec::new(alloc);
+    sessions.push(client)?;
+    sessions.push(operator)?;
+    match cluster.finish(alloc, sessions) {
+        Ok(_) => Ok(12),
+        Err(_) => Ok(13),
+    }
+}
+
 fn running<N: Laid + Names + Send + Sync, R: Threads + Wait + Sync>(
     rt: &R,
     alloc: Global,
@@ -183,38 +254,20 @@ fn running<N: Laid + Names + Send + Sync, R: Threads + Wait + Sync>(
     requires deployment { N.deployment ≡ d }
     requires made { wires.deployment ≡ d }
     requires wires { N.wires ≡ wires.wires }
-    requires items { length d.items ≡ 1 }
-    requires sites { d.sites ≡ 2 }
-    requires serializer { IsActOf d (Act.Kill 1 0) }
+    requires items { length N.deployment.items ≡ 1 }
+    requires sites { N.deployment.sites ≡ 2 }
+    requires serializer { IsActOf N.deployment (Act.Kill 1 0) }
 {
     let mut cluster = Cluster::<N>::new(alloc, d, wires)?;
-    let known = name(alloc, b"a")?;
-    let unknown = name(alloc, b"b")?;
     let mut found = Vec::new(alloc);
-    note(&mut found, told(&cluster.session(alloc, &unknown)))?;
-    let Ok(mut client) = cluster.session(alloc, &known) else {
-        return Err(AllocError);
-    };
-    let Ok(mut operator) = cluster.operator(alloc) else {
-        return Err(AllocError);
-    };
-    note(&mut found, told(&cluster.session(alloc, &known)))?;
-    note(&mut found, told(&cluster.operator(alloc)))?;
+    let mut client = ask_client(alloc, &mut cluster, &mut found)?;
+    let mut operator = ask_operator(alloc, &mut cluster, &mut found)?;
     let Some(value) = Value::of(alloc, b"v")? else {
         return Err(AllocError);
     };
-    goes(rt, &cluster, &mut client, &value, &mut found)?;
-    together(rt, &cluster);
-    passes(rt, &cluster);
-    comes(rt, &cluster, &mut client, &mut found)?;
-    ends(rt, &cluster, &mut operator, &mut found)?;
-    let mut sessions = Vec::new(alloc);
-    sessions.push(client)?;
-    sessions.push(operator)?;
-    match cluster.finish(alloc, sessions) {
-        Ok(_) => note(&mut found, 12)?,
-        Err(_) => note(&mut found, 13)?,
-    }
+    acts(rt, &cluster, &mut client, &mut operator, &value, &mut found)?;
+    let end = finished(alloc, cluster, client, operator)?;
+    note(&mut found, end)?;
     Ok(found)
 }
 
@@ -229,24 +282,20 @@ fn one_comes_back<N: Laid + Names>(
     requires wires { N.wires ≡ wires.wires }
 {
     let mut cluster = Cluster::<N>::new(alloc, d, wires)?;
-    let known = name(alloc, b"a")?;
-    let Ok(client) = cluster.session(alloc, &known) else {
-        return Err(AllocError);
-    };
-    let Ok(_operator) = cluster.operator(alloc) else {
-        return Err(AllocError);
-    };
+    let mut found = Vec::new(alloc);
+    let client = ask_client(alloc, &mut cluster, &mut found)?;
+    let _operator = ask_operator(alloc, &mut cluster, &mut found)?;
     let mut sessions = Vec::new(alloc);
     sessions.push(client)?;
-    let mut found = Vec::new(alloc);
+    let mut counts = Vec::new(alloc);
     if let Err(FinishFault::SessionsOut {
         given, returned, ..
     }) = cluster.finish(alloc, sessions)
     {
-        found.push(given)?;
-        found.push(returned)?;
+        counts.push(given)?;
+        counts.push(returned)?;
     }
-    Ok(found)
+    Ok(counts)
 }
 
 #[test]

@@ -86,7 +86,11 @@ fn passers<N: Laid + Names>(
 }
 
 // All that is made before so many sessions are handed to workers, since nothing may be wanting behind that.
-fn rooms<N: Laid + Names>(alloc: Global, cluster: &Cluster<N>, count: usize) -> Option<Rooms<N>>
+fn make_rooms<N: Laid + Names>(
+    alloc: Global,
+    cluster: &Cluster<N>,
+    count: usize,
+) -> Option<Rooms<N>>
     ensures passers { IfSome result (λ r. sessions_in r.passers.items ≡ []) }
     ensures places { IfSome result (λ r. (r.places.items ≡ []) × (count + vec_len r.passers ≤ vec_capacity r.places)) }
     ensures room { IfSome result (λ r. (r.room.items ≡ []) × (count + vec_len r.passers ≤ vec_capacity r.room)) }
@@ -240,8 +244,24 @@ fn work_all<N: Laid + Names + Send + Sync, R: Threads + Wait + Sync, G: Gate>(
     thread::for_each_mut(rt, workers, threads, &each);
 }
 
+// The same of a whole list of workers.
+fn work_whole<N: Laid + Names + Send + Sync, R: Threads + Wait + Sync, G: Gate>(
+    rt: &R,
+    cluster: &Cluster<N>,
+    acts: &[Act],
+    workers: &mut Vec<Worker<N>>,
+    gate: &G,
+    left: &AtomicU64,
+)
+    requires acts { AllByRecursion (IsActOf N.deployment) acts.now }
+    ensures many { vec_len workers.new ≡ vec_len workers.old }
+    ensures works { AllZip (Works N.deployment acts.now) workers.old.items workers.new.items }
+{
+    work_all(rt, cluster, acts, workers.as_mut_slice(), gate, left);
+}
+
 // All workers work, and then the nodes make passes until nothing is left to do. Where a worker stopped at a fault, no passes are made.
-#[tactic(auto, using(crate::proofs::Hiring::have_faults, crate::proofs::Hiring::back, crate::proofs::Hiring::through, crate::proofs::Hiring::works_many))]
+#[tactic(auto, using(crate::proofs::Hiring::back, crate::proofs::Hiring::through))]
 fn run<N: Laid + Names + Send + Sync, R: Threads + Wait + Sync, G: Gate>(
     rt: &R,
     cluster: &Cluster<N>,
@@ -258,7 +278,7 @@ fn run<N: Laid + Names + Send + Sync, R: Threads + Wait + Sync, G: Gate>(
     ensures fault { IfErr result IsFault }
 {
     let left = AtomicU64::new(count);
-    work_all(rt, cluster, acts, workers.as_mut_slice(), gate, &left);
+    work_whole(rt, cluster, acts, workers, gate, &left);
     match first_fault(workers.as_slice()) {
         Some(fault) => Err(fault),
         None => pass_to_end(rt, cluster, gate),
@@ -284,7 +304,7 @@ pub fn crew<N: Laid + Names + Send + Sync, R: Threads + Wait + Sync, G: Gate>(
     ensures ok { IfOk result (λ back. AllZip (CameThrough N.deployment acts.now) sessions.items back.items) }
     ensures err { IfErr result (λ f. IsFault f.fault × AllZip (CameBack N.deployment acts.now) sessions.items f.sessions.items) }
 {
-    let Some(rooms) = rooms(alloc, cluster, sessions.len()) else {
+    let Some(rooms) = make_rooms(alloc, cluster, sessions.len()) else {
         return Err(CrewFault {
             fault: CallFault::Memory,
             sessions,
