@@ -18,6 +18,3 @@ pub use together::crew;
 pub fn fronts()
     ensures fronts { GiveFronts }
 {}
-
-#[cfg(test)]
-mod tests;

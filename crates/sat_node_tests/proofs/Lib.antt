@@ -1,1 +1,2 @@
-mod Fixtures
+pub mod Alone
+pub mod Fixtures

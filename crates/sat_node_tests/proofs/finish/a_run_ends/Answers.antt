@@ -1,7 +1,7 @@
 use Rattle.std.proofs.Common.{◌≡◌, ◌∷◌, [], ap}
 use Rattle.sat_act.specs.Deployed.{Deployed}
 use Rattle.sat_act.specs.declared.deployment.Plan.TheVariants as plan
-use Rattle.sat_opened.proofs.Ticks.{no_ends}
+use Rattle.sat_node_tests.proofs.Alone.{no_ends}
 use Rattle.sat_node_tests.proofs.finish.a_run_ends.Goals as goal
 
 pub end-requires-clause-places : goal.end-requires-clause-places
