@@ -31,6 +31,7 @@ const HOLDINGS: &[(&str, &str)] = &[
 
 // Holds the second client after its first answer until a serializer is inside its lock, and that serializer there until the client has
 // its second answer. So a run on one thread, or under one lock, makes a hold run out.
+#[derive(Drop)]
 struct Holds {
     inside: AtomicU64,
     answers: AtomicU64,
