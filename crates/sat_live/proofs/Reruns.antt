@@ -55,11 +55,14 @@ module _ (d : Deployed) (done : List Act) (w : WorldSeen) (text : List ℕ) (sam
   pub script_told : {E : Type 0} (whole : List ℕ) (rounds moves : ℕ) (result : Result Told E) → SaysHoldings w text whole → SaysSettled w rounds moves → rounds ≡ 0
       → IfOk result (λ told. told.text.items ≡ spelling d done ++ whole) → IfOk result (λ told. told.status ≡ 0) → IfOk result (λ told. IsRunTold d done told.text.items told.status)
   script_told whole rounds moves (Err fault) held settled zero wrote status = tt
-  script_told whole rounds moves (Ok told) held settled zero wrote status = inl (status, record {
-    moves = moves;
-    settled = settles rounds moves settled ∙ ap (λ (n : ℕ). ans.Settled n moves) zero;
-    written = wrote ∙ ap (λ (bytes : List ℕ). spelling d done ++ bytes) (reports whole held);
-  })
+  script_told whole rounds moves (Ok told) held settled zero wrote status = inl (
+    status,
+    record {
+      moves = moves;
+      settled = settles rounds moves settled ∙ ap (λ (n : ℕ). ans.Settled n moves) zero;
+      written = wrote ∙ ap (λ (bytes : List ℕ). spelling d done ++ bytes) (reports whole held);
+    },
+  )
 
   pub unsettled_told : {E : Type 0} (rounds moves : ℕ) (result : Result Told E) → SaysSettled w rounds moves → rounds ≢ 0
       → IfOk result (λ told. told.text.items ≡ unsettled_text rounds moves) → IfOk result (λ told. told.status ≡ 8) → IfOk result (λ told. IsRunTold d done told.text.items told.status)

@@ -91,8 +91,7 @@ fn is_item(d: &Deployment, item: u16) -> bool
 // Tells the prover the range of a number.
 fn in_word(number: u64)
     ensures { number < 2 ^ 64 }
-{
-}
+{}
 
 fn in_word_if(number: Option<u64>)
     ensures { IfSome number (λ k. k < 2 ^ 64) }

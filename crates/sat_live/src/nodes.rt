@@ -98,11 +98,7 @@ fn worked<N: Laid + Names + Send + Sync, R: Threads + Wait + Sync, G: Gate>(
 
 // What nodes and sessions kept.
 #[tactic(auto, using(crate::proofs::Coming::finished))]
-fn ended<N: Laid + Names>(
-    alloc: Global,
-    cluster: Cluster<N>,
-    sessions: Vec<Session<N>>,
-) -> Came
+fn ended<N: Laid + Names>(alloc: Global, cluster: Cluster<N>, sessions: Vec<Session<N>>) -> Came
     requires { count_given cluster.given ≡ length sessions.items }
     ensures { IsEnded N.deployment sessions.items result }
 {

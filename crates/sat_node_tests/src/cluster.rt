@@ -288,9 +288,13 @@ fn one_comes_back<N: Laid + Names>(
     let mut sessions = Vec::new(alloc);
     sessions.push(client)?;
     let mut counts = Vec::new(alloc);
-    if let Err(FinishFault::SessionsOut {
-        given, returned, ..
-    }) = cluster.finish(alloc, sessions)
+    if let Err(
+        FinishFault::SessionsOut {
+            given,
+            returned,
+            ..
+        },
+    ) = cluster.finish(alloc, sessions)
     {
         counts.push(given)?;
         counts.push(returned)?;

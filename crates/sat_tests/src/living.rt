@@ -181,7 +181,11 @@ fn scripts_are_done_whole(rt: HostRuntime) -> Result<(), Fail> {
 
 #[test]
 fn a_bad_line_is_told_alone(rt: HostRuntime) -> Result<(), Fail> {
-    let (status, sink) = lived(&rt, "saturn 1\nsites 2\ngears 1\nplan stamp\nbegin\ngather 0\nend\n", &FreeGate)?;
+    let (status, sink) = lived(
+        &rt,
+        "saturn 1\nsites 2\ngears 1\nplan stamp\nbegin\ngather 0\nend\n",
+        &FreeGate,
+    )?;
     assert_eq!(rt; status, 1);
     assert_eq!(rt; sink.held(), b"line 6: NotLive\n".as_slice());
     Ok(())

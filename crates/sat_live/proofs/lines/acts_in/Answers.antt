@@ -15,7 +15,7 @@ loop-entry-preserved c =
     let inside : c.loop-entry.entry-index < length c.args.journal.now = search rules in
     let here : get_or c.args.journal.now c.loop-entry.entry-index c.entry-item.result ≡ c.entry-item.result = search rules in
     let front : take (c.loop-entry.entry-index + 1) c.args.journal.now ≡ take c.loop-entry.entry-index c.args.journal.now ++ c.entry-item.result ∷ [] =
-        take_more c.args.journal.now c.loop-entry.entry-index c.entry-item.result inside ∙ ap (λ (e : Entry). take c.loop-entry.entry-index c.args.journal.now ++ e ∷ []) here in
+    take_more c.args.journal.now c.loop-entry.entry-index c.entry-item.result inside ∙ ap (λ (e : Entry). take c.loop-entry.entry-index c.args.journal.now ++ e ∷ []) here in
     let line : IsActOf c.args.d.now c.entry-item.result.act = search rules in
     let more : c.push.new.self.items ≡ c.loop-entry.acts.items ++ c.entry-item.result.act ∷ [] = c.in_ok-push.ensures.items ∙ ap (λ (a : Act). c.loop-entry.acts.items ++ a ∷ []) c.in_ok-act.ensures in
     record {
