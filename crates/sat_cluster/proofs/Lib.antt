@@ -1,1 +1,4 @@
 mod Marks
+mod Answering
+pub mod Doing
+mod Ending

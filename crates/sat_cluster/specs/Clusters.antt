@@ -1,5 +1,5 @@
 -- What contracts see of a cluster, and which sessions it gives.
-use Rattle.std.specs.Prelude.{ℕ, ◌≡◌, ◌+◌, Bool, true, false, List, [], length, filter, get_or, position, replicate, Option, Some, None}
+use Rattle.std.specs.Prelude.{ℕ, ◌≡◌, ◌+◌, Bool, true, false, List, length, filter, get_or, position, replicate, Option, Some, None}
 use Rattle.std.specs.Str.{bytes_eq}
 use Rattle.sat_label.specs.declared.node.NodeName.{NodeName}
 use Rattle.sat_act.specs.Deployed.{Deployed}

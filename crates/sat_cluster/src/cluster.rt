@@ -1,30 +1,38 @@
 //! A cluster: the locked nodes of a deployment, and its sessions.
-ghost use Rattle.std.specs.Prelude.{◌≡◌, ◌<◌, ◌+◌, ◌^◌, true, false, length, position, replicate, set, MatchOption, IsErrOf, IsOk, IfOk, IfSome, OnErr, Some};
+ghost use Rattle.std.specs.Prelude.{◌≡◌, ◌<◌, ◌+◌, ◌^◌, true, false, [], length, position, replicate, set, vec_len, MatchOption, IsErrOf, IsOk, IfOk, IfSome, OnErr, Some};
 ghost use Rattle.std.specs.Sync.Mutex.{mutex_guard_value};
 ghost use Rattle.sat_label.specs.Order.{name_eq};
 ghost use Rattle.sat_label.specs.declared.node.NodeName.TheVariants.{Serializer as AtSerializer, Site as AtSite};
 ghost use Rattle.sat_opened.specs.Opened.{serial_names};
 ghost use Rattle.sat_cluster.specs.Clusters.{client_of, count_given, none_given, operator_number, session_fault};
+ghost use Rattle.sat_cluster.specs.Ends.{Ends};
 
 use crate::fault::SessionFault;
 use crate::locks::{Locks, names_of};
+use crate::room::Room;
 use sat_act::Deployment;
+use sat_finish::{Ended, FinishFault, Opened};
 use sat_label::{Name, NodeName};
 use sat_machines::{Laid, SerialNode, SiteNode};
 use sat_node::{Held, Names};
+use sat_pump::Seen;
+use sat_session::Session;
 use sat_wires::{AllNodes, Wires};
 use std::alloc::{AllocError, Global};
 use std::marker::Model;
-use std::sync::{MutexGuard, Wait};
+use std::sync::{Mutex, MutexGuard, Wait};
 
 /// The sites and serializers of N's deployment, each under its lock, and which sessions were given. Contracts see the latter: by the
-/// number of its client, the operator's last.
+/// number of its client, the operator's last. Beside each site's lock stands what its passes have looked at, under a lock that is taken
+/// only where the site's is held.
 #[derive(Drop)]
 pub struct Cluster<N: Laid + Names> {
     d: Deployment,
     sites: Locks<SiteNode<N>, N>,
     serials: Locks<SerialNode<N>, N>,
+    room: Mutex<Room<N>>,
     names: Vec<NodeName>,
+    looks: Vec<Mutex<Seen>>,
     given: Vec<bool>,
 }
 
@@ -38,15 +46,6 @@ impl<N: Laid + Names> Model for Cluster<N> {
     ghost invariant = { λ c. IsCluster N.deployment c.d c.sites c.serials c.names.items c.given.items };
 }
 
-/// The nodes of a cluster whose locks were taken apart, and how many sessions were given.
-#[derive(Drop)]
-pub struct Unlocked<N: Laid + Names> {
-    pub deployment: Deployment,
-    pub sites: Vec<Held<SiteNode<N>, N>>,
-    pub serials: Vec<Held<SerialNode<N>, N>>,
-    pub given: u64,
-}
-
 // Marks for so many sessions, of which none was given.
 fn marks(alloc: Global, count: usize) -> Result<Vec<bool>, AllocError>
     ensures { IfOk result (λ marks. marks.items ≡ replicate count false) }
@@ -56,6 +55,17 @@ fn marks(alloc: Global, count: usize) -> Result<Vec<bool>, AllocError>
         marks.push(false)?;
     }
     Ok(marks)
+}
+
+// Places for what the passes of so many sites look at. Nothing was looked at.
+fn no_looks(alloc: Global, sites: u16) -> Result<Vec<Mutex<Seen>>, AllocError>
+    ensures { IfOk result (λ looks. vec_len looks ≡ sites) }
+{
+    let mut looks = Vec::new(alloc);
+    'looks: for _ in 0..sites {
+        looks.push(Mutex::new(Seen { upto: 0, ts: 0 }))?;
+    }
+    Ok(looks)
 }
 
 // How many were given.
@@ -76,14 +86,18 @@ impl<N: Laid + Names> Cluster<N> {
     {
         let AllNodes { sites, serials } = AllNodes::<N>::new(alloc, &d, wires)?;
         let names = names_of(alloc, serials.as_slice())?;
+        let looks = no_looks(alloc, d.sites())?;
         let given = marks(alloc, d.clients().len() + 1)?;
+        let room = Room::new(alloc, usize::from(d.sites()), names.len())?;
         let sites = Locks::new(alloc, sites)?;
         let serials = Locks::new(alloc, serials)?;
         Ok(Cluster {
             d,
             sites,
             serials,
+            room: Mutex::new(room),
             names,
+            looks,
             given,
         })
     }
@@ -93,6 +107,13 @@ impl<N: Laid + Names> Cluster<N> {
         ensures { result.now ≡ N.deployment }
     {
         &self.d
+    }
+
+    /// The names of all serializers, epoch by epoch.
+    pub fn serializers(&self) -> &[NodeName]
+        ensures { result.now ≡ serial_names N.deployment }
+    {
+        self.names.as_slice()
     }
 
     // Takes the lock of a site. `None` where its node has another name, which never is.
@@ -120,6 +141,12 @@ impl<N: Laid + Names> Cluster<N> {
         let name = NodeName::Serializer { epoch, number };
         let place = self.place(&name)?;
         self.serials.lock(rt, place, name)
+    }
+
+    // What the passes of a site have looked at. It is asked for only under the site's lock.
+    pub(crate) fn look<R: Wait>(&self, rt: &R, site: u16) -> Option<MutexGuard<'_, Seen>> {
+        let lock = self.looks.as_slice().get(usize::from(site))?;
+        Some(lock.lock(rt))
     }
 
     // The place of a serializer among all.
@@ -155,7 +182,8 @@ impl<N: Laid + Names> Cluster<N> {
     // The number of the client of a name.
     fn client(&self, name: &Name) -> Option<usize>
         ensures client { result ≡ client_of N.deployment name.now }
-        ensures inside { IfSome result (λ number. number < length self.now.given) }
+        ensures inside { IfSome result (λ number. number < length N.deployment.clients) }
+        ensures marked { IfSome result (λ number. number < length self.now.given) }
     {
         let bytes = name.bytes();
         self.d
@@ -164,11 +192,11 @@ impl<N: Laid + Names> Cluster<N> {
             .position(|line| line.name.bytes() == bytes)
     }
 
-    /// Gives the session of the client of a name, by its number. `NoSuch` exactly where no client has the name, `Taken` exactly where its
-    /// session was given before. After an error nothing changed.
-    pub fn session(&mut self, name: &Name) -> Result<u16, SessionFault>
+    // Gives the session of the client of a name, by its number.
+    fn give_client(&mut self, name: &Name) -> Result<u16, SessionFault>
         ensures fault { MatchOption (session_fault (client_of N.deployment name.now) self.old.given) (IsOk result) (λ fault. IsErrOf result fault) }
         ensures client { IfOk result (λ n. client_of N.deployment name.now ≡ Some n) }
+        ensures inside { IfOk result (λ n. n < length N.deployment.clients) }
         ensures given { IfOk result (λ n. self.new.given ≡ set self.old.given n true) }
         ensures err { OnErr result (self.new ≡ self.old) }
     {
@@ -178,8 +206,8 @@ impl<N: Laid + Names> Cluster<N> {
         }
     }
 
-    /// Gives the operator's session, by its number. `Taken` exactly where it was given before, and then nothing changed.
-    pub fn operator(&mut self) -> Result<u16, SessionFault>
+    // Gives the operator's session, by its number.
+    fn give_operator(&mut self) -> Result<u16, SessionFault>
         ensures fault { MatchOption (session_fault (Some (operator_number N.deployment)) self.old.given) (IsOk result) (λ fault. IsErrOf result fault) }
         ensures given { IfOk result (λ n. (n ≡ operator_number N.deployment) × (self.new.given ≡ set self.old.given n true)) }
         ensures err { OnErr result (self.new ≡ self.old) }
@@ -188,25 +216,62 @@ impl<N: Laid + Names> Cluster<N> {
         self.give(number)
     }
 
+    /// Gives the session of the client of a name, which did nothing yet. `NoSuch` exactly where no client has the name, `Taken` exactly
+    /// where its session was given before. After an error nothing changed.
+    pub fn session(&mut self, alloc: Global, name: &Name) -> Result<Session<N>, SessionFault>
+        ensures fault { MatchOption (session_fault (client_of N.deployment name.now) self.old.given) (IsOk result) (λ fault. IsErrOf result fault) }
+        ensures client { IfOk result (λ s. client_of N.deployment name.now ≡ Some s.number) }
+        ensures inside { IfOk result (λ s. s.number < length N.deployment.clients) }
+        ensures fresh { IfOk result (λ s. (s.noted ≡ []) × (s.lamport ≡ 0)) }
+        ensures given { IfOk result (λ s. self.new.given ≡ set self.old.given s.number true) }
+        ensures err { OnErr result (self.new ≡ self.old) }
+    {
+        match self.give_client(name) {
+            Ok(number) => Ok(Session::of_client(alloc, self.deployment(), number)),
+            Err(fault) => Err(fault),
+        }
+    }
+
+    /// Gives the operator's session, which did nothing yet. `Taken` exactly where it was given before, and then nothing changed.
+    pub fn operator(&mut self, alloc: Global) -> Result<Session<N>, SessionFault>
+        ensures fault { MatchOption (session_fault (Some (operator_number N.deployment)) self.old.given) (IsOk result) (λ fault. IsErrOf result fault) }
+        ensures number { IfOk result (λ s. s.number ≡ operator_number N.deployment) }
+        ensures fresh { IfOk result (λ s. (s.noted ≡ []) × (s.lamport ≡ 0)) }
+        ensures given { IfOk result (λ s. self.new.given ≡ set self.old.given s.number true) }
+        ensures err { OnErr result (self.new ≡ self.old) }
+    {
+        match self.give_operator() {
+            Ok(_) => Ok(Session::of_operator(alloc, self.deployment())),
+            Err(fault) => Err(fault),
+        }
+    }
+
     /// Takes all locks apart. It takes no memory.
-    pub fn open(self) -> Unlocked<N>
-        ensures deployment { result.deployment ≡ N.deployment }
-        ensures sites { length result.sites.items ≡ N.deployment.sites }
-        ensures serials { length result.serials.items ≡ length (serial_names N.deployment) }
+    pub fn open(self) -> Opened<N>
+        ensures sites { length result.sites ≡ N.deployment.sites }
+        ensures serials { length result.serials ≡ length (serial_names N.deployment) }
         ensures given { result.given ≡ count_given self.given }
     {
         let Cluster {
             d,
             sites,
             serials,
+            room,
             names: _,
+            looks: _,
             given,
         } = self;
-        Unlocked {
-            deployment: d,
-            sites: sites.open(),
-            serials: serials.open(),
-            given: count_marks(given.as_slice()),
-        }
+        let room = room.into_inner();
+        let given = count_marks(given.as_slice());
+        Opened::new(d, sites.open(room.sites), serials.open(room.serials), given)
+    }
+
+    /// Takes all locks apart, and merges what nodes and sessions kept into one journal. `SessionsOut` exactly where not as many sessions
+    /// came back as were given, and else `Differ` where nodes and sessions did not keep the same of acts at nodes.
+    #[tactic(auto, using(crate::proofs::Ending::ends_of))]
+    pub fn finish(self, alloc: Global, sessions: Vec<Session<N>>) -> Result<Ended, FinishFault<N>>
+        ensures { Ends N.deployment self.given sessions.items result }
+    {
+        self.open().finish(alloc, sessions)
     }
 }

@@ -1,12 +1,14 @@
-//! The running nodes of a deployment: a lock for each site and each serializer, and which sessions were given.
+//! The running nodes of a deployment: a lock for each site and each serializer, the sessions that were given, what these do at the
+//! nodes, the nodes' passes, and the end.
 #![tactic(auto)]
 
+mod asking;
+mod calls;
 mod cluster;
 mod fault;
 mod locks;
+mod passing;
+mod room;
 
-pub use cluster::{Cluster, Unlocked};
+pub use cluster::Cluster;
 pub use fault::SessionFault;
-
-#[cfg(test)]
-mod tests;

@@ -23,21 +23,18 @@ pub fn names_of<M: Machine, N: Names>(
     Ok(names)
 }
 
-/// Nodes, each under its lock, with the room to take the locks apart. Contracts see how many there are.
+/// Nodes, each under its lock. Contracts see how many there are.
 #[derive(Drop)]
 pub struct Locks<M: Machine, N: Names> {
     locks: Vec<Locked<M, N>>,
-    room: Vec<Held<M, N>>,
 }
 
 impl<M: Machine, N: Names> Model for Locks<M, N> {
-    ghost use Rattle.std.specs.Prelude.{ℕ, ◌≡◌, ◌≤◌, [], vec_capacity, vec_len};
+    ghost use Rattle.std.specs.Prelude.{ℕ, vec_len};
 
     ghost Value = { ℕ };
 
     ghost view = { λ l. vec_len l.locks };
-
-    ghost invariant = { λ l. (l.room.items ≡ []) × (vec_len l.locks ≤ vec_capacity l.room) };
 }
 
 // Puts each node under a lock, in their order.
@@ -74,17 +71,16 @@ impl<M: Machine + Drop, N: Names> Locks<M, N> {
     pub fn new(alloc: Global, nodes: Vec<Held<M, N>>) -> Result<Locks<M, N>, AllocError>
         ensures { IfOk result (λ locks. locks ≡ length nodes.items) }
     {
-        let room = Vec::with_capacity(alloc, nodes.len())?;
         let locks = lock_all(alloc, nodes)?;
-        Ok(Locks { locks, room })
+        Ok(Locks { locks })
     }
 
-    /// Takes all locks apart. It takes no memory.
-    pub fn open(self) -> Vec<Held<M, N>>
+    /// Takes all locks apart, into this room. It takes no memory.
+    pub fn open(self, room: Vec<Held<M, N>>) -> Vec<Held<M, N>>
+        requires { (room.items ≡ []) × (self ≤ vec_capacity room) }
         ensures { length result.items ≡ self }
     {
-        let Locks { locks, room } = self;
-        unlock_all(locks, room)
+        unlock_all(self.locks, room)
     }
 
     /// Takes the lock of this number, if its node has this name. `None` where there is no such lock, or its node has another name.

@@ -14,6 +14,3 @@ mod same;
 
 pub use fault::{Ended, FinishFault};
 pub use opened::Opened;
-
-#[cfg(test)]
-mod tests;

@@ -14,5 +14,4 @@ pub mod Bulks
 pub mod Whole
 pub mod Distincts
 pub mod Owners
-pub mod Ticks
 pub mod Oldest

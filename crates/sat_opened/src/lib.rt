@@ -22,6 +22,3 @@ pub fn opening()
     ensures whole { FitsJoin }
     ensures runs { OpenedAreRuns }
 {}
-
-#[cfg(test)]
-mod tests;

@@ -5,6 +5,3 @@ mod places;
 mod texts;
 
 pub use texts::{write_differ, write_undone, write_unsettled};
-
-#[cfg(test)]
-mod tests;

@@ -11,6 +11,3 @@ mod sites;
 pub use receiving::receive;
 pub use relaying::relay;
 pub use sending::send;
-
-#[cfg(test)]
-mod tests;

@@ -13,6 +13,3 @@ pub use collecting::collect;
 pub use keeping::{Seen, keep_up};
 pub use passing::pass;
 pub use showing::show;
-
-#[cfg(test)]
-mod tests;

@@ -16,6 +16,3 @@ pub use session::Session;
 pub fn sessions()
     ensures fit { SessionsFit }
 {}
-
-#[cfg(test)]
-mod tests;

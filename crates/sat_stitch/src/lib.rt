@@ -20,6 +20,3 @@ pub fn merging()
     ensures whole { StitchesAreRuns }
     ensures every { RunsFit }
 {}
-
-#[cfg(test)]
-mod tests;

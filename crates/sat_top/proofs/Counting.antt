@@ -17,9 +17,9 @@ use Rattle.sat_rest.specs.Ends.{wrote_count, wrote_entry}
 use Rattle.sat_world.specs.Seen.{WorldSeen}
 use Rattle.sat_world.specs.Stands.{StandsFor}
 use Rattle.sat_script.specs.Reading.{AreActsOf}
-use Rattle.sat_top.specs.Runs.{history}
-use Rattle.sat_top.specs.Running.{Does}
-use Rattle.sat_top.proofs.Running.{kept, on, runs-none}
+use Rattle.sat_runs.specs.Runs.{history}
+use Rattle.sat_runs.specs.Running.{Does}
+use Rattle.sat_runs.proofs.Running.{kept, on, runs-none}
 use Rattle.sat_top.specs.UnderWay.{IsCounting, writes_in}
 
 -- an entry counts as a write where its answer is one

@@ -10,7 +10,7 @@ use Rattle.sat_draw.proofs.Arrowed.{ways_told}
 use Rattle.sat_top.specs.declared.words.Command.TheVariants.{Draw}
 use Rattle.sat_top.specs.Drawing.{draw_text, told_history, EveryDrawingIsGood, IsGoodDrawing}
 use Rattle.sat_top.specs.Whole.{IsOutput, IsTextOf, run_status}
-use Rattle.sat_top.proofs.Good.{TheLaws, good_run}
+use Rattle.sat_runs.proofs.Good.{TheLaws, good_run}
 use Rattle.sat_top.proofs.Ran.{zero_fault}
 
 drawing_is : (r : Reading) (d : Deployed) → r.deployment ≡ Some d → r.fault ≡ None → draw_text r ≡ drawing d (told_history d r.acts)

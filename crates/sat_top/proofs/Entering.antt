@@ -12,9 +12,9 @@ use Rattle.sat_world.specs.Seen.{WorldSeen}
 use Rattle.sat_world.specs.Stands.{StandsFor}
 use Rattle.sat_draw.specs.Drawing.{drawing}
 use Rattle.sat_top.specs.Drawing.{outer, told_history}
-use Rattle.sat_top.specs.Runs.{history}
-use Rattle.sat_top.specs.Running.{entry, Does}
-use Rattle.sat_top.proofs.Running.{kept, on, runs-none}
+use Rattle.sat_runs.specs.Runs.{history}
+use Rattle.sat_runs.specs.Running.{entry, Does}
+use Rattle.sat_runs.proofs.Running.{kept, on, runs-none}
 use Rattle.sat_top.specs.UnderWay.{IsEntering}
 
 -- a settle's own acts leave nothing

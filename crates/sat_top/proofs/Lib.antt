@@ -1,7 +1,5 @@
 pub mod Progress
 pub mod Faults
-pub mod Doing
-pub mod Running
 pub mod Counting
 pub mod Wordless
 pub mod Good

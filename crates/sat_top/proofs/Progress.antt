@@ -1,5 +1,5 @@
 -- What reads of a source and writes to a sink come to.
-use Rattle.std.proofs.Common.{◌≡◌, ℕ, false, ◌+◌, ◌≤◌, List, [], ◌++◌, length, take, drop, Option, Some, None, sym, ap, ◌∙◌, refl, arith}
+use Rattle.std.proofs.Common.{◌≡◌, ℕ, Bool, ◌+◌, ◌≤◌, List, [], ◌++◌, length, take, drop, Option, Some, None, sym, ap, ◌∙◌, refl, arith}
 use Rattle.std.proofs.lemmas.List.{append-nil, append_assoc, take-append-drop, drop-take, take-take, length-append}
 use Rattle.std.specs.Io.KnownBytes.{Consumes, IsAtEnd}
 use Rattle.sat_outside.specs.Streams.{Told, Takes}
@@ -7,11 +7,11 @@ use Rattle.sat_script.specs.Reading.{reading}
 use Rattle.sat_script.specs.declared.stream.Reading.{Reading}
 use Rattle.sat_top.specs.Whole.{IsTextOf}
 
--- So many bytes were read, and a text that begins with them is what the meaning says of the rest.
-pub record HasRead (before now : Option (List ℕ)) (meaning : List ℕ → Reading) (count : ℕ) : Type 0 where
+-- So many bytes were read, for nodes on threads or not, and a text that begins with them is what the meaning says of the rest.
+pub record HasRead (live : Bool) (before now : Option (List ℕ)) (meaning : List ℕ → Reading) (count : ℕ) : Type 0 where
   pub taken : List ℕ
   pub consumed : Consumes before now taken
-  pub means : (more : List ℕ) → meaning more ≡ reading false (taken ++ more)
+  pub means : (more : List ℕ) → meaning more ≡ reading live (taken ++ more)
   pub counted : length taken ≡ count
 
 pub consumes_none : (left : Option (List ℕ)) → Consumes left left []
@@ -24,18 +24,18 @@ consumes_more (Some ws) None c xs ys h k = absurd h
 consumes_more (Some ws) (Some bs) None xs ys h k = absurd k
 consumes_more (Some ws) (Some bs) (Some cs) xs ys h k = h ∙ ap (λ zs. xs ++ zs) k ∙ sym (append_assoc xs ys cs)
 
-pub read_start : (left : Option (List ℕ)) (meaning : List ℕ → Reading) → ((text : List ℕ) → meaning text ≡ reading false text) → HasRead left left meaning 0
+pub read_start : {live : Bool} → (left : Option (List ℕ)) (meaning : List ℕ → Reading) → ((text : List ℕ) → meaning text ≡ reading live text) → HasRead live left left meaning 0
 read_start left meaning means = record { taken = []; consumed = consumes_none left; means = means; counted = refl }
 
-pub read_more : (a b c : Option (List ℕ)) (old new : List ℕ → Reading) (piece : List ℕ) (n count : ℕ) → HasRead a b old n → Consumes b c piece → ((more : List ℕ) → new more ≡ old (piece ++ more)) → count ≡ length piece → HasRead a c new (n + count)
-read_more a b c old new piece n count had took same is = record {
+pub read_more : {live : Bool} → (a b c : Option (List ℕ)) (old new : List ℕ → Reading) (piece : List ℕ) (n count : ℕ) → HasRead live a b old n → Consumes b c piece → ((more : List ℕ) → new more ≡ old (piece ++ more)) → count ≡ length piece → HasRead live a c new (n + count)
+read_more {live} a b c old new piece n count had took same is = record {
   taken = had.taken ++ piece;
   consumed = consumes_more a b c had.taken piece had.consumed took;
-  means = λ more. same more ∙ had.means (piece ++ more) ∙ ap (reading false) (sym (append_assoc had.taken piece more));
+  means = λ more. same more ∙ had.means (piece ++ more) ∙ ap (reading live) (sym (append_assoc had.taken piece more));
   counted = omega (arith, length-append had.taken piece, had.counted);
 }
 
-pub read_bounded : (a b c : Option (List ℕ)) (meaning : List ℕ → Reading) (piece : List ℕ) (n most : ℕ) → HasRead a b meaning n → Consumes b c piece → n + length piece ≤ most → (taken : List ℕ) × Consumes a c taken × (length taken ≤ most)
+pub read_bounded : {live : Bool} → (a b c : Option (List ℕ)) (meaning : List ℕ → Reading) (piece : List ℕ) (n most : ℕ) → HasRead live a b meaning n → Consumes b c piece → n + length piece ≤ most → (taken : List ℕ) × Consumes a c taken × (length taken ≤ most)
 read_bounded a b c meaning piece n most had took few =
     (had.taken ++ piece, consumes_more a b c had.taken piece had.consumed took, omega (arith, length-append had.taken piece, had.counted))
 
@@ -44,16 +44,16 @@ at_end None b taken h e = tt
 at_end (Some ws) None taken h e = absurd h
 at_end (Some ws) (Some bs) taken h e = h ∙ ap (λ zs. taken ++ zs) e ∙ append-nil taken
 
-pub read_whole : (a b : Option (List ℕ)) (meaning : List ℕ → Reading) (found : Reading) (n : ℕ) → HasRead a b meaning n → IsAtEnd b → found ≡ meaning [] → (text : List ℕ) × IsTextOf a text × (reading false text ≡ found)
-read_whole a b meaning found n had ends is =
-    (had.taken, at_end a b had.taken had.consumed ends, ap (reading false) (sym (append-nil had.taken)) ∙ sym (had.means []) ∙ sym is)
+pub read_whole : {live : Bool} → (a b : Option (List ℕ)) (meaning : List ℕ → Reading) (found : Reading) (n : ℕ) → HasRead live a b meaning n → IsAtEnd b → found ≡ meaning [] → (text : List ℕ) × IsTextOf a text × (reading live text ≡ found)
+read_whole {live} a b meaning found n had ends is =
+    (had.taken, at_end a b had.taken had.consumed ends, ap (reading live) (sym (append-nil had.taken)) ∙ sym (had.means []) ∙ sym is)
 
 pub rest_of : (a b : Option (List ℕ)) (taken : List ℕ) → Consumes a b taken → (rest : List ℕ) × IsTextOf a (taken ++ rest)
 rest_of None b taken h = ([], tt)
 rest_of (Some ws) None taken h = absurd h
 rest_of (Some ws) (Some bs) taken h = (bs, h)
 
-pub read_enough : (a b : Option (List ℕ)) (meaning : List ℕ → Reading) (found : Reading) (n : ℕ) → HasRead a b meaning n → ((more : List ℕ) → meaning more ≡ meaning []) → found ≡ meaning [] → (text : List ℕ) × IsTextOf a text × (reading false text ≡ found)
+pub read_enough : {live : Bool} → (a b : Option (List ℕ)) (meaning : List ℕ → Reading) (found : Reading) (n : ℕ) → HasRead live a b meaning n → ((more : List ℕ) → meaning more ≡ meaning []) → found ≡ meaning [] → (text : List ℕ) × IsTextOf a text × (reading live text ≡ found)
 read_enough a b meaning found n had settled is =
     let rest = rest_of a b had.taken had.consumed in
     (had.taken ++ rest.0, rest.1, sym (had.means rest.0) ∙ settled rest.0 ∙ sym is)

@@ -8,9 +8,10 @@ use Rattle.sat_script.specs.Reading.{reading, AreActsOf}
 use Rattle.sat_script.specs.declared.fault.ScriptFault.{ScriptFault}
 use Rattle.sat_script.specs.declared.stream.Reading.{Reading}
 use Rattle.sat_top.specs.declared.words.Command.TheVariants.{Run}
-use Rattle.sat_top.specs.Good.{IsGoodRun, IsGoodFront, EveryReadingIsGood}
-use Rattle.sat_top.specs.Runs.{run_text}
-use Rattle.sat_top.proofs.Good.{TheLaws, good_run}
+use Rattle.sat_runs.specs.Good.{IsGoodRun}
+use Rattle.sat_top.specs.Good.{IsGoodFront, EveryReadingIsGood}
+use Rattle.sat_runs.specs.Runs.{run_text}
+use Rattle.sat_runs.proofs.Good.{TheLaws, good_run}
 use Rattle.sat_top.specs.Whole.{IsTextOf, IsOutput, run_status}
 
 pub zero_fault : (fault : Option ScriptFault) (status : ℕ) → status ≡ run_status fault → status ≡ 0 → fault ≡ None

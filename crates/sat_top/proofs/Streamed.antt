@@ -24,21 +24,21 @@ use Rattle.sat_top.specs.declared.stream.Halt.{Halt}
 use Rattle.sat_top.specs.declared.stream.Halt.TheVariants.{Source, Sink, Memory}
 use Rattle.sat_top.specs.declared.words.Command.TheVariants.{Run}
 use Rattle.sat_top.specs.Good.{EveryReadingIsGood}
-use Rattle.sat_top.specs.Runs.{history, run_text, ending}
+use Rattle.sat_runs.specs.Runs.{history, run_text, ending}
 use Rattle.sat_top.specs.declared.stream.TheConstants.{BUFFER_BYTES}
 use Rattle.sat_top.specs.Streaming.{answers_under, answers_text, HasAnswered, HasFront, WasAnswering}
 use Rattle.sat_top.specs.Whole.{IsTextOf, IsOutput, TakesFront, run_status}
-use Rattle.sat_top.proofs.Good.{TheLaws, runs, all_front}
+use Rattle.sat_runs.proofs.Good.{TheLaws, runs, all_front}
 use Rattle.sat_top.proofs.Progress.{HasRead, consumes_more, read_start, read_more, read_whole, read_enough, rest_of}
 use Rattle.sat_top.proofs.Faults.{has_fault}
 use Rattle.sat_top.proofs.Ran.{at_some, front, ran, zero_fault}
-use Rattle.sat_top.proofs.Running.{answers_front}
+use Rattle.sat_runs.proofs.Running.{answers_front}
 use Rattle.sat_top.specs.UnderWay.{AtWorld, DoesMore, Ends, EndsBefore, IsKnown, IsWorldOf}
 
 -- what was read so far, and the answers of the acts in it
 pub record IsUnder (before now : Option (List ℕ)) (n : ℕ) (r : Came) (w : Option WorldSeen) (count : ℕ) (written : List ℕ) : Type 0 where
   pub done : List Act
-  pub read : HasRead before now (λ more. behind done (will_be r more)) n
+  pub read : HasRead false before now (λ more. behind done (will_be r more)) n
   pub number : count ≡ length done
   pub world : AtWorld w written done
 

@@ -1,5 +1,5 @@
 -- The one contract of the top call, over plain values: the words, the status, and what source and sink told before and after.
-use Rattle.std.specs.Prelude.{ℕ, ◌≡◌, ◌≤◌, ◌+◌, ◌⊎◌, true, List, Option, Some, None, length}
+use Rattle.std.specs.Prelude.{ℕ, ◌≡◌, ◌≤◌, ◌+◌, ◌⊎◌, Bool, true, false, List, Option, Some, None, length}
 use Rattle.std.specs.Io.KnownBytes.{Consumes, IsAtEnd}
 use Rattle.sat_outside.specs.Causes.{Rose}
 use Rattle.sat_outside.specs.Streams.{Told, Takes}
@@ -8,7 +8,8 @@ use Rattle.sat_delay.specs.declared.read.TheConstants.{MOST_BYTES as MOST_DELAY_
 use Rattle.sat_top.specs.declared.stream.TheConstants.{BUFFER_BYTES}
 use Rattle.sat_top.specs.declared.words.Command.{Command}
 use Rattle.sat_top.specs.declared.words.Command.TheVariants.{Run, Draw, Plan, Place}
-use Rattle.sat_top.specs.Words.{command_of}
+use Rattle.sat_top.specs.Words.{command_of, is_live}
+use Rattle.sat_top.specs.Living.{MeetsLive}
 use Rattle.sat_top.specs.Streaming.{WroteBefore, BrokeOff, GaveUp}
 use Rattle.sat_top.specs.Whole.{IsTextOf, TakesFront, IsDone, IsRefused, reads, refusal, command_status, command_output}
 
@@ -45,7 +46,14 @@ pub record MeetsCommand (command : Option Command) (status : ℕ) (left left_aft
   -- where neither has failed, the status is that of the words and the text, unless memory ran out
   pub complete : (text : List ℕ) → left ≡ Some text → ¬ Rose failed failed_after → ¬ Rose refused refused_after → (status ≡ command_status command text) ⊎ (status ≡ 5)
 
+-- what the top call does with `live`, or else with a command
+abbrev pub MeetsEither : Bool → Option Command → ℕ → Option (List ℕ) → Option (List ℕ) → Told → Told → ℕ → ℕ → ℕ → ℕ → Type 0
+MeetsEither true command status left left_after told told_after failed failed_after refused refused_after =
+    MeetsLive status left left_after told told_after failed failed_after refused refused_after
+MeetsEither false command status left left_after told told_after failed failed_after refused refused_after =
+    MeetsCommand command status left left_after told told_after failed failed_after refused refused_after
+
 -- the same of words
 abbrev pub Meets : List (List ℕ) → ℕ → Option (List ℕ) → Option (List ℕ) → Told → Told → ℕ → ℕ → ℕ → ℕ → Type 0
 Meets words status left left_after told told_after failed failed_after refused refused_after =
-    MeetsCommand (command_of words) status left left_after told told_after failed failed_after refused refused_after
+    MeetsEither (is_live words) (command_of words) status left left_after told told_after failed failed_after refused refused_after

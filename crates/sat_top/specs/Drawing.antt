@@ -10,8 +10,8 @@ use Rattle.sat_script.specs.Spelled.{Spells}
 use Rattle.sat_report.specs.Faults.{fault_line}
 use Rattle.sat_draw.specs.Drawing.{drawing}
 use Rattle.sat_draw.specs.Laws.{EachIsDrawnOnce, WaysAreTold}
-use Rattle.sat_top.specs.Good.{IsGoodRun}
-use Rattle.sat_top.specs.Runs.{history}
+use Rattle.sat_runs.specs.Good.{IsGoodRun}
+use Rattle.sat_runs.specs.Runs.{history}
 
 -- the entries of a history but those that a settle made
 unfoldable pub outer : List Entry → List Entry

@@ -1,11 +1,10 @@
 pub mod Words
-pub mod Runs
-pub mod Running
 pub mod Good
 pub mod Loading
 pub mod Placing
 pub mod Whole
 pub mod Streaming
+pub mod Living
 pub mod Contract
 pub mod Drawing
 pub mod UnderWay

@@ -5,8 +5,8 @@ use Rattle.sat_outside.specs.Streams.{Told, Takes}
 use Rattle.sat_report.specs.Summary.{summary}
 use Rattle.sat_settle.specs.LoadActs.{load_acts}
 use Rattle.sat_settle.specs.LoadHeader.{load_deployment}
-use Rattle.sat_top.specs.Good.{IsGoodRun}
-use Rattle.sat_top.specs.Runs.{history}
+use Rattle.sat_runs.specs.Good.{IsGoodRun}
+use Rattle.sat_runs.specs.Runs.{history}
 
 -- the history of the script that is made
 unfoldable pub load_history : ℕ → ℕ → List Entry

@@ -12,7 +12,7 @@ use Rattle.sat_top.specs.declared.stream.TheConstants.{BUFFER_BYTES}
 use Rattle.sat_top.specs.declared.words.Command.{Command}
 use Rattle.sat_top.specs.declared.words.Command.TheVariants.{Run}
 use Rattle.sat_top.specs.Good.{IsGoodFront}
-use Rattle.sat_top.specs.Runs.{history, run_text}
+use Rattle.sat_runs.specs.Runs.{history, run_text}
 use Rattle.sat_top.specs.Whole.{IsTextOf, TakesFront}
 
 -- the answers of the acts that a text's lines say, before its first bad line; where there is no deployment there are none

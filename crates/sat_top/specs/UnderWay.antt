@@ -11,8 +11,8 @@ use Rattle.sat_script.specs.declared.stream.Reading.{Reading}
 use Rattle.sat_script.specs.Stream.{behind}
 use Rattle.sat_world.specs.Seen.{WorldSeen}
 use Rattle.sat_top.specs.Drawing.{told_history}
-use Rattle.sat_top.specs.Running.{IsAnswering, IsRunning}
-use Rattle.sat_top.specs.Runs.{history, run_text}
+use Rattle.sat_runs.specs.Running.{IsAnswering, IsRunning}
+use Rattle.sat_runs.specs.Runs.{history, run_text}
 use Rattle.sat_top.specs.Whole.{TakesFront}
 
 -- ---- answered piece by piece

@@ -28,8 +28,9 @@ use Rattle.sat_top.specs.Drawing.{draw_text, told_history, IsGoodDrawing}
 use Rattle.sat_top.specs.Loading.{load_text, HasLoaded, IsGoodLoad}
 use Rattle.sat_top.specs.Placing.{IsBestPlacement, place_status}
 use Rattle.sat_top.specs.Words.{command_of}
-use Rattle.sat_top.specs.Runs.{history, run_text}
-use Rattle.sat_top.specs.Good.{IsGoodRun, IsGoodScript, IsGoodFront, IsBestPlan}
+use Rattle.sat_runs.specs.Runs.{history, run_text}
+use Rattle.sat_runs.specs.Good.{IsGoodRun}
+use Rattle.sat_top.specs.Good.{IsGoodScript, IsGoodFront, IsBestPlan}
 
 -- this is the whole text of the source, where the source tells it
 abbrev pub IsTextOf : Option (List ℕ) → List ℕ → Type 0

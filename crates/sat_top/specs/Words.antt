@@ -1,5 +1,5 @@
 -- The words that say a command.
-use Rattle.std.specs.Prelude.{ℕ, ◌≤◌, ◌-◌, ◌^◌, nat_lt, List, [], ◌∷◌, Option, Some, None, if◌then◌else◌, codes}
+use Rattle.std.specs.Prelude.{ℕ, ◌≤◌, ◌-◌, ◌^◌, Bool, false, nat_lt, List, [], ◌∷◌, Option, Some, None, if◌then◌else◌, codes}
 use Rattle.std.specs.Str.{bytes_eq}
 use Rattle.sat_script.specs.Words.{number_up_to}
 use Rattle.sat_settle.specs.declared.load_script.TheConstants.{MOST_LOADED}
@@ -35,6 +35,11 @@ command_of (word ∷ []) = command_named word
 command_of (word ∷ other ∷ []) = None
 command_of (word ∷ seed ∷ acts ∷ []) = command_of_three word seed acts
 command_of (word ∷ seed ∷ acts ∷ more ∷ words) = None
+
+-- whether the words ask for nodes on threads
+unfoldable pub is_live : List (List ℕ) → Bool
+is_live (word ∷ []) = bytes_eq word (codes "live")
+is_live _ = false
 
 -- a load has acts within its limits
 abbrev pub IsCommand : Command → Type 0

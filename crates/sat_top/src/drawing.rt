@@ -12,10 +12,10 @@ ghost use Rattle.sat_top.specs.Whole.{run_status};
 ghost use Rattle.sat_top.specs.UnderWay.{IsEntering};
 
 use crate::output::Output;
-use crate::run::do_act;
 use sat_act::{Act, Deployment, Entry};
 use sat_draw::draw;
 use sat_report::write_fault;
+use sat_runs::do_act;
 use sat_script::{MOST_ACTS, Reading, ScriptFault};
 use sat_world::World;
 use std::alloc::{AllocError, Global};
@@ -66,8 +66,8 @@ fn draw_acts(alloc: Global, d: Deployment, acts: &[Act]) -> Result<Vec<u8>, Allo
     Ok(text)
 }
 
-// The line of a fault.
-fn fault_output(alloc: Global, fault: &ScriptFault) -> Result<Output, AllocError>
+/// The line of a fault.
+pub(crate) fn fault_output(alloc: Global, fault: &ScriptFault) -> Result<Output, AllocError>
     ensures text { IfOk result (λ out. out.text.items ≡ fault_line fault.now) }
     ensures status { IfOk result (λ out. out.status ≡ 1) }
 {

@@ -3,6 +3,7 @@
 
 mod drawing;
 mod law;
+mod living;
 mod loading;
 mod memory;
 mod output;
@@ -17,10 +18,3 @@ pub use law::good_scripts;
 pub use memory::still_in_memory;
 pub use top::{saturn, still};
 pub use words::Command;
-
-#[cfg(test)]
-mod rows;
-#[cfg(test)]
-mod tests;
-#[cfg(test)]
-mod texts;

@@ -11,12 +11,12 @@ ghost use Rattle.sat_top.specs.Words.{IsCommand};
 ghost use Rattle.sat_top.specs.UnderWay.{IsCounting, writes_in};
 
 use crate::output::Output;
-use crate::run::do_act;
 use crate::words::Command;
 use sat_act::{Act, Answer};
 use sat_laws::headline;
 use sat_report::write_summary;
 use sat_rest::settles_all;
+use sat_runs::do_act;
 use sat_script::{MOST_ACTS, Script};
 use sat_settle::load;
 use sat_world::World;

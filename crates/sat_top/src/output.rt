@@ -79,7 +79,7 @@ fn draw<S: Source>(alloc: Global, source: &mut S) -> Result<Output, Stop>
     // Brings these laws into the proof; they do nothing when they run.
     good_drawings();
     sound_readings();
-    let reading = read_script(alloc, source)?;
+    let reading = read_script(alloc, source, false)?;
     let output = draw_of(alloc, reading)?;
     Ok(output)
 }

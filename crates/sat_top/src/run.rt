@@ -1,7 +1,6 @@
 //! Running a script's acts.
-ghost use Rattle.std.specs.Prelude.{◌≡◌, ◌+◌, ◌++◌, ℕ, [], ◌∷◌, List, ◌≤◌, IfOk, IfSome, OnOk, None, Some, length};
+ghost use Rattle.std.specs.Prelude.{◌≡◌, ◌+◌, ◌++◌, ℕ, [], List, ◌≤◌, IfOk, IfSome, OnOk, None, Some, length};
 ghost use Rattle.sat_act.specs.declared.act.Act.{Act};
-ghost use Rattle.sat_act.specs.Ranges.{IsActOf};
 ghost use Rattle.sat_act.specs.Limits.{IsDeployment};
 ghost use Rattle.sat_world.specs.Stands.{StandsFor};
 ghost use Rattle.sat_script.specs.Stream.{behind};
@@ -9,70 +8,16 @@ ghost use Rattle.sat_script.specs.Spelled.{HaveNames};
 ghost use Rattle.sat_script.specs.Reading.{AreActsOf};
 ghost use Rattle.sat_act.specs.declared.entry.Entry.{Entry};
 ghost use Rattle.sat_act.specs.Runs.{IsRun};
-ghost use Rattle.sat_top.specs.Runs.{ending, run_text};
-ghost use Rattle.sat_top.specs.Running.{Does, IsAnswering};
+ghost use Rattle.sat_runs.specs.Runs.{ending, run_text};
+ghost use Rattle.sat_runs.specs.Running.{IsAnswering};
 ghost use Rattle.sat_top.specs.UnderWay.{AtWorld, DoesMore, IsKnown, IsWorldOf};
 
-use sat_act::{Act, Answer, Deployment};
-use sat_report::{write_fault, write_holdings, write_line};
+use sat_act::{Act, Deployment};
+use sat_report::{write_fault, write_holdings};
+use sat_runs::answer_acts;
 use sat_script::{MOST_ACTS, Reading, ScriptFault};
-use sat_settle::settle;
 use sat_world::World;
 use std::alloc::{AllocError, Global};
-
-/// Does an act: a settle by the acts that it stands for, any other by itself.
-pub(crate) fn do_act(world: &mut World, act: &Act) -> Result<Answer, AllocError>
-    requires { IsActOf world.old.deployment act.now }
-    ensures does { IfOk result (λ answer. Does world.old act.now answer world.new) }
-    ensures deployment { world.new.deployment ≡ world.old.deployment }
-{
-    match act {
-        Act::Settle => {
-            let answer = settle(world)?;
-            Ok(answer)
-        }
-        _ => {
-            let answer = world.apply(act)?;
-            Ok(answer)
-        }
-    }
-}
-
-// Does an act, and appends the line of its answer.
-fn answer_act(
-    world: &mut World,
-    number: u64,
-    act: &Act,
-    text: &mut Vec<u8>,
-) -> Result<(), AllocError>
-    requires act { IsActOf world.old.deployment act.now }
-    ensures deployment { world.new.deployment ≡ world.old.deployment }
-    ensures running { OnOk result ((front : List ℕ) (acts : List Act) → number ≡ length acts + 1 → IsAnswering world.old.deployment world.old (front ++ text.old.items) acts
-        → IsAnswering world.old.deployment world.new (front ++ text.new.items) (acts ++ act.now ∷ [])) }
-{
-    let answer = do_act(world, act)?;
-    write_line(world.deployment(), number, &answer, text)?;
-    Ok(())
-}
-
-// Does the acts one after another, and appends the lines of their answers.
-fn answer_acts(
-    world: &mut World,
-    before: u64,
-    acts: &[Act],
-    text: &mut Vec<u8>,
-) -> Result<(), AllocError>
-    requires acts { AreActsOf world.old.deployment acts.now }
-    requires few { before + length acts.now ≤ MOST_ACTS }
-    ensures deployment { world.new.deployment ≡ world.old.deployment }
-    ensures running { OnOk result ((front : List ℕ) (done : List Act) → before ≡ length done → IsAnswering world.old.deployment world.old (front ++ text.old.items) done
-        → IsAnswering world.old.deployment world.new (front ++ text.new.items) (done ++ acts.now)) }
-{
-    for (place, act) in acts.iter().enumerate() {
-        answer_act(world, before + place as u64 + 1, act, text)?;
-    }
-    Ok(())
-}
 
 // A new world of a deployment, after acts of it.
 fn begin(
@@ -137,7 +82,7 @@ fn write_ending(
 
 /// The rest of a report, where so many acts had been done: the answers of the acts that are left, and behind them the holdings, or
 /// the fault's line, in the place of what the text was.
-#[tactic(auto, unfolding(crate::specs::Runs::run_text))]
+#[tactic(auto, unfolding(sat_runs::specs::Runs::run_text))]
 pub(crate) fn rest_text(
     alloc: Global,
     reading: &Reading,

@@ -13,6 +13,7 @@ ghost use Rattle.sat_delay.specs.declared.read.TheConstants.{MOST_BYTES as MOST_
 ghost use Rattle.sat_top.specs.declared.stream.TheConstants.{BUFFER_BYTES};
 ghost use Rattle.sat_top.specs.Streaming.{HasAnswered, HasFront, WasAnswering};
 ghost use Rattle.sat_top.specs.Whole.{IsOutput, IsTextOf, TakesFront, run_status};
+ghost use Rattle.sat_top.specs.Living.{HasReadLines};
 ghost use Rattle.sat_top.specs.UnderWay.{DoesMore, Ends, EndsBefore, IsKnown, IsWorldOf};
 
 use crate::law::good_scripts;
@@ -161,22 +162,28 @@ pub fn run_script<S: Source, K: Sink>(
     unreachable!()
 }
 
-/// Reads a script until the source has no more, or the first bad line is known.
-pub fn read_script<S: Source>(alloc: Global, source: &mut S) -> Result<Reading, Stop>
-    ensures script { IfOk result (λ found. (text : List ℕ) × IsTextOf (S.left source.old) text × (reading false text ≡ found)) }
+/// Reads a script, for nodes on threads or not, until the source has no more, or the first bad line is known. Where the source fails, none
+/// of the whole lines that were read is bad.
+pub fn read_script<S: Source>(alloc: Global, source: &mut S, live: bool) -> Result<Reading, Stop>
+    ensures script { IfOk result (λ found. (text : List ℕ) × IsTextOf (S.left source.old) text × (reading live text ≡ found)) }
     ensures end { IfOk result (λ found. found.fault ≡ None → IsAtEnd (S.left source.new)) }
     // The bytes taken have a bound, however much the source has.
     ensures bounded { (taken : List ℕ) × Consumes (S.left source.old) (S.left source.new) taken × (length taken ≤ MOST_SCRIPT_BYTES + BUFFER_BYTES) }
     ensures later { S.faults source.old ≤ S.faults source.new }
     ensures failed { IsErrOf result Stop.Source → Rose (S.faults source.old) (S.faults source.new) }
+    ensures lines { IsErrOf result Stop.Source → HasReadLines live (S.left source.old) (S.left source.new) }
 {
-    let mut reader = ScriptReader::new(alloc, false);
+    let mut reader = ScriptReader::new(alloc, live);
     let mut buffer = [0u8; BUFFER_BYTES];
     let mut taken = 0u64;
     // A first bad line begins before this byte.
     while taken < BYTES_END {
         match source.read(&mut buffer) {
-            Err(_) => return Err(Stop::Source),
+            Err(_) => {
+                // This tells that no whole line is bad.
+                let _ = reader.drain();
+                return Err(Stop::Source);
+            }
             Ok(0) => return Ok(reader.finish()),
             Ok(count) => {
                 taken += count as u64;

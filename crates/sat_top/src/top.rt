@@ -1,28 +1,30 @@
 //! The top call.
 ghost use Rattle.std.specs.Prelude.{◌≡◌, ◌≢◌, false, map, string_bytes, Some};
 ghost use Rattle.sat_top.specs.declared.words.Command.TheVariants.{Place, Run};
-ghost use Rattle.sat_top.specs.Words.{command_of};
+ghost use Rattle.sat_top.specs.Words.{command_of, is_live};
 ghost use Rattle.sat_top.specs.Whole.{reads};
 ghost use Rattle.sat_top.specs.Contract.{Meets, MeetsCommand};
 
+use crate::living::lived;
 use crate::output::{make_output, place_wide};
 use crate::stream::{Halt, Stop, run_script, write_text};
-use crate::words::{Command, command_of};
+use crate::words::{Command, command_of, is_live};
 use sat_outside::{Gate, Sink, Source};
 use std::alloc::Global;
+use std::sync::Wait;
 use std::thread::Threads;
 
 /// Does the command that the words say, and answers its status. `run` reads a piece, does each whole line in it and writes its answer
 /// before it reads more; the other commands write nothing before they have read all. The statuses:
 /// 0, the command was done; 1, the input is refused; 2, the words are no command; 3, the source failed;
-/// 4, the sink failed; 5, memory ran out. It waits for nobody.
+/// 4, the sink failed; 5, memory ran out. It waits for nobody, and so `live` is none of its commands.
 pub fn still<S: Source, K: Sink>(
     alloc: Global,
     words: &[String],
     source: &mut S,
     sink: &mut K,
 ) -> u8
-    ensures meets { Meets (map string_bytes words.now) result (S.left source.old) (S.left source.new) (K.told sink.old) (K.told sink.new)
+    ensures meets { MeetsCommand (command_of (map string_bytes words.now)) result (S.left source.old) (S.left source.new) (K.told sink.old) (K.told sink.new)
         (S.faults source.old) (S.faults source.new) (K.faults sink.old) (K.faults sink.new) }
     // Words that ask for no input leave the source as it was.
     ensures unasked { reads (command_of (map string_bytes words.now)) ≡ false → source.new ≡ source.old }
@@ -51,7 +53,7 @@ fn streamed<S: Source, K: Sink>(alloc: Global, source: &mut S, sink: &mut K) -> 
 #[tactic(auto, using(crate::proofs::Done::is_done, crate::proofs::Done::is_refused))]
 fn told<S: Source, K: Sink>(alloc: Global, words: &[String], source: &mut S, sink: &mut K) -> u8
     requires { command_of (map string_bytes words.now) ≢ Some Run }
-    ensures meets { Meets (map string_bytes words.now) result (S.left source.old) (S.left source.new) (K.told sink.old) (K.told sink.new)
+    ensures meets { MeetsCommand (command_of (map string_bytes words.now)) result (S.left source.old) (S.left source.new) (K.told sink.old) (K.told sink.new)
         (S.faults source.old) (S.faults source.new) (K.faults sink.old) (K.faults sink.new) }
     ensures unasked { reads (command_of (map string_bytes words.now)) ≡ false → source.new ≡ source.old }
 {
@@ -75,7 +77,7 @@ fn placed<R: AllocGlobal + Threads + Sync, S: Source, K: Sink>(
     sink: &mut K,
 ) -> u8
     requires { command_of (map string_bytes words.now) ≡ Some Place }
-    ensures meets { Meets (map string_bytes words.now) result (S.left source.old) (S.left source.new) (K.told sink.old) (K.told sink.new)
+    ensures meets { MeetsCommand (command_of (map string_bytes words.now)) result (S.left source.old) (S.left source.new) (K.told sink.old) (K.told sink.new)
         (S.faults source.old) (S.faults source.new) (K.faults sink.old) (K.faults sink.new) }
 {
     let _ = words.len();
@@ -90,19 +92,22 @@ fn placed<R: AllocGlobal + Threads + Sync, S: Source, K: Sink>(
     }
 }
 
-/// Does the command that the words say, as [`still`] does, but `place` on several threads. The gate is called in a run on threads
-/// alone.
-pub fn saturn<R: AllocGlobal + Threads + Sync, S: Source, K: Sink, G: Gate>(
+/// Does the command that the words say, as [`still`] does, but `place` on several threads; and `live`, whose workers call the gate. Its
+/// further statuses: 6, what nodes and sessions kept differs; 8, the history is not whole. `live` may wait.
+pub fn saturn<R: AllocGlobal + Threads + Wait + Sync, S: Source, K: Sink, G: Gate>(
     rt: &R,
     words: &[String],
     source: &mut S,
     sink: &mut K,
-    _gate: &G,
+    gate: &G,
 ) -> u8
     ensures meets { Meets (map string_bytes words.now) result (S.left source.old) (S.left source.new) (K.told sink.old) (K.told sink.new)
         (S.faults source.old) (S.faults source.new) (K.faults sink.old) (K.faults sink.new) }
-    ensures unasked { reads (command_of (map string_bytes words.now)) ≡ false → source.new ≡ source.old }
+    ensures unasked { is_live (map string_bytes words.now) ≡ false → reads (command_of (map string_bytes words.now)) ≡ false → source.new ≡ source.old }
 {
+    if is_live(words) {
+        return lived(rt, source, sink, gate);
+    }
     match command_of(words) {
         Some(Command::Place) => placed(rt, words, source, sink),
         _ => still(rt.alloc(), words, source, sink),

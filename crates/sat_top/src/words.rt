@@ -2,7 +2,7 @@
 ghost use Rattle.std.specs.Prelude.{◌≡◌, ◌-◌, ◌^◌, [], ◌∷◌, map, string_bytes, IfSome};
 ghost use Rattle.sat_script.specs.Words.{number_up_to};
 ghost use Rattle.sat_settle.specs.declared.load_script.TheConstants.{MOST_LOADED};
-ghost use Rattle.sat_top.specs.Words.{command_named, load_of, command_of_three, command_of, IsCommand};
+ghost use Rattle.sat_top.specs.Words.{command_named, load_of, command_of_three, command_of, is_live, IsCommand};
 
 use sat_script::number_up_to;
 use sat_settle::MOST_LOADED;
@@ -75,7 +75,18 @@ fn command_of_three(word: &str, seed: &str, acts: &str) -> Option<Command>
     }
 }
 
-/// The command that the words say, None where they are no command.
+/// Whether the words ask for nodes on threads.
+#[tactic(auto, unfolding(crate::specs::Words::is_live))]
+pub(crate) fn is_live(words: &[String]) -> bool
+    ensures { result ≡ is_live (map string_bytes words.now) }
+{
+    match words {
+        [word] => word.as_str() == "live",
+        _ => false,
+    }
+}
+
+/// The command that the words say, None where they are no command, or `live`, which no call does that waits for nobody.
 #[tactic(auto, unfolding(crate::specs::Words::command_of))]
 pub(crate) fn command_of(words: &[String]) -> Option<Command>
     ensures command { result ≡ command_of (map string_bytes words.now) }

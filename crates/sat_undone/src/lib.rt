@@ -12,6 +12,3 @@ pub use lacking::{MOST_TRIES, undone};
 pub fn doing()
     ensures done { FrontsAreDone }
 {}
-
-#[cfg(test)]
-mod tests;

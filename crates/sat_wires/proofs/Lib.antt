@@ -1,4 +1,3 @@
 mod Places
 mod Pairs
 mod Names
-mod Locals

@@ -10,6 +10,3 @@ mod wires;
 
 pub use made::AllNodes;
 pub use wires::Wires;
-
-#[cfg(test)]
-mod tests;

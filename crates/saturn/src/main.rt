@@ -19,6 +19,8 @@ fn meaning(status: u8) -> Option<&'static str> {
         3 => Some("standard input could not be read"),
         4 => Some("standard output could not be written"),
         5 => Some("out of memory"),
+        6 => Some("a node and a session kept different things of one act"),
+        8 => Some("the history is not whole"),
         _ => None,
     }
 }

@@ -1,6 +1,6 @@
 use Rattle.std.proofs.Common.{◌∙◌, ◌++◌, ◌∷◌, [], ap}
 use Rattle.sat_act.specs.declared.act.Act.{Act}
-use Rattle.sat_top.specs.Running.{entry}
+use Rattle.sat_runs.specs.Running.{entry}
 use Rattle.sat_top.proofs.Entering.{enters_more}
 use Rattle.sat_top.proofs.drawing.enter_act.Goals as goal
 

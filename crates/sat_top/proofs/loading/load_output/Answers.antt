@@ -1,6 +1,6 @@
 use Rattle.sat_settle.specs.LoadActs.{load_acts}
 use Rattle.sat_settle.specs.LoadHeader.{load_deployment}
-use Rattle.sat_top.proofs.Good.{good_run}
+use Rattle.sat_runs.proofs.Good.{good_run}
 use Rattle.sat_top.proofs.loading.load_output.Goals as goal
 
 pub returns-clause-good : goal.returns-clause-good

@@ -1,0 +1,20 @@
+//! A crew: each session of a cluster does its acts of a script, in a thread of its own, and each node makes its passes in one.
+#![tactic(auto)]
+
+mod acting;
+mod fault;
+mod passing;
+mod serving;
+mod together;
+mod worker;
+
+ghost use Rattle.sat_crew.specs.Crews.{GiveFronts};
+
+pub use fault::CrewFault;
+pub use together::crew;
+
+/// Where a journal has of the sessions that came back what they noted, and of no other session anything, what each session did in it is a
+/// front of its acts.
+pub fn fronts()
+    ensures fronts { GiveFronts }
+{}

@@ -1,0 +1,115 @@
+//! Passes over the nodes of a cluster.
+ghost use Rattle.std.specs.Prelude.{IfErr};
+ghost use Rattle.sat_session.specs.Calls.{IsFault};
+
+use sat_cluster::Cluster;
+use sat_label::NodeName;
+use sat_machines::Laid;
+use sat_node::{CallFault, Names};
+use sat_outside::Gate;
+use std::sync::Wait;
+use std::sync::atomic::{AtomicU64, Ordering};
+use std::thread;
+
+/// How many passes over all nodes are made at the end, at the most.
+pub const MOST_PASSES: u64 = 1_000;
+
+/// Behind so many passes over all nodes in a row that added no entry, no more are made.
+pub const QUIET_PASSES: u64 = 3;
+
+// One pass of each site: how many entries they kept.
+fn pass_sites<N: Laid + Names, R: Wait, G: Gate>(
+    rt: &R,
+    cluster: &Cluster<N>,
+    gate: &G,
+) -> Result<u64, CallFault>
+    ensures { IfErr result IsFault }
+{
+    let mut count = 0u64;
+    'sites: for site in 0..cluster.deployment().sites() {
+        match cluster.round(rt, NodeName::Site(site), gate) {
+            Ok(added) => count = count.saturating_add(added),
+            Err(fault) => return Err(fault),
+        }
+    }
+    Ok(count)
+}
+
+// One pass of each serializer: how many entries they kept.
+fn pass_serials<N: Laid + Names, R: Wait, G: Gate>(
+    rt: &R,
+    cluster: &Cluster<N>,
+    gate: &G,
+) -> Result<u64, CallFault>
+    ensures { IfErr result IsFault }
+{
+    let mut count = 0u64;
+    for name in cluster.serializers() {
+        match cluster.round(rt, *name, gate) {
+            Ok(added) => count = count.saturating_add(added),
+            Err(fault) => return Err(fault),
+        }
+    }
+    Ok(count)
+}
+
+/// One pass of each node, the sites first: how many entries they kept.
+pub(crate) fn pass_all<N: Laid + Names, R: Wait, G: Gate>(
+    rt: &R,
+    cluster: &Cluster<N>,
+    gate: &G,
+) -> Result<u64, CallFault>
+    ensures { IfErr result IsFault }
+{
+    match pass_sites(rt, cluster, gate) {
+        Ok(sites) => match pass_serials(rt, cluster, gate) {
+            Ok(serials) => Ok(sites.saturating_add(serials)),
+            Err(fault) => Err(fault),
+        },
+        Err(fault) => Err(fault),
+    }
+}
+
+/// Passes of one node, until so many that had not returned have.
+pub(crate) fn pass_until<N: Laid + Names, R: Wait, G: Gate>(
+    rt: &R,
+    cluster: &Cluster<N>,
+    node: NodeName,
+    gate: &G,
+    left: &AtomicU64,
+) -> Result<(), CallFault>
+    ensures { IfErr result IsFault }
+{
+    'passing: for _ in rt.forever() {
+        if left.load(Ordering::SeqCst) == 0 {
+            return Ok(());
+        }
+        match cluster.round(rt, node, gate) {
+            Ok(_) => thread::yield_now(),
+            Err(fault) => return Err(fault),
+        }
+    }
+    unreachable!()
+}
+
+/// Passes over all nodes, until `QUIET_PASSES` in a row added no entry, and `MOST_PASSES` at the most.
+pub(crate) fn pass_to_end<N: Laid + Names, R: Wait, G: Gate>(
+    rt: &R,
+    cluster: &Cluster<N>,
+    gate: &G,
+) -> Result<(), CallFault>
+    ensures { IfErr result IsFault }
+{
+    let mut quiet = 0u64;
+    'ending: for _ in 0..MOST_PASSES {
+        if quiet >= QUIET_PASSES {
+            return Ok(());
+        }
+        match pass_all(rt, cluster, gate) {
+            Ok(0) => quiet = quiet.saturating_add(1),
+            Ok(_) => quiet = 0,
+            Err(fault) => return Err(fault),
+        }
+    }
+    Ok(())
+}

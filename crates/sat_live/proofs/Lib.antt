@@ -1,0 +1,4 @@
+pub mod Coming
+pub mod Journals
+pub mod Reruns
+pub mod Outcomes

@@ -1,0 +1,53 @@
+-- What came of nodes and sessions, in plain values.
+use Rattle.std.specs.Prelude.{◌≡◌, ◌+◌, Bool, List, length, reverse, Result, Ok, Err}
+use Rattle.std.specs.List.{AllByRecursion}
+use Rattle.sat_act.specs.declared.act.Act.{Act}
+use Rattle.sat_act.specs.declared.entry.Entry.{Entry}
+use Rattle.sat_act.specs.Deployed.{Deployed}
+use Rattle.sat_act.specs.Runs.{IsRun}
+use Rattle.sat_act.specs.Settling.{run}
+use Rattle.sat_session.specs.Notes.{Owned, SessionSeen}
+use Rattle.sat_stitch.specs.Kept.{acts_of}
+use Rattle.sat_finish.specs.declared.fault.Ended.{Ended}
+use Rattle.sat_finish.specs.declared.fault.FinishFault.{FinishFault}
+use Rattle.sat_finish.specs.declared.fault.FinishFault.TheVariants as fault
+use Rattle.sat_finish.specs.Differences.{IsDifference}
+use Rattle.sat_undone.specs.Undone.{AreFronts}
+use Rattle.sat_cluster.specs.Clusters.{count_given, operator_number}
+use Rattle.sat_crew.specs.Crews.{HoldsSessions, IsFresh}
+use Rattle.sat_live.specs.declared.nodes.Came.{Came}
+use Rattle.sat_live.specs.declared.nodes.Came.TheVariants.{Whole, Apart, Memory}
+
+-- these sessions of a cluster were given, as many as are marked, and did nothing yet
+pub record AreGiven (d : Deployed) (given : List Bool) (xs : List SessionSeen) : Type 0 where
+  pub marks : length given ≡ operator_number d + 1
+  pub count : count_given given ≡ length xs
+  pub fresh : AllByRecursion IsFresh xs
+
+-- a journal, the oldest entry first: the newest first, it is a run, and the run of its acts
+pub record IsOneRun (d : Deployed) (journal : List Entry) : Type 0 where
+  pub is_run : IsRun d (reverse journal)
+  pub of_acts : run d (acts_of (reverse journal)) ≡ reverse journal
+
+-- and what each session did in it is a front of its acts in a script
+pub record IsJournalOf (d : Deployed) (acts : List Act) (journal : List Entry) : Type 0 where
+  pub one : IsOneRun d journal
+  pub fronts : AreFronts journal acts
+
+-- a journal that has of these sessions what they noted, and of no other session anything; or two notes that are not the same
+abbrev pub IsEnded : Deployed → List SessionSeen → Came → Type 0
+IsEnded d xs (Whole journal) = IsOneRun d journal × HoldsSessions d xs journal
+IsEnded d xs (Apart node session) = (nodes : List Owned) × (sessions : List Owned) × IsDifference nodes sessions node session
+IsEnded d xs Memory = Unit {0}
+
+abbrev pub IsCame : Deployed → List Act → Came → Type 0
+IsCame d acts (Whole journal) = IsJournalOf d acts journal
+IsCame d acts (Apart node session) = (nodes : List Owned) × (sessions : List Owned) × IsDifference nodes sessions node session
+IsCame d acts Memory = Unit {0}
+
+-- the end of a cluster whose sessions all came back
+abbrev pub IsFinished : {N : Type 0} → Deployed → List SessionSeen → Result Ended (FinishFault N) → Type 0
+IsFinished d xs (Ok e) = IsEnded d xs (Whole e.journal)
+IsFinished d xs (Err (fault.SessionsOut given returned opened sessions)) = ⊥
+IsFinished d xs (Err (fault.Differ node session)) = IsEnded d xs (Apart node session)
+IsFinished d xs (Err (fault.Memory opened sessions)) = Unit {0}

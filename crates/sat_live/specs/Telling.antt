@@ -1,0 +1,28 @@
+-- What is told of the run of a journal's acts.
+use Rattle.std.specs.Prelude.{ℕ, ◌≡◌, ◌≢◌, ◌⊎◌, List, ◌++◌}
+use Rattle.sat_act.specs.declared.act.Act.{Act}
+use Rattle.sat_act.specs.declared.act.Act.TheVariants.{Settle}
+use Rattle.sat_act.specs.declared.answer.Answer.TheVariants.{Settled}
+use Rattle.sat_act.specs.Deployed.{Deployed}
+use Rattle.sat_act.specs.Settling.{answer_of}
+use Rattle.sat_script.specs.Spelled.{spelling}
+use Rattle.sat_report.specs.Holdings.{report}
+use Rattle.sat_runs.specs.Runs.{history}
+use Rattle.sat_outcome.specs.Texts.{unsettled_text}
+
+-- a settle behind them has nothing left to do: their script, and their report
+pub record IsRunWhole (d : Deployed) (done : List Act) (text : List ℕ) : Type 0 where
+  pub moves : ℕ
+  pub settled : answer_of d (history d done) Settle ≡ Settled 0 moves
+  pub written : text ≡ spelling d done ++ report d (history d done)
+
+-- or it has
+pub record IsRunUnsettled (d : Deployed) (done : List Act) (text : List ℕ) : Type 0 where
+  pub rounds : ℕ
+  pub moves : ℕ
+  pub settled : answer_of d (history d done) Settle ≡ Settled rounds moves
+  pub some : rounds ≢ 0
+  pub written : text ≡ unsettled_text rounds moves
+
+abbrev pub IsRunTold : Deployed → List Act → List ℕ → ℕ → Type 0
+IsRunTold d done text status = ((status ≡ 0) × IsRunWhole d done text) ⊎ ((status ≡ 8) × IsRunUnsettled d done text)

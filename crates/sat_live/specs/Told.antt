@@ -1,0 +1,72 @@
+-- What is told of a script that nodes on threads did, status by status.
+use Rattle.std.specs.Prelude.{ℕ, ◌≡◌, ◌≢◌, ◌⊎◌, List, ◌++◌, reverse, Option, Some, None}
+use Rattle.sat_act.specs.declared.act.Act.{Act}
+use Rattle.sat_act.specs.declared.act.Act.TheVariants.{Settle}
+use Rattle.sat_act.specs.declared.answer.Answer.TheVariants.{Settled}
+use Rattle.sat_act.specs.Deployed.{Deployed}
+use Rattle.sat_act.specs.Settling.{answer_of}
+use Rattle.sat_script.specs.Reading.{AreActsOf}
+use Rattle.sat_script.specs.Spelled.{spelling}
+use Rattle.sat_report.specs.Holdings.{report}
+use Rattle.sat_runs.specs.Good.{IsGoodRun}
+use Rattle.sat_runs.specs.Runs.{history}
+use Rattle.sat_session.specs.declared.noted.Noted.{Noted}
+use Rattle.sat_session.specs.Notes.{Owned}
+use Rattle.sat_finish.specs.Differences.{IsDifference}
+use Rattle.sat_undone.specs.Undone.{AreDone, AreFronts, undone}
+use Rattle.sat_outcome.specs.Texts.{differ_text, undone_text, unsettled_text}
+
+-- These are the acts of the one journal of nodes and sessions that did this script. Each of them has a line under the deployment's
+-- header, their history is good, and what each session did in it is a front of its acts in the script
+pub record AreActsDone (d : Deployed) (acts done : List Act) : Type 0 where
+  pub each : AreActsOf d done
+  pub good : IsGoodRun d done
+  pub fronts : AreFronts (reverse (history d done)) acts
+
+-- 0: the text is the script of the acts of the journal, and behind it the report of their history. Each session did all its acts, in
+-- their order, or a front of them at whose end its client gave up; and a settle behind them has nothing left to do
+pub record HasLived (d : Deployed) (acts : List Act) (text : List ℕ) : Type 0 where
+  pub done : List Act
+  pub journal : AreActsDone d acts done
+  pub all : AreDone (reverse (history d done)) acts
+  pub moves : ℕ
+  pub settled : answer_of d (history d done) Settle ≡ Settled 0 moves
+  pub written : text ≡ spelling d done ++ report d (history d done)
+
+-- 6: the text tells what a node kept of an act of a session, and what the session kept of it. They are not the same
+pub record HasDiffered (d : Deployed) (text : List ℕ) : Type 0 where
+  pub nodes : List Owned
+  pub sessions : List Owned
+  pub node : Option Noted
+  pub session : Option Noted
+  pub difference : IsDifference nodes sessions node session
+  pub apart : node ≢ session
+  pub written : text ≡ differ_text d node session
+
+-- the journal lacks an act of the script: the text tells the first of them
+pub record LacksAct (d : Deployed) (acts done : List Act) (text : List ℕ) : Type 0 where
+  pub act : Act
+  pub first : undone (reverse (history d done)) acts ≡ Some act
+  pub written : text ≡ undone_text d act
+
+-- it lacks none, but a settle behind it has something left to do: the text tells in how many rounds, and how many acts it did
+pub record IsUnsettled (d : Deployed) (acts done : List Act) (text : List ℕ) : Type 0 where
+  pub none : undone (reverse (history d done)) acts ≡ None
+  pub rounds : ℕ
+  pub moves : ℕ
+  pub settled : answer_of d (history d done) Settle ≡ Settled rounds moves
+  pub some : rounds ≢ 0
+  pub written : text ≡ unsettled_text rounds moves
+
+-- 8: the script is not done, or not settled
+pub record HasLeft (d : Deployed) (acts : List Act) (text : List ℕ) : Type 0 where
+  pub done : List Act
+  pub journal : AreActsDone d acts done
+  pub left : LacksAct d acts done text ⊎ IsUnsettled d acts done text
+
+-- the text and the status tell of this script; there is no other status
+pub record IsTold (d : Deployed) (acts : List Act) (text : List ℕ) (status : ℕ) : Type 0 where
+  pub lived : status ≡ 0 → HasLived d acts text
+  pub differed : status ≡ 6 → HasDiffered d text
+  pub left : status ≡ 8 → HasLeft d acts text
+  pub statuses : (status ≡ 0) ⊎ (status ≡ 6) ⊎ (status ≡ 8)

@@ -1,0 +1,41 @@
+//! The call.
+ghost use Rattle.std.specs.Prelude.{◌≡◌, ◌⊎◌, IfOk};
+ghost use Rattle.sat_script.specs.Reading.{AreActsOf};
+ghost use Rattle.sat_live.specs.Told.{IsTold};
+
+use crate::nodes::{Came, come};
+use crate::telling::{Told, tell, tell_apart};
+use sat_act::{Act, Deployment};
+use sat_outside::Gate;
+use sat_wires::Wires;
+use std::alloc::{AllocError, Global};
+use std::marker::Brand;
+use std::sync::Wait;
+use std::thread::Threads;
+
+// The most messages that stand on a link.
+const LINK_ROOM: usize = 64;
+
+/// Does a script at the nodes of its deployment, each under a lock of its own: the acts of each client and those of the operator are done
+/// in their order on a thread for each, and each node makes its passes on one. The text is the script of their one journal and the
+/// report of its run, with status 0; else what is missing, with 6 or 8. Acts of no client and not of the operator are not done.
+#[tactic(auto, using(crate::proofs::Outcomes::told_apart, crate::proofs::Outcomes::told_status))]
+pub fn live<R: Threads + Wait + Sync, G: Gate>(
+    rt: &R,
+    alloc: Global,
+    d: Deployment,
+    acts: &[Act],
+    gate: &G,
+) -> Result<Told, AllocError>
+    requires { AreActsOf d acts.now }
+    ensures told { IfOk result (λ told. IsTold d acts.now told.text.items told.status) }
+    ensures status { IfOk result (λ told. (told.status ≡ 0) ⊎ (told.status ≡ 6) ⊎ (told.status ≡ 8)) }
+{
+    let copy = d.copy()?;
+    let wires = Wires::new(alloc, &copy, LINK_ROOM)?;
+    match come::<Brand, R, G>(rt, alloc, copy, wires, d.clients(), acts, gate) {
+        Came::Whole(journal) => tell(alloc, &d, acts, journal.as_slice()),
+        Came::Apart { node, session } => tell_apart(alloc, &d, &node, &session),
+        Came::Memory => Err(AllocError),
+    }
+}

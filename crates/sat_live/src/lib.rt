@@ -1,0 +1,10 @@
+//! A script done by nodes on threads: the script of what came of it and its report, or what is missing.
+#![tactic(auto)]
+
+mod launch;
+mod lines;
+mod nodes;
+mod telling;
+
+pub use launch::live;
+pub use telling::Told;

@@ -1,0 +1,81 @@
+//! Each text on its happy path.
+use sat_act::{Act, Answer, ClientLine, Deployment, Entry, Item, Plan};
+use sat_label::{Carried, Name, NodeName, Point, SiteSet};
+use sat_outcome::{write_differ, write_undone, write_unsettled};
+use sat_session::Noted;
+use sat_tree::Tree;
+use std::alloc::{AllocError, Global};
+use std::test::Fail;
+
+fn name(alloc: Global, text: &[u8]) -> Result<Name, Fail> {
+    Ok(Name::of(alloc, text)?.ok_or("no name")?)
+}
+
+// One site, one item, one client, and two epochs with a tree of one serializer.
+fn deployment(alloc: Global) -> Result<Deployment, Fail> {
+    let mut items = Vec::new(alloc);
+    items.push(Item {
+        name: name(alloc, b"x")?,
+        replicas: SiteSet { bits: 1 },
+    })?;
+    let mut clients = Vec::new(alloc);
+    clients.push(ClientLine {
+        name: name(alloc, b"a")?,
+        site: 0,
+    })?;
+    let mut plans = Vec::new(alloc);
+    plans.push(Plan::Tree(Tree::new(alloc, &[None], &[0])?))?;
+    plans.push(Plan::Tree(Tree::new(alloc, &[None], &[0])?))?;
+    Ok(Deployment::new(alloc, 1, 1, items, clients, plans)?)
+}
+
+fn note(at: Option<NodeName>, act: Act, answer: Answer) -> Noted {
+    Noted {
+        lamport: 7,
+        at,
+        carried: Carried {
+            point: Point {
+                ts: 5,
+                site: 0,
+                gear: 0,
+            },
+            moving: None,
+        },
+        entry: Entry {
+            act,
+            answer,
+            inner: false,
+        },
+    }
+}
+
+#[test]
+fn each_text_says_what_is_missing(rt: HostRuntime) -> Result<(), Fail> {
+    let alloc = rt.alloc();
+    let d = deployment(alloc)?;
+    let mut out = Vec::new(alloc);
+    let read = note(
+        Some(NodeName::Site(0)),
+        Act::Read { client: 0, item: 0 },
+        Answer::ReadNone,
+    );
+    let killed = note(
+        Some(NodeName::Serializer {
+            epoch: 2,
+            number: 0,
+        }),
+        Act::Kill {
+            epoch: 2,
+            serializer: 0,
+        },
+        Answer::Killed,
+    );
+    write_differ(&d, &Some(read), &None, &mut out)?;
+    write_differ(&d, &None, &Some(killed), &mut out)?;
+    write_undone(&d, &Act::Leave { client: 0 }, &mut out)?;
+    write_unsettled(2, 31, &mut out)?;
+    let want =
+        b"differ\n7 0 5.0.0 - read a x -> read none\nnone\ndiffer\nnone\n7 2 5.0.0 - kill 2 z0 -> killed\nundone\nleave a\nundone\nsettled 2 31\n";
+    assert_eq!(rt; out.as_slice(), want.as_slice());
+    Ok(())
+}

@@ -1,0 +1,48 @@
+-- What one act does to a world, be it a settle or not.
+use Rattle.std.proofs.Common.{◌≡◌, false, List, ◌∷◌, refl, sym, ◌∙◌}
+use Rattle.sat_act.specs.declared.act.Act.{Act}
+use Rattle.sat_act.specs.declared.act.Act.TheVariants as act
+use Rattle.sat_act.specs.declared.answer.Answer.{Answer}
+use Rattle.sat_act.specs.declared.entry.Entry.{Entry}
+use Rattle.sat_act.specs.Deployed.{Deployed}
+use Rattle.sat_act.specs.Answers.{answer}
+use Rattle.sat_act.specs.Runs.{IsRun, is_settle}
+use Rattle.sat_act.specs.Settling.{answer_of, settle, with_inner}
+use Rattle.sat_world.specs.Seen.{WorldSeen}
+use Rattle.sat_world.specs.Stands.{StandsFor}
+use Rattle.sat_runs.specs.Running.{entry, Does}
+
+pub is_plain : (a : Act) → (a ≡ act.Settle → ⊥) → is_settle a ≡ false
+is_plain act.Settle other = absurd (other refl)
+is_plain _ other = refl
+
+plain-answer : (d : Deployed) (h : List Entry) (a : Act) → is_settle a ≡ false → answer_of d h a ≡ answer d h a
+unfolding answer_of
+plain-answer d h act.Settle plain = absurd (cc)
+plain-answer d h a plain = refl
+
+plain-inner : (d : Deployed) (h : List Entry) (a : Act) → is_settle a ≡ false → with_inner d h a ≡ h
+unfolding with_inner
+plain-inner d h act.Settle plain = absurd (cc)
+plain-inner d h a plain = refl
+
+-- what a settle answers and leaves
+abbrev SaysSettled : WorldSeen → Answer → Type 0
+SaysSettled old r = (h : List Entry) → IsRun old.deployment h → StandsFor old h → r ≡ answer_of old.deployment h act.Settle
+
+abbrev StandsSettled : WorldSeen → Answer → WorldSeen → Type 0
+StandsSettled old r new = (h : List Entry) → IsRun old.deployment h → StandsFor old h → StandsFor new (entry act.Settle r ∷ (settle old.deployment h).1)
+
+pub settled : (old new : WorldSeen) (a : Act) (r : Answer) → a ≡ act.Settle → SaysSettled old r → StandsSettled old r new → Does old a r new
+unfolding with_inner
+settled old new a r is says stands h run now = rw is (record { answer = says h run now; stands = stands h run now })
+
+pub did : (old new : WorldSeen) (a : Act) (r : Answer) → (a ≡ act.Settle → ⊥)
+    → ((h : List Entry) → IsRun old.deployment h → StandsFor old h → r ≡ answer old.deployment h a)
+    → ((h : List Entry) → IsRun old.deployment h → StandsFor old h → StandsFor new (entry a r ∷ h))
+    → Does old a r new
+did old new a r other says stands h run now =
+    let plain = is_plain a other in record {
+      answer = says h run now ∙ sym (plain-answer old.deployment h a plain);
+      stands = rw (plain-inner old.deployment h a plain) (stands h run now);
+    }

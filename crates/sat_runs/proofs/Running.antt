@@ -1,0 +1,137 @@
+-- One act more.
+use Rattle.std.proofs.Common.{◌<◌, drop, arith, ◌≡◌, ℕ, ◌+◌, List, [], ◌∷◌, ◌++◌, length, refl, sym, ap, subst, ◌∙◌}
+use Rattle.std.specs.Prelude.{None}
+use Rattle.std.specs.List.{AllByRecursion}
+use Rattle.std.proofs.lemmas.List.{append-nil, append_assoc, reverse-append, length-append, drop_more}
+use Rattle.sat_act.specs.declared.act.Act.{Act}
+use Rattle.sat_act.specs.declared.act.Act.TheVariants as act
+use Rattle.sat_act.specs.declared.answer.Answer.{Answer}
+use Rattle.sat_act.specs.declared.entry.Entry.{Entry}
+use Rattle.sat_act.specs.Deployed.{Deployed}
+use Rattle.sat_act.specs.Done.{of_client}
+use Rattle.sat_act.specs.Ranges.{IsActOf}
+use Rattle.sat_act.specs.Runs.{IsRun}
+use Rattle.sat_act.specs.Settling.{run, answer_of, inner_entry, with_inner}
+use Rattle.sat_rest.proofs.Headlines.{act-is}
+use Rattle.sat_rest.proofs.Rounds.{goes-keep}
+use Rattle.sat_rest.proofs.Settles.{settle-after}
+use Rattle.sat_world.proofs.Meets.{in-range}
+use Rattle.sat_world.specs.Seen.{WorldSeen}
+use Rattle.sat_world.specs.Stands.{StandsFor}
+use Rattle.sat_report.specs.Answers.{answers, answer_line, printed_count}
+use Rattle.sat_runs.specs.Runs.{history}
+use Rattle.sat_runs.specs.Running.{entry, HasDone, Does, IsRunning, IsAnswering}
+
+-- ---- the entries of a settle's acts
+
+answers-in : (d : Deployed) (k : List Entry) (a : Act) → answers d (inner_entry d k a ∷ k) ≡ answers d k
+unfolding answers
+answers-in d k a = append-nil (answers d k)
+
+printed-in : (d : Deployed) (k : List Entry) (a : Act) → printed_count (inner_entry d k a ∷ k) ≡ printed_count k
+unfolding printed_count
+printed-in d k a = refl
+
+-- what no such entry changes is the same after them
+pub kept : {X : Type 0} (d : Deployed) (f : List Entry → X) → ((k : List Entry) (a : Act) → of_client a ≡ None → f (inner_entry d k a ∷ k) ≡ f k)
+    → (h : List Entry) (a : Act) → IsRun d h → f (with_inner d h a) ≡ f h
+unfolding with_inner
+kept d f each h act.Settle run = goes-keep d (λ k. f k ≡ f h) (λ k a run m later old. each k a m.operator ∙ old) h _ (settle-after d h run).goes refl
+kept d f each h a run = refl
+
+-- ---- one act more
+
+history-next : (d : Deployed) (a : Act) (acts : List Act) → history d (acts ++ a ∷ []) ≡ entry a (answer_of d (history d acts) a) ∷ with_inner d (history d acts) a
+unfolding history run
+history-next d a acts = ap (run d) (reverse-append acts (a ∷ []))
+
+answers-on : (d : Deployed) (h : List Entry) (a : Act) (r : Answer) → answers d (entry a r ∷ h) ≡ answers d h ++ answer_line d (printed_count h + 1) r
+unfolding answers
+answers-on d h a r = refl
+
+printed-on : (h : List Entry) (a : Act) (r : Answer) → printed_count (entry a r ∷ h) ≡ printed_count h + 1
+unfolding printed_count
+printed-on h a r = refl
+
+-- a world that did one act more: it goes on, and its history has the act's entry more, and before it those of a settle's acts
+pub record IsOn (old new : WorldSeen) (acts : List Act) (a : Act) (r : Answer) : Type 0 where
+  pub goes : IsRunning old.deployment new (acts ++ a ∷ [])
+  pub next : history old.deployment (acts ++ a ∷ []) ≡ entry a r ∷ with_inner old.deployment (history old.deployment acts) a
+
+pub on : (old new : WorldSeen) (acts : List Act) (a : Act) (r : Answer) → IsActOf old.deployment a → Does old a r new → IsRunning old.deployment old acts → IsOn old new acts a r
+on old new acts a r range does now =
+    let d = old.deployment in
+    let h = history d acts in
+    let done : HasDone d h a r new = does h now.run now.stands in
+    let next : history d (acts ++ a ∷ []) ≡ entry a r ∷ with_inner d h a = history-next d a acts ∙ ap (λ (r : Answer). entry a r ∷ with_inner d h a) (sym done.answer) in
+    record {
+      goes = record { run = rw (history-next d a acts) (act-is d h a now.run (in-range d a range)); stands = rw next done.stands };
+      next = next;
+    }
+
+-- with the line of its answer
+pub answers_more : (old new : WorldSeen) (text more : List ℕ) (number : ℕ) (acts : List Act) (a : Act) (r : Answer) → IsActOf old.deployment a → Does old a r new
+    → more ≡ text ++ answer_line old.deployment number r → number ≡ length acts + 1
+    → IsAnswering old.deployment old text acts → IsAnswering old.deployment new more (acts ++ a ∷ [])
+answers_more old new text more number acts a r range does written counted now =
+    let d = old.deployment in
+    let h = history d acts in
+    let one = on old new acts a r range does now.running in
+    let same : answers d (with_inner d h a) ≡ answers d h = kept d (answers d) (λ k b e. answers-in d k b) h a now.running.run in
+    let count : printed_count (with_inner d h a) ≡ printed_count h = kept d printed_count (λ k b e. printed-in d k b) h a now.running.run in
+    record {
+      running = one.goes;
+      answers = rw one.next (rw (answers-on d (with_inner d h a) a r, same, count, now.count, ← counted, ← now.answers) written);
+      count = rw one.next (rw (printed-on (with_inner d h a) a r, count, now.count) (sym (length-append acts (a ∷ []))));
+    }
+
+-- ---- before the first act
+
+pub runs-none : (d : Deployed) (w : WorldSeen) → StandsFor w [] → IsRunning d w []
+unfolding history run IsRun
+runs-none d w stands = record { run = tt; stands = stands }
+
+pub answers_none : (d : Deployed) (w : WorldSeen) (text : List ℕ) → StandsFor w [] → text ≡ [] → IsAnswering d w text []
+unfolding history run answers printed_count
+answers_none d w text stands empty = record { running = runs-none d w stands; answers = empty; count = refl }
+
+-- ---- several acts more, behind any front of the text
+
+-- these acts more were done, where so many had been done before; the text is longer by their answers
+abbrev pub Answers : Deployed → WorldSeen → List ℕ → ℕ → WorldSeen → List ℕ → List Act → Type 0
+Answers d old text before new longer acts = (front : List ℕ) (done : List Act) → before ≡ length done → IsAnswering d old (front ++ text) done → IsAnswering d new (front ++ longer) (done ++ acts)
+
+pub answers_start : (d : Deployed) (w : WorldSeen) (text : List ℕ) (before : ℕ) → Answers d w text before w text []
+answers_start d w text before front done counted now = subst (λ (acts : List Act). IsAnswering d w (front ++ text) acts) (sym (append-nil done)) now
+
+-- one of them
+pub answers_next : (d e : Deployed) (old mid new : WorldSeen) (text longer more : List ℕ) (before place : ℕ) (acts all : List Act) (a : Act) → e ≡ d → length acts ≡ place → all ≡ acts ++ a ∷ []
+    → Answers d old text before mid longer acts
+    → ((front : List ℕ) (done : List Act) → (before + place) + 1 ≡ length done + 1 → IsAnswering e mid (front ++ longer) done → IsAnswering e new (front ++ more) (done ++ a ∷ []))
+    → Answers d old text before new more all
+answers_next d e old mid new text longer more before place acts all a same long is had one front done counted now =
+    let number : (before + place) + 1 ≡ length (done ++ acts) + 1 = omega (arith, long, counted, length-append done acts) in
+    let here : IsAnswering e mid (front ++ longer) (done ++ acts) = subst (λ (x : Deployed). IsAnswering x mid (front ++ longer) (done ++ acts)) (sym same) (had front done counted now) in
+    let then : IsAnswering d new (front ++ more) ((done ++ acts) ++ a ∷ []) = subst (λ (x : Deployed). IsAnswering x new (front ++ more) ((done ++ acts) ++ a ∷ [])) same (one front (done ++ acts) number here) in
+    subst (λ (xs : List Act). IsAnswering d new (front ++ more) xs) (append_assoc done acts (a ∷ []) ∙ ap (λ xs. done ++ xs) (sym is)) then
+
+-- the lines of acts more stand behind those of the acts before
+line_next : (d : Deployed) (acts : List Act) (a : Act) → IsRun d (history d acts) → (line : List ℕ) × (answers d (history d (acts ++ a ∷ [])) ≡ answers d (history d acts) ++ line)
+line_next d acts a run =
+    let h = history d acts in
+    let r = answer_of d h a in
+    let line = answer_line d (printed_count (with_inner d h a) + 1) r in
+    let same : answers d (with_inner d h a) ≡ answers d h = kept d (answers d) (λ k b e. answers-in d k b) h a run in
+    (line, ap (answers d) (history-next d a acts) ∙ answers-on d (with_inner d h a) a r ∙ ap (λ bytes. bytes ++ line) same)
+
+pub answers_front : (d : Deployed) (done rest : List Act) → ((xs ys : List Act) → done ++ rest ≡ xs ++ ys → IsRun d (history d xs)) → (tail : List ℕ) × (answers d (history d (done ++ rest)) ≡ answers d (history d done) ++ tail)
+answers_front d done [] runs = ([], ap (λ xs. answers d (history d xs)) (append-nil done) ∙ sym (append-nil (answers d (history d done))))
+answers_front d done (a ∷ rest) runs =
+    let e : (done ++ a ∷ []) ++ rest ≡ done ++ a ∷ rest = append_assoc done (a ∷ []) rest in
+    let next = answers_front d (done ++ a ∷ []) rest (λ xs ys is. runs xs ys (sym e ∙ is)) in
+    let one = line_next d done a (runs done (a ∷ rest) refl) in
+    (one.0 ++ next.0, ap (λ xs. answers d (history d xs)) (sym e) ∙ next.1 ∙ ap (λ bytes. bytes ++ next.0) one.1 ∙ append_assoc (answers d (history d done)) one.0 next.0)
+
+-- without the first of the acts that are left
+pub rest_all : (P : Act → Type 0) (xs : List Act) (n : ℕ) (d : Act) → n < length xs → AllByRecursion P (drop n xs) → AllByRecursion P (drop (n + 1) xs)
+rest_all P xs n d inside a = (subst (AllByRecursion P) (drop_more xs n d inside) a).1

@@ -1,0 +1,67 @@
+//! Acts done one after another.
+ghost use Rattle.std.specs.Prelude.{◌≡◌, ◌+◌, ◌^◌, ◌<◌, ◌++◌, ℕ, [], ◌∷◌, List, IfOk, OnOk, length};
+ghost use Rattle.sat_act.specs.declared.act.Act.{Act};
+ghost use Rattle.sat_act.specs.Ranges.{IsActOf};
+ghost use Rattle.sat_script.specs.Reading.{AreActsOf};
+ghost use Rattle.sat_runs.specs.Running.{Does, IsAnswering};
+
+use sat_act::{Act, Answer};
+use sat_report::write_line;
+use sat_settle::settle;
+use sat_world::World;
+use std::alloc::AllocError;
+
+/// Does an act: a settle by the acts that it stands for, any other by itself. For want of memory some of a settle's acts may be done.
+pub fn do_act(world: &mut World, act: &Act) -> Result<Answer, AllocError>
+    requires { IsActOf world.old.deployment act.now }
+    ensures does { IfOk result (λ answer. Does world.old act.now answer world.new) }
+    ensures deployment { world.new.deployment ≡ world.old.deployment }
+{
+    match act {
+        Act::Settle => {
+            let answer = settle(world)?;
+            Ok(answer)
+        }
+        _ => {
+            let answer = world.apply(act)?;
+            Ok(answer)
+        }
+    }
+}
+
+/// Does an act, and appends the line of its answer. For want of memory the act may be done without its line, or with a front of it.
+pub fn answer_act(
+    world: &mut World,
+    number: u64,
+    act: &Act,
+    text: &mut Vec<u8>,
+) -> Result<(), AllocError>
+    requires act { IsActOf world.old.deployment act.now }
+    ensures deployment { world.new.deployment ≡ world.old.deployment }
+    ensures running { OnOk result ((front : List ℕ) (acts : List Act) → number ≡ length acts + 1 → IsAnswering world.old.deployment world.old (front ++ text.old.items) acts
+        → IsAnswering world.old.deployment world.new (front ++ text.new.items) (acts ++ act.now ∷ [])) }
+{
+    let answer = do_act(world, act)?;
+    write_line(world.deployment(), number, &answer, text)?;
+    Ok(())
+}
+
+/// Does the acts one after another, behind so many acts, and appends the lines of their answers. For want of memory some of the acts
+/// may be done, with a front of these lines.
+pub fn answer_acts(
+    world: &mut World,
+    before: u64,
+    acts: &[Act],
+    text: &mut Vec<u8>,
+) -> Result<(), AllocError>
+    requires acts { AreActsOf world.old.deployment acts.now }
+    requires few { before + length acts.now < 2 ^ 64 }
+    ensures deployment { world.new.deployment ≡ world.old.deployment }
+    ensures running { OnOk result ((front : List ℕ) (done : List Act) → before ≡ length done → IsAnswering world.old.deployment world.old (front ++ text.old.items) done
+        → IsAnswering world.old.deployment world.new (front ++ text.new.items) (done ++ acts.now)) }
+{
+    for (place, act) in acts.iter().enumerate() {
+        answer_act(world, before + place as u64 + 1, act, text)?;
+    }
+    Ok(())
+}

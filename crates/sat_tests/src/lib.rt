@@ -1,0 +1,12 @@
+//! Tests of whole paths: scripts and tables through the program, and what it reads and writes, as texts. A crate that has tests is proved
+//! twice, so these stand in one of their own.
+#![tactic(auto)]
+
+#[cfg(test)]
+mod living;
+#[cfg(test)]
+mod program;
+#[cfg(test)]
+mod rows;
+#[cfg(test)]
+mod texts;
