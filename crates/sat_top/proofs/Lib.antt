@@ -12,3 +12,4 @@ pub mod Streamed
 pub mod Meetings
 pub mod Entering
 pub mod Drawings
+pub mod Lived
