@@ -21,7 +21,7 @@ each-end P status (inr (inl e)) zero six eight = subst P (sym e) six
 each-end P status (inr (inr e)) zero six eight = subst P (sym e) eight
 
 one-is-none : (status : ℕ) → status ≡ 1 → is_told status ≡ true → ⊥
-one-is-none status one yes = let e : false ≡ true = sym (ap is_told one) ∙ yes in cc
+one-is-none status one told = let e : false ≡ true = sym (ap is_told one) ∙ told in cc
 
 module _ (status : ℕ) (left left_after : Option (List ℕ)) (old new : Told) (failed failed_after refused refused_after : ℕ) (text output : List ℕ) (whole : IsTextOf left text)
     (bounded : (taken : List ℕ) × Consumes left left_after taken × (length taken ≤ MOST_BYTES + BUFFER_BYTES)) (later : failed ≤ failed_after) (kept : refused ≤ refused_after) (took : Takes old new output) where
@@ -34,7 +34,7 @@ module _ (status : ℕ) (left left_after : Option (List ℕ)) (old new : Told) (
   bad-line : (fault : ScriptFault) → (reading true text).fault ≡ Some fault → Tells (reading true text).deployment (reading true text).acts (Some fault) output status → MeetsLive status left left_after old new failed failed_after refused refused_after
   bad-line fault is tells =
       let one : status ≡ 1 = tells.1 in record {
-        lived = λ yes. absurd (one-is-none status one yes);
+        lived = λ told. absurd (one-is-none status one told);
         bad = λ _. record { text = text; whole = whole; fault = fault; bad = is; written = subst (λ (bytes : List ℕ). Takes old new bytes) tells.0 took };
         no_source = λ e. absurd (omega (arith, e, one));
         no_sink = λ e. absurd (omega (arith, e, one));
@@ -48,7 +48,7 @@ module _ (status : ℕ) (left left_after : Option (List ℕ)) (old new : Told) (
   at-end : (reading true text).fault ≡ None → IsRead true (reading true text) text → IsAtEnd left_after → Tells (reading true text).deployment (reading true text).acts None output status → MeetsLive status left left_after old new failed failed_after refused refused_after
   at-end is read ends tells =
       let told : IsTold read.0 (reading true text).acts output status = subst (λ (o : Option Deployed). Tells o (reading true text).acts None output status) read.1 tells in
-      let yes : is_told status ≡ true = each-end (λ n. is_told n ≡ true) status told.statuses refl refl refl in
+      let ends-so : is_told status ≡ true = each-end (λ n. is_told n ≡ true) status told.statuses refl refl refl in
       let low : status ≤ 8 = each-end (λ n. n ≤ 8) status told.statuses (omega arith) (omega arith) (omega arith) in record {
         lived = λ _. (record { text = text; whole = whole; deployment = read.0; acts = (reading true text).acts; spelled = read.2; allowed = read.3; output = output; told = told; written = took }, ends);
         bad = λ e. absurd (each-end (λ n. n ≢ 1) status told.statuses (λ f. omega (arith, f)) (λ f. omega (arith, f)) (λ f. omega (arith, f)) e);
@@ -58,7 +58,7 @@ module _ (status : ℕ) (left left_after : Option (List ℕ)) (old new : Told) (
         statuses = (low, each-end (λ n. n ≢ 2) status told.statuses (λ f. omega (arith, f)) (λ f. omega (arith, f)) (λ f. omega (arith, f)), each-end (λ n. n ≢ 7) status told.statuses (λ f. omega (arith, f)) (λ f. omega (arith, f)) (λ f. omega (arith, f)));
         bounded = bounded;
         later = (later, kept);
-        complete = λ other at _ _. inl (same-fault other at None is yes);
+        complete = λ other at _ _. inl (same-fault other at None is ends-so);
       }
 
   -- whether the text is good or not

@@ -1,3 +1,4 @@
+use Rattle.std.proofs.Common.{rules, true}
 use Rattle.sat_top.proofs.Lived.{lived_met}
 use Rattle.sat_top.proofs.living.lived.Goals as goal
 
