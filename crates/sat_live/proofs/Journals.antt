@@ -1,5 +1,5 @@
 -- A journal's acts, and their history.
-use Rattle.std.proofs.Common.{◌≡◌, ℕ, zero, suc, ◌<◌, ◌≤◌, ◌^◌, ◌+◌, Bool, true, nat_lt, Option, Some, List, [], ◌∷◌, ◌++◌, length, take, reverse, arith, refl, sym, ap, ◌∙◌, subst}
+use Rattle.std.proofs.Common.{◌≡◌, ℕ, zero, suc, ◌<◌, ◌≤◌, ◌^◌, ◌+◌, Bool, true, nat_lt, Option, Some, List, [], ◌∷◌, ◌++◌, length, reverse, arith, refl, sym, ap, ◌∙◌, subst}
 use Rattle.std.specs.Prelude.{IfSome}
 use Rattle.std.specs.List.{AllByRecursion}
 use Rattle.std.proofs.lemmas.Bool.Decides.{nat_tests}
@@ -18,7 +18,6 @@ use Rattle.sat_act.specs.Settling.{run}
 use Rattle.sat_script.specs.Reading.{AreActsOf}
 use Rattle.sat_runs.specs.Runs.{history}
 use Rattle.sat_stitch.specs.Kept.{acts_of}
-use Rattle.sat_stitch.specs.Places.{Client, session_of}
 use Rattle.sat_stitch.proofs.Stitches.{reverse-cons}
 use Rattle.sat_undone.specs.Counted.{IsKnown}
 use Rattle.sat_live.specs.Coming.{IsOneRun}

@@ -1,6 +1,6 @@
 -- What is told, from what came.
-use Rattle.std.proofs.Common.{◌≡◌, ℕ, List, ◌++◌, reverse, Option, Some, None, Result, Ok, Err, arith, refl, sym, subst, ◌∙◌, inl, inr}
-use Rattle.std.specs.Prelude.{IfOk, ◌≢◌, ◌⊎◌}
+use Rattle.std.proofs.Common.{◌≡◌, ℕ, List, reverse, Option, Some, None, Result, Ok, Err, arith, sym, subst, inl, inr}
+use Rattle.std.specs.Prelude.{IfOk, ◌⊎◌}
 use Rattle.sat_act.specs.declared.act.Act.{Act}
 use Rattle.sat_act.specs.declared.entry.Entry.{Entry}
 use Rattle.sat_act.specs.Deployed.{Deployed}

@@ -1,5 +1,5 @@
 -- Every good script has a good history, and each of its settles comes to rest.
-use Rattle.std.proofs.Common.{◌≡◌, ℕ, false, List, Option, Some, None, refl}
+use Rattle.std.proofs.Common.{◌≡◌, ℕ, false, List, Some, None, refl}
 use Rattle.sat_act.specs.Deployed.{Deployed}
 use Rattle.sat_script.specs.Reading.{reading}
 use Rattle.sat_script.specs.Spelled.{Spells}

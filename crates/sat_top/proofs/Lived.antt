@@ -79,5 +79,5 @@ pub lived_met : (status : ℕ) (left left_after : Option (List ℕ)) (old new : 
     MeetsLive status left left_after old new failed failed_after refused refused_after
 lived_met status left left_after old new failed failed_after refused refused_after found output law from ends bounded later kept tells took =
     either status left left_after old new failed failed_after refused refused_after from.0 output from.1 bounded later kept took law
-      (subst (λ (r : Reading). r.fault ≡ None → IsAtEnd left_after) (sym from.2) ends)
-      (subst (λ (r : Reading). Tells r.deployment r.acts r.fault output status) (sym from.2) tells)
+    (subst (λ (r : Reading). r.fault ≡ None → IsAtEnd left_after) (sym from.2) ends)
+    (subst (λ (r : Reading). Tells r.deployment r.acts r.fault output status) (sym from.2) tells)

@@ -1,10 +1,8 @@
 //! Running a script's acts.
 ghost use Rattle.std.specs.Prelude.{◌≡◌, ◌+◌, ◌++◌, ℕ, [], List, ◌≤◌, IfOk, IfSome, OnOk, None, Some, length};
 ghost use Rattle.sat_act.specs.declared.act.Act.{Act};
-ghost use Rattle.sat_act.specs.Limits.{IsDeployment};
 ghost use Rattle.sat_world.specs.Stands.{StandsFor};
 ghost use Rattle.sat_script.specs.Stream.{behind};
-ghost use Rattle.sat_script.specs.Spelled.{HaveNames};
 ghost use Rattle.sat_script.specs.Reading.{AreActsOf};
 ghost use Rattle.sat_act.specs.declared.entry.Entry.{Entry};
 ghost use Rattle.sat_act.specs.Runs.{IsRun};
