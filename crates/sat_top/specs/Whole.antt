@@ -42,7 +42,7 @@ refusal = codes "words refused" ++ 10 ∷ []
 
 -- what the program says of itself
 abbrev pub help : List ℕ
-help = codes "saturn: causal order between sites that keep some items each\n\nusage: saturn COMMAND < INPUT\n\n  run          reads a script, and writes the report of its run\n  plan         reads a table of delays as JSON, and writes a tree of serializers\n  place        reads the same with a given tree, and writes the best places of its serializers\n  draw         reads a script, and writes a picture of its run as SVG\n  load SEED N  makes a script of N acts and six more, runs it, and writes a summary\n  --help       writes this text\n  --version    writes the version\n\nstatus: 0 done; 1 the input is refused, and the last line written says where; 2 no such command;\n        3 the input could not be read; 4 the output could not be written; 5 out of memory\n"
+help = codes "saturn: causal order between sites that keep some items each\n\nusage: saturn COMMAND < INPUT\n\n  run          reads a script, and writes the report of its run\n  plan         reads a table of delays as JSON, and writes a tree of serializers\n  place        reads the same with a given tree, and writes the best places of its serializers\n  draw         reads a script, and writes a picture of its run as SVG\n  live         reads a script of clients, has nodes on threads do it, and writes its history\n  load SEED N  makes a script of N acts and six more, runs it, and writes a summary\n  --help       writes this text\n  --version    writes the version\n\nstatus: 0 done; 1 the input is refused, and the last line written says where; 2 no such command;\n        3 the input could not be read; 4 the output could not be written; 5 out of memory;\n        6 and 8 what the nodes did is not whole, and the output says why\n"
 
 abbrev pub version : List ℕ
 version = codes "saturn 0.1.0\n"
