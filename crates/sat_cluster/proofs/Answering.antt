@@ -14,7 +14,6 @@ use Rattle.sat_act.specs.Answers.{refused_if, gear_of}
 use Rattle.sat_act.specs.Deployed.{Deployed}
 use Rattle.sat_act.specs.Parts.{replicates}
 use Rattle.sat_bulk.specs.declared.Payload.{Payload}
-use Rattle.sat_tree.specs.Shape.{TreeShape}
 use Rattle.sat_machine.specs.Input as given
 use Rattle.sat_machine.specs.Look.{cut_of, mode_of}
 use Rattle.sat_machine.specs.Reply.{write_by, read_by, move_by, may_come, outlook_of, site_answer}

@@ -1,5 +1,5 @@
 -- What each call of a session comes to.
-use Rattle.std.proofs.Common.{◌≡◌, ◌<◌, ℕ, ◌+◌, max, Bool, true, false, List, [], ◌∷◌, ◌++◌, length, Option, Some, None, Result, Ok, Err, IfOk, IfErr, OnOk, refl, sym, ap, ◌∙◌, subst, arith, inl, inr}
+use Rattle.std.proofs.Common.{◌≡◌, ◌<◌, ℕ, ◌+◌, max, true, false, List, [], ◌∷◌, ◌++◌, Option, Some, None, Result, Ok, Err, IfOk, IfErr, OnOk, refl, sym, ap, ◌∙◌, subst, arith, inl, inr}
 use Rattle.sat_label.specs.declared.carried.Carried.{Carried}
 use Rattle.sat_label.specs.declared.node.NodeName.{NodeName}
 use Rattle.sat_label.specs.declared.node.NodeName.TheVariants as named
@@ -7,8 +7,6 @@ use Rattle.sat_act.specs.declared.act.Act.{Act}
 use Rattle.sat_act.specs.declared.act.Act.TheVariants as act
 use Rattle.sat_act.specs.declared.answer.Answer.{Answer}
 use Rattle.sat_act.specs.Deployed.{Deployed}
-use Rattle.sat_client.specs.declared.client.Client.{Client}
-use Rattle.sat_machine.specs.State.{SiteState}
 use Rattle.sat_site.specs.declared.input.SiteInput.TheVariants as input
 use Rattle.sat_node.specs.declared.kept.CallFault.{CallFault}
 use Rattle.sat_node.specs.declared.kept.CallFault.TheVariants as fault
@@ -24,10 +22,10 @@ use Rattle.sat_machines.specs.Sites.{site_meaning}
 use Rattle.sat_machines.specs.Serials.{serial_meaning}
 use Rattle.sat_stitch.specs.Kept.{OfClient}
 use Rattle.sat_stitch.specs.Nodes.{IsSessionAnswer}
-use Rattle.sat_stitch.specs.Places.{InSession, places, Session, Client as Owner, session_of}
+use Rattle.sat_stitch.specs.Places.{InSession, places, Client as Owner, session_of}
 use Rattle.sat_passes.specs.Faults.{Fails}
 use Rattle.sat_session.specs.Notes.{SessionSeen}
-use Rattle.sat_session.specs.Calls.{note, told, Notes, IsFault, AtNone, AtNode, of_site, of_serial, asked_by}
+use Rattle.sat_session.specs.Calls.{note, Notes, IsFault, AtNone, AtNode, of_site, of_serial, asked_by}
 use Rattle.sat_cluster.specs.Doing.{site_named, attach_node, node_of, is_of_seat, Did}
 use Rattle.sat_cluster.proofs.Answering.{site-write, site-read, site-move, site-attach, site-close, site-fall, never_by_site, never_by_serial}
 

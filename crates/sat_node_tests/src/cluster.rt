@@ -44,7 +44,6 @@ fn plans(alloc: Global) -> Result<Vec<Plan>, AllocError>
 }
 
 // Two sites, an item at both, and a client.
-#[tactic(auto, using(crate::proofs::Fixtures::first_kill))]
 fn deployment(alloc: Global) -> Result<Deployment, AllocError>
     ensures { IfOk result (λ d. (d.sites ≡ 2) × (length d.items ≡ 1) × IsActOf d (Act.Kill 1 0)) }
 {
