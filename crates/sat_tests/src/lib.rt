@@ -5,6 +5,8 @@
 #[cfg(test)]
 mod living;
 #[cfg(test)]
+mod parts;
+#[cfg(test)]
 mod program;
 #[cfg(test)]
 mod rows;
