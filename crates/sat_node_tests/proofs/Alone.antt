@@ -1,5 +1,5 @@
 -- A site alone, in timestamp order, has no link.
-use Rattle.std.proofs.Common.{◌≡◌, ◌-◌, [], ◌++◌, map, ap}
+use Rattle.std.proofs.Common.{◌≡◌, ◌-◌, [], ◌∷◌, ◌++◌, map, ap}
 use Rattle.sat_label.specs.declared.node.NodeName.TheVariants as named
 use Rattle.sat_label.specs.declared.node.NodeId.TheVariants.{Site, Serializer}
 use Rattle.sat_label.specs.Words.{below}
