@@ -1,8 +1,13 @@
-//! Parts by themselves, each with the first thing that is wrong of it.
+//! Parts by themselves: the first thing that is wrong of each, and the way of a label through a tree.
+ghost use Rattle.std.specs.Prelude.{◌≡◌, [], ◌∷◌, None, Some};
+ghost use Rattle.sat_label.specs.declared.site_set.SiteSet.{SiteSet as SiteSetSeen};
+
 use sat_act::{Deployment, DeploymentFault};
-use sat_label::{Name, NodeId, SiteSet};
+use sat_label::{Kind, Label, Name, NodeId, Nodes, Point, SiteSet};
+use sat_serial::Serializer;
 use sat_sites::{Interest, InterestFault};
 use sat_tree::{Tree, TreeFault};
+use std::alloc::{AllocError, Global};
 use std::test::Fail;
 
 #[test]
@@ -32,6 +37,34 @@ fn a_path_goes_over_the_root(rt: HostRuntime) -> Result<(), Fail> {
         return Err("a tree of other sites".into());
     }
     assert_eq!(rt; tree.path(0, 3)?.as_slice(), down.as_slice());
+    Ok(())
+}
+
+// Where the root hands an update of item 0 that came from the first serializer below it. Sites 1 and 3 keep the item, and sit below the
+// root at one serializer and at the other.
+fn on_from_the_root(alloc: Global, tree: &Tree, interest: &Interest) -> Result<Nodes, AllocError>
+    requires tree { tree.now ≡ record { parents = None ∷ Some 0 ∷ Some 0 ∷ []; seats = 0 ∷ 1 ∷ 1 ∷ 2 ∷ 2 ∷ [] } }
+    requires interest { interest.now ≡ record { sites = 5; replicas = (record { bits = 10 }) ∷ [] } }
+{
+    let update = Label {
+        point: Point {
+            ts: 1,
+            site: 1,
+            gear: 0,
+        },
+        kind: Kind::Update(0),
+    };
+    let root = Serializer::new(alloc, tree, 0)?;
+    root.route(interest, NodeId::Serializer(1), &update)
+}
+
+#[test]
+fn a_label_goes_on_to_where_it_is_wanted(rt: HostRuntime) -> Result<(), Fail> {
+    let alloc = rt.alloc();
+    let tree = Tree::new(alloc, &[None, Some(0), Some(0)], &[0, 1, 1, 2, 2])?;
+    let interest = Interest::new(alloc, 5, &[SiteSet { bits: 10 }])?;
+    let nodes = on_from_the_root(alloc, &tree, &interest)?;
+    assert_eq!(rt; nodes.as_slice(), [NodeId::Serializer(2)].as_slice());
     Ok(())
 }
 
