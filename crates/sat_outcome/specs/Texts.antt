@@ -61,6 +61,6 @@ differ_text d node session = codes "differ\n" ++ kept_text d node ++ 10 ∷ (kep
 abbrev pub undone_text : Deployed → Act → List ℕ
 undone_text d a = codes "undone\n" ++ act_text d a ++ 10 ∷ []
 
--- what is left under way after a settle behind the history
+-- what a settle behind the history had still to do: the rounds in which something was done, and how much
 abbrev pub unsettled_text : ℕ → ℕ → List ℕ
-unsettled_text left done = codes "undone\nsettled " ++ decimal left ++ 32 ∷ (decimal done ++ 10 ∷ [])
+unsettled_text rounds done = codes "undone\nsettled " ++ decimal rounds ++ 32 ∷ (decimal done ++ 10 ∷ [])

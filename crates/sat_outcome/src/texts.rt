@@ -130,12 +130,13 @@ pub fn write_undone(d: &Deployment, act: &Act, out: &mut Vec<u8>) -> Result<(), 
     Ok(())
 }
 
-/// Appends what a settle behind a history left under way, and how much it did. For want of memory a front of it may stand there.
-pub fn write_unsettled(left: u64, done: u64, out: &mut Vec<u8>) -> Result<(), AllocError>
-    ensures { OnOk result (out.new.items ≡ out.old.items ++ unsettled_text left done) }
+/// Appends what a settle behind a history had still to do: the rounds in which something was done, and how much. For want of memory a
+/// front of it may stand there.
+pub fn write_unsettled(rounds: u64, done: u64, out: &mut Vec<u8>) -> Result<(), AllocError>
+    ensures { OnOk result (out.new.items ≡ out.old.items ++ unsettled_text rounds done) }
 {
     out.extend_from_slice(b"undone\nsettled ")?;
-    append_number(left, out)?;
+    append_number(rounds, out)?;
     out.push(b' ')?;
     append_number(done, out)?;
     out.push(b'\n')?;
