@@ -2,10 +2,12 @@
 ghost use Rattle.std.specs.Prelude.{◌≡◌, length, map, IfOk, OnOk};
 ghost use Rattle.sat_label.specs.Least.{least_label, lesser};
 ghost use Rattle.sat_bulk.specs.Drains.{Rises};
+ghost use Rattle.sat_gear.specs.Gear.{drained_of};
 ghost use Rattle.sat_queue.specs.Queued.{members_of};
 ghost use Rattle.sat_sink.specs.Pending.{all_of, is_up_to, joined, labels_of, AllRise, HaveRoomFrom};
 
 use sat_bulk::Drained;
+use sat_gear::Gear;
 use sat_label::Label;
 use sat_queue::Queue;
 use std::alloc::AllocError;
@@ -30,6 +32,29 @@ pub fn extend_all(queues: &mut [Queue<Label>], drained: &[Drained])
 {
     for (gear, drain) in drained.iter().enumerate() {
         queues[gear].extend(drain.labels.as_slice());
+    }
+}
+
+/// Makes room in each gear's queue for the labels that the gear made since its last drain.
+pub fn reserve_from(queues: &mut [Queue<Label>], gears: &[Gear]) -> Result<(), AllocError>
+    requires { length queues.old ≡ length gears.now }
+    ensures labels { map members_of queues.new ≡ map members_of queues.old }
+    ensures room { OnOk result (HaveRoomFrom 0 queues.new (map drained_of gears.now)) }
+{
+    for (place, gear) in gears.iter().enumerate() {
+        queues[place].reserve(gear.fresh().len())?;
+    }
+    Ok(())
+}
+
+/// Puts into each gear's queue the labels that the gear made since its last drain. There is room.
+pub fn extend_from(queues: &mut [Queue<Label>], gears: &[Gear])
+    requires same { length queues.old ≡ length gears.now }
+    requires room { HaveRoomFrom 0 queues.old (map drained_of gears.now) }
+    ensures { map members_of queues.new ≡ joined (map members_of queues.old) (map labels_of (map drained_of gears.now)) }
+{
+    for (place, gear) in gears.iter().enumerate() {
+        queues[place].extend(gear.fresh());
     }
 }
 
