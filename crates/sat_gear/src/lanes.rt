@@ -55,7 +55,6 @@ impl Lanes {
         ensures err { OnErr result (self.new ≡ self.old) }
     {
         if !targets.meets(&targets) {
-            let _ = &self.made;
             return Ok(());
         }
         let value = value.copy()?;
