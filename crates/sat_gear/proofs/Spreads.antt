@@ -2,7 +2,8 @@
 use Rattle.std.specs.Prelude.{◌≡◌, ◌<◌, ◌+◌, ◌==◌, ℕ, zero, suc, Bool, true, false, List, [], ◌∷◌, ◌++◌, length, get_or, take, set, map, replicate, slice_get, Option, Some, None, if◌then◌else◌, refl}
 use Rattle.std.proofs.Common.{arith, ap, subst, sym, ◌∙◌, inl, inr, zero-add, ◌⊎◌}
 use Rattle.std.proofs.Math.Nat.{eq-or-lt_of_le}
-use Rattle.std.proofs.lemmas.Bool.{eqb-true}
+use Rattle.std.specs.Prelude.{IsTrue, ◌↔◌}
+use Rattle.std.proofs.lemmas.Bool.{eqb-true, false_from_ne_true}
 use Rattle.std.proofs.lemmas.Option.{slice_get-get_or}
 use Rattle.std.proofs.lemmas.List.{take_more, map-append, map-set, set-get_or, get_or-map, get_or-set_same, get_or-set_other, length-map, length-set, append-nil, append_assoc, same_lists, get_or_default, length-append}
 use Rattle.std.specs.List.{AllWithin}
@@ -231,6 +232,14 @@ none_spread {X} test x k (lane ∷ lanes) none = go (test k) refl none (none_spr
         lane ∷ lanes ≡ (if test k then lane ++ x ∷ [] else lane) ∷ lanes_where test x (k + 1) lanes
     go true passes e rest = absurd (cc)
     go false fails e rest = rw fails (ap (λ (ls : List (List X)). lane ∷ ls) (rest e))
+
+-- where the set has no site, each stays
+pub none_passes : {X : Type 0} (test : ℕ → Bool) (x : X) (k : ℕ) (lanes : List (List X)) → ((n : ℕ) → test n ≡ true → ⊥) → lanes ≡ lanes_where test x k lanes
+none_passes test x k [] none = refl
+none_passes {X} test x k (lane ∷ lanes) none = rw (false_from_ne_true (test k) (none k)) (ap (λ (ls : List (List X)). lane ∷ ls) (none_passes test x (k + 1) lanes none))
+
+pub none_meets : (b : Bool) (test : ℕ → Bool) → (IsTrue b ↔ ((k : ℕ) × (test k ≡ true) × (test k ≡ true))) → b ≡ false → (n : ℕ) → test n ≡ true → ⊥
+none_meets b test both none n e = let meets : b ≡ true = both.1 (n, e, e) in absurd (cc)
 
 pub counts_picked : {X : Type 0} (made : List X) (lanes : List (List ℕ)) → AllBelow (length made) lanes → map count_of (map (picked made) lanes) ≡ map count_of lanes
 counts_picked made [] within = refl

@@ -1,6 +1,7 @@
 //! Gears.
-ghost use Rattle.std.specs.Prelude.{ℕ, ◌≡◌, ◌≤◌, ◌<◌, ◌↔◌, ◌^◌, length, max, true, false, slice_get, Some, None, IfOk, IfSome, IsErrOf, IsOkUnless, OnErr, MatchOption, OnOk, ◌+◌, ◌/◌, if◌then◌else◌};
+ghost use Rattle.std.specs.Prelude.{ℕ, ◌≡◌, ◌≤◌, ◌<◌, ◌↔◌, ◌^◌, [], length, max, true, false, slice_get, Some, None, IfOk, IfSome, IsErrOf, IsOkUnless, OnErr, MatchOption, OnOk, ◌+◌, ◌/◌, if◌then◌else◌};
 ghost use Rattle.sat_label.specs.declared.label.Kind.TheVariants.{Update, Move};
+ghost use Rattle.sat_sites.specs.Interested.{IsLabelOf};
 ghost use Rattle.sat_store.specs.Stored.{is_kept};
 ghost use Rattle.sat_label.specs.Order.{point_at};
 ghost use Rattle.sat_gear.specs.Gear.{after_drain, stamp_base, drained_of, fresh_gear, is_spent, lane_to, after_move, lane_numbers, places, after_show, stamped, after_tick, version_of, after_write, IsGear, IsItemOf, IsKindHere, IsNextStamp, IsShape, is_due};
@@ -8,7 +9,7 @@ ghost use Rattle.sat_gear.specs.Gear.{after_drain, stamp_base, drained_of, fresh
 use crate::lanes::Lanes;
 use crate::{GearFault, Stamped};
 use sat_bulk::{Drained, Payload};
-use sat_label::{Kind, Label, Labels, Point, TS_END, Value};
+use sat_label::{Counts, Kind, Label, Labels, Point, TS_END, Value};
 use sat_sites::Shape;
 use sat_store::{Put, Store, Version};
 use std::alloc::{AllocError, Global};
@@ -123,11 +124,41 @@ impl Gear {
         ensures new { IfOk result (λ s. self.new ≡ after_write self.old item (record { label = s.label; value = value })) }
         ensures err { OnErr result (self.new ≡ self.old) }
     {
+        let _ = &self.shape;
         let Some(ts) = self.next(seen) else {
             return Err(GearFault::Spent);
         };
         let label = self.label(ts, Kind::Update(item));
-        Ok(self.take_update(label, item, value)?)
+        let numbers = self.numbers(&label)?;
+        self.take_update(label, item, value)?;
+        Ok(Stamped { label, numbers })
+    }
+
+    /// Stamps an update as `write` does, and answers its label alone.
+    pub fn stamp_write(&mut self, seen: Point, item: u16, value: Value) -> Result<Label, GearFault>
+        requires { IsItemOf self.old item }
+        ensures spent { is_spent self.old seen ≡ true → IsErrOf result GearFault.Spent }
+        ensures ok { is_spent self.old seen ≡ false → IsOkUnless result GearFault.Memory }
+        ensures label { IfOk result (λ l. l ≡ stamped self.old seen (Update item)) }
+        ensures new { IfOk result (λ l. self.new ≡ after_write self.old item (record { label = l; value = value })) }
+        ensures err { OnErr result (self.new ≡ self.old) }
+    {
+        let Some(ts) = self.next(seen) else {
+            return Err(GearFault::Spent);
+        };
+        let label = self.label(ts, Kind::Update(item));
+        self.take_update(label, item, value)?;
+        Ok(label)
+    }
+
+    // The number that a label's payload gets in the lane of each target.
+    fn numbers(&self, label: &Label) -> Result<Counts, AllocError>
+        requires { IsLabelOf self.now.shape.interest label.now }
+        ensures { IfOk result (λ numbers. numbers ≡ lane_numbers self.now label.now) }
+    {
+        let targets = self.shape.interest.targets(label);
+        let numbers = self.lanes.numbers(targets)?;
+        Ok(numbers)
     }
 
     // A label of this gear.
@@ -145,23 +176,21 @@ impl Gear {
     }
 
     // Takes in an update of an item that was just stamped.
-    fn take_update(&mut self, label: Label, item: u16, value: Value) -> Result<Stamped, AllocError>
+    fn take_update(&mut self, label: Label, item: u16, value: Value) -> Result<(), AllocError>
         requires item { IsItemOf self.old item }
         requires next { IsNextStamp self.old label }
         requires kind { label.kind ≡ Update item }
-        ensures label { IfOk result (λ s. s.label ≡ label) }
-        ensures numbers { IfOk result (λ s. s.numbers ≡ lane_numbers self.old label) }
         ensures new { OnOk result (self.new ≡ after_write self.old item (record { label = label; value = value })) }
         ensures err { OnErr result (self.new ≡ self.old) }
     {
         let place = self.place(item);
         let targets = self.shape.interest.targets(&label);
         self.fresh.reserve(1)?;
-        let numbers = self.lanes.add(targets, label, &value)?;
+        self.lanes.add(targets, label, &value)?;
         self.fresh.push_reserved(label);
         self.store.put(place, label, value);
         self.promise = label.point.ts;
-        Ok(Stamped { label, numbers })
+        Ok(())
     }
 
     /// Stamps a move to a site for a client that saw a point, as `write` does. It asks for gear 0, which stamps the moves.
@@ -241,6 +270,26 @@ impl Gear {
         ensures { result ≡ is_due self.now }
     {
         !self.fresh.is_empty() || self.drained_promise < self.promise
+    }
+
+    /// The labels made since the last drain. It takes no memory.
+    pub fn fresh(&self) -> &[Label]
+        ensures { result.now ≡ self.now.fresh }
+    {
+        self.fresh.as_slice()
+    }
+
+    /// Makes a list that of how many payloads were made for each site, in its own room where that is enough. For want of memory
+    /// the list is empty.
+    pub fn count_into(&self, counts: &mut Vec<u64>) -> Result<(), AllocError>
+        ensures ok { OnOk result (counts.new.items ≡ (drained_of self.now).counts) }
+        ensures err { OnErr result (counts.new.items ≡ []) }
+    {
+        let counted = self.lanes.count_into(counts);
+        if counted.is_err() {
+            counts.clear();
+        }
+        counted
     }
 
     /// What `drain` would give. It changes nothing.

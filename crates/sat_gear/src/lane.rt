@@ -1,5 +1,5 @@
 //! The places, among all payloads that a gear made, of those that it made for each site.
-ghost use Rattle.std.specs.Prelude.{◌≡◌, ◌≤◌, length, map, IfOk};
+ghost use Rattle.std.specs.Prelude.{◌≡◌, ◌≤◌, length, map, IfOk, OnOk};
 ghost use Rattle.std.specs.List.{All};
 ghost use Rattle.sat_label.specs.Words.{bit};
 ghost use Rattle.sat_queue.specs.Queued.{members_of, HasRoom};
@@ -49,4 +49,15 @@ pub fn counts(alloc: Global, lanes: &[Queue<usize>]) -> Result<Counts, AllocErro
         counts.push(lane.len() as u64)?;
     }
     Ok(counts)
+}
+
+/// Makes a list that of how many places each lane has.
+pub fn count_into(lanes: &[Queue<usize>], counts: &mut Vec<u64>) -> Result<(), AllocError>
+    ensures { OnOk result (counts.new.items ≡ map count_of (map members_of lanes.now)) }
+{
+    counts.clear();
+    for lane in lanes {
+        counts.push(lane.len() as u64)?;
+    }
+    Ok(())
 }

@@ -4,7 +4,7 @@ ghost use Rattle.sat_label.specs.Words.{bit};
 ghost use Rattle.sat_queue.specs.Queued.{members_of};
 ghost use Rattle.sat_gear.specs.Lanes.{count_of, lanes_where, numbers_where};
 
-use crate::lane::{counts, numbers, spread};
+use crate::lane::{count_into, counts, numbers, spread};
 use sat_bulk::Payload;
 use sat_label::{Counts, Label, SiteSet, Value};
 use sat_queue::{Queue, empty_queues, reserve_each};
@@ -46,31 +46,24 @@ impl Lanes {
         })
     }
 
-    /// Puts the payload of a label and a value at the end of the lane of each site of a set, and answers the numbers that it
-    /// gets there, the sites ascending. Where it gets none, the value is not copied. For want of memory the lanes are as before.
-    pub fn add(
-        &mut self,
-        targets: SiteSet,
-        label: Label,
-        value: &Value,
-    ) -> Result<Counts, AllocError>
+    /// Puts the payload of a label and a value at the end of the lane of each site of a set. Where there is none, the value is
+    /// not copied. For want of memory the lanes are as before.
+    pub fn add(&mut self, targets: SiteSet, label: Label, value: &Value) -> Result<(), AllocError>
         requires { length self.old ≤ 64 }
-        ensures numbers { IfOk result (λ counts. counts ≡ numbers_where (bit targets.bits) 0 self.old) }
         ensures ok { OnOk result
             (self.new ≡ lanes_where (bit targets.bits) (record { label = label; value = value.now }) 0 self.old) }
         ensures err { OnErr result (self.new ≡ self.old) }
     {
-        let numbers = self.numbers(targets)?;
-        if numbers.as_slice().is_empty() {
-            return Ok(numbers);
+        if !targets.meets(&targets) {
+            return Ok(());
         }
         let value = value.copy()?;
         self.push(targets, Payload { label, value })?;
-        Ok(numbers)
+        Ok(())
     }
 
-    // How many payloads the lane of each site of a set holds.
-    fn numbers(&self, targets: SiteSet) -> Result<Counts, AllocError>
+    /// How many payloads the lane of each site of a set holds.
+    pub fn numbers(&self, targets: SiteSet) -> Result<Counts, AllocError>
         requires { length self.now ≤ 64 }
         ensures { IfOk result (λ counts. counts ≡ numbers_where (bit targets.bits) 0 self.now) }
     {
@@ -115,5 +108,13 @@ impl Lanes {
     {
         let counts = counts(alloc, &self.lanes)?;
         Ok(counts)
+    }
+
+    /// Makes a list that of how many payloads each lane holds.
+    pub fn count_into(&self, counts: &mut Vec<u64>) -> Result<(), AllocError>
+        ensures { OnOk result (counts.new.items ≡ map count_of self.now) }
+    {
+        count_into(&self.lanes, counts)?;
+        Ok(())
     }
 }

@@ -18,7 +18,8 @@ use Rattle.sat_tree.specs.Cut.{neighbours}
 use Rattle.sat_queue.specs.Queued.{Queued, members_of, HasRoom}
 use Rattle.sat_serial.specs.Queues.{labels_in}
 use Rattle.sat_serial.specs.Routes.{goes}
-use Rattle.sat_serial.specs.Outboxes.{SerializerSeen, after_handle, change_where, is_marked, box_of, boxes_without, EachOutbox}
+use Rattle.sat_serial.specs.Outboxes.{SerializerSeen, after_handle, change_where, box_of, boxes_without, EachOutbox}
+use Rattle.sat_tree.specs.Shape.{TreeShape}
 use Rattle.sat_serial.proofs.Ways.{is-among}
 
 -- ---- a change of some outboxes, one node after another
@@ -43,13 +44,6 @@ more-suc test f (v ∷ nodes) (box ∷ boxes) (suc i) d less same =
 pub more : {X : Type 0} (test : X → Bool) (f : List Label → List Label) (nodes : List X) (boxes : List (List Label)) (i : ℕ) (d : X) → i < length nodes → length boxes ≡ length nodes →
     change_where test f (take (i + 1) nodes) boxes ≡ set (change_where test f (take i nodes) boxes) i (cond (test (get_or nodes i d)) (f (get_or boxes i [])) (get_or boxes i []))
 more test f nodes boxes i d less same = rw add-one (more-suc test f nodes boxes i d less same)
-
--- marks are as the test that they were made by
-pub marked : {X : Type 0} (test : X → Bool) (f : List Label → List Label) (nodes : List X) (boxes : List (List Label)) →
-    change_where is_marked f (map test nodes) boxes ≡ change_where test f nodes boxes
-marked test f [] boxes = refl
-marked test f (v ∷ nodes) [] = refl
-marked test f (v ∷ nodes) (box ∷ boxes) = ap (λ rest. cond (test v) (f box) box ∷ rest) (marked test f nodes boxes)
 
 -- ---- an outbox without its oldest label
 
@@ -244,12 +238,10 @@ pub room-left : (queues : List (Queued Label)) (i : ℕ) → AllWithin HasRoom q
 room-left queues i room = λ k d low high. room k d (omega arith) high
 
 -- what a handled label leaves, over what the fields became
-pub handled-by : (v s : SerializerSeen) (a : Interested) (u : NodeId) (l : Label) (marks : List Bool) (old boxes : List (List Label)) → v ≡ s →
-    marks ≡ map (goes a v.tree v.number u l) (neighbours v.tree v.number) → old ≡ v.outboxes → boxes ≡ change_where is_marked (λ box. box ++ l ∷ []) marks old →
+pub handled-by : (v s : SerializerSeen) (a : Interested) (u : NodeId) (l : Label) (t : TreeShape) (z : ℕ) (old boxes : List (List Label)) → v ≡ s → t ≡ v.tree → z ≡ v.number →
+    old ≡ v.outboxes → boxes ≡ change_where (goes a t z u l) (λ box. box ++ l ∷ []) (neighbours t z) old →
     record v { outboxes = boxes } ≡ after_handle s a u l
-handled-by v s a u l marks old boxes same marks-are before after =
-    let add = λ (box : List Label). box ++ l ∷ [] in
-    let test = goes a v.tree v.number u l in
+handled-by v s a u l t z old boxes same tree number before after =
     ap (λ (bs : List (List Label)). record v { outboxes = bs })
-    (after ∙ (ap (λ (ms : List Bool). change_where is_marked add ms old) marks-are ∙ (marked test add (neighbours v.tree v.number) old ∙ ap (λ (bs : List (List Label)). change_where test add (neighbours v.tree v.number) bs) before)))
-    ∙ ap (λ (t : SerializerSeen). after_handle t a u l) same
+    (after ∙ (λ i. change_where (goes a (tree i) (number i) u l) (λ box. box ++ l ∷ []) (neighbours (tree i) (number i)) (before i)))
+    ∙ ap (λ (w : SerializerSeen). after_handle w a u l) same

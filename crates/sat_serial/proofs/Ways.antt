@@ -3,7 +3,7 @@ use Rattle.std.proofs.Common.{◌≡◌, ℕ, zero, suc, ◌<◌, ◌≤◌, ◌
 use Rattle.std.specs.List.{list_any, All}
 use Rattle.std.specs.Bool.{IsTrue}
 use Rattle.std.proofs.lemmas.Bool.{and_from, and_parts, cases_Bool, cases_eq, lt-ltb, ltb-true, or_cases, or_left, or_right}
-use Rattle.std.proofs.lemmas.List.{append-nil, length-append, map-append, take_more}
+use Rattle.std.proofs.lemmas.List.{append-nil, length-append}
 use Rattle.std.proofs.lemmas.Option.{get_or_from_slice_get, slice_get-get_or, slice_get_within}
 use Rattle.sat_label.specs.declared.site_set.SiteSet.{SiteSet}
 use Rattle.sat_label.proofs.Numbers.{get-front}
@@ -19,7 +19,7 @@ use Rattle.sat_label.proofs.SameNodes.{same-node}
 use Rattle.sat_sites.specs.Interested.{Interested, is_for}
 use Rattle.sat_tree.specs.Shape.{TreeShape}
 use Rattle.sat_tree.specs.Cut.{beyond, is_edge, neighbours, IsNode}
-use Rattle.sat_serial.specs.Routes.{leads, AreFarSides, IsFarSide, IsNeighbour}
+use Rattle.sat_serial.specs.Routes.{goes, leads, AreFarSides, IsFarSide, IsNeighbour, Placed}
 
 -- ---- one of the numbers below n
 
@@ -158,14 +158,19 @@ far-at t z nodes sides i d e same far less =
     let in-sides : i < length sides = omega (arith, far.size, ap length same) in
     far.each i (get_or nodes i d) (get_or sides i e) (ap (λ (vs : List NodeId). slice_get vs i) (sym same) ∙ slice_get-get_or nodes i d less) (slice_get-get_or sides i e in-sides)
 
--- ---- the neighbours that pass, and their marks, of one neighbour more
+-- what the test answers of the next neighbour
+pub asked : (a : Interested) (p q : Placed) (sides : List SiteSet) (nodes : List NodeId) (i : ℕ) (d : NodeId) (e : SiteSet) (u : NodeId) (l : Label) (b : Bool) (targets side : SiteSet) →
+    q ≡ p → AreFarSides q.tree q.number (neighbours q.tree q.number) sides → nodes ≡ neighbours p.tree p.number → i < length nodes → side ≡ get_or sides i e →
+    a.sites ≡ length p.tree.seats → ((k : ℕ) → bit targets.bits k ≡ is_for a l k) →
+    ((c : Interested) (t : TreeShape) (z : ℕ) (m : Label) → c.sites ≡ length t.seats → IsFarSide t z (get_or nodes i d) side → ((k : ℕ) → bit targets.bits k ≡ is_for c m k) → b ≡ goes c t z u m (get_or nodes i d)) →
+    b ≡ goes a p.tree p.number u l (get_or nodes i d)
+asked a p q sides nodes i d e u l b targets side same far is within here sites for answers =
+    answers a p.tree p.number l sites
+    (subst (λ (s : SiteSet). IsFarSide p.tree p.number (get_or nodes i d) s) (sym here)
+    (far-at p.tree p.number nodes sides i d e is (subst (λ (x : Placed). AreFarSides x.tree x.number (neighbours x.tree x.number) sides) same far) within))
+    for
 
-pub marks-more : (test : NodeId → Bool) (nodes : List NodeId) (i : ℕ) (d : NodeId) (mark : Bool) (marks : List Bool) → i < length nodes → mark ≡ test (get_or nodes i d) →
-    marks ≡ map test (take i nodes) → marks ++ mark ∷ [] ≡ map test (take (i + 1) nodes)
-marks-more test nodes i d mark marks less is had =
-    ap (λ ms. ms ++ mark ∷ []) had
-    ∙ (ap (λ m. map test (take i nodes) ++ m ∷ []) is
-    ∙ sym (ap (map test) (take_more nodes i d less) ∙ map-append test (take i nodes) (get_or nodes i d ∷ [])))
+-- ---- the neighbours that pass, of one neighbour more
 
 pub picks : (test : NodeId → Bool) (nodes : List NodeId) (i : ℕ) (d : NodeId) (picked : List NodeId) → i < length nodes → test (get_or nodes i d) ≡ true →
     picked ≡ filter test (take i nodes) → picked ++ get_or nodes i d ∷ [] ≡ filter test (take (i + 1) nodes)

@@ -25,15 +25,11 @@ pub record IsSerializer (s : SerializerSeen) : Type 0 where
 abbrev pub fresh : TreeShape → ℕ → SerializerSeen
 fresh t z = record { tree = t; number = z; killed = false; outboxes = replicate (length (neighbours t z)) [] }
 
--- the outboxes of these nodes (or of these marks), after a change of each whose node (or whose mark) passes the test
+-- the outboxes of these nodes, after a change of each whose node passes the test
 abbrev pub change_where : {X : Type 0} → (X → Bool) → (List Label → List Label) → List X → List (List Label) → List (List Label)
 change_where test change [] boxes = boxes
 change_where test change (v ∷ nodes) [] = []
 change_where test change (v ∷ nodes) (box ∷ boxes) = (if test v then change box else box) ∷ change_where test change nodes boxes
-
--- a mark passes where it is set
-abbrev pub is_marked : Bool → Bool
-is_marked mark = mark
 
 -- the outbox of node v, the first of that node, among those of these nodes
 abbrev pub box_of : NodeId → List NodeId → List (List Label) → List Label

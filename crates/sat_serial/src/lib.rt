@@ -3,7 +3,6 @@
 #![tactic(auto)]
 
 mod fault;
-mod outboxes;
 mod router;
 mod serializer;
 

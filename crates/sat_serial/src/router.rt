@@ -1,6 +1,7 @@
 //! The ways on from one serializer.
-ghost use Rattle.std.specs.Prelude.{◌≡◌, ◌<◌, ℕ, length, filter, map, IfOk};
-ghost use Rattle.std.specs.List.{position};
+ghost use Rattle.std.specs.Prelude.{◌≡◌, ◌<◌, ◌++◌, ◌∷◌, [], ℕ, length, map, IfOk};
+ghost use Rattle.std.specs.List.{position, All};
+ghost use Rattle.sat_queue.specs.Queued.{members_of, HasRoom};
 ghost use Rattle.sat_label.specs.Order.{node_eq};
 ghost use Rattle.sat_label.specs.Words.{bit};
 ghost use Rattle.sat_tree.specs.Cut.{neighbours};
@@ -8,8 +9,10 @@ ghost use Rattle.sat_tree.specs.Shape.{TreeShape};
 ghost use Rattle.sat_sites.specs.Interested.{Interested, is_for, IsLabelOf};
 ghost use Rattle.sat_label.specs.declared.label.Label as declared_label;
 ghost use Rattle.sat_serial.specs.Routes.{goes, routes, AreFarSides, IsFarSide};
+ghost use Rattle.sat_serial.specs.Outboxes.{change_where};
 
 use sat_label::{Label, NodeId, Nodes, SiteSet};
+use sat_queue::Queue;
 use sat_sites::Interest;
 use sat_tree::Tree;
 use std::alloc::{AllocError, Global};
@@ -34,13 +37,6 @@ impl Model for Router {
     ghost view = { λ a. record { tree = a.tree; number = a.number } };
 
     ghost invariant = { λ a. (a.number < length a.tree.parents) × AreFarSides a.tree a.number (neighbours a.tree a.number) a.sides.items };
-}
-
-/// Where a label goes on to: the neighbours, and for each neighbour whether it is one of them.
-#[derive(Drop)]
-pub struct Onward {
-    pub nodes: Nodes,
-    pub marks: Vec<bool>,
 }
 
 // For each neighbour of a serializer the sites that lie beyond it.
@@ -93,31 +89,49 @@ impl Router {
             .position(|neighbour| node.is_same(neighbour))
     }
 
-    /// Where a label that came from a node goes on to.
+    /// The neighbours that a label that came from a node goes on to.
     pub fn onward(
         &self,
         alloc: Global,
         interest: &Interest,
         from: NodeId,
         label: &Label,
-    ) -> Result<Onward, AllocError>
+    ) -> Result<Nodes, AllocError>
         requires sites { interest.now.sites ≡ length self.now.tree.seats }
         requires label { IsLabelOf interest.now label.now }
-        ensures nodes { IfOk result
-            (λ onward. onward.nodes ≡ routes interest.now self.now.tree self.now.number from label.now) }
-        ensures marks { IfOk result (λ onward. onward.marks.items
-            ≡ map (goes interest.now self.now.tree self.now.number from label.now) (neighbours self.now.tree self.now.number)) }
+        ensures { IfOk result (λ nodes. nodes ≡ routes interest.now self.now.tree self.now.number from label.now) }
     {
         let targets = interest.targets(label);
         let mut nodes = Nodes::new(alloc);
-        let mut marks = Vec::new(alloc);
         for (place, neighbour) in self.neighbours().iter().enumerate() {
-            let goes = goes(&targets, from, *neighbour, &self.sides[place]);
-            marks.push(goes)?;
-            if goes {
+            if goes(&targets, from, *neighbour, &self.sides[place]) {
                 nodes.push(*neighbour)?;
             }
         }
-        Ok(Onward { nodes, marks })
+        Ok(nodes)
+    }
+
+    /// Puts a copy of a label that came from a node into the outbox of each neighbour that it goes on to. There is room.
+    pub fn add_copies(
+        &self,
+        outboxes: &mut [Queue<Label>],
+        interest: &Interest,
+        from: NodeId,
+        label: &Label,
+    )
+        requires sites { interest.now.sites ≡ length self.now.tree.seats }
+        requires label { IsLabelOf interest.now label.now }
+        requires room { All HasRoom outboxes.old }
+        requires each { length outboxes.old ≡ length (neighbours self.now.tree self.now.number) }
+        ensures { map members_of outboxes.new
+            ≡ change_where (goes interest.now self.now.tree self.now.number from label.now) (λ box. box ++ label.now ∷ [])
+            (neighbours self.now.tree self.now.number) (map members_of outboxes.old) }
+    {
+        let targets = interest.targets(label);
+        for (place, neighbour) in self.neighbours().iter().enumerate() {
+            if goes(&targets, from, *neighbour, &self.sides[place]) {
+                outboxes[place].push(*label);
+            }
+        }
     }
 }

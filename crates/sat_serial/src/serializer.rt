@@ -3,7 +3,6 @@ ghost use Rattle.std.specs.Prelude.{◌≡◌, ◌<◌, length, slice_get, true,
 ghost use Rattle.sat_serial.specs.Routes.{routes, Arrives, IsNeighbour};
 ghost use Rattle.sat_serial.specs.Outboxes.{fresh, after_handle, outbox, after_ship, IsSerializer};
 
-use crate::outboxes::add_copies;
 use crate::router::Router;
 use crate::{HandleFault, KillFault};
 use sat_label::{Label, NodeId, Nodes};
@@ -71,10 +70,11 @@ impl Serializer {
             return Err(HandleFault::Dead);
         }
         let alloc = *self.outboxes.allocator();
-        let onward = self.router.onward(alloc, interest, from, &label)?;
+        let nodes = self.router.onward(alloc, interest, from, &label)?;
         reserve_each(&mut self.outboxes)?;
-        add_copies(&mut self.outboxes, &onward.marks, &label);
-        Ok(onward.nodes)
+        self.router
+            .add_copies(&mut self.outboxes, interest, from, &label);
+        Ok(nodes)
     }
 
     /// The nodes that `handle` answers while the serializer is alive; `handle` says what it asks for.
@@ -89,8 +89,8 @@ impl Serializer {
         ensures limits { IsSerializer self.now }
     {
         let alloc = *self.outboxes.allocator();
-        let onward = self.router.onward(alloc, interest, from, label)?;
-        Ok(onward.nodes)
+        let nodes = self.router.onward(alloc, interest, from, label)?;
+        Ok(nodes)
     }
 
     /// The oldest label in the outbox of a neighbour, None where it is empty. It stays there.

@@ -1,5 +1,5 @@
 -- What each call makes of a sink, by the view of its fields.
-use Rattle.std.specs.Prelude.{◌≡◌, ◌<◌, ℕ, true, ◌&&◌, not, List, [], length, get_or, set, drop, map, Option, Some, None, is_some, nat_lt, refl}
+use Rattle.std.specs.Prelude.{◌≡◌, ◌<◌, ℕ, true, not, List, [], length, get_or, set, drop, map, Option, Some, None, is_some, nat_lt, refl}
 use Rattle.std.proofs.Common.{arith, ap, subst, sym, ◌∙◌}
 use Rattle.std.proofs.lemmas.Bool.{and_parts}
 use Rattle.std.proofs.lemmas.List.{map-set, length-map}

@@ -2,11 +2,12 @@
 use Rattle.std.specs.Prelude.{◌≡◌, ◌<◌, ◌≤◌, ◌+◌, ℕ, zero, suc, Bool, true, false, List, [], ◌∷◌, ◌++◌, length, get_or, take, set, map, Some, None, slice_get, nat_le, if◌then◌else◌, refl}
 use Rattle.std.proofs.Common.{arith, ap, subst, sym, ◌∙◌, inl, inr}
 use Rattle.std.proofs.lemmas.Bool.{cases_eq, le-leb, lt-leb}
-use Rattle.std.proofs.lemmas.List.{take_more, map-append, map-set, set-get_or, get_or-set_same, get_or-set_other, get_or_default, length-map, length-set, length-take-le, append-nil, get_or_past}
+use Rattle.std.proofs.lemmas.List.{take_more, map-append, map-set, set-get_or, get_or-map, get_or-set_same, get_or-set_other, get_or_default, length-map, length-set, length-take-le, append-nil, get_or_past}
 use Rattle.std.proofs.lemmas.List.Concat.{flat_map-append}
 use Rattle.sat_label.specs.declared.label.Label.{Label}
 use Rattle.sat_bulk.specs.declared.Drained.{Drained}
 use Rattle.sat_bulk.specs.Drains.{Rises}
+use Rattle.sat_gear.specs.Gear.{GearSeen, drained_of}
 use Rattle.sat_queue.specs.Queued.{Queued, members_of}
 use Rattle.sat_sink.specs.Pending.{labels_of, is_up_to, all_of, joined, AllRise, HaveRoomFrom}
 use Rattle.sat_label.specs.Least.{least_label, lesser}
@@ -97,6 +98,13 @@ extended start queues ds i q r d h w same e before now =
     subst (λ (k : ℕ). joined (map members_of start) (ms ++ d.labels ∷ []) ≡ set (joined (map members_of start) ms) k (get_or (map members_of start) k [] ++ d.labels)) n (joined-more (map members_of start) ms d.labels (omega arith)) in
     map-set members_of queues i r ∙ (ap (λ (ls : List Label). set (map members_of queues) i ls) (now ∙ ap (λ (ls : List Label). ls ++ d.labels) (labels-get queues i q h ∙ own))
     ∙ (ap (λ (qs : List (List Label)). set qs i (get_or (map members_of start) i [] ++ d.labels)) before ∙ sym (ap (λ (xs : List (List Label)). joined (map members_of start) xs) more ∙ step)))
+
+-- what was drained of the gears, one of them after another
+pub drained-length : (gears : List GearSeen) → length (map drained_of gears) ≡ length gears
+drained-length gears = length-map gears drained_of
+
+pub drained-here : (gears : List GearSeen) (i : ℕ) (gear : GearSeen) → i < length gears → gear ≡ get_or gears i gear → drained_of gear ≡ get_or (map drained_of gears) i (drained_of gear)
+drained-here gears i gear less here = ap drained_of here ∙ sym (get_or-map drained_of gears i gear (drained_of gear) less)
 
 pub queues-rise : (s : Sink) (queues : List (Queued Label)) → map members_of queues ≡ s.pending → IsSink s → AllRise queues
 queues-rise s queues e k g q h =

@@ -3,3 +3,4 @@ pub mod Queues
 pub mod Fronts
 pub mod Sinks
 pub mod Deeds
+pub mod Finding

@@ -6,3 +6,6 @@ mod queue;
 mod sink;
 
 pub use sink::LabelSink;
+
+#[cfg(test)]
+mod tests;

@@ -1,11 +1,13 @@
 //! The label sink.
 ghost use Rattle.std.specs.Prelude.{◌≡◌, ◌<◌, length, map, true, is_some, Some, None, if◌then◌else◌, IfOk, IfSome, OnOk, OnErr};
 ghost use Rattle.sat_label.specs.Order.{point_le, point_lt};
+ghost use Rattle.sat_gear.specs.Gear.{drained_of};
 ghost use Rattle.sat_sink.specs.Pending.{least, promise_of};
 ghost use Rattle.sat_sink.specs.Sink.{after_emit, after_close, cut_of, fresh_sink, after_gather, may_pulse, pulse_of, after_pulse, ready_of, stable_of, AllAbove, IsDrain};
 
-use crate::queue::{extend_all, least_up_to, reserve_all};
+use crate::queue::{extend_all, extend_from, least_up_to, reserve_all, reserve_from};
 use sat_bulk::Drained;
+use sat_gear::Gear;
 use sat_label::{Kind, Label, PULSE_GEAR, Point};
 use sat_queue::{Queue, empty_queues};
 use std::alloc::{AllocError, Global};
@@ -55,6 +57,16 @@ fn note_promises(promises: &mut [u64], drained: &[Drained])
     }
 }
 
+// Notes the promise of each gear.
+fn note_promises_of(promises: &mut [u64], gears: &[Gear])
+    requires { length promises.old ≡ length gears.now }
+    ensures { promises.new ≡ map promise_of (map drained_of gears.now) }
+{
+    for (place, gear) in gears.iter().enumerate() {
+        promises[place] = gear.promise();
+    }
+}
+
 impl LabelSink {
     /// A sink that has gathered nothing, of a site with so many gears, at least one.
     pub fn new(alloc: Global, site: u16, gears: u16) -> Result<LabelSink, AllocError>
@@ -87,6 +99,19 @@ impl LabelSink {
         reserve_all(&mut self.pending, drained)?;
         extend_all(&mut self.pending, drained);
         note_promises(&mut self.promises, drained);
+        Ok(())
+    }
+
+    /// Takes in what a drain of each of these gears would give, as `gather` does. The gears stay as they are.
+    pub fn gather_from(&mut self, gears: &[Gear]) -> Result<(), AllocError>
+        requires { IsDrain self.old (map drained_of gears.now) }
+        ensures ok { OnOk result (self.new ≡ after_gather self.old (map drained_of gears.now)) }
+        ensures err { OnErr result (self.new ≡ self.old) }
+        ensures cut { point_le (cut_of self.old) (cut_of self.new) ≡ true }
+    {
+        reserve_from(&mut self.pending, gears)?;
+        extend_from(&mut self.pending, gears);
+        note_promises_of(&mut self.promises, gears);
         Ok(())
     }
 

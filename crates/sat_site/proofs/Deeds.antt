@@ -1,5 +1,5 @@
 -- What the code read and wrote in an act. Here w is what the code found, and v the same by its name.
-use Rattle.std.specs.Prelude.{◌≡◌, ◌<◌, ◌≤◌, ◌%◌, ◌^◌, ℕ, Bool, true, false, zero, suc, max, List, [], ◌∷◌, ◌++◌, length, map, set, get_or, if◌then◌else◌, Option, Some, None, MatchOption, refl}
+use Rattle.std.specs.Prelude.{◌≡◌, ◌<◌, ◌≤◌, ◌%◌, ◌^◌, ℕ, Bool, true, false, zero, suc, max, List, [], ◌∷◌, length, map, set, get_or, if◌then◌else◌, Option, Some, None, MatchOption, refl}
 use Rattle.std.specs.List.{flat_map}
 use Rattle.std.proofs.Common.{subst, ap, sym, ◌∙◌, arith}
 use Rattle.std.proofs.lemmas.Option.{slice_get_read}
@@ -14,7 +14,7 @@ use Rattle.sat_sites.specs.Interested.{keeps, IsLabelOf}
 use Rattle.sat_sites.specs.declared.shape.Shape.{Shape}
 use Rattle.sat_store.specs.declared.store.Version.{Version}
 use Rattle.sat_gear.specs.Gear.{GearSeen, IsGear, IsItemOf, after_tick, after_write, stamped, is_spent, after_drain, drained_of, version_of}
-use Rattle.sat_sink.specs.Pending.{labels_of, promise_of, least}
+use Rattle.sat_sink.specs.Pending.{promise_of, least}
 use Rattle.sat_sink.specs.Sink.{Sink, after_emit_of, after_gather, may_pulse, pulse_of, ready_of, stable_of, after_emit}
 use Rattle.sat_act.specs.declared.answer.Answer.{Answer}
 use Rattle.sat_act.specs.declared.answer.Answer.TheVariants as ans
@@ -116,17 +116,12 @@ pub gather-site : (w : SiteSeen) (gears : List GearSeen) (s : Sink) (counts : Li
 gather-site w gears s counts k e f c good = subst (λ (q : SiteSeen). IsSite q) (λ j. record w { gears = sym e j; sink = sym f j; counts = sym c j }) (gathered-site w k (subst AreGears e good))
 
 pub did-gather : (w v : SiteSeen) (gears : List GearSeen) (s : Sink) (counts : List (List ℕ)) (n t : ℕ) → w ≡ v → gears ≡ map after_drain w.gears → s ≡ after_gather w.sink (map drained_of w.gears) → counts ≡ map counts_of (map drained_of w.gears) →
-    n ≡ length (flat_map labels_of (map drained_of w.gears)) → t ≡ stable_of s → Does v input.Gather (ans.Gathered n t) (record w { gears = gears; sink = s; counts = counts })
-did-gather w v gears s counts n t same e f c h q =
-    let count : n ≡ length (flat_map fresh_of w.gears) = h ∙ ap (λ (ls : List Label). length ls) (sym (all-labels w.gears)) in
+    n ≡ length (flat_map fresh_of w.gears) → t ≡ stable_of s → Does v input.Gather (ans.Gathered n t) (record w { gears = gears; sink = s; counts = counts })
+did-gather w v gears s counts n t same e f c count q =
     let low : t ≡ least (map promise_of (map drained_of w.gears)) = q ∙ ap stable_of f in
     subst (λ (x : SiteSeen). Does x input.Gather (ans.Gathered n t) (record w { gears = gears; sink = s; counts = counts })) same
     (subst (λ (y : SiteSeen). Does w input.Gather (ans.Gathered n t) y) (λ j. record w { gears = sym e j; sink = sym f j; counts = sym c j })
     (subst (λ (r : Answer). Does w input.Gather r (gathered_all w)) (λ j. ans.Gathered (sym count j) (sym low j)) gathers))
-  where
-    all-labels : (gears : List GearSeen) → flat_map fresh_of gears ≡ flat_map labels_of (map drained_of gears)
-    all-labels [] = refl
-    all-labels (x ∷ gears) = ap (λ (ls : List Label). x.fresh ++ ls) (all-labels gears)
 
 -- ---- emit
 

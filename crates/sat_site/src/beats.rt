@@ -2,6 +2,7 @@
 ghost use Rattle.std.specs.Prelude.{◌≡◌, ◌++◌, ◌∷◌, [], ◌<◌, length, map, option_copied, replicate, slice_get, IfOk, OnOk, OnErr};
 ghost use Rattle.sat_site.specs.Changes.{count_to};
 
+use crate::tally::Row;
 use sat_beat::Beat;
 use sat_label::{Counts, Point, Points};
 use std::alloc::{AllocError, Global};
@@ -62,17 +63,6 @@ pub fn fresh_made(alloc: Global, sites: u16) -> Result<Vec<Made>, AllocError>
     Ok(made)
 }
 
-/// Of so many gears nothing was counted.
-pub fn fresh_counts(alloc: Global, gears: u16) -> Result<Vec<Counts>, AllocError>
-    ensures { IfOk result (λ counts. counts.items ≡ replicate gears []) }
-{
-    let mut counts = Vec::with_capacity(alloc, gears as usize)?;
-    'gears: for _ in 0..gears {
-        counts.push(Counts::new(alloc))?;
-    }
-    Ok(counts)
-}
-
 /// A list of these points.
 pub fn points_of(alloc: Global, points: &[Point]) -> Result<Points, AllocError>
     ensures { IfOk result (λ list. list ≡ points.now) }
@@ -85,7 +75,7 @@ pub fn points_of(alloc: Global, points: &[Point]) -> Result<Points, AllocError>
 }
 
 // The count of a site, 0 where there is none.
-fn count_to(counts: &Counts, to: u16) -> u64
+fn count_to(counts: &Row, to: u16) -> u64
     ensures { result ≡ count_to to counts.now }
 {
     match counts.as_slice().get(to as usize) {
@@ -95,7 +85,7 @@ fn count_to(counts: &Counts, to: u16) -> u64
 }
 
 /// Of each gear the count of a site.
-pub fn counts_to(alloc: Global, counts: &[Counts], to: u16) -> Result<Counts, AllocError>
+pub fn counts_to(alloc: Global, counts: &[Row], to: u16) -> Result<Counts, AllocError>
     ensures { IfOk result (λ list. list ≡ map (count_to to) counts.now) }
 {
     let mut list = Counts::new(alloc);

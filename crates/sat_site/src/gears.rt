@@ -3,17 +3,15 @@ ghost use Rattle.std.specs.Prelude.{◌≡◌, ◌≤◌, ◌<◌, ◌^◌, leng
 ghost use Rattle.sat_label.specs.declared.label.Kind.TheVariants.{Move};
 ghost use Rattle.std.specs.List.{flat_map, list_any};
 ghost use Rattle.sat_label.specs.Words.{below};
-ghost use Rattle.sat_gear.specs.Gear.{after_drain, drained_of, fresh_gear, is_due, is_spent, stamped, IsGear, IsItemOf, IsShape};
-ghost use Rattle.sat_sink.specs.Pending.{labels_of};
-ghost use Rattle.sat_site.specs.Changes.{counts_of, ticked_to};
+ghost use Rattle.sat_gear.specs.Gear.{after_drain, fresh_gear, is_due, is_spent, stamped, IsGear, IsItemOf, IsShape};
+ghost use Rattle.sat_site.specs.Changes.{fresh_of, ticked_to};
 ghost use Rattle.sat_site.specs.SiteSteps.{moved_answer, moved_gear};
 ghost use Rattle.sat_site.specs.Seen.{AreGears};
 ghost use Rattle.sat_site.specs.Does.{WritesAt};
 
 use sat_act::{Answer, Refusal};
-use sat_bulk::Drained;
 use sat_gear::{Gear, GearFault};
-use sat_label::{Carried, Counts, Value};
+use sat_label::{Carried, Value};
 use sat_sites::Shape;
 use std::alloc::{AllocError, Global};
 
@@ -58,8 +56,8 @@ pub fn write_at(
     ensures writes { IfOk result (λ answer. WritesAt gear.old carried item value answer gear.new) }
     ensures err { OnErr result (gear.new ≡ gear.old) }
 {
-    match gear.write(carried.point, item, value) {
-        Ok(stamped) => Ok(Answer::Wrote(stamped.label)),
+    match gear.stamp_write(carried.point, item, value) {
+        Ok(label) => Ok(Answer::Wrote(label)),
         Err(GearFault::Spent) => Ok(Answer::Refused(Refusal::Spent)),
         Err(GearFault::Memory) => Err(AllocError),
     }
@@ -90,28 +88,6 @@ pub fn tick_all(gears: &mut [Gear], ts: u64)
     }
 }
 
-/// What a drain of each gear would give.
-pub fn undrained_all(alloc: Global, gears: &[Gear]) -> Result<Vec<Drained>, AllocError>
-    ensures { IfOk result (λ drained. drained.items ≡ map drained_of gears.now) }
-{
-    let mut all = Vec::with_capacity(alloc, gears.len())?;
-    for gear in gears {
-        all.push(gear.undrained()?)?;
-    }
-    Ok(all)
-}
-
-/// How much of each lane was drained, by gear.
-pub fn counts_all(alloc: Global, drained: &[Drained]) -> Result<Vec<Counts>, AllocError>
-    ensures { IfOk result (λ counts. counts.items ≡ map counts_of drained.now) }
-{
-    let mut all = Vec::with_capacity(alloc, drained.len())?;
-    for drain in drained {
-        all.push(drain.counts.copy()?)?;
-    }
-    Ok(all)
-}
-
 /// Whether a drain of some gear would take something.
 pub fn any_due(gears: &[Gear]) -> bool
     ensures { result ≡ list_any is_due gears.now }
@@ -128,14 +104,14 @@ pub fn drain_all(gears: &mut [Gear])
     }
 }
 
-/// How many labels were drained, None where the number is none of 64 bits.
+/// How many labels the gears made since their last drain, None where the number is none of 64 bits.
 #[tactic(auto, using(crate::proofs::Loops::count_more))]
-pub fn count_labels(drained: &[Drained]) -> Option<u64>
-    ensures { MatchOption result (2 ^ 64 ≤ length (flat_map labels_of drained.now)) (λ count. count ≡ length (flat_map labels_of drained.now)) }
+pub fn count_labels(gears: &[Gear]) -> Option<u64>
+    ensures { MatchOption result (2 ^ 64 ≤ length (flat_map fresh_of gears.now)) (λ count. count ≡ length (flat_map fresh_of gears.now)) }
 {
     let mut count: u64 = 0;
-    for drain in drained {
-        count = count.checked_add(drain.labels.as_slice().len() as u64)?;
+    for gear in gears {
+        count = count.checked_add(gear.fresh().len() as u64)?;
     }
     Some(count)
 }

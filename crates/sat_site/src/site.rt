@@ -28,19 +28,19 @@ ghost use Rattle.sat_site.specs.Changes.{beat_for, beaten, clocked, fresh_seen, 
 ghost use Rattle.sat_site.specs.SiteSteps.{close_after, close_answer, emit_sends, fall_after, fall_answer, has_target, keeps_item, may_turn, move_after, move_answer, next_close, next_pulse, passed_after, pulse_after, pulse_answer, shown_of, site_after, site_answers, site_beat, site_epoch, site_sends, stamped_after, turned_after, write_refusal};
 ghost use Rattle.sat_site.specs.Does.{Does, Reads, Writes};
 
-use crate::beats::{Made, counts_to, fresh_counts, fresh_made, points_of};
+use crate::beats::{Made, counts_to, fresh_made, points_of};
 use crate::gears::{
-    all_limits, any_due, count_labels, counts_all, drain_all, fresh_gears, limits, move_at,
-    tick_all, undrained_all, write_at,
+    all_limits, any_due, count_labels, drain_all, fresh_gears, limits, move_at, tick_all, write_at,
 };
 use crate::shape::{shape_of, stamp_plans};
+use crate::tally::Tally;
 use crate::{SiteInput, SiteOutput, SiteView};
 use sat_act::{Answer, Deployment, Refusal};
 use sat_beat::{Beat, BeatTake};
 use sat_bulk::{Payload, Take};
 use sat_epoch::{AdvanceFault, CloseFault, FallFault, Views};
 use sat_gear::Gear;
-use sat_label::{Carried, Counts, Kind, Label, PULSE_GEAR, Point, TS_END, Value};
+use sat_label::{Carried, Kind, Label, PULSE_GEAR, Point, TS_END, Value};
 use sat_proxy::{Proxy, StampFault, TurnFault, Turned};
 use sat_sink::LabelSink;
 use sat_sites::Shape;
@@ -57,7 +57,7 @@ pub struct Site {
     shape: Shape,
     gears: Vec<Gear>,
     sink: LabelSink,
-    counts: Vec<Counts>,
+    counts: Tally,
     views: Views,
     proxy: Proxy,
     made: Vec<Made>,
@@ -68,9 +68,9 @@ impl Model for Site {
 
     ghost Value = { SiteSeen };
 
-    ghost view = { λ a. record { shape = a.shape; gears = a.gears.items; sink = a.sink; counts = a.counts.items; views = a.views; proxy = a.proxy; made = a.made.items } };
+    ghost view = { λ a. record { shape = a.shape; gears = a.gears.items; sink = a.sink; counts = a.counts; views = a.views; proxy = a.proxy; made = a.made.items } };
 
-    ghost invariant = { λ a. IsSite (record { shape = a.shape; gears = a.gears.items; sink = a.sink; counts = a.counts.items; views = a.views; proxy = a.proxy; made = a.made.items }) };
+    ghost invariant = { λ a. IsSite (record { shape = a.shape; gears = a.gears.items; sink = a.sink; counts = a.counts; views = a.views; proxy = a.proxy; made = a.made.items }) };
 }
 
 // What is true of a site's epochs, and of what it has of the others.
@@ -109,7 +109,7 @@ impl Site {
         let views = Views::new(alloc, shape.sites, shape.site, stamp)?;
         let proxy = Proxy::new(alloc, shape.sites, shape.gears, shape.site)?;
         sound(&views, &proxy);
-        let counts = fresh_counts(alloc, shape.gears)?;
+        let counts = Tally::new(alloc, shape.gears)?;
         let made = fresh_made(alloc, shape.sites)?;
         Ok(Site {
             alloc,
@@ -375,13 +375,10 @@ impl Site {
         ensures does { IfOk result (λ answer. Does self.old SiteInput.Gather answer self.new) }
         ensures err { OnErr result (self.new ≡ self.old) }
     {
-        let drained = undrained_all(self.alloc, &self.gears)?;
-        let labels = count_labels(&drained).ok_or(AllocError)?;
-        let counts = counts_all(self.alloc, &drained)?;
-        self.sink.gather(&drained)?;
+        let labels = count_labels(&self.gears).ok_or(AllocError)?;
+        self.counts.gather(&mut self.sink, &self.gears)?;
         drain_all(&mut self.gears);
         all_limits(&self.gears);
-        self.counts = counts;
         Ok(Answer::Gathered {
             labels,
             stable: self.sink.stable(),
@@ -514,7 +511,7 @@ impl Site {
     {
         let _ = &self.shape;
         let closes = points_of(self.alloc, self.views.closes())?;
-        let counts = counts_to(self.alloc, &self.counts, to)?;
+        let counts = counts_to(self.alloc, self.counts.rows(), to)?;
         Ok(Beat {
             cut: self.sink.cut(),
             closes,

@@ -4,4 +4,4 @@ use Rattle.sat_site.proofs.gears.count_labels.Goals as goal
 
 pub returns-in_err-count : goal.returns-in_err-count
 returns-in_err-count c =
-    rw c.from_residual.ensures (too-many c.args.drained.now c.loop-drain.drain-index c.drain-item.result c.loop-drain.count c.as_slice.result.now (omega arith) c.drain-item.is c.loop-drain.invariant c.as_slice.ensures c.in_err-count.ensures)
+    rw c.from_residual.ensures (too-many c.args.gears.now c.loop-gear.gear-index c.gear-item.result c.loop-gear.count c.fresh.result.now (omega arith) c.gear-item.is c.loop-gear.invariant c.fresh.ensures c.in_err-count.ensures)

@@ -1,7 +1,6 @@
-use Rattle.std.proofs.Common.{◌∙◌, sym}
-use Rattle.sat_gear.proofs.Spreads.{none_spread, no-members}
+use Rattle.sat_label.specs.Words.{bit}
+use Rattle.sat_gear.proofs.Spreads.{none_meets, none_passes}
 use Rattle.sat_gear.proofs.lanes.Lanes.add.Goals as goal
 
-pub returns-then-is_empty-clause-ok : goal.returns-then-is_empty-clause-ok
-returns-then-is_empty-clause-ok c =
-    none_spread _ _ 0 _ (sym (c.as_slice.ensures ∙ c.in_ok-numbers.ensures) ∙ no-members _ (sym c.is_empty.ensures ∙ c.if-is_empty.true))
+pub returns-then-not-meets-clause-ok : goal.returns-then-not-meets-clause-ok
+returns-then-not-meets-clause-ok c = none_passes _ _ 0 _ (none_meets c.meets.result (bit c.args.targets.bits) c.meets.ensures c.if-not-meets.true)

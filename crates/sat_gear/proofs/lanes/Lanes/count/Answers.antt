@@ -1,5 +1,4 @@
-use Rattle.std.proofs.Common.{◌∙◌, arith, map}
-use Rattle.sat_queue.specs.Queued.{members_of}
+use Rattle.std.proofs.Common.{◌∙◌, arith}
 use Rattle.sat_gear.proofs.Spreads.{counted-at, lane-count}
 use Rattle.sat_gear.proofs.lanes.Lanes.count.Goals as goal
 
