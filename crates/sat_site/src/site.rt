@@ -243,16 +243,19 @@ impl Site {
         }
     }
 
-    // Does one act. The calls below do one kind of act each.
-    fn act(&mut self, input: SiteInput) -> Result<Answer, AllocError>
+    /// Does one act, as `step` does, and tells its answer alone. It takes no memory for a Tick, an Emit, a Pulse, a Turn, a Stamp,
+    /// an Attach, a Close, a Fall or an Advance; for want of memory the site is as before.
+    pub fn act(&mut self, input: SiteInput) -> Result<Answer, AllocError>
         requires { fits_in self.old input ≡ true }
         ensures answer { IfOk result (λ answer. answer ≡ site_answers self.old input) }
         ensures after { IfOk result (λ answer. self.new ≡ site_after self.old input) }
+        ensures refused { IfOk result (λ answer. is_done answer ≡ false → self.new ≡ self.old) }
         ensures site { IsSite self.old }
         ensures spare { takes_none input ≡ true → IsOk result }
         ensures err { OnErr result (self.new ≡ self.old) }
     {
         let _ = &self.shape;
+        // The calls below do one kind of act each.
         match input {
             SiteInput::Tick { gear, ts } => Ok(Answer::Ticked(self.tick(gear, ts))),
             SiteInput::Write {

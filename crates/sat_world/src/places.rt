@@ -10,7 +10,7 @@ ghost use Rattle.sat_world.specs.Steps.{StepsAt, told, joined, IsNumber, MayTell
 use sat_act::{Answer, Refusal};
 use sat_client::Client;
 use sat_label::Carried;
-use sat_site::{Site, SiteInput, SiteOutput};
+use sat_site::{Site, SiteInput};
 use std::alloc::AllocError;
 
 /// What is true of a site.
@@ -20,22 +20,18 @@ pub fn sound(site: &Site)
     let _ = site.view();
 }
 
-/// Hands a site something that fits. For want of memory the sites are as before.
-pub fn step_at(
-    sites: &mut Vec<Site>,
-    place: u16,
-    input: SiteInput,
-) -> Result<SiteOutput, AllocError>
+/// Hands a site something that fits, and tells its answer. For want of memory the sites are as before.
+pub fn step_at(sites: &mut Vec<Site>, place: u16, input: SiteInput) -> Result<Answer, AllocError>
     requires within { place < length sites.old.items }
     requires fits { (x : SiteSeen) → slice_get sites.old.items place ≡ Some x → IsSite x → fits_in x input ≡ true }
-    ensures ok { IfOk result (λ out. StepsAt sites.old.items place input out.answer out.sent sites.new.items) }
+    ensures ok { IfOk result (λ answer. StepsAt sites.old.items place input answer sites.new.items) }
     ensures spare { takes_none input ≡ true → IsOk result }
     ensures err { OnErr result (sites.new.items ≡ sites.old.items) }
 {
     let site = &mut sites[place as usize];
     sound(site);
-    let out = site.step(input)?;
-    Ok(out)
+    let answer = site.act(input)?;
+    Ok(answer)
 }
 
 /// The number of a payload at its receiver: the one that is asked for, or else that of the next of its lane.

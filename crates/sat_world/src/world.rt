@@ -213,8 +213,8 @@ impl World {
         ensures spare { takes_none (act_at site input) ≡ true → IsOk result }
         ensures err { OnErr result (self.new ≡ self.old) }
     {
-        let out = places::step_at(&mut self.sites, site, input)?;
-        Ok(out.answer)
+        let answer = places::step_at(&mut self.sites, site, input)?;
+        Ok(answer)
     }
 
     fn clock(&mut self) -> Answer
@@ -244,9 +244,9 @@ impl World {
             item,
             value: value.copy()?,
         };
-        let out = places::step_at(&mut self.sites, seat, input)?;
-        places::tell_at(&mut self.clients, client, &out.answer);
-        Ok(out.answer)
+        let answer = places::step_at(&mut self.sites, seat, input)?;
+        places::tell_at(&mut self.clients, client, &answer);
+        Ok(answer)
     }
 
     fn read(&mut self, client: u16, item: u16) -> Result<Answer, AllocError>
@@ -262,9 +262,9 @@ impl World {
             carried: known.carried,
             item,
         };
-        let out = places::step_at(&mut self.sites, seat, input)?;
-        places::tell_at(&mut self.clients, client, &out.answer);
-        Ok(out.answer)
+        let answer = places::step_at(&mut self.sites, seat, input)?;
+        places::tell_at(&mut self.clients, client, &answer);
+        Ok(answer)
     }
 
     fn migrate(&mut self, client: u16, to: u16) -> Result<Answer, AllocError>
@@ -280,9 +280,9 @@ impl World {
             carried: known.carried,
             to,
         };
-        let out = places::step_at(&mut self.sites, seat, input)?;
-        places::tell_at(&mut self.clients, client, &out.answer);
-        Ok(out.answer)
+        let answer = places::step_at(&mut self.sites, seat, input)?;
+        places::tell_at(&mut self.clients, client, &answer);
+        Ok(answer)
     }
 
     fn leave(&mut self, client: u16) -> Answer
@@ -309,9 +309,9 @@ impl World {
         let input = SiteInput::Attach {
             carried: known.carried,
         };
-        let out = places::step_at(&mut self.sites, site, input)?;
-        places::join_at(&mut self.clients, client, site, &out.answer);
-        Ok(out.answer)
+        let answer = places::step_at(&mut self.sites, site, input)?;
+        places::join_at(&mut self.clients, client, site, &answer);
+        Ok(answer)
     }
 
     // An act at a site that may send a label, in its emission epoch as it is before the act. What is sent is on its way before the
@@ -326,8 +326,8 @@ impl World {
         let epoch = known.view().emission;
         let sent = known.sends(&input);
         nets::send_at(&mut self.nets, epoch as usize - 1, site, sent)?;
-        let out = places::step_at(&mut self.sites, site, input)?;
-        Ok(out.answer)
+        let answer = places::step_at(&mut self.sites, site, input)?;
+        Ok(answer)
     }
 
     fn hop(&mut self, epoch: u16, from: NodeId, to: u16) -> Result<Answer, AllocError>
@@ -348,9 +348,9 @@ impl World {
         let known = &self.sites[site as usize];
         let place = known.view().view as usize - 1;
         let front = nets::front_at(&self.nets, place, site);
-        let out = places::step_at(&mut self.sites, site, SiteInput::Turn { front })?;
-        nets::take_at(&mut self.nets, place, site, &out.answer);
-        Ok(out.answer)
+        let answer = places::step_at(&mut self.sites, site, SiteInput::Turn { front })?;
+        nets::take_at(&mut self.nets, place, site, &answer);
+        Ok(answer)
     }
 
     // A payload of a lane. No memory holds payloads whose number has more than 63 bits.
@@ -381,8 +381,8 @@ impl World {
             number,
             payload,
         };
-        let out = places::step_at(&mut self.sites, to, input)?;
-        Ok(out.answer)
+        let answer = places::step_at(&mut self.sites, to, input)?;
+        Ok(answer)
     }
 
     // A beat that a site made for another one. No memory holds beats whose number has more than 63 bits.
@@ -400,8 +400,8 @@ impl World {
         }
         let beat = beat.copy()?;
         let input = SiteInput::BeatIn { from, number, beat };
-        let out = places::step_at(&mut self.sites, to, input)?;
-        Ok(out.answer)
+        let answer = places::step_at(&mut self.sites, to, input)?;
+        Ok(answer)
     }
 
     fn kill(&mut self, epoch: u16, serializer: u16) -> Answer

@@ -27,8 +27,8 @@ take_at-requires-clause-seat c = λ n at. net-seat _ _ _ _ n c.self.view_is c.se
 
 pub invariant_of-self-2 : goal.invariant_of-self-2
 invariant_of-self-2 c = stays _ _ _ _ _ c.self.view_is c.self.invariant c.requires refl
-    (did-turn _ _ _ _ _ _ _ _ _ _ c.self.view_is c.self.invariant c.requires c.index-known.ensures c.view.ensures.sound (ap (λ (v : SiteView). v.view) c.view.ensures.seen) (seen-front _ _ _ _ _ c.deref.ensures.value c.front_at-front.ensures) c.in_ok-out.ensures.ok c.take_at.ensures)
+    (did-turn _ _ _ _ _ _ _ _ _ c.self.view_is c.self.invariant c.requires c.index-known.ensures c.view.ensures.sound (ap (λ (v : SiteView). v.view) c.view.ensures.seen) (seen-front _ _ _ _ _ c.deref.ensures.value c.front_at-front.ensures) c.in_ok-answer.ensures.ok c.take_at.ensures)
 
 pub returns-clause-goes : goal.returns-clause-goes
 returns-clause-goes c = seen-as _ _ _ _ _ c.self.view_is
-    (did-turn _ _ _ _ _ _ _ _ _ _ c.self.view_is c.self.invariant c.requires c.index-known.ensures c.view.ensures.sound (ap (λ (v : SiteView). v.view) c.view.ensures.seen) (seen-front _ _ _ _ _ c.deref.ensures.value c.front_at-front.ensures) c.in_ok-out.ensures.ok c.take_at.ensures)
+    (did-turn _ _ _ _ _ _ _ _ _ c.self.view_is c.self.invariant c.requires c.index-known.ensures c.view.ensures.sound (ap (λ (v : SiteView). v.view) c.view.ensures.seen) (seen-front _ _ _ _ _ c.deref.ensures.value c.front_at-front.ensures) c.in_ok-answer.ensures.ok c.take_at.ensures)
