@@ -9,6 +9,7 @@ pub mod Goes
 pub mod Sends
 pub mod Hops
 pub mod Finds
+pub mod Handed
 pub mod Hands
 pub mod Beats
 pub mod Seats

@@ -166,13 +166,7 @@ impl World {
     {
         let _ = &self.deployment;
         match act {
-            Act::Tick { site, gear, ts } => self.local(
-                *site,
-                SiteInput::Tick {
-                    gear: *gear,
-                    ts: *ts,
-                },
-            ),
+            Act::Tick { site, gear, ts } => Ok(self.tick(*site, *gear, *ts)),
             Act::Clock => Ok(self.clock()),
             Act::Write {
                 client,
@@ -184,10 +178,10 @@ impl World {
             Act::Leave { client } => Ok(self.leave(*client)),
             Act::Attach { client, site } => self.attach(*client, *site),
             Act::Gather { site } => self.local(*site, SiteInput::Gather),
-            Act::Emit { site } => self.sending(*site, SiteInput::Emit),
+            Act::Emit { site } => self.emit(*site),
             Act::Pulse { site } => self.sending(*site, SiteInput::Pulse),
             Act::Hop { epoch, from, to } => self.hop(*epoch, *from, *to),
-            Act::Turn { site } => self.turn(*site),
+            Act::Turn { site } => Ok(self.turn(*site)),
             Act::Bulk {
                 from,
                 gear,
@@ -203,6 +197,13 @@ impl World {
             Act::Kill { epoch, serializer } => Ok(self.kill(*epoch, *serializer)),
             Act::Settle => unreachable!(),
         }
+    }
+
+    fn tick(&mut self, site: u16, gear: u16, ts: u64) -> Answer
+        requires { IsActOf self.old.deployment (Act.Tick site gear ts) }
+        ensures { Goes self.old (Act.Tick site gear ts) result self.new }
+    {
+        places::tick_at(&mut self.sites, site, gear, ts)
     }
 
     // An act that changes one site and nothing else.
@@ -239,12 +240,8 @@ impl World {
         if let Some(refusal) = refusal {
             return Ok(Answer::Refused(refusal));
         }
-        let input = SiteInput::Write {
-            carried: known.carried,
-            item,
-            value: value.copy()?,
-        };
-        let answer = places::step_at(&mut self.sites, seat, input)?;
+        let value = value.copy()?;
+        let answer = places::write_at(&mut self.sites, seat, known.carried, item, value)?;
         places::tell_at(&mut self.clients, client, &answer);
         Ok(answer)
     }
@@ -330,6 +327,19 @@ impl World {
         Ok(answer)
     }
 
+    // What is emitted is on its way before the site has sent it, as above.
+    fn emit(&mut self, site: u16) -> Result<Answer, AllocError>
+        requires { site < self.old.deployment.sites }
+        ensures goes { IfOk result (λ r. Goes self.old (Act.Emit site) r self.new) }
+        ensures err { OnErr result (self.new ≡ self.old) }
+    {
+        let known = &self.sites[site as usize];
+        let epoch = known.view().emission;
+        let sent = known.sends(&SiteInput::Emit);
+        nets::send_at(&mut self.nets, epoch as usize - 1, site, sent)?;
+        Ok(places::emit_at(&mut self.sites, site))
+    }
+
     fn hop(&mut self, epoch: u16, from: NodeId, to: u16) -> Result<Answer, AllocError>
         requires { IsActOf self.old.deployment (Act.Hop epoch from to) }
         ensures goes { IfOk result (λ r. Goes self.old (Act.Hop epoch from to) r self.new) }
@@ -340,17 +350,16 @@ impl World {
         Ok(answer)
     }
 
-    fn turn(&mut self, site: u16) -> Result<Answer, AllocError>
+    fn turn(&mut self, site: u16) -> Answer
         requires { site < self.old.deployment.sites }
-        ensures goes { IfOk result (λ r. Goes self.old (Act.Turn site) r self.new) }
-        ensures fine { IsOk result }
+        ensures { Goes self.old (Act.Turn site) result self.new }
     {
         let known = &self.sites[site as usize];
         let place = known.view().view as usize - 1;
         let front = nets::front_at(&self.nets, place, site);
-        let answer = places::step_at(&mut self.sites, site, SiteInput::Turn { front })?;
+        let answer = places::turn_at(&mut self.sites, site, front);
         nets::take_at(&mut self.nets, place, site, &answer);
-        Ok(answer)
+        answer
     }
 
     // A payload of a lane. No memory holds payloads whose number has more than 63 bits.
@@ -375,13 +384,7 @@ impl World {
             return Err(AllocError);
         }
         let payload = payload.copy()?;
-        let input = SiteInput::Bulk {
-            from,
-            gear,
-            number,
-            payload,
-        };
-        let answer = places::step_at(&mut self.sites, to, input)?;
+        let answer = places::bulk_at(&mut self.sites, to, from, gear, number, payload)?;
         Ok(answer)
     }
 

@@ -14,8 +14,8 @@ front_at-front-requires-clause-within c =
 pub front_at-front-requires-clause-seat : goal.front_at-front-requires-clause-seat
 front_at-front-requires-clause-seat c = λ n at. net-seat _ _ _ _ n c.self.view_is c.self.invariant c.requires (ap (λ (ns : List (Option NetSeen)). slice_get ns (c.view.result.view - 1)) (sym c.deref.ensures.value) ∙ at)
 
-pub step_at-requires-clause-fits : goal.step_at-requires-clause-fits
-step_at-requires-clause-fits c = fit-here _ _ _ _ _ c.self.view_is c.self.invariant c.requires
+pub turn_at-answer-requires-clause-fits : goal.turn_at-answer-requires-clause-fits
+turn_at-answer-requires-clause-fits c = fit-here _ _ _ _ _ c.self.view_is c.self.invariant c.requires
     (turn-handed _ _ _ _ _ _ c.self.view_is c.self.invariant c.requires c.index-known.ensures c.view.ensures.sound (ap (λ (v : SiteView). v.view) c.view.ensures.seen) (seen-front _ _ _ _ _ c.deref.ensures.value c.front_at-front.ensures))
 
 pub take_at-requires-clause-within : goal.take_at-requires-clause-within
@@ -25,10 +25,10 @@ take_at-requires-clause-within c =
 pub take_at-requires-clause-seat : goal.take_at-requires-clause-seat
 take_at-requires-clause-seat c = λ n at. net-seat _ _ _ _ n c.self.view_is c.self.invariant c.requires at
 
-pub invariant_of-self-2 : goal.invariant_of-self-2
-invariant_of-self-2 c = stays _ _ _ _ _ c.self.view_is c.self.invariant c.requires refl
-    (did-turn _ _ _ _ _ _ _ _ _ c.self.view_is c.self.invariant c.requires c.index-known.ensures c.view.ensures.sound (ap (λ (v : SiteView). v.view) c.view.ensures.seen) (seen-front _ _ _ _ _ c.deref.ensures.value c.front_at-front.ensures) c.in_ok-answer.ensures.ok c.take_at.ensures)
+pub invariant_of-self : goal.invariant_of-self
+invariant_of-self c = stays _ _ _ _ _ c.self.view_is c.self.invariant c.requires refl
+    (did-turn _ _ _ _ _ _ _ _ _ c.self.view_is c.self.invariant c.requires c.index-known.ensures c.view.ensures.sound (ap (λ (v : SiteView). v.view) c.view.ensures.seen) (seen-front _ _ _ _ _ c.deref.ensures.value c.front_at-front.ensures) c.turn_at-answer.ensures c.take_at.ensures)
 
-pub returns-clause-goes : goal.returns-clause-goes
-returns-clause-goes c = seen-as _ _ _ _ _ c.self.view_is
-    (did-turn _ _ _ _ _ _ _ _ _ c.self.view_is c.self.invariant c.requires c.index-known.ensures c.view.ensures.sound (ap (λ (v : SiteView). v.view) c.view.ensures.seen) (seen-front _ _ _ _ _ c.deref.ensures.value c.front_at-front.ensures) c.in_ok-answer.ensures.ok c.take_at.ensures)
+pub returns : goal.returns
+returns c = seen-as _ _ _ _ _ c.self.view_is
+    (did-turn _ _ _ _ _ _ _ _ _ c.self.view_is c.self.invariant c.requires c.index-known.ensures c.view.ensures.sound (ap (λ (v : SiteView). v.view) c.view.ensures.seen) (seen-front _ _ _ _ _ c.deref.ensures.value c.front_at-front.ensures) c.turn_at-answer.ensures c.take_at.ensures)
