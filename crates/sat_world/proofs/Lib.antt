@@ -15,6 +15,7 @@ pub mod Beats
 pub mod Seats
 pub mod Deeds
 pub mod Runs
+pub mod Counted
 pub mod Fresh
 pub mod Shown
 pub mod Clocked

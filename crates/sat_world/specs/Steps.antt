@@ -29,6 +29,7 @@ use Rattle.sat_site.specs.Seen.{SiteSeen, IsSite}
 use Rattle.sat_site.specs.Inputs.{input_of, fits_in, is_sized}
 use Rattle.sat_site.specs.SiteSteps.{site_answers, site_after}
 use Rattle.sat_site.specs.Stands.{StandsSite}
+use Rattle.sat_world.specs.Counts.{counted}
 use Rattle.sat_world.specs.Seen.{WorldSeen, HasSite}
 use Rattle.sat_world.specs.Stands.{Stands}
 use Rattle.sat_world.specs.Worlds.{IsFrame}
@@ -42,6 +43,11 @@ pub record Goes (w : WorldSeen) (a : Act) (r : Answer) (v : WorldSeen) : Type 0 
   pub answer : (s : WorldState) → Stands w s → r ≡ world_answer w.deployment s a
   pub stands : (s : WorldState) → Stands w s → Stands v (world_next w.deployment s a r)
   pub refused : is_done r ≡ false → v ≡ w
+
+-- and what was shown is counted
+pub record Counts (w : WorldSeen) (a : Act) (r : Answer) (v : WorldSeen) : Type 0 where
+  pub goes : Goes w a r (record v { shown = w.shown })
+  pub shown : v.shown ≡ counted r w.shown
 
 -- ---- one site
 

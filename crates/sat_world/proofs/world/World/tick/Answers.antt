@@ -11,5 +11,5 @@ tick_at-requires-clause-fits c = fit-here _ _ _ _ _ c.self.view_is c.self.invari
 pub invariant_of-self : goal.invariant_of-self
 invariant_of-self c = stays _ _ _ _ _ c.self.view_is c.self.invariant c.requires refl (local-goes _ _ _ _ _ _ c.self.invariant.frame refl (hands-at _ _ (input.Tick _ _) refl) c.tick_at.ensures)
 
-pub returns : goal.returns
-returns c = seen-as _ _ _ _ _ c.self.view_is (local-goes _ _ _ _ _ _ c.self.invariant.frame refl (hands-at _ _ (input.Tick _ _) refl) c.tick_at.ensures)
+pub returns-clause-goes : goal.returns-clause-goes
+returns-clause-goes c = seen-as _ _ _ _ _ c.self.view_is (local-goes _ _ _ _ _ _ c.self.invariant.frame refl (hands-at _ _ (input.Tick _ _) refl) c.tick_at.ensures)
