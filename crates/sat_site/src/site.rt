@@ -243,16 +243,19 @@ impl Site {
         }
     }
 
-    // Does one act. The calls below do one kind of act each.
-    fn act(&mut self, input: SiteInput) -> Result<Answer, AllocError>
+    /// Does one act, as `step` does, and tells its answer alone. It takes no memory for a Tick, an Emit, a Pulse, a Turn, a Stamp,
+    /// an Attach, a Close, a Fall or an Advance; for want of memory the site is as before.
+    pub fn act(&mut self, input: SiteInput) -> Result<Answer, AllocError>
         requires { fits_in self.old input ≡ true }
         ensures answer { IfOk result (λ answer. answer ≡ site_answers self.old input) }
         ensures after { IfOk result (λ answer. self.new ≡ site_after self.old input) }
+        ensures refused { IfOk result (λ answer. is_done answer ≡ false → self.new ≡ self.old) }
         ensures site { IsSite self.old }
         ensures spare { takes_none input ≡ true → IsOk result }
         ensures err { OnErr result (self.new ≡ self.old) }
     {
         let _ = &self.shape;
+        // The calls below do one kind of act each.
         match input {
             SiteInput::Tick { gear, ts } => Ok(Answer::Ticked(self.tick(gear, ts))),
             SiteInput::Write {
@@ -282,7 +285,8 @@ impl Site {
         }
     }
 
-    fn tick(&mut self, gear: u16, ts: u64) -> u64
+    /// Raises the promise of a gear to a timestamp, and tells the promise that it then has. It takes no memory.
+    pub fn tick(&mut self, gear: u16, ts: u64) -> u64
         requires gear { gear < self.old.shape.gears }
         requires limit { ts ≤ 2 ^ 62 }
         ensures { Does self.old (SiteInput.Tick gear ts) (ans.Ticked result) self.new }
@@ -318,7 +322,8 @@ impl Site {
         item % self.shape.gears
     }
 
-    fn write(&mut self, carried: Carried, item: u16, value: Value) -> Result<Answer, AllocError>
+    /// Does a client's write, with what the client carries, and answers it. For want of memory the site is as before.
+    pub fn write(&mut self, carried: Carried, item: u16, value: Value) -> Result<Answer, AllocError>
         requires { item < length self.old.shape.interest.replicas }
         ensures writes { IfOk result (λ answer. Writes self.old carried item value answer self.new) }
         ensures err { OnErr result (self.new ≡ self.old) }
@@ -385,7 +390,8 @@ impl Site {
         })
     }
 
-    fn emit(&mut self) -> Answer
+    /// Takes the sink's next label, and answers it. It takes no memory.
+    pub fn emit(&mut self) -> Answer
         ensures { Does self.old SiteInput.Emit result self.new }
     {
         let Some(label) = self.sink.emit() else {
@@ -432,8 +438,8 @@ impl Site {
         }
     }
 
-    // The front of the link to the site.
-    fn turn(&mut self, front: Option<Label>) -> Answer
+    /// Shows or takes the front of the link to the site, and answers it. It takes no memory.
+    pub fn turn(&mut self, front: Option<Label>) -> Answer
         requires { (l : Label) → front ≡ Some l → IsFront self.old l }
         ensures answer { result ≡ turn_answer self.old.views self.old.proxy front }
         ensures after { self.new ≡ turned_after self.old front }
@@ -481,7 +487,8 @@ impl Site {
         Answer::Shown(label)
     }
 
-    fn bulk(
+    /// Takes a payload of the lane from a site and a gear, and answers it. For want of memory the site is as before.
+    pub fn bulk(
         &mut self,
         from: u16,
         gear: u16,

@@ -90,18 +90,17 @@ net-seat w v i n net e k lt at =
 
 -- ---- emissions, pulses and closes
 
-pub did-send : (w v : WorldSeen) (i m : ℕ) (given : code.SiteInput) (x : SiteSeen) (sent : Option Label) (r : Answer) (o : Option Label) (ys : List SiteSeen) (nets : List (Option NetSeen)) → w ≡ v → IsWorld w → i < v.deployment.sites → is_sending (act_at i given) ≡ true → x ≡ get_or w.sites i x → IsSite x → m ≡ x.views.emission →
-    sent ≡ site_sends x given → ((q : Option NetSeen) → slice_get w.nets (m - 1) ≡ Some q → NetAt w.nets (m - 1) q (net_sent q i sent) nets) → StepsAt w.sites i given r o ys → Goes w (act_at i given) r (record w { sites = ys; nets = nets })
-did-send w v i m given x sent r o ys nets e k lt sending is sound epoch s net h =
+pub did-send : (w v : WorldSeen) (i m : ℕ) (given : code.SiteInput) (x : SiteSeen) (sent : Option Label) (r : Answer) (ys : List SiteSeen) (nets : List (Option NetSeen)) → w ≡ v → IsWorld w → i < v.deployment.sites → is_sending (act_at i given) ≡ true → x ≡ get_or w.sites i x → IsSite x → m ≡ x.views.emission →
+    sent ≡ site_sends x given → ((q : Option NetSeen) → slice_get w.nets (m - 1) ≡ Some q → NetAt w.nets (m - 1) q (net_sent q i sent) nets) → StepsAt w.sites i given r ys → Goes w (act_at i given) r (record w { sites = ys; nets = nets })
+did-send w v i m given x sent r ys nets e k lt sending is sound epoch s net h =
     let at : HasSite w i x = site-at w v i x e k lt is in
     let place : Placed w m = emission-placed w i m x k at sound epoch in
     let q = there w.nets (m - 1) place.within in
     let few : m - 1 < length w.deployment.plans = (let b : length w.nets ≡ length w.deployment.plans = k.frame.nets in let a : m - 1 < length w.nets = place.within in omega arith) in
-    let same : sent ≡ o = s ∙ (ap (λ (x : SiteSeen). site_sends x given) (both-are (slice_get w.sites i) x h.before at h.at) ∙ sym h.sends) in
-    send-goes w i (m - 1) given q.0 r o ys nets k.frame (same-sites w v i e lt)
+    send-goes w i (m - 1) given q.0 r sent ys nets k.frame (same-sites w v i e lt)
     (λ y here. ap (λ (z : SiteSeen). z.views.emission) (both-are (slice_get w.sites i) y x here at) ∙ (sym epoch ∙ place.above)) few sending
     (hands-at w i given (sending-plain (act_at i given) sending)) h
-    (subst (λ (o : Option Label). NetAt w.nets (m - 1) q.0 (net_sent q.0 i o) nets) same (net q.0 q.1))
+    (s ∙ ap (λ (x : SiteSeen). site_sends x given) (both-are (slice_get w.sites i) x h.before at h.at)) (net q.0 q.1)
 
 -- ---- turn
 
@@ -122,15 +121,15 @@ turn-handed w v j m x front e k lt is sound view f =
       sized = λ x at. refl;
     }
 
-pub did-turn : (w v : WorldSeen) (j m : ℕ) (x : SiteSeen) (front : Option Label) (r : Answer) (o : Option Label) (ys : List SiteSeen) (nets : List (Option NetSeen)) → w ≡ v → IsWorld w → j < v.deployment.sites → x ≡ get_or w.sites j x → IsSite x → m ≡ x.views.view → IsFrontIn w.nets m j front →
-    StepsAt w.sites j (input.Turn front) r o ys → ((q : Option NetSeen) → slice_get w.nets (m - 1) ≡ Some q → NetAt w.nets (m - 1) q (net_taken r q j) nets) → Goes w (act.Turn j) r (record w { sites = ys; nets = nets })
-did-turn w v j m x front r o ys nets e k lt is sound view f h net =
+pub did-turn : (w v : WorldSeen) (j m : ℕ) (x : SiteSeen) (front : Option Label) (r : Answer) (ys : List SiteSeen) (nets : List (Option NetSeen)) → w ≡ v → IsWorld w → j < v.deployment.sites → x ≡ get_or w.sites j x → IsSite x → m ≡ x.views.view → IsFrontIn w.nets m j front →
+    StepsAt w.sites j (input.Turn front) r ys → ((q : Option NetSeen) → slice_get w.nets (m - 1) ≡ Some q → NetAt w.nets (m - 1) q (net_taken r q j) nets) → Goes w (act.Turn j) r (record w { sites = ys; nets = nets })
+did-turn w v j m x front r ys nets e k lt is sound view f h net =
     let at : HasSite w j x = site-at w v j x e k lt is in
     let place : Placed w m = view-placed w j m x k at sound view in
     let q = there w.nets (m - 1) place.within in
-    turn-goes w j (m - 1) q.0 r o ys nets k.frame (same-sites w v j e lt)
+    turn-goes w j (m - 1) q.0 r ys nets k.frame (same-sites w v j e lt)
     (λ y here. ap (λ (z : SiteSeen). z.views.view) (both-are (slice_get w.sites j) y x here at) ∙ (sym view ∙ place.above))
-    (subst (λ (front : Option Label). StepsAt w.sites j (input.Turn front) r o ys) (f q.0 q.1) h) (net q.0 q.1)
+    (subst (λ (front : Option Label). StepsAt w.sites j (input.Turn front) r ys) (f q.0 q.1) h) (net q.0 q.1)
 
 -- ---- hop
 
@@ -224,18 +223,18 @@ pub write-handed : (w v : WorldSeen) (c i n : ℕ) (value copy : List ℕ) (x : 
 write-handed w v c i n value copy x e k lt is seat same =
     subst (λ (u : List ℕ). Hands w (act.Write c n value) i (input.Write x.carried n u)) (sym same) (write-hands w c x i (Rattle.sat_world.proofs.Hands.client-at w v c x e k lt is) seat n value)
 
-pub did-write : (w v : WorldSeen) (c i n : ℕ) (value copy : List ℕ) (x : Client) (r : Answer) (o : Option Label) (ys : List SiteSeen) (now : List Client) → w ≡ v → IsWorld w → c < length v.deployment.clients → x ≡ get_or w.clients c x → x.seat ≡ Some i → copy ≡ value →
-    StepsAt w.sites i (input.Write x.carried n copy) r o ys → ((y : Client) → slice_get w.clients c ≡ Some y → now ≡ set w.clients c (told r y)) → Goes w (act.Write c n value) r (record w { sites = ys; clients = now })
-did-write w v c i n value copy x r o ys now e k lt is seat same h tells =
+pub did-write : (w v : WorldSeen) (c i n : ℕ) (value copy : List ℕ) (x : Client) (r : Answer) (ys : List SiteSeen) (now : List Client) → w ≡ v → IsWorld w → c < length v.deployment.clients → x ≡ get_or w.clients c x → x.seat ≡ Some i → copy ≡ value →
+    StepsAt w.sites i (input.Write x.carried n copy) r ys → ((y : Client) → slice_get w.clients c ≡ Some y → now ≡ set w.clients c (told r y)) → Goes w (act.Write c n value) r (record w { sites = ys; clients = now })
+did-write w v c i n value copy x r ys now e k lt is seat same h tells =
     let at : HasClient w c x = Rattle.sat_world.proofs.Hands.client-at w v c x e k lt is in
-    let g : StepsAt w.sites i (input.Write x.carried n value) r o ys = subst (λ (u : List ℕ). StepsAt w.sites i (input.Write x.carried n u) r o ys) same h in
-    use-goes w (act.Write c n value) c x i (input.Write x.carried n value) r o ys now k.frame refl refl at (write-told w.sites ys i x.carried n value r o g) (write-hands w c x i at seat n value) g (tells x at)
+    let g : StepsAt w.sites i (input.Write x.carried n value) r ys = subst (λ (u : List ℕ). StepsAt w.sites i (input.Write x.carried n u) r ys) same h in
+    use-goes w (act.Write c n value) c x i (input.Write x.carried n value) r ys now k.frame refl refl at (write-told w.sites ys i x.carried n value r g) (write-hands w c x i at seat n value) g (tells x at)
 
-pub did-read : (w v : WorldSeen) (c i n : ℕ) (x : Client) (r : Answer) (o : Option Label) (ys : List SiteSeen) (now : List Client) → w ≡ v → IsWorld w → c < length v.deployment.clients → x ≡ get_or w.clients c x → x.seat ≡ Some i →
-    StepsAt w.sites i (input.Read x.carried n) r o ys → ((y : Client) → slice_get w.clients c ≡ Some y → now ≡ set w.clients c (told r y)) → Goes w (act.Read c n) r (record w { sites = ys; clients = now })
-did-read w v c i n x r o ys now e k lt is seat h tells =
+pub did-read : (w v : WorldSeen) (c i n : ℕ) (x : Client) (r : Answer) (ys : List SiteSeen) (now : List Client) → w ≡ v → IsWorld w → c < length v.deployment.clients → x ≡ get_or w.clients c x → x.seat ≡ Some i →
+    StepsAt w.sites i (input.Read x.carried n) r ys → ((y : Client) → slice_get w.clients c ≡ Some y → now ≡ set w.clients c (told r y)) → Goes w (act.Read c n) r (record w { sites = ys; clients = now })
+did-read w v c i n x r ys now e k lt is seat h tells =
     let at : HasClient w c x = Rattle.sat_world.proofs.Hands.client-at w v c x e k lt is in
-    use-goes w (act.Read c n) c x i (input.Read x.carried n) r o ys now k.frame refl refl at (read-told w.sites ys i x.carried n r o h) (read-hands w c x i at seat n) h (tells x at)
+    use-goes w (act.Read c n) c x i (input.Read x.carried n) r ys now k.frame refl refl at (read-told w.sites ys i x.carried n r h) (read-hands w c x i at seat n) h (tells x at)
 
 pub did-not-write : (w v : WorldSeen) (c n : ℕ) (value : List ℕ) (x : Client) → w ≡ v → IsWorld w → c < length v.deployment.clients → x ≡ get_or w.clients c x → x.seat ≡ None → Goes v (act.Write c n value) (ans.Refused why.NoSession) v
 did-not-write w v c n value x e k lt is none =
@@ -320,7 +319,7 @@ pub did-refuse : (w v : WorldSeen) (c i n : ℕ) (value : List ℕ) (x : Client)
 did-refuse w v c i n value x z y e k b is seat here sound refused =
     subst (λ (v : WorldSeen). Goes v (act.Write c n value) (ans.Refused y) v) e
     (subst (λ (cl : List Client). Goes w (act.Write c n value) (ans.Refused y) (record w { clients = cl })) (set-same w.clients c x at)
-    (use-goes w (act.Write c n value) c x i (input.Write x.carried n value) (ans.Refused y) (site_sends z (input.Write x.carried n value)) w.sites (set w.clients c x) k.frame refl refl at refl hands stepped refl))
+    (use-goes w (act.Write c n value) c x i (input.Write x.carried n value) (ans.Refused y) w.sites (set w.clients c x) k.frame refl refl at refl hands stepped refl))
   where
     at : HasClient w c x
     at = Rattle.sat_world.proofs.Hands.client-at w v c x e k b.0 is
@@ -334,14 +333,13 @@ did-refuse w v c i n value x z y e k b is seat here sound refused =
     fits : fits_in z (input.Write x.carried n value) ≡ true
     fits = fit-here w v (act.Write c n value) i (input.Write x.carried n value) e k b hands z here sound
 
-    stepped : StepsAt w.sites i (input.Write x.carried n value) (ans.Refused y) (site_sends z (input.Write x.carried n value)) w.sites
+    stepped : StepsAt w.sites i (input.Write x.carried n value) (ans.Refused y) w.sites
     stepped = record {
       before = z;
       at = here;
       sound = sound;
       fits = fits;
       answers = answers;
-      sends = refl;
       rest = sym (ap (set w.sites i) ((each-step z (input.Write x.carried n value) sound fits).refused (ap is_done (sym answers))) ∙ set-same w.sites i z here);
     }
 

@@ -46,41 +46,41 @@ use Rattle.sat_world.proofs.Parts.{handling_of, SitesStand, NetsStand, next-stan
 -- ---- one site
 
 -- what the site's law says of its step
-pub holds : (xs ys : List SiteSeen) (i : ℕ) (given : code.SiteInput) (r : Answer) (o : Option Label) → (h : StepsAt xs i given r o ys) → StepHolds h.before given
-holds xs ys i given r o h = each-step h.before given h.sound h.fits
+pub holds : (xs ys : List SiteSeen) (i : ℕ) (given : code.SiteInput) (r : Answer) → (h : StepsAt xs i given r ys) → StepHolds h.before given
+holds xs ys i given r h = each-step h.before given h.sound h.fits
 
-pub told-by : (w : WorldSeen) (s : WorldState) (i : ℕ) (given : code.SiteInput) (r : Answer) (o : Option Label) (ys : List SiteSeen) → IsFrame w → Stands w s → StepsAt w.sites i given r o ys →
+pub told-by : (w : WorldSeen) (s : WorldState) (i : ℕ) (given : code.SiteInput) (r : Answer) (ys : List SiteSeen) → IsFrame w → Stands w s → StepsAt w.sites i given r ys →
     r ≡ site_answer w.deployment i (s.sites i) (input_of given)
-told-by w s i given r o ys k st h = h.answers ∙ (holds w.sites ys i given r o h).answers w.deployment i (s.sites i) k.deployment (st.sites i h.before h.at)
+told-by w s i given r ys k st h = h.answers ∙ (holds w.sites ys i given r h).answers w.deployment i (s.sites i) k.deployment (st.sites i h.before h.at)
 
 -- the sites after it
-pub stepped : (w : WorldSeen) (s : WorldState) (gives : ℕ → Option SiteInput) (i : ℕ) (given : code.SiteInput) (r : Answer) (o : Option Label) (ys : List SiteSeen) → IsFrame w → Stands w s → StepsAt w.sites i given r o ys →
+pub stepped : (w : WorldSeen) (s : WorldState) (gives : ℕ → Option SiteInput) (i : ℕ) (given : code.SiteInput) (r : Answer) (ys : List SiteSeen) → IsFrame w → Stands w s → StepsAt w.sites i given r ys →
     ((k : ℕ) → gives k ≡ given_at i k (input_of given)) → SitesStand w.deployment ys (λ k. after w.deployment k (s.sites k) (gives k) r)
-stepped w s gives i given r o ys k st h is =
+stepped w s gives i given r ys k st h is =
     one-site w.deployment s.sites gives r i (input_of given) w.sites ys (site_after h.before given) st.sites h.rest
     (subst (λ (r : Answer). StandsSite w.deployment i (site_after h.before given) (site_next w.deployment i (s.sites i) (input_of given) r)) (sym h.answers)
-    ((holds w.sites ys i given r o h).stands w.deployment i (s.sites i) k.deployment (st.sites i h.before h.at))) is
+    ((holds w.sites ys i given r h).stands w.deployment i (s.sites i) k.deployment (st.sites i h.before h.at))) is
 
 -- where it is refused they are as before
-pub unmoved : (xs ys : List SiteSeen) (i : ℕ) (given : code.SiteInput) (r : Answer) (o : Option Label) → StepsAt xs i given r o ys → is_done r ≡ false → ys ≡ xs
-unmoved xs ys i given r o h f =
-    h.rest ∙ (ap (set xs i) ((holds xs ys i given r o h).refused (ap is_done (sym h.answers) ∙ f)) ∙ set-same xs i h.before h.at)
+pub unmoved : (xs ys : List SiteSeen) (i : ℕ) (given : code.SiteInput) (r : Answer) → StepsAt xs i given r ys → is_done r ≡ false → ys ≡ xs
+unmoved xs ys i given r h f =
+    h.rest ∙ (ap (set xs i) ((holds xs ys i given r h).refused (ap is_done (sym h.answers) ∙ f)) ∙ set-same xs i h.before h.at)
 
-pub with-sites : (w : WorldSeen) (i : ℕ) (given : code.SiteInput) (r : Answer) (o : Option Label) (ys : List SiteSeen) → StepsAt w.sites i given r o ys → length ys ≡ length w.sites
-with-sites w i given r o ys h = ap (λ (xs : List SiteSeen). length xs) h.rest ∙ length-set w.sites i (site_after h.before given)
+pub with-sites : (w : WorldSeen) (i : ℕ) (given : code.SiteInput) (r : Answer) (ys : List SiteSeen) → StepsAt w.sites i given r ys → length ys ≡ length w.sites
+with-sites w i given r ys h = ap (λ (xs : List SiteSeen). length xs) h.rest ∙ length-set w.sites i (site_after h.before given)
 
 -- an act at one site that moves no label and is no client's
-pub local-goes : (w : WorldSeen) (a : Act) (i : ℕ) (given : code.SiteInput) (r : Answer) (o : Option Label) (ys : List SiteSeen) → IsFrame w → is_local a ≡ true → Hands w a i given → StepsAt w.sites i given r o ys → Goes w a r (record w { sites = ys })
-local-goes w a i given r o ys k l g h = record {
+pub local-goes : (w : WorldSeen) (a : Act) (i : ℕ) (given : code.SiteInput) (r : Answer) (ys : List SiteSeen) → IsFrame w → is_local a ≡ true → Hands w a i given → StepsAt w.sites i given r ys → Goes w a r (record w { sites = ys })
+local-goes w a i given r ys k l g h = record {
   deployment = refl;
   shown = refl;
-  frame = record { deployment = k.deployment; interest = k.interest; sites = with-sites w i given r o ys h ∙ k.sites; nets = k.nets; planted = k.planted; clients = k.clients };
-  answer = λ s st. told-by w s i given r o ys k st h ∙ sym (g.hands s st).answer;
+  frame = record { deployment = k.deployment; interest = k.interest; sites = with-sites w i given r ys h ∙ k.sites; nets = k.nets; planted = k.planted; clients = k.clients };
+  answer = λ s st. told-by w s i given r ys k st h ∙ sym (g.hands s st).answer;
   stands = λ s st. next-stands w s a r ys w.nets w.clients
-      (stepped w s (world_given w.deployment s a) i given r o ys k st h (g.hands s st).given)
+      (stepped w s (world_given w.deployment s a) i given r ys k st h (g.hands s st).given)
       (no-net w (handling_of w.deployment s a r) s.links s.dead (λ e z. dead_next e z (s.dead e z) a r) k (handles-none w.deployment (λ i. (s.sites i).views.emission) (λ i. (s.sites i).views.view) a r (local-still a l)) (λ e z. kills-none e z (s.dead e z) a r (local-still a l)) st.nets)
       (no-client w.clients s.clients a r (λ c. local-client a c l) st.clients);
-  refused = λ f. λ j. record w { sites = unmoved w.sites ys i given r o h f j };
+  refused = λ f. λ j. record w { sites = unmoved w.sites ys i given r h f j };
 }
 
 -- ---- a client
@@ -92,29 +92,29 @@ pub of-this : (a : Act) (c : ℕ) → of_client a ≡ Some c → is_of a c ≡ t
 of-this a c e = ap (λ (o : Option ℕ). elim o [ None ↦ false | Some n ↦ n == c ]) e ∙ same-number c
 
 -- an act of a client at a site, which makes y of the client x
-pub client-goes : (w : WorldSeen) (a : Act) (c : ℕ) (x y : Client) (i : ℕ) (given : code.SiteInput) (r : Answer) (o : Option Label) (ys : List SiteSeen) (now : List Client) → IsFrame w → is_still a ≡ true → of_client a ≡ Some c → HasClient w c x →
+pub client-goes : (w : WorldSeen) (a : Act) (c : ℕ) (x y : Client) (i : ℕ) (given : code.SiteInput) (r : Answer) (ys : List SiteSeen) (now : List Client) → IsFrame w → is_still a ≡ true → of_client a ≡ Some c → HasClient w c x →
     ((s : ClientState) → StandsClient x s → StandsClient y (client_next c s a r)) → (is_done r ≡ false → y ≡ x) →
-    Hands w a i given → StepsAt w.sites i given r o ys → now ≡ set w.clients c y → Goes w a r (record w { sites = ys; clients = now })
-client-goes w a c x y i given r o ys now k l e at becomes left g h n = record {
+    Hands w a i given → StepsAt w.sites i given r ys → now ≡ set w.clients c y → Goes w a r (record w { sites = ys; clients = now })
+client-goes w a c x y i given r ys now k l e at becomes left g h n = record {
   deployment = refl;
   shown = refl;
-  frame = record { deployment = k.deployment; interest = k.interest; sites = with-sites w i given r o ys h ∙ k.sites; nets = k.nets; planted = k.planted; clients = ap (λ (cl : List Client). length cl) n ∙ (length-set w.clients c y ∙ k.clients) };
-  answer = λ s st. told-by w s i given r o ys k st h ∙ sym (g.hands s st).answer;
+  frame = record { deployment = k.deployment; interest = k.interest; sites = with-sites w i given r ys h ∙ k.sites; nets = k.nets; planted = k.planted; clients = ap (λ (cl : List Client). length cl) n ∙ (length-set w.clients c y ∙ k.clients) };
+  answer = λ s st. told-by w s i given r ys k st h ∙ sym (g.hands s st).answer;
   stands = λ s st. next-stands w s a r ys w.nets now
-      (stepped w s (world_given w.deployment s a) i given r o ys k st h (g.hands s st).given)
+      (stepped w s (world_given w.deployment s a) i given r ys k st h (g.hands s st).given)
       (no-net w (handling_of w.deployment s a r) s.links s.dead (λ e z. dead_next e z (s.dead e z) a r) k (handles-none w.deployment (λ i. (s.sites i).views.emission) (λ i. (s.sites i).views.view) a r l) (λ e z. kills-none e z (s.dead e z) a r l) st.nets)
       (one-client w.clients now s.clients a r c y (λ b ne. of-other a c b e ne) n (becomes (s.clients c) (st.clients c x at)) st.clients);
   refused = λ f. λ j. record w {
-    sites = unmoved w.sites ys i given r o h f j;
+    sites = unmoved w.sites ys i given r h f j;
     clients = (n ∙ (ap (set w.clients c) (left f) ∙ set-same w.clients c x at)) j;
   };
 }
 
 -- a client's write or read at its seat
-pub use-goes : (w : WorldSeen) (a : Act) (c : ℕ) (x : Client) (i : ℕ) (given : code.SiteInput) (r : Answer) (o : Option Label) (ys : List SiteSeen) (now : List Client) → IsFrame w → is_still a ≡ true → of_client a ≡ Some c → HasClient w c x → is_told r ≡ true →
-    Hands w a i given → StepsAt w.sites i given r o ys → now ≡ set w.clients c (told r x) → Goes w a r (record w { sites = ys; clients = now })
-use-goes w a c x i given r o ys now k l e at t g h n =
-    client-goes w a c x (told r x) i given r o ys now k l e at (λ s st. told-client c x s a r (of-this a c e) t st) (λ f. told-none r x t f) g h n
+pub use-goes : (w : WorldSeen) (a : Act) (c : ℕ) (x : Client) (i : ℕ) (given : code.SiteInput) (r : Answer) (ys : List SiteSeen) (now : List Client) → IsFrame w → is_still a ≡ true → of_client a ≡ Some c → HasClient w c x → is_told r ≡ true →
+    Hands w a i given → StepsAt w.sites i given r ys → now ≡ set w.clients c (told r x) → Goes w a r (record w { sites = ys; clients = now })
+use-goes w a c x i given r ys now k l e at t g h n =
+    client-goes w a c x (told r x) i given r ys now k l e at (λ s st. told-client c x s a r (of-this a c e) t st) (λ f. told-none r x t f) g h n
 
 -- ---- refused at once
 
@@ -219,25 +219,25 @@ unfolding world_given world_answer
 turn-hands d s j o e = record { given = λ k. ap (λ (o : Option Label). given_at j k (given.Turn o)) e; answer = ap (λ (o : Option Label). site_answer d j (s.sites j) (given.Turn o)) e }
 
 -- a site takes the front of the link to it, in the net of its view, or leaves it
-pub turn-goes : (w : WorldSeen) (j n : ℕ) (p : Option NetSeen) (r : Answer) (o : Option Label) (ys : List SiteSeen) (nets : List (Option NetSeen)) → IsFrame w → j < w.deployment.sites → ((x : SiteSeen) → slice_get w.sites j ≡ Some x → x.views.view ≡ n + 1) →
-    StepsAt w.sites j (input.Turn (front_to p j)) r o ys → NetAt w.nets n p (net_taken r p j) nets → Goes w (act.Turn j) r (record w { sites = ys; nets = nets })
-turn-goes w j n p r o ys nets k lt view h g = record {
+pub turn-goes : (w : WorldSeen) (j n : ℕ) (p : Option NetSeen) (r : Answer) (ys : List SiteSeen) (nets : List (Option NetSeen)) → IsFrame w → j < w.deployment.sites → ((x : SiteSeen) → slice_get w.sites j ≡ Some x → x.views.view ≡ n + 1) →
+    StepsAt w.sites j (input.Turn (front_to p j)) r ys → NetAt w.nets n p (net_taken r p j) nets → Goes w (act.Turn j) r (record w { sites = ys; nets = nets })
+turn-goes w j n p r ys nets k lt view h g = record {
   deployment = refl;
   shown = refl;
   frame = record {
     deployment = k.deployment;
     interest = k.interest;
-    sites = with-sites w j (input.Turn (front_to p j)) r o ys h ∙ k.sites;
+    sites = with-sites w j (input.Turn (front_to p j)) r ys h ∙ k.sites;
     nets = ap (λ (ns : List (Option NetSeen)). length ns) g.rest ∙ (length-set w.nets n (net_taken r p j) ∙ k.nets);
     planted = planted-at w n p (net_taken r p j) nets k g.at (λ q. planted-taken w.deployment (n + 1) r p j q (is_taking r) refl) g.rest;
     clients = k.clients;
   };
-  answer = λ s st. told-by w s j (input.Turn (front_to p j)) r o ys k st h ∙ sym (hands s st).answer;
+  answer = λ s st. told-by w s j (input.Turn (front_to p j)) r ys k st h ∙ sym (hands s st).answer;
   stands = λ s st. next-stands w s (act.Turn j) r ys nets w.clients
-      (stepped w s (world_given w.deployment s (act.Turn j)) j (input.Turn (front_to p j)) r o ys k st h (hands s st).given)
+      (stepped w s (world_given w.deployment s (act.Turn j)) j (input.Turn (front_to p j)) r ys k st h (hands s st).given)
       (links s st (is_taking r) refl)
       (no-client w.clients s.clients (act.Turn j) r (λ c. refl) st.clients);
-  refused = λ f. λ i. record w { sites = unmoved w.sites ys j (input.Turn (front_to p j)) r o h f i; nets = (same (not-taking r f)) i };
+  refused = λ f. λ i. record w { sites = unmoved w.sites ys j (input.Turn (front_to p j)) r h f i; nets = (same (not-taking r f)) i };
 }
   where
     at : (s : WorldState) → Stands w s → (s.sites j).views.view ≡ n + 1

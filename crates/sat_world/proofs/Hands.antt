@@ -35,7 +35,6 @@ use Rattle.sat_world.proofs.Laws.{each-fits}
 use Rattle.sat_world.specs.Seen.{WorldSeen, HasSite, HasClient}
 use Rattle.sat_world.specs.Stands.{Stands}
 use Rattle.sat_label.specs.declared.label.Kind.TheVariants as kind
-use Rattle.sat_label.specs.declared.label.Label.{Label}
 use Rattle.sat_store.specs.declared.store.Version.{Version}
 use Rattle.sat_gear.specs.Gear.{GearSeen, is_spent, stamped, version_of}
 use Rattle.sat_site.specs.Changes.{gear_at}
@@ -208,13 +207,13 @@ read-tells true (Some gear) n = go (version_of gear n)
     go None = refl
     go (Some v) = refl
 
-pub write-told : (xs ys : List SiteSeen) (i : ℕ) (seen : Carried) (n : ℕ) (value : List ℕ) (r : Answer) (o : Option Label) → StepsAt xs i (input.Write seen n value) r o ys → is_told r ≡ true
+pub write-told : (xs ys : List SiteSeen) (i : ℕ) (seen : Carried) (n : ℕ) (value : List ℕ) (r : Answer) → StepsAt xs i (input.Write seen n value) r ys → is_told r ≡ true
 unfolding site_answers
-write-told xs ys i seen n value r o h = ap is_told h.answers ∙ write-tells (keeps_item h.before n) (slice_get h.before.gears (gear_at h.before n)) seen n
+write-told xs ys i seen n value r h = ap is_told h.answers ∙ write-tells (keeps_item h.before n) (slice_get h.before.gears (gear_at h.before n)) seen n
 
-pub read-told : (xs ys : List SiteSeen) (i : ℕ) (seen : Carried) (n : ℕ) (r : Answer) (o : Option Label) → StepsAt xs i (input.Read seen n) r o ys → is_told r ≡ true
+pub read-told : (xs ys : List SiteSeen) (i : ℕ) (seen : Carried) (n : ℕ) (r : Answer) → StepsAt xs i (input.Read seen n) r ys → is_told r ≡ true
 unfolding site_answers
-read-told xs ys i seen n r o h = ap is_told h.answers ∙ read-tells (keeps_item h.before n) (slice_get h.before.gears (gear_at h.before n)) n
+read-told xs ys i seen n r h = ap is_told h.answers ∙ read-tells (keeps_item h.before n) (slice_get h.before.gears (gear_at h.before n)) n
 
 -- ---- acts at one site
 

@@ -9,11 +9,13 @@ pub mod Goes
 pub mod Sends
 pub mod Hops
 pub mod Finds
+pub mod Handed
 pub mod Hands
 pub mod Beats
 pub mod Seats
 pub mod Deeds
 pub mod Runs
+pub mod Counted
 pub mod Fresh
 pub mod Shown
 pub mod Clocked

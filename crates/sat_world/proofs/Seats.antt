@@ -64,9 +64,9 @@ move-moves false (Some gear) seen j = go (is_spent gear seen.point)
     go true = move_refused why.Spent
     go false = moves (stamped gear seen.point (kind.Move j)) refl (ts-lt seen.point (stamped gear seen.point (kind.Move j)).point (past-max gear.promise seen.point.ts))
 
-move-told : (xs ys : List SiteSeen) (i j : ℕ) (seen : Carried) (r : Answer) (o : Option Label) → StepsAt xs i (input.Move seen j) r o ys → Moves seen j r
+move-told : (xs ys : List SiteSeen) (i j : ℕ) (seen : Carried) (r : Answer) → StepsAt xs i (input.Move seen j) r ys → Moves seen j r
 unfolding site_answers
-move-told xs ys i j seen r o h = subst (Moves seen j) (sym h.answers) (move-moves (j == h.before.shape.site) (slice_get h.before.gears 0) seen j)
+move-told xs ys i j seen r h = subst (Moves seen j) (sym h.answers) (move-moves (j == h.before.shape.site) (slice_get h.before.gears 0) seen j)
 
 -- what it makes of the client is what the machine makes of it
 moved-stands : (c j : ℕ) (x : Client) (s : ClientState) (a : Act) (r : Answer) → is_of a c ≡ true → Moves x.carried j r → StandsClient x s → StandsClient (told r x) (client_next c s a r)
@@ -122,9 +122,9 @@ data Attaches : Answer → Type 0 where
   attach_refused : (y : Refusal) → Attaches (ans.Refused y)
   attaches : Attaches ans.Attached
 
-attach-told : (xs ys : List SiteSeen) (i : ℕ) (seen : Carried) (r : Answer) (o : Option Label) → StepsAt xs i (input.Attach seen) r o ys → Attaches r
+attach-told : (xs ys : List SiteSeen) (i : ℕ) (seen : Carried) (r : Answer) → StepsAt xs i (input.Attach seen) r ys → Attaches r
 unfolding site_answers
-attach-told xs ys i seen r o h = subst Attaches (sym h.answers) (go (may_come_at h.before.proxy.sites (outlook_here h.before.views h.before.proxy) seen h.before.proxy.site))
+attach-told xs ys i seen r h = subst Attaches (sym h.answers) (go (may_come_at h.before.proxy.sites (outlook_here h.before.views h.before.proxy) seen h.before.proxy.site))
   where
     go : (b : Bool) → Attaches (if b then ans.Attached else ans.Refused why.NotYet)
     go true = attaches
@@ -193,13 +193,13 @@ module _ (w v : WorldSeen) (c : ℕ) (x : Client) (e : w ≡ v) (k : IsWorld w) 
   pub move-handed : (i j : ℕ) → x.seat ≡ Some i → Hands w (act.Move c j) i (input.Move x.carried j)
   move-handed i j seat = move-hands w c i j x at seat
 
-  pub may-tell-move : (i j : ℕ) (r : Answer) (o : Option Label) (ys : List SiteSeen) → StepsAt w.sites i (input.Move x.carried j) r o ys → (y : Client) → slice_get w.clients c ≡ Some y → MayTell r y
-  may-tell-move i j r o ys h y there = subst (MayTell r) (both-are (slice_get w.clients c) x y at there) (move-may j x r (move-told w.sites ys i j x.carried r o h))
+  pub may-tell-move : (i j : ℕ) (r : Answer) (ys : List SiteSeen) → StepsAt w.sites i (input.Move x.carried j) r ys → (y : Client) → slice_get w.clients c ≡ Some y → MayTell r y
+  may-tell-move i j r ys h y there = subst (MayTell r) (both-are (slice_get w.clients c) x y at there) (move-may j x r (move-told w.sites ys i j x.carried r h))
 
-  pub did-move : (i j : ℕ) (r : Answer) (o : Option Label) (ys : List SiteSeen) (now : List Client) → x.seat ≡ Some i → StepsAt w.sites i (input.Move x.carried j) r o ys → ((y : Client) → slice_get w.clients c ≡ Some y → now ≡ set w.clients c (told r y)) → Goes w (act.Move c j) r (record w { sites = ys; clients = now })
-  did-move i j r o ys now seat h tells =
-      let m : Moves x.carried j r = move-told w.sites ys i j x.carried r o h in
-      client-goes w (act.Move c j) c x (told r x) i (input.Move x.carried j) r o ys now k.frame refl refl at (λ s st. moved-stands c j x s (act.Move c j) r (same-number c) m st) (moved-none j x x.carried r m) (move-hands w c i j x at seat) h (tells x at)
+  pub did-move : (i j : ℕ) (r : Answer) (ys : List SiteSeen) (now : List Client) → x.seat ≡ Some i → StepsAt w.sites i (input.Move x.carried j) r ys → ((y : Client) → slice_get w.clients c ≡ Some y → now ≡ set w.clients c (told r y)) → Goes w (act.Move c j) r (record w { sites = ys; clients = now })
+  did-move i j r ys now seat h tells =
+      let m : Moves x.carried j r = move-told w.sites ys i j x.carried r h in
+      client-goes w (act.Move c j) c x (told r x) i (input.Move x.carried j) r ys now k.frame refl refl at (λ s st. moved-stands c j x s (act.Move c j) r (same-number c) m st) (moved-none j x x.carried r m) (move-hands w c i j x at seat) h (tells x at)
 
   pub did-not-move : (j : ℕ) → x.seat ≡ None → Goes v (act.Move c j) (ans.Refused why.NoSession) v
   did-not-move j none = subst (λ (v : WorldSeen). Goes v (act.Move c j) (ans.Refused why.NoSession) v) e (quiet-goes w (act.Move c j) why.NoSession k.frame (move-none w c j x at none))
@@ -207,10 +207,10 @@ module _ (w v : WorldSeen) (c : ℕ) (x : Client) (e : w ≡ v) (k : IsWorld w) 
   pub attach-handed : (j : ℕ) → x.seat ≡ None → Hands w (act.Attach c j) j (input.Attach x.carried)
   attach-handed j none = attach-hands w c j x at none
 
-  pub did-attach : (j : ℕ) (r : Answer) (o : Option Label) (ys : List SiteSeen) (now : List Client) → x.seat ≡ None → StepsAt w.sites j (input.Attach x.carried) r o ys → ((y : Client) → slice_get w.clients c ≡ Some y → now ≡ set w.clients c (joined r j y)) → Goes w (act.Attach c j) r (record w { sites = ys; clients = now })
-  did-attach j r o ys now none h tells =
-      let a : Attaches r = attach-told w.sites ys j x.carried r o h in
-      client-goes w (act.Attach c j) c x (joined r j x) j (input.Attach x.carried) r o ys now k.frame refl refl at (λ s st. joined-stands c j x s r a st) (joined-none j x r a) (attach-hands w c j x at none) h (tells x at)
+  pub did-attach : (j : ℕ) (r : Answer) (ys : List SiteSeen) (now : List Client) → x.seat ≡ None → StepsAt w.sites j (input.Attach x.carried) r ys → ((y : Client) → slice_get w.clients c ≡ Some y → now ≡ set w.clients c (joined r j y)) → Goes w (act.Attach c j) r (record w { sites = ys; clients = now })
+  did-attach j r ys now none h tells =
+      let a : Attaches r = attach-told w.sites ys j x.carried r h in
+      client-goes w (act.Attach c j) c x (joined r j x) j (input.Attach x.carried) r ys now k.frame refl refl at (λ s st. joined-stands c j x s r a st) (joined-none j x r a) (attach-hands w c j x at none) h (tells x at)
 
   pub did-not-attach : (i j : ℕ) → x.seat ≡ Some i → Goes v (act.Attach c j) (ans.Refused why.Joined) v
   did-not-attach i j seat = subst (λ (v : WorldSeen). Goes v (act.Attach c j) (ans.Refused why.Joined) v) e (quiet-goes w (act.Attach c j) why.Joined k.frame (attach-none w c i j x at seat))

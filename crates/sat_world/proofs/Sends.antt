@@ -36,7 +36,7 @@ use Rattle.sat_site.specs.declared.input.SiteInput as code
 use Rattle.sat_site.specs.declared.input.SiteInput.TheVariants as input
 use Rattle.sat_site.specs.Seen.{SiteSeen, IsSite, IsMadeHere}
 use Rattle.sat_site.specs.Gives.{IsSent, IsSentOf, label_sent}
-use Rattle.sat_site.specs.SiteSteps.{site_answers, emit_answer, pulse_answer, close_answer, close_label}
+use Rattle.sat_site.specs.SiteSteps.{site_answers, site_sends, emit_answer, pulse_answer, close_answer, close_label}
 use Rattle.sat_site.specs.Stands.{StandsSite}
 use Rattle.sat_world.specs.Seen.{WorldSeen}
 use Rattle.sat_world.specs.Stands.{Stands}
@@ -174,14 +174,14 @@ sends-at x i _ k e = absurd (cc)
 -- ---- the world
 
 module _ (w : WorldSeen) (i n : ℕ) (given : code.SiteInput) (p : Option NetSeen) (r : Answer) (q o : Option Label) (ys : List SiteSeen) (nets : List (Option NetSeen)) (k : IsFrame w) (lt : i < w.deployment.sites) (epoch : (x : SiteSeen) → slice_get w.sites i ≡ Some x → x.views.emission ≡ n + 1) (few : n < length w.deployment.plans)
-    (sending : is_sending (act_at i given) ≡ true) (hands : Hands w (act_at i given) i given) (h : StepsAt w.sites i given r o ys) (sent : Sends i (n + 1) (act_at i given) r q) (away : (l : Label) → q ≡ Some l → l.point.site ≡ h.before.shape.site → is_for h.before.shape.interest l h.before.shape.site ≡ false)
+    (sending : is_sending (act_at i given) ≡ true) (hands : Hands w (act_at i given) i given) (h : StepsAt w.sites i given r ys) (leaves : o ≡ site_sends h.before given) (sent : Sends i (n + 1) (act_at i given) r q) (away : (l : Label) → q ≡ Some l → l.point.site ≡ h.before.shape.site → is_for h.before.shape.interest l h.before.shape.site ≡ false)
     (g : NetAt w.nets n p (net_sent p i o) nets)
   where
     abbrev a : Act
     a = act_at i given
 
     is-sent : IsSentOf h.before.shape h.before.views q o
-    is-sent = subst (λ (q : Option Label). IsSentOf h.before.shape h.before.views q o) (ap label_sent (sym h.answers) ∙ sent-label i (n + 1) a r q sent) (subst (λ (o : Option Label). IsSent h.before.shape h.before.views (site_answers h.before given) o) (sym h.sends) (holds w.sites ys i given r o h).sent)
+    is-sent = subst (λ (q : Option Label). IsSentOf h.before.shape h.before.views q o) (ap label_sent (sym h.answers) ∙ sent-label i (n + 1) a r q sent) (subst (λ (o : Option Label). IsSent h.before.shape h.before.views (site_answers h.before given) o) (sym leaves) (holds w.sites ys i given r h).sent)
 
     same : q ≡ None → nets ≡ w.nets
     same none = g.rest ∙ (ap (λ (o : Option Label). set w.nets n (net_sent p i o)) (subst (λ (q : Option Label). IsSentOf h.before.shape h.before.views q o) none is-sent) ∙ (ap (set w.nets n) (sent-none p i) ∙ set-same w.nets n p g.at))
@@ -214,23 +214,23 @@ module _ (w : WorldSeen) (i n : ℕ) (given : code.SiteInput) (p : Option NetSee
       frame = record {
         deployment = k.deployment;
         interest = k.interest;
-        sites = with-sites w i given r o ys h ∙ k.sites;
+        sites = with-sites w i given r ys h ∙ k.sites;
         nets = ap (λ (ns : List (Option NetSeen)). length ns) g.rest ∙ (length-set w.nets n (net_sent p i o) ∙ k.nets);
         planted = planted-at w n p (net_sent p i o) nets k g.at (λ q. planted-sent w.deployment (n + 1) p i o q) g.rest;
         clients = k.clients;
       };
-      answer = λ s st. told-by w s i given r o ys k st h ∙ sym (hands.hands s st).answer;
+      answer = λ s st. told-by w s i given r ys k st h ∙ sym (hands.hands s st).answer;
       stands = λ s st. next-stands w s a r ys nets w.clients
-          (stepped w s (world_given w.deployment s a) i given r o ys k st h (hands.hands s st).given)
+          (stepped w s (world_given w.deployment s a) i given r ys k st h (hands.hands s st).given)
           (links s st q refl)
           (no-client w.clients s.clients a r (λ c. no-client-sends a c sending) st.clients);
-      refused = λ f. λ j. record w { sites = unmoved w.sites ys i given r o h f j; nets = same (sent-not i (n + 1) a r q sent f) j };
+      refused = λ f. λ j. record w { sites = unmoved w.sites ys i given r h f j; nets = same (sent-not i (n + 1) a r q sent f) j };
     }
 
 -- a site sends, and what it sends enters the net of its emission epoch
 pub send-goes : (w : WorldSeen) (i n : ℕ) (given : code.SiteInput) (p : Option NetSeen) (r : Answer) (o : Option Label) (ys : List SiteSeen) (nets : List (Option NetSeen)) → IsFrame w → i < w.deployment.sites → ((x : SiteSeen) → slice_get w.sites i ≡ Some x → x.views.emission ≡ n + 1) → n < length w.deployment.plans →
-    is_sending (act_at i given) ≡ true → Hands w (act_at i given) i given → StepsAt w.sites i given r o ys → NetAt w.nets n p (net_sent p i o) nets → Goes w (act_at i given) r (record w { sites = ys; nets = nets })
-send-goes w i n given p r o ys nets k lt epoch few sending hands h g =
+    is_sending (act_at i given) ≡ true → Hands w (act_at i given) i given → (h : StepsAt w.sites i given r ys) → o ≡ site_sends h.before given → NetAt w.nets n p (net_sent p i o) nets → Goes w (act_at i given) r (record w { sites = ys; nets = nets })
+send-goes w i n given p r o ys nets k lt epoch few sending hands h leaves g =
     let y : SendsAt h.before i (act_at i given) (site_answers h.before given) = sends-at h.before i given h.sound sending in
     let sent : Sends i (n + 1) (act_at i given) r y.label = subst (λ (r : Answer). Sends i (n + 1) (act_at i given) r y.label) (sym h.answers) (subst (λ (e : ℕ). Sends i e (act_at i given) (site_answers h.before given) y.label) (epoch h.before h.at) y.sends) in
-    goes w i n given p r y.label o ys nets k lt epoch few sending hands h sent y.away g
+    goes w i n given p r y.label o ys nets k lt epoch few sending hands h leaves sent y.away g

@@ -27,8 +27,9 @@ use Rattle.sat_site.specs.declared.input.SiteInput as code
 use Rattle.sat_site.specs.declared.input.SiteInput.TheVariants as input
 use Rattle.sat_site.specs.Seen.{SiteSeen, IsSite}
 use Rattle.sat_site.specs.Inputs.{input_of, fits_in, is_sized}
-use Rattle.sat_site.specs.SiteSteps.{site_answers, site_sends, site_after}
+use Rattle.sat_site.specs.SiteSteps.{site_answers, site_after}
 use Rattle.sat_site.specs.Stands.{StandsSite}
+use Rattle.sat_world.specs.Counts.{counted}
 use Rattle.sat_world.specs.Seen.{WorldSeen, HasSite}
 use Rattle.sat_world.specs.Stands.{Stands}
 use Rattle.sat_world.specs.Worlds.{IsFrame}
@@ -43,16 +44,20 @@ pub record Goes (w : WorldSeen) (a : Act) (r : Answer) (v : WorldSeen) : Type 0 
   pub stands : (s : WorldState) → Stands w s → Stands v (world_next w.deployment s a r)
   pub refused : is_done r ≡ false → v ≡ w
 
+-- and what was shown is counted
+pub record Counts (w : WorldSeen) (a : Act) (r : Answer) (v : WorldSeen) : Type 0 where
+  pub goes : Goes w a r (record v { shown = w.shown })
+  pub shown : v.shown ≡ counted r w.shown
+
 -- ---- one site
 
--- site i is handed something, answers it, sends a label or none, and becomes another site
-pub record StepsAt (xs : List SiteSeen) (i : ℕ) (input : code.SiteInput) (r : Answer) (o : Option Label) (ys : List SiteSeen) : Type 0 where
+-- site i is handed something, answers it, and becomes another site
+pub record StepsAt (xs : List SiteSeen) (i : ℕ) (input : code.SiteInput) (r : Answer) (ys : List SiteSeen) : Type 0 where
   pub before : SiteSeen
   pub at : slice_get xs i ≡ Some before
   pub sound : IsSite before
   pub fits : fits_in before input ≡ true
   pub answers : r ≡ site_answers before input
-  pub sends : o ≡ site_sends before input
   pub rest : ys ≡ set xs i (site_after before input)
 
 -- the machine hands this to site i in an act, to no other site anything, and answers what the site does

@@ -8,9 +8,10 @@ ghost use Rattle.sat_site.specs.SiteSteps.{write_refusal};
 ghost use Rattle.sat_world.specs.Steps.{StepsAt, told, joined, IsNumber, MayTell};
 
 use sat_act::{Answer, Refusal};
+use sat_bulk::Payload;
 use sat_client::Client;
-use sat_label::Carried;
-use sat_site::{Site, SiteInput, SiteOutput};
+use sat_label::{Carried, Label, Value};
+use sat_site::{Site, SiteInput};
 use std::alloc::AllocError;
 
 /// What is true of a site.
@@ -20,22 +21,90 @@ pub fn sound(site: &Site)
     let _ = site.view();
 }
 
-/// Hands a site something that fits. For want of memory the sites are as before.
-pub fn step_at(
-    sites: &mut Vec<Site>,
-    place: u16,
-    input: SiteInput,
-) -> Result<SiteOutput, AllocError>
+/// Hands a site something that fits, and tells its answer. For want of memory the sites are as before.
+pub fn step_at(sites: &mut Vec<Site>, place: u16, input: SiteInput) -> Result<Answer, AllocError>
     requires within { place < length sites.old.items }
     requires fits { (x : SiteSeen) → slice_get sites.old.items place ≡ Some x → IsSite x → fits_in x input ≡ true }
-    ensures ok { IfOk result (λ out. StepsAt sites.old.items place input out.answer out.sent sites.new.items) }
+    ensures ok { IfOk result (λ answer. StepsAt sites.old.items place input answer sites.new.items) }
     ensures spare { takes_none input ≡ true → IsOk result }
     ensures err { OnErr result (sites.new.items ≡ sites.old.items) }
 {
     let site = &mut sites[place as usize];
     sound(site);
-    let out = site.step(input)?;
-    Ok(out)
+    let answer = site.act(input)?;
+    Ok(answer)
+}
+
+/// Raises the promise of a gear of a site, and tells it.
+pub fn tick_at(sites: &mut Vec<Site>, place: u16, gear: u16, ts: u64) -> Answer
+    requires within { place < length sites.old.items }
+    requires fits { (x : SiteSeen) → slice_get sites.old.items place ≡ Some x → IsSite x → fits_in x (SiteInput.Tick gear ts) ≡ true }
+    ensures { StepsAt sites.old.items place (SiteInput.Tick gear ts) result sites.new.items }
+{
+    let site = &mut sites[place as usize];
+    sound(site);
+    Answer::Ticked(site.tick(gear, ts))
+}
+
+/// Hands a site a client's write. For want of memory the sites are as before.
+pub fn write_at(
+    sites: &mut Vec<Site>,
+    place: u16,
+    carried: Carried,
+    item: u16,
+    value: Value,
+) -> Result<Answer, AllocError>
+    requires within { place < length sites.old.items }
+    requires fits { (x : SiteSeen) → slice_get sites.old.items place ≡ Some x → IsSite x → fits_in x (SiteInput.Write carried item value) ≡ true }
+    ensures ok { IfOk result (λ answer. StepsAt sites.old.items place (SiteInput.Write carried item value) answer sites.new.items) }
+    ensures err { OnErr result (sites.new.items ≡ sites.old.items) }
+{
+    let site = &mut sites[place as usize];
+    sound(site);
+    let answer = site.write(carried, item, value)?;
+    Ok(answer)
+}
+
+/// Lets a site emit.
+pub fn emit_at(sites: &mut Vec<Site>, place: u16) -> Answer
+    requires within { place < length sites.old.items }
+    requires fits { (x : SiteSeen) → slice_get sites.old.items place ≡ Some x → IsSite x → fits_in x SiteInput.Emit ≡ true }
+    ensures { StepsAt sites.old.items place SiteInput.Emit result sites.new.items }
+{
+    let site = &mut sites[place as usize];
+    sound(site);
+    site.emit()
+}
+
+/// Hands a site the front of the link to it.
+pub fn turn_at(sites: &mut Vec<Site>, place: u16, front: Option<Label>) -> Answer
+    requires within { place < length sites.old.items }
+    requires fits { (x : SiteSeen) → slice_get sites.old.items place ≡ Some x → IsSite x → fits_in x (SiteInput.Turn front) ≡ true }
+    ensures { StepsAt sites.old.items place (SiteInput.Turn front) result sites.new.items }
+{
+    let site = &mut sites[place as usize];
+    sound(site);
+    site.turn(front)
+}
+
+/// Hands a site a payload. For want of memory the sites are as before.
+pub fn bulk_at(
+    sites: &mut Vec<Site>,
+    place: u16,
+    from: u16,
+    gear: u16,
+    number: u64,
+    payload: Payload,
+) -> Result<Answer, AllocError>
+    requires within { place < length sites.old.items }
+    requires fits { (x : SiteSeen) → slice_get sites.old.items place ≡ Some x → IsSite x → fits_in x (SiteInput.Bulk from gear number payload) ≡ true }
+    ensures ok { IfOk result (λ answer. StepsAt sites.old.items place (SiteInput.Bulk from gear number payload) answer sites.new.items) }
+    ensures err { OnErr result (sites.new.items ≡ sites.old.items) }
+{
+    let site = &mut sites[place as usize];
+    sound(site);
+    let answer = site.bulk(from, gear, number, payload)?;
+    Ok(answer)
 }
 
 /// The number of a payload at its receiver: the one that is asked for, or else that of the next of its lane.

@@ -10,7 +10,7 @@ ghost use Rattle.sat_act.specs.Parts.{view, emission, in_stamp_mode, waiting, ve
 ghost use Rattle.sat_world.specs.TakesNone.{takes_none};
 ghost use Rattle.sat_world.specs.Counts.{counted, shown_count};
 ghost use Rattle.sat_world.specs.Underway.{underway};
-ghost use Rattle.sat_world.specs.Steps.{act_at, is_local, is_sending, Goes};
+ghost use Rattle.sat_world.specs.Steps.{act_at, is_local, is_sending, Counts, Goes};
 ghost use Rattle.sat_world.specs.Worlds.{IsWorld};
 ghost use Rattle.sat_world.specs.Shows.{IsVersion};
 ghost use Rattle.sat_world.specs.Stands.{StandsFor};
@@ -89,9 +89,7 @@ impl World {
         ensures deployment { self.new.deployment ≡ self.old.deployment }
         ensures err { OnErr result (self.new ≡ self.old) }
     {
-        let answer = self.step(act)?;
-        self.shown = more_shown(self.shown, &answer);
-        Ok(answer)
+        self.step(act)
     }
 
     /// The deployment.
@@ -155,25 +153,19 @@ impl World {
         underway::in_lanes(&self.sites, sites, gears).saturating_add(underway::on_links(&self.nets))
     }
 
-    // Does an act, and leaves its answer to be counted. The calls below do one kind of act each.
+    // Does an act, and counts its answer. The calls below do one kind of act each; of these a turn and a stamp count what they show.
     fn step(&mut self, act: &Act) -> Result<Answer, AllocError>
         requires act { IsActOf self.old.deployment act.now }
         requires plain { is_settle act.now ≡ false }
-        ensures goes { IfOk result (λ r. Goes self.old act.now r self.new) }
+        ensures counts { IfOk result (λ r. Counts self.old act.now r self.new) }
         ensures world { IsWorld self.old }
         ensures spare { takes_none act.now ≡ true → IsOk result }
         ensures err { OnErr result (self.new ≡ self.old) }
     {
         let _ = &self.deployment;
         match act {
-            Act::Tick { site, gear, ts } => self.local(
-                *site,
-                SiteInput::Tick {
-                    gear: *gear,
-                    ts: *ts,
-                },
-            ),
-            Act::Clock => Ok(self.clock()),
+            Act::Tick { site, gear, ts } => self.tick(*site, *gear, *ts),
+            Act::Clock => self.clock(),
             Act::Write {
                 client,
                 item,
@@ -181,11 +173,11 @@ impl World {
             } => self.write(*client, *item, value),
             Act::Read { client, item } => self.read(*client, *item),
             Act::Move { client, site } => self.migrate(*client, *site),
-            Act::Leave { client } => Ok(self.leave(*client)),
+            Act::Leave { client } => self.leave(*client),
             Act::Attach { client, site } => self.attach(*client, *site),
-            Act::Gather { site } => self.local(*site, SiteInput::Gather),
-            Act::Emit { site } => self.sending(*site, SiteInput::Emit),
-            Act::Pulse { site } => self.sending(*site, SiteInput::Pulse),
+            Act::Gather { site } => self.gather(*site),
+            Act::Emit { site } => self.emit(*site),
+            Act::Pulse { site } => self.pulse(*site),
             Act::Hop { epoch, from, to } => self.hop(*epoch, *from, *to),
             Act::Turn { site } => self.turn(*site),
             Act::Bulk {
@@ -194,15 +186,81 @@ impl World {
                 to,
                 number,
             } => self.bulk(*from, *gear, *to, *number),
-            Act::Beat { from, to } => self.local(*from, SiteInput::Beat { to: *to }),
+            Act::Beat { from, to } => self.beat(*from, *to),
             Act::BeatIn { from, to, number } => self.beat_in(*from, *to, *number),
-            Act::Stamp { site } => self.local(*site, SiteInput::Stamp),
-            Act::Close { site } => self.sending(*site, SiteInput::Close),
-            Act::Fall { site } => self.local(*site, SiteInput::Fall),
-            Act::Advance { site } => self.local(*site, SiteInput::Advance),
-            Act::Kill { epoch, serializer } => Ok(self.kill(*epoch, *serializer)),
+            Act::Stamp { site } => self.stamp(*site),
+            Act::Close { site } => self.close(*site),
+            Act::Fall { site } => self.fall(*site),
+            Act::Advance { site } => self.advance(*site),
+            Act::Kill { epoch, serializer } => self.kill(*epoch, *serializer),
             Act::Settle => unreachable!(),
         }
+    }
+
+    fn tick(&mut self, site: u16, gear: u16, ts: u64) -> Result<Answer, AllocError>
+        requires { IsActOf self.old.deployment (Act.Tick site gear ts) }
+        ensures goes { IfOk result (λ r. Goes self.old (Act.Tick site gear ts) r self.new) }
+        ensures fine { IsOk result }
+    {
+        Ok(places::tick_at(&mut self.sites, site, gear, ts))
+    }
+
+    fn gather(&mut self, site: u16) -> Result<Answer, AllocError>
+        requires { IsActOf self.old.deployment (Act.Gather site) }
+        ensures goes { IfOk result (λ r. Goes self.old (Act.Gather site) r self.new) }
+        ensures err { OnErr result (self.new ≡ self.old) }
+    {
+        self.local(site, SiteInput::Gather)
+    }
+
+    fn beat(&mut self, from: u16, to: u16) -> Result<Answer, AllocError>
+        requires { IsActOf self.old.deployment (Act.Beat from to) }
+        ensures goes { IfOk result (λ r. Goes self.old (Act.Beat from to) r self.new) }
+        ensures err { OnErr result (self.new ≡ self.old) }
+    {
+        self.local(from, SiteInput::Beat { to })
+    }
+
+    fn fall(&mut self, site: u16) -> Result<Answer, AllocError>
+        requires { IsActOf self.old.deployment (Act.Fall site) }
+        ensures goes { IfOk result (λ r. Goes self.old (Act.Fall site) r self.new) }
+        ensures fine { IsOk result }
+    {
+        self.local(site, SiteInput::Fall)
+    }
+
+    fn advance(&mut self, site: u16) -> Result<Answer, AllocError>
+        requires { IsActOf self.old.deployment (Act.Advance site) }
+        ensures goes { IfOk result (λ r. Goes self.old (Act.Advance site) r self.new) }
+        ensures fine { IsOk result }
+    {
+        self.local(site, SiteInput::Advance)
+    }
+
+    fn stamp(&mut self, site: u16) -> Result<Answer, AllocError>
+        requires { IsActOf self.old.deployment (Act.Stamp site) }
+        ensures counts { IfOk result (λ r. Counts self.old (Act.Stamp site) r self.new) }
+        ensures fine { IsOk result }
+    {
+        let answer = self.local(site, SiteInput::Stamp)?;
+        self.shown = more_shown(self.shown, &answer);
+        Ok(answer)
+    }
+
+    fn pulse(&mut self, site: u16) -> Result<Answer, AllocError>
+        requires { site < self.old.deployment.sites }
+        ensures goes { IfOk result (λ r. Goes self.old (Act.Pulse site) r self.new) }
+        ensures err { OnErr result (self.new ≡ self.old) }
+    {
+        self.sending(site, SiteInput::Pulse)
+    }
+
+    fn close(&mut self, site: u16) -> Result<Answer, AllocError>
+        requires { site < self.old.deployment.sites }
+        ensures goes { IfOk result (λ r. Goes self.old (Act.Close site) r self.new) }
+        ensures err { OnErr result (self.new ≡ self.old) }
+    {
+        self.sending(site, SiteInput::Close)
     }
 
     // An act that changes one site and nothing else.
@@ -213,17 +271,18 @@ impl World {
         ensures spare { takes_none (act_at site input) ≡ true → IsOk result }
         ensures err { OnErr result (self.new ≡ self.old) }
     {
-        let out = places::step_at(&mut self.sites, site, input)?;
-        Ok(out.answer)
+        let answer = places::step_at(&mut self.sites, site, input)?;
+        Ok(answer)
     }
 
-    fn clock(&mut self) -> Answer
-        ensures { Goes self.old Act.Clock result self.new }
+    fn clock(&mut self) -> Result<Answer, AllocError>
+        ensures goes { IfOk result (λ r. Goes self.old Act.Clock r self.new) }
+        ensures fine { IsOk result }
     {
         let gears = self.deployment.gears();
         let ts = clocks::greatest(&self.sites, gears);
         clocks::raise(&mut self.sites, ts);
-        Answer::Clocked(ts)
+        Ok(Answer::Clocked(ts))
     }
 
     fn write(&mut self, client: u16, item: u16, value: &Value) -> Result<Answer, AllocError>
@@ -239,14 +298,10 @@ impl World {
         if let Some(refusal) = refusal {
             return Ok(Answer::Refused(refusal));
         }
-        let input = SiteInput::Write {
-            carried: known.carried,
-            item,
-            value: value.copy()?,
-        };
-        let out = places::step_at(&mut self.sites, seat, input)?;
-        places::tell_at(&mut self.clients, client, &out.answer);
-        Ok(out.answer)
+        let value = value.copy()?;
+        let answer = places::write_at(&mut self.sites, seat, known.carried, item, value)?;
+        places::tell_at(&mut self.clients, client, &answer);
+        Ok(answer)
     }
 
     fn read(&mut self, client: u16, item: u16) -> Result<Answer, AllocError>
@@ -262,9 +317,9 @@ impl World {
             carried: known.carried,
             item,
         };
-        let out = places::step_at(&mut self.sites, seat, input)?;
-        places::tell_at(&mut self.clients, client, &out.answer);
-        Ok(out.answer)
+        let answer = places::step_at(&mut self.sites, seat, input)?;
+        places::tell_at(&mut self.clients, client, &answer);
+        Ok(answer)
     }
 
     fn migrate(&mut self, client: u16, to: u16) -> Result<Answer, AllocError>
@@ -280,21 +335,22 @@ impl World {
             carried: known.carried,
             to,
         };
-        let out = places::step_at(&mut self.sites, seat, input)?;
-        places::tell_at(&mut self.clients, client, &out.answer);
-        Ok(out.answer)
+        let answer = places::step_at(&mut self.sites, seat, input)?;
+        places::tell_at(&mut self.clients, client, &answer);
+        Ok(answer)
     }
 
-    fn leave(&mut self, client: u16) -> Answer
+    fn leave(&mut self, client: u16) -> Result<Answer, AllocError>
         requires { client < length self.old.deployment.clients }
-        ensures { Goes self.old (Act.Leave client) result self.new }
+        ensures goes { IfOk result (λ r. Goes self.old (Act.Leave client) r self.new) }
+        ensures fine { IsOk result }
     {
         let known = self.clients[client as usize];
         let Some(_) = known.seat else {
-            return Answer::Refused(Refusal::NoSession);
+            return Ok(Answer::Refused(Refusal::NoSession));
         };
         places::leave_at(&mut self.clients, client);
-        Answer::Left(known.carried.point)
+        Ok(Answer::Left(known.carried.point))
     }
 
     fn attach(&mut self, client: u16, site: u16) -> Result<Answer, AllocError>
@@ -309,9 +365,9 @@ impl World {
         let input = SiteInput::Attach {
             carried: known.carried,
         };
-        let out = places::step_at(&mut self.sites, site, input)?;
-        places::join_at(&mut self.clients, client, site, &out.answer);
-        Ok(out.answer)
+        let answer = places::step_at(&mut self.sites, site, input)?;
+        places::join_at(&mut self.clients, client, site, &answer);
+        Ok(answer)
     }
 
     // An act at a site that may send a label, in its emission epoch as it is before the act. What is sent is on its way before the
@@ -326,8 +382,21 @@ impl World {
         let epoch = known.view().emission;
         let sent = known.sends(&input);
         nets::send_at(&mut self.nets, epoch as usize - 1, site, sent)?;
-        let out = places::step_at(&mut self.sites, site, input)?;
-        Ok(out.answer)
+        let answer = places::step_at(&mut self.sites, site, input)?;
+        Ok(answer)
+    }
+
+    // What is emitted is on its way before the site has sent it, as above.
+    fn emit(&mut self, site: u16) -> Result<Answer, AllocError>
+        requires { site < self.old.deployment.sites }
+        ensures goes { IfOk result (λ r. Goes self.old (Act.Emit site) r self.new) }
+        ensures err { OnErr result (self.new ≡ self.old) }
+    {
+        let known = &self.sites[site as usize];
+        let epoch = known.view().emission;
+        let sent = known.sends(&SiteInput::Emit);
+        nets::send_at(&mut self.nets, epoch as usize - 1, site, sent)?;
+        Ok(places::emit_at(&mut self.sites, site))
     }
 
     fn hop(&mut self, epoch: u16, from: NodeId, to: u16) -> Result<Answer, AllocError>
@@ -342,15 +411,16 @@ impl World {
 
     fn turn(&mut self, site: u16) -> Result<Answer, AllocError>
         requires { site < self.old.deployment.sites }
-        ensures goes { IfOk result (λ r. Goes self.old (Act.Turn site) r self.new) }
+        ensures counts { IfOk result (λ r. Counts self.old (Act.Turn site) r self.new) }
         ensures fine { IsOk result }
     {
         let known = &self.sites[site as usize];
         let place = known.view().view as usize - 1;
         let front = nets::front_at(&self.nets, place, site);
-        let out = places::step_at(&mut self.sites, site, SiteInput::Turn { front })?;
-        nets::take_at(&mut self.nets, place, site, &out.answer);
-        Ok(out.answer)
+        let answer = places::turn_at(&mut self.sites, site, front);
+        nets::take_at(&mut self.nets, place, site, &answer);
+        self.shown = more_shown(self.shown, &answer);
+        Ok(answer)
     }
 
     // A payload of a lane. No memory holds payloads whose number has more than 63 bits.
@@ -375,14 +445,8 @@ impl World {
             return Err(AllocError);
         }
         let payload = payload.copy()?;
-        let input = SiteInput::Bulk {
-            from,
-            gear,
-            number,
-            payload,
-        };
-        let out = places::step_at(&mut self.sites, to, input)?;
-        Ok(out.answer)
+        let answer = places::bulk_at(&mut self.sites, to, from, gear, number, payload)?;
+        Ok(answer)
     }
 
     // A beat that a site made for another one. No memory holds beats whose number has more than 63 bits.
@@ -400,14 +464,15 @@ impl World {
         }
         let beat = beat.copy()?;
         let input = SiteInput::BeatIn { from, number, beat };
-        let out = places::step_at(&mut self.sites, to, input)?;
-        Ok(out.answer)
+        let answer = places::step_at(&mut self.sites, to, input)?;
+        Ok(answer)
     }
 
-    fn kill(&mut self, epoch: u16, serializer: u16) -> Answer
+    fn kill(&mut self, epoch: u16, serializer: u16) -> Result<Answer, AllocError>
         requires { IsActOf self.old.deployment (Act.Kill epoch serializer) }
-        ensures { Goes self.old (Act.Kill epoch serializer) result self.new }
+        ensures goes { IfOk result (λ r. Goes self.old (Act.Kill epoch serializer) r self.new) }
+        ensures fine { IsOk result }
     {
-        nets::kill_at(&mut self.nets, epoch as usize - 1, serializer)
+        Ok(nets::kill_at(&mut self.nets, epoch as usize - 1, serializer))
     }
 }

@@ -1,9 +1,15 @@
-use Rattle.std.proofs.Common.{sym, ap, ◌∙◌}
+use Rattle.std.proofs.Common.{sym, subst, ap, ◌∙◌}
+use Rattle.sat_gear.proofs.Gears.{each-lane}
+use Rattle.sat_proxy.proofs.Answering.{each-answers}
+use Rattle.sat_proxy.proofs.Following.{each-follows}
 use Rattle.sat_site.specs.Does.{reading, writing}
+use Rattle.sat_site.specs.Seen.{IsSite}
 use Rattle.sat_site.specs.SiteSteps.{site_after, site_answers}
 use Rattle.sat_site.proofs.Acted.{does-after, does-answer, done-after, done-answer, ok-after, ok-answer}
 use Rattle.sat_site.proofs.Deeds.{given-fits, ok-map}
 use Rattle.sat_site.proofs.Fitting.{fits-attach, fits-beat, fits-beat-in, fits-bulk, fits-move, fits-read, fits-tick, fits-turn, fits-write}
+use Rattle.sat_site.proofs.Step.{undone, undone-ok}
+use Rattle.sat_site.proofs.Steps.{each-step}
 use Rattle.sat_site.proofs.site.Site.act.Goals as goal
 
 pub tick-requires-clause-gear : goal.tick-requires-clause-gear
@@ -156,3 +162,22 @@ returns-in-Advance-clause-answer c = c.advance.ensures.answer ∙ ap (site_answe
 pub returns-in-Advance-clause-after : goal.returns-in-Advance-clause-after
 unfolding site_after
 returns-in-Advance-clause-after c = c.advance.ensures.after ∙ ap (site_after c.args.self.now) (sym c.in-Advance.is)
+
+pub returns-in-Write-clause-refused : goal.returns-in-Write-clause-refused
+returns-in-Write-clause-refused c = undone-ok _ _ _ c.write.result (each-step each-lane each-answers each-follows) (subst IsSite c.self.view_is c.self.invariant) c.requires
+    (done-answer _ c.write.new.self _ _ c.write.result c.in-Write.is (ok-map c.write.result (λ answer w. writing w) c.write.ensures.writes))
+    (done-after _ c.write.new.self _ _ c.write.result c.in-Write.is (ok-map c.write.result (λ answer w. writing w) c.write.ensures.writes))
+
+pub returns-in-Gather-clause-refused : goal.returns-in-Gather-clause-refused
+returns-in-Gather-clause-refused c = undone-ok _ _ _ c.gather.result (each-step each-lane each-answers each-follows) (subst IsSite c.self.view_is c.self.invariant) c.requires
+    (done-answer _ _ _ _ c.gather.result c.in-Gather.is c.gather.ensures.does) (done-after _ _ _ _ c.gather.result c.in-Gather.is c.gather.ensures.does)
+
+pub returns-in-Move-clause-refused : goal.returns-in-Move-clause-refused
+unfolding site_answers site_after
+returns-in-Move-clause-refused c = undone-ok _ _ _ c.move_to.result (each-step each-lane each-answers each-follows) (subst IsSite c.self.view_is c.self.invariant) c.requires
+    (ok-answer c.args.self.now _ _ c.move_to.result c.in-Move.is c.move_to.ensures.answer) (ok-after c.args.self.now _ _ _ c.move_to.result c.in-Move.is c.move_to.ensures.after)
+
+pub returns-in-Turn-clause-refused : goal.returns-in-Turn-clause-refused
+unfolding site_answers site_after
+returns-in-Turn-clause-refused c = undone _ _ _ _ (each-step each-lane each-answers each-follows) (subst IsSite c.self.view_is c.self.invariant) c.requires
+    (c.turn.ensures.answer ∙ ap (site_answers c.args.self.now) (sym c.in-Turn.is)) (c.turn.ensures.after ∙ ap (site_after c.args.self.now) (sym c.in-Turn.is))

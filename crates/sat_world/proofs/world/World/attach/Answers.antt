@@ -11,7 +11,7 @@ pub step_at-requires-clause-fits : goal.step_at-requires-clause-fits
 step_at-requires-clause-fits c = fit-here _ _ _ _ _ c.self.view_is c.self.invariant c.requires (attach-handed _ _ _ _ c.self.view_is c.self.invariant c.requires.0 c.index-known.ensures _ c.in-None.is)
 
 pub invariant_of-self-2 : goal.invariant_of-self-2
-invariant_of-self-2 c = stays _ _ _ _ _ c.self.view_is c.self.invariant c.requires refl (did-attach _ _ _ _ c.self.view_is c.self.invariant c.requires.0 c.index-known.ensures _ _ _ _ _ c.in-None.is c.in_ok-out.ensures.ok c.join_at.ensures)
+invariant_of-self-2 c = stays _ _ _ _ _ c.self.view_is c.self.invariant c.requires refl (did-attach _ _ _ _ c.self.view_is c.self.invariant c.requires.0 c.index-known.ensures _ _ _ _ c.in-None.is c.in_ok-answer.ensures.ok c.join_at.ensures)
 
 pub returns-clause-goes : goal.returns-clause-goes
-returns-clause-goes c = seen-as _ _ _ _ _ c.self.view_is (did-attach _ _ _ _ c.self.view_is c.self.invariant c.requires.0 c.index-known.ensures _ _ _ _ _ c.in-None.is c.in_ok-out.ensures.ok c.join_at.ensures)
+returns-clause-goes c = seen-as _ _ _ _ _ c.self.view_is (did-attach _ _ _ _ c.self.view_is c.self.invariant c.requires.0 c.index-known.ensures _ _ _ _ c.in-None.is c.in_ok-answer.ensures.ok c.join_at.ensures)

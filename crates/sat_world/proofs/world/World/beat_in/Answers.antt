@@ -18,8 +18,8 @@ step_at-requires-clause-fits c = fit-here _ _ _ _ _ c.self.view_is c.self.invari
 
 pub invariant_of-self-2 : goal.invariant_of-self-2
 invariant_of-self-2 c = stays _ _ _ _ _ c.self.view_is c.self.invariant c.requires refl
-    (local-goes _ _ _ _ _ _ _ c.self.invariant.frame refl (beat-handed _ _ _ _ _ _ _ _ c.self.view_is c.self.invariant c.requires.0.0 c.requires.0.1 c.index-sender.ensures c.in-Some.ensures.sound c.in-Some.ensures.beat c.in_ok-beat.ensures c.if-number.false) c.in_ok-out.ensures.ok)
+    (local-goes _ _ _ _ _ _ c.self.invariant.frame refl (beat-handed _ _ _ _ _ _ _ _ c.self.view_is c.self.invariant c.requires.0.0 c.requires.0.1 c.index-sender.ensures c.in-Some.ensures.sound c.in-Some.ensures.beat c.in_ok-beat.ensures c.if-number.false) c.in_ok-answer.ensures.ok)
 
 pub returns-clause-goes : goal.returns-clause-goes
 returns-clause-goes c = seen-as _ _ _ _ _ c.self.view_is
-    (local-goes _ _ _ _ _ _ _ c.self.invariant.frame refl (beat-handed _ _ _ _ _ _ _ _ c.self.view_is c.self.invariant c.requires.0.0 c.requires.0.1 c.index-sender.ensures c.in-Some.ensures.sound c.in-Some.ensures.beat c.in_ok-beat.ensures c.if-number.false) c.in_ok-out.ensures.ok)
+    (local-goes _ _ _ _ _ _ c.self.invariant.frame refl (beat-handed _ _ _ _ _ _ _ _ c.self.view_is c.self.invariant c.requires.0.0 c.requires.0.1 c.index-sender.ensures c.in-Some.ensures.sound c.in-Some.ensures.beat c.in_ok-beat.ensures c.if-number.false) c.in_ok-answer.ensures.ok)

@@ -20,14 +20,14 @@ payload-requires-clause-site c = lane-site _ _ _ _ _ c.self.view_is c.self.invar
 pub returns-in_default-clause-goes : goal.returns-in_default-clause-goes
 returns-in_default-clause-goes c = did-not-bulk _ _ _ _ _ _ _ _ _ c.self.view_is c.self.invariant c.requires.0.0 c.requires.0.1 c.index-sender.ensures c.index-receiver.ensures c.payload_number-number.ensures.number c.in_default.ensures.payload
 
-pub step_at-requires-clause-fits : goal.step_at-requires-clause-fits
-step_at-requires-clause-fits c = fit-here _ _ _ _ _ c.self.view_is c.self.invariant c.requires
+pub bulk_at-requires-clause-fits : goal.bulk_at-requires-clause-fits
+bulk_at-requires-clause-fits c = fit-here _ _ _ _ _ c.self.view_is c.self.invariant c.requires
     (bulk-handed _ _ _ _ _ _ _ _ _ _ _ c.self.view_is c.self.invariant c.requires.0.0 c.requires.0.1 c.index-sender.ensures c.index-receiver.ensures c.payload_number-number.ensures.number c.in-Some.ensures.payload c.in_ok-payload.ensures c.if-number.false)
 
 pub invariant_of-self-2 : goal.invariant_of-self-2
 invariant_of-self-2 c = stays _ _ _ _ _ c.self.view_is c.self.invariant c.requires refl
-    (local-goes _ _ _ _ _ _ _ c.self.invariant.frame refl (bulk-handed _ _ _ _ _ _ _ _ _ _ _ c.self.view_is c.self.invariant c.requires.0.0 c.requires.0.1 c.index-sender.ensures c.index-receiver.ensures c.payload_number-number.ensures.number c.in-Some.ensures.payload c.in_ok-payload.ensures c.if-number.false) c.in_ok-out.ensures.ok)
+    (local-goes _ _ _ _ _ _ c.self.invariant.frame refl (bulk-handed _ _ _ _ _ _ _ _ _ _ _ c.self.view_is c.self.invariant c.requires.0.0 c.requires.0.1 c.index-sender.ensures c.index-receiver.ensures c.payload_number-number.ensures.number c.in-Some.ensures.payload c.in_ok-payload.ensures c.if-number.false) c.in_ok-answer.ensures.ok)
 
 pub returns-clause-goes : goal.returns-clause-goes
 returns-clause-goes c = seen-as _ _ _ _ _ c.self.view_is
-    (local-goes _ _ _ _ _ _ _ c.self.invariant.frame refl (bulk-handed _ _ _ _ _ _ _ _ _ _ _ c.self.view_is c.self.invariant c.requires.0.0 c.requires.0.1 c.index-sender.ensures c.index-receiver.ensures c.payload_number-number.ensures.number c.in-Some.ensures.payload c.in_ok-payload.ensures c.if-number.false) c.in_ok-out.ensures.ok)
+    (local-goes _ _ _ _ _ _ c.self.invariant.frame refl (bulk-handed _ _ _ _ _ _ _ _ _ _ _ c.self.view_is c.self.invariant c.requires.0.0 c.requires.0.1 c.index-sender.ensures c.index-receiver.ensures c.payload_number-number.ensures.number c.in-Some.ensures.payload c.in_ok-payload.ensures c.if-number.false) c.in_ok-answer.ensures.ok)

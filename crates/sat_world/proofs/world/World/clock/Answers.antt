@@ -10,6 +10,6 @@ pub invariant_of-self : goal.invariant_of-self
 invariant_of-self c = stays _ _ _ _ _ c.self.view_is c.self.invariant (tt {0}) refl
     (did-clock _ _ _ _ _ _ _ c.self.invariant c.deref.ensures.value c.deref_mut.ensures.value c.gears-gears.ensures.gears (sym c.deref_mut.ensures.len ∙ sym c.raise.ensures.count) c.greatest-ts.ensures.greatest c.greatest-ts.ensures.above c.raise.ensures)
 
-pub returns : goal.returns
-returns c = seen-as _ _ _ _ _ c.self.view_is
+pub returns-clause-goes : goal.returns-clause-goes
+returns-clause-goes c = seen-as _ _ _ _ _ c.self.view_is
     (did-clock _ _ _ _ _ _ _ c.self.invariant c.deref.ensures.value c.deref_mut.ensures.value c.gears-gears.ensures.gears (sym c.deref_mut.ensures.len ∙ sym c.raise.ensures.count) c.greatest-ts.ensures.greatest c.greatest-ts.ensures.above c.raise.ensures)

@@ -15,5 +15,5 @@ kill_at-requires-clause-serializer c = λ n at. kill-serializer _ _ _ _ n c.self
 pub invariant_of-self : goal.invariant_of-self
 invariant_of-self c = stays _ _ _ _ _ c.self.view_is c.self.invariant c.requires refl (did-kill _ _ _ _ _ _ c.self.view_is c.self.invariant c.requires c.kill_at.ensures)
 
-pub returns : goal.returns
-returns c = seen-as _ _ _ _ _ c.self.view_is (did-kill _ _ _ _ _ _ c.self.view_is c.self.invariant c.requires c.kill_at.ensures)
+pub returns-clause-goes : goal.returns-clause-goes
+returns-clause-goes c = seen-as _ _ _ _ _ c.self.view_is (did-kill _ _ _ _ _ _ c.self.view_is c.self.invariant c.requires c.kill_at.ensures)

@@ -10,7 +10,7 @@ pub step_at-requires-clause-fits : goal.step_at-requires-clause-fits
 step_at-requires-clause-fits c = fit-here _ _ _ _ _ c.self.view_is c.self.invariant c.requires.act (hands-at _ _ _ (local-plain _ c.requires.local))
 
 pub invariant_of-self-2 : goal.invariant_of-self-2
-invariant_of-self-2 c = stays _ _ _ _ _ c.self.view_is c.self.invariant c.requires.act (local-plain _ c.requires.local) (local-goes _ _ _ _ _ _ _ c.self.invariant.frame c.requires.local (hands-at _ _ _ (local-plain _ c.requires.local)) c.in_ok-out.ensures.ok)
+invariant_of-self-2 c = stays _ _ _ _ _ c.self.view_is c.self.invariant c.requires.act (local-plain _ c.requires.local) (local-goes _ _ _ _ _ _ c.self.invariant.frame c.requires.local (hands-at _ _ _ (local-plain _ c.requires.local)) c.in_ok-answer.ensures.ok)
 
 pub returns-clause-goes : goal.returns-clause-goes
-returns-clause-goes c = seen-as _ _ _ _ _ c.self.view_is (local-goes _ _ _ _ _ _ _ c.self.invariant.frame c.requires.local (hands-at _ _ _ (local-plain _ c.requires.local)) c.in_ok-out.ensures.ok)
+returns-clause-goes c = seen-as _ _ _ _ _ c.self.view_is (local-goes _ _ _ _ _ _ c.self.invariant.frame c.requires.local (hands-at _ _ _ (local-plain _ c.requires.local)) c.in_ok-answer.ensures.ok)

@@ -14,10 +14,10 @@ pub step_at-requires-clause-fits : goal.step_at-requires-clause-fits
 step_at-requires-clause-fits c = fit-here _ _ _ _ _ c.self.view_is c.self.invariant c.requires (move-handed _ _ _ _ c.self.view_is c.self.invariant c.requires.0 c.index-known.ensures _ _ c.in-Some.is)
 
 pub tell_at-requires-clause-may : goal.tell_at-requires-clause-may
-tell_at-requires-clause-may c = may-tell-move _ _ _ _ c.self.view_is c.self.invariant c.requires.0 c.index-known.ensures _ _ _ _ _ c.in_ok-out.ensures.ok
+tell_at-requires-clause-may c = may-tell-move _ _ _ _ c.self.view_is c.self.invariant c.requires.0 c.index-known.ensures _ _ _ _ c.in_ok-answer.ensures.ok
 
 pub invariant_of-self-2 : goal.invariant_of-self-2
-invariant_of-self-2 c = stays _ _ _ _ _ c.self.view_is c.self.invariant c.requires refl (did-move _ _ _ _ c.self.view_is c.self.invariant c.requires.0 c.index-known.ensures _ _ _ _ _ _ c.in-Some.is c.in_ok-out.ensures.ok c.tell_at.ensures)
+invariant_of-self-2 c = stays _ _ _ _ _ c.self.view_is c.self.invariant c.requires refl (did-move _ _ _ _ c.self.view_is c.self.invariant c.requires.0 c.index-known.ensures _ _ _ _ _ c.in-Some.is c.in_ok-answer.ensures.ok c.tell_at.ensures)
 
 pub returns-clause-goes : goal.returns-clause-goes
-returns-clause-goes c = seen-as _ _ _ _ _ c.self.view_is (did-move _ _ _ _ c.self.view_is c.self.invariant c.requires.0 c.index-known.ensures _ _ _ _ _ _ c.in-Some.is c.in_ok-out.ensures.ok c.tell_at.ensures)
+returns-clause-goes c = seen-as _ _ _ _ _ c.self.view_is (did-move _ _ _ _ c.self.view_is c.self.invariant c.requires.0 c.index-known.ensures _ _ _ _ _ c.in-Some.is c.in_ok-answer.ensures.ok c.tell_at.ensures)

@@ -15,12 +15,12 @@ pub step_at-requires-clause-fits : goal.step_at-requires-clause-fits
 step_at-requires-clause-fits c = fit-here _ _ _ _ _ c.self.view_is c.self.invariant c.requires (read-hands _ _ _ _ (client-at _ _ _ _ c.self.view_is c.self.invariant c.requires.0 c.index-known.ensures) c.in-Some.is _)
 
 pub tell_at-requires-clause-may : goal.tell_at-requires-clause-may
-tell_at-requires-clause-may c = λ x at. other-may x _ (read-told _ _ _ _ _ _ _ c.in_ok-out.ensures.ok)
+tell_at-requires-clause-may c = λ x at. other-may x _ (read-told _ _ _ _ _ _ c.in_ok-answer.ensures.ok)
 
 pub invariant_of-self-2 : goal.invariant_of-self-2
 invariant_of-self-2 c = stays _ _ _ _ _ c.self.view_is c.self.invariant c.requires refl
-    (did-read _ _ _ _ _ _ _ _ _ _ c.self.view_is c.self.invariant c.requires.0 c.index-known.ensures c.in-Some.is c.in_ok-out.ensures.ok c.tell_at.ensures)
+    (did-read _ _ _ _ _ _ _ _ _ c.self.view_is c.self.invariant c.requires.0 c.index-known.ensures c.in-Some.is c.in_ok-answer.ensures.ok c.tell_at.ensures)
 
 pub returns-clause-goes : goal.returns-clause-goes
 returns-clause-goes c = seen-as _ _ _ _ _ c.self.view_is
-    (did-read _ _ _ _ _ _ _ _ _ _ c.self.view_is c.self.invariant c.requires.0 c.index-known.ensures c.in-Some.is c.in_ok-out.ensures.ok c.tell_at.ensures)
+    (did-read _ _ _ _ _ _ _ _ _ c.self.view_is c.self.invariant c.requires.0 c.index-known.ensures c.in-Some.is c.in_ok-answer.ensures.ok c.tell_at.ensures)

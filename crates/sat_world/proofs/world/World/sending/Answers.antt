@@ -17,8 +17,8 @@ step_at-requires-clause-fits c = fit-here _ _ _ _ _ c.self.view_is c.self.invari
 
 pub invariant_of-self-2 : goal.invariant_of-self-2
 invariant_of-self-2 c = stays _ _ _ _ _ c.self.view_is c.self.invariant (sending-act _ _ _ c.requires.sends c.requires.site) (sending-plain _ c.requires.sends)
-    (did-send _ _ _ _ _ _ _ _ _ _ _ c.self.view_is c.self.invariant c.requires.site c.requires.sends c.index-known.ensures c.view-epoch.ensures.sound (ap (λ (v : SiteView). v.emission) c.view-epoch.ensures.seen) c.sends-sent.ensures c.in_ok-send_at.ensures.ok c.in_ok-out.ensures.ok)
+    (did-send _ _ _ _ _ _ _ _ _ _ c.self.view_is c.self.invariant c.requires.site c.requires.sends c.index-known.ensures c.view-epoch.ensures.sound (ap (λ (v : SiteView). v.emission) c.view-epoch.ensures.seen) c.sends-sent.ensures c.in_ok-send_at.ensures.ok c.in_ok-answer.ensures.ok)
 
 pub returns-clause-goes : goal.returns-clause-goes
 returns-clause-goes c = seen-as _ _ _ _ _ c.self.view_is
-    (did-send _ _ _ _ _ _ _ _ _ _ _ c.self.view_is c.self.invariant c.requires.site c.requires.sends c.index-known.ensures c.view-epoch.ensures.sound (ap (λ (v : SiteView). v.emission) c.view-epoch.ensures.seen) c.sends-sent.ensures c.in_ok-send_at.ensures.ok c.in_ok-out.ensures.ok)
+    (did-send _ _ _ _ _ _ _ _ _ _ c.self.view_is c.self.invariant c.requires.site c.requires.sends c.index-known.ensures c.view-epoch.ensures.sound (ap (λ (v : SiteView). v.emission) c.view-epoch.ensures.seen) c.sends-sent.ensures c.in_ok-send_at.ensures.ok c.in_ok-answer.ensures.ok)

@@ -20,19 +20,19 @@ pub returns-in-Some-refusal-clause-goes : goal.returns-in-Some-refusal-clause-go
 returns-in-Some-refusal-clause-goes c =
     did-refuse-at _ _ _ _ _ _ _ _ _ _ c.self.view_is c.self.invariant c.requires c.index.ensures c.in-Some.is c.deref.ensures.value c.write_refusal_at-refusal.ensures.refusal c.write_refusal_at-refusal.ensures.sound c.in-Some-refusal.is
 
-pub step_at-requires-clause-within : goal.step_at-requires-clause-within
-step_at-requires-clause-within c = seat-within _ _ _ _ c.self.invariant (client-at _ _ _ _ c.self.view_is c.self.invariant c.requires.0 c.index.ensures) c.in-Some.is
+pub write_at-requires-clause-within : goal.write_at-requires-clause-within
+write_at-requires-clause-within c = seat-within _ _ _ _ c.self.invariant (client-at _ _ _ _ c.self.view_is c.self.invariant c.requires.0 c.index.ensures) c.in-Some.is
 
-pub step_at-requires-clause-fits : goal.step_at-requires-clause-fits
-step_at-requires-clause-fits c = fit-here _ _ _ _ _ c.self.view_is c.self.invariant c.requires (write-handed _ _ _ _ _ _ _ _ c.self.view_is c.self.invariant c.requires.0 c.index.ensures c.in-Some.is c.in_ok-copy.ensures)
+pub write_at-requires-clause-fits : goal.write_at-requires-clause-fits
+write_at-requires-clause-fits c = fit-here _ _ _ _ _ c.self.view_is c.self.invariant c.requires (write-handed _ _ _ _ _ _ _ _ c.self.view_is c.self.invariant c.requires.0 c.index.ensures c.in-Some.is c.in_ok-value.ensures)
 
 pub tell_at-requires-clause-may : goal.tell_at-requires-clause-may
-tell_at-requires-clause-may c = λ x at. other-may x _ (write-told _ _ _ _ _ _ _ _ c.in_ok-out.ensures.ok)
+tell_at-requires-clause-may c = λ x at. other-may x _ (write-told _ _ _ _ _ _ _ c.in_ok-answer.ensures.ok)
 
 pub invariant_of-self-2 : goal.invariant_of-self-2
 invariant_of-self-2 c = stays _ _ _ _ _ c.self.view_is c.self.invariant c.requires refl
-    (did-write _ _ _ _ _ _ _ _ _ _ _ _ c.self.view_is c.self.invariant c.requires.0 c.index.ensures c.in-Some.is c.in_ok-copy.ensures c.in_ok-out.ensures.ok c.tell_at.ensures)
+    (did-write _ _ _ _ _ _ _ _ _ _ _ c.self.view_is c.self.invariant c.requires.0 c.index.ensures c.in-Some.is c.in_ok-value.ensures c.in_ok-answer.ensures.ok c.tell_at.ensures)
 
 pub returns-clause-goes : goal.returns-clause-goes
 returns-clause-goes c = seen-as _ _ _ _ _ c.self.view_is
-    (did-write _ _ _ _ _ _ _ _ _ _ _ _ c.self.view_is c.self.invariant c.requires.0 c.index.ensures c.in-Some.is c.in_ok-copy.ensures c.in_ok-out.ensures.ok c.tell_at.ensures)
+    (did-write _ _ _ _ _ _ _ _ _ _ _ c.self.view_is c.self.invariant c.requires.0 c.index.ensures c.in-Some.is c.in_ok-value.ensures c.in_ok-answer.ensures.ok c.tell_at.ensures)
