@@ -3,7 +3,7 @@ pub mod LoadLists
 pub mod LoadTexts
 pub mod LoadTrees
 pub mod LoadFlawless
-pub mod LoadSteps
+pub mod LoadLeft
 pub mod LoadWorked
 pub mod LoadRanges
 pub mod LoadCount

@@ -1,9 +1,11 @@
 -- A letter and a number are a name, and a value.
-use Rattle.std.proofs.Common.{ℕ, ◌≡◌, ◌<◌, ◌^◌, ◌++◌, Bool, true, nat_le, nat_lt, List, [], ◌∷◌, length, codes, refl, arith}
+use Rattle.std.proofs.Common.{ℕ, ◌≡◌, ◌<◌, ◌≤◌, ◌+◌, ◌-◌, ◌^◌, ◌++◌, Bool, true, nat_le, nat_lt, List, [], ◌∷◌, length, take, drop, slice_set, codes, refl, ap, ◌∙◌, arith}
 use Rattle.std.specs.List.{list_all}
 use Rattle.std.specs.Fmt.{decimal}
 use Rattle.std.proofs.lemmas.Bool.{and_from, and_parts, le-leb}
 use Rattle.std.proofs.lemmas.Bool.Decides.{nat_tests}
+use Rattle.std.proofs.lemmas.Fmt.{length-decimal-le}
+use Rattle.std.proofs.lemmas.List.{append-nil, drop-set, length-drop, length-set, take_all}
 use Rattle.sat_label.specs.Text.{is_between, is_name, is_name_byte, is_value}
 use Rattle.sat_script.proofs.Digits.{decimal_between, decimal_short}
 
@@ -39,3 +41,19 @@ client_name k small = named 99 k refl small
 
 pub value_text : (k : ℕ) → k < 2 ^ 64 → is_value (codes "v" ++ decimal k) ≡ true
 value_text k small = valued 118 k refl small
+
+-- ---- as they are written
+
+pub few_digits : (n m : ℕ) → n ≡ m → m < 2 ^ 32 → length (decimal n) ≤ 10
+few_digits n m e small = length-decimal-le 10 n (omega arith) (omega (arith, e)) (omega (arith, e))
+
+pub digits_behind : (text : List ℕ) (start letter n m : ℕ) (rest : List ℕ) → 1 ≤ start → start ≤ length text → n ≡ m → rest ≡ [] → drop start text ≡ decimal n ++ rest
+    → drop (start - 1) (slice_set text (start - 1) letter) ≡ letter ∷ decimal m
+digits_behind text start letter n m rest some within same none written =
+    let back : start - 1 + 1 ≡ start = omega (arith, some) in
+    drop-set text (start - 1) letter (omega (arith, some, within)) ∙ ap (λ at. letter ∷ drop at text) back ∙ ap (λ digits. letter ∷ digits) written
+    ∙ ap (λ (rest : List ℕ). letter ∷ (decimal n ++ rest)) none ∙ ap (λ (digits : List ℕ). letter ∷ digits) (append-nil (decimal n)) ∙ ap (λ number. letter ∷ decimal number) same
+
+-- all of a text from a place on
+pub all_behind : (text : List ℕ) (at letter : ℕ) → length text ≡ 11 → take (11 - at) (drop at (slice_set text at letter)) ≡ drop at (slice_set text at letter)
+all_behind text at letter long = take_all (11 - at) (drop at (slice_set text at letter)) (omega (arith, long, length-drop at (slice_set text at letter), length-set text at letter))

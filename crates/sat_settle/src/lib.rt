@@ -2,13 +2,17 @@
 #![tactic(auto)]
 
 mod acts;
+mod load_acts;
 mod load_draws;
 mod load_header;
 mod load_rows;
 mod load_script;
+mod load_texts;
 mod opening;
 mod settling;
 mod trying;
 
+pub use load_acts::LoadActs;
+pub use load_header::deployment;
 pub use load_script::{MOST_LOADED, load};
 pub use settling::settle;

@@ -1,16 +1,17 @@
 //! The header of a large script.
-ghost use Rattle.std.specs.Prelude.{◌≡◌, ◌≤◌, ◌<◌, ◌++◌, [], ◌∷◌, codes, map, IfOk};
+ghost use Rattle.std.specs.Prelude.{◌≡◌, ◌≤◌, ◌<◌, [], ◌∷◌, map, IfOk};
 ghost use Rattle.sat_act.specs.declared.deployment.Plan.TheVariants as plan;
-ghost use Rattle.std.specs.Fmt.{decimal};
 ghost use Rattle.sat_label.specs.Words.{below};
 ghost use Rattle.sat_settle.specs.LoadHeader.{three_sites, load_item, load_client, first_tree, second_tree, load_tree, load_deployment};
 
+use crate::load_texts::{client_name, item_name};
 use sat_act::{ClientLine, Deployment, DeploymentFault, Item, Plan};
-use sat_label::{Name, SiteSet};
+use sat_label::SiteSet;
 use sat_tree::{Tree, TreeFault};
 use std::alloc::{AllocError, Global};
 
-const SITES: u16 = 5;
+/// How many sites the deployment has.
+pub const SITES: u16 = 5;
 
 const GEARS: u16 = 4;
 
@@ -27,29 +28,6 @@ fn three_sites(a: u16, b: u16, c: u16) -> SiteSet
 {
     SiteSet {
         bits: (1 << a) | (1 << b) | (1 << c),
-    }
-}
-
-// A letter and a number.
-#[tactic(auto, using(crate::proofs::LoadTexts::item_name))]
-fn item_name(alloc: Global, item: u16) -> Result<Name, AllocError>
-    ensures { IfOk result (λ name. name ≡ codes "x" ++ decimal item) }
-{
-    let text = format!(in alloc; "x{item}")?;
-    match Name::of(alloc, text.as_bytes())? {
-        Some(name) => Ok(name),
-        None => unreachable!(),
-    }
-}
-
-#[tactic(auto, using(crate::proofs::LoadTexts::client_name))]
-fn client_name(alloc: Global, client: u16) -> Result<Name, AllocError>
-    ensures { IfOk result (λ name. name ≡ codes "c" ++ decimal client) }
-{
-    let text = format!(in alloc; "c{client}")?;
-    match Name::of(alloc, text.as_bytes())? {
-        Some(name) => Ok(name),
-        None => unreachable!(),
     }
 }
 

@@ -1,6 +1,5 @@
 //! The acts of a large script, by the table of what is drawn.
-ghost use Rattle.std.specs.Prelude.{◌≡◌, ◌≤◌, ◌<◌, ◌+◌, ◌++◌, codes, length, IfOk, OnOk};
-ghost use Rattle.std.specs.Fmt.{decimal};
+ghost use Rattle.std.specs.Prelude.{◌≡◌, ◌≤◌, ◌<◌, ◌+◌, length, IfOk, OnOk};
 ghost use Rattle.sat_tree.specs.Cut.{neighbours};
 ghost use Rattle.sat_settle.specs.LoadActs.{row_of, draws_of, neighbour, hop_in, hop_act, bulk_act, row_act, act_at, after_act};
 ghost use Rattle.sat_settle.specs.LoadDraws.{after_draws, first};
@@ -9,8 +8,9 @@ ghost use Rattle.sat_settle.specs.declared.load_rows.Row.TheVariants as row;
 
 use crate::load_draws::Draws;
 use crate::load_header::tree_of;
+use crate::load_texts::value;
 use sat_act::{Act, Deployment};
-use sat_label::{NodeId, Value};
+use sat_label::NodeId;
 use sat_tree::Tree;
 use std::alloc::{AllocError, Global};
 
@@ -48,18 +48,6 @@ fn row_of(number: u16) -> Row
         11 => Row::Hop,
         12 | 13 => Row::Bulk,
         _ => Row::Turn,
-    }
-}
-
-// `v` and a number.
-#[tactic(auto, using(crate::proofs::LoadTexts::value_text))]
-fn value(alloc: Global, number: u32) -> Result<Value, AllocError>
-    ensures { IfOk result (λ value. value ≡ codes "v" ++ decimal number) }
-{
-    let text = format!(in alloc; "v{number}")?;
-    match Value::of(alloc, text.as_bytes())? {
-        Some(value) => Ok(value),
-        None => unreachable!(),
     }
 }
 

@@ -1,7 +1,7 @@
 -- One write more.
-use Rattle.std.proofs.Common.{◌≡◌, ◌<◌, ℕ, suc, Bool, ◌+◌, true, false, List, [], ◌∷◌, ◌++◌, length, take, drop, get_or, refl, sym, subst, ap, ◌∙◌, arith, add-one, drop-cons}
+use Rattle.std.proofs.Common.{◌≡◌, ◌<◌, ◌≤◌, ℕ, suc, Bool, ◌+◌, true, false, List, [], ◌∷◌, ◌++◌, length, drop, get_or, refl, sym, subst, ap, ◌∙◌, arith, add-one, drop-cons}
 use Rattle.std.specs.Prelude.{None}
-use Rattle.std.proofs.lemmas.List.{length-append, take_more}
+use Rattle.std.proofs.lemmas.List.{append_assoc, length-append}
 use Rattle.sat_act.specs.declared.act.Act.{Act}
 use Rattle.sat_act.specs.declared.answer.Answer.{Answer}
 use Rattle.sat_act.specs.declared.answer.Answer.TheVariants as ans
@@ -50,17 +50,37 @@ pub counts_none : (d : Deployed) (w : WorldSeen) → StandsFor w [] → IsCounti
 unfolding history run wrote_count listed
 counts_none d w stands = record { running = runs-none d w stands; count = refl }
 
+-- ---- the acts that are still to come
+
+-- these acts were done, of all that were to come
+pub record Counts (d : Deployed) (w : WorldSeen) (written : ℕ) (coming all : List Act) : Type 0 where
+  pub done : List Act
+  pub split : done ++ coming ≡ all
+  pub counting : IsCounting d w written done
+  pub each : AreActsOf d coming
+  pub few : written + length coming ≤ length all
+
+pub counts_start : (d : Deployed) (w : WorldSeen) (all : List Act) → StandsFor w [] → AreActsOf d all → Counts d w 0 all all
+counts_start d w all stands each = record { done = []; split = refl; counting = counts_none d w stands; each = each; few = omega arith }
+
+pub counts_on : (d : Deployed) (old new : WorldSeen) (written one : ℕ) (coming rest all : List Act) (a : Act) → old.deployment ≡ d → coming ≡ a ∷ rest → one ≤ 1
+    → ((before : List Act) (w : ℕ) → IsCounting old.deployment old w before → IsCounting old.deployment new (w + one) (before ++ a ∷ []))
+    → Counts d old written coming all → Counts d new (written + one) rest all
+counts_on d old new written one coming rest all a same is most more now =
+    let was : IsCounting old.deployment old written now.done = subst (λ (d : Deployed). IsCounting d old written now.done) (sym same) now.counting in
+    let each : AreActsOf d (a ∷ rest) = subst (λ (acts : List Act). AreActsOf d acts) is now.each in
+    let long : length coming ≡ suc (length rest) = ap length is in
+    record {
+      done = now.done ++ a ∷ [];
+      split = append_assoc now.done (a ∷ []) rest ∙ ap (λ (acts : List Act). now.done ++ acts) (sym is) ∙ now.split;
+      counting = subst (λ (d : Deployed). IsCounting d new (written + one) (now.done ++ a ∷ [])) same (more now.done written was);
+      each = each.1;
+      few = omega (arith, most, long, now.few);
+    }
+
 -- ---- the next act of a list
 
 pub rest-more : (d : Deployed) (acts : List Act) (n : ℕ) (x : Act) → n < length acts → AreActsOf d (drop n acts) → AreActsOf d (drop (n + 1) acts)
 rest-more d acts n x low rest =
     let all : AreActsOf d (get_or acts n x ∷ drop (suc n) acts) = subst (λ (later : List Act). AreActsOf d later) (drop-cons acts n x low) rest in
     subst (λ (m : ℕ). AreActsOf d (drop m acts)) (sym (add-one n)) all.1
-
-pub count-next : (old new : WorldSeen) (d : Deployed) (acts : List Act) (n written one : ℕ) (x : Act) → n < length acts → x ≡ get_or acts n x → old.deployment ≡ d → IsCounting d old written (take n acts)
-    → ((before : List Act) (w : ℕ) → IsCounting old.deployment old w before → IsCounting old.deployment new (w + one) (before ++ x ∷ [])) → IsCounting d new (written + one) (take (n + 1) acts)
-count-next old new d acts n written one x low is e now more =
-    let step : IsCounting d new (written + one) (take n acts ++ x ∷ []) =
-    subst (λ (d : Deployed). IsCounting d new (written + one) (take n acts ++ x ∷ [])) e (more (take n acts) written (subst (λ (d : Deployed). IsCounting d old written (take n acts)) (sym e) now)) in
-    let front : take (n + 1) acts ≡ take n acts ++ x ∷ [] = take_more acts n x low ∙ ap (λ (y : Act). take n acts ++ y ∷ []) (sym is) in
-    subst (λ (before : List Act). IsCounting d new (written + one) before) (sym front) step

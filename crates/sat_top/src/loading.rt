@@ -17,8 +17,8 @@ use sat_laws::headline;
 use sat_report::write_summary;
 use sat_rest::settles_all;
 use sat_runs::do_act;
-use sat_script::{MOST_ACTS, Script};
-use sat_settle::load;
+use sat_script::MOST_ACTS;
+use sat_settle::{LoadActs, deployment};
 use sat_world::World;
 use std::alloc::{AllocError, Global};
 
@@ -44,33 +44,32 @@ fn count_act(world: &mut World, act: &Act) -> Result<u64, AllocError>
     Ok(writes_in(&answer))
 }
 
-/// Does the acts one after another, and counts the writes that were done.
-pub(crate) fn count_writes(world: &mut World, acts: &[Act]) -> Result<u64, AllocError>
+// Does the acts that are still to come one after another, and counts the writes that were done. No act is kept.
+fn count_writes(alloc: Global, world: &mut World, mut coming: LoadActs) -> Result<u64, AllocError>
+    requires deployment { world.old.deployment ≡ load_deployment }
     requires fresh { StandsFor world.old [] }
-    requires acts { AreActsOf world.old.deployment acts.now }
-    requires few { length acts.now ≤ MOST_ACTS }
+    requires acts { AreActsOf world.old.deployment coming }
+    requires few { length coming ≤ MOST_ACTS }
     ensures deployment { world.new.deployment ≡ world.old.deployment }
-    ensures counting { IfOk result (λ written. IsCounting world.old.deployment world.new written acts.now) }
+    ensures counting { IfOk result (λ written. IsCounting world.old.deployment world.new written coming) }
 {
     let mut written = 0;
-    for (place, act) in acts.iter().enumerate() {
-        let _ = place;
-        written += count_act(world, act)?;
+    while let Some(act) = coming.next(alloc, world.deployment())? {
+        written += count_act(world, &act)?;
     }
     Ok(written)
 }
 
-// Runs what `load` made, and gives the summary of its run.
+// Runs the acts of a large script as they are drawn, and gives the summary of their run.
 #[tactic(auto, unfolding(crate::specs::Loading::load_text))]
-fn load_text(alloc: Global, script: Script, seed: u64, acts: u32) -> Result<Vec<u8>, AllocError>
-    requires deployment { script.deployment ≡ load_deployment }
-    requires acts { script.acts ≡ load_acts seed acts }
+fn load_text(alloc: Global, coming: LoadActs, seed: u64, acts: u32) -> Result<Vec<u8>, AllocError>
+    requires acts { coming ≡ load_acts seed acts }
     requires each { AreActsOf load_deployment (load_acts seed acts) }
-    requires few { length script.acts ≤ MOST_ACTS }
+    requires few { length (load_acts seed acts) ≤ MOST_ACTS }
     ensures { IfOk result (λ text. text.items ≡ load_text seed acts) }
 {
-    let mut world = World::new(alloc, script.deployment)?;
-    let written = count_writes(&mut world, script.acts.as_slice())?;
+    let mut world = World::new(alloc, deployment(alloc)?)?;
+    let written = count_writes(alloc, &mut world, coming)?;
     let mut text = Vec::new(alloc);
     write_summary(&world, seed, acts, written, &mut text)?;
     Ok(text)
@@ -83,10 +82,10 @@ pub(crate) fn load_output(alloc: Global, seed: u64, acts: u32) -> Result<Output,
     ensures status { IfOk result (λ out. out.status ≡ 0) }
     ensures good { IfOk result (λ _. IsGoodLoad seed acts) }
 {
-    let script = load(alloc, seed, acts)?;
+    let coming = LoadActs::new(seed, acts);
     // Brings these two laws into the proof; they do nothing when they run.
     headline();
     settles_all();
-    let text = load_text(alloc, script, seed, acts)?;
+    let text = load_text(alloc, coming, seed, acts)?;
     Ok(Output { text, status: 0 })
 }

@@ -1,12 +1,13 @@
-use Rattle.std.proofs.Common.{◌≡◌, ◌≤◌, take, drop}
-use Rattle.sat_script.specs.Reading.{AreActsOf}
+use Rattle.std.proofs.Common.{◌≡◌, length}
+use Rattle.sat_settle.specs.LoadHeader.{load_deployment}
+use Rattle.sat_top.proofs.Counting.{Counts}
 use Rattle.sat_top.proofs.loading.count_writes.Given as goal
-use Rattle.sat_top.specs.UnderWay.{IsCounting}
 
-abbrev pub invariant-loop-place : goal.invariant-loop-place
-invariant-loop-place l = record {
+abbrev pub invariant-loop-act : goal.invariant-loop-act
+invariant-loop-act l = record {
   deployment : l.world.deployment ≡ l.fn.world.deployment;
-  counting : IsCounting l.fn.world.deployment l.world l.written (take l.place l.acts);
-  few : l.written ≤ l.place;
-  rest : AreActsOf l.fn.world.deployment (drop l.place l.acts);
+  counts : Counts l.fn.world.deployment l.world l.written l.coming l.initial.coming;
 }
+
+abbrev pub decreases-loop-act : goal.decreases-loop-act
+decreases-loop-act l = length l.coming

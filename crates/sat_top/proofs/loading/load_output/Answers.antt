@@ -5,5 +5,5 @@ use Rattle.sat_top.proofs.loading.load_output.Goals as goal
 
 pub returns-clause-good : goal.returns-clause-good
 returns-clause-good c =
-    let spelled = c.load.ensures.spelled in
+    let spelled = c.new-coming.ensures.spelled in
     good_run load_deployment (load_acts c.args.seed c.args.acts) (record { good = c.headline.ensures; settles = c.settles_all.ensures.settles; rests = c.settles_all.ensures.rests }) spelled.deployment spelled.each
