@@ -1,4 +1,6 @@
 pub mod Fronts
+pub mod Frames
+pub mod Names
 pub mod Digits
 pub mod Commas
 pub mod Lines

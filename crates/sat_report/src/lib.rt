@@ -4,6 +4,7 @@
 mod answer;
 mod fault;
 mod holdings;
+mod line;
 mod summary;
 mod text;
 
