@@ -18,14 +18,8 @@ pub fn do_act(world: &mut World, act: &Act) -> Result<Answer, AllocError>
     ensures deployment { world.new.deployment ≡ world.old.deployment }
 {
     match act {
-        Act::Settle => {
-            let answer = settle(world)?;
-            Ok(answer)
-        }
-        _ => {
-            let answer = world.apply(act)?;
-            Ok(answer)
-        }
+        Act::Settle => settle(world),
+        _ => world.apply(act),
     }
 }
 
