@@ -94,10 +94,10 @@ pub(crate) fn write_point(point: &Point, text: &mut [u8; LINE_BYTES], end: usize
     write_number(point.ts, text, site)
 }
 
-/// The word of a kind, and a space.
+// The word of a kind that is no update, and a space.
 #[tactic(auto, unfolding(crate::specs::Texts::kind_word))]
-#[inline(always)]
-pub(crate) fn write_kind(kind: Kind, text: &mut [u8; LINE_BYTES], end: usize) -> usize
+#[inline(never)]
+fn write_other_kind(kind: Kind, text: &mut [u8; LINE_BYTES], end: usize) -> usize
     requires { (7 ≤ end) × (end ≤ 112) }
     ensures near { end ≤ result + 7 }
     ensures start { result ≤ end }
@@ -108,6 +108,21 @@ pub(crate) fn write_kind(kind: Kind, text: &mut [u8; LINE_BYTES], end: usize) ->
         Kind::Move(_) => write_word(b"move ", text, end),
         Kind::Pulse => write_word(b"pulse ", text, end),
         Kind::Close(_) => write_word(b"close ", text, end),
+    }
+}
+
+/// The word of a kind, and a space. Most labels are those of updates.
+#[tactic(auto, unfolding(crate::specs::Texts::kind_word))]
+#[inline(always)]
+pub(crate) fn write_kind(kind: Kind, text: &mut [u8; LINE_BYTES], end: usize) -> usize
+    requires { (7 ≤ end) × (end ≤ 112) }
+    ensures near { end ≤ result + 7 }
+    ensures start { result ≤ end }
+    ensures written { drop result text.new ≡ kind_word kind ++ 32 ∷ drop end text.old }
+{
+    match kind {
+        Kind::Update(_) => write_word(b"update ", text, end),
+        _ => write_other_kind(kind, text, end),
     }
 }
 
