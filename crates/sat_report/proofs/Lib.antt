@@ -1,4 +1,5 @@
 pub mod Fronts
+pub mod NextDigit
 pub mod Frames
 pub mod Names
 pub mod Digits

@@ -1,8 +1,18 @@
 -- What stands around an answer, and further nodes.
-use Rattle.std.specs.Prelude.{ℕ, List, [], ◌∷◌, ◌++◌, Option, None, Some}
+use Rattle.std.specs.Prelude.{ℕ, ◌+◌, ◌-◌, ◌^◌, min, List, [], ◌∷◌, ◌++◌, Option, None, Some}
 use Rattle.std.specs.Fmt.{decimal}
 use Rattle.sat_label.specs.declared.node.NodeId.{NodeId}
 use Rattle.sat_report.specs.Texts.{node_text}
+
+-- the digits of a line's number, where it has one
+unfoldable pub digits_of : Option ℕ → List ℕ
+digits_of None = []
+digits_of (Some n) = decimal n
+
+-- the number of the next line; behind the greatest of 64 bits there is none
+unfoldable pub next_front : Option ℕ → Option ℕ
+next_front None = None
+next_front (Some n) = Some (min (n + 1) (2 ^ 64 - 1))
 
 -- before the answer in a line with a number; nothing where it stands by itself
 unfoldable pub front_text : Option ℕ → List ℕ

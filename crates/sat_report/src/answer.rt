@@ -7,6 +7,7 @@ ghost use Rattle.sat_report.specs.Fronts.{Keeps};
 ghost use Rattle.sat_report.specs.Frames.{commas, end_text, framed, front_text};
 ghost use Rattle.sat_report.specs.Answers.{refusal_text, with_item, with_kind, with_label, answer_text, answer_line};
 
+use crate::front::LineFront;
 use crate::line::{
     LINE_BYTES, write_byte, write_end, write_front, write_kind, write_node, write_number,
     write_point, write_slice, write_word,
@@ -20,12 +21,12 @@ use std::alloc::AllocError;
 // All but a value and further nodes is put together in an array, so that `out` grows once.
 #[inline(always)]
 fn append_word<const N: usize>(
-    number: Option<u64>,
+    number: &LineFront,
     word: &[u8; N],
     out: &mut Vec<u8>,
 ) -> Result<(), AllocError>
     requires { N ≤ 24 }
-    ensures ok { OnOk result (out.new.items ≡ out.old.items ++ framed number word.now) }
+    ensures ok { OnOk result (out.new.items ≡ out.old.items ++ framed number.now word.now) }
     ensures err { OnErr result (Keeps out.old.items out.new.items) }
 {
     let mut text = [0; LINE_BYTES];
@@ -37,13 +38,13 @@ fn append_word<const N: usize>(
 
 #[inline(always)]
 fn append_with_number<const N: usize>(
-    number: Option<u64>,
+    number: &LineFront,
     word: &[u8; N],
     value: u64,
     out: &mut Vec<u8>,
 ) -> Result<(), AllocError>
     requires { N ≤ 24 }
-    ensures ok { OnOk result (out.new.items ≡ out.old.items ++ framed number (word.now ++ decimal value)) }
+    ensures ok { OnOk result (out.new.items ≡ out.old.items ++ framed number.now (word.now ++ decimal value)) }
     ensures err { OnErr result (Keeps out.old.items out.new.items) }
 {
     let mut text = [0; LINE_BYTES];
@@ -56,7 +57,7 @@ fn append_with_number<const N: usize>(
 
 #[inline(always)]
 fn append_with_two<const N: usize, const M: usize>(
-    number: Option<u64>,
+    number: &LineFront,
     word: &[u8; N],
     first: u64,
     between: &[u8; M],
@@ -64,7 +65,7 @@ fn append_with_two<const N: usize, const M: usize>(
     out: &mut Vec<u8>,
 ) -> Result<(), AllocError>
     requires { (N ≤ 24) × (M ≤ 24) }
-    ensures ok { OnOk result (out.new.items ≡ out.old.items ++ framed number (word.now ++ (decimal first ++ (between.now ++ decimal second)))) }
+    ensures ok { OnOk result (out.new.items ≡ out.old.items ++ framed number.now (word.now ++ (decimal first ++ (between.now ++ decimal second)))) }
     ensures err { OnErr result (Keeps out.old.items out.new.items) }
 {
     let mut text = [0; LINE_BYTES];
@@ -79,13 +80,13 @@ fn append_with_two<const N: usize, const M: usize>(
 
 #[inline(always)]
 fn append_with_point<const N: usize>(
-    number: Option<u64>,
+    number: &LineFront,
     word: &[u8; N],
     point: &Point,
     out: &mut Vec<u8>,
 ) -> Result<(), AllocError>
     requires { N ≤ 24 }
-    ensures ok { OnOk result (out.new.items ≡ out.old.items ++ framed number (word.now ++ point_text point.now)) }
+    ensures ok { OnOk result (out.new.items ≡ out.old.items ++ framed number.now (word.now ++ point_text point.now)) }
     ensures err { OnErr result (Keeps out.old.items out.new.items) }
 {
     let mut text = [0; LINE_BYTES];
@@ -98,13 +99,13 @@ fn append_with_point<const N: usize>(
 
 #[inline(always)]
 fn append_with_kind<const N: usize>(
-    number: Option<u64>,
+    number: &LineFront,
     word: &[u8; N],
     label: &Label,
     out: &mut Vec<u8>,
 ) -> Result<(), AllocError>
     requires { N ≤ 24 }
-    ensures ok { OnOk result (out.new.items ≡ out.old.items ++ framed number (word.now ++ (kind_word label.now.kind ++ 32 ∷ label_text label.now))) }
+    ensures ok { OnOk result (out.new.items ≡ out.old.items ++ framed number.now (word.now ++ (kind_word label.now.kind ++ 32 ∷ label_text label.now))) }
     ensures err { OnErr result (Keeps out.old.items out.new.items) }
 {
     let mut text = [0; LINE_BYTES];
@@ -119,13 +120,13 @@ fn append_with_kind<const N: usize>(
 #[inline(always)]
 fn append_with_item<const N: usize>(
     d: &Deployment,
-    number: Option<u64>,
+    number: &LineFront,
     word: &[u8; N],
     label: &Label,
     out: &mut Vec<u8>,
 ) -> Result<(), AllocError>
     requires { N ≤ 24 }
-    ensures ok { OnOk result (out.new.items ≡ out.old.items ++ framed number (word.now ++ (name_of_item d.now label.now.kind ++ 32 ∷ label_text label.now))) }
+    ensures ok { OnOk result (out.new.items ≡ out.old.items ++ framed number.now (word.now ++ (name_of_item d.now label.now.kind ++ 32 ∷ label_text label.now))) }
     ensures err { OnErr result (Keeps out.old.items out.new.items) }
 {
     let mut text = [0; LINE_BYTES];
@@ -140,12 +141,12 @@ fn append_with_item<const N: usize>(
 
 #[inline(always)]
 fn append_closed(
-    number: Option<u64>,
+    number: &LineFront,
     epoch: u16,
     cut: &Point,
     out: &mut Vec<u8>,
 ) -> Result<(), AllocError>
-    ensures ok { OnOk result (out.new.items ≡ out.old.items ++ framed number (codes "closed " ++ (decimal epoch ++ 32 ∷ point_text cut.now))) }
+    ensures ok { OnOk result (out.new.items ≡ out.old.items ++ framed number.now (codes "closed " ++ (decimal epoch ++ 32 ∷ point_text cut.now))) }
     ensures err { OnErr result (Keeps out.old.items out.new.items) }
 {
     let mut text = [0; LINE_BYTES];
@@ -161,11 +162,11 @@ fn append_closed(
 // The end of a line whose other pieces stand in `out`.
 #[tactic(auto, unfolding(crate::specs::Frames::end_text))]
 #[inline(always)]
-fn append_end(number: Option<u64>, out: &mut Vec<u8>) -> Result<(), AllocError>
-    ensures ok { OnOk result (out.new.items ≡ out.old.items ++ end_text number) }
+fn append_end(number: &LineFront, out: &mut Vec<u8>) -> Result<(), AllocError>
+    ensures ok { OnOk result (out.new.items ≡ out.old.items ++ end_text number.now) }
     ensures err { OnErr result (Keeps out.old.items out.new.items) }
 {
-    if number.is_some() {
+    if number.is_number() {
         out.push(b'\n')?;
     }
     Ok(())
@@ -173,8 +174,8 @@ fn append_end(number: Option<u64>, out: &mut Vec<u8>) -> Result<(), AllocError>
 
 // What stands before a value.
 #[inline(always)]
-fn append_version(number: Option<u64>, label: &Label, out: &mut Vec<u8>) -> Result<(), AllocError>
-    ensures ok { OnOk result (out.new.items ≡ out.old.items ++ (front_text number ++ (with_label (codes "read") label.now ++ 32 ∷ []))) }
+fn append_version(number: &LineFront, label: &Label, out: &mut Vec<u8>) -> Result<(), AllocError>
+    ensures ok { OnOk result (out.new.items ≡ out.old.items ++ (front_text number.now ++ (with_label (codes "read") label.now ++ 32 ∷ []))) }
     ensures err { OnErr result (Keeps out.old.items out.new.items) }
 {
     let mut text = [0; LINE_BYTES];
@@ -186,8 +187,8 @@ fn append_version(number: Option<u64>, label: &Label, out: &mut Vec<u8>) -> Resu
 }
 
 #[inline(always)]
-fn append_value(number: Option<u64>, value: &Value, out: &mut Vec<u8>) -> Result<(), AllocError>
-    ensures ok { OnOk result (out.new.items ≡ out.old.items ++ (value.now ++ end_text number)) }
+fn append_value(number: &LineFront, value: &Value, out: &mut Vec<u8>) -> Result<(), AllocError>
+    ensures ok { OnOk result (out.new.items ≡ out.old.items ++ (value.now ++ end_text number.now)) }
     ensures err { OnErr result (Keeps out.old.items out.new.items) }
 {
     out.extend_from_slice(value.bytes())?;
@@ -196,12 +197,12 @@ fn append_value(number: Option<u64>, value: &Value, out: &mut Vec<u8>) -> Result
 
 #[inline(always)]
 fn append_read(
-    number: Option<u64>,
+    number: &LineFront,
     label: &Label,
     value: &Value,
     out: &mut Vec<u8>,
 ) -> Result<(), AllocError>
-    ensures ok { OnOk result (out.new.items ≡ out.old.items ++ framed number (with_label (codes "read") label.now ++ 32 ∷ value.now)) }
+    ensures ok { OnOk result (out.new.items ≡ out.old.items ++ framed number.now (with_label (codes "read") label.now ++ 32 ∷ value.now)) }
     ensures err { OnErr result (Keeps out.old.items out.new.items) }
 {
     append_version(number, label, out)?;
@@ -211,12 +212,12 @@ fn append_read(
 // A hop to one node, or what stands before the further ones.
 #[inline(always)]
 fn append_first_hop(
-    number: Option<u64>,
+    number: &LineFront,
     label: &Label,
     to: NodeId,
     out: &mut Vec<u8>,
 ) -> Result<(), AllocError>
-    ensures ok { OnOk result (out.new.items ≡ out.old.items ++ (front_text number ++ (with_kind (codes "hopped") label.now ++ (codes " to " ++ node_text to)))) }
+    ensures ok { OnOk result (out.new.items ≡ out.old.items ++ (front_text number.now ++ (with_kind (codes "hopped") label.now ++ (codes " to " ++ node_text to)))) }
     ensures err { OnErr result (Keeps out.old.items out.new.items) }
 {
     let mut text = [0; LINE_BYTES];
@@ -229,8 +230,8 @@ fn append_first_hop(
     out.extend_from_slice(&text[at..])
 }
 
-fn append_no_hop(number: Option<u64>, label: &Label, out: &mut Vec<u8>) -> Result<(), AllocError>
-    ensures ok { OnOk result (out.new.items ≡ out.old.items ++ framed number (with_kind (codes "hopped") label.now ++ codes " to ")) }
+fn append_no_hop(number: &LineFront, label: &Label, out: &mut Vec<u8>) -> Result<(), AllocError>
+    ensures ok { OnOk result (out.new.items ≡ out.old.items ++ framed number.now (with_kind (codes "hopped") label.now ++ codes " to ")) }
     ensures err { OnErr result (Keeps out.old.items out.new.items) }
 {
     let mut text = [0; LINE_BYTES];
@@ -245,13 +246,13 @@ fn append_no_hop(number: Option<u64>, label: &Label, out: &mut Vec<u8>) -> Resul
 
 #[inline(always)]
 fn append_hops(
-    number: Option<u64>,
+    number: &LineFront,
     label: &Label,
     first: NodeId,
     rest: &[NodeId],
     out: &mut Vec<u8>,
 ) -> Result<(), AllocError>
-    ensures ok { OnOk result (out.new.items ≡ out.old.items ++ framed number (with_kind (codes "hopped") label.now ++ (codes " to " ++ (node_text first ++ commas rest.now)))) }
+    ensures ok { OnOk result (out.new.items ≡ out.old.items ++ framed number.now (with_kind (codes "hopped") label.now ++ (codes " to " ++ (node_text first ++ commas rest.now)))) }
     ensures err { OnErr result (Keeps out.old.items out.new.items) }
 {
     append_first_hop(number, label, first, out)?;
@@ -262,12 +263,12 @@ fn append_hops(
 #[tactic(auto, using(crate::proofs::Commas::joined_by_commas))]
 #[inline(always)]
 fn append_hopped(
-    number: Option<u64>,
+    number: &LineFront,
     label: &Label,
     to: &[NodeId],
     out: &mut Vec<u8>,
 ) -> Result<(), AllocError>
-    ensures ok { OnOk result (out.new.items ≡ out.old.items ++ framed number (with_kind (codes "hopped") label.now ++ (codes " to " ++ nodes_text to.now))) }
+    ensures ok { OnOk result (out.new.items ≡ out.old.items ++ framed number.now (with_kind (codes "hopped") label.now ++ (codes " to " ++ nodes_text to.now))) }
     ensures err { OnErr result (Keeps out.old.items out.new.items) }
 {
     match to.split_first() {
@@ -277,8 +278,8 @@ fn append_hopped(
 }
 
 #[tactic(auto, unfolding(crate::specs::Answers::refusal_text))]
-fn append_refused(n: Option<u64>, refusal: &Refusal, out: &mut Vec<u8>) -> Result<(), AllocError>
-    ensures ok { OnOk result (out.new.items ≡ out.old.items ++ framed n (codes "refused " ++ refusal_text refusal.now)) }
+fn append_refused(n: &LineFront, refusal: &Refusal, out: &mut Vec<u8>) -> Result<(), AllocError>
+    ensures ok { OnOk result (out.new.items ≡ out.old.items ++ framed n.now (codes "refused " ++ refusal_text refusal.now)) }
     ensures err { OnErr result (Keeps out.old.items out.new.items) }
 {
     match refusal {
@@ -308,11 +309,11 @@ fn append_refused(n: Option<u64>, refusal: &Refusal, out: &mut Vec<u8>) -> Resul
 #[tactic(auto, unfolding(crate::specs::Answers::answer_text))]
 fn append_framed(
     d: &Deployment,
-    n: Option<u64>,
+    n: &LineFront,
     answer: &Answer,
     out: &mut Vec<u8>,
 ) -> Result<(), AllocError>
-    ensures ok { OnOk result (out.new.items ≡ out.old.items ++ framed n (answer_text d.now answer.now)) }
+    ensures ok { OnOk result (out.new.items ≡ out.old.items ++ framed n.now (answer_text d.now answer.now)) }
     ensures err { OnErr result (Keeps out.old.items out.new.items) }
 {
     match answer {
@@ -354,25 +355,31 @@ pub fn append_answer(d: &Deployment, answer: &Answer, out: &mut Vec<u8>) -> Resu
     ensures ok { OnOk result (out.new.items ≡ out.old.items ++ answer_text d.now answer.now) }
     ensures err { OnErr result (Keeps out.old.items out.new.items) }
 {
-    append_framed(d, None, answer, out)
+    append_framed(d, &LineFront::nothing(), answer, out)
 }
 
-#[tactic(auto, unfolding(crate::specs::Answers::answer_line), using(crate::proofs::Frames::as_line))]
-#[inline(always)]
-fn append_line(
+/// Appends the line of an answer: its number and a space, if it has one, the answer's text and then a newline.
+/// No memory is taken but what `out` grows by. For want of memory `out` is as before.
+pub fn write_numbered(
     d: &Deployment,
-    number: u64,
+    number: &LineFront,
     answer: &Answer,
     out: &mut Vec<u8>,
 ) -> Result<(), AllocError>
-    ensures ok { OnOk result (out.new.items ≡ out.old.items ++ answer_line d.now number answer.now) }
-    ensures err { OnErr result (Keeps out.old.items out.new.items) }
+    ensures ok { OnOk result (out.new.items ≡ out.old.items ++ framed number.now (answer_text d.now answer.now)) }
+    ensures err { OnErr result (out.new.items ≡ out.old.items) }
 {
-    append_framed(d, Some(number), answer, out)
+    let length = out.len();
+    let written = append_framed(d, number, answer, out);
+    if written.is_err() {
+        out.truncate(length);
+    }
+    written
 }
 
 /// Appends the line of an answer: its number, from 1, a space, and the answer's text.
 /// No memory is taken but what `out` grows by. For want of memory `out` is as before.
+#[tactic(auto, unfolding(crate::specs::Answers::answer_line), using(crate::proofs::Frames::as_line))]
 pub fn write_line(
     d: &Deployment,
     number: u64,
@@ -382,12 +389,7 @@ pub fn write_line(
     ensures ok { OnOk result (out.new.items ≡ out.old.items ++ answer_line d.now number answer.now) }
     ensures err { OnErr result (out.new.items ≡ out.old.items) }
 {
-    let length = out.len();
-    let written = append_line(d, number, answer, out);
-    if written.is_err() {
-        out.truncate(length);
-    }
-    written
+    write_numbered(d, &LineFront::of(number), answer, out)
 }
 
 /// Appends the line of an entry's answer, as [`write_line`] does.

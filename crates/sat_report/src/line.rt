@@ -5,6 +5,7 @@ ghost use Rattle.sat_label.specs.Text.{point_text};
 ghost use Rattle.sat_report.specs.Texts.{kind_word, node_text};
 ghost use Rattle.sat_report.specs.Frames.{end_text, front_text};
 
+use crate::front::LineFront;
 use itoa::write_digits;
 use sat_label::{Kind, NodeId, Point};
 
@@ -153,32 +154,31 @@ pub(crate) fn write_node(node: NodeId, text: &mut [u8; LINE_BYTES], end: usize) 
 }
 
 /// The end of a line with a number, at the array's end.
-#[tactic(auto, unfolding(crate::specs::Frames::end_text))]
 #[inline(always)]
-pub(crate) fn write_end(number: Option<u64>, text: &mut [u8; LINE_BYTES]) -> usize
+pub(crate) fn write_end(number: &LineFront, text: &mut [u8; LINE_BYTES]) -> usize
     ensures near { 111 ≤ result }
     ensures start { result ≤ 112 }
-    ensures written { drop result text.new ≡ end_text number }
+    ensures written { drop result text.new ≡ end_text number.now }
 {
-    match number {
-        None => LINE_BYTES,
-        Some(_) => write_byte(b'\n', text, LINE_BYTES),
+    if number.is_number() {
+        write_byte(b'\n', text, LINE_BYTES)
+    } else {
+        LINE_BYTES
     }
 }
 
 /// The number of a line, and a space.
-#[tactic(auto, unfolding(crate::specs::Frames::front_text))]
 #[inline(always)]
-pub(crate) fn write_front(number: Option<u64>, text: &mut [u8; LINE_BYTES], end: usize) -> usize
+pub(crate) fn write_front(number: &LineFront, text: &mut [u8; LINE_BYTES], end: usize) -> usize
     requires { (21 ≤ end) × (end ≤ 112) }
     ensures start { result ≤ end }
-    ensures written { drop result text.new ≡ front_text number ++ drop end text.old }
+    ensures written { drop result text.new ≡ front_text number.now ++ drop end text.old }
 {
-    match number {
-        None => end,
-        Some(number) => {
-            let start = write_byte(b' ', text, end);
-            write_number(number, text, start)
-        }
+    if number.is_number() {
+        let space = write_byte(b' ', text, end);
+        let (digits, start) = number.parts();
+        write_word(digits, text, space) + start
+    } else {
+        end
     }
 }
