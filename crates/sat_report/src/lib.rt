@@ -3,11 +3,14 @@
 
 mod answer;
 mod fault;
+mod front;
 mod holdings;
+mod line;
 mod summary;
 mod text;
 
-pub use answer::{append_answer, write_answer, write_line};
+pub use answer::{append_answer, write_answer, write_line, write_numbered};
 pub use fault::write_fault;
+pub use front::LineFront;
 pub use holdings::write_holdings;
 pub use summary::write_summary;

@@ -1,5 +1,5 @@
 -- What one act does to a world, be it a settle or not.
-use Rattle.std.proofs.Common.{◌≡◌, false, List, ◌∷◌, refl, sym, ◌∙◌}
+use Rattle.std.proofs.Common.{◌≡◌, false, List, ◌∷◌, Result, Ok, Err, IfOk, refl, sym, ◌∙◌}
 use Rattle.sat_act.specs.declared.act.Act.{Act}
 use Rattle.sat_act.specs.declared.act.Act.TheVariants as act
 use Rattle.sat_act.specs.declared.answer.Answer.{Answer}
@@ -46,3 +46,8 @@ did old new a r other says stands h run now =
       answer = says h run now ∙ sym (plain-answer old.deployment h a plain);
       stands = rw (plain-inner old.deployment h a plain) (stands h run now);
     }
+
+-- two clauses on a result that is handed on as it is
+pub both_of : {E : Type 0} (P Q R : Answer → Type 0) (result : Result Answer E) → ((r : Answer) → P r → Q r → R r) → IfOk result P → IfOk result Q → IfOk result R
+both_of P Q R (Ok r) gives p q = gives r p q
+both_of P Q R (Err e) gives p q = tt

@@ -1,6 +1,6 @@
 -- One act more.
 use Rattle.std.proofs.Common.{◌<◌, drop, arith, ◌≡◌, ℕ, ◌+◌, List, [], ◌∷◌, ◌++◌, length, refl, sym, ap, subst, ◌∙◌}
-use Rattle.std.specs.Prelude.{None}
+use Rattle.std.specs.Prelude.{Option, None, Some}
 use Rattle.std.specs.List.{AllByRecursion}
 use Rattle.std.proofs.lemmas.List.{append-nil, append_assoc, reverse-append, length-append, drop_more}
 use Rattle.sat_act.specs.declared.act.Act.{Act}
@@ -18,7 +18,9 @@ use Rattle.sat_rest.proofs.Settles.{settle-after}
 use Rattle.sat_world.proofs.Meets.{in-range}
 use Rattle.sat_world.specs.Seen.{WorldSeen}
 use Rattle.sat_world.specs.Stands.{StandsFor}
-use Rattle.sat_report.specs.Answers.{answers, answer_line, printed_count}
+use Rattle.sat_report.specs.Answers.{answers, answer_line, answer_text, printed_count}
+use Rattle.sat_report.specs.Frames.{framed}
+use Rattle.sat_report.proofs.Frames.{as_line}
 use Rattle.sat_runs.specs.Runs.{history}
 use Rattle.sat_runs.specs.Running.{entry, HasDone, Does, IsRunning, IsAnswering}
 
@@ -68,6 +70,11 @@ on old new acts a r range does now =
       goes = record { run = rw (history-next d a acts) (act-is d h a now.run (in-range d a range)); stands = rw next done.stands };
       next = next;
     }
+
+-- a line with its number
+pub line_of : (d : Deployed) (number : Option ℕ) (n : ℕ) (r : Answer) → number ≡ Some n → framed number (answer_text d r) ≡ answer_line d n r
+unfolding answer_line
+line_of d number n r is = ap (λ (k : Option ℕ). framed k (answer_text d r)) is ∙ as_line n (answer_text d r)
 
 -- with the line of its answer
 pub answers_more : (old new : WorldSeen) (text more : List ℕ) (number : ℕ) (acts : List Act) (a : Act) (r : Answer) → IsActOf old.deployment a → Does old a r new

@@ -1,12 +1,12 @@
 //! Acts done one after another.
-ghost use Rattle.std.specs.Prelude.{◌≡◌, ◌+◌, ◌^◌, ◌<◌, ◌++◌, ℕ, [], ◌∷◌, List, IfOk, OnOk, length};
+ghost use Rattle.std.specs.Prelude.{◌≡◌, ◌+◌, ◌^◌, ◌<◌, ◌++◌, ℕ, [], ◌∷◌, List, IfOk, OnOk, Some, length};
 ghost use Rattle.sat_act.specs.declared.act.Act.{Act};
 ghost use Rattle.sat_act.specs.Ranges.{IsActOf};
 ghost use Rattle.sat_script.specs.Reading.{AreActsOf};
 ghost use Rattle.sat_runs.specs.Running.{Does, IsAnswering};
 
 use sat_act::{Act, Answer};
-use sat_report::write_line;
+use sat_report::{LineFront, write_numbered};
 use sat_settle::settle;
 use sat_world::World;
 use std::alloc::AllocError;
@@ -18,15 +18,27 @@ pub fn do_act(world: &mut World, act: &Act) -> Result<Answer, AllocError>
     ensures deployment { world.new.deployment ≡ world.old.deployment }
 {
     match act {
-        Act::Settle => {
-            let answer = settle(world)?;
-            Ok(answer)
-        }
-        _ => {
-            let answer = world.apply(act)?;
-            Ok(answer)
-        }
+        Act::Settle => settle(world),
+        _ => world.apply(act),
     }
+}
+
+// Does an act, and appends the line of its answer, as `answer_act` does.
+#[inline(always)]
+fn answer_numbered(
+    world: &mut World,
+    line: &LineFront,
+    act: &Act,
+    text: &mut Vec<u8>,
+) -> Result<(), AllocError>
+    requires act { IsActOf world.old.deployment act.now }
+    ensures deployment { world.new.deployment ≡ world.old.deployment }
+    ensures running { OnOk result ((front : List ℕ) (acts : List Act) → line.now ≡ Some (length acts + 1) → IsAnswering world.old.deployment world.old (front ++ text.old.items) acts
+        → IsAnswering world.old.deployment world.new (front ++ text.new.items) (acts ++ act.now ∷ [])) }
+{
+    let answer = do_act(world, act)?;
+    write_numbered(world.deployment(), line, &answer, text)?;
+    Ok(())
 }
 
 /// Does an act, and appends the line of its answer. For want of memory the act may be done without its line, or with a front of it.
@@ -41,8 +53,8 @@ pub fn answer_act(
     ensures running { OnOk result ((front : List ℕ) (acts : List Act) → number ≡ length acts + 1 → IsAnswering world.old.deployment world.old (front ++ text.old.items) acts
         → IsAnswering world.old.deployment world.new (front ++ text.new.items) (acts ++ act.now ∷ [])) }
 {
-    let answer = do_act(world, act)?;
-    write_line(world.deployment(), number, &answer, text)?;
+    let line = LineFront::of(number);
+    answer_numbered(world, &line, act, text)?;
     Ok(())
 }
 
@@ -60,8 +72,10 @@ pub fn answer_acts(
     ensures running { OnOk result ((front : List ℕ) (done : List Act) → before ≡ length done → IsAnswering world.old.deployment world.old (front ++ text.old.items) done
         → IsAnswering world.old.deployment world.new (front ++ text.new.items) (done ++ acts.now)) }
 {
-    for (place, act) in acts.iter().enumerate() {
-        answer_act(world, before + place as u64 + 1, act, text)?;
+    let mut line = LineFront::of(before);
+    for act in acts {
+        line.advance();
+        answer_numbered(world, &line, act, text)?;
     }
     Ok(())
 }

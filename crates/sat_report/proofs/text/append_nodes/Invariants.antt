@@ -1,7 +1,0 @@
-use Rattle.std.proofs.Common.{◌≡◌, ◌++◌, drop}
-use Rattle.sat_report.specs.Fronts.{Keeps}
-use Rattle.sat_report.proofs.Commas.{commas}
-use Rattle.sat_report.proofs.text.append_nodes.Given as goal
-
-abbrev pub invariant-loop-node : goal.invariant-loop-node
-invariant-loop-node l = Keeps l.fn.out.items l.out.items × (l.out.items ++ commas (drop l.node-index l.rest) ≡ l.initial.out.items ++ commas l.rest)
