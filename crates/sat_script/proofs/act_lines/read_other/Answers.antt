@@ -11,4 +11,4 @@ returns-in-Some c =
     let other : c.args.kind ≡ kind.Epoch → ⊥ = search rules in
     let well : begins c.args.kind c.args.word.now ≡ true = search rules in
     let said : says c.args.header.now (shape_of (option_copied c.args.tree)) c.args.kind c.args.word.now ≡ Some (said_of c.in-Some.one) = search rules in
-    added_word c.args.header.now (shape_of (option_copied c.args.tree)) c.args.kind c.args.word.now c.args.said.now.items c.push.new.self.items c.in-Some.one c.push.ensures.items other well said
+    added_word c.args.header.now (shape_of (option_copied c.args.tree)) c.args.kind c.args.word.now c.args.said.now.items c.push.new.self.items c.in-Some.one c.requires.names c.push.ensures.items other well said
