@@ -25,7 +25,6 @@ use Rattle.sat_script.specs.declared.form.Form.{Form}
 use Rattle.sat_script.specs.declared.form.Kind.{Kind}
 use Rattle.sat_script.specs.declared.form.Kind.TheVariants as kind
 use Rattle.sat_script.specs.declared.said.Said.{Said as Kept}
-use Rattle.sat_script.specs.declared.said.Said.TheVariants as kept
 use Rattle.sat_script.specs.declared.line.Parsed.TheVariants as parsed
 use Rattle.sat_script.proofs.Acts.{mapped}
 use Rattle.sat_script.proofs.ActsRead.{token, named_client, named_item}
@@ -100,19 +99,6 @@ word_read d t k word a names other b h =
 pub added_word : (d : Deployed) (t : TreeShape) (k : Kind) (word : List ℕ) (old new : List Kept) (one : Kept) → HaveNames d → new ≡ old ++ one ∷ [] → (k ≡ kind.Epoch → ⊥) → begins k word ≡ true → says d t k word ≡ Some (said_of one)
     → (a : Said) × (map said_of new ≡ map said_of old ++ a ∷ []) × IsReadWord d t k word a t
 added_word d t k word old new one names grown other b h = (said_of one, ap (map said_of) grown ∙ map-append said_of old (one ∷ []), word_read d t k word (said_of one) names other b h)
-
--- a word of such a kind was added
-abbrev pub IsAdded : Deployed → TreeShape → Kind → List ℕ → List Kept → List Kept → Type 0
-IsAdded d t k word old new = (a : Said) × (map said_of new ≡ map said_of old ++ a ∷ []) × IsReadWord d t k word a t
-
-pub added_site : (d : Deployed) (t : TreeShape) (k : Kind) (word : List ℕ) (old new : List Kept) (n : ℕ) → HaveNames d → k ≡ kind.Site → new ≡ old ++ kept.Place n ∷ [] → number_below d.sites word ≡ Some n → IsAdded d t k word old new
-added_site d t k word old new n names is grown h = subst (λ (k : Kind). IsAdded d t k word old new) (sym is) (added_word d t kind.Site word old new (kept.Place n) names grown (λ e. absurd (cc)) refl (ap (option_map place) h))
-
-pub added_gear : (d : Deployed) (t : TreeShape) (k : Kind) (word : List ℕ) (old new : List Kept) (n : ℕ) → HaveNames d → k ≡ kind.Gear → new ≡ old ++ kept.Place n ∷ [] → number_below d.gears word ≡ Some n → IsAdded d t k word old new
-added_gear d t k word old new n names is grown h = subst (λ (k : Kind). IsAdded d t k word old new) (sym is) (added_word d t kind.Gear word old new (kept.Place n) names grown (λ e. absurd (cc)) refl (ap (option_map place) h))
-
-pub added_ts : (d : Deployed) (t : TreeShape) (k : Kind) (word : List ℕ) (old new : List Kept) (n : ℕ) → HaveNames d → k ≡ kind.Ts → new ≡ old ++ kept.Number n ∷ [] → number_up_to (2 ^ 62) word ≡ Some n → IsAdded d t k word old new
-added_ts d t k word old new n names is grown h = subst (λ (k : Kind). IsAdded d t k word old new) (sym is) (added_word d t kind.Ts word old new (kept.Number n) names grown (λ e. absurd (cc)) refl (ap (option_map num) h))
 
 -- ---- words, one after another
 

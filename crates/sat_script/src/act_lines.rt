@@ -217,9 +217,9 @@ fn read_epoch<'h>(header: &'h Header, word: &[u8]) -> Option<(u16, &'h Tree)>
     }
 }
 
-// Adds what any other word says that has its shape and whose name the header has.
+// Adds what a word says that is no epoch, has its shape, and whose name the header has.
 #[inline(never)]
-fn read_other<'a>(
+fn read_word<'a>(
     header: &Header,
     tree: Option<&Tree>,
     kind: Kind,
@@ -242,45 +242,6 @@ fn read_other<'a>(
             true
         }
         None => false,
-    }
-}
-
-// The same, where sites, gears and timestamps are most words.
-#[inline(always)]
-fn read_word<'a>(
-    header: &Header,
-    tree: Option<&Tree>,
-    kind: Kind,
-    word: &'a [u8],
-    said: &mut Args<'a>,
-) -> bool
-    requires few { length said.old.items < 4 }
-    requires names { HaveNames header.now }
-    ensures { Adds result said.old.items said.new.items (λ a. IsReadWord header.now (shape_of (option_copied tree.entry)) kind word.now a (shape_of (option_copied tree.entry))) }
-{
-    match kind {
-        Kind::Site => match number_below(header.sites(), word) {
-            Some(site) => {
-                said.push(Said::Place(site));
-                true
-            }
-            None => false,
-        },
-        Kind::Gear => match number_below(header.gears(), word) {
-            Some(gear) => {
-                said.push(Said::Place(gear));
-                true
-            }
-            None => false,
-        },
-        Kind::Ts => match number_up_to(TS_END, word) {
-            Some(ts) => {
-                said.push(Said::Number(ts));
-                true
-            }
-            None => false,
-        },
-        _ => read_other(header, tree, kind, word, said),
     }
 }
 
@@ -389,6 +350,7 @@ fn one_site(header: &Header, words: &[&[u8]]) -> Option<u16>
     }
 }
 
+#[inline(always)]
 fn read_tick(header: &Header, words: &[&[u8]]) -> Option<Act>
     ensures { IfSome result (λ act. Reads header.now form.Tick (map (λ word. word.now) words.now) act) }
 {
@@ -407,6 +369,7 @@ fn read_tick(header: &Header, words: &[&[u8]]) -> Option<Act>
     Some(Act::Tick { site, gear, ts })
 }
 
+#[inline(always)]
 fn read_bulk(header: &Header, words: &[&[u8]]) -> Option<Act>
     ensures { IfSome result (λ act. Reads header.now form.Bulk (map (λ word. word.now) words.now) act) }
 {
@@ -430,6 +393,7 @@ fn read_bulk(header: &Header, words: &[&[u8]]) -> Option<Act>
     })
 }
 
+#[inline(always)]
 fn read_hop(header: &Header, words: &[&[u8]]) -> Option<Act>
     ensures { IfSome result (λ act. Reads header.now form.Hop (map (λ word. word.now) words.now) act) }
 {
