@@ -30,6 +30,7 @@ use Rattle.sat_script.specs.declared.dialect.Dialect.{Dialect}
 use Rattle.sat_script.specs.declared.fault.Cause.{Cause}
 use Rattle.sat_script.specs.Kept.{IsSited, IsOpened, IsWhole, HasHeader, IsFit}
 use Rattle.sat_script.specs.Dialect.{limits_of}
+use Rattle.sat_script.specs.Spelled.{HaveNames}
 use Rattle.sat_script.specs.State.{State, start}
 use Rattle.sat_script.specs.Words.{words_of, is_text}
 use Rattle.sat_script.specs.declared.limits.TheConstants.{LONGEST_LINE, MOST_GEARS, MOST_PLANS}
@@ -218,6 +219,21 @@ with_plan s p is st = record {
   names = record { items = is.names.items; clients = is.names.clients };
 }
 
+no_names : (d : Deployed) → d.items ≡ [] → d.clients ≡ [] → HaveNames d
+no_names d items clients = record { items = subst (λ (xs : List Item). AllByRecursion (λ (item : Item). is_name item.name ≡ true) xs) (sym items) tt; clients = subst (λ (xs : List ClientLine). AllByRecursion (λ (line : ClientLine). is_name line.name ≡ true) xs) (sym clients) tt }
+
+header_names : (here : Stage) (d : Deployed) → HasHeader here d → HaveNames d
+header_names stage.Start d is = no_names d (ap (λ (d : Deployed). d.items) is) (ap (λ (d : Deployed). d.clients) is)
+header_names stage.Sites d is = no_names d (ap (λ (d : Deployed). d.items) is) (ap (λ (d : Deployed). d.clients) is)
+header_names stage.Gears d is = no_names d is.items is.clients
+header_names stage.Header d is = is.names
+header_names stage.Body d is = is.names
+header_names stage.Ended d is = is.names
+
+-- at every stage the header's names are names
+pub fit_names : (s : State) → IsFit s → HaveNames s.header
+fit_names s is = header_names s.stage s.header is.header
+
 opened : (s : State) (n : ℕ) → IsSited s.header → 1 ≤ n → n ≤ MOST_GEARS → IsOpened (record s.header { gears = n })
 opened s n is some few =
     record {
@@ -229,7 +245,7 @@ opened s n is some few =
       clients = subst (λ (xs : List ClientLine). first_failing (client_fits s.header.sites xs) (length xs) ≡ None) (sym is.clients) (first_start (client_fits s.header.sites []));
       plans = subst (λ (xs : List Plan). first_failing (plan_fits s.header.sites xs) (length xs) ≡ None) (sym is.plans) (first_start (plan_fits s.header.sites []));
       trees = subst (λ (xs : List Plan). HaveTrees xs) (sym is.plans) no_trees;
-      names = record { items = subst (λ (xs : List Item). AllByRecursion (λ (item : Item). is_name item.name ≡ true) xs) (sym is.items) tt; clients = subst (λ (xs : List ClientLine). AllByRecursion (λ (line : ClientLine). is_name line.name ≡ true) xs) (sym is.clients) tt };
+      names = no_names (record s.header { gears = n }) is.items is.clients;
     }
 
 header_after : (here : Stage) (s : State) (p : Parsed) → HasHeader here s.header → length s.header.items ≤ 4096 → length s.header.clients ≤ 1024 → length s.header.plans ≤ 16 → Stands here s p → HasHeader (next_stage here p) (with_parsed s.header p)

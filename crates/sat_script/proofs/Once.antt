@@ -1,10 +1,11 @@
 -- A good word is read once: what it says tells the rest of its shape, and that the header has its name.
-use Rattle.std.proofs.Common.{◌≡◌, ℕ, ◌+◌, ◌^◌, ◌-◌, ◌<◌, ◌≤◌, Bool, true, false, ◌&&◌, ◌||◌, cond, eqb, ltb, leb, List, [], ◌∷◌, ◌++◌, length, map, drop, get_or, Option, Some, None, Result, Ok, is_some, sym, ap, ◌∙◌, refl, subst}
+use Rattle.std.proofs.Common.{◌≡◌, ℕ, ◌+◌, ◌^◌, ◌-◌, ◌<◌, ◌≤◌, Bool, true, false, ◌&&◌, ◌||◌, cond, eqb, ltb, leb, List, [], ◌∷◌, ◌++◌, length, map, drop, get_or, Option, Some, None, Result, Ok, is_some, sym, ap, ◌∙◌, refl, subst, arith}
 use Rattle.std.specs.Option.{option_map}
+use Rattle.std.specs.Prelude.{IfSome}
 use Rattle.std.proofs.lemmas.Bool.{and_from, and_parts}
 use Rattle.std.proofs.lemmas.List.{append-nil, append_assoc, drop_all, drop_more, drop-map, map-append}
 use Rattle.std.specs.Borrow.{Bor}
-use Rattle.sat_label.specs.Text.{is_value}
+use Rattle.sat_label.specs.Text.{is_name, is_value}
 use Rattle.sat_label.specs.declared.node.NodeId.{NodeId}
 use Rattle.sat_label.specs.declared.node.NodeId.TheVariants.{Site, Serializer}
 use Rattle.sat_tree.specs.Shape.{TreeShape}
@@ -13,8 +14,9 @@ use Rattle.sat_act.specs.Parts.{tree_of}
 use Rattle.sat_act.specs.declared.act.Act.{Act}
 use Rattle.sat_script.specs.Causes.{bar, given, client_of, item_of}
 use Rattle.sat_script.specs.Grammar.{is_end, of_act, body_line}
-use Rattle.sat_script.specs.Said.{said_of, begins, IsReadWord, AreRead}
-use Rattle.sat_script.specs.Table.{Said, place, num, bytes, at, shape, known, says, shapes, all_known, all_say, in_tree, onto, no_tree, kinds_of, act_forms, found_form, said_act, form_line, act_line}
+use Rattle.sat_script.specs.Said.{said_of, begins, IsReadWord, AreRead, Reads}
+use Rattle.sat_script.specs.Table.{Said, place, num, bytes, at, shape, known, says, shapes, all_known, all_say, in_tree, onto, no_tree, kinds_of, act_forms, act_of, found_form, args_of, unfit, said_act, form_line, act_line}
+use Rattle.sat_script.specs.Spelled.{HaveNames}
 use Rattle.sat_script.specs.State.{State}
 use Rattle.sat_script.specs.Words.{is_number, is_node, is_serializer, value_of, number_below, number_to, number_up_to, node_in, serializer_in}
 use Rattle.sat_script.specs.declared.fault.Cause.{Cause}
@@ -23,11 +25,12 @@ use Rattle.sat_script.specs.declared.form.Form.{Form}
 use Rattle.sat_script.specs.declared.form.Kind.{Kind}
 use Rattle.sat_script.specs.declared.form.Kind.TheVariants as kind
 use Rattle.sat_script.specs.declared.said.Said.{Said as Kept}
-use Rattle.sat_script.specs.declared.said.Said.TheVariants as kept
 use Rattle.sat_script.specs.declared.line.Parsed.TheVariants as parsed
 use Rattle.sat_script.proofs.Acts.{mapped}
-use Rattle.sat_script.proofs.ActsRead.{token}
+use Rattle.sat_script.proofs.ActsRead.{token, named_client, named_item}
 use Rattle.sat_script.proofs.Choices.{tested}
+use Rattle.sat_script.proofs.Cuts.{texts}
+use Rattle.sat_script.proofs.Lookup.{client_is, item_is}
 
 -- ---- a word
 
@@ -57,28 +60,34 @@ unfolding serializer_in is_serializer
 serializer_told t [] z b h = absurd (cc)
 serializer_told t (byte ∷ number) z b h = and_from (eqb byte 122) (is_number number) b (below_told (length t.parents) number z h)
 
+client_told : (d : Deployed) (word : List ℕ) (c : ℕ) → HaveNames d → client_of d word ≡ Some c → is_name word ≡ true
+client_told d word c names h = let found = client_is d word c h in ap is_name (sym found.1) ∙ named_client d c names found.0
+
+item_told : (d : Deployed) (word : List ℕ) (x : ℕ) → HaveNames d → item_of d word ≡ Some x → is_name word ≡ true
+item_told d word x names h = let found = item_is d word x h in ap is_name (sym found.1) ∙ named_item d x names found.0
+
 -- a word that begins well and says something has its shape, and the header has its name
-pub word_told : (d : Deployed) (t : TreeShape) (k : Kind) (word : List ℕ) (a : Said) → begins k word ≡ true → says d t k word ≡ Some a → (shape k word ≡ true) × (known d k word ≡ true)
-word_told d t kind.Client word a b h = let m = mapped place (client_of d word) a h in (b, ap is_some m.1)
-word_told d t kind.Item word a b h = let m = mapped place (item_of d word) a h in (b, ap is_some m.1)
-word_told d t kind.Value word a b h = (token word (tested (is_value word) (bytes word) a h).0, refl)
-word_told d t kind.Site word a b h = let m = mapped place (number_below d.sites word) a h in (below_told d.sites word m.0 m.1, refl)
-word_told d t kind.Gear word a b h = let m = mapped place (number_below d.gears word) a h in (below_told d.gears word m.0 m.1, refl)
-word_told d t kind.Ts word a b h = let m = mapped num (number_up_to (2 ^ 62) word) a h in (up_to_told (2 ^ 62) word m.0 m.1, refl)
-word_told d t kind.Count word a b h = let m = mapped num (number_up_to (2 ^ 64 - 1) word) a h in (up_to_told (2 ^ 64 - 1) word m.0 m.1, refl)
-word_told d t kind.Epoch word a b h = let m = mapped place (number_to (length d.plans) word) a h in (to_told (length d.plans) word m.0 m.1, refl)
-word_told d t kind.Node word a b h = let m = mapped at (node_in t word) a h in (node_told t word m.0 b m.1, refl)
-word_told d t kind.Serializer word a b h = let m = mapped place (serializer_in t word) a h in (serializer_told t word m.0 b m.1, refl)
+pub word_told : (d : Deployed) (t : TreeShape) (k : Kind) (word : List ℕ) (a : Said) → HaveNames d → begins k word ≡ true → says d t k word ≡ Some a → (shape k word ≡ true) × (known d k word ≡ true)
+word_told d t kind.Client word a names b h = let m = mapped place (client_of d word) a h in (client_told d word m.0 names m.1, ap is_some m.1)
+word_told d t kind.Item word a names b h = let m = mapped place (item_of d word) a h in (item_told d word m.0 names m.1, ap is_some m.1)
+word_told d t kind.Value word a names b h = (token word (tested (is_value word) (bytes word) a h).0, refl)
+word_told d t kind.Site word a names b h = let m = mapped place (number_below d.sites word) a h in (below_told d.sites word m.0 m.1, refl)
+word_told d t kind.Gear word a names b h = let m = mapped place (number_below d.gears word) a h in (below_told d.gears word m.0 m.1, refl)
+word_told d t kind.Ts word a names b h = let m = mapped num (number_up_to (2 ^ 62) word) a h in (up_to_told (2 ^ 62) word m.0 m.1, refl)
+word_told d t kind.Count word a names b h = let m = mapped num (number_up_to (2 ^ 64 - 1) word) a h in (up_to_told (2 ^ 64 - 1) word m.0 m.1, refl)
+word_told d t kind.Epoch word a names b h = let m = mapped place (number_to (length d.plans) word) a h in (to_told (length d.plans) word m.0 m.1, refl)
+word_told d t kind.Node word a names b h = let m = mapped at (node_in t word) a h in (node_told t word m.0 b m.1, refl)
+word_told d t kind.Serializer word a names b h = let m = mapped place (serializer_in t word) a h in (serializer_told t word m.0 b m.1, refl)
 
 -- the nodes after an epoch stand in its tree, and the others where they stood
 pub epoch_read : (d : Deployed) (t u : TreeShape) (word : List ℕ) (e : ℕ) → says d t kind.Epoch word ≡ Some (place e) → tree_of d e ≡ Some u → IsReadWord d t kind.Epoch word (place e) u
 epoch_read d t u word e h tree =
-    let is = word_told d t kind.Epoch word (place e) refl h in
-    record { shaped = is.0; named = is.1; said = h; goes = λ next. ap (λ (o : Option TreeShape). given NoEdge o next) tree }
+    let m = mapped place (number_to (length d.plans) word) (place e) h in
+    record { shaped = to_told (length d.plans) word m.0 m.1; named = refl; said = h; goes = λ next. ap (λ (o : Option TreeShape). given NoEdge o next) tree }
 
-pub word_read : (d : Deployed) (t : TreeShape) (k : Kind) (word : List ℕ) (a : Said) → (k ≡ kind.Epoch → ⊥) → begins k word ≡ true → says d t k word ≡ Some a → IsReadWord d t k word a t
-word_read d t k word a other b h =
-    let is = word_told d t k word a b h in
+pub word_read : (d : Deployed) (t : TreeShape) (k : Kind) (word : List ℕ) (a : Said) → HaveNames d → (k ≡ kind.Epoch → ⊥) → begins k word ≡ true → says d t k word ≡ Some a → IsReadWord d t k word a t
+word_read d t k word a names other b h =
+    let is = word_told d t k word a names b h in
     record { shaped = is.0; named = is.1; said = h; goes = stays k other }
   where
     stays : (k : Kind) → (k ≡ kind.Epoch → ⊥) → (next : TreeShape → Result (List Said) Cause) → in_tree d k t a next ≡ next t
@@ -87,22 +96,9 @@ word_read d t k word a other b h =
 
 -- ---- a word that is added
 
-pub added_word : (d : Deployed) (t : TreeShape) (k : Kind) (word : List ℕ) (old new : List Kept) (one : Kept) → new ≡ old ++ one ∷ [] → (k ≡ kind.Epoch → ⊥) → begins k word ≡ true → says d t k word ≡ Some (said_of one)
+pub added_word : (d : Deployed) (t : TreeShape) (k : Kind) (word : List ℕ) (old new : List Kept) (one : Kept) → HaveNames d → new ≡ old ++ one ∷ [] → (k ≡ kind.Epoch → ⊥) → begins k word ≡ true → says d t k word ≡ Some (said_of one)
     → (a : Said) × (map said_of new ≡ map said_of old ++ a ∷ []) × IsReadWord d t k word a t
-added_word d t k word old new one grown other b h = (said_of one, ap (map said_of) grown ∙ map-append said_of old (one ∷ []), word_read d t k word (said_of one) other b h)
-
--- a word of such a kind was added
-abbrev pub IsAdded : Deployed → TreeShape → Kind → List ℕ → List Kept → List Kept → Type 0
-IsAdded d t k word old new = (a : Said) × (map said_of new ≡ map said_of old ++ a ∷ []) × IsReadWord d t k word a t
-
-pub added_site : (d : Deployed) (t : TreeShape) (k : Kind) (word : List ℕ) (old new : List Kept) (n : ℕ) → k ≡ kind.Site → new ≡ old ++ kept.Place n ∷ [] → number_below d.sites word ≡ Some n → IsAdded d t k word old new
-added_site d t k word old new n is grown h = subst (λ (k : Kind). IsAdded d t k word old new) (sym is) (added_word d t kind.Site word old new (kept.Place n) grown (λ e. absurd (cc)) refl (ap (option_map place) h))
-
-pub added_gear : (d : Deployed) (t : TreeShape) (k : Kind) (word : List ℕ) (old new : List Kept) (n : ℕ) → k ≡ kind.Gear → new ≡ old ++ kept.Place n ∷ [] → number_below d.gears word ≡ Some n → IsAdded d t k word old new
-added_gear d t k word old new n is grown h = subst (λ (k : Kind). IsAdded d t k word old new) (sym is) (added_word d t kind.Gear word old new (kept.Place n) grown (λ e. absurd (cc)) refl (ap (option_map place) h))
-
-pub added_ts : (d : Deployed) (t : TreeShape) (k : Kind) (word : List ℕ) (old new : List Kept) (n : ℕ) → k ≡ kind.Ts → new ≡ old ++ kept.Number n ∷ [] → number_up_to (2 ^ 62) word ≡ Some n → IsAdded d t k word old new
-added_ts d t k word old new n is grown h = subst (λ (k : Kind). IsAdded d t k word old new) (sym is) (added_word d t kind.Ts word old new (kept.Number n) grown (λ e. absurd (cc)) refl (ap (option_map num) h))
+added_word d t k word old new one names grown other b h = (said_of one, ap (map said_of) grown ∙ map-append said_of old (one ∷ []), word_read d t k word (said_of one) names other b h)
 
 -- ---- words, one after another
 
@@ -157,3 +153,81 @@ pub good_line : (s : State) (f : Form) (word : List ℕ) (words : List (List ℕ
     → AreRead s.header (kinds_of f) words xs → said_act s.header f (Ok xs) ≡ Ok a → body_line s (word ∷ words) ≡ Ok (parsed.Act a)
 unfolding body_line act_line
 good_line s f word words xs a going found free read said = rw (going, found) (ap of_act (read_line (bar s) s.header f words xs free read ∙ said))
+
+-- ---- a line whose act is made as its words are read
+
+pub site_read : (d : Deployed) (t : TreeShape) (word : List ℕ) (limit n : ℕ) → limit ≡ d.sites → Some n ≡ number_below limit word → IsReadWord d t kind.Site word (place n) t
+site_read d t word limit n is h =
+    let told : number_below d.sites word ≡ Some n = ap (λ (limit : ℕ). number_below limit word) (sym is) ∙ sym h in
+    record { shaped = below_told d.sites word n told; named = refl; said = ap (option_map place) told; goes = λ next. refl }
+
+pub gear_read : (d : Deployed) (t : TreeShape) (word : List ℕ) (limit n : ℕ) → limit ≡ d.gears → Some n ≡ number_below limit word → IsReadWord d t kind.Gear word (place n) t
+gear_read d t word limit n is h =
+    let told : number_below d.gears word ≡ Some n = ap (λ (limit : ℕ). number_below limit word) (sym is) ∙ sym h in
+    record { shaped = below_told d.gears word n told; named = refl; said = ap (option_map place) told; goes = λ next. refl }
+
+pub ts_read : (d : Deployed) (t : TreeShape) (word : List ℕ) (n : ℕ) → Some n ≡ number_up_to (2 ^ 62) word → IsReadWord d t kind.Ts word (num n) t
+ts_read d t word n h = record { shaped = up_to_told (2 ^ 62) word n (sym h); named = refl; said = ap (option_map num) (sym h); goes = λ next. refl }
+
+pub node_read : (d : Deployed) (t : TreeShape) (word : List ℕ) (u : NodeId) → true ≡ begins kind.Node word → Some u ≡ node_in t word → IsReadWord d t kind.Node word (at u) t
+node_read d t word u b h = record { shaped = node_told t word u (sym b) (sym h); named = refl; said = ap (option_map at) (sym h); goes = λ next. refl }
+
+pub serializer_read : (d : Deployed) (t : TreeShape) (word : List ℕ) (z : ℕ) → true ≡ begins kind.Serializer word → Some z ≡ serializer_in t word → IsReadWord d t kind.Serializer word (place z) t
+serializer_read d t word z b h = record { shaped = serializer_told t word z (sym b) (sym h); named = refl; said = ap (option_map place) (sym h); goes = λ next. refl }
+
+goes_start : (d : Deployed) (all : List Kind) (words : List (List ℕ)) → Goes d all words [] no_tree all words
+goes_start d all words = record { shaped = λ h. h; named = λ h. h; said = λ more h. h }
+
+pub one_read : (d : Deployed) (t : TreeShape) (k : Kind) (w : List ℕ) (a : Said) → IsReadWord d no_tree k w a t → AreRead d (k ∷ []) (w ∷ []) (a ∷ [])
+one_read d t k w a r = goes_end d (k ∷ []) (w ∷ []) (a ∷ []) t (goes_more d (k ∷ []) (w ∷ []) [] no_tree t k [] w [] a (goes_start d (k ∷ []) (w ∷ [])) r)
+
+pub three_read : (d : Deployed) (t u v : TreeShape) (k l m : Kind) (w x y : List ℕ) (a b c : Said) → IsReadWord d no_tree k w a t → IsReadWord d t l x b u → IsReadWord d u m y c v → AreRead d (k ∷ l ∷ m ∷ []) (w ∷ x ∷ y ∷ []) (a ∷ b ∷ c ∷ [])
+three_read d t u v k l m w x y a b c first second third =
+    let ks = k ∷ l ∷ m ∷ [] in
+    let ws = w ∷ x ∷ y ∷ [] in
+    goes_end d ks ws (a ∷ b ∷ c ∷ []) v
+    (goes_more d ks ws (a ∷ b ∷ []) u v m [] y [] c
+    (goes_more d ks ws (a ∷ []) t u l (m ∷ []) x (y ∷ []) b (goes_more d ks ws [] no_tree t k (l ∷ m ∷ []) w (x ∷ y ∷ []) a (goes_start d ks ws) first) second) third)
+
+one_word : (words : List (Bor (List ℕ))) (w : Bor (List ℕ)) → 1 ≤ length words → length words < 2 → texts words ≡ (get_or words 0 w).now ∷ []
+one_word [] w least most = absurd (omega (arith, least))
+one_word (a ∷ []) w least most = refl
+one_word (a ∷ b ∷ words) w least most = absurd (omega (arith, most))
+
+three_words : (words : List (Bor (List ℕ))) (w : Bor (List ℕ)) → 3 ≤ length words → length words < 4 → texts words ≡ (get_or words 0 w).now ∷ (get_or words 1 w).now ∷ (get_or words 2 w).now ∷ []
+three_words [] w least most = absurd (omega (arith, least))
+three_words (a ∷ []) w least most = absurd (omega (arith, least))
+three_words (a ∷ b ∷ []) w least most = absurd (omega (arith, least))
+three_words (a ∷ b ∷ c ∷ []) w least most = refl
+three_words (a ∷ b ∷ c ∷ e ∷ words) w least most = absurd (omega (arith, most))
+
+-- one word as it stands in a line
+pub one_is : (d : Deployed) (t : TreeShape) (k : Kind) (words : List (Bor (List ℕ))) (w : Bor (List ℕ)) (a : Said) → 1 ≤ length words → length words < 2 → IsReadWord d no_tree k (get_or words 0 w).now a t → AreRead d (k ∷ []) (texts words) (a ∷ [])
+one_is d t k words w a least most r = subst (λ (ws : List (List ℕ)). AreRead d (k ∷ []) ws (a ∷ [])) (sym (one_word words w least most)) (one_read d t k (get_or words 0 w).now a r)
+
+pub one_site_is : (d : Deployed) (words : List (Bor (List ℕ))) (w : Bor (List ℕ)) (limit : ℕ) (o : Option ℕ) → 1 ≤ length words → length words < 2 → limit ≡ d.sites → o ≡ number_below limit (get_or words 0 w).now
+    → IfSome o (λ site. AreRead d (kind.Site ∷ []) (texts words) (place site ∷ []))
+one_site_is d words w limit None least most is h = tt
+one_site_is d words w limit (Some site) least most is h = one_is d no_tree kind.Site words w (place site) least most (site_read d no_tree (get_or words 0 w).now limit site is h)
+
+-- the act of a form whose only word is a site
+pub site_act_reads : (d : Deployed) (f : Form) (words : List (List ℕ)) (site : ℕ) (o : Option Act) → AreRead d (kind.Site ∷ []) words (place site ∷ []) → IfSome o (λ a. (kinds_of f ≡ kind.Site ∷ []) × (args_of a ≡ place site ∷ []) × (act_of f (args_of a) ≡ Some a))
+    → IfSome o (λ a. Reads d f words a)
+site_act_reads d f words site None r h = tt
+site_act_reads d f words site (Some a) r h = record { read = rw (h.0, h.1) r; act = h.2 }
+
+pub quick_as : (d : Deployed) (f g : Form) (words : List (List ℕ)) (o : Option Act) → f ≡ g → IfSome o (λ a. Reads d g words a) → IfSome o (λ a. Reads d f words a)
+quick_as d f g words o is h = subst (λ (f : Form). IfSome o (λ a. Reads d f words a)) (sym is) h
+
+-- and three words, that say an act
+pub three_are : (d : Deployed) (t u v : TreeShape) (words : List (Bor (List ℕ))) (w : Bor (List ℕ)) (f : Form) (k l m : Kind) (a b c : Said) (x : Act) → 3 ≤ length words → length words < 4 → kinds_of f ≡ k ∷ l ∷ m ∷ [] → args_of x ≡ a ∷ b ∷ c ∷ [] → act_of f (args_of x) ≡ Some x
+    → IsReadWord d no_tree k (get_or words 0 w).now a t → IsReadWord d t l (get_or words 1 w).now b u → IsReadWord d u m (get_or words 2 w).now c v → Reads d f (texts words) x
+three_are d t u v words w f k l m a b c x least most kinds args says first second third = record {
+  read = rw (kinds, args, three_words words w least most) (three_read d t u v k l m (get_or words 0 w).now (get_or words 1 w).now (get_or words 2 w).now a b c first second third);
+  act = says;
+}
+
+-- such a line, where the parts of its act go together
+pub quick_line : (s : State) (f : Form) (word : List ℕ) (words : List (List ℕ)) (a : Act) → is_end (word ∷ words) ≡ false → found_form word (length words) act_forms ≡ Some f → bar s f ≡ None
+    → Reads s.header f words a → unfit s.header a ≡ None → body_line s (word ∷ words) ≡ Ok (parsed.Act a)
+quick_line s f word words a going found free r fit = good_line s f word words (args_of a) a going found free r.read (rw (r.act, fit) refl)

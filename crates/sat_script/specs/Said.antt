@@ -1,10 +1,11 @@
 -- What a word says, as the code keeps it.
 use Rattle.std.specs.Prelude.{ℕ, ◌≡◌, ◌||◌, ◌==◌, Bool, true, false, List, [], ◌∷◌, ◌++◌, map, Option, Some, None, Result, Ok, Err}
 use Rattle.sat_tree.specs.Shape.{TreeShape}
-use Rattle.sat_label.specs.Text.{is_name}
 use Rattle.sat_act.specs.Deployed.{Deployed}
-use Rattle.sat_script.specs.Table.{Said, place, num, bytes, at, no_tree, shape, known, says, shapes, all_known, all_say, in_tree}
+use Rattle.sat_act.specs.declared.act.Act.{Act}
+use Rattle.sat_script.specs.Table.{Said, place, num, bytes, at, no_tree, shape, known, says, shapes, all_known, all_say, in_tree, kinds_of, act_of, args_of}
 use Rattle.sat_script.specs.declared.fault.Cause.{Cause}
+use Rattle.sat_script.specs.declared.form.Form.{Form}
 use Rattle.sat_script.specs.declared.form.Kind.{Kind}
 use Rattle.sat_script.specs.declared.form.Kind.TheVariants as kind
 use Rattle.sat_script.specs.declared.said.Said.{Said as Kept}
@@ -29,11 +30,9 @@ SaysOn (Err cause) old new says = says ≡ Err cause
 
 -- ---- good words, each read once
 
--- what a word must be besides saying something: a name has its shape, and the word of a node its letter. The rest of the shape, and
--- that the header has the name, follow from what the word says
+-- what a word must be besides saying something: the word of a node has its letter. The rest of the shape, and that the header has the
+-- name, follow from what the word says, where the header's names are names
 abbrev pub begins : Kind → List ℕ → Bool
-begins kind.Client w = is_name w
-begins kind.Item w = is_name w
 begins kind.Node [] = false
 begins kind.Node (byte ∷ number) = byte == 115 || byte == 122
 begins kind.Serializer [] = false
@@ -57,3 +56,8 @@ pub record AreRead (d : Deployed) (kinds : List Kind) (words : List (List ℕ)) 
   pub shaped : shapes kinds words ≡ true
   pub named : all_known d kinds words ≡ true
   pub said : all_say d no_tree kinds words ≡ Ok xs
+
+-- words of a form say this act
+pub record Reads (d : Deployed) (f : Form) (words : List (List ℕ)) (a : Act) : Type 0 where
+  pub read : AreRead d (kinds_of f) words (args_of a)
+  pub act : act_of f (args_of a) ≡ Some a

@@ -1,5 +1,5 @@
 //! The lines after `begin`, by their words.
-ghost use Rattle.std.specs.Prelude.{◌≡◌, ◌<◌, ◌≤◌, ◌+◌, ◌==◌, [], length, map, option_copied, IsTrue, IfSome, Some, None, Ok, if◌then◌else◌};
+ghost use Rattle.std.specs.Prelude.{◌≡◌, ◌<◌, ◌≤◌, ◌+◌, ◌==◌, [], ◌∷◌, length, map, option_copied, IsTrue, IfSome, Some, None, Ok, if◌then◌else◌};
 ghost use Rattle.std.specs.Option.{option_map};
 ghost use Rattle.sat_tree.specs.Cut.{IsNode};
 ghost use Rattle.sat_tree.specs.Shape.{TreeShape};
@@ -7,10 +7,13 @@ ghost use Rattle.sat_act.specs.Parts.{tree_of};
 ghost use Rattle.sat_script.specs.Causes.{bar};
 ghost use Rattle.sat_script.specs.Grammar.{is_end, body_line};
 ghost use Rattle.sat_script.specs.Lines.{Gives};
-ghost use Rattle.sat_script.specs.Said.{said_of, shape_of, SaysOn, Adds, begins, IsReadWord, AreRead};
-ghost use Rattle.sat_script.specs.Table.{shape, shapes, known, all_known, says, all_say, has_node, joins, edge_cause, unfit, said_act, form_line, act_line};
+ghost use Rattle.sat_script.specs.Said.{said_of, shape_of, SaysOn, Adds, begins, IsReadWord, AreRead, Reads};
+ghost use Rattle.sat_script.specs.Spelled.{HaveNames};
+ghost use Rattle.sat_script.specs.Table.{shape, shapes, known, all_known, says, all_say, has_node, joins, edge_cause, unfit, said_act, form_line, act_line, kinds_of, act_of, args_of};
 ghost use Rattle.sat_script.specs.Table.{place, num, at};
 ghost use Rattle.sat_script.specs.Words.{node_in, serializer_in};
+ghost use Rattle.sat_script.specs.declared.form.Form.TheVariants as form;
+ghost use Rattle.sat_script.specs.declared.form.Kind.TheVariants as kind;
 ghost use Rattle.sat_script.specs.declared.line.Parsed.TheVariants as parsed;
 
 use crate::Cause;
@@ -189,8 +192,6 @@ fn begins(kind: Kind, word: &[u8]) -> bool
     ensures { result ≡ begins kind word.now }
 {
     match kind {
-        Kind::Client => spells_name(word),
-        Kind::Item => spells_name(word),
         Kind::Node => match word {
             [] => false,
             [byte, ..] => *byte == b's' || *byte == b'z',
@@ -216,16 +217,17 @@ fn read_epoch<'h>(header: &'h Header, word: &[u8]) -> Option<(u16, &'h Tree)>
     }
 }
 
-// Adds what any other word says that has its shape and whose name the header has.
+// Adds what a word says that is no epoch, has its shape, and whose name the header has.
 #[inline(never)]
-fn read_other<'a>(
+fn read_word<'a>(
     header: &Header,
     tree: Option<&Tree>,
     kind: Kind,
     word: &'a [u8],
     said: &mut Args<'a>,
 ) -> bool
-    requires { length said.old.items < 4 }
+    requires few { length said.old.items < 4 }
+    requires names { HaveNames header.now }
     ensures { Adds result said.old.items said.new.items (λ a. IsReadWord header.now (shape_of (option_copied tree.entry)) kind word.now a (shape_of (option_copied tree.entry))) }
 {
     if kind == Kind::Epoch {
@@ -243,49 +245,12 @@ fn read_other<'a>(
     }
 }
 
-// The same, where sites, gears and timestamps are most words.
-#[inline(always)]
-fn read_word<'a>(
-    header: &Header,
-    tree: Option<&Tree>,
-    kind: Kind,
-    word: &'a [u8],
-    said: &mut Args<'a>,
-) -> bool
-    requires { length said.old.items < 4 }
-    ensures { Adds result said.old.items said.new.items (λ a. IsReadWord header.now (shape_of (option_copied tree.entry)) kind word.now a (shape_of (option_copied tree.entry))) }
-{
-    match kind {
-        Kind::Site => match number_below(header.sites(), word) {
-            Some(site) => {
-                said.push(Said::Place(site));
-                true
-            }
-            None => false,
-        },
-        Kind::Gear => match number_below(header.gears(), word) {
-            Some(gear) => {
-                said.push(Said::Place(gear));
-                true
-            }
-            None => false,
-        },
-        Kind::Ts => match number_up_to(TS_END, word) {
-            Some(ts) => {
-                said.push(Said::Number(ts));
-                true
-            }
-            None => false,
-        },
-        _ => read_other(header, tree, kind, word, said),
-    }
-}
-
 // What all words say, where each has its shape and each name is one of the header.
 #[inline(always)]
 fn all_read<'a>(header: &Header, kinds: &[Kind], words: &[&'a [u8]], said: &mut Args<'a>) -> bool
     requires none { said.old.items ≡ [] }
     requires few { length kinds.now ≤ 4 }
+    requires names { HaveNames header.now }
     ensures { IsTrue result → AreRead header.now kinds.now (map (λ word. word.now) words.now) (map said_of said.new.items) }
 {
     if words.len() != kinds.len() {
@@ -372,6 +337,119 @@ fn unfit(header: &Header, act: &Act) -> Option<Cause>
     }
 }
 
+// ---- acts that most lines are, made as their words are read
+
+// What a site says that is the only word.
+#[inline(always)]
+fn one_site(header: &Header, words: &[&[u8]]) -> Option<u16>
+    ensures { IfSome result (λ site. AreRead header.now (kind.Site ∷ []) (map (λ word. word.now) words.now) (place site ∷ [])) }
+{
+    match words {
+        [site] => number_below(header.sites(), *site),
+        _ => None,
+    }
+}
+
+#[inline(always)]
+fn read_tick(header: &Header, words: &[&[u8]]) -> Option<Act>
+    ensures { IfSome result (λ act. Reads header.now form.Tick (map (λ word. word.now) words.now) act) }
+{
+    let [site, gear, ts] = words else {
+        return None;
+    };
+    let Some(site) = number_below(header.sites(), *site) else {
+        return None;
+    };
+    let Some(gear) = number_below(header.gears(), *gear) else {
+        return None;
+    };
+    let Some(ts) = number_up_to(TS_END, *ts) else {
+        return None;
+    };
+    Some(Act::Tick { site, gear, ts })
+}
+
+#[inline(always)]
+fn read_bulk(header: &Header, words: &[&[u8]]) -> Option<Act>
+    ensures { IfSome result (λ act. Reads header.now form.Bulk (map (λ word. word.now) words.now) act) }
+{
+    let [from, gear, to] = words else {
+        return None;
+    };
+    let Some(from) = number_below(header.sites(), *from) else {
+        return None;
+    };
+    let Some(gear) = number_below(header.gears(), *gear) else {
+        return None;
+    };
+    let Some(to) = number_below(header.sites(), *to) else {
+        return None;
+    };
+    Some(Act::Bulk {
+        from,
+        gear,
+        to,
+        number: None,
+    })
+}
+
+#[inline(always)]
+fn read_hop(header: &Header, words: &[&[u8]]) -> Option<Act>
+    ensures { IfSome result (λ act. Reads header.now form.Hop (map (λ word. word.now) words.now) act) }
+{
+    let [epoch, from, to] = words else {
+        return None;
+    };
+    let Some((epoch, tree)) = read_epoch(header, *epoch) else {
+        return None;
+    };
+    if !begins(Kind::Node, *from) {
+        return None;
+    }
+    if !begins(Kind::Serializer, *to) {
+        return None;
+    }
+    let Some(from) = node_in(tree, *from) else {
+        return None;
+    };
+    let Some(to) = serializer_in(tree, *to) else {
+        return None;
+    };
+    Some(Act::Hop { epoch, from, to })
+}
+
+// The act of a form whose only word is a site.
+#[inline(always)]
+fn act_of_site(form: Form, site: u16) -> Option<Act>
+    ensures { IfSome result (λ act. (kinds_of form ≡ kind.Site ∷ []) × (args_of act ≡ place site ∷ []) × (act_of form (args_of act) ≡ Some act)) }
+{
+    match form {
+        Form::Turn => Some(Act::Turn { site }),
+        Form::Emit => Some(Act::Emit { site }),
+        Form::Gather => Some(Act::Gather { site }),
+        Form::Pulse => Some(Act::Pulse { site }),
+        Form::Stamp => Some(Act::Stamp { site }),
+        Form::Advance => Some(Act::Advance { site }),
+        _ => None,
+    }
+}
+
+// The act of a form of which most lines are.
+#[inline(always)]
+fn quick_act(header: &Header, form: Form, words: &[&[u8]]) -> Option<Act>
+    ensures { IfSome result (λ act. Reads header.now form (map (λ word. word.now) words.now) act) }
+{
+    match form {
+        Form::Hop => read_hop(header, words),
+        Form::Bulk => read_bulk(header, words),
+        Form::Tick => read_tick(header, words),
+        _ => match one_site(header, words) {
+            Some(site) => act_of_site(form, site),
+            None => None,
+        },
+    }
+}
+
 // ---- a line
 
 // The act that words of a form say, unless its parts do not go together.
@@ -442,6 +520,12 @@ pub fn good_act(alloc: Global, place: &Place, words: &[&[u8]]) -> Option<Act>
     };
     if place.admit(form).is_err() {
         return None;
+    }
+    if let Some(act) = quick_act(place.header(), form, words) {
+        return match unfit(place.header(), &act) {
+            Some(_) => None,
+            None => Some(act),
+        };
     }
     let mut said = ArrayVec::new();
     if !all_read(place.header(), kinds_of(form), words, &mut said) {

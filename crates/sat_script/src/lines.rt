@@ -66,7 +66,7 @@ impl Lines {
     }
 
     /// Takes a line, without its byte 10. Want of memory comes after every other cause, and is told at the line for which it ran out.
-    #[inline(always)]
+    #[inline(never)]
     pub fn line(&mut self, line: &[u8]) -> Result<(), ScriptFault>
         requires fresh { self.old.seen.fault ≡ None }
         ensures takes { MatchResult result (λ _. GoesOn self.old self.new line.now) (λ fault. StopsAt self.old self.new line.now fault) }

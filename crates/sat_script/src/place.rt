@@ -6,6 +6,7 @@ ghost use Rattle.sat_script.specs.Causes.{has_room, bar};
 ghost use Rattle.sat_script.specs.Grammar.{after, IsNew};
 ghost use Rattle.sat_script.specs.Reading.{told_line};
 ghost use Rattle.sat_script.specs.Kept.{IsFit};
+ghost use Rattle.sat_script.specs.Spelled.{HaveNames};
 ghost use Rattle.sat_script.specs.declared.line.Parsed.TheVariants as parsed;
 
 use crate::form::Form;
@@ -60,8 +61,10 @@ impl Place {
     }
 
     /// The header as far as it has come.
+    #[tactic(auto, using(crate::proofs::Fits::fit_names))]
     pub fn header(&self) -> &Header
-        ensures { result.now ≡ self.now.header }
+        ensures header { result.now ≡ self.now.header }
+        ensures names { HaveNames result.now }
     {
         &self.header
     }

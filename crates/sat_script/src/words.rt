@@ -39,7 +39,7 @@ fn is_visible(byte: u8) -> bool
 
 /// Finds the first six parts of a line between its blanks, or all where there are fewer. Whether the line is text.
 /// No act has as many.
-#[inline(always)]
+#[inline(never)]
 pub fn first_words<'a>(line: &'a [u8], words: &mut FirstWords<'a>) -> bool
     requires { words.old.items ≡ [] }
     ensures { AreFirst result line.now (map (λ word. word.now) words.new.items) }
