@@ -1,5 +1,5 @@
 //! Deployments: what a script's header says.
-ghost use Rattle.std.specs.Prelude.{◌≡◌, IfOk, MatchOption, IsOkUnless, IsErrOf};
+ghost use Rattle.std.specs.Prelude.{◌≡◌, IfOk, IsOk, MatchOption, IsErrOf};
 
 use crate::DeploymentFault;
 use crate::checks::flaw_of;
@@ -127,7 +127,8 @@ impl Deployment {
     ghost use Rattle.sat_act.specs.Flaw.{flaw};
 
     /// A deployment of 1 to 16 sites with 1 to 8 gears each, at most 4,096 items, at most 1,024 clients, and the plans of 1 to
-    /// 16 epochs. Its faults say what is wrong, the sizes first, then the items, the clients and the plans, each in order.
+    /// 16 epochs. Its faults say what is wrong, the sizes first, then the items, the clients and the plans, each in order. For want
+    /// of memory it compares names pair by pair, which takes none, so it never answers `Memory`.
     pub fn new(
         alloc: Global,
         sites: u16,
@@ -138,7 +139,7 @@ impl Deployment {
     ) -> Result<Self, DeploymentFault>
         ensures deployment { IfOk result (λ d. d ≡ record { sites = sites; gears = gears; items = items.items; clients = clients.items; plans = plans.items }) }
         ensures fault { MatchOption (flaw (record { sites = sites; gears = gears; items = items.items; clients = clients.items; plans = plans.items }))
-            (IsOkUnless result DeploymentFault.Memory)
+            (IsOk result)
             (λ fault. IsErrOf result fault) }
     {
         match flaw_of(alloc, sites, gears, &items, &clients, &plans) {
