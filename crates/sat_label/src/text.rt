@@ -1,11 +1,16 @@
 //! Names and values, as a script spells them.
-ghost use Rattle.std.specs.Prelude.{◌≡◌, true, false, IfOk, IfSome, IsNone, ◌↔◌};
+ghost use Rattle.std.specs.Prelude.{◌≡◌, ◌≤◌, length, true, false, IfOk, IfSome, IsNone, ◌↔◌};
 ghost use Rattle.std.specs.List.{list_all};
 ghost use Rattle.sat_label.specs.Text.{is_between, is_name, is_name_byte, is_value};
+ghost use Rattle.sat_label.specs.Kept.{kept_bytes};
 
 use crate::limits::{NAME_BYTES, VALUE_BYTES};
+use arrayvec::ArrayVec;
 use std::alloc::{AllocError, Global};
 use std::marker::Model;
+
+// A value of so many bytes is no larger than one whose bytes lie elsewhere.
+const SHORT_BYTES: usize = 16;
 
 // A letter, a digit, `_`, `-` or `.`.
 fn fits_name(byte: u8) -> bool
@@ -120,21 +125,50 @@ impl Eq for Name {
     ghost laws = { nat_list_eq_equiv };
 }
 
+// The bytes of a short value lie in the value itself, so that it takes no memory of its own; those of a long one do not.
+#[derive(Drop)]
+enum Kept {
+    Short(ArrayVec<u8, SHORT_BYTES>),
+    Long(Vec<u8>),
+}
+
+fn short(bytes: &[u8]) -> ArrayVec<u8, SHORT_BYTES>
+    requires { length bytes.now ≤ SHORT_BYTES }
+    ensures { result.items ≡ bytes.now }
+{
+    let mut short = ArrayVec::new();
+    match short.try_extend_from_slice(bytes) {
+        Ok(()) => short,
+        Err(_) => unreachable!(),
+    }
+}
+
+fn keep(alloc: Global, bytes: &[u8]) -> Result<Kept, AllocError>
+    ensures { IfOk result (λ kept. kept_bytes kept ≡ bytes.now) }
+{
+    if bytes.len() <= SHORT_BYTES {
+        return Ok(Kept::Short(short(bytes)));
+    }
+    let bytes = bytes.to_vec(alloc)?;
+    Ok(Kept::Long(bytes))
+}
+
 /// A value of an item: 1 to 256 bytes from 33 to 126. Contracts see its bytes.
 #[derive(Drop)]
 pub struct Value {
-    bytes: Vec<u8>,
+    kept: Kept,
 }
 
 impl Model for Value {
     ghost use Rattle.std.specs.Prelude.{List, ℕ, ◌≡◌, true};
     ghost use Rattle.sat_label.specs.Text.{is_value};
+    ghost use Rattle.sat_label.specs.Kept.{kept_bytes};
 
     ghost Value = { List ℕ };
 
-    ghost view = { λ a. a.bytes.items };
+    ghost view = { λ a. kept_bytes a.kept };
 
-    ghost invariant = { λ a. is_value a.bytes.items ≡ true };
+    ghost invariant = { λ a. is_value (kept_bytes a.kept) ≡ true };
 }
 
 impl Value {
@@ -146,8 +180,8 @@ impl Value {
         if !spells_value(bytes) {
             return Ok(None);
         }
-        let bytes = bytes.to_vec(alloc)?;
-        Ok(Some(Value { bytes }))
+        let kept = keep(alloc, bytes)?;
+        Ok(Some(Value { kept }))
     }
 
     /// Its bytes.
@@ -155,15 +189,27 @@ impl Value {
         ensures bytes { result.now ≡ self.now }
         ensures value { is_value self.now ≡ true }
     {
-        self.bytes.as_slice()
+        match &self.kept {
+            Kept::Short(bytes) => bytes.as_slice(),
+            Kept::Long(bytes) => bytes.as_slice(),
+        }
     }
 
     /// The same value again.
     pub fn copy(&self) -> Result<Value, AllocError>
         ensures { IfOk result (λ value. value ≡ self.now) }
     {
-        let bytes = self.bytes.clone()?;
-        Ok(Value { bytes })
+        match &self.kept {
+            Kept::Short(bytes) => Ok(Value {
+                kept: Kept::Short(short(bytes.as_slice())),
+            }),
+            Kept::Long(bytes) => {
+                let bytes = bytes.clone()?;
+                Ok(Value {
+                    kept: Kept::Long(bytes),
+                })
+            }
+        }
     }
 }
 
@@ -177,7 +223,7 @@ impl PartialEq for Value {
     ghost laws = { partial_equiv_from_equiv nat_list_eq_equiv };
 
     fn eq(&self, other: &Value) -> bool {
-        self.bytes.as_slice() == other.bytes.as_slice()
+        self.bytes() == other.bytes()
     }
 }
 
