@@ -8,4 +8,4 @@ abbrev pub kept_bytes : Kept → List ℕ
 kept_bytes kept = elim kept [
   | Short bytes ↦ bytes.items
   | Long bytes ↦ bytes.items
-  ]
+]
