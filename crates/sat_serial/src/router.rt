@@ -198,18 +198,28 @@ impl Router {
         }
         Ok(nodes)
     }
-}
 
-/// Makes room for one label more in the outboxes at some places.
-pub fn reserve_at(outboxes: &mut [Queue<Label>], places: &[u8]) -> Result<(), AllocError>
-    requires { AllInside (length outboxes.old) places.now }
-    ensures members { map members_of outboxes.new ≡ map members_of outboxes.old }
-    ensures room { OnOk result (All (HasRoomAt outboxes.new) places.now) }
-{
-    for place in places {
-        outboxes[*place as usize].reserve(1)?;
+    /// Makes room for one label more in the outboxes of the neighbours at some places, and answers these neighbours.
+    pub fn room_at(
+        &self,
+        alloc: Global,
+        outboxes: &mut [Queue<Label>],
+        places: &[u8],
+    ) -> Result<Nodes, AllocError>
+        requires each { length outboxes.old ≡ length (neighbours self.now.tree self.now.number) }
+        requires inside { AllInside (length (neighbours self.now.tree self.now.number)) places.now }
+        ensures nodes { IfOk result (λ nodes. nodes ≡ nodes_at (neighbours self.now.tree self.now.number) places.now) }
+        ensures members { map members_of outboxes.new ≡ map members_of outboxes.old }
+        ensures room { OnOk result (All (HasRoomAt outboxes.new) places.now) }
+    {
+        let neighbours = self.neighbours();
+        let mut nodes = Nodes::new(alloc);
+        for place in places {
+            outboxes[*place as usize].reserve(1)?;
+            nodes.push(neighbours[*place as usize])?;
+        }
+        Ok(nodes)
     }
-    Ok(())
 }
 
 /// Puts a copy of a label into the outboxes at some places, ascending. There is room.

@@ -3,7 +3,7 @@ ghost use Rattle.std.specs.Prelude.{◌≡◌, ◌<◌, length, slice_get, true,
 ghost use Rattle.sat_serial.specs.Routes.{routes, Arrives, IsNeighbour};
 ghost use Rattle.sat_serial.specs.Outboxes.{fresh, after_handle, outbox, after_ship, IsSerializer};
 
-use crate::router::{Router, push_at, reserve_at};
+use crate::router::{Router, push_at};
 use crate::{HandleFault, KillFault};
 use sat_label::{Label, NodeId, Nodes};
 use sat_queue::{Queue, empty_queues};
@@ -71,8 +71,9 @@ impl Serializer {
         }
         let alloc = *self.outboxes.allocator();
         let hits = self.router.hits(interest, from, &label);
-        let nodes = self.router.at(alloc, hits.as_slice())?;
-        reserve_at(&mut self.outboxes, hits.as_slice())?;
+        let nodes = self
+            .router
+            .room_at(alloc, &mut self.outboxes, hits.as_slice())?;
         push_at(&mut self.outboxes, hits.as_slice(), &label);
         Ok(nodes)
     }
