@@ -33,10 +33,9 @@ pub struct Router {
 }
 
 impl Model for Router {
-    ghost use Rattle.std.specs.Prelude.{◌<◌, length};
-    ghost use Rattle.sat_tree.specs.Cut.{neighbours};
-    ghost use Rattle.std.specs.Prelude.{◌≡◌, map};
+    ghost use Rattle.std.specs.Prelude.{◌≡◌, ◌<◌, length, map};
     ghost use Rattle.sat_label.specs.Words.{below};
+    ghost use Rattle.sat_tree.specs.Cut.{neighbours};
     ghost use Rattle.sat_serial.specs.Routes.{Placed, AreFarSides};
     ghost use Rattle.sat_serial.specs.Hits.{site_place, serializer_place};
 
@@ -80,14 +79,15 @@ fn goes(targets: &SiteSet, from: NodeId, to: NodeId, side: &SiteSet) -> bool
     (code(from) != code(to)) & targets.meets(side)
 }
 
-// The place of a node in a list, if it is there.
+// The place of a node in a list, if it is there. It is seldom asked for, so it stays a call.
+#[inline(never)]
 fn search(nodes: &[NodeId], node: NodeId) -> Option<usize>
     ensures { result ≡ position (node_eq node) nodes.now }
 {
     nodes.iter().position(|other| node.is_same(other))
 }
 
-// The place of each site among the neighbours of a serializer, if it is there.
+// The place of each site among the neighbours of a serializer, if it is one.
 fn site_places(alloc: Global, tree: &Tree, number: u16) -> Result<Vec<Option<usize>>, AllocError>
     requires { number < length tree.now.parents }
     ensures { IfOk result (λ places. places.items ≡ map (site_place tree.now number) (below (length tree.now.seats))) }
@@ -99,7 +99,7 @@ fn site_places(alloc: Global, tree: &Tree, number: u16) -> Result<Vec<Option<usi
     Ok(places)
 }
 
-// The place of each serializer among the neighbours of a serializer, if it is there.
+// The place of each serializer among the neighbours of a serializer, if it is one.
 fn serializer_places(
     alloc: Global,
     tree: &Tree,
@@ -151,6 +151,7 @@ impl Router {
         }
     }
 
+    // That of a site: from the table, where it is one of the tree's.
     fn site_place(&self, site: u16) -> Option<usize>
         ensures { result ≡ site_place self.now.tree self.now.number site }
     {
@@ -161,6 +162,7 @@ impl Router {
         }
     }
 
+    // That of a serializer.
     fn serializer_place(&self, serializer: u16) -> Option<usize>
         ensures { result ≡ serializer_place self.now.tree self.now.number serializer }
     {
