@@ -30,23 +30,26 @@ pub enum Row {
     Turn,
 }
 
+// A letter for each number below 16, by its row. A draw is then a look and one jump.
+const LETTERS: &[u8; 16] = b"aaabcdefgghijjkk";
+
 // The row of a number below 16.
 #[tactic(auto, unfolding(crate::specs::LoadActs::row_of))]
 fn row_of(number: u16) -> Row
     requires { number < 16 }
     ensures { result ≡ row_of number }
 {
-    match number {
-        0..=2 => Row::Write,
-        3 => Row::Read,
-        4 => Row::Move,
-        5 => Row::Attach,
-        6 => Row::Tick,
-        7 => Row::Gather,
-        8 | 9 => Row::Emit,
-        10 => Row::Pulse,
-        11 => Row::Hop,
-        12 | 13 => Row::Bulk,
+    match LETTERS[number as usize] {
+        b'a' => Row::Write,
+        b'b' => Row::Read,
+        b'c' => Row::Move,
+        b'd' => Row::Attach,
+        b'e' => Row::Tick,
+        b'f' => Row::Gather,
+        b'g' => Row::Emit,
+        b'h' => Row::Pulse,
+        b'i' => Row::Hop,
+        b'j' => Row::Bulk,
         _ => Row::Turn,
     }
 }
