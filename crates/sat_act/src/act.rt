@@ -226,6 +226,13 @@ impl Acts {
         Ok(())
     }
 
+    /// Drops all members, and keeps the list's memory for others.
+    pub fn clear(&mut self)
+        ensures { self.new ≡ [] }
+    {
+        self.items.clear();
+    }
+
     /// The members in order.
     pub fn as_slice(&self) -> &[Act]
         ensures { result.now ≡ self.now }

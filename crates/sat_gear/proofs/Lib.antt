@@ -1,3 +1,4 @@
 pub mod Spreads
 pub mod Gears
 pub mod Places
+pub mod Targets

@@ -1,6 +1,7 @@
 -- Lanes, one for each site, as lists: of payloads, or of the places of these among all that were made.
-use Rattle.std.specs.Prelude.{ℕ, ◌≡◌, ◌<◌, ◌+◌, Bool, List, [], ◌∷◌, ◌++◌, length, get_or, slice_get, if◌then◌else◌}
+use Rattle.std.specs.Prelude.{ℕ, ◌≡◌, ◌<◌, ◌+◌, Bool, true, List, [], ◌∷◌, ◌++◌, length, get_or, map, slice_get, if◌then◌else◌}
 use Rattle.std.specs.Option.{option_to_list}
+use Rattle.sat_queue.specs.Queued.{Queued, HasRoom}
 
 -- how many there are
 abbrev pub count_of : {X : Type 0} → List X → ℕ
@@ -24,6 +25,15 @@ picked made (n ∷ ns) = option_to_list (slice_get made n) ++ picked made ns
 -- there is something at each place
 abbrev pub AllBelow : ℕ → List (List ℕ) → Type 0
 AllBelow count lanes = (k n : ℕ) (place : ℕ) → slice_get (get_or lanes k []) n ≡ Rattle.std.specs.Prelude.Some place → place < count
+
+-- what is kept of the lanes: each place is one of so many, and each lane is counted
+pub record IsLaid (made : ℕ) (lanes : List (List ℕ)) (counts : List ℕ) : Type 0 where
+  pub below : AllBelow made lanes
+  pub counted : counts ≡ map count_of lanes
+
+-- below n the lanes of the sites that pass have room for one place more
+abbrev pub HaveRoomWhere : (ℕ → Bool) → ℕ → List (Queued ℕ) → Type 0
+HaveRoomWhere test n lanes = (k : ℕ) (d : Queued ℕ) → k < n → k < length lanes → test k ≡ true → HasRoom (get_or lanes k d)
 
 -- the first n lanes have x behind those of the sites that pass, and the others are as before
 pub record Spread {X : Type 0} (test : ℕ → Bool) (x : X) (n : ℕ) (old new : List (List X)) : Type 0 where

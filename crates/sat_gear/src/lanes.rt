@@ -4,10 +4,10 @@ ghost use Rattle.sat_label.specs.Words.{bit};
 ghost use Rattle.sat_queue.specs.Queued.{members_of};
 ghost use Rattle.sat_gear.specs.Lanes.{count_of, lanes_where, numbers_where};
 
-use crate::lane::{count_into, counts, numbers, spread};
+use crate::lane::{numbers, reserve_where, spread};
 use sat_bulk::Payload;
 use sat_label::{Counts, Label, SiteSet, Value};
-use sat_queue::{Queue, empty_queues, reserve_each};
+use sat_queue::{Queue, empty_queues};
 use std::alloc::{AllocError, Global};
 use std::marker::Model;
 
@@ -18,31 +18,34 @@ pub struct Lanes {
     made: Vec<Payload>,
     // For each site the places, among these, of those that were made for it.
     lanes: Vec<Queue<usize>>,
+    // For each site how many, side by side: a gather reads all of them.
+    counts: Vec<u64>,
 }
 
 impl Model for Lanes {
     ghost use Rattle.std.specs.Prelude.{List, map, length};
     ghost use Rattle.sat_bulk.specs.declared.Payload.{Payload};
     ghost use Rattle.sat_queue.specs.Queued.{members_of};
-    ghost use Rattle.sat_gear.specs.Lanes.{picked, AllBelow};
+    ghost use Rattle.sat_gear.specs.Lanes.{picked, IsLaid};
 
     ghost Value = { List (List Payload) };
 
     ghost view = { λ a. map (picked a.made.items) (map members_of a.lanes.items) };
 
-    ghost invariant = { λ a. AllBelow (length a.made.items) (map members_of a.lanes.items) };
+    ghost invariant = { λ a. IsLaid (length a.made.items) (map members_of a.lanes.items) a.counts.items };
 }
 
 impl Lanes {
     /// Empty lanes, one for each of so many sites.
-    #[tactic(auto, using(crate::proofs::Spreads::none_below))]
     pub fn new(alloc: Global, sites: u16) -> Result<Lanes, AllocError>
         ensures { IfOk result (λ lanes. lanes ≡ replicate sites []) }
     {
         let lanes = empty_queues(alloc, sites as usize)?;
+        let counts = vec![in alloc; 0; sites as usize]?;
         Ok(Lanes {
             made: Vec::new(alloc),
             lanes,
+            counts,
         })
     }
 
@@ -78,9 +81,9 @@ impl Lanes {
         ensures err { OnErr result (self.new ≡ self.old) }
     {
         self.made.reserve(1)?;
-        reserve_each(&mut self.lanes)?;
+        reserve_where(&mut self.lanes, targets)?;
         let place = self.made.len();
-        spread(&mut self.lanes, targets, place);
+        spread(&mut self.lanes, &mut self.counts, targets, place);
         self.made.push_reserved(payload);
         Ok(())
     }
@@ -99,14 +102,17 @@ impl Lanes {
         requires { site < length self.now }
         ensures { result ≡ length (get_or self.now site []) }
     {
-        self.lanes[site as usize].len() as u64
+        self.counts[site as usize]
     }
 
     /// How many payloads each lane holds.
     pub fn counts(&self, alloc: Global) -> Result<Counts, AllocError>
         ensures { IfOk result (λ counts. counts ≡ map count_of self.now) }
     {
-        let counts = counts(alloc, &self.lanes)?;
+        let mut counts = Counts::new(alloc);
+        for count in self.counts.iter() {
+            counts.push(*count)?;
+        }
         Ok(counts)
     }
 
@@ -114,7 +120,8 @@ impl Lanes {
     pub fn count_into(&self, counts: &mut Vec<u64>) -> Result<(), AllocError>
         ensures { OnOk result (counts.new.items ≡ map count_of self.now) }
     {
-        count_into(&self.lanes, counts)?;
+        counts.clear();
+        counts.extend_from_slice(&self.counts)?;
         Ok(())
     }
 }

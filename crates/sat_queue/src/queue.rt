@@ -34,7 +34,20 @@ impl<T: Copy> Queue<T> {
     }
 
     /// Makes room for so many members more.
+    #[inline(always)]
     pub fn reserve(&mut self, more: usize) -> Result<(), AllocError>
+        ensures members { self.new.members ≡ self.old.members }
+        ensures room { OnOk result (HasRoomFor more self.new) }
+    {
+        if more <= self.members.capacity() - self.members.len() {
+            return Ok(());
+        }
+        self.grow(more)
+    }
+
+    // Takes memory for so many members more. A call of its own, since mostly there is room.
+    #[inline(never)]
+    fn grow(&mut self, more: usize) -> Result<(), AllocError>
         ensures members { self.new.members ≡ self.old.members }
         ensures room { OnOk result (HasRoomFor more self.new) }
     {

@@ -113,6 +113,16 @@ impl Lines {
         mem::replace(&mut self.acts, none)
     }
 
+    /// Takes the memory of a list that it handed out for the acts to come, where none has come since.
+    pub fn reuse(&mut self, mut spent: Acts)
+        ensures { self.new ≡ self.old }
+    {
+        if self.acts.as_slice().is_empty() {
+            spent.clear();
+            self.acts = spent;
+        }
+    }
+
     /// What the text is that came, where these bytes, none of them 10, stood after the last line. It takes no memory.
     pub fn finish(self, rest: &[u8]) -> Reading
         ensures means { result ≡ means self rest.now [] }

@@ -169,6 +169,13 @@ impl ScriptReader {
         self.lines.drain()
     }
 
+    /// Takes the memory of a list that `drain` handed out for the acts to come, where none has come since. It changes nothing else.
+    pub fn reuse(&mut self, spent: Acts)
+        ensures { self.new ≡ self.old }
+    {
+        self.lines.reuse(spent);
+    }
+
     /// What the text is that came, at its end.
     #[tactic(auto, unfolding(crate::specs::Stream::will_be))]
     pub fn finish(self) -> Reading

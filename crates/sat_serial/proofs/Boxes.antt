@@ -100,7 +100,7 @@ first (x ∷ xs) None e = let n : suc (length xs) ≡ length xs = ap length e in
 first (x ∷ xs) (Some y) e = cc
 
 -- the queue at the place is the outbox
-queue-at : (queues : List (Queued Label)) (k : ℕ) (q : Queued Label) → k < length queues → get_or (map members_of queues) k [] ≡ (get_or queues k q).members
+pub queue-at : (queues : List (Queued Label)) (k : ℕ) (q : Queued Label) → k < length queues → get_or (map members_of queues) k [] ≡ (get_or queues k q).members
 queue-at queues k q less = get_or-map (λ (p : Queued Label). p.members) queues k q [] less
 
 pub length-labels : (queues : List (Queued Label)) → length (map members_of queues) ≡ length queues

@@ -68,7 +68,7 @@ meets-leads b targets far a t u v l sites is-target is-beyond both =
 
 -- ---- neighbours
 
-all-below : (n m : ℕ) → n ≤ m → All (λ k. k < m) (below n)
+pub all-below : (n m : ℕ) → n ≤ m → All (λ k. k < m) (below n)
 all-below zero m le = All-nil (λ k. k < m)
 all-below (suc n) m le = All-push (λ k. k < m) (below n) n (all-below n m (omega arith)) (omega arith)
 

@@ -1,3 +1,4 @@
 pub mod Routes
 pub mod Queues
 pub mod Outboxes
+pub mod Hits

@@ -3,6 +3,7 @@
 #![tactic(auto)]
 
 mod fault;
+mod hits;
 mod router;
 mod serializer;
 

@@ -3,10 +3,10 @@ ghost use Rattle.std.specs.Prelude.{◌≡◌, ◌<◌, length, slice_get, true,
 ghost use Rattle.sat_serial.specs.Routes.{routes, Arrives, IsNeighbour};
 ghost use Rattle.sat_serial.specs.Outboxes.{fresh, after_handle, outbox, after_ship, IsSerializer};
 
-use crate::router::Router;
+use crate::router::{Router, push_at};
 use crate::{HandleFault, KillFault};
 use sat_label::{Label, NodeId, Nodes};
-use sat_queue::{Queue, empty_queues, reserve_each};
+use sat_queue::{Queue, empty_queues};
 use sat_sites::Interest;
 use sat_tree::Tree;
 use std::alloc::{AllocError, Global};
@@ -70,10 +70,11 @@ impl Serializer {
             return Err(HandleFault::Dead);
         }
         let alloc = *self.outboxes.allocator();
-        let nodes = self.router.onward(alloc, interest, from, &label)?;
-        reserve_each(&mut self.outboxes)?;
-        self.router
-            .add_copies(&mut self.outboxes, interest, from, &label);
+        let hits = self.router.hits(interest, from, &label);
+        let nodes = self
+            .router
+            .room_at(alloc, &mut self.outboxes, hits.as_slice())?;
+        push_at(&mut self.outboxes, hits.as_slice(), &label);
         Ok(nodes)
     }
 
@@ -89,7 +90,8 @@ impl Serializer {
         ensures limits { IsSerializer self.now }
     {
         let alloc = *self.outboxes.allocator();
-        let nodes = self.router.onward(alloc, interest, from, label)?;
+        let hits = self.router.hits(interest, from, label);
+        let nodes = self.router.at(alloc, hits.as_slice())?;
         Ok(nodes)
     }
 

@@ -145,16 +145,27 @@ impl LabelSink {
         ensures cut { point_le (cut_of self.old) (cut_of self.new) ≡ true }
     {
         let label = self.next()?;
+        self.emit_known(label);
+        Some(label)
+    }
+
+    /// Sends the label that `next` answers, as `emit` does, which has to look for it.
+    pub fn emit_known(&mut self, label: Label)
+        requires { ready_of self.old ≡ Some label }
+        ensures new { self.new ≡ after_emit self.old }
+        ensures above { point_lt (cut_of self.old) label.point ≡ true }
+        ensures upto { point_le label.point (cut_of self.new) ≡ true }
+        ensures cut { point_le (cut_of self.old) (cut_of self.new) ≡ true }
+    {
         let _ = self.pending[label.point.gear as usize].take();
         self.last = label.point;
-        Some(label)
     }
 
     /// Whether `pulse` would answer a label.
     pub fn pulse_ready(&self) -> bool
         ensures { result ≡ may_pulse self.now }
     {
-        !self.ready() && self.pulse < self.stable()
+        self.pulse < self.stable() && !self.ready()
     }
 
     /// Sends a pulse, which tells the stable timestamp, where no pending label is stable and the last pulse told a lower one.

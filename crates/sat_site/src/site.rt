@@ -162,6 +162,24 @@ impl Site {
         }
     }
 
+    /// The sink's next label, which an `emit` would take. It takes no memory.
+    pub fn next(&self) -> Option<Label>
+        ensures next { result ≡ ready_of self.now.sink }
+        ensures site { IsSite self.now }
+    {
+        let _ = &self.shape;
+        self.sink.next()
+    }
+
+    /// The label that an `emit` would send, where `next` answered this. It takes no memory.
+    pub fn sends_next(&self, next: Option<Label>) -> Option<Label>
+        requires { next ≡ ready_of self.now.sink }
+        ensures { result ≡ site_sends self.now SiteInput.Emit }
+    {
+        let _ = &self.shape;
+        self.leaving(next)
+    }
+
     // The pulse that the sink would send.
     fn next_pulse(&self) -> Option<Label>
         ensures { result ≡ next_pulse self.now.sink }
@@ -374,9 +392,9 @@ impl Site {
         })
     }
 
-    // Takes what all gears made into the sink. All memory is taken before anything changes; no memory holds labels whose
-    // number is none of 64 bits.
-    fn gather(&mut self) -> Result<Answer, AllocError>
+    /// Takes what all gears made into the sink, and answers it. All memory is taken before anything changes; no memory holds
+    /// labels whose number is none of 64 bits.
+    pub fn gather(&mut self) -> Result<Answer, AllocError>
         ensures does { IfOk result (λ answer. Does self.old SiteInput.Gather answer self.new) }
         ensures err { OnErr result (self.new ≡ self.old) }
     {
@@ -400,7 +418,17 @@ impl Site {
         Answer::Emitted(label)
     }
 
-    fn pulse(&mut self) -> Answer
+    /// Takes the label that `next` answers, as `emit` does, which has to look for it. It takes no memory.
+    pub fn emit_known(&mut self, label: Label) -> Answer
+        requires { ready_of self.old.sink ≡ Some label }
+        ensures { Does self.old SiteInput.Emit result self.new }
+    {
+        self.sink.emit_known(label);
+        Answer::Emitted(label)
+    }
+
+    /// Sends a pulse, and answers it. It takes no memory.
+    pub fn pulse(&mut self) -> Answer
         ensures answer { result ≡ pulse_answer (next_pulse self.old.sink) }
         ensures after { self.new ≡ pulse_after self.old (next_pulse self.old.sink) }
     {
@@ -455,8 +483,8 @@ impl Site {
         }
     }
 
-    // The next update in timestamp order.
-    fn stamp(&mut self) -> Answer
+    /// Shows the next update in timestamp order, and answers it. It takes no memory.
+    pub fn stamp(&mut self) -> Answer
         ensures answer { result ≡ stamp_answer self.old.views self.old.proxy }
         ensures after { self.new ≡ stamped_after self.old }
     {

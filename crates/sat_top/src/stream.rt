@@ -65,9 +65,9 @@ fn answer_piece(
     ensures more { OnOk result (DoesMore world.old done.old reader.old.lines.acts world.new text.new.items) }
 {
     let acts = reader.drain();
-    let acts = acts.as_slice();
-    answer_more(alloc, reader.deployment(), world, *done, acts, text)?;
-    *done += acts.len() as u64;
+    answer_more(alloc, reader.deployment(), world, *done, acts.as_slice(), text)?;
+    *done += acts.as_slice().len() as u64;
+    reader.reuse(acts);
     Ok(())
 }
 

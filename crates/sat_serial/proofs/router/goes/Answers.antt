@@ -1,10 +1,12 @@
-use Rattle.std.proofs.Common.{◌≡◌, ◌∙◌, false, sym}
+use Rattle.std.proofs.Common.{◌∙◌, ◌==◌, not, ◌&&◌, ap}
 use Rattle.sat_label.specs.declared.node.NodeId.TheVariants.{Serializer}
 use Rattle.sat_label.specs.Order.{node_eq}
 use Rattle.sat_serial.proofs.Ways.{meets-leads}
+use Rattle.sat_serial.proofs.Places.{same-code}
 use Rattle.sat_serial.proofs.router.goes.Goals as goal
 
-pub returns-then-not-is_same : goal.returns-then-not-is_same
-returns-then-not-is_same c = λ a t z l sites far targets.
-    let other : node_eq c.args.from c.args.to ≡ false = sym c.is_same.ensures ∙ c.if-not-is_same.true in
-    rw other (meets-leads c.meets.result c.args.targets.now.bits c.args.side.now.bits a t (Serializer z) c.args.to l sites targets far c.meets.ensures)
+pub returns : goal.returns
+returns c = λ a t z l sites far targets.
+    (λ i. not (c.code.ensures i == c.code-2.ensures i) && c.meets.result)
+    ∙ (ap (λ b. not b && c.meets.result) (same-code c.args.from c.args.to)
+    ∙ ap (λ b. not (node_eq c.args.from c.args.to) && b) (meets-leads c.meets.result c.args.targets.now.bits c.args.side.now.bits a t (Serializer z) c.args.to l sites targets far c.meets.ensures))

@@ -10,5 +10,5 @@ pub returns : goal.returns
 returns c =
     c.in_ok-numbers.ensures
     ∙ (ap (λ (ls : List (Queued ℕ)). numbers_where (bit c.args.targets.bits) 0 (map members_of ls)) c.deref.ensures.value
-    ∙ (sym (numbers_picked c.self.inside.made.items (bit c.args.targets.bits) 0 (map members_of c.self.inside.lanes.items) c.self.invariant)
+    ∙ (sym (numbers_picked c.self.inside.made.items (bit c.args.targets.bits) 0 (map members_of c.self.inside.lanes.items) c.self.invariant.below)
     ∙ ap (λ (ls : List (List Payload)). numbers_where (bit c.args.targets.bits) 0 ls) c.self.view_is))
