@@ -1,5 +1,5 @@
 -- What it means that the form of a line bars nothing.
-use Rattle.std.proofs.Common.{◌≡◌, Bool, true, false, not, cond, Some, None, ◌<◌, ltb, ap, refl}
+use Rattle.std.proofs.Common.{◌≡◌, Bool, true, false, not, cond, Some, None, ◌<◌, ap, refl}
 use Rattle.std.proofs.lemmas.Bool.{lt-ltb}
 use Rattle.sat_script.specs.Dialect.{limits_of}
 use Rattle.sat_script.specs.Said.{TakesActs, is_counted}

@@ -1,7 +1,6 @@
 -- The blanks of a line, by one walk over its bytes, and the words between them.
-use Rattle.std.proofs.Common.{◌≡◌, ℕ, zero, suc, ◌+◌, ◌-◌, ◌<◌, ◌≤◌, Bool, true, false, ◌&&◌, cond, eqb, List, [], ◌∷◌, ◌++◌, length, take, drop, get_or, set, sym, ap, ◌∙◌, refl, subst, arith, length-take, length-drop, take_all}
+use Rattle.std.proofs.Common.{◌≡◌, ℕ, suc, ◌+◌, ◌-◌, ◌<◌, ◌≤◌, Bool, true, false, ◌&&◌, cond, eqb, List, [], ◌∷◌, ◌++◌, length, take, drop, get_or, set, sym, ap, ◌∙◌, refl, arith, length-take, length-drop, take_all}
 use mir.Val.{bool_byte}
-use Rattle.std.specs.List.{list_all}
 use Rattle.std.proofs.lemmas.Bool.{eqb-true}
 use Rattle.std.proofs.lemmas.List.{append-nil, take_more, take-set, take_more_set}
 use Rattle.std.proofs.lemmas.List.Elements.{All-nil, All-cons}
@@ -96,24 +95,28 @@ first_blank (x ∷ xs) n a later h = go (λ h. first_blank xs (n + 1) a later h)
   where
     go : (blanks_from (n + 1) xs ≡ a ∷ later → (k : ℕ) × IsBlank xs (n + 1) a k later) → (b : Bool) → eqb x 32 ≡ b → cond b (n ∷ blanks_from (n + 1) xs) (blanks_from (n + 1) xs) ≡ a ∷ later → (k : ℕ) × IsBlank (x ∷ xs) n a k later
     go again true e h =
-        let first : n ≡ a = ap (λ (ns : List ℕ). get_or ns 0 0) h in
-        (0, record {
-          place = omega (arith, first);
-          inside = omega arith;
-          cut = record { none = All-nil (λ byte. eqb byte 32 ≡ false); whole = ap (λ (y : ℕ). y ∷ xs) (eqb-true x 32 e) };
-          rest = ap (λ (m : ℕ). blanks_from m xs) (let e : suc a ≡ n + 1 = omega (arith, first) in e) ∙ ap (drop 1) h;
-        })
+        let first : n ≡ a = ap (λ (ns : List ℕ). get_or ns 0 0) h in (
+          0,
+          record {
+            place = omega (arith, first);
+            inside = omega arith;
+            cut = record { none = All-nil (λ byte. eqb byte 32 ≡ false); whole = ap (λ (y : ℕ). y ∷ xs) (eqb-true x 32 e) };
+            rest = ap (λ (m : ℕ). blanks_from m xs) (let e : suc a ≡ n + 1 = omega (arith, first) in e) ∙ ap (drop 1) h;
+          },
+        )
     go again false e h =
         let more = again h in
         let is = more.1 in
         let place = is.place in
-        let inside = is.inside in
-        (suc more.0, record {
-          place = omega (arith, place);
-          inside = omega (arith, inside);
-          cut = record { none = All-cons (λ byte. eqb byte 32 ≡ false) x (take more.0 xs) e is.cut.none; whole = ap (λ (ys : List ℕ). x ∷ ys) is.cut.whole };
-          rest = is.rest;
-        })
+        let inside = is.inside in (
+          suc more.0,
+          record {
+            place = omega (arith, place);
+            inside = omega (arith, inside);
+            cut = record { none = All-cons (λ byte. eqb byte 32 ≡ false) x (take more.0 xs) e is.cut.none; whole = ap (λ (ys : List ℕ). x ∷ ys) is.cut.whole };
+            rest = is.rest;
+          },
+        )
 
 no_blank : (xs : List ℕ) (n : ℕ) → blanks_from n xs ≡ [] → HasNo 32 xs
 unfolding blanks_from

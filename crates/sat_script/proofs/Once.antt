@@ -1,10 +1,8 @@
 -- A good word is read once: what it says tells the rest of its shape, and that the header has its name.
-use Rattle.std.proofs.Common.{◌≡◌, ℕ, ◌+◌, ◌^◌, ◌-◌, ◌<◌, ◌≤◌, Bool, true, false, ◌&&◌, ◌||◌, cond, eqb, ltb, leb, List, [], ◌∷◌, ◌++◌, length, map, drop, get_or, Option, Some, None, Result, Ok, is_some, sym, ap, ◌∙◌, refl, subst, arith}
+use Rattle.std.proofs.Common.{◌≡◌, ℕ, ◌^◌, ◌-◌, Bool, true, false, ◌&&◌, ◌||◌, cond, eqb, ltb, leb, List, [], ◌∷◌, ◌++◌, length, Option, Some, None, Result, Ok, is_some, sym, ap, ◌∙◌, refl}
 use Rattle.std.specs.Option.{option_map}
-use Rattle.std.specs.Prelude.{IfSome}
 use Rattle.std.proofs.lemmas.Bool.{and_from, and_parts}
-use Rattle.std.proofs.lemmas.List.{append-nil, append_assoc, drop_all, drop_more, drop-map, map-append}
-use Rattle.std.specs.Borrow.{Bor}
+use Rattle.std.proofs.lemmas.List.{append-nil, append_assoc}
 use Rattle.sat_label.specs.Text.{is_name, is_value}
 use Rattle.sat_label.specs.declared.node.NodeId.{NodeId}
 use Rattle.sat_label.specs.declared.node.NodeId.TheVariants.{Site, Serializer}
@@ -14,8 +12,8 @@ use Rattle.sat_act.specs.Parts.{tree_of}
 use Rattle.sat_act.specs.declared.act.Act.{Act}
 use Rattle.sat_script.specs.Causes.{bar, given, client_of, item_of}
 use Rattle.sat_script.specs.Grammar.{is_end, of_act, body_line}
-use Rattle.sat_script.specs.Said.{said_of, begins, IsReadWord, AreRead, Reads}
-use Rattle.sat_script.specs.Table.{Said, place, num, bytes, at, shape, known, says, shapes, all_known, all_say, in_tree, onto, no_tree, kinds_of, act_forms, act_of, found_form, args_of, unfit, said_act, form_line, act_line}
+use Rattle.sat_script.specs.Said.{begins, IsReadWord, AreRead}
+use Rattle.sat_script.specs.Table.{Said, place, num, bytes, at, shape, known, says, shapes, all_known, all_say, in_tree, onto, no_tree, kinds_of, act_forms, found_form, said_act, form_line, act_line}
 use Rattle.sat_script.specs.Spelled.{HaveNames}
 use Rattle.sat_script.specs.State.{State}
 use Rattle.sat_script.specs.Words.{is_number, is_node, is_serializer, value_of, number_below, number_to, number_up_to, node_in, serializer_in}
@@ -24,12 +22,10 @@ use Rattle.sat_script.specs.declared.fault.Cause.TheVariants.{OutOfRange, NoEdge
 use Rattle.sat_script.specs.declared.form.Form.{Form}
 use Rattle.sat_script.specs.declared.form.Kind.{Kind}
 use Rattle.sat_script.specs.declared.form.Kind.TheVariants as kind
-use Rattle.sat_script.specs.declared.said.Said.{Said as Kept}
 use Rattle.sat_script.specs.declared.line.Parsed.TheVariants as parsed
 use Rattle.sat_script.proofs.Acts.{mapped}
 use Rattle.sat_script.proofs.ActsRead.{token, named_client, named_item}
 use Rattle.sat_script.proofs.Choices.{tested}
-use Rattle.sat_script.proofs.Cuts.{texts}
 use Rattle.sat_script.proofs.Lookup.{client_is, item_is}
 
 -- ---- a word

@@ -1,5 +1,5 @@
 -- Acts that are made as their words are read.
-use Rattle.std.proofs.Common.{◌≡◌, ℕ, ◌^◌, ◌-◌, ◌<◌, ◌≤◌, Bool, true, false, ◌&&◌, cond, eqb, ltb, List, [], ◌∷◌, length, Option, Some, None, Result, Ok, sym, ap, ◌∙◌, refl, arith, codes}
+use Rattle.std.proofs.Common.{◌≡◌, ℕ, ◌^◌, ◌-◌, ◌<◌, ◌≤◌, Bool, true, false, cond, eqb, ltb, List, [], ◌∷◌, length, Option, Some, None, Ok, sym, ap, ◌∙◌, refl, arith}
 use Rattle.std.specs.Option.{option_map}
 use Rattle.std.specs.Prelude.{IfSome}
 use Rattle.std.proofs.lemmas.Bool.{false_from_ne_true, eqb-true, lt-ltb}
@@ -13,15 +13,14 @@ use Rattle.sat_act.specs.Deployed.{Deployed}
 use Rattle.sat_act.specs.Parts.{tree_of}
 use Rattle.sat_act.specs.declared.act.Act.{Act}
 use Rattle.sat_act.specs.declared.act.Act.TheVariants as act
-use Rattle.sat_script.specs.Causes.{bar, client_of, item_of}
-use Rattle.sat_script.specs.Grammar.{is_end, body_line, line_at, words_line}
-use Rattle.sat_script.specs.Said.{IsReadWord, AreRead, Reads, SaysAct, TakesActs, is_counted}
-use Rattle.sat_script.specs.Table.{Said, place, num, bytes, at, no_tree, kinds_of, act_forms, act_of, found_form, args_of, unfit, has_node, joins, edge_cause}
+use Rattle.sat_script.specs.Causes.{client_of, item_of}
+use Rattle.sat_script.specs.Grammar.{line_at, words_line}
+use Rattle.sat_script.specs.Said.{IsReadWord, SaysAct, TakesActs, is_counted}
+use Rattle.sat_script.specs.Table.{Said, place, num, bytes, no_tree, kinds_of, act_forms, act_of, found_form, args_of, unfit, has_node, edge_cause}
 use Rattle.sat_script.specs.Spelled.{HaveNames}
 use Rattle.sat_script.specs.State.{State}
 use Rattle.sat_script.specs.Words.{number_below, number_up_to, is_text, words_of}
-use Rattle.sat_script.specs.declared.fault.Cause.{Cause}
-use Rattle.sat_script.specs.declared.fault.Cause.TheVariants.{OutOfRange, NoEdge}
+use Rattle.sat_script.specs.declared.fault.Cause.TheVariants.{OutOfRange}
 use Rattle.sat_script.specs.declared.form.Form.{Form}
 use Rattle.sat_script.specs.declared.form.Form.TheVariants as form
 use Rattle.sat_script.specs.declared.form.Kind.{Kind}

@@ -19,7 +19,7 @@ ghost use Rattle.sat_script.specs.declared.form.Kind.TheVariants as kind;
 ghost use Rattle.sat_script.specs.declared.line.Parsed.TheVariants as parsed;
 
 use crate::Cause;
-use crate::form::{Form, Kind, act_forms, found_form, form_of_one, kinds_of};
+use crate::form::{Form, Kind, act_forms, form_of_one, found_form, kinds_of};
 use crate::header::Header;
 use crate::line::Parsed;
 use crate::nodes::{node_in, serializer_in};
@@ -468,13 +468,7 @@ fn hop_of(header: &Header, epoch: &[u8], from: &[u8], to: &[u8]) -> Option<Act>
 }
 
 #[inline(always)]
-fn write_of(
-    alloc: Global,
-    header: &Header,
-    client: &[u8],
-    item: &[u8],
-    value: &[u8],
-) -> Option<Act>
+fn write_of(alloc: Global, header: &Header, client: &[u8], item: &[u8], value: &[u8]) -> Option<Act>
     requires { HaveNames header.now }
     ensures { IfSome result (λ act. SaysAct header.now (codes "write") (client.now ∷ item.now ∷ value.now ∷ []) act) }
 {

@@ -130,10 +130,7 @@ pub fn three_words<'a>(line: &'a [u8], places: &[u8; 64]) -> (&'a [u8], &'a [u8]
 
 /// The four words of a line with three.
 #[inline(always)]
-pub fn four_words<'a>(
-    line: &'a [u8],
-    places: &[u8; 64],
-) -> (&'a [u8], &'a [u8], &'a [u8], &'a [u8])
+pub fn four_words<'a>(line: &'a [u8], places: &[u8; 64]) -> (&'a [u8], &'a [u8], &'a [u8], &'a [u8])
     requires { take 3 places.now ≡ blanks_from 0 line.now }
     ensures { words_of line.now ≡ result.0.now ∷ result.1.now ∷ result.2.now ∷ result.3.now ∷ [] }
 {

@@ -1,8 +1,4 @@
-use Rattle.std.proofs.Common.{refl, sym, None}
-use Rattle.sat_act.specs.declared.act.Act.TheVariants as act
-use Rattle.sat_script.specs.Table.{place, num, bytes, at, no_tree}
-use Rattle.sat_script.specs.declared.form.Form.TheVariants as form
-use Rattle.sat_script.specs.declared.form.Kind.TheVariants as kind
+use Rattle.sat_script.specs.Table.{no_tree}
 use Rattle.sat_script.proofs.Quick.{site_say}
 use Rattle.sat_script.proofs.act_lines.site_act_of.Goals as goal
 

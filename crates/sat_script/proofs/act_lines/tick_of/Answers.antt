@@ -1,6 +1,6 @@
-use Rattle.std.proofs.Common.{refl, sym, None}
+use Rattle.std.proofs.Common.{refl}
 use Rattle.sat_act.specs.declared.act.Act.TheVariants as act
-use Rattle.sat_script.specs.Table.{place, num, bytes, at, no_tree}
+use Rattle.sat_script.specs.Table.{place, num, no_tree}
 use Rattle.sat_script.specs.declared.form.Form.TheVariants as form
 use Rattle.sat_script.specs.declared.form.Kind.TheVariants as kind
 use Rattle.sat_script.proofs.Once.{ts_read}
