@@ -16,7 +16,7 @@ none_up b xs n few h =
     All-from_get_or (λ x. eqb x b ≡ false) (take n xs) 0
     (λ i inside. ap (λ x. eqb x b) (get_or-take n xs i 0 (omega (arith, size))) ∙ false_from_ne_true (eqb (get_or xs i 0) b) (h i (omega arith) (omega (arith, size))))
 
-rest_is : (xs : List ℕ) (n : ℕ) → take (length xs - n) (drop n xs) ≡ drop n xs
+pub rest_is : (xs : List ℕ) (n : ℕ) → take (length xs - n) (drop n xs) ≡ drop n xs
 rest_is xs n = take_all (length xs - n) (drop n xs) (omega (arith, length-drop n xs))
 
 pub cut : (b : ℕ) (xs : List ℕ) (k : ℕ) → IsFirstByte (is_byte b) xs (Some k) → IsCut b xs (take k xs) (take (length xs - (k + 1)) (drop (k + 1) xs))

@@ -16,7 +16,7 @@ pub record AreFound (line : List ℕ) (words : List (Bor (List ℕ))) (start pla
   pub seen : list_all (is_between 33 126) (take (place - start) (drop start line)) ≡ true
   pub text : is_text line ≡ is_text (drop place line)
 
-drop_twice : (xs : List ℕ) (a b c : ℕ) → c ≡ a + b → drop b (drop a xs) ≡ drop c xs
+pub drop_twice : (xs : List ℕ) (a b c : ℕ) → c ≡ a + b → drop b (drop a xs) ≡ drop c xs
 drop_twice xs zero b c e = ap (λ (n : ℕ). drop n xs) (let same : b ≡ c = omega arith in same)
 drop_twice [] (suc a) b c e = drop-nil b ∙ sym (drop-nil c)
 drop_twice (x ∷ xs) (suc a) b zero e = absurd (omega arith)

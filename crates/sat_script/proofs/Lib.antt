@@ -31,3 +31,5 @@ pub mod NoTree
 pub mod Once
 pub mod FirstWords
 pub mod Drained
+pub mod Blanks
+pub mod Quick

@@ -1,10 +1,8 @@
 -- A good word is read once: what it says tells the rest of its shape, and that the header has its name.
-use Rattle.std.proofs.Common.{◌≡◌, ℕ, ◌+◌, ◌^◌, ◌-◌, ◌<◌, ◌≤◌, Bool, true, false, ◌&&◌, ◌||◌, cond, eqb, ltb, leb, List, [], ◌∷◌, ◌++◌, length, map, drop, get_or, Option, Some, None, Result, Ok, is_some, sym, ap, ◌∙◌, refl, subst, arith}
+use Rattle.std.proofs.Common.{◌≡◌, ℕ, ◌^◌, ◌-◌, Bool, true, false, ◌&&◌, ◌||◌, cond, eqb, ltb, leb, List, [], ◌∷◌, ◌++◌, length, Option, Some, None, Result, Ok, is_some, sym, ap, ◌∙◌, refl}
 use Rattle.std.specs.Option.{option_map}
-use Rattle.std.specs.Prelude.{IfSome}
 use Rattle.std.proofs.lemmas.Bool.{and_from, and_parts}
-use Rattle.std.proofs.lemmas.List.{append-nil, append_assoc, drop_all, drop_more, drop-map, map-append}
-use Rattle.std.specs.Borrow.{Bor}
+use Rattle.std.proofs.lemmas.List.{append-nil, append_assoc}
 use Rattle.sat_label.specs.Text.{is_name, is_value}
 use Rattle.sat_label.specs.declared.node.NodeId.{NodeId}
 use Rattle.sat_label.specs.declared.node.NodeId.TheVariants.{Site, Serializer}
@@ -14,8 +12,8 @@ use Rattle.sat_act.specs.Parts.{tree_of}
 use Rattle.sat_act.specs.declared.act.Act.{Act}
 use Rattle.sat_script.specs.Causes.{bar, given, client_of, item_of}
 use Rattle.sat_script.specs.Grammar.{is_end, of_act, body_line}
-use Rattle.sat_script.specs.Said.{said_of, begins, IsReadWord, AreRead, Reads}
-use Rattle.sat_script.specs.Table.{Said, place, num, bytes, at, shape, known, says, shapes, all_known, all_say, in_tree, onto, no_tree, kinds_of, act_forms, act_of, found_form, args_of, unfit, said_act, form_line, act_line}
+use Rattle.sat_script.specs.Said.{begins, IsReadWord, AreRead}
+use Rattle.sat_script.specs.Table.{Said, place, num, bytes, at, shape, known, says, shapes, all_known, all_say, in_tree, onto, no_tree, kinds_of, act_forms, found_form, said_act, form_line, act_line}
 use Rattle.sat_script.specs.Spelled.{HaveNames}
 use Rattle.sat_script.specs.State.{State}
 use Rattle.sat_script.specs.Words.{is_number, is_node, is_serializer, value_of, number_below, number_to, number_up_to, node_in, serializer_in}
@@ -24,12 +22,10 @@ use Rattle.sat_script.specs.declared.fault.Cause.TheVariants.{OutOfRange, NoEdge
 use Rattle.sat_script.specs.declared.form.Form.{Form}
 use Rattle.sat_script.specs.declared.form.Kind.{Kind}
 use Rattle.sat_script.specs.declared.form.Kind.TheVariants as kind
-use Rattle.sat_script.specs.declared.said.Said.{Said as Kept}
 use Rattle.sat_script.specs.declared.line.Parsed.TheVariants as parsed
 use Rattle.sat_script.proofs.Acts.{mapped}
 use Rattle.sat_script.proofs.ActsRead.{token, named_client, named_item}
 use Rattle.sat_script.proofs.Choices.{tested}
-use Rattle.sat_script.proofs.Cuts.{texts}
 use Rattle.sat_script.proofs.Lookup.{client_is, item_is}
 
 -- ---- a word
@@ -94,12 +90,6 @@ word_read d t k word a names other b h =
     stays kind.Epoch other next = absurd (other refl)
     stays _ other next = refl
 
--- ---- a word that is added
-
-pub added_word : (d : Deployed) (t : TreeShape) (k : Kind) (word : List ℕ) (old new : List Kept) (one : Kept) → HaveNames d → new ≡ old ++ one ∷ [] → (k ≡ kind.Epoch → ⊥) → begins k word ≡ true → says d t k word ≡ Some (said_of one)
-    → (a : Said) × (map said_of new ≡ map said_of old ++ a ∷ []) × IsReadWord d t k word a t
-added_word d t k word old new one names grown other b h = (said_of one, ap (map said_of) grown ∙ map-append said_of old (one ∷ []), word_read d t k word (said_of one) names other b h)
-
 -- ---- words, one after another
 
 -- what words say, where so much was said and these words are left
@@ -118,29 +108,12 @@ goes_more d all words xs t u k ks w ws a g r = record {
       ∙ ap (λ (zs : List Said). let done : Result (List Said) Cause = Ok zs in done) (sym (append_assoc xs (a ∷ []) more));
 }
 
--- the words from a place on
-pub goes_on : (d : Deployed) (all : List Kind) (words : List (List ℕ)) (xs ys : List Said) (t u : TreeShape) (n : ℕ) (k : Kind) (w : List ℕ)
-    → Goes d all words xs t (drop n all) (drop n words) → drop n all ≡ k ∷ drop (n + 1) all → drop n words ≡ w ∷ drop (n + 1) words → ((a : Said) × (ys ≡ xs ++ a ∷ []) × IsReadWord d t k w a u)
-    → Goes d all words ys u (drop (n + 1) all) (drop (n + 1) words)
-goes_on d all words xs ys t u n k w g kinds rest more =
-    subst (λ (zs : List Said). Goes d all words zs u (drop (n + 1) all) (drop (n + 1) words)) (sym more.1)
-    (goes_more d all words xs t u k (drop (n + 1) all) w (drop (n + 1) words) more.0 (rw (kinds, rest) at g) more.2)
-
-pub texts_more : (words : List (Bor (List ℕ))) (n : ℕ) (w : Bor (List ℕ)) → n < length words
-    → drop n (map (λ (w : Bor (List ℕ)). w.now) words) ≡ (get_or words n w).now ∷ drop (n + 1) (map (λ (w : Bor (List ℕ)). w.now) words)
-texts_more words n w less =
-    drop-map (λ (w : Bor (List ℕ)). w.now) n words ∙ ap (map (λ (w : Bor (List ℕ)). w.now)) (drop_more words n w less)
-    ∙ ap (λ (ws : List (List ℕ)). (get_or words n w).now ∷ ws) (sym (drop-map (λ (w : Bor (List ℕ)). w.now) (n + 1) words))
-
 pub goes_end : (d : Deployed) (all : List Kind) (words : List (List ℕ)) (xs : List Said) (t : TreeShape) → Goes d all words xs t [] [] → AreRead d all words xs
 goes_end d all words xs t g = record {
   shaped = g.shaped refl;
   named = g.named refl;
   said = g.said [] refl ∙ ap (λ (zs : List Said). let done : Result (List Said) Cause = Ok zs in done) (append-nil xs);
 }
-
-pub goes_all : (d : Deployed) (all : List Kind) (words : List (List ℕ)) (xs : List Said) (t : TreeShape) (n : ℕ) → Goes d all words xs t (drop n all) (drop n words) → length all ≤ n → length words ≤ n → AreRead d all words xs
-goes_all d all words xs t n g kinds rest = goes_end d all words xs t (rw (drop_all n all kinds, drop_all n words rest) at g)
 
 -- ---- a line
 
@@ -181,6 +154,12 @@ goes_start d all words = record { shaped = λ h. h; named = λ h. h; said = λ m
 pub one_read : (d : Deployed) (t : TreeShape) (k : Kind) (w : List ℕ) (a : Said) → IsReadWord d no_tree k w a t → AreRead d (k ∷ []) (w ∷ []) (a ∷ [])
 one_read d t k w a r = goes_end d (k ∷ []) (w ∷ []) (a ∷ []) t (goes_more d (k ∷ []) (w ∷ []) [] no_tree t k [] w [] a (goes_start d (k ∷ []) (w ∷ [])) r)
 
+pub two_read : (d : Deployed) (t u : TreeShape) (k l : Kind) (w x : List ℕ) (a b : Said) → IsReadWord d no_tree k w a t → IsReadWord d t l x b u → AreRead d (k ∷ l ∷ []) (w ∷ x ∷ []) (a ∷ b ∷ [])
+two_read d t u k l w x a b first second =
+    let ks = k ∷ l ∷ [] in
+    let ws = w ∷ x ∷ [] in
+    goes_end d ks ws (a ∷ b ∷ []) u (goes_more d ks ws (a ∷ []) t u l [] x [] b (goes_more d ks ws [] no_tree t k (l ∷ []) w (x ∷ []) a (goes_start d ks ws) first) second)
+
 pub three_read : (d : Deployed) (t u v : TreeShape) (k l m : Kind) (w x y : List ℕ) (a b c : Said) → IsReadWord d no_tree k w a t → IsReadWord d t l x b u → IsReadWord d u m y c v → AreRead d (k ∷ l ∷ m ∷ []) (w ∷ x ∷ y ∷ []) (a ∷ b ∷ c ∷ [])
 three_read d t u v k l m w x y a b c first second third =
     let ks = k ∷ l ∷ m ∷ [] in
@@ -188,46 +167,3 @@ three_read d t u v k l m w x y a b c first second third =
     goes_end d ks ws (a ∷ b ∷ c ∷ []) v
     (goes_more d ks ws (a ∷ b ∷ []) u v m [] y [] c
     (goes_more d ks ws (a ∷ []) t u l (m ∷ []) x (y ∷ []) b (goes_more d ks ws [] no_tree t k (l ∷ m ∷ []) w (x ∷ y ∷ []) a (goes_start d ks ws) first) second) third)
-
-one_word : (words : List (Bor (List ℕ))) (w : Bor (List ℕ)) → 1 ≤ length words → length words < 2 → texts words ≡ (get_or words 0 w).now ∷ []
-one_word [] w least most = absurd (omega (arith, least))
-one_word (a ∷ []) w least most = refl
-one_word (a ∷ b ∷ words) w least most = absurd (omega (arith, most))
-
-three_words : (words : List (Bor (List ℕ))) (w : Bor (List ℕ)) → 3 ≤ length words → length words < 4 → texts words ≡ (get_or words 0 w).now ∷ (get_or words 1 w).now ∷ (get_or words 2 w).now ∷ []
-three_words [] w least most = absurd (omega (arith, least))
-three_words (a ∷ []) w least most = absurd (omega (arith, least))
-three_words (a ∷ b ∷ []) w least most = absurd (omega (arith, least))
-three_words (a ∷ b ∷ c ∷ []) w least most = refl
-three_words (a ∷ b ∷ c ∷ e ∷ words) w least most = absurd (omega (arith, most))
-
--- one word as it stands in a line
-pub one_is : (d : Deployed) (t : TreeShape) (k : Kind) (words : List (Bor (List ℕ))) (w : Bor (List ℕ)) (a : Said) → 1 ≤ length words → length words < 2 → IsReadWord d no_tree k (get_or words 0 w).now a t → AreRead d (k ∷ []) (texts words) (a ∷ [])
-one_is d t k words w a least most r = subst (λ (ws : List (List ℕ)). AreRead d (k ∷ []) ws (a ∷ [])) (sym (one_word words w least most)) (one_read d t k (get_or words 0 w).now a r)
-
-pub one_site_is : (d : Deployed) (words : List (Bor (List ℕ))) (w : Bor (List ℕ)) (limit : ℕ) (o : Option ℕ) → 1 ≤ length words → length words < 2 → limit ≡ d.sites → o ≡ number_below limit (get_or words 0 w).now
-    → IfSome o (λ site. AreRead d (kind.Site ∷ []) (texts words) (place site ∷ []))
-one_site_is d words w limit None least most is h = tt
-one_site_is d words w limit (Some site) least most is h = one_is d no_tree kind.Site words w (place site) least most (site_read d no_tree (get_or words 0 w).now limit site is h)
-
--- the act of a form whose only word is a site
-pub site_act_reads : (d : Deployed) (f : Form) (words : List (List ℕ)) (site : ℕ) (o : Option Act) → AreRead d (kind.Site ∷ []) words (place site ∷ []) → IfSome o (λ a. (kinds_of f ≡ kind.Site ∷ []) × (args_of a ≡ place site ∷ []) × (act_of f (args_of a) ≡ Some a))
-    → IfSome o (λ a. Reads d f words a)
-site_act_reads d f words site None r h = tt
-site_act_reads d f words site (Some a) r h = record { read = rw (h.0, h.1) r; act = h.2 }
-
-pub quick_as : (d : Deployed) (f g : Form) (words : List (List ℕ)) (o : Option Act) → f ≡ g → IfSome o (λ a. Reads d g words a) → IfSome o (λ a. Reads d f words a)
-quick_as d f g words o is h = subst (λ (f : Form). IfSome o (λ a. Reads d f words a)) (sym is) h
-
--- and three words, that say an act
-pub three_are : (d : Deployed) (t u v : TreeShape) (words : List (Bor (List ℕ))) (w : Bor (List ℕ)) (f : Form) (k l m : Kind) (a b c : Said) (x : Act) → 3 ≤ length words → length words < 4 → kinds_of f ≡ k ∷ l ∷ m ∷ [] → args_of x ≡ a ∷ b ∷ c ∷ [] → act_of f (args_of x) ≡ Some x
-    → IsReadWord d no_tree k (get_or words 0 w).now a t → IsReadWord d t l (get_or words 1 w).now b u → IsReadWord d u m (get_or words 2 w).now c v → Reads d f (texts words) x
-three_are d t u v words w f k l m a b c x least most kinds args says first second third = record {
-  read = rw (kinds, args, three_words words w least most) (three_read d t u v k l m (get_or words 0 w).now (get_or words 1 w).now (get_or words 2 w).now a b c first second third);
-  act = says;
-}
-
--- such a line, where the parts of its act go together
-pub quick_line : (s : State) (f : Form) (word : List ℕ) (words : List (List ℕ)) (a : Act) → is_end (word ∷ words) ≡ false → found_form word (length words) act_forms ≡ Some f → bar s f ≡ None
-    → Reads s.header f words a → unfit s.header a ≡ None → body_line s (word ∷ words) ≡ Ok (parsed.Act a)
-quick_line s f word words a going found free r fit = good_line s f word words (args_of a) a going found free r.read (rw (r.act, fit) refl)

@@ -1,9 +1,13 @@
 -- What a word says, as the code keeps it.
-use Rattle.std.specs.Prelude.{ℕ, ◌≡◌, ◌||◌, ◌==◌, Bool, true, false, List, [], ◌∷◌, ◌++◌, map, Option, Some, None, Result, Ok, Err}
+use Rattle.std.specs.Prelude.{ℕ, ◌≡◌, ◌||◌, ◌==◌, Bool, true, false, List, [], ◌∷◌, ◌++◌, length, map, Option, Some, None, Result, Ok, Err}
 use Rattle.sat_tree.specs.Shape.{TreeShape}
 use Rattle.sat_act.specs.Deployed.{Deployed}
 use Rattle.sat_act.specs.declared.act.Act.{Act}
-use Rattle.sat_script.specs.Table.{Said, place, num, bytes, at, no_tree, shape, known, says, shapes, all_known, all_say, in_tree, kinds_of, act_of, args_of}
+use Rattle.sat_script.specs.Table.{Said, place, num, bytes, at, no_tree, shape, known, says, shapes, all_known, all_say, in_tree, kinds_of, act_of, args_of, act_forms, found_form, unfit}
+use Rattle.sat_script.specs.Causes.{bar}
+use Rattle.sat_script.specs.State.{State}
+use Rattle.sat_script.specs.declared.form.Form.TheVariants as form
+use Rattle.sat_script.specs.declared.line.Stage.TheVariants as stage
 use Rattle.sat_script.specs.declared.fault.Cause.{Cause}
 use Rattle.sat_script.specs.declared.form.Form.{Form}
 use Rattle.sat_script.specs.declared.form.Kind.{Kind}
@@ -46,11 +50,6 @@ pub record IsReadWord (d : Deployed) (t : TreeShape) (k : Kind) (word : List ℕ
   pub said : says d t k word ≡ Some a
   pub goes : (next : TreeShape → Result (List Said) Cause) → in_tree d k t a next ≡ next u
 
--- where the test says so, more was said, of which this holds
-abbrev pub Adds : Bool → List Kept → List Kept → (Said → Type 0) → Type 0
-Adds true old new P = (a : Said) × (map said_of new ≡ map said_of old ++ a ∷ []) × P a
-Adds false old new P = Unit {0}
-
 -- words of their shapes, whose names the header has, and what they say
 pub record AreRead (d : Deployed) (kinds : List Kind) (words : List (List ℕ)) (xs : List Said) : Type 0 where
   pub shaped : shapes kinds words ≡ true
@@ -61,3 +60,25 @@ pub record AreRead (d : Deployed) (kinds : List Kind) (words : List (List ℕ)) 
 pub record Reads (d : Deployed) (f : Form) (words : List (List ℕ)) (a : Act) : Type 0 where
   pub read : AreRead d (kinds_of f) words (args_of a)
   pub act : act_of f (args_of a) ≡ Some a
+
+-- a form that only the number of acts limits
+abbrev pub is_counted : Form → Bool
+is_counted form.Item = false
+is_counted form.Client = false
+is_counted form.PlanStamp = false
+is_counted form.PlanTree = false
+is_counted form.Settle = false
+is_counted f = true
+
+-- a word and those behind it say this act, whose parts go together
+pub record SaysAct (d : Deployed) (word : List ℕ) (words : List (List ℕ)) (a : Act) : Type 0 where
+  pub form : Form
+  pub found : found_form word (length words) act_forms ≡ Some form
+  pub counted : is_counted form ≡ true
+  pub reads : Reads d form words a
+  pub fits : unfit d a ≡ None
+
+-- the next line may be an act of each of these forms
+pub record TakesActs (s : State) : Type 0 where
+  pub body : s.stage ≡ stage.Body
+  pub free : (f : Form) → is_counted f ≡ true → bar s f ≡ None

@@ -1,5 +1,5 @@
 -- The words of a line: its bytes, numbers, lists of sites, and nodes.
-use Rattle.std.specs.Prelude.{ℕ, ◌≡◌, ◌^◌, List, [], ◌∷◌, ◌++◌, Bool, true, false, not, ◌&&◌, ◌||◌, ◌==◌, nat_lt, nat_le, length, map, take, slice_index, bit_or, Some, None, if◌then◌else◌}
+use Rattle.std.specs.Prelude.{ℕ, ◌≡◌, ◌+◌, ◌^◌, List, [], ◌∷◌, ◌++◌, Bool, true, false, not, ◌&&◌, ◌||◌, ◌==◌, nat_lt, nat_le, length, map, take, slice_index, bit_or, Some, None, if◌then◌else◌}
 use Rattle.std.specs.declared.option.Option.{Option}
 use Rattle.std.specs.Option.{option_map}
 use Rattle.std.specs.List.{All, slice_split, list_all}
@@ -41,6 +41,16 @@ pub record IsCut (byte : ℕ) (text front rest : List ℕ) : Type 0 where
 abbrev pub AreFirst : Bool → List ℕ → List (List ℕ) → Type 0
 AreFirst true line words = (is_text line ≡ true) × (words ≡ take 6 (words_of line))
 AreFirst false line words = is_text line ≡ false
+
+-- the places of a text's blanks, counted from a number
+unfoldable pub blanks_from : ℕ → List ℕ → List ℕ
+blanks_from n [] = []
+blanks_from n (byte ∷ bytes) = if byte == 32 then n ∷ blanks_from (n + 1) bytes else blanks_from (n + 1) bytes
+
+-- whether a line is text, and if so the places of its blanks, which are the first so many of these
+abbrev pub AreBlanks : Option ℕ → List ℕ → List ℕ → Type 0
+AreBlanks None line places = is_text line ≡ false
+AreBlanks (Some count) line places = (is_text line ≡ true) × (take count places ≡ blanks_from 0 line)
 
 -- a word of bytes that can be seen
 abbrev pub is_token : List ℕ → Bool

@@ -1,5 +1,5 @@
 //! The lines after `begin`, by their words.
-ghost use Rattle.std.specs.Prelude.{◌≡◌, ◌<◌, ◌≤◌, ◌+◌, ◌==◌, [], ◌∷◌, length, map, option_copied, IsTrue, IfSome, Some, None, Ok, if◌then◌else◌};
+ghost use Rattle.std.specs.Prelude.{codes, true, ◌≡◌, ◌<◌, ◌≤◌, ◌+◌, ◌==◌, [], ◌∷◌, length, map, option_copied, IsTrue, IfSome, Some, None, Ok, if◌then◌else◌};
 ghost use Rattle.std.specs.Option.{option_map};
 ghost use Rattle.sat_tree.specs.Cut.{IsNode};
 ghost use Rattle.sat_tree.specs.Shape.{TreeShape};
@@ -7,7 +7,9 @@ ghost use Rattle.sat_act.specs.Parts.{tree_of};
 ghost use Rattle.sat_script.specs.Causes.{bar};
 ghost use Rattle.sat_script.specs.Grammar.{is_end, body_line};
 ghost use Rattle.sat_script.specs.Lines.{Gives};
-ghost use Rattle.sat_script.specs.Said.{said_of, shape_of, SaysOn, Adds, begins, IsReadWord, AreRead, Reads};
+ghost use Rattle.sat_script.specs.Said.{said_of, shape_of, SaysOn, begins, IsReadWord, SaysAct, is_counted};
+ghost use Rattle.sat_act.specs.Deployed.{Deployed};
+ghost use Rattle.sat_label.specs.Text.{is_value};
 ghost use Rattle.sat_script.specs.Spelled.{HaveNames};
 ghost use Rattle.sat_script.specs.Table.{shape, shapes, known, all_known, says, all_say, has_node, joins, edge_cause, unfit, said_act, form_line, act_line, kinds_of, act_of, args_of};
 ghost use Rattle.sat_script.specs.Table.{place, num, at};
@@ -17,7 +19,7 @@ ghost use Rattle.sat_script.specs.declared.form.Kind.TheVariants as kind;
 ghost use Rattle.sat_script.specs.declared.line.Parsed.TheVariants as parsed;
 
 use crate::Cause;
-use crate::form::{Form, Kind, act_forms, found_form, kinds_of, quick_form};
+use crate::form::{Form, Kind, act_forms, form_of_one, found_form, kinds_of};
 use crate::header::Header;
 use crate::line::Parsed;
 use crate::nodes::{node_in, serializer_in};
@@ -27,7 +29,7 @@ use crate::said::{Args, Said, act_of};
 use crate::words::{is_node, is_serializer, is_token};
 use arrayvec::ArrayVec;
 use sat_act::Act;
-use sat_label::{NodeId, TS_END, spells_name, spells_value};
+use sat_label::{NodeId, TS_END, Value, spells_name, spells_value};
 use sat_tree::Tree;
 use std::alloc::Global;
 
@@ -206,7 +208,8 @@ fn begins(kind: Kind, word: &[u8]) -> bool
 
 // What an epoch says, and its tree.
 fn read_epoch<'h>(header: &'h Header, word: &[u8]) -> Option<(u16, &'h Tree)>
-    ensures { (t : TreeShape) → IfSome result (λ read. IsReadWord header.now t Kind.Epoch word.now (place read.0) read.1.now) }
+    ensures read { (t : TreeShape) → IfSome result (λ read. IsReadWord header.now t Kind.Epoch word.now (place read.0) read.1.now) }
+    ensures tree { IfSome result (λ read. tree_of header.now read.0 ≡ Some read.1.now) }
 {
     let Some(epoch) = number_to(header.plans(), word) else {
         return None;
@@ -215,62 +218,6 @@ fn read_epoch<'h>(header: &'h Header, word: &[u8]) -> Option<(u16, &'h Tree)>
         Some(tree) => Some((epoch, tree)),
         None => None,
     }
-}
-
-// Adds what a word says that is no epoch, has its shape, and whose name the header has.
-#[inline(never)]
-fn read_word<'a>(
-    header: &Header,
-    tree: Option<&Tree>,
-    kind: Kind,
-    word: &'a [u8],
-    said: &mut Args<'a>,
-) -> bool
-    requires few { length said.old.items < 4 }
-    requires names { HaveNames header.now }
-    ensures { Adds result said.old.items said.new.items (λ a. IsReadWord header.now (shape_of (option_copied tree.entry)) kind word.now a (shape_of (option_copied tree.entry))) }
-{
-    if kind == Kind::Epoch {
-        return false;
-    }
-    if !begins(kind, word) {
-        return false;
-    }
-    match says(header, tree, kind, word) {
-        Some(one) => {
-            said.push(one);
-            true
-        }
-        None => false,
-    }
-}
-
-// What all words say, where each has its shape and each name is one of the header.
-#[inline(always)]
-fn all_read<'a>(header: &Header, kinds: &[Kind], words: &[&'a [u8]], said: &mut Args<'a>) -> bool
-    requires none { said.old.items ≡ [] }
-    requires few { length kinds.now ≤ 4 }
-    requires names { HaveNames header.now }
-    ensures { IsTrue result → AreRead header.now kinds.now (map (λ word. word.now) words.now) (map said_of said.new.items) }
-{
-    if words.len() != kinds.len() {
-        return false;
-    }
-    let mut tree = None;
-    for place in 0..kinds.len() {
-        if kinds[place] == Kind::Epoch {
-            let Some((epoch, found)) = read_epoch(header, words[place]) else {
-                return false;
-            };
-            said.push(Said::Place(epoch));
-            tree = Some(found);
-            continue;
-        }
-        if !read_word(header, tree, kinds[place], words[place], said) {
-            return false;
-        }
-    }
-    true
 }
 
 // ---- acts
@@ -337,119 +284,6 @@ fn unfit(header: &Header, act: &Act) -> Option<Cause>
     }
 }
 
-// ---- acts that most lines are, made as their words are read
-
-// What a site says that is the only word.
-#[inline(always)]
-fn one_site(header: &Header, words: &[&[u8]]) -> Option<u16>
-    ensures { IfSome result (λ site. AreRead header.now (kind.Site ∷ []) (map (λ word. word.now) words.now) (place site ∷ [])) }
-{
-    match words {
-        [site] => number_below(header.sites(), *site),
-        _ => None,
-    }
-}
-
-#[inline(always)]
-fn read_tick(header: &Header, words: &[&[u8]]) -> Option<Act>
-    ensures { IfSome result (λ act. Reads header.now form.Tick (map (λ word. word.now) words.now) act) }
-{
-    let [site, gear, ts] = words else {
-        return None;
-    };
-    let Some(site) = number_below(header.sites(), *site) else {
-        return None;
-    };
-    let Some(gear) = number_below(header.gears(), *gear) else {
-        return None;
-    };
-    let Some(ts) = number_up_to(TS_END, *ts) else {
-        return None;
-    };
-    Some(Act::Tick { site, gear, ts })
-}
-
-#[inline(always)]
-fn read_bulk(header: &Header, words: &[&[u8]]) -> Option<Act>
-    ensures { IfSome result (λ act. Reads header.now form.Bulk (map (λ word. word.now) words.now) act) }
-{
-    let [from, gear, to] = words else {
-        return None;
-    };
-    let Some(from) = number_below(header.sites(), *from) else {
-        return None;
-    };
-    let Some(gear) = number_below(header.gears(), *gear) else {
-        return None;
-    };
-    let Some(to) = number_below(header.sites(), *to) else {
-        return None;
-    };
-    Some(Act::Bulk {
-        from,
-        gear,
-        to,
-        number: None,
-    })
-}
-
-#[inline(always)]
-fn read_hop(header: &Header, words: &[&[u8]]) -> Option<Act>
-    ensures { IfSome result (λ act. Reads header.now form.Hop (map (λ word. word.now) words.now) act) }
-{
-    let [epoch, from, to] = words else {
-        return None;
-    };
-    let Some((epoch, tree)) = read_epoch(header, *epoch) else {
-        return None;
-    };
-    if !begins(Kind::Node, *from) {
-        return None;
-    }
-    if !begins(Kind::Serializer, *to) {
-        return None;
-    }
-    let Some(from) = node_in(tree, *from) else {
-        return None;
-    };
-    let Some(to) = serializer_in(tree, *to) else {
-        return None;
-    };
-    Some(Act::Hop { epoch, from, to })
-}
-
-// The act of a form whose only word is a site.
-#[inline(always)]
-fn act_of_site(form: Form, site: u16) -> Option<Act>
-    ensures { IfSome result (λ act. (kinds_of form ≡ kind.Site ∷ []) × (args_of act ≡ place site ∷ []) × (act_of form (args_of act) ≡ Some act)) }
-{
-    match form {
-        Form::Turn => Some(Act::Turn { site }),
-        Form::Emit => Some(Act::Emit { site }),
-        Form::Gather => Some(Act::Gather { site }),
-        Form::Pulse => Some(Act::Pulse { site }),
-        Form::Stamp => Some(Act::Stamp { site }),
-        Form::Advance => Some(Act::Advance { site }),
-        _ => None,
-    }
-}
-
-// The act of a form of which most lines are.
-#[inline(always)]
-fn quick_act(header: &Header, form: Form, words: &[&[u8]]) -> Option<Act>
-    ensures { IfSome result (λ act. Reads header.now form (map (λ word. word.now) words.now) act) }
-{
-    match form {
-        Form::Hop => read_hop(header, words),
-        Form::Bulk => read_bulk(header, words),
-        Form::Tick => read_tick(header, words),
-        _ => match one_site(header, words) {
-            Some(site) => act_of_site(form, site),
-            None => None,
-        },
-    }
-}
-
 // ---- a line
 
 // The act that words of a form say, unless its parts do not go together.
@@ -504,36 +338,312 @@ fn is_end(words: &[&[u8]]) -> bool
     }
 }
 
-/// The act that a good line says, read in one go. Where the line may be bad, and for want of memory, it says nothing.
+// ---- acts that most lines are, made as their words are read
+
 #[inline(always)]
-pub fn good_act(alloc: Global, place: &Place, words: &[&[u8]]) -> Option<Act>
-    ensures { IfSome result (λ act. body_line place.now (map (λ word. word.now) words.now) ≡ Ok (parsed.Act act)) }
+fn read_site(header: &Header, word: &[u8]) -> Option<u16>
+    ensures { IfSome result (λ site. (t : TreeShape) → IsReadWord header.now t Kind.Site word.now (place site) t) }
 {
-    if is_end(words) {
-        return None;
-    }
-    let Some((word, words)) = words.split_first() else {
-        return None;
-    };
-    let Some(form) = quick_form(word, words.len()) else {
-        return None;
-    };
-    if place.admit(form).is_err() {
-        return None;
-    }
-    if let Some(act) = quick_act(place.header(), form, words) {
-        return match unfit(place.header(), &act) {
-            Some(_) => None,
-            None => Some(act),
-        };
-    }
-    let mut said = ArrayVec::new();
-    if !all_read(place.header(), kinds_of(form), words, &mut said) {
-        return None;
-    }
-    match said_act(alloc, place.header(), form, said.as_slice()) {
-        Ok(act) => Some(act),
+    number_below(header.sites(), word)
+}
+
+#[inline(always)]
+fn read_gear(header: &Header, word: &[u8]) -> Option<u16>
+    ensures { IfSome result (λ gear. (t : TreeShape) → IsReadWord header.now t Kind.Gear word.now (place gear) t) }
+{
+    number_below(header.gears(), word)
+}
+
+#[inline(always)]
+fn read_client(header: &Header, word: &[u8]) -> Option<u16>
+    requires { HaveNames header.now }
+    ensures { IfSome result (λ client. (t : TreeShape) → IsReadWord header.now t Kind.Client word.now (place client) t) }
+{
+    header.client_of(word)
+}
+
+#[inline(always)]
+fn read_item(header: &Header, word: &[u8]) -> Option<u16>
+    requires { HaveNames header.now }
+    ensures { IfSome result (λ item. (t : TreeShape) → IsReadWord header.now t Kind.Item word.now (place item) t) }
+{
+    header.item_of(word)
+}
+
+// A value, where there is memory for it.
+#[inline(always)]
+fn read_value(alloc: Global, word: &[u8]) -> Option<Value>
+    ensures { IfSome result (λ value. (value ≡ word.now) × (is_value word.now ≡ true)) }
+{
+    match Value::of(alloc, word) {
+        Ok(Some(value)) => Some(value),
+        Ok(None) => None,
         Err(_) => None,
+    }
+}
+
+#[inline(always)]
+fn bulk_of(header: &Header, from: &[u8], gear: &[u8], to: &[u8]) -> Option<Act>
+    ensures { IfSome result (λ act. SaysAct header.now (codes "bulk") (from.now ∷ gear.now ∷ to.now ∷ []) act) }
+{
+    let Some(from) = read_site(header, from) else {
+        return None;
+    };
+    let Some(gear) = read_gear(header, gear) else {
+        return None;
+    };
+    let Some(to) = read_site(header, to) else {
+        return None;
+    };
+    if from == to {
+        return None;
+    }
+    Some(Act::Bulk {
+        from,
+        gear,
+        to,
+        number: None,
+    })
+}
+
+#[inline(always)]
+fn tick_of(header: &Header, site: &[u8], gear: &[u8], ts: &[u8]) -> Option<Act>
+    ensures { IfSome result (λ act. SaysAct header.now (codes "tick") (site.now ∷ gear.now ∷ ts.now ∷ []) act) }
+{
+    let Some(site) = read_site(header, site) else {
+        return None;
+    };
+    let Some(gear) = read_gear(header, gear) else {
+        return None;
+    };
+    let Some(ts) = number_up_to(TS_END, ts) else {
+        return None;
+    };
+    Some(Act::Tick { site, gear, ts })
+}
+
+#[inline(always)]
+fn beat_in_of(header: &Header, from: &[u8], to: &[u8], number: &[u8]) -> Option<Act>
+    requires { HaveNames header.now }
+    ensures { IfSome result (λ act. SaysAct header.now (codes "beatin") (from.now ∷ to.now ∷ number.now ∷ []) act) }
+{
+    let Some(from) = read_site(header, from) else {
+        return None;
+    };
+    let Some(to) = read_site(header, to) else {
+        return None;
+    };
+    let Some(number) = number_up_to(u64::MAX, number) else {
+        return None;
+    };
+    if from == to {
+        return None;
+    }
+    Some(Act::BeatIn { from, to, number })
+}
+
+#[inline(always)]
+fn hop_of(header: &Header, epoch: &[u8], from: &[u8], to: &[u8]) -> Option<Act>
+    ensures { IfSome result (λ act. SaysAct header.now (codes "hop") (epoch.now ∷ from.now ∷ to.now ∷ []) act) }
+{
+    let Some((epoch, tree)) = read_epoch(header, epoch) else {
+        return None;
+    };
+    if !begins(Kind::Node, from) {
+        return None;
+    }
+    if !begins(Kind::Serializer, to) {
+        return None;
+    }
+    let Some(from) = node_in(tree, from) else {
+        return None;
+    };
+    let Some(to) = serializer_in(tree, to) else {
+        return None;
+    };
+    if !tree.is_edge(from, NodeId::Serializer(to)) {
+        return None;
+    }
+    Some(Act::Hop { epoch, from, to })
+}
+
+#[inline(always)]
+fn write_of(alloc: Global, header: &Header, client: &[u8], item: &[u8], value: &[u8]) -> Option<Act>
+    requires { HaveNames header.now }
+    ensures { IfSome result (λ act. SaysAct header.now (codes "write") (client.now ∷ item.now ∷ value.now ∷ []) act) }
+{
+    let Some(client) = read_client(header, client) else {
+        return None;
+    };
+    let Some(item) = read_item(header, item) else {
+        return None;
+    };
+    let Some(value) = read_value(alloc, value) else {
+        return None;
+    };
+    Some(Act::Write {
+        client,
+        item,
+        value,
+    })
+}
+
+#[inline(always)]
+fn read_of(header: &Header, client: &[u8], item: &[u8]) -> Option<Act>
+    requires { HaveNames header.now }
+    ensures { IfSome result (λ act. SaysAct header.now (codes "read") (client.now ∷ item.now ∷ []) act) }
+{
+    let Some(client) = read_client(header, client) else {
+        return None;
+    };
+    let Some(item) = read_item(header, item) else {
+        return None;
+    };
+    Some(Act::Read { client, item })
+}
+
+#[inline(always)]
+fn beat_of(header: &Header, from: &[u8], to: &[u8]) -> Option<Act>
+    ensures { IfSome result (λ act. SaysAct header.now (codes "beat") (from.now ∷ to.now ∷ []) act) }
+{
+    let Some(from) = read_site(header, from) else {
+        return None;
+    };
+    let Some(to) = read_site(header, to) else {
+        return None;
+    };
+    if from == to {
+        return None;
+    }
+    Some(Act::Beat { from, to })
+}
+
+#[inline(always)]
+fn move_of(header: &Header, client: &[u8], site: &[u8]) -> Option<Act>
+    requires { HaveNames header.now }
+    ensures { IfSome result (λ act. SaysAct header.now (codes "move") (client.now ∷ site.now ∷ []) act) }
+{
+    let Some(client) = read_client(header, client) else {
+        return None;
+    };
+    let Some(site) = read_site(header, site) else {
+        return None;
+    };
+    Some(Act::Move { client, site })
+}
+
+#[inline(always)]
+fn attach_of(header: &Header, client: &[u8], site: &[u8]) -> Option<Act>
+    requires { HaveNames header.now }
+    ensures { IfSome result (λ act. SaysAct header.now (codes "attach") (client.now ∷ site.now ∷ []) act) }
+{
+    let Some(client) = read_client(header, client) else {
+        return None;
+    };
+    let Some(site) = read_site(header, site) else {
+        return None;
+    };
+    Some(Act::Attach { client, site })
+}
+
+#[inline(always)]
+fn leave_of(header: &Header, client: &[u8]) -> Option<Act>
+    requires { HaveNames header.now }
+    ensures { IfSome result (λ act. SaysAct header.now (codes "leave") (client.now ∷ []) act) }
+{
+    let Some(client) = read_client(header, client) else {
+        return None;
+    };
+    Some(Act::Leave { client })
+}
+
+// The act of a form whose only word is a site.
+#[inline(always)]
+fn act_of_site(form: Form, site: u16) -> Option<Act>
+    ensures { IfSome result (λ act. (kinds_of form ≡ kind.Site ∷ []) × (args_of act ≡ place site ∷ []) × (act_of form (args_of act) ≡ Some act)
+        × (is_counted form ≡ true) × ((d : Deployed) → unfit d act ≡ None)) }
+{
+    match form {
+        Form::Turn => Some(Act::Turn { site }),
+        Form::Emit => Some(Act::Emit { site }),
+        Form::Gather => Some(Act::Gather { site }),
+        Form::Pulse => Some(Act::Pulse { site }),
+        Form::Stamp => Some(Act::Stamp { site }),
+        Form::Advance => Some(Act::Advance { site }),
+        _ => None,
+    }
+}
+
+#[inline(always)]
+fn site_act_of(header: &Header, word: &[u8], site: &[u8]) -> Option<Act>
+    ensures { IfSome result (λ act. SaysAct header.now word.now (site.now ∷ []) act) }
+{
+    let Some(form) = form_of_one(word) else {
+        return None;
+    };
+    let Some(site) = read_site(header, site) else {
+        return None;
+    };
+    act_of_site(form, site)
+}
+
+/// The act that a word and one behind it say. Of rare acts, and where the line may be bad, it says nothing.
+#[inline(always)]
+pub fn act_of_two(header: &Header, word: &[u8], one: &[u8]) -> Option<Act>
+    requires { HaveNames header.now }
+    ensures { IfSome result (λ act. SaysAct header.now word.now (one.now ∷ []) act) }
+{
+    match word {
+        [b'l', b'e', b'a', b'v', b'e'] => leave_of(header, one),
+        _ => site_act_of(header, word, one),
+    }
+}
+
+/// The act that a word and two behind it say, as above.
+#[inline(always)]
+pub fn act_of_three(header: &Header, word: &[u8], one: &[u8], two: &[u8]) -> Option<Act>
+    requires { HaveNames header.now }
+    ensures { IfSome result (λ act. SaysAct header.now word.now (one.now ∷ two.now ∷ []) act) }
+{
+    match word {
+        [b'r', b'e', b'a', b'd'] => read_of(header, one, two),
+        [b'm', b'o', b'v', b'e'] => move_of(header, one, two),
+        [b'b', b'e', b'a', b't'] => beat_of(header, one, two),
+        _ => {
+            if word == b"attach".as_slice() {
+                attach_of(header, one, two)
+            } else {
+                None
+            }
+        }
+    }
+}
+
+/// The act that a word and three behind it say, as above.
+#[inline(always)]
+pub fn act_of_four(
+    alloc: Global,
+    header: &Header,
+    word: &[u8],
+    one: &[u8],
+    two: &[u8],
+    three: &[u8],
+) -> Option<Act>
+    requires { HaveNames header.now }
+    ensures { IfSome result (λ act. SaysAct header.now word.now (one.now ∷ two.now ∷ three.now ∷ []) act) }
+{
+    match word {
+        [b'h', b'o', b'p'] => hop_of(header, one, two, three),
+        [b'b', b'u', b'l', b'k'] => bulk_of(header, one, two, three),
+        [b't', b'i', b'c', b'k'] => tick_of(header, one, two, three),
+        [b'w', b'r', b'i', b't', b'e'] => write_of(alloc, header, one, two, three),
+        _ => {
+            if word == b"beatin".as_slice() {
+                beat_in_of(header, one, two, three)
+            } else {
+                None
+            }
+        }
     }
 }
 

@@ -158,9 +158,23 @@ pub fn found_form(word: &[u8], count: usize, forms: &[Form]) -> Option<Form>
     None
 }
 
-// The form of an act whose word has one more behind it.
+// The same, of the forms with longer words.
 #[inline(always)]
-fn form_of_one(word: &[u8]) -> Option<Form>
+fn long_form_of_one(word: &[u8]) -> Option<Form>
+    ensures { IfSome result (λ form. found_form word.now 1 act_forms ≡ Some form) }
+{
+    if word == b"gather".as_slice() {
+        return Some(Form::Gather);
+    }
+    if word == b"advance".as_slice() {
+        return Some(Form::Advance);
+    }
+    None
+}
+
+/// The form of an act whose word has one more behind it.
+#[inline(always)]
+pub fn form_of_one(word: &[u8]) -> Option<Form>
     ensures { IfSome result (λ form. found_form word.now 1 act_forms ≡ Some form) }
 {
     match word {
@@ -168,47 +182,7 @@ fn form_of_one(word: &[u8]) -> Option<Form>
         [b'e', b'm', b'i', b't'] => Some(Form::Emit),
         [b'p', b'u', b'l', b's', b'e'] => Some(Form::Pulse),
         [b's', b't', b'a', b'm', b'p'] => Some(Form::Stamp),
-        _ => found_form(word, 1, act_forms()),
-    }
-}
-
-// The form of an act whose word has two more behind it.
-#[inline(always)]
-fn form_of_two(word: &[u8]) -> Option<Form>
-    ensures { IfSome result (λ form. found_form word.now 2 act_forms ≡ Some form) }
-{
-    match word {
-        [b'r', b'e', b'a', b'd'] => Some(Form::Read),
-        [b'b', b'e', b'a', b't'] => Some(Form::Beat),
-        [b'm', b'o', b'v', b'e'] => Some(Form::Move),
-        _ => found_form(word, 2, act_forms()),
-    }
-}
-
-// The form of an act whose word has three more behind it.
-#[inline(always)]
-fn form_of_three(word: &[u8]) -> Option<Form>
-    ensures { IfSome result (λ form. found_form word.now 3 act_forms ≡ Some form) }
-{
-    match word {
-        [b'h', b'o', b'p'] => Some(Form::Hop),
-        [b'b', b'u', b'l', b'k'] => Some(Form::Bulk),
-        [b't', b'i', b'c', b'k'] => Some(Form::Tick),
-        [b'w', b'r', b'i', b't', b'e'] => Some(Form::Write),
-        _ => found_form(word, 3, act_forms()),
-    }
-}
-
-/// The form of the acts that begin with a word and have so many more: the short words are told by their bytes.
-#[inline(always)]
-pub fn quick_form(word: &[u8], count: usize) -> Option<Form>
-    ensures { IfSome result (λ form. found_form word.now count act_forms ≡ Some form) }
-{
-    match count {
-        1 => form_of_one(word),
-        2 => form_of_two(word),
-        3 => form_of_three(word),
-        _ => found_form(word, count, act_forms()),
+        _ => long_form_of_one(word),
     }
 }
 

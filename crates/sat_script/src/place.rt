@@ -6,12 +6,13 @@ ghost use Rattle.sat_script.specs.Causes.{has_room, bar};
 ghost use Rattle.sat_script.specs.Grammar.{after, IsNew};
 ghost use Rattle.sat_script.specs.Reading.{told_line};
 ghost use Rattle.sat_script.specs.Kept.{IsFit};
+ghost use Rattle.sat_script.specs.Said.{TakesActs};
 ghost use Rattle.sat_script.specs.Spelled.{HaveNames};
 ghost use Rattle.sat_script.specs.declared.line.Parsed.TheVariants as parsed;
 
 use crate::form::Form;
 use crate::header::Header;
-use crate::limits::MOST_PLANS;
+use crate::limits::{MOST_ACTS, MOST_PLANS};
 use crate::line::{Line, Parsed, Stage};
 use crate::{Cause, Dialect};
 use sat_act::{Act, Acts};
@@ -98,6 +99,20 @@ impl Place {
             Stage::Ended => 6,
         };
         first + self.header.lines() + u64::from(self.acts)
+    }
+
+    /// Whether the next line may be an act of any form but `settle`. Where it says no, it still may be.
+    #[inline(always)]
+    pub fn takes_acts(&self) -> bool
+        ensures { IsTrue result → TakesActs self.now }
+    {
+        if self.stage != Stage::Body {
+            return false;
+        }
+        if self.dialect != Dialect::Run {
+            return false;
+        }
+        self.acts < MOST_ACTS
     }
 
     #[tactic(auto, unfolding(crate::specs::Causes::has_room))]

@@ -10,12 +10,12 @@ ghost use Rattle.sat_script.specs.Stream.{kept};
 ghost use Rattle.sat_script.specs.Words.{words_of};
 ghost use Rattle.sat_script.specs.declared.line.Parsed.TheVariants as parsed;
 
-use crate::act_lines::{body_line, good_act};
+use crate::act_lines::{act_of_four, act_of_three, act_of_two, body_line};
 use crate::header_lines::{format_line, gears_line, header_line, sites_line};
 use crate::limits::LONGEST_LINE;
 use crate::line::{Line, Parsed, Stage};
 use crate::place::Place;
-use crate::words::first_words;
+use crate::words::{SHORT_LINE, blanks, first_words, four_words, three_words, two_words};
 use crate::{Cause, Dialect, ScriptFault};
 use arrayvec::ArrayVec;
 use sat_act::{Act, Acts, Deployment};
@@ -153,14 +153,26 @@ impl Reader {
     pub(crate) fn good_act(&self, line: &[u8]) -> Option<Act>
         ensures { IfSome result (λ act. line_at self.now.state line.now ≡ Ok (parsed.Act act)) }
     {
-        if self.place.stage() != Stage::Body || line.len() > LONGEST_LINE {
+        if !self.place.takes_acts() || line.len() > SHORT_LINE {
             return None;
         }
-        let mut words = ArrayVec::new();
-        if !first_words(line, &mut words) {
-            return None;
+        let mut places = [0u8; 64];
+        let header = self.place.header();
+        match blanks(line, &mut places) {
+            Some(1) => {
+                let (word, one) = two_words(line, &places);
+                act_of_two(header, word, one)
+            }
+            Some(2) => {
+                let (word, one, two) = three_words(line, &places);
+                act_of_three(header, word, one, two)
+            }
+            Some(3) => {
+                let (word, one, two, three) = four_words(line, &places);
+                act_of_four(self.alloc, header, word, one, two, three)
+            }
+            _ => None,
         }
-        good_act(self.alloc, &self.place, words.as_slice())
     }
 
     // Keeps the act of a good line. For want of memory it fails at that line.

@@ -1,8 +1,8 @@
 //! The words of a line.
-ghost use Rattle.std.specs.Prelude.{◌≡◌, [], false, IfOk, MatchOption, map};
+ghost use Rattle.std.specs.Prelude.{◌≡◌, [], false, IfOk, MatchOption, map, ◌∷◌, length, take, drop, ◌≤◌, ◌-◌, ◌&&◌};
 ghost use Rattle.sat_label.specs.Text.{is_between};
 ghost use Rattle.std.specs.List.{list_all};
-ghost use Rattle.sat_script.specs.Words.{is_text, is_token, is_number, is_node, is_serializer, words_of, HasNo, IsCut, AreFirst};
+ghost use Rattle.sat_script.specs.Words.{is_text, is_token, is_number, is_node, is_serializer, words_of, HasNo, IsCut, AreFirst, AreBlanks, blanks_from};
 
 use crate::number::is_number;
 use arrayvec::ArrayVec;
@@ -61,6 +61,87 @@ pub fn first_words<'a>(line: &'a [u8], words: &mut FirstWords<'a>) -> bool
     }
     words.push(&line[start..]);
     true
+}
+
+/// The most bytes of a short line.
+pub const SHORT_LINE: usize = 64;
+
+// Whether the bytes so far and one more are text.
+#[inline(always)]
+fn is_text_with(text: bool, byte: u8) -> bool
+    ensures { result ≡ (is_between 32 126 byte && text) }
+{
+    32 <= byte && byte <= 126 && text
+}
+
+/// Finds the places of a short line's blanks. How many there are, where the line is text. No branch asks for a byte, since words
+/// begin and end where none can foretell it.
+#[inline(never)]
+pub fn blanks(line: &[u8], places: &mut [u8; 64]) -> Option<usize>
+    requires short { length line.now ≤ 64 }
+    ensures { AreBlanks result line.now places.new }
+{
+    let mut count = 0usize;
+    let mut text = true;
+    for place in 0..line.len() {
+        let byte = line[place];
+        text = is_text_with(text, byte);
+        places[count] = place as u8;
+        count += usize::from(byte == b' ');
+    }
+    if text { Some(count) } else { None }
+}
+
+// The part of a line from a place up to another.
+#[inline(always)]
+fn part<'a>(line: &'a [u8], start: usize, end: usize) -> &'a [u8]
+    requires order { start ≤ end }
+    requires inside { end ≤ length line.now }
+    ensures { result.now ≡ take (end - start) (drop start line.now) }
+{
+    &line[start..end]
+}
+
+/// The two words of a line with one blank.
+#[inline(always)]
+pub fn two_words<'a>(line: &'a [u8], places: &[u8; 64]) -> (&'a [u8], &'a [u8])
+    requires { take 1 places.now ≡ blanks_from 0 line.now }
+    ensures { words_of line.now ≡ result.0.now ∷ result.1.now ∷ [] }
+{
+    let a = usize::from(places[0]);
+    let one = part(line, 0, a);
+    let two = part(line, a + 1, line.len());
+    (one, two)
+}
+
+/// The three words of a line with two.
+#[inline(always)]
+pub fn three_words<'a>(line: &'a [u8], places: &[u8; 64]) -> (&'a [u8], &'a [u8], &'a [u8])
+    requires { take 2 places.now ≡ blanks_from 0 line.now }
+    ensures { words_of line.now ≡ result.0.now ∷ result.1.now ∷ result.2.now ∷ [] }
+{
+    let a = usize::from(places[0]);
+    let b = usize::from(places[1]);
+    let one = part(line, 0, a);
+    let two = part(line, a + 1, b);
+    let three = part(line, b + 1, line.len());
+    (one, two, three)
+}
+
+/// The four words of a line with three.
+#[inline(always)]
+pub fn four_words<'a>(line: &'a [u8], places: &[u8; 64]) -> (&'a [u8], &'a [u8], &'a [u8], &'a [u8])
+    requires { take 3 places.now ≡ blanks_from 0 line.now }
+    ensures { words_of line.now ≡ result.0.now ∷ result.1.now ∷ result.2.now ∷ result.3.now ∷ [] }
+{
+    let a = usize::from(places[0]);
+    let b = usize::from(places[1]);
+    let c = usize::from(places[2]);
+    let one = part(line, 0, a);
+    let two = part(line, a + 1, b);
+    let three = part(line, b + 1, c);
+    let four = part(line, c + 1, line.len());
+    (one, two, three, four)
 }
 
 /// Whether a line has bytes from 32 to 126 only.

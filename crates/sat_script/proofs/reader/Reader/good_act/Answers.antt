@@ -1,14 +1,29 @@
-use Rattle.std.proofs.Common.{◌≡◌, true, take, arith, rules}
-use Rattle.sat_script.specs.Words.{is_text, words_of}
-use Rattle.sat_script.specs.declared.line.Stage.TheVariants as stage
-use Rattle.sat_script.proofs.Cuts.{texts}
-use Rattle.sat_script.proofs.First.{body_act}
+use Rattle.std.proofs.Common.{◌≡◌, true, arith, rules}
+use Rattle.sat_script.specs.Said.{TakesActs}
+use Rattle.sat_script.specs.Words.{is_text}
+use Rattle.sat_script.proofs.Quick.{line_said}
 use Rattle.sat_script.proofs.reader.Reader.good_act.Goals as goal
 
-pub returns : goal.returns
-returns c =
-    let here : c.self.inside.place.stage ≡ stage.Body = search rules in
-    let first : (is_text c.args.line.now ≡ true) × (texts c.first_words.new.words.items ≡ take 6 (words_of c.args.line.now)) = search rules in
-    let said = rw c.as_slice.ensures.value at c.good_act.ensures in
+pub returns-in-Some-eq1 : goal.returns-in-Some-eq1
+returns-in-Some-eq1 c =
+    let takes : TakesActs c.self.inside.place = search rules in
+    let text : is_text c.args.line.now ≡ true = search rules in
+    let said = rw c.header-header.ensures.header at c.act_of_two.ensures in
     rw (← c.self.view_is)
-    (body_act c.self.inside.place c.args.line.now (texts c.first_words.new.words.items) c.good_act.result here (omega (arith, c.if-line-gt-LONGEST_LINE.false)) first.0 first.1 said)
+    (line_said c.self.inside.place c.args.line.now _ _ _ c.act_of_two.result takes (omega (arith, c.if-line-gt-SHORT_LINE.false)) text c.two_words.ensures said)
+
+pub returns-in-Some-eq2 : goal.returns-in-Some-eq2
+returns-in-Some-eq2 c =
+    let takes : TakesActs c.self.inside.place = search rules in
+    let text : is_text c.args.line.now ≡ true = search rules in
+    let said = rw c.header-header.ensures.header at c.act_of_three.ensures in
+    rw (← c.self.view_is)
+    (line_said c.self.inside.place c.args.line.now _ _ _ c.act_of_three.result takes (omega (arith, c.if-line-gt-SHORT_LINE.false)) text c.three_words.ensures said)
+
+pub returns-in-Some-eq3 : goal.returns-in-Some-eq3
+returns-in-Some-eq3 c =
+    let takes : TakesActs c.self.inside.place = search rules in
+    let text : is_text c.args.line.now ≡ true = search rules in
+    let said = rw c.header-header.ensures.header at c.act_of_four.ensures in
+    rw (← c.self.view_is)
+    (line_said c.self.inside.place c.args.line.now _ _ _ c.act_of_four.result takes (omega (arith, c.if-line-gt-SHORT_LINE.false)) text c.four_words.ensures said)

@@ -1,0 +1,18 @@
+use Rattle.std.proofs.Common.{refl, sym}
+use Rattle.sat_act.specs.declared.act.Act.TheVariants as act
+use Rattle.sat_script.specs.Table.{place, at, no_tree}
+use Rattle.sat_script.specs.declared.form.Form.TheVariants as form
+use Rattle.sat_script.specs.declared.form.Kind.TheVariants as kind
+use Rattle.sat_script.proofs.Once.{node_read, serializer_read}
+use Rattle.sat_script.proofs.Quick.{three_say, hop_fits}
+use Rattle.sat_script.proofs.act_lines.hop_of.Goals as goal
+
+pub returns : goal.returns
+returns c =
+    let t = c.in-Some.tree.now in
+    three_say c.args.header.now t t t _ _ _ _ form.Hop kind.Epoch kind.Node kind.Serializer (place c.in-Some.epoch) (at c.in-Some-node_in.from) (place c.in-Some-serializer_in.to) (act.Hop c.in-Some.epoch c.in-Some-node_in.from c.in-Some-serializer_in.to)
+    refl refl refl refl refl
+    (hop_fits c.args.header.now t c.in-Some.epoch c.in-Some-node_in.from c.in-Some-serializer_in.to c.in-Some.ensures.tree c.in-Some-node_in.ensures.inside c.in-Some-serializer_in.ensures.inside (sym c.if-not-is_edge.ensures.edge))
+    (c.in-Some.ensures.read no_tree)
+    (node_read c.args.header.now t _ c.in-Some-node_in.from c.if-not-begins.ensures c.in-Some-node_in.ensures.node)
+    (serializer_read c.args.header.now t _ c.in-Some-serializer_in.to c.if-not-begins-2.ensures c.in-Some-serializer_in.ensures.serializer)

@@ -1,0 +1,12 @@
+use Rattle.std.proofs.Common.{refl}
+use Rattle.sat_act.specs.declared.act.Act.TheVariants as act
+use Rattle.sat_script.specs.Table.{place, no_tree}
+use Rattle.sat_script.specs.declared.form.Form.TheVariants as form
+use Rattle.sat_script.specs.declared.form.Kind.TheVariants as kind
+use Rattle.sat_script.proofs.Quick.{two_say}
+use Rattle.sat_script.proofs.act_lines.move_of.Goals as goal
+
+pub returns : goal.returns
+returns c =
+    two_say c.args.header.now no_tree no_tree _ _ _ form.Move kind.Client kind.Site (place c.in-Some.client) (place c.in-Some-read_site.site) (act.Move c.in-Some.client c.in-Some-read_site.site)
+    refl refl refl refl refl refl (c.in-Some.ensures no_tree) (c.in-Some-read_site.ensures no_tree)

@@ -1,0 +1,7 @@
+use Rattle.sat_script.specs.Table.{no_tree}
+use Rattle.sat_script.proofs.Quick.{site_say}
+use Rattle.sat_script.proofs.act_lines.site_act_of.Goals as goal
+
+pub returns : goal.returns
+returns c =
+    site_say c.args.header.now _ _ c.in-Some.form c.in-Some-read_site.site c.act_of_site.result c.in-Some.ensures (c.in-Some-read_site.ensures no_tree) c.act_of_site.ensures

@@ -1,0 +1,13 @@
+use Rattle.std.proofs.Common.{refl}
+use Rattle.sat_act.specs.declared.act.Act.TheVariants as act
+use Rattle.sat_script.specs.Table.{place, bytes, no_tree}
+use Rattle.sat_script.specs.declared.form.Form.TheVariants as form
+use Rattle.sat_script.specs.declared.form.Kind.TheVariants as kind
+use Rattle.sat_script.proofs.Quick.{three_say, value_at, writes}
+use Rattle.sat_script.proofs.act_lines.write_of.Goals as goal
+
+pub returns : goal.returns
+returns c =
+    three_say c.args.header.now no_tree no_tree no_tree _ _ _ _ form.Write kind.Client kind.Item kind.Value (place c.in-Some.client) (place c.in-Some-read_item.item) (bytes c.in-Some-read_value.value) (act.Write c.in-Some.client c.in-Some-read_item.item c.in-Some-read_value.value)
+    refl refl refl refl (writes c.in-Some.client c.in-Some-read_item.item _ c.in-Some-read_value.value c.in-Some-read_value.ensures) refl
+    (c.in-Some.ensures no_tree) (c.in-Some-read_item.ensures no_tree) (value_at c.args.header.now no_tree _ c.in-Some-read_value.value c.requires c.in-Some-read_value.ensures)

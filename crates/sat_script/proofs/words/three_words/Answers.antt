@@ -1,0 +1,32 @@
+use Rattle.std.proofs.Common.{arith}
+use Rattle.sat_script.proofs.Blanks.{two_at, words_three}
+use Rattle.sat_script.proofs.words.three_words.Goals as goal
+
+pub part-one-requires-clause-inside : goal.part-one-requires-clause-inside
+part-one-requires-clause-inside c =
+    let next = two_at c.args.line.now c.args.places.now c.from-a.result c.from-b.result (omega (arith, c.fits-places)) c.requires c.from-a.ensures c.from-b.ensures in
+    let inside = next.0.inside in
+    omega (arith, inside)
+
+pub part-two-requires-clause-order : goal.part-two-requires-clause-order
+part-two-requires-clause-order c =
+    let next = two_at c.args.line.now c.args.places.now c.from-a.result c.from-b.result (omega (arith, c.fits-places)) c.requires c.from-a.ensures c.from-b.ensures in
+    let from = next.1.from in
+    omega (arith, from)
+
+pub part-two-requires-clause-inside : goal.part-two-requires-clause-inside
+part-two-requires-clause-inside c =
+    let next = two_at c.args.line.now c.args.places.now c.from-a.result c.from-b.result (omega (arith, c.fits-places)) c.requires c.from-a.ensures c.from-b.ensures in
+    let inside = next.1.inside in
+    omega (arith, inside)
+
+pub part-three-requires-clause-order : goal.part-three-requires-clause-order
+part-three-requires-clause-order c =
+    let next = two_at c.args.line.now c.args.places.now c.from-a.result c.from-b.result (omega (arith, c.fits-places)) c.requires c.from-a.ensures c.from-b.ensures in
+    let inside = next.1.inside in
+    omega (arith, inside)
+
+pub returns : goal.returns
+returns c =
+    let next = two_at c.args.line.now c.args.places.now c.from-a.result c.from-b.result (omega (arith, c.fits-places)) c.requires c.from-a.ensures c.from-b.ensures in
+    words_three c.args.line.now _ _ _ c.from-a.result c.from-b.result next.0 next.1 c.part-one.ensures c.part-two.ensures c.part-three.ensures
