@@ -1,5 +1,5 @@
 -- From what the code knows of its fields to what an act does to a world.
-use Rattle.std.specs.Prelude.{◌≡◌, ◌<◌, ◌≤◌, ◌+◌, ◌-◌, ◌^◌, ℕ, true, List, [], ◌∷◌, ◌++◌, length, set, get_or, take, drop, Option, Some, None, IsSome, slice_get, refl}
+use Rattle.std.specs.Prelude.{◌≡◌, ◌<◌, ◌≤◌, ◌+◌, ◌-◌, ◌^◌, ℕ, Bool, true, false, List, [], ◌∷◌, ◌++◌, length, set, get_or, take, drop, Option, Some, None, IsSome, slice_get, refl}
 use Rattle.std.proofs.Common.{sym, subst, ap, ◌∙◌, arith}
 use Rattle.std.proofs.lemmas.List.{length-map}
 use Rattle.sat_label.specs.declared.carried.Carried.{Carried}
@@ -35,12 +35,14 @@ use Rattle.sat_machine.specs.World.{world_state, link_left}
 use Rattle.sat_machine.proofs.OnLinks.{links-lead}
 use Rattle.sat_net.specs.Nets.{NetSeen, link_of, MayHop}
 use Rattle.sat_net.specs.NetStands.{IsNetOf}
+use Rattle.sat_epoch.specs.Epochs.{is_stamp}
+use Rattle.sat_sink.specs.Sink.{ready_of}
 use Rattle.sat_site.specs.declared.input.SiteInput as code
 use Rattle.sat_site.specs.declared.input.SiteInput.TheVariants as input
 use Rattle.sat_site.specs.Seen.{SiteSeen, IsSite}
 use Rattle.sat_site.specs.Changes.{gear_at, shape_for}
 use Rattle.sat_site.specs.Inputs.{fits_in}
-use Rattle.sat_site.specs.SiteSteps.{keeps_item, refusal_of, site_answers, site_sends, write_answer, write_refusal}
+use Rattle.sat_site.specs.SiteSteps.{keeps_item, refusal_of, emit_after, emit_answer, emit_sends, site_after, site_answers, site_sends, write_answer, write_refusal}
 use Rattle.sat_world.specs.Clocks.{IsGreatest, AreUpTo, AreClocked}
 use Rattle.sat_world.specs.Seen.{WorldSeen, HasSite, HasClient}
 use Rattle.sat_world.specs.Steps.{Goes, StepsAt, Hands, act_at, is_sending, told, net_sent, net_taken, front_to, NetAt, HopsAt, KillsAt, IsNumber}
@@ -101,6 +103,48 @@ did-send w v i m given x sent r ys nets e k lt sending is sound epoch s net h =
     (λ y here. ap (λ (z : SiteSeen). z.views.emission) (both-are (slice_get w.sites i) y x here at) ∙ (sym epoch ∙ place.above)) few sending
     (hands-at w i given (sending-plain (act_at i given) sending)) h
     (s ∙ ap (λ (x : SiteSeen). site_sends x given) (both-are (slice_get w.sites i) x h.before at h.at)) (net q.0 q.1)
+
+-- ---- an emission of a site that has no label for one
+
+kept-net : (q : Option NetSeen) (i : ℕ) → net_sent q i None ≡ q
+kept-net None i = refl
+kept-net (Some net) i = refl
+
+sends-none : (b : Bool) (shape : Shape) (o : Option Label) → o ≡ None → None ≡ emit_sends b shape o
+sends-none true shape o e = refl
+sends-none false shape o e = sym (ap (emit_sends false shape) e)
+
+idle-sends : (x : SiteSeen) → ready_of x.sink ≡ None → None ≡ site_sends x input.Emit
+unfolding site_sends
+idle-sends x e = sends-none (is_stamp x.views x.views.emission) x.shape (ready_of x.sink) e
+
+idle-steps : (xs : List SiteSeen) (i : ℕ) (x : SiteSeen) → slice_get xs i ≡ Some x → IsSite x → fits_in x input.Emit ≡ true → ready_of x.sink ≡ None → StepsAt xs i input.Emit (ans.Refused why.Idle) xs
+unfolding site_answers site_after
+idle-steps xs i x at sound fits e = record {
+  before = x;
+  at = at;
+  sound = sound;
+  fits = fits;
+  answers = sym (ap emit_answer e);
+  rest = sym (ap (λ (y : SiteSeen). set xs i y) (ap (emit_after x) e) ∙ set-same xs i x at);
+}
+
+pub did-not-emit : (w v : WorldSeen) (i : ℕ) (x : SiteSeen) (o : Option Label) → w ≡ v → IsWorld w → i < v.deployment.sites → x ≡ get_or w.sites i x → IsSite x → o ≡ ready_of x.sink → o ≡ None → Goes v (act.Emit i) (ans.Refused why.Idle) v
+did-not-emit w v i x o e k lt is sound found none =
+    subst (λ (v : WorldSeen). Goes v (act.Emit i) (ans.Refused why.Idle) v) e
+    (did-send w v i x.views.emission input.Emit x None (ans.Refused why.Idle) w.sites w.nets e k lt refl is sound refl (idle-sends x idle)
+    (λ q at. record { at = at; rest = sym (ap (λ (p : Option NetSeen). set w.nets (x.views.emission - 1) p) (kept-net q i) ∙ set-same w.nets (x.views.emission - 1) q at) })
+    (idle-steps w.sites i x here sound (fit-here w v (act.Emit i) i input.Emit e k lt (hands-at w i input.Emit refl) x here sound) idle))
+  where
+    idle : ready_of x.sink ≡ None
+    idle = sym found ∙ none
+
+    here : HasSite w i x
+    here = site-at w v i x e k lt is
+
+-- the label that a site would emit next, at its place
+pub next-at : (w v : WorldSeen) (i : ℕ) (x : SiteSeen) (o : Option Label) (l : Label) → w ≡ v → IsWorld w → i < v.deployment.sites → x ≡ get_or w.sites i x → o ≡ ready_of x.sink → o ≡ Some l → (y : SiteSeen) → slice_get w.sites i ≡ Some y → ready_of y.sink ≡ Some l
+next-at w v i x o l e k lt at found is y here = ap (λ (z : SiteSeen). ready_of z.sink) (both-are (slice_get w.sites i) y x here (site-at w v i x e k lt at)) ∙ (sym found ∙ is)
 
 -- ---- turn
 

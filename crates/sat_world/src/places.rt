@@ -5,6 +5,7 @@ ghost use Rattle.sat_client.specs.Clients.{after_leave};
 ghost use Rattle.sat_site.specs.Seen.{SiteSeen, IsSite};
 ghost use Rattle.sat_site.specs.Inputs.{fits_in, takes_none};
 ghost use Rattle.sat_site.specs.SiteSteps.{write_refusal};
+ghost use Rattle.sat_sink.specs.Sink.{ready_of};
 ghost use Rattle.sat_world.specs.Steps.{StepsAt, told, joined, IsNumber, MayTell};
 
 use sat_act::{Answer, Refusal};
@@ -65,15 +66,40 @@ pub fn write_at(
     Ok(answer)
 }
 
-/// Lets a site emit.
-pub fn emit_at(sites: &mut Vec<Site>, place: u16) -> Answer
+/// Lets a site emit the label that it has for that.
+pub fn emit_at(sites: &mut Vec<Site>, place: u16, label: Label) -> Answer
     requires within { place < length sites.old.items }
     requires fits { (x : SiteSeen) → slice_get sites.old.items place ≡ Some x → IsSite x → fits_in x SiteInput.Emit ≡ true }
+    requires next { (x : SiteSeen) → slice_get sites.old.items place ≡ Some x → ready_of x.sink ≡ Some label }
     ensures { StepsAt sites.old.items place SiteInput.Emit result sites.new.items }
 {
     let site = &mut sites[place as usize];
     sound(site);
-    site.emit()
+    site.emit_known(label)
+}
+
+/// Lets a site gather. For want of memory the sites are as before.
+pub fn gather_at(sites: &mut Vec<Site>, place: u16) -> Result<Answer, AllocError>
+    requires within { place < length sites.old.items }
+    requires fits { (x : SiteSeen) → slice_get sites.old.items place ≡ Some x → IsSite x → fits_in x SiteInput.Gather ≡ true }
+    ensures ok { IfOk result (λ answer. StepsAt sites.old.items place SiteInput.Gather answer sites.new.items) }
+    ensures err { OnErr result (sites.new.items ≡ sites.old.items) }
+{
+    let site = &mut sites[place as usize];
+    sound(site);
+    let answer = site.gather()?;
+    Ok(answer)
+}
+
+/// Lets a site pulse.
+pub fn pulse_at(sites: &mut Vec<Site>, place: u16) -> Answer
+    requires within { place < length sites.old.items }
+    requires fits { (x : SiteSeen) → slice_get sites.old.items place ≡ Some x → IsSite x → fits_in x SiteInput.Pulse ≡ true }
+    ensures { StepsAt sites.old.items place SiteInput.Pulse result sites.new.items }
+{
+    let site = &mut sites[place as usize];
+    sound(site);
+    site.pulse()
 }
 
 /// Hands a site the front of the link to it.

@@ -210,7 +210,8 @@ impl World {
         ensures goes { IfOk result (λ r. Goes self.old (Act.Gather site) r self.new) }
         ensures err { OnErr result (self.new ≡ self.old) }
     {
-        self.local(site, SiteInput::Gather)
+        let answer = places::gather_at(&mut self.sites, site)?;
+        Ok(answer)
     }
 
     fn beat(&mut self, from: u16, to: u16) -> Result<Answer, AllocError>
@@ -252,7 +253,11 @@ impl World {
         ensures goes { IfOk result (λ r. Goes self.old (Act.Pulse site) r self.new) }
         ensures err { OnErr result (self.new ≡ self.old) }
     {
-        self.sending(site, SiteInput::Pulse)
+        let known = &self.sites[site as usize];
+        let epoch = known.view().emission;
+        let sent = known.sends(&SiteInput::Pulse);
+        nets::send_at(&mut self.nets, epoch as usize - 1, site, sent)?;
+        Ok(places::pulse_at(&mut self.sites, site))
     }
 
     fn close(&mut self, site: u16) -> Result<Answer, AllocError>
@@ -386,17 +391,21 @@ impl World {
         Ok(answer)
     }
 
-    // What is emitted is on its way before the site has sent it, as above.
+    // What is emitted is on its way before the site has sent it, as above. A site looks for its next label once: where it has none
+    // the act is refused.
     fn emit(&mut self, site: u16) -> Result<Answer, AllocError>
         requires { site < self.old.deployment.sites }
         ensures goes { IfOk result (λ r. Goes self.old (Act.Emit site) r self.new) }
         ensures err { OnErr result (self.new ≡ self.old) }
     {
         let known = &self.sites[site as usize];
+        let Some(label) = known.next() else {
+            return Ok(Answer::Refused(Refusal::Idle));
+        };
         let epoch = known.view().emission;
-        let sent = known.sends(&SiteInput::Emit);
+        let sent = known.sends_next(Some(label));
         nets::send_at(&mut self.nets, epoch as usize - 1, site, sent)?;
-        Ok(places::emit_at(&mut self.sites, site))
+        Ok(places::emit_at(&mut self.sites, site, label))
     }
 
     fn hop(&mut self, epoch: u16, from: NodeId, to: u16) -> Result<Answer, AllocError>
