@@ -65,7 +65,14 @@ fn answer_piece(
     ensures more { OnOk result (DoesMore world.old done.old reader.old.lines.acts world.new text.new.items) }
 {
     let acts = reader.drain();
-    answer_more(alloc, reader.deployment(), world, *done, acts.as_slice(), text)?;
+    answer_more(
+        alloc,
+        reader.deployment(),
+        world,
+        *done,
+        acts.as_slice(),
+        text,
+    )?;
     *done += acts.as_slice().len() as u64;
     reader.reuse(acts);
     Ok(())
