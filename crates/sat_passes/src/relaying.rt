@@ -82,6 +82,25 @@ fn take_hop<N: Laid + Names>(
     result
 }
 
+// The same, without the answer.
+fn take_unanswered<N: Laid + Names>(
+    held: &mut Held<SerialNode<N>, N>,
+    link: usize,
+    hop: SerialAct,
+) -> Result<(), CallFault>
+    requires alive { held.old.node.machine.serial.killed ≡ false }
+    requires hop { hop_at N.deployment held.old.node.machine link (front_at held.old.ins link) ≡ Some hop }
+    ensures hops { Hops held.old held.new }
+    ensures outs { held.new.outs ≡ held.old.outs }
+    ensures taken { OnOk result (OnlyAt link Cleared held.old.ins held.new.ins) }
+    ensures fault { IfErr result (Fails held.new) }
+{
+    match take_hop(held, link, hop) {
+        Ok(_) => Ok(()),
+        Err(fault) => Err(fault),
+    }
+}
+
 // Pulls the next envelope of a link, and takes it as a hop. False where the link was empty, or the front doesn't fit the machine.
 #[tactic(auto, using(crate::proofs::Drains::pulled_drained, crate::proofs::Drains::pulled_taken, crate::proofs::Hops::hops_none, crate::proofs::Hops::hops_then))]
 fn handle_front<N: Laid + Names, R: Wait, G: Gate>(
@@ -102,8 +121,8 @@ fn handle_front<N: Laid + Names, R: Wait, G: Gate>(
         return Ok(false);
     };
     gate.inside(held.node().name());
-    match take_hop(held, link, hop) {
-        Ok(_) => Ok(true),
+    match take_unanswered(held, link, hop) {
+        Ok(()) => Ok(true),
         Err(fault) => Err(fault),
     }
 }
