@@ -24,3 +24,13 @@ loop-act-preserved c =
           counts_on c.args.world.now.deployment c.loop-act.world c.count_act.new.world c.loop-act.written c.in_ok-written.field-0 c.loop-act.coming c.next.new.self c.args.coming c.in-Some.act
           c.loop-act.invariant.deployment next c.in_ok-written.ensures.one c.in_ok-written.ensures.counting c.loop-act.invariant.counts;
     }
+
+pub loop-act-preserved-in_ok-written-2 : goal.loop-act-preserved-in_ok-written-2
+loop-act-preserved-in_ok-written-2 c =
+    let next : c.loop-act.coming ≡ c.in-Some.act ∷ c.next.new.self = search rules in
+    record {
+      deployment = c.count_act.ensures.deployment ∙ c.loop-act.invariant.deployment;
+      counts =
+          counts_on c.args.world.now.deployment c.loop-act.world c.count_act.new.world c.loop-act.written c.in_ok-written.field-0 c.loop-act.coming c.next.new.self c.args.coming c.in-Some.act
+          c.loop-act.invariant.deployment next c.in_ok-written.ensures.one c.in_ok-written.ensures.counting c.loop-act.invariant.counts;
+    }
