@@ -1,11 +1,11 @@
 -- One act fewer that is still to come.
-use Rattle.std.proofs.Common.{ℕ, zero, suc, ◌≡◌, ◌<◌, ◌≤◌, ◌+◌, ◌-◌, Bool, true, false, List, [], ◌∷◌, ◌++◌, drop, length, refl, sym, ap, ◌∙◌, arith, add-one}
+use Rattle.std.proofs.Common.{ℕ, zero, suc, ◌≡◌, ◌<◌, ◌≤◌, ◌+◌, ◌-◌, Bool, true, false, List, [], ◌∷◌, ◌++◌, drop, refl, sym, ap, ◌∙◌, arith, add-one}
 use Rattle.std.proofs.lemmas.List.{append_assoc, append-nil}
 use Rattle.std.proofs.Math.ListN.{drop_of_length-le}
 use Rattle.sat_act.specs.declared.act.Act.{Act}
 use Rattle.sat_act.specs.declared.act.Act.TheVariants as act
 use Rattle.sat_settle.specs.LoadActs.{act_at, after_act, closes, closes_after, MadeActs, with_act, made_acts, load_acts}
-use Rattle.sat_settle.specs.LoadLeft.{drawn_from, last_act, to_come}
+use Rattle.sat_settle.specs.LoadLeft.{drawn_from, to_come}
 
 -- ---- the closes
 

@@ -1,6 +1,7 @@
 pub mod LoadDraws
 pub mod LoadHeader
 pub mod LoadActs
+pub mod LoadDraft
 pub mod LoadLeft
 pub mod Going
 pub mod Openings

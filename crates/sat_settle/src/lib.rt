@@ -3,6 +3,7 @@
 
 mod acts;
 mod load_acts;
+mod load_draft;
 mod load_draws;
 mod load_header;
 mod load_rows;
@@ -13,6 +14,7 @@ mod settling;
 mod trying;
 
 pub use load_acts::LoadActs;
+pub use load_draft::{Draft, act_of};
 pub use load_header::deployment;
 pub use load_script::{MOST_LOADED, load};
 pub use settling::settle;

@@ -1,15 +1,16 @@
 //! The acts of a large script, one after another.
-ghost use Rattle.std.specs.Prelude.{◌≡◌, ◌≤◌, ◌+◌, ◌∷◌, [], drop, length, IfOk, IfSome, IsNone, OnErr};
+ghost use Rattle.std.specs.Prelude.{◌≡◌, ◌≤◌, ◌+◌, ◌∷◌, [], drop, length, IfSome, IsNone};
 ghost use Rattle.sat_script.specs.Spelled.{Spells, spelling};
-ghost use Rattle.sat_settle.specs.LoadActs.{act_at, after_act, closes, closes_after, load_acts};
+ghost use Rattle.sat_settle.specs.LoadActs.{closes, closes_after, load_acts};
+ghost use Rattle.sat_settle.specs.LoadDraft.{drafted};
 ghost use Rattle.sat_settle.specs.LoadHeader.{load_deployment};
 
+use crate::load_draft::Draft;
 use crate::load_draws::Draws;
 use crate::load_header::SITES;
-use crate::load_rows::next_act;
+use crate::load_rows::next_draft;
 use crate::load_script::MOST_LOADED;
 use sat_act::{Act, Deployment};
-use std::alloc::{AllocError, Global};
 use std::marker::Model;
 
 /// The acts of a large script, one after another: each is drawn when it is asked for, and none is kept. Contracts see those that
@@ -32,22 +33,6 @@ impl Model for LoadActs {
     ghost Value = { List Act };
 
     ghost view = { λ a. to_come a.closed a.draws a.count a.drawn a.settled };
-}
-
-// Draws the act of a number, and answers the generator behind it too.
-fn drawn(
-    alloc: Global,
-    d: &Deployment,
-    draws: &Draws,
-    number: u32,
-) -> Result<(Act, Draws), AllocError>
-    requires { d.now ≡ load_deployment }
-    ensures act { IfOk result (λ made. made.0 ≡ act_at number draws.now) }
-    ensures state { IfOk result (λ made. made.1 ≡ after_act draws.now) }
-{
-    let mut draws = draws.copy();
-    let act = next_act(alloc, d, &mut draws, number)?;
-    Ok((act, draws))
 }
 
 // How many sites have closed their epoch right behind the act of a number: none where they do so there, or all where none is to.
@@ -81,33 +66,31 @@ impl LoadActs {
         }
     }
 
-    /// The next act, None behind the last. A write alone takes memory, for its value; for want of it all is as before.
+    /// The next act, None behind the last. It takes no memory.
     #[inline(always)]
     #[tactic(auto, using(crate::proofs::LoadLeft::close_comes, crate::proofs::LoadLeft::drawn_comes, crate::proofs::LoadLeft::settle_comes, crate::proofs::LoadLeft::none_comes))]
-    pub fn next(&mut self, alloc: Global, d: &Deployment) -> Result<Option<Act>, AllocError>
+    pub fn next(&mut self, d: &Deployment) -> Option<Draft>
         requires { d.now ≡ load_deployment }
-        ensures some { IfOk result (λ next. IfSome next (λ act. self.old ≡ act ∷ self.new)) }
-        ensures none { IfOk result (λ next. IsNone next → self.old ≡ []) }
-        ensures end { IfOk result (λ next. IsNone next → self.new ≡ []) }
-        ensures err { OnErr result (self.new ≡ self.old) }
+        ensures some { IfSome result (λ draft. self.old ≡ drafted draft ∷ self.new) }
+        ensures none { IsNone result → self.old ≡ [] }
+        ensures end { IsNone result → self.new ≡ [] }
     {
         if self.closed < SITES {
             let site = self.closed;
             self.closed += 1;
-            return Ok(Some(Act::Close { site }));
+            return Some(Draft::Other(Act::Close { site }));
         }
         if self.drawn < self.count {
             let number = self.drawn + 1;
-            let (act, draws) = drawn(alloc, d, &self.draws, number)?;
-            self.draws = draws;
+            let draft = next_draft(d, &mut self.draws, number);
             self.drawn = number;
             self.closed = closed_behind(self.count, number);
-            return Ok(Some(act));
+            return Some(draft);
         }
         if self.settled {
-            return Ok(None);
+            return None;
         }
         self.settled = true;
-        Ok(Some(Act::Settle))
+        Some(Draft::Other(Act::Settle))
     }
 }

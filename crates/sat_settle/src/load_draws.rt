@@ -27,13 +27,6 @@ impl Draws {
         Draws { state: seed }
     }
 
-    /// The same state again.
-    pub fn copy(&self) -> Draws
-        ensures { result ≡ self.now }
-    {
-        Draws { state: self.state }
-    }
-
     /// Goes on to the next state, and answers the number below `count` that it gives.
     #[tactic(auto, using(crate::proofs::LoadDraws::wrapped), unfolding(crate::specs::LoadDraws::next_state, crate::specs::LoadDraws::number_of))]
     pub fn draw(&mut self, count: u16) -> u16

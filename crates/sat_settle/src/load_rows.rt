@@ -1,18 +1,18 @@
 //! The acts of a large script, by the table of what is drawn.
-ghost use Rattle.std.specs.Prelude.{◌≡◌, ◌≤◌, ◌<◌, ◌+◌, length, IfOk, OnOk};
+ghost use Rattle.std.specs.Prelude.{◌≡◌, ◌≤◌, ◌<◌, ◌+◌, length};
 ghost use Rattle.sat_tree.specs.Cut.{neighbours};
 ghost use Rattle.sat_settle.specs.LoadActs.{row_of, draws_of, neighbour, hop_in, hop_act, bulk_act, row_act, act_at, after_act};
+ghost use Rattle.sat_settle.specs.LoadDraft.{drafted};
 ghost use Rattle.sat_settle.specs.LoadDraws.{after_draws, first};
 ghost use Rattle.sat_settle.specs.LoadHeader.{load_deployment, load_tree};
 ghost use Rattle.sat_settle.specs.declared.load_rows.Row.TheVariants as row;
 
+use crate::load_draft::Draft;
 use crate::load_draws::Draws;
 use crate::load_header::tree_of;
-use crate::load_texts::value;
 use sat_act::{Act, Deployment};
 use sat_label::NodeId;
 use sat_tree::Tree;
-use std::alloc::{AllocError, Global};
 
 /// A row of the table.
 #[derive(Clone, Copy)]
@@ -98,80 +98,66 @@ fn bulk(draws: &mut Draws) -> Act
 }
 
 #[tactic(auto, unfolding(crate::specs::LoadActs::row_act))]
-fn write(alloc: Global, draws: &mut Draws, number: u32) -> Result<Act, AllocError>
-    ensures act { IfOk result (λ a. a ≡ row_act row.Write number draws.old) }
-    ensures state { OnOk result (draws.new ≡ after_draws 2 draws.old) }
+fn write(draws: &mut Draws, number: u32) -> Draft
+    ensures act { drafted result ≡ row_act row.Write number draws.old }
+    ensures state { draws.new ≡ after_draws 2 draws.old }
 {
-    let client = draws.draw(40);
-    let item = draws.draw(200);
-    let value = value(alloc, number)?;
-    Ok(Act::Write {
-        client,
-        item,
-        value,
-    })
+    Draft::Write {
+        client: draws.draw(40),
+        item: draws.draw(200),
+        number,
+    }
 }
 
 // The act of a row, as the one of this number.
 #[tactic(auto, unfolding(crate::specs::LoadActs::row_act))]
-fn act_of(
-    alloc: Global,
-    d: &Deployment,
-    draws: &mut Draws,
-    row: Row,
-    number: u32,
-) -> Result<Act, AllocError>
+fn draft_of(d: &Deployment, draws: &mut Draws, row: Row, number: u32) -> Draft
     requires { d.now ≡ load_deployment }
-    ensures act { IfOk result (λ a. a ≡ row_act row number draws.old) }
-    ensures state { OnOk result (draws.new ≡ after_draws (draws_of row) draws.old) }
+    ensures act { drafted result ≡ row_act row number draws.old }
+    ensures state { draws.new ≡ after_draws (draws_of row) draws.old }
 {
     match row {
-        Row::Write => write(alloc, draws, number),
-        Row::Read => Ok(Act::Read {
+        Row::Write => write(draws, number),
+        Row::Read => Draft::Other(Act::Read {
             client: draws.draw(40),
             item: draws.draw(200),
         }),
-        Row::Move => Ok(Act::Move {
+        Row::Move => Draft::Other(Act::Move {
             client: draws.draw(40),
             site: draws.draw(5),
         }),
-        Row::Attach => Ok(Act::Attach {
+        Row::Attach => Draft::Other(Act::Attach {
             client: draws.draw(40),
             site: draws.draw(5),
         }),
-        Row::Tick => Ok(Act::Tick {
+        Row::Tick => Draft::Other(Act::Tick {
             site: draws.draw(5),
             gear: draws.draw(4),
             ts: u64::from(number),
         }),
-        Row::Gather => Ok(Act::Gather {
+        Row::Gather => Draft::Other(Act::Gather {
             site: draws.draw(5),
         }),
-        Row::Emit => Ok(Act::Emit {
+        Row::Emit => Draft::Other(Act::Emit {
             site: draws.draw(5),
         }),
-        Row::Pulse => Ok(Act::Pulse {
+        Row::Pulse => Draft::Other(Act::Pulse {
             site: draws.draw(5),
         }),
-        Row::Hop => Ok(hop(d, draws)),
-        Row::Bulk => Ok(bulk(draws)),
-        Row::Turn => Ok(Act::Turn {
+        Row::Hop => Draft::Other(hop(d, draws)),
+        Row::Bulk => Draft::Other(bulk(draws)),
+        Row::Turn => Draft::Other(Act::Turn {
             site: draws.draw(5),
         }),
     }
 }
 
 /// The act of this number: its row is drawn, and then what the row takes.
-pub fn next_act(
-    alloc: Global,
-    d: &Deployment,
-    draws: &mut Draws,
-    number: u32,
-) -> Result<Act, AllocError>
+pub fn next_draft(d: &Deployment, draws: &mut Draws, number: u32) -> Draft
     requires { d.now ≡ load_deployment }
-    ensures act { IfOk result (λ a. a ≡ act_at number draws.old) }
-    ensures state { OnOk result (draws.new ≡ after_act draws.old) }
+    ensures act { drafted result ≡ act_at number draws.old }
+    ensures state { draws.new ≡ after_act draws.old }
 {
     let row = row_of(draws.draw(16));
-    act_of(alloc, d, draws, row, number)
+    draft_of(d, draws, row, number)
 }

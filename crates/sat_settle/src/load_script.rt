@@ -5,6 +5,7 @@ ghost use Rattle.sat_settle.specs.LoadActs.{load_acts};
 ghost use Rattle.sat_settle.specs.LoadHeader.{load_deployment};
 
 use crate::load_acts::LoadActs;
+use crate::load_draft::act_of;
 use crate::load_header::deployment;
 use sat_act::{Acts, Deployment};
 use sat_script::Script;
@@ -23,8 +24,8 @@ fn push_all(
     requires { d.now ≡ load_deployment }
     ensures { OnOk result (acts.new ≡ acts.old ++ coming) }
 {
-    while let Some(act) = coming.next(alloc, d)? {
-        acts.push(act)?;
+    while let Some(draft) = coming.next(d) {
+        acts.push(act_of(alloc, draft)?)?;
     }
     Ok(())
 }

@@ -1,10 +1,15 @@
 //! Running a script that is made, for its summary.
-ghost use Rattle.std.specs.Prelude.{ℕ, ◌≡◌, ◌+◌, ◌++◌, [], ◌∷◌, List, ◌≤◌, IfOk, length};
+ghost use Rattle.std.specs.Prelude.{ℕ, ◌≡◌, ◌+◌, ◌++◌, [], ◌∷◌, List, ◌≤◌, ◌<◌, IfOk, length, true};
 ghost use Rattle.sat_act.specs.declared.act.Act.{Act};
+ghost use Rattle.sat_act.specs.declared.act.Act.TheVariants as act;
+ghost use Rattle.sat_act.specs.declared.answer.Answer.TheVariants as ans;
+ghost use Rattle.sat_act.specs.declared.answer.Refusal.TheVariants as why;
 ghost use Rattle.sat_act.specs.Ranges.{IsActOf};
 ghost use Rattle.sat_world.specs.Stands.{StandsFor};
 ghost use Rattle.sat_script.specs.Reading.{AreActsOf};
+ghost use Rattle.sat_runs.specs.Running.{Does};
 ghost use Rattle.sat_settle.specs.LoadActs.{load_acts};
+ghost use Rattle.sat_settle.specs.LoadDraft.{drafted};
 ghost use Rattle.sat_settle.specs.LoadHeader.{load_deployment};
 ghost use Rattle.sat_top.specs.Loading.{load_text, IsGoodLoad};
 ghost use Rattle.sat_top.specs.Words.{IsCommand};
@@ -18,8 +23,8 @@ use sat_report::write_summary;
 use sat_rest::settles_all;
 use sat_runs::do_act;
 use sat_script::MOST_ACTS;
-use sat_settle::{LoadActs, deployment};
-use sat_world::World;
+use sat_settle::{Draft, LoadActs, act_of, deployment};
+use sat_world::{World, world_laws};
 use std::alloc::{AllocError, Global};
 
 // How many writes an answer tells of.
@@ -33,6 +38,7 @@ fn writes_in(answer: &Answer) -> u64
 }
 
 // Does an act, and tells how many writes were done: one or none.
+#[inline(always)]
 fn count_act(world: &mut World, act: &Act) -> Result<u64, AllocError>
     requires act { IsActOf world.old.deployment act.now }
     ensures deployment { world.new.deployment ≡ world.old.deployment }
@@ -42,6 +48,49 @@ fn count_act(world: &mut World, act: &Act) -> Result<u64, AllocError>
 {
     let answer = do_act(world, act)?;
     Ok(writes_in(&answer))
+}
+
+// Whether a client has no seat. What it asks of one is then refused, whatever item, value and site it names.
+#[inline(always)]
+fn lacks_seat(world: &World, client: u16) -> bool
+    requires { client < length world.now.deployment.clients }
+    ensures writes { result ≡ true → (item : ℕ) (value : List ℕ) → Does world.now (act.Write client item value) (ans.Refused why.NoSession) world.now }
+    ensures reads { result ≡ true → (item : ℕ) → Does world.now (act.Read client item) (ans.Refused why.NoSession) world.now }
+    ensures moves { result ≡ true → (site : ℕ) → Does world.now (act.Move client site) (ans.Refused why.NoSession) world.now }
+{
+    // Brings these laws into the proof; they do nothing when they run.
+    world_laws();
+    world.client(client).seat.is_none()
+}
+
+// Whether an act as it was drawn is refused since its client has no seat. Most acts of clients in a large script are.
+#[inline(always)]
+fn is_refused(world: &World, draft: &Draft) -> bool
+    requires { IsActOf world.now.deployment (drafted draft.now) }
+    ensures { result ≡ true → Does world.now (drafted draft.now) (ans.Refused why.NoSession) world.now }
+{
+    match draft {
+        Draft::Write { client, .. } => lacks_seat(world, *client),
+        Draft::Other(Act::Read { client, .. }) => lacks_seat(world, *client),
+        Draft::Other(Act::Move { client, .. }) => lacks_seat(world, *client),
+        Draft::Other(_) => false,
+    }
+}
+
+// Does an act as it was drawn, and tells how many writes were done: one or none. The value of a write that is refused isn't made.
+#[inline(always)]
+fn count_draft(alloc: Global, world: &mut World, draft: Draft) -> Result<u64, AllocError>
+    requires act { IsActOf world.old.deployment (drafted draft) }
+    ensures deployment { world.new.deployment ≡ world.old.deployment }
+    ensures one { IfOk result (λ wrote. wrote ≤ 1) }
+    ensures counting { IfOk result (λ wrote. (acts : List Act) (written : ℕ) → IsCounting world.old.deployment world.old written acts
+        → IsCounting world.old.deployment world.new (written + wrote) (acts ++ drafted draft ∷ [])) }
+{
+    if is_refused(world, &draft) {
+        return Ok(0);
+    }
+    let act = act_of(alloc, draft)?;
+    count_act(world, &act)
 }
 
 // Does the acts that are still to come one after another, and counts the writes that were done. No act is kept.
@@ -54,8 +103,8 @@ fn count_writes(alloc: Global, world: &mut World, mut coming: LoadActs) -> Resul
     ensures counting { IfOk result (λ written. IsCounting world.old.deployment world.new written coming) }
 {
     let mut written = 0;
-    while let Some(act) = coming.next(alloc, world.deployment())? {
-        written += count_act(world, &act)?;
+    while let Some(draft) = coming.next(world.deployment()) {
+        written += count_draft(alloc, world, draft)?;
     }
     Ok(written)
 }
