@@ -3,7 +3,7 @@ ghost use Rattle.std.specs.Prelude.{ℕ, ◌≡◌, ◌+◌, ◌++◌, [], ◌�
 ghost use Rattle.sat_act.specs.declared.act.Act.{Act};
 ghost use Rattle.sat_act.specs.Ranges.{IsActOf};
 ghost use Rattle.sat_world.specs.Stands.{StandsFor};
-ghost use Rattle.sat_script.specs.Reading.{AreActsOf};
+ghost use Rattle.sat_script.specs.Spelled.{AreActsOf};
 ghost use Rattle.sat_settle.specs.LoadActs.{load_acts};
 ghost use Rattle.sat_settle.specs.LoadHeader.{load_deployment};
 ghost use Rattle.sat_top.specs.Loading.{load_text, IsGoodLoad};
