@@ -211,9 +211,7 @@ fn read_epoch<'h>(header: &'h Header, word: &[u8]) -> Option<(u16, &'h Tree)>
     ensures read { (t : TreeShape) → IfSome result (λ read. IsReadWord header.now t Kind.Epoch word.now (place read.0) read.1.now) }
     ensures tree { IfSome result (λ read. tree_of header.now read.0 ≡ Some read.1.now) }
 {
-    let Some(epoch) = number_to(header.plans(), word) else {
-        return None;
-    };
+    let epoch = number_to(header.plans(), word)?;
     match header.tree(epoch) {
         Some(tree) => Some((epoch, tree)),
         None => None,
@@ -386,15 +384,9 @@ fn read_value(alloc: Global, word: &[u8]) -> Option<Value>
 fn bulk_of(header: &Header, from: &[u8], gear: &[u8], to: &[u8]) -> Option<Act>
     ensures { IfSome result (λ act. SaysAct header.now (codes "bulk") (from.now ∷ gear.now ∷ to.now ∷ []) act) }
 {
-    let Some(from) = read_site(header, from) else {
-        return None;
-    };
-    let Some(gear) = read_gear(header, gear) else {
-        return None;
-    };
-    let Some(to) = read_site(header, to) else {
-        return None;
-    };
+    let from = read_site(header, from)?;
+    let gear = read_gear(header, gear)?;
+    let to = read_site(header, to)?;
     if from == to {
         return None;
     }
@@ -410,15 +402,9 @@ fn bulk_of(header: &Header, from: &[u8], gear: &[u8], to: &[u8]) -> Option<Act>
 fn tick_of(header: &Header, site: &[u8], gear: &[u8], ts: &[u8]) -> Option<Act>
     ensures { IfSome result (λ act. SaysAct header.now (codes "tick") (site.now ∷ gear.now ∷ ts.now ∷ []) act) }
 {
-    let Some(site) = read_site(header, site) else {
-        return None;
-    };
-    let Some(gear) = read_gear(header, gear) else {
-        return None;
-    };
-    let Some(ts) = number_up_to(TS_END, ts) else {
-        return None;
-    };
+    let site = read_site(header, site)?;
+    let gear = read_gear(header, gear)?;
+    let ts = number_up_to(TS_END, ts)?;
     Some(Act::Tick { site, gear, ts })
 }
 
@@ -427,15 +413,9 @@ fn beat_in_of(header: &Header, from: &[u8], to: &[u8], number: &[u8]) -> Option<
     requires { HaveNames header.now }
     ensures { IfSome result (λ act. SaysAct header.now (codes "beatin") (from.now ∷ to.now ∷ number.now ∷ []) act) }
 {
-    let Some(from) = read_site(header, from) else {
-        return None;
-    };
-    let Some(to) = read_site(header, to) else {
-        return None;
-    };
-    let Some(number) = number_up_to(u64::MAX, number) else {
-        return None;
-    };
+    let from = read_site(header, from)?;
+    let to = read_site(header, to)?;
+    let number = number_up_to(u64::MAX, number)?;
     if from == to {
         return None;
     }
@@ -446,21 +426,15 @@ fn beat_in_of(header: &Header, from: &[u8], to: &[u8], number: &[u8]) -> Option<
 fn hop_of(header: &Header, epoch: &[u8], from: &[u8], to: &[u8]) -> Option<Act>
     ensures { IfSome result (λ act. SaysAct header.now (codes "hop") (epoch.now ∷ from.now ∷ to.now ∷ []) act) }
 {
-    let Some((epoch, tree)) = read_epoch(header, epoch) else {
-        return None;
-    };
+    let (epoch, tree) = read_epoch(header, epoch)?;
     if !begins(Kind::Node, from) {
         return None;
     }
     if !begins(Kind::Serializer, to) {
         return None;
     }
-    let Some(from) = node_in(tree, from) else {
-        return None;
-    };
-    let Some(to) = serializer_in(tree, to) else {
-        return None;
-    };
+    let from = node_in(tree, from)?;
+    let to = serializer_in(tree, to)?;
     if !tree.is_edge(from, NodeId::Serializer(to)) {
         return None;
     }
@@ -472,15 +446,9 @@ fn write_of(alloc: Global, header: &Header, client: &[u8], item: &[u8], value: &
     requires { HaveNames header.now }
     ensures { IfSome result (λ act. SaysAct header.now (codes "write") (client.now ∷ item.now ∷ value.now ∷ []) act) }
 {
-    let Some(client) = read_client(header, client) else {
-        return None;
-    };
-    let Some(item) = read_item(header, item) else {
-        return None;
-    };
-    let Some(value) = read_value(alloc, value) else {
-        return None;
-    };
+    let client = read_client(header, client)?;
+    let item = read_item(header, item)?;
+    let value = read_value(alloc, value)?;
     Some(Act::Write {
         client,
         item,
@@ -493,12 +461,8 @@ fn read_of(header: &Header, client: &[u8], item: &[u8]) -> Option<Act>
     requires { HaveNames header.now }
     ensures { IfSome result (λ act. SaysAct header.now (codes "read") (client.now ∷ item.now ∷ []) act) }
 {
-    let Some(client) = read_client(header, client) else {
-        return None;
-    };
-    let Some(item) = read_item(header, item) else {
-        return None;
-    };
+    let client = read_client(header, client)?;
+    let item = read_item(header, item)?;
     Some(Act::Read { client, item })
 }
 
@@ -506,12 +470,8 @@ fn read_of(header: &Header, client: &[u8], item: &[u8]) -> Option<Act>
 fn beat_of(header: &Header, from: &[u8], to: &[u8]) -> Option<Act>
     ensures { IfSome result (λ act. SaysAct header.now (codes "beat") (from.now ∷ to.now ∷ []) act) }
 {
-    let Some(from) = read_site(header, from) else {
-        return None;
-    };
-    let Some(to) = read_site(header, to) else {
-        return None;
-    };
+    let from = read_site(header, from)?;
+    let to = read_site(header, to)?;
     if from == to {
         return None;
     }
@@ -523,12 +483,8 @@ fn move_of(header: &Header, client: &[u8], site: &[u8]) -> Option<Act>
     requires { HaveNames header.now }
     ensures { IfSome result (λ act. SaysAct header.now (codes "move") (client.now ∷ site.now ∷ []) act) }
 {
-    let Some(client) = read_client(header, client) else {
-        return None;
-    };
-    let Some(site) = read_site(header, site) else {
-        return None;
-    };
+    let client = read_client(header, client)?;
+    let site = read_site(header, site)?;
     Some(Act::Move { client, site })
 }
 
@@ -537,12 +493,8 @@ fn attach_of(header: &Header, client: &[u8], site: &[u8]) -> Option<Act>
     requires { HaveNames header.now }
     ensures { IfSome result (λ act. SaysAct header.now (codes "attach") (client.now ∷ site.now ∷ []) act) }
 {
-    let Some(client) = read_client(header, client) else {
-        return None;
-    };
-    let Some(site) = read_site(header, site) else {
-        return None;
-    };
+    let client = read_client(header, client)?;
+    let site = read_site(header, site)?;
     Some(Act::Attach { client, site })
 }
 
@@ -551,9 +503,7 @@ fn leave_of(header: &Header, client: &[u8]) -> Option<Act>
     requires { HaveNames header.now }
     ensures { IfSome result (λ act. SaysAct header.now (codes "leave") (client.now ∷ []) act) }
 {
-    let Some(client) = read_client(header, client) else {
-        return None;
-    };
+    let client = read_client(header, client)?;
     Some(Act::Leave { client })
 }
 
@@ -578,12 +528,8 @@ fn act_of_site(form: Form, site: u16) -> Option<Act>
 fn site_act_of(header: &Header, word: &[u8], site: &[u8]) -> Option<Act>
     ensures { IfSome result (λ act. SaysAct header.now word.now (site.now ∷ []) act) }
 {
-    let Some(form) = form_of_one(word) else {
-        return None;
-    };
-    let Some(site) = read_site(header, site) else {
-        return None;
-    };
+    let form = form_of_one(word)?;
+    let site = read_site(header, site)?;
     act_of_site(form, site)
 }
 
