@@ -62,20 +62,14 @@ fn is_known(header: &Header, kind: Kind, word: &[u8]) -> bool
 fn place_of<'a>(number: Option<u16>) -> Option<Said<'a>>
     ensures { option_map said_of result ≡ option_map place number }
 {
-    match number {
-        Some(number) => Some(Said::Place(number)),
-        None => None,
-    }
+    Some(Said::Place(number?))
 }
 
 #[inline(always)]
 fn num_of<'a>(number: Option<u64>) -> Option<Said<'a>>
     ensures { option_map said_of result ≡ option_map num number }
 {
-    match number {
-        Some(number) => Some(Said::Number(number)),
-        None => None,
-    }
+    Some(Said::Number(number?))
 }
 
 #[inline(always)]
@@ -83,13 +77,7 @@ fn num_of<'a>(number: Option<u64>) -> Option<Said<'a>>
 fn node_of<'a>(tree: Option<&Tree>, word: &[u8]) -> Option<Said<'a>>
     ensures { option_map said_of result ≡ option_map at (node_in (shape_of (option_copied tree.entry)) word.now) }
 {
-    match tree {
-        Some(tree) => match node_in(tree, word) {
-            Some(node) => Some(Said::Node(node)),
-            None => None,
-        },
-        None => None,
-    }
+    Some(Said::Node(node_in(tree?, word)?))
 }
 
 #[inline(always)]
@@ -97,10 +85,7 @@ fn node_of<'a>(tree: Option<&Tree>, word: &[u8]) -> Option<Said<'a>>
 fn serializer_of<'a>(tree: Option<&Tree>, word: &[u8]) -> Option<Said<'a>>
     ensures { option_map said_of result ≡ option_map place (serializer_in (shape_of (option_copied tree.entry)) word.now) }
 {
-    match tree {
-        Some(tree) => place_of(serializer_in(tree, word)),
-        None => None,
-    }
+    place_of(serializer_in(tree?, word))
 }
 
 // What a word says; a node stands in the tree of the epoch before it.
@@ -212,10 +197,7 @@ fn read_epoch<'h>(header: &'h Header, word: &[u8]) -> Option<(u16, &'h Tree)>
     ensures tree { IfSome result (λ read. tree_of header.now read.0 ≡ Some read.1.now) }
 {
     let epoch = number_to(header.plans(), word)?;
-    match header.tree(epoch) {
-        Some(tree) => Some((epoch, tree)),
-        None => None,
-    }
+    Some((epoch, header.tree(epoch)?))
 }
 
 // ---- acts
@@ -247,14 +229,8 @@ fn edge_cause(tree: Option<&Tree>, from: NodeId, to: u16) -> Option<Cause>
     ensures { result ≡ edge_cause (option_copied tree.entry) from to }
 {
     match tree {
-        None => Some(Cause::NoEdge),
-        Some(tree) => {
-            if joins(tree, from, to) {
-                None
-            } else {
-                Some(Cause::NoEdge)
-            }
-        }
+        Some(tree) if joins(tree, from, to) => None,
+        _ => Some(Cause::NoEdge),
     }
 }
 
@@ -373,11 +349,7 @@ fn read_item(header: &Header, word: &[u8]) -> Option<u16>
 fn read_value(alloc: Global, word: &[u8]) -> Option<Value>
     ensures { IfSome result (λ value. (value ≡ word.now) × (is_value word.now ≡ true)) }
 {
-    match Value::of(alloc, word) {
-        Ok(Some(value)) => Some(value),
-        Ok(None) => None,
-        Err(_) => None,
-    }
+    Value::of(alloc, word).ok()?
 }
 
 #[inline(always)]
