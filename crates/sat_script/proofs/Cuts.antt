@@ -51,9 +51,6 @@ words_full words line rest had size =
 pub seen_byte : (x : ℕ) → is_between 33 126 x ≡ true → (eqb x 32 ≡ false) × (is_between 32 126 x ≡ true)
 seen_byte x h = (grind (arith, nat_tests), grind (arith, nat_tests))
 
-pub unseen_byte : (x : ℕ) → is_between 33 126 x ≡ false → eqb x 32 ≡ false → is_between 32 126 x ≡ false
-unseen_byte x h other = grind (arith, nat_tests)
-
 pub seen_none : (xs : List ℕ) → list_all (is_between 33 126) xs ≡ true → HasNo 32 xs
 seen_none [] h = All-nil (λ x. eqb x 32 ≡ false)
 seen_none (x ∷ xs) h = let b = and_parts (is_between 33 126 x) (list_all (is_between 33 126) xs) h in All-cons (λ x. eqb x 32 ≡ false) x xs (seen_byte x b.0).0 (seen_none xs b.1)

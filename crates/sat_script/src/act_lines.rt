@@ -197,7 +197,8 @@ fn read_epoch<'h>(header: &'h Header, word: &[u8]) -> Option<(u16, &'h Tree)>
     ensures tree { IfSome result (λ read. tree_of header.now read.0 ≡ Some read.1.now) }
 {
     let epoch = number_to(header.plans(), word)?;
-    Some((epoch, header.tree(epoch)?))
+    let tree = header.tree(epoch)?;
+    Some((epoch, tree))
 }
 
 // ---- acts
