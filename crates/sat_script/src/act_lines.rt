@@ -316,6 +316,7 @@ fn is_end(words: &[&[u8]]) -> bool
 // ---- acts that most lines are, made as their words are read
 
 #[inline(always)]
+#[tactic(auto, using(crate::proofs::Quick::site_at))]
 fn read_site(header: &Header, word: &[u8]) -> Option<u16>
     ensures { IfSome result (λ site. (t : TreeShape) → IsReadWord header.now t Kind.Site word.now (place site) t) }
 {
@@ -323,6 +324,7 @@ fn read_site(header: &Header, word: &[u8]) -> Option<u16>
 }
 
 #[inline(always)]
+#[tactic(auto, using(crate::proofs::Quick::gear_at))]
 fn read_gear(header: &Header, word: &[u8]) -> Option<u16>
     ensures { IfSome result (λ gear. (t : TreeShape) → IsReadWord header.now t Kind.Gear word.now (place gear) t) }
 {
@@ -330,6 +332,7 @@ fn read_gear(header: &Header, word: &[u8]) -> Option<u16>
 }
 
 #[inline(always)]
+#[tactic(auto, using(crate::proofs::Quick::client_at))]
 fn read_client(header: &Header, word: &[u8]) -> Option<u16>
     requires { HaveNames header.now }
     ensures { IfSome result (λ client. (t : TreeShape) → IsReadWord header.now t Kind.Client word.now (place client) t) }
@@ -338,6 +341,7 @@ fn read_client(header: &Header, word: &[u8]) -> Option<u16>
 }
 
 #[inline(always)]
+#[tactic(auto, using(crate::proofs::Quick::item_at))]
 fn read_item(header: &Header, word: &[u8]) -> Option<u16>
     requires { HaveNames header.now }
     ensures { IfSome result (λ item. (t : TreeShape) → IsReadWord header.now t Kind.Item word.now (place item) t) }
