@@ -2,7 +2,7 @@
 use crate::draw;
 use sat_act::{Act, Answer, Entries, Entry, Refusal};
 use sat_label::{Kind, Label, NodeId, Nodes, Point, Value};
-use sat_script::{Reading, ScriptReader};
+use sat_stream::{Reading, ScriptReader};
 use std::alloc::{AllocError, Global};
 use std::test::Fail;
 

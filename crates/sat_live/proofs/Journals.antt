@@ -15,7 +15,7 @@ use Rattle.sat_act.specs.Deployed.{Deployed}
 use Rattle.sat_act.specs.Parts.{tree_of}
 use Rattle.sat_act.specs.Ranges.{ArePair, IsActOf}
 use Rattle.sat_act.specs.Settling.{run}
-use Rattle.sat_script.specs.Reading.{AreActsOf}
+use Rattle.sat_script.specs.Spelled.{AreActsOf}
 use Rattle.sat_runs.specs.Runs.{history}
 use Rattle.sat_stitch.specs.Kept.{acts_of}
 use Rattle.sat_stitch.proofs.Stitches.{reverse-cons}

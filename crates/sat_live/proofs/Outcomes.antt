@@ -5,7 +5,7 @@ use Rattle.sat_act.specs.declared.act.Act.{Act}
 use Rattle.sat_act.specs.declared.entry.Entry.{Entry}
 use Rattle.sat_act.specs.Deployed.{Deployed}
 use Rattle.sat_act.specs.Limits.{IsDeployment}
-use Rattle.sat_script.specs.Reading.{AreActsOf}
+use Rattle.sat_script.specs.Spelled.{AreActsOf}
 use Rattle.sat_runs.specs.Good.{EveryListIsGood}
 use Rattle.sat_runs.specs.Runs.{history}
 use Rattle.sat_stitch.specs.Kept.{acts_of}

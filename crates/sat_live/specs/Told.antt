@@ -5,8 +5,7 @@ use Rattle.sat_act.specs.declared.act.Act.TheVariants.{Settle}
 use Rattle.sat_act.specs.declared.answer.Answer.TheVariants.{Settled}
 use Rattle.sat_act.specs.Deployed.{Deployed}
 use Rattle.sat_act.specs.Settling.{answer_of}
-use Rattle.sat_script.specs.Reading.{AreActsOf}
-use Rattle.sat_script.specs.Spelled.{spelling}
+use Rattle.sat_script.specs.Spelled.{AreActsOf, spelling}
 use Rattle.sat_report.specs.Holdings.{report}
 use Rattle.sat_runs.specs.Good.{IsGoodRun}
 use Rattle.sat_runs.specs.Runs.{history}

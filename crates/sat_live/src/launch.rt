@@ -1,6 +1,6 @@
 //! The call.
 ghost use Rattle.std.specs.Prelude.{◌≡◌, ◌⊎◌, IfOk};
-ghost use Rattle.sat_script.specs.Reading.{AreActsOf};
+ghost use Rattle.sat_script.specs.Spelled.{AreActsOf};
 ghost use Rattle.sat_live.specs.Told.{IsTold};
 
 use crate::nodes::{Came, come};

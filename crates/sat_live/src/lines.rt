@@ -3,7 +3,7 @@ ghost use Rattle.std.specs.Prelude.{◌≡◌, ◌<◌, ◌^◌, true, length, o
 ghost use Rattle.sat_tree.specs.Cut.{IsNode};
 ghost use Rattle.sat_act.specs.Parts.{tree_of};
 ghost use Rattle.sat_act.specs.Ranges.{ArePair, IsActOf};
-ghost use Rattle.sat_script.specs.Reading.{AreActsOf};
+ghost use Rattle.sat_script.specs.Spelled.{AreActsOf};
 ghost use Rattle.sat_stitch.specs.Kept.{acts_of};
 
 use sat_act::{Act, Deployment, Entry, Plan};

@@ -19,7 +19,7 @@ use Rattle.sat_rest.specs.Ends.{IsWithin, Settles}
 use Rattle.sat_rest.specs.Rest.{IsAtRest}
 use Rattle.sat_rest.specs.Laws.{EverySettleSettles, EverySettleRests}
 use Rattle.sat_rest.proofs.Headlines.{run-is}
-use Rattle.sat_script.specs.Reading.{AreActsOf}
+use Rattle.sat_script.specs.Spelled.{AreActsOf}
 use Rattle.sat_world.proofs.Meets.{in-range}
 use Rattle.sat_runs.specs.Runs.{history}
 use Rattle.sat_runs.specs.Good.{ComesToRest, SettlesRest, IsGoodRun}

@@ -11,7 +11,7 @@ use Rattle.sat_act.specs.Parts.{replicates, version}
 use Rattle.sat_act.specs.Settling.{opening, settle}
 use Rattle.sat_rest.specs.Ends.{sent_count, wrote_count}
 use Rattle.sat_rest.specs.Rest.{CanEnd, IsAtRest}
-use Rattle.sat_script.specs.Reading.{AreActsOf}
+use Rattle.sat_script.specs.Spelled.{AreActsOf}
 use Rattle.sat_runs.specs.Runs.{history}
 
 -- What a settle after a history comes to. It ends: after at most so many rounds, by the labels that were sent and the updates that

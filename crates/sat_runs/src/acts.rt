@@ -2,7 +2,7 @@
 ghost use Rattle.std.specs.Prelude.{◌≡◌, ◌+◌, ◌^◌, ◌<◌, ◌++◌, ℕ, [], ◌∷◌, List, IfOk, OnOk, Some, length};
 ghost use Rattle.sat_act.specs.declared.act.Act.{Act};
 ghost use Rattle.sat_act.specs.Ranges.{IsActOf};
-ghost use Rattle.sat_script.specs.Reading.{AreActsOf};
+ghost use Rattle.sat_script.specs.Spelled.{AreActsOf};
 ghost use Rattle.sat_runs.specs.Running.{Does, IsAnswering};
 
 use sat_act::{Act, Answer};

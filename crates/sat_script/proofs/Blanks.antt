@@ -1,5 +1,5 @@
 -- The blanks of a line, by one walk over its bytes, and the words between them.
-use Rattle.std.proofs.Common.{◌≡◌, ℕ, suc, ◌+◌, ◌-◌, ◌<◌, ◌≤◌, Bool, true, false, ◌&&◌, cond, eqb, List, [], ◌∷◌, ◌++◌, length, take, drop, get_or, set, sym, ap, ◌∙◌, refl, arith, length-take, length-drop, take_all}
+use Rattle.std.proofs.Common.{◌≡◌, ℕ, suc, ◌+◌, ◌-◌, ◌<◌, ◌≤◌, Bool, true, false, ◌&&◌, cond, eqb, List, [], ◌∷◌, ◌++◌, length, take, drop, get_or, set, sym, ap, ◌∙◌, refl, arith, length-take, length-drop}
 use mir.Val.{bool_byte}
 use Rattle.std.proofs.lemmas.Bool.{eqb-true}
 use Rattle.std.proofs.lemmas.List.{append-nil, take_more, take-set, take_more_set}
@@ -73,11 +73,6 @@ seen_on line places now count more place byte text seen is inside room at kept b
     turned true false = refl
     turned false true = refl
     turned false false = refl
-
-pub seen_end : (line places : List ℕ) (count place : ℕ) (text : Bool) → AreSeen line places count place text → length line ≤ place → (is_text line ≡ text) × (take count places ≡ blanks_from 0 line)
-seen_end line places count place text is all =
-    let whole : take place line ≡ line = take_all place line all in
-    (sym (is.text ∙ ap is_text whole), is.found ∙ ap (blanks_from 0) whole)
 
 -- ---- the words between the blanks
 

@@ -1,39 +1,23 @@
--- Where a byte first stands in a text, and how the text is cut there.
-use Rattle.std.proofs.Common.{Bor, map, append_assoc, length-append, ◌≡◌, ℕ, ◌+◌, ◌-◌, ◌<◌, ◌≤◌, true, false, eqb, List, [], ◌∷◌, ◌++◌, length, take, drop, get_or, Some, None, sym, ap, ◌∙◌, refl, arith, length-take, length-drop, take_all}
+-- How a text is cut at the places of a byte.
+use Rattle.std.proofs.Common.{Bor, map, append_assoc, length-append, ◌≡◌, ℕ, ◌+◌, ◌-◌, ◌<◌, ◌≤◌, true, false, eqb, List, [], ◌∷◌, ◌++◌, length, take, drop, sym, ap, ◌∙◌, refl, arith, length-drop, take_all}
 use Rattle.std.specs.List.{slice_split, list_all}
 use Rattle.std.proofs.lemmas.Bool.Decides.{nat_tests}
-use Rattle.std.proofs.lemmas.Bool.{and_parts, false_from_ne_true, eqb-true, eq-eqb}
-use Rattle.std.proofs.lemmas.List.{drop_more, take-append-drop, take-append-le, get_or-take, length-map, map-append}
-use Rattle.std.proofs.lemmas.List.Elements.{All-from_get_or, All-nil, All-cons}
+use Rattle.std.proofs.lemmas.Bool.{and_parts, eq-eqb}
+use Rattle.std.proofs.lemmas.List.{take-append-le, length-map, map-append}
+use Rattle.std.proofs.lemmas.List.Elements.{All-nil, All-cons}
 use Rattle.std.proofs.lemmas.List.Splits.{slice_split_at, slice_split_none}
-use Rattle.memchr.specs.Find.{IsFirstByte, is_byte}
 use Rattle.sat_script.specs.Words.{HasNo, IsCut, words_of}
 use Rattle.sat_label.specs.Text.{is_between}
-
-none_up : (b : ℕ) (xs : List ℕ) (n : ℕ) → n ≤ length xs → ((k : ℕ) → 0 ≤ k → k < n → ¬ (eqb (get_or xs k 0) b ≡ true)) → HasNo b (take n xs)
-none_up b xs n few h =
-    let size = length-take n xs in
-    All-from_get_or (λ x. eqb x b ≡ false) (take n xs) 0
-    (λ i inside. ap (λ x. eqb x b) (get_or-take n xs i 0 (omega (arith, size))) ∙ false_from_ne_true (eqb (get_or xs i 0) b) (h i (omega arith) (omega (arith, size))))
 
 pub rest_is : (xs : List ℕ) (n : ℕ) → take (length xs - n) (drop n xs) ≡ drop n xs
 rest_is xs n = take_all (length xs - n) (drop n xs) (omega (arith, length-drop n xs))
 
-pub cut : (b : ℕ) (xs : List ℕ) (k : ℕ) → IsFirstByte (is_byte b) xs (Some k) → IsCut b xs (take k xs) (take (length xs - (k + 1)) (drop (k + 1) xs))
-cut b xs k h = rw (rest_is xs (k + 1)) (record {
-  none = none_up b xs k (omega (arith, h.0.high)) h.0.before;
-  whole = sym (take-append-drop k xs) ∙ ap (λ t. take k xs ++ t) (drop_more xs k 0 h.0.high ∙ ap (λ x. x ∷ drop (k + 1) xs) (eqb-true (get_or xs k 0) b h.1));
-})
-
-pub uncut : (b : ℕ) (xs : List ℕ) → IsFirstByte (is_byte b) xs None → HasNo b xs
-uncut b xs h = rw (take_all (length xs) xs (omega arith)) at (none_up b xs (length xs) (omega arith) h)
-
 -- the parts of a text that is cut there, and of one that isn't cut
-pub split_cut : (b : ℕ) (xs front rest : List ℕ) → IsCut b xs front rest → slice_split (is_byte b) xs ≡ front ∷ slice_split (is_byte b) rest
-split_cut b xs front rest c = ap (slice_split (is_byte b)) c.whole ∙ slice_split_at (is_byte b) front b rest c.none (eq-eqb b b refl)
+pub split_cut : (b : ℕ) (xs front rest : List ℕ) → IsCut b xs front rest → slice_split (λ x. eqb x b) xs ≡ front ∷ slice_split (λ x. eqb x b) rest
+split_cut b xs front rest c = ap (slice_split (λ x. eqb x b)) c.whole ∙ slice_split_at (λ x. eqb x b) front b rest c.none (eq-eqb b b refl)
 
-pub split_uncut : (b : ℕ) (xs : List ℕ) → HasNo b xs → slice_split (is_byte b) xs ≡ xs ∷ []
-split_uncut b xs h = slice_split_none (is_byte b) xs h
+pub split_uncut : (b : ℕ) (xs : List ℕ) → HasNo b xs → slice_split (λ x. eqb x b) xs ≡ xs ∷ []
+split_uncut b xs h = slice_split_none (λ x. eqb x b) xs h
 
 -- ---- the first words of a line
 
@@ -66,9 +50,6 @@ words_full words line rest had size =
 
 pub seen_byte : (x : ℕ) → is_between 33 126 x ≡ true → (eqb x 32 ≡ false) × (is_between 32 126 x ≡ true)
 seen_byte x h = (grind (arith, nat_tests), grind (arith, nat_tests))
-
-pub unseen_byte : (x : ℕ) → is_between 33 126 x ≡ false → eqb x 32 ≡ false → is_between 32 126 x ≡ false
-unseen_byte x h other = grind (arith, nat_tests)
 
 pub seen_none : (xs : List ℕ) → list_all (is_between 33 126) xs ≡ true → HasNo 32 xs
 seen_none [] h = All-nil (λ x. eqb x 32 ≡ false)

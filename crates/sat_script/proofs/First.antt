@@ -1,15 +1,9 @@
 -- The first six words of a line say what all of them say, but for a plan.
-use Rattle.std.proofs.Common.{◌≡◌, ℕ, ◌<◌, ◌≤◌, true, false, eqb, ltb, List, [], ◌∷◌, length, take, Option, Some, None, Ok, sym, ap, ◌∙◌, refl, arith}
-use Rattle.std.specs.Prelude.{IfSome}
+use Rattle.std.proofs.Common.{◌≡◌, ℕ, ◌<◌, false, eqb, List, [], ◌∷◌, length, take, None, refl, arith}
 use Rattle.std.proofs.lemmas.Bool.Decides.{nat_tests}
-use Rattle.sat_act.specs.declared.act.Act.{Act}
-use Rattle.sat_script.specs.Grammar.{format_line, sites_line, gears_line, header_form, body_line, words_line, line_at}
+use Rattle.sat_script.specs.Grammar.{format_line, sites_line, gears_line, header_form, body_line}
 use Rattle.sat_script.specs.State.{State}
 use Rattle.sat_script.specs.Table.{act_forms, found_form, act_line}
-use Rattle.sat_script.specs.Words.{is_text, words_of}
-use Rattle.sat_script.specs.declared.limits.TheConstants.{LONGEST_LINE}
-use Rattle.sat_script.specs.declared.line.Parsed.TheVariants as parsed
-use Rattle.sat_script.specs.declared.line.Stage.TheVariants as stage
 
 pub format_first : (ws : List (List ℕ)) → format_line (take 6 ws) ≡ format_line ws
 unfolding format_line
@@ -59,12 +53,3 @@ body_first s (a ∷ b ∷ c ∷ d ∷ []) = refl
 body_first s (a ∷ b ∷ c ∷ d ∷ e ∷ []) = refl
 body_first s (a ∷ b ∷ c ∷ d ∷ e ∷ f ∷ []) = refl
 body_first s (a ∷ b ∷ c ∷ d ∷ e ∷ f ∷ g ∷ ws) = rw (none_many a 5 (omega arith), none_many a (length (b ∷ c ∷ d ∷ e ∷ f ∷ g ∷ ws)) (omega arith)) refl
-
--- an act of a line after `begin`, by its first words
-pub body_act : (s : State) (line : List ℕ) (ws : List (List ℕ)) (o : Option Act) → s.stage ≡ stage.Body → length line ≤ LONGEST_LINE → is_text line ≡ true → ws ≡ take 6 (words_of line)
-    → IfSome o (λ a. body_line s ws ≡ Ok (parsed.Act a)) → IfSome o (λ a. line_at s line ≡ Ok (parsed.Act a))
-unfolding line_at words_line
-body_act s line ws None here short text first said = tt
-body_act s line ws (Some a) here short text first said =
-    let fits : ltb LONGEST_LINE (length line) ≡ false = grind (arith, nat_tests) in
-    rw (here, fits, text) (sym (body_first s (words_of line)) ∙ ap (body_line s) (sym first) ∙ said)

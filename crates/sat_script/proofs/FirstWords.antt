@@ -1,13 +1,12 @@
 -- The first words of a line, by one walk over its bytes.
-use Rattle.std.proofs.Common.{◌≡◌, ℕ, zero, suc, ◌+◌, ◌-◌, ◌<◌, ◌≤◌, Bool, true, false, eqb, List, [], ◌∷◌, ◌++◌, Bor, length, take, drop, get_or, sym, ap, ◌∙◌, refl, subst, arith, length-drop, take_all}
+use Rattle.std.proofs.Common.{◌≡◌, ℕ, zero, suc, ◌+◌, ◌-◌, ◌<◌, ◌≤◌, Bool, true, false, List, [], ◌∷◌, ◌++◌, Bor, length, take, drop, get_or, sym, ap, ◌∙◌, refl, subst, arith, length-drop, take_all}
 use Rattle.std.specs.List.{list_all}
 use Rattle.std.proofs.Math.Seq.{drop-nil}
-use Rattle.std.proofs.lemmas.Bool.{false_from_ne_true, eqb-true}
 use Rattle.std.proofs.lemmas.List.{drop_all, drop_more, get_or-drop, take-append-drop, take_more}
 use Rattle.std.proofs.lemmas.List.Folds.{list_all-append}
 use Rattle.sat_label.specs.Text.{is_between}
 use Rattle.sat_script.specs.Words.{HasNo, IsCut, AreFirst, is_text, words_of}
-use Rattle.sat_script.proofs.Cuts.{texts, seen_byte, unseen_byte, seen_none, words_next, words_last, words_full}
+use Rattle.sat_script.proofs.Cuts.{texts, seen_byte, seen_none, words_next, words_last, words_full}
 
 -- these words were found, the next one begins at a place, and from there up to another each byte can be seen
 pub record AreFound (line : List ℕ) (words : List (Bor (List ℕ))) (start place : ℕ) : Type 0 where
@@ -24,9 +23,6 @@ drop_twice (x ∷ xs) (suc a) b (suc c) e = drop_twice xs a b c (omega arith)
 
 none_seen : (rest : List ℕ) (n : ℕ) → n ≡ 0 → list_all (is_between 33 126) (take n rest) ≡ true
 none_seen rest n e = ap (λ (k : ℕ). list_all (is_between 33 126) (take k rest)) e
-
-pub found_start : (line : List ℕ) → AreFound line [] 0 0
-found_start line = record { within = omega arith; whole = refl; seen = refl; text = refl }
 
 -- what one more byte does to the text
 text_on : (line : List ℕ) (place byte : ℕ) → place < length line → get_or line place 0 ≡ byte → is_between 32 126 byte ≡ true → is_text (drop place line) ≡ is_text (drop (place + 1) line)
@@ -48,12 +44,6 @@ found_seen line words start place is less h =
       seen = ap (list_all (is_between 33 126)) grown ∙ list_all-append (is_between 33 126) (take (place - start) (drop start line)) (get_or line place 0 ∷ []) ∙ rw (is.seen, h) refl;
       text = is.text ∙ text_on line place (get_or line place 0) less refl (seen_byte (get_or line place 0) h).1;
     }
-
--- a byte that is none of a line
-pub found_bad : (line : List ℕ) (words : List (Bor (List ℕ))) (start place : ℕ) → AreFound line words start place → place < length line → is_between 33 126 (get_or line place 0) ≡ false → (get_or line place 0 ≡ 32 → ⊥) → is_text line ≡ false
-found_bad line words start place is less h other =
-    let apart : eqb (get_or line place 0) 32 ≡ false = false_from_ne_true (eqb (get_or line place 0) 32) (λ t. other (eqb-true (get_or line place 0) 32 t)) in
-    is.text ∙ ap is_text (drop_more line place 0 less) ∙ rw (unseen_byte (get_or line place 0) h apart) refl
 
 -- a blank
 pub found_word : (line : List ℕ) (words now : List (Bor (List ℕ))) (word : Bor (List ℕ)) (start place : ℕ) → AreFound line words start place → place < length line → get_or line place 0 ≡ 32

@@ -1,5 +1,5 @@
 -- Steps of the loops over words.
-use Rattle.std.proofs.Common.{◌≡◌, ℕ, ◌+◌, ◌-◌, ◌<◌, ◌≤◌, true, false, ◌&&◌, ltb, List, [], ◌∷◌, ◌++◌, length, map, take, drop, get_or, sym, ap, ◌∙◌, subst, arith, Some, None, Bor}
+use Rattle.std.proofs.Common.{◌≡◌, ℕ, ◌+◌, ◌-◌, ◌<◌, ◌≤◌, true, false, ◌&&◌, ltb, List, [], ◌∷◌, ◌++◌, length, map, take, drop, get_or, sym, ap, ◌∙◌, arith, Some, None, Bor}
 use Rattle.std.specs.List.{list_all}
 use Rattle.std.proofs.lemmas.Bool.{and_parts, false_from_ne_true, lt-ltb, ltb-true}
 use Rattle.std.proofs.lemmas.List.{drop-map, length-drop, map-append, map_more, take-map, take_all}
@@ -44,10 +44,6 @@ pub below_all : (limit : ℕ) (words : List (Bor (List ℕ))) (i : ℕ) (numbers
 below_all limit words i numbers all below had =
     let whole = take_all i words all in
     (rw whole at below, rw whole at had)
-
--- the first of some numbers, and the others
-pub first_number : (words : List (Bor (List ℕ))) (word : Bor (List ℕ)) (rest : List (Bor (List ℕ))) → words ≡ word ∷ rest → list_all is_number (texts words) ≡ true → (is_number word.now ≡ true) × (list_all is_number (texts rest) ≡ true)
-first_number words word rest e h = and_parts (is_number word.now) (list_all is_number (texts rest)) (subst (λ (ws : List (Bor (List ℕ))). list_all is_number (texts ws) ≡ true) e h)
 
 -- numbers below a limit of at most 16 are below 64
 pub few_sites : (limit : ℕ) (words : List (List ℕ)) → limit ≤ 16 → are_below limit words ≡ true → list_all (λ site. ltb site 64) (map value_of words) ≡ true

@@ -22,6 +22,8 @@ use Rattle.sat_script.specs.declared.dialect.Dialect.{Dialect}
 use Rattle.sat_script.specs.declared.fault.Cause.{Cause}
 use Rattle.sat_script.specs.declared.fault.Cause.TheVariants.{AfterEnd, LongLine, NoEnd, NotText, BadHeader, SameName, OutOfRange, BadTree}
 use Rattle.sat_script.specs.declared.form.Form.TheVariants as form
+use Rattle.sat_script.specs.declared.line.Line.{Line}
+use Rattle.sat_script.specs.declared.line.Line.TheVariants as line
 use Rattle.sat_script.specs.declared.line.Parsed.{Parsed}
 use Rattle.sat_script.specs.declared.line.Parsed.TheVariants as parsed
 use Rattle.sat_script.specs.declared.line.Stage.{Stage}
@@ -246,3 +248,10 @@ abbrev pub IsNew : Deployed → Parsed → Type 0
 IsNew d (parsed.Item item) = has_item d item.name ≡ false
 IsNew d (parsed.Client line) = has_client d line.name ≡ false
 IsNew d _ = Unit {0}
+
+-- what a caller is told of a good line
+abbrev pub told_line : Deployed → Parsed → Line
+told_line d parsed.Begin = line.Begin d
+told_line d (parsed.Act a) = line.Act a
+told_line d parsed.End = line.End
+told_line d _ = line.Header

@@ -5,10 +5,8 @@ pub mod State
 pub mod Causes
 pub mod Table
 pub mod Grammar
-pub mod Reading
 pub mod Lines
 pub mod Kept
-pub mod Stream
 pub mod Spelled
 pub mod Laws
 pub mod Said

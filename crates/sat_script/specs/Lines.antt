@@ -1,15 +1,17 @@
 -- What the calls of a reader of lines do.
-use Rattle.std.specs.Prelude.{ℕ, ◌≡◌, ◌≢◌, true, false, List, Some, None, Ok, Err, MatchResult}
+use Rattle.std.specs.Prelude.{ℕ, ◌≡◌, ◌≢◌, true, false, List, [], ◌∷◌, ◌++◌, Some, None, Ok, Err, MatchResult}
 use Rattle.std.specs.declared.option.Option.{Option}
 use Rattle.std.specs.declared.result.Result.{Result}
 use Rattle.sat_tree.specs.Shape.{TreeShape}
-use Rattle.sat_script.specs.Grammar.{is_tree, line_at, close_at, after}
-use Rattle.sat_script.specs.Reading.{told_line}
+use Rattle.sat_act.specs.declared.act.Act.{Act}
+use Rattle.sat_act.specs.Deployed.{Deployed}
+use Rattle.sat_script.specs.Grammar.{is_tree, line_at, close_at, after, told_line}
 use Rattle.sat_script.specs.State.{State, Seen, number_of}
 use Rattle.sat_script.specs.declared.fault.Cause.{Cause}
 use Rattle.sat_script.specs.declared.fault.Cause.TheVariants.{Memory}
 use Rattle.sat_script.specs.declared.fault.ScriptFault.{ScriptFault}
 use Rattle.sat_script.specs.declared.line.Line.{Line}
+use Rattle.sat_script.specs.declared.line.Line.TheVariants as line
 use Rattle.sat_script.specs.declared.line.Parsed.{Parsed}
 
 -- the call answers this, or want of memory
@@ -21,6 +23,15 @@ Gives (Err cause) said = cause ≢ Memory → said ≡ Err cause
 abbrev pub IsTreeOf : ℕ → TreeShape → Option TreeShape → Type 0
 IsTreeOf sites t None = is_tree sites t ≡ false
 IsTreeOf sites t (Some made) = (made ≡ t) × (is_tree sites t ≡ true)
+
+-- the deployment and the acts that are known with what a good line says
+abbrev pub deployed_with : Option Deployed → Line → Option Deployed
+deployed_with known (line.Begin d) = Some d
+deployed_with known _ = known
+
+abbrev pub acts_with : List Act → Line → List Act
+acts_with acts (line.Act a) = acts ++ a ∷ []
+acts_with acts _ = acts
 
 -- the reader goes on in this state, or stays in it with this fault
 abbrev pub running : State → Seen

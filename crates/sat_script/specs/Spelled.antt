@@ -13,7 +13,8 @@ use Rattle.sat_act.specs.declared.deployment.Plan.{Plan}
 use Rattle.sat_act.specs.declared.deployment.Plan.TheVariants as plan
 use Rattle.sat_act.specs.Deployed.{Deployed}
 use Rattle.sat_act.specs.Limits.{IsDeployment}
-use Rattle.sat_script.specs.Reading.{AreActsOf, settles_of}
+use Rattle.sat_act.specs.Ranges.{IsActOf}
+use Rattle.sat_act.specs.Runs.{is_settle}
 use Rattle.sat_script.specs.Table.{act_words}
 use Rattle.sat_script.specs.declared.limits.TheConstants.{MOST_ACTS, MOST_SETTLES}
 
@@ -79,6 +80,14 @@ spelling d acts = header_text d ++ (ended (codes "begin" ∷ []) ++ (acts_text d
 pub record HaveNames (d : Deployed) : Type 0 where
   pub items : AllByRecursion (λ (item : Item). is_name item.name ≡ true) d.items
   pub clients : AllByRecursion (λ (line : ClientLine). is_name line.name ≡ true) d.clients
+
+-- acts of a deployment
+abbrev pub AreActsOf : Deployed → List Act → Type 0
+AreActsOf d acts = AllByRecursion (λ a. IsActOf d a) acts
+
+-- how many of the acts are a settle
+abbrev pub settles_of : List Act → ℕ
+settles_of acts = length (filter is_settle acts)
 
 -- the text spells this deployment and these acts, which are within the limits of scripts
 pub record Spells (text : List ℕ) (d : Deployed) (acts : List Act) : Type 0 where

@@ -3,6 +3,7 @@ use Rattle.std.specs.Prelude.{ℕ, ◌+◌, [], length}
 use Rattle.std.specs.declared.option.Option.{Option}
 use Rattle.sat_act.specs.Deployed.{Deployed}
 use Rattle.sat_script.specs.declared.dialect.Dialect.{Dialect}
+use Rattle.sat_script.specs.declared.fault.Cause.{Cause}
 use Rattle.sat_script.specs.declared.fault.ScriptFault.{ScriptFault}
 use Rattle.sat_script.specs.declared.line.Stage.{Stage}
 use Rattle.sat_script.specs.declared.line.Stage.TheVariants as stage
@@ -43,3 +44,7 @@ first_of stage.Ended = 6
 
 unfoldable pub number_of : State → ℕ
 number_of s = first_of s.stage + header_lines s.header + s.acts
+
+-- the fault of the next line
+abbrev pub fault_at : State → Cause → ScriptFault
+fault_at s cause = record { line = number_of s; cause = cause }

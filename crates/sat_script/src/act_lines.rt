@@ -62,20 +62,14 @@ fn is_known(header: &Header, kind: Kind, word: &[u8]) -> bool
 fn place_of<'a>(number: Option<u16>) -> Option<Said<'a>>
     ensures { option_map said_of result ≡ option_map place number }
 {
-    match number {
-        Some(number) => Some(Said::Place(number)),
-        None => None,
-    }
+    Some(Said::Place(number?))
 }
 
 #[inline(always)]
 fn num_of<'a>(number: Option<u64>) -> Option<Said<'a>>
     ensures { option_map said_of result ≡ option_map num number }
 {
-    match number {
-        Some(number) => Some(Said::Number(number)),
-        None => None,
-    }
+    Some(Said::Number(number?))
 }
 
 #[inline(always)]
@@ -83,13 +77,7 @@ fn num_of<'a>(number: Option<u64>) -> Option<Said<'a>>
 fn node_of<'a>(tree: Option<&Tree>, word: &[u8]) -> Option<Said<'a>>
     ensures { option_map said_of result ≡ option_map at (node_in (shape_of (option_copied tree.entry)) word.now) }
 {
-    match tree {
-        Some(tree) => match node_in(tree, word) {
-            Some(node) => Some(Said::Node(node)),
-            None => None,
-        },
-        None => None,
-    }
+    Some(Said::Node(node_in(tree?, word)?))
 }
 
 #[inline(always)]
@@ -97,10 +85,7 @@ fn node_of<'a>(tree: Option<&Tree>, word: &[u8]) -> Option<Said<'a>>
 fn serializer_of<'a>(tree: Option<&Tree>, word: &[u8]) -> Option<Said<'a>>
     ensures { option_map said_of result ≡ option_map place (serializer_in (shape_of (option_copied tree.entry)) word.now) }
 {
-    match tree {
-        Some(tree) => place_of(serializer_in(tree, word)),
-        None => None,
-    }
+    place_of(serializer_in(tree?, word))
 }
 
 // What a word says; a node stands in the tree of the epoch before it.
@@ -211,13 +196,9 @@ fn read_epoch<'h>(header: &'h Header, word: &[u8]) -> Option<(u16, &'h Tree)>
     ensures read { (t : TreeShape) → IfSome result (λ read. IsReadWord header.now t Kind.Epoch word.now (place read.0) read.1.now) }
     ensures tree { IfSome result (λ read. tree_of header.now read.0 ≡ Some read.1.now) }
 {
-    let Some(epoch) = number_to(header.plans(), word) else {
-        return None;
-    };
-    match header.tree(epoch) {
-        Some(tree) => Some((epoch, tree)),
-        None => None,
-    }
+    let epoch = number_to(header.plans(), word)?;
+    let tree = header.tree(epoch)?;
+    Some((epoch, tree))
 }
 
 // ---- acts
@@ -249,14 +230,8 @@ fn edge_cause(tree: Option<&Tree>, from: NodeId, to: u16) -> Option<Cause>
     ensures { result ≡ edge_cause (option_copied tree.entry) from to }
 {
     match tree {
-        None => Some(Cause::NoEdge),
-        Some(tree) => {
-            if joins(tree, from, to) {
-                None
-            } else {
-                Some(Cause::NoEdge)
-            }
-        }
+        Some(tree) if joins(tree, from, to) => None,
+        _ => Some(Cause::NoEdge),
     }
 }
 
@@ -341,6 +316,7 @@ fn is_end(words: &[&[u8]]) -> bool
 // ---- acts that most lines are, made as their words are read
 
 #[inline(always)]
+#[tactic(auto, using(crate::proofs::Quick::site_at))]
 fn read_site(header: &Header, word: &[u8]) -> Option<u16>
     ensures { IfSome result (λ site. (t : TreeShape) → IsReadWord header.now t Kind.Site word.now (place site) t) }
 {
@@ -348,6 +324,7 @@ fn read_site(header: &Header, word: &[u8]) -> Option<u16>
 }
 
 #[inline(always)]
+#[tactic(auto, using(crate::proofs::Quick::gear_at))]
 fn read_gear(header: &Header, word: &[u8]) -> Option<u16>
     ensures { IfSome result (λ gear. (t : TreeShape) → IsReadWord header.now t Kind.Gear word.now (place gear) t) }
 {
@@ -355,6 +332,7 @@ fn read_gear(header: &Header, word: &[u8]) -> Option<u16>
 }
 
 #[inline(always)]
+#[tactic(auto, using(crate::proofs::Quick::client_at))]
 fn read_client(header: &Header, word: &[u8]) -> Option<u16>
     requires { HaveNames header.now }
     ensures { IfSome result (λ client. (t : TreeShape) → IsReadWord header.now t Kind.Client word.now (place client) t) }
@@ -363,6 +341,7 @@ fn read_client(header: &Header, word: &[u8]) -> Option<u16>
 }
 
 #[inline(always)]
+#[tactic(auto, using(crate::proofs::Quick::item_at))]
 fn read_item(header: &Header, word: &[u8]) -> Option<u16>
     requires { HaveNames header.now }
     ensures { IfSome result (λ item. (t : TreeShape) → IsReadWord header.now t Kind.Item word.now (place item) t) }
@@ -375,26 +354,16 @@ fn read_item(header: &Header, word: &[u8]) -> Option<u16>
 fn read_value(alloc: Global, word: &[u8]) -> Option<Value>
     ensures { IfSome result (λ value. (value ≡ word.now) × (is_value word.now ≡ true)) }
 {
-    match Value::of(alloc, word) {
-        Ok(Some(value)) => Some(value),
-        Ok(None) => None,
-        Err(_) => None,
-    }
+    Value::of(alloc, word).ok()?
 }
 
 #[inline(always)]
 fn bulk_of(header: &Header, from: &[u8], gear: &[u8], to: &[u8]) -> Option<Act>
     ensures { IfSome result (λ act. SaysAct header.now (codes "bulk") (from.now ∷ gear.now ∷ to.now ∷ []) act) }
 {
-    let Some(from) = read_site(header, from) else {
-        return None;
-    };
-    let Some(gear) = read_gear(header, gear) else {
-        return None;
-    };
-    let Some(to) = read_site(header, to) else {
-        return None;
-    };
+    let from = read_site(header, from)?;
+    let gear = read_gear(header, gear)?;
+    let to = read_site(header, to)?;
     if from == to {
         return None;
     }
@@ -410,15 +379,9 @@ fn bulk_of(header: &Header, from: &[u8], gear: &[u8], to: &[u8]) -> Option<Act>
 fn tick_of(header: &Header, site: &[u8], gear: &[u8], ts: &[u8]) -> Option<Act>
     ensures { IfSome result (λ act. SaysAct header.now (codes "tick") (site.now ∷ gear.now ∷ ts.now ∷ []) act) }
 {
-    let Some(site) = read_site(header, site) else {
-        return None;
-    };
-    let Some(gear) = read_gear(header, gear) else {
-        return None;
-    };
-    let Some(ts) = number_up_to(TS_END, ts) else {
-        return None;
-    };
+    let site = read_site(header, site)?;
+    let gear = read_gear(header, gear)?;
+    let ts = number_up_to(TS_END, ts)?;
     Some(Act::Tick { site, gear, ts })
 }
 
@@ -427,15 +390,9 @@ fn beat_in_of(header: &Header, from: &[u8], to: &[u8], number: &[u8]) -> Option<
     requires { HaveNames header.now }
     ensures { IfSome result (λ act. SaysAct header.now (codes "beatin") (from.now ∷ to.now ∷ number.now ∷ []) act) }
 {
-    let Some(from) = read_site(header, from) else {
-        return None;
-    };
-    let Some(to) = read_site(header, to) else {
-        return None;
-    };
-    let Some(number) = number_up_to(u64::MAX, number) else {
-        return None;
-    };
+    let from = read_site(header, from)?;
+    let to = read_site(header, to)?;
+    let number = number_up_to(u64::MAX, number)?;
     if from == to {
         return None;
     }
@@ -446,21 +403,15 @@ fn beat_in_of(header: &Header, from: &[u8], to: &[u8], number: &[u8]) -> Option<
 fn hop_of(header: &Header, epoch: &[u8], from: &[u8], to: &[u8]) -> Option<Act>
     ensures { IfSome result (λ act. SaysAct header.now (codes "hop") (epoch.now ∷ from.now ∷ to.now ∷ []) act) }
 {
-    let Some((epoch, tree)) = read_epoch(header, epoch) else {
-        return None;
-    };
+    let (epoch, tree) = read_epoch(header, epoch)?;
     if !begins(Kind::Node, from) {
         return None;
     }
     if !begins(Kind::Serializer, to) {
         return None;
     }
-    let Some(from) = node_in(tree, from) else {
-        return None;
-    };
-    let Some(to) = serializer_in(tree, to) else {
-        return None;
-    };
+    let from = node_in(tree, from)?;
+    let to = serializer_in(tree, to)?;
     if !tree.is_edge(from, NodeId::Serializer(to)) {
         return None;
     }
@@ -472,15 +423,9 @@ fn write_of(alloc: Global, header: &Header, client: &[u8], item: &[u8], value: &
     requires { HaveNames header.now }
     ensures { IfSome result (λ act. SaysAct header.now (codes "write") (client.now ∷ item.now ∷ value.now ∷ []) act) }
 {
-    let Some(client) = read_client(header, client) else {
-        return None;
-    };
-    let Some(item) = read_item(header, item) else {
-        return None;
-    };
-    let Some(value) = read_value(alloc, value) else {
-        return None;
-    };
+    let client = read_client(header, client)?;
+    let item = read_item(header, item)?;
+    let value = read_value(alloc, value)?;
     Some(Act::Write {
         client,
         item,
@@ -493,12 +438,8 @@ fn read_of(header: &Header, client: &[u8], item: &[u8]) -> Option<Act>
     requires { HaveNames header.now }
     ensures { IfSome result (λ act. SaysAct header.now (codes "read") (client.now ∷ item.now ∷ []) act) }
 {
-    let Some(client) = read_client(header, client) else {
-        return None;
-    };
-    let Some(item) = read_item(header, item) else {
-        return None;
-    };
+    let client = read_client(header, client)?;
+    let item = read_item(header, item)?;
     Some(Act::Read { client, item })
 }
 
@@ -506,12 +447,8 @@ fn read_of(header: &Header, client: &[u8], item: &[u8]) -> Option<Act>
 fn beat_of(header: &Header, from: &[u8], to: &[u8]) -> Option<Act>
     ensures { IfSome result (λ act. SaysAct header.now (codes "beat") (from.now ∷ to.now ∷ []) act) }
 {
-    let Some(from) = read_site(header, from) else {
-        return None;
-    };
-    let Some(to) = read_site(header, to) else {
-        return None;
-    };
+    let from = read_site(header, from)?;
+    let to = read_site(header, to)?;
     if from == to {
         return None;
     }
@@ -523,12 +460,8 @@ fn move_of(header: &Header, client: &[u8], site: &[u8]) -> Option<Act>
     requires { HaveNames header.now }
     ensures { IfSome result (λ act. SaysAct header.now (codes "move") (client.now ∷ site.now ∷ []) act) }
 {
-    let Some(client) = read_client(header, client) else {
-        return None;
-    };
-    let Some(site) = read_site(header, site) else {
-        return None;
-    };
+    let client = read_client(header, client)?;
+    let site = read_site(header, site)?;
     Some(Act::Move { client, site })
 }
 
@@ -537,12 +470,8 @@ fn attach_of(header: &Header, client: &[u8], site: &[u8]) -> Option<Act>
     requires { HaveNames header.now }
     ensures { IfSome result (λ act. SaysAct header.now (codes "attach") (client.now ∷ site.now ∷ []) act) }
 {
-    let Some(client) = read_client(header, client) else {
-        return None;
-    };
-    let Some(site) = read_site(header, site) else {
-        return None;
-    };
+    let client = read_client(header, client)?;
+    let site = read_site(header, site)?;
     Some(Act::Attach { client, site })
 }
 
@@ -551,9 +480,7 @@ fn leave_of(header: &Header, client: &[u8]) -> Option<Act>
     requires { HaveNames header.now }
     ensures { IfSome result (λ act. SaysAct header.now (codes "leave") (client.now ∷ []) act) }
 {
-    let Some(client) = read_client(header, client) else {
-        return None;
-    };
+    let client = read_client(header, client)?;
     Some(Act::Leave { client })
 }
 
@@ -578,12 +505,8 @@ fn act_of_site(form: Form, site: u16) -> Option<Act>
 fn site_act_of(header: &Header, word: &[u8], site: &[u8]) -> Option<Act>
     ensures { IfSome result (λ act. SaysAct header.now word.now (site.now ∷ []) act) }
 {
-    let Some(form) = form_of_one(word) else {
-        return None;
-    };
-    let Some(site) = read_site(header, site) else {
-        return None;
-    };
+    let form = form_of_one(word)?;
+    let site = read_site(header, site)?;
     act_of_site(form, site)
 }
 

@@ -149,10 +149,7 @@ impl Header {
     pub fn client_of(&self, name: &[u8]) -> Option<u16>
         ensures { result ≡ client_of self.now name.now }
     {
-        match self.client_names.place_of(name) {
-            Some(place) => Some(place as u16),
-            None => None,
-        }
+        Some(self.client_names.place_of(name)? as u16)
     }
 
     /// The number of the item with a name.
@@ -160,10 +157,7 @@ impl Header {
     pub fn item_of(&self, name: &[u8]) -> Option<u16>
         ensures { result ≡ item_of self.now name.now }
     {
-        match self.item_names.place_of(name) {
-            Some(place) => Some(place as u16),
-            None => None,
-        }
+        Some(self.item_names.place_of(name)? as u16)
     }
 
     /// Whether a client has this name.

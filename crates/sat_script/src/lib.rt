@@ -1,4 +1,4 @@
-//! Scripts: a reader that says exactly what is wrong and where, and the one spelling of each script.
+//! Scripts: a reader of lines that says exactly what is wrong and where, and the one spelling of each script.
 #![tactic(auto)]
 
 mod act_lines;
@@ -9,7 +9,6 @@ mod header;
 mod header_lines;
 mod limits;
 mod line;
-mod lines;
 mod list;
 mod names;
 mod nodes;
@@ -17,8 +16,6 @@ mod number;
 mod place;
 mod reader;
 mod said;
-mod script;
-mod stream;
 mod words;
 mod write;
 mod write_lines;
@@ -26,13 +23,11 @@ mod write_lines;
 pub use dialect::{Dialect, Limits};
 pub use fault::{Cause, ScriptFault};
 pub use limits::{
-    BYTES_END, LIVE_ACTS, LIVE_CLIENTS, LIVE_SITES, LONGEST_LINE, MOST_ACTS, MOST_BYTES,
-    MOST_CLIENTS, MOST_GEARS, MOST_ITEMS, MOST_PLANS, MOST_SETTLES, MOST_SITES,
+    LIVE_ACTS, LIVE_CLIENTS, LIVE_SITES, LONGEST_LINE, MOST_ACTS, MOST_CLIENTS, MOST_GEARS,
+    MOST_ITEMS, MOST_PLANS, MOST_SETTLES, MOST_SITES,
 };
-pub use line::Line;
+pub use line::{Line, Parsed};
 pub use number::number_up_to;
 pub use reader::Reader;
-pub use script::{Script, one_spelling, read_script, sound_readings};
-pub use stream::{Reading, ScriptReader};
 pub use write::write_script;
 pub use write_lines::act_line;

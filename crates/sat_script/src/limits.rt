@@ -32,12 +32,3 @@ pub const LIVE_CLIENTS: usize = 16;
 
 /// The most acts of a script for nodes on threads.
 pub const LIVE_ACTS: u32 = 4000;
-
-// No good line has more bytes than this, with its byte 10.
-pub(crate) const LINE_BYTES: u64 = 600;
-
-/// The first bad line is known once more bytes than this have come.
-pub const MOST_BYTES: u64 = 123_124_097;
-
-/// The first bad line of any text begins before this byte, so nothing after it need be read.
-pub const BYTES_END: u64 = 268_435_456;

@@ -27,15 +27,9 @@ fn node_of(tree: &Tree, is_site: bool, number: &[u8]) -> Option<NodeId>
     ensures inside { IfSome result (IsNode tree.now) }
 {
     if is_site {
-        match number_below(tree.sites(), number) {
-            Some(site) => Some(NodeId::Site(site)),
-            None => None,
-        }
+        Some(NodeId::Site(number_below(tree.sites(), number)?))
     } else {
-        match number_below(tree.serializers(), number) {
-            Some(serializer) => Some(NodeId::Serializer(serializer)),
-            None => None,
-        }
+        Some(NodeId::Serializer(number_below(tree.serializers(), number)?))
     }
 }
 

@@ -96,15 +96,11 @@ pub fn number_below(limit: u16, word: &[u8]) -> Option<u16>
     ensures number { result ≡ number_below limit word.now }
     ensures inside { IfSome result (λ n. n < limit) }
 {
-    match number_of(word) {
-        Some(number) => {
-            if number < u64::from(limit) {
-                Some(number as u16)
-            } else {
-                None
-            }
-        }
-        None => None,
+    let number = number_of(word)?;
+    if number < u64::from(limit) {
+        Some(number as u16)
+    } else {
+        None
     }
 }
 
@@ -114,15 +110,11 @@ pub fn number_to(limit: u16, word: &[u8]) -> Option<u16>
     ensures number { result ≡ number_to limit word.now }
     ensures inside { IfSome result (λ n. (1 ≤ n) × (n ≤ limit)) }
 {
-    match number_of(word) {
-        Some(number) => {
-            if 0 < number && number <= u64::from(limit) {
-                Some(number as u16)
-            } else {
-                None
-            }
-        }
-        None => None,
+    let number = number_of(word)?;
+    if 0 < number && number <= u64::from(limit) {
+        Some(number as u16)
+    } else {
+        None
     }
 }
 
@@ -132,14 +124,10 @@ pub fn number_up_to(limit: u64, word: &[u8]) -> Option<u64>
     ensures number { result ≡ number_up_to limit word.now }
     ensures inside { IfSome result (λ n. n ≤ limit) }
 {
-    match number_of(word) {
-        Some(number) => {
-            if number > limit || is_less(GREATEST, word) {
-                None
-            } else {
-                Some(number)
-            }
-        }
-        None => None,
+    let number = number_of(word)?;
+    if number > limit || is_less(GREATEST, word) {
+        None
+    } else {
+        Some(number)
     }
 }

@@ -3,8 +3,7 @@ ghost use Rattle.std.specs.Prelude.{◌≡◌, ◌≤◌, ◌↔◌, ◌++◌, [
 ghost use Rattle.sat_script.specs.Dialect.{limits_of};
 ghost use Rattle.sat_script.specs.State.{start, number_of};
 ghost use Rattle.sat_script.specs.Causes.{has_room, bar};
-ghost use Rattle.sat_script.specs.Grammar.{after, IsNew};
-ghost use Rattle.sat_script.specs.Reading.{told_line};
+ghost use Rattle.sat_script.specs.Grammar.{after, IsNew, told_line};
 ghost use Rattle.sat_script.specs.Kept.{IsFit};
 ghost use Rattle.sat_script.specs.Said.{TakesActs};
 ghost use Rattle.sat_script.specs.Spelled.{HaveNames};

@@ -1,12 +1,10 @@
 //! A reader of lines.
 ghost use Rattle.std.specs.Prelude.{◌≡◌, ◌↔◌, ◌++◌, [], ◌∷◌, IsTrue, IfErr, IfSome, OnOk, None, Some, Ok, map, take};
 ghost use Rattle.sat_script.specs.Dialect.{dialect_of};
-ghost use Rattle.sat_script.specs.State.{start, number_of};
-ghost use Rattle.sat_script.specs.Grammar.{words_line, line_at, close_in, after, IsNew};
+ghost use Rattle.sat_script.specs.State.{start, number_of, fault_at};
+ghost use Rattle.sat_script.specs.Grammar.{words_line, line_at, close_in, after, IsNew, told_line};
 ghost use Rattle.sat_script.specs.Kept.{IsFit};
-ghost use Rattle.sat_script.specs.Lines.{Gives, Takes, Closes, running, failed};
-ghost use Rattle.sat_script.specs.Reading.{told_line, with_line, fault_at};
-ghost use Rattle.sat_script.specs.Stream.{kept};
+ghost use Rattle.sat_script.specs.Lines.{Gives, Takes, Closes, running, failed, deployed_with, acts_with};
 ghost use Rattle.sat_script.specs.Words.{words_of};
 ghost use Rattle.sat_script.specs.declared.line.Parsed.TheVariants as parsed;
 
@@ -109,8 +107,8 @@ impl Reader {
         }
     }
 
-    // Fails at the next line.
-    pub(crate) fn fail(&mut self, cause: Cause) -> ScriptFault
+    /// Fails at the next line.
+    pub fn fail(&mut self, cause: Cause) -> ScriptFault
         ensures fault { result ≡ record { line = number_of self.old.state; cause = cause } }
         ensures new { self.new ≡ record { state = self.old.state; fault = Some result } }
     {
@@ -129,8 +127,8 @@ impl Reader {
         self.fault
     }
 
-    // The allocator that it keeps.
-    pub(crate) fn allocator(&self) -> Global {
+    /// The allocator that it keeps.
+    pub fn allocator(&self) -> Global {
         self.alloc
     }
 
@@ -141,16 +139,16 @@ impl Reader {
         self.place.stage() == Stage::Ended
     }
 
-    // What the next line says.
-    pub(crate) fn parse(&self, bytes: &[u8]) -> Result<Parsed, Cause>
+    /// What the next line says.
+    pub fn parse(&self, bytes: &[u8]) -> Result<Parsed, Cause>
         ensures { Gives result (line_at self.now.state bytes.now) }
     {
         line_at(self.alloc, &self.place, bytes)
     }
 
-    // The act that the next line says, where it is good and there is memory for it.
+    /// The act that the next line says, where it is found quickly: a line without an answer may be good too.
     #[inline(always)]
-    pub(crate) fn good_act(&self, line: &[u8]) -> Option<Act>
+    pub fn good_act(&self, line: &[u8]) -> Option<Act>
         ensures { IfSome result (λ act. line_at self.now.state line.now ≡ Ok (parsed.Act act)) }
     {
         if !self.place.takes_acts() || line.len() > SHORT_LINE {
@@ -175,9 +173,9 @@ impl Reader {
         }
     }
 
-    // Keeps the act of a good line. For want of memory it fails at that line.
+    /// Keeps the act of a good line. For want of memory it fails at that line.
     #[inline(always)]
-    pub(crate) fn keep_act(&mut self, act: Act, acts: &mut Acts) -> Result<(), ScriptFault>
+    pub fn keep_act(&mut self, act: Act, acts: &mut Acts) -> Result<(), ScriptFault>
         requires fits { IsFit (after self.old.state (parsed.Act act)) }
         ensures ok { OnOk result ((self.new ≡ record { state = after self.old.state (parsed.Act act); fault = self.old.fault })
             × (acts.new ≡ acts.old ++ act ∷ [])) }
@@ -189,8 +187,8 @@ impl Reader {
         }
     }
 
-    // Takes what a good line says, and keeps a deployment and an act. For want of memory it fails at that line.
-    pub(crate) fn keep_in(
+    /// Takes what a good line says, and keeps a deployment and an act. For want of memory it fails at that line.
+    pub fn keep_in(
         &mut self,
         parsed: Parsed,
         deployment: &mut Option<Deployment>,
@@ -199,9 +197,10 @@ impl Reader {
         requires fits { IsFit (after self.old.state parsed) }
         requires new { IsNew self.old.state.header parsed }
         ensures ok { OnOk result ((self.new ≡ record { state = after self.old.state parsed; fault = self.old.fault })
-            × (kept deployment.new acts.new ≡ with_line (kept deployment.old acts.old) (told_line self.old.state.header parsed))) }
+            × (deployment.new ≡ deployed_with deployment.old (told_line self.old.state.header parsed))
+            × (acts.new ≡ acts_with acts.old (told_line self.old.state.header parsed))) }
         ensures err { IfErr result (λ fault. (fault ≡ fault_at self.old.state Cause.Memory) × (self.new ≡ failed self.old.state fault)
-            × (kept deployment.new acts.new ≡ kept deployment.old acts.old)) }
+            × (deployment.new ≡ deployment.old) × (acts.new ≡ acts.old)) }
     {
         if let Parsed::Act(act) = parsed {
             return self.keep_act(act, acts);

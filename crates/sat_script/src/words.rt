@@ -1,12 +1,11 @@
 //! The words of a line.
-ghost use Rattle.std.specs.Prelude.{◌≡◌, [], false, IfOk, MatchOption, map, ◌∷◌, length, take, drop, ◌≤◌, ◌-◌, ◌&&◌};
+ghost use Rattle.std.specs.Prelude.{◌≡◌, [], false, IfOk, map, ◌∷◌, length, take, drop, ◌≤◌, ◌-◌, ◌&&◌};
 ghost use Rattle.sat_label.specs.Text.{is_between};
 ghost use Rattle.std.specs.List.{list_all};
-ghost use Rattle.sat_script.specs.Words.{is_text, is_token, is_number, is_node, is_serializer, words_of, HasNo, IsCut, AreFirst, AreBlanks, blanks_from};
+ghost use Rattle.sat_script.specs.Words.{is_text, is_token, is_number, is_node, is_serializer, words_of, AreFirst, AreBlanks, blanks_from};
 
 use crate::number::is_number;
 use arrayvec::ArrayVec;
-use memchr::memchr;
 use std::alloc::{AllocError, Global};
 
 /// The parts of a line between its blanks.
@@ -14,17 +13,6 @@ pub fn words_of(alloc: Global, line: &[u8]) -> Result<Vec<&[u8]>, AllocError>
     ensures { IfOk result (λ words. map (λ word. word.now) words.items ≡ words_of line.now) }
 {
     line.split(|byte| *byte == b' ').collect(alloc)
-}
-
-/// A text before and behind the first place of a byte, where the byte stands in it.
-#[inline(always)]
-pub fn cut_at(byte: u8, text: &[u8]) -> Option<(&[u8], &[u8])>
-    ensures { MatchOption result (HasNo byte text.now) (λ parts. IsCut byte text.now parts.0.now parts.1.now) }
-{
-    match memchr(byte, text) {
-        Some(at) => Some((&text[..at], &text[at + 1..])),
-        None => None,
-    }
 }
 
 /// The first words of a line.

@@ -8,7 +8,7 @@ use crate::load_acts::LoadActs;
 use crate::load_draft::act_of;
 use crate::load_header::deployment;
 use sat_act::{Acts, Deployment};
-use sat_script::Script;
+use sat_stream::Script;
 use std::alloc::{AllocError, Global};
 
 /// The most acts that are drawn for a script.

@@ -1,9 +1,8 @@
 //! What is read of texts, at once and in pieces, and at the limits. What is expected was worked out by hand from the table of causes.
 use sat_act::{Act, Answer, Entry};
 use sat_report::write_answer;
-use sat_script::{
-    Cause, Line, Reader, Reading, Script, ScriptFault, ScriptReader, read_script, write_script,
-};
+use sat_script::{Cause, Line, Reader, ScriptFault, write_script};
+use sat_stream::{Reading, Script, ScriptReader, read_script};
 use std::alloc::{AllocError, Global};
 use std::test::Fail;
 

@@ -17,7 +17,7 @@ use Rattle.sat_laws.proofs.Steps.{Step, outcome, wrote}
 use Rattle.sat_rest.specs.Ends.{wrote_count, wrote_entry}
 use Rattle.sat_world.specs.Seen.{WorldSeen}
 use Rattle.sat_world.specs.Stands.{StandsFor}
-use Rattle.sat_script.specs.Reading.{AreActsOf}
+use Rattle.sat_script.specs.Spelled.{AreActsOf}
 use Rattle.sat_runs.specs.Runs.{history}
 use Rattle.sat_runs.specs.Running.{Does}
 use Rattle.sat_runs.proofs.Running.{kept, on, runs-none}

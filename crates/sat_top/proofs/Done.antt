@@ -1,7 +1,7 @@
 -- What the statuses of the commands say, once the output is written.
 use Rattle.std.proofs.Common.{◌≡◌, ℕ, zero, suc, false, List, Option, Some, None, Result, Ok, Err, IsSome, refl, sym, ap, subst, ◌∙◌}
 use Rattle.sat_outside.specs.Streams.{Told, Takes}
-use Rattle.sat_script.specs.Reading.{reading}
+use Rattle.sat_stream.specs.Reading.{reading}
 use Rattle.sat_script.specs.declared.fault.ScriptFault.{ScriptFault}
 use Rattle.sat_delay.specs.declared.fault.DelayFault.{DelayFault}
 use Rattle.sat_delay.specs.Table.{DelayTable}
@@ -10,7 +10,7 @@ use Rattle.sat_plan.specs.Texts.{plan_text, result_text}
 use Rattle.sat_top.specs.declared.words.Command.{Command}
 use Rattle.sat_top.specs.declared.words.Command.TheVariants.{Run, Draw, Plan, Place, Load, Help, Version}
 use Rattle.sat_report.specs.Faults.{fault_line}
-use Rattle.sat_script.specs.declared.stream.Reading.{Reading}
+use Rattle.sat_stream.specs.declared.stream.Reading.{Reading}
 use Rattle.sat_top.specs.Drawing.{draw_text, IsGoodDrawing}
 use Rattle.sat_top.specs.Good.{IsGoodScript}
 use Rattle.sat_place.specs.Shape.{Shape, shape_reading}

@@ -1,9 +1,9 @@
 -- Every good script has a good drawing.
 use Rattle.std.proofs.Common.{◌≡◌, ℕ, false, List, Option, Some, None, refl, ap, ◌∙◌}
 use Rattle.sat_act.specs.Deployed.{Deployed}
-use Rattle.sat_script.specs.Reading.{reading}
+use Rattle.sat_stream.specs.Reading.{reading}
 use Rattle.sat_script.specs.Spelled.{Spells}
-use Rattle.sat_script.specs.declared.stream.Reading.{Reading}
+use Rattle.sat_stream.specs.declared.stream.Reading.{Reading}
 use Rattle.sat_draw.specs.Drawing.{drawing}
 use Rattle.sat_draw.proofs.Marks.{each_once}
 use Rattle.sat_draw.proofs.Arrowed.{ways_told}

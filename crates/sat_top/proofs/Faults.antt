@@ -1,7 +1,7 @@
 -- A fault that was told is the fault of what was read.
 use Rattle.std.proofs.Common.{◌≡◌, [], Option, Some, None}
-use Rattle.sat_script.specs.Stream.{Came, meaning, kept, will_be, known_fault}
-use Rattle.sat_script.specs.declared.stream.Reading.{Reading}
+use Rattle.sat_stream.specs.Stream.{Came, meaning, kept, will_be, known_fault}
+use Rattle.sat_stream.specs.declared.stream.Reading.{Reading}
 use Rattle.sat_script.specs.declared.fault.ScriptFault.{ScriptFault}
 
 pub has_fault : (r : Came) (fault : ScriptFault) (found : Reading) (P : Type 0) → known_fault r ≡ Some fault → found ≡ will_be r [] → found.fault ≡ None → P

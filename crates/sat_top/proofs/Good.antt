@@ -1,9 +1,9 @@
 -- Every good script has a good history, and each of its settles comes to rest.
 use Rattle.std.proofs.Common.{◌≡◌, ℕ, false, List, Some, None, refl}
 use Rattle.sat_act.specs.Deployed.{Deployed}
-use Rattle.sat_script.specs.Reading.{reading}
+use Rattle.sat_stream.specs.Reading.{reading}
 use Rattle.sat_script.specs.Spelled.{Spells}
-use Rattle.sat_script.specs.declared.stream.Reading.{Reading}
+use Rattle.sat_stream.specs.declared.stream.Reading.{Reading}
 use Rattle.sat_report.specs.Holdings.{report}
 use Rattle.sat_runs.specs.Runs.{history, run_text}
 use Rattle.sat_runs.proofs.Good.{TheLaws, good_run}

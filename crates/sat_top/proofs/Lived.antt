@@ -4,11 +4,11 @@ use Rattle.std.specs.Prelude.{◌≢◌}
 use Rattle.std.specs.Io.KnownBytes.{Consumes, IsAtEnd}
 use Rattle.sat_act.specs.Deployed.{Deployed}
 use Rattle.sat_outside.specs.Streams.{Told, Takes}
-use Rattle.sat_script.specs.Laws.{IsRead}
-use Rattle.sat_script.specs.Reading.{reading}
+use Rattle.sat_stream.specs.Laws.{IsRead}
+use Rattle.sat_stream.specs.Reading.{reading}
 use Rattle.sat_script.specs.declared.fault.ScriptFault.{ScriptFault}
-use Rattle.sat_script.specs.declared.limits.TheConstants.{MOST_BYTES}
-use Rattle.sat_script.specs.declared.stream.Reading.{Reading}
+use Rattle.sat_stream.specs.declared.limits.TheConstants.{MOST_BYTES}
+use Rattle.sat_stream.specs.declared.stream.Reading.{Reading}
 use Rattle.sat_live.specs.Told.{IsTold}
 use Rattle.sat_top.specs.declared.stream.TheConstants.{BUFFER_BYTES}
 use Rattle.sat_top.specs.Living.{MeetsLive, IsLiveStatus, Tells, TellsOf, is_told}

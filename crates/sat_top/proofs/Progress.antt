@@ -3,8 +3,8 @@ use Rattle.std.proofs.Common.{◌≡◌, ℕ, Bool, ◌+◌, ◌≤◌, List, []
 use Rattle.std.proofs.lemmas.List.{append-nil, append_assoc, take-append-drop, drop-take, take-take, length-append}
 use Rattle.std.specs.Io.KnownBytes.{Consumes, IsAtEnd}
 use Rattle.sat_outside.specs.Streams.{Told, Takes}
-use Rattle.sat_script.specs.Reading.{reading}
-use Rattle.sat_script.specs.declared.stream.Reading.{Reading}
+use Rattle.sat_stream.specs.Reading.{reading}
+use Rattle.sat_stream.specs.declared.stream.Reading.{Reading}
 use Rattle.sat_top.specs.Whole.{IsTextOf}
 
 -- So many bytes were read, for nodes on threads or not, and a text that begins with them is what the meaning says of the rest.

@@ -3,10 +3,10 @@ use Rattle.std.proofs.Common.{◌≡◌, ℕ, false, List, Option, Some, None, r
 use Rattle.std.specs.Prelude.{IfSome}
 use Rattle.sat_act.specs.Deployed.{Deployed}
 use Rattle.sat_act.specs.Limits.{IsDeployment}
-use Rattle.sat_script.specs.Spelled.{HaveNames}
-use Rattle.sat_script.specs.Reading.{reading, AreActsOf}
+use Rattle.sat_script.specs.Spelled.{HaveNames, AreActsOf}
+use Rattle.sat_stream.specs.Reading.{reading}
 use Rattle.sat_script.specs.declared.fault.ScriptFault.{ScriptFault}
-use Rattle.sat_script.specs.declared.stream.Reading.{Reading}
+use Rattle.sat_stream.specs.declared.stream.Reading.{Reading}
 use Rattle.sat_top.specs.declared.words.Command.TheVariants.{Run}
 use Rattle.sat_runs.specs.Good.{IsGoodRun}
 use Rattle.sat_top.specs.Good.{IsGoodFront, EveryReadingIsGood}

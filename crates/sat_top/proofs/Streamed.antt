@@ -10,16 +10,16 @@ use Rattle.sat_act.specs.Deployed.{Deployed}
 use Rattle.sat_act.specs.Limits.{IsDeployment}
 use Rattle.sat_world.specs.Seen.{WorldSeen}
 use Rattle.sat_report.specs.Answers.{answers}
-use Rattle.sat_script.specs.Laws.{IsSound}
+use Rattle.sat_stream.specs.Laws.{IsSound}
 use Rattle.sat_script.specs.Grammar.{close_in}
-use Rattle.sat_script.specs.Reading.{reading, script_from, AreActsOf}
+use Rattle.sat_stream.specs.Reading.{reading, script_from}
+use Rattle.sat_script.specs.Spelled.{AreActsOf, HaveNames}
 use Rattle.sat_script.specs.State.{number_of}
-use Rattle.sat_script.specs.Spelled.{HaveNames}
-use Rattle.sat_script.specs.Stream.{Came, will_be, known_fault, bytes_of, behind, drained, LacksOnlyItsEnd}
+use Rattle.sat_stream.specs.Stream.{Came, will_be, known_fault, bytes_of, behind, drained, LacksOnlyItsEnd}
 use Rattle.sat_script.specs.declared.fault.ScriptFault.{ScriptFault}
 use Rattle.sat_script.specs.declared.limits.TheConstants.{MOST_ACTS}
-use Rattle.sat_script.specs.declared.stream.Reading.{Reading}
-use Rattle.sat_script.proofs.Drained.{ends_as}
+use Rattle.sat_stream.specs.declared.stream.Reading.{Reading}
+use Rattle.sat_stream.proofs.Drained.{ends_as}
 use Rattle.sat_top.specs.declared.stream.Halt.{Halt}
 use Rattle.sat_top.specs.declared.stream.Halt.TheVariants.{Source, Sink, Memory}
 use Rattle.sat_top.specs.declared.words.Command.TheVariants.{Run}

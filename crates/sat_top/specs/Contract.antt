@@ -3,7 +3,7 @@ use Rattle.std.specs.Prelude.{ℕ, ◌≡◌, ◌≤◌, ◌+◌, ◌⊎◌, Boo
 use Rattle.std.specs.Io.KnownBytes.{Consumes, IsAtEnd}
 use Rattle.sat_outside.specs.Causes.{Rose}
 use Rattle.sat_outside.specs.Streams.{Told, Takes}
-use Rattle.sat_script.specs.declared.limits.TheConstants.{MOST_BYTES}
+use Rattle.sat_stream.specs.declared.limits.TheConstants.{MOST_BYTES}
 use Rattle.sat_delay.specs.declared.read.TheConstants.{MOST_BYTES as MOST_DELAY_BYTES}
 use Rattle.sat_top.specs.declared.stream.TheConstants.{BUFFER_BYTES}
 use Rattle.sat_top.specs.declared.words.Command.{Command}

@@ -4,8 +4,8 @@ use Rattle.sat_act.specs.declared.act.Act.{Act}
 use Rattle.sat_act.specs.declared.entry.Entry.{Entry}
 use Rattle.sat_act.specs.Deployed.{Deployed}
 use Rattle.sat_script.specs.declared.fault.ScriptFault.{ScriptFault}
-use Rattle.sat_script.specs.declared.stream.Reading.{Reading}
-use Rattle.sat_script.specs.Reading.{reading}
+use Rattle.sat_stream.specs.declared.stream.Reading.{Reading}
+use Rattle.sat_stream.specs.Reading.{reading}
 use Rattle.sat_script.specs.Spelled.{Spells}
 use Rattle.sat_report.specs.Faults.{fault_line}
 use Rattle.sat_draw.specs.Drawing.{drawing}

@@ -2,7 +2,7 @@
 use Rattle.std.specs.Prelude.{ℕ, ◌≡◌, ◌≤◌, false, List, Some, None, Ok}
 use Rattle.sat_act.specs.declared.act.Act.{Act}
 use Rattle.sat_act.specs.Deployed.{Deployed}
-use Rattle.sat_script.specs.Reading.{reading}
+use Rattle.sat_stream.specs.Reading.{reading}
 use Rattle.sat_script.specs.Spelled.{Spells}
 use Rattle.sat_report.specs.Holdings.{report}
 use Rattle.sat_delay.specs.Table.{DelayTable}

@@ -7,10 +7,10 @@ use Rattle.sat_outside.specs.Streams.{Told, Takes}
 use Rattle.sat_act.specs.declared.act.Act.{Act}
 use Rattle.sat_act.specs.Deployed.{Deployed}
 use Rattle.sat_script.specs.declared.fault.ScriptFault.{ScriptFault}
-use Rattle.sat_script.specs.declared.limits.TheConstants.{MOST_BYTES}
-use Rattle.sat_script.specs.Reading.{reading, IsAllowed}
+use Rattle.sat_stream.specs.declared.limits.TheConstants.{MOST_BYTES}
+use Rattle.sat_stream.specs.Reading.{reading, IsAllowed}
 use Rattle.sat_script.specs.Spelled.{Spells}
-use Rattle.sat_script.specs.Stream.{LacksOnlyItsEnd}
+use Rattle.sat_stream.specs.Stream.{LacksOnlyItsEnd}
 use Rattle.sat_report.specs.Faults.{fault_line}
 use Rattle.sat_live.specs.Told.{IsTold}
 use Rattle.sat_top.specs.declared.stream.TheConstants.{BUFFER_BYTES}

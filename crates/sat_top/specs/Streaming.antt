@@ -5,9 +5,9 @@ use Rattle.sat_outside.specs.Streams.{Told, Takes}
 use Rattle.sat_act.specs.declared.act.Act.{Act}
 use Rattle.sat_act.specs.Deployed.{Deployed}
 use Rattle.sat_report.specs.Answers.{answers}
-use Rattle.sat_script.specs.Reading.{reading}
-use Rattle.sat_script.specs.Stream.{LacksOnlyItsEnd}
-use Rattle.sat_script.specs.declared.stream.Reading.{Reading}
+use Rattle.sat_stream.specs.Reading.{reading}
+use Rattle.sat_stream.specs.Stream.{LacksOnlyItsEnd}
+use Rattle.sat_stream.specs.declared.stream.Reading.{Reading}
 use Rattle.sat_top.specs.declared.stream.TheConstants.{BUFFER_BYTES}
 use Rattle.sat_top.specs.declared.words.Command.{Command}
 use Rattle.sat_top.specs.declared.words.Command.TheVariants.{Run}

@@ -7,8 +7,8 @@ use Rattle.sat_act.specs.declared.entry.Entry.{Entry}
 use Rattle.sat_act.specs.Deployed.{Deployed}
 use Rattle.sat_outside.specs.Streams.{Told, Takes}
 use Rattle.sat_rest.specs.Ends.{wrote_count}
-use Rattle.sat_script.specs.declared.stream.Reading.{Reading}
-use Rattle.sat_script.specs.Stream.{behind}
+use Rattle.sat_stream.specs.declared.stream.Reading.{Reading}
+use Rattle.sat_stream.specs.Stream.{behind}
 use Rattle.sat_world.specs.Seen.{WorldSeen}
 use Rattle.sat_top.specs.Drawing.{told_history}
 use Rattle.sat_runs.specs.Running.{IsAnswering, IsRunning}

@@ -3,8 +3,8 @@ ghost use Rattle.std.specs.Prelude.{ℕ, ◌≡◌, ◌+◌, ◌++◌, [], ◌�
 ghost use Rattle.sat_act.specs.declared.act.Act.{Act};
 ghost use Rattle.sat_act.specs.Ranges.{IsActOf};
 ghost use Rattle.sat_world.specs.Stands.{StandsFor};
-ghost use Rattle.sat_script.specs.Reading.{AreActsOf};
-ghost use Rattle.sat_script.specs.Laws.{IsSound};
+ghost use Rattle.sat_script.specs.Spelled.{AreActsOf};
+ghost use Rattle.sat_stream.specs.Laws.{IsSound};
 ghost use Rattle.sat_report.specs.Faults.{fault_line};
 ghost use Rattle.sat_draw.specs.Drawing.{drawing};
 ghost use Rattle.sat_top.specs.Drawing.{draw_text, told_history};
@@ -16,7 +16,8 @@ use sat_act::{Act, Deployment, Entry};
 use sat_draw::draw;
 use sat_report::write_fault;
 use sat_runs::do_act;
-use sat_script::{MOST_ACTS, Reading, ScriptFault};
+use sat_script::{MOST_ACTS, ScriptFault};
+use sat_stream::Reading;
 use sat_world::World;
 use std::alloc::{AllocError, Global};
 

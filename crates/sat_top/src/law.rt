@@ -4,7 +4,7 @@ ghost use Rattle.sat_top.specs.Good.{EveryReadingIsGood};
 
 use sat_laws::headline;
 use sat_rest::settles_all;
-use sat_script::one_spelling;
+use sat_stream::one_spelling;
 
 /// A text that is read without a fault spells a deployment and acts, and the report of their history is what `run`
 /// writes. In this history each site shows each update at most once and after every cause that it keeps, no client reads

@@ -1,6 +1,6 @@
 //! A script whose acts nodes on threads do.
 ghost use Rattle.std.specs.Prelude.{ℕ, ◌≡◌, true, List, IfOk, None};
-ghost use Rattle.sat_script.specs.Laws.{IsRead};
+ghost use Rattle.sat_stream.specs.Laws.{IsRead};
 ghost use Rattle.sat_top.specs.Living.{MeetsLive, Tells};
 
 use crate::drawing::fault_output;
@@ -8,7 +8,7 @@ use crate::output::Output;
 use crate::stream::{Stop, read_script, write_text};
 use sat_live::live;
 use sat_outside::{Gate, Sink, Source};
-use sat_script::{Reading, one_spelling};
+use sat_stream::{Reading, one_spelling};
 use std::alloc::{AllocError, Global};
 use std::sync::Wait;
 use std::thread::Threads;

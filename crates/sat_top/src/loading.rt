@@ -6,7 +6,7 @@ ghost use Rattle.sat_act.specs.declared.answer.Answer.TheVariants as ans;
 ghost use Rattle.sat_act.specs.declared.answer.Refusal.TheVariants as why;
 ghost use Rattle.sat_act.specs.Ranges.{IsActOf};
 ghost use Rattle.sat_world.specs.Stands.{StandsFor};
-ghost use Rattle.sat_script.specs.Reading.{AreActsOf};
+ghost use Rattle.sat_script.specs.Spelled.{AreActsOf};
 ghost use Rattle.sat_runs.specs.Running.{Does};
 ghost use Rattle.sat_settle.specs.LoadActs.{load_acts};
 ghost use Rattle.sat_settle.specs.LoadDraft.{drafted};

@@ -16,7 +16,7 @@ use crate::planning::plan_of;
 use crate::stream::{Stop, read_delay_text, read_script};
 use crate::words::{Command, command_of};
 use sat_outside::Source;
-use sat_script::{Reading, sound_readings};
+use sat_stream::{Reading, sound_readings};
 use std::alloc::{AllocError, Global};
 use std::thread::Threads;
 

@@ -2,8 +2,8 @@
 ghost use Rattle.std.specs.Prelude.{◌≡◌, ◌+◌, ◌++◌, ℕ, [], List, ◌≤◌, IfOk, IfSome, OnOk, None, Some, length};
 ghost use Rattle.sat_act.specs.declared.act.Act.{Act};
 ghost use Rattle.sat_world.specs.Stands.{StandsFor};
-ghost use Rattle.sat_script.specs.Stream.{behind};
-ghost use Rattle.sat_script.specs.Reading.{AreActsOf};
+ghost use Rattle.sat_stream.specs.Stream.{behind};
+ghost use Rattle.sat_script.specs.Spelled.{AreActsOf};
 ghost use Rattle.sat_act.specs.declared.entry.Entry.{Entry};
 ghost use Rattle.sat_act.specs.Runs.{IsRun};
 ghost use Rattle.sat_runs.specs.Runs.{ending, run_text};
@@ -13,7 +13,8 @@ ghost use Rattle.sat_top.specs.UnderWay.{AtWorld, DoesMore, IsKnown, IsWorldOf};
 use sat_act::{Act, Deployment};
 use sat_report::{write_fault, write_holdings};
 use sat_runs::answer_acts;
-use sat_script::{MOST_ACTS, Reading, ScriptFault};
+use sat_script::{MOST_ACTS, ScriptFault};
+use sat_stream::Reading;
 use sat_world::World;
 use std::alloc::{AllocError, Global};
 

@@ -3,7 +3,7 @@ use Rattle.std.proofs.lemmas.List.{take_more}
 use Rattle.sat_act.specs.declared.act.Act.{Act}
 use Rattle.sat_act.specs.declared.entry.Entry.{Entry}
 use Rattle.sat_act.specs.Ranges.{IsActOf}
-use Rattle.sat_script.specs.Reading.{AreActsOf}
+use Rattle.sat_script.specs.Spelled.{AreActsOf}
 use Rattle.sat_stitch.specs.Kept.{acts_of}
 use Rattle.sat_live.proofs.Journals.{acts_more, each_more}
 use Rattle.sat_live.proofs.lines.acts_in.Goals as goal

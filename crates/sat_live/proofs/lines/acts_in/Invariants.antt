@@ -1,5 +1,5 @@
 use Rattle.std.proofs.Common.{◌≡◌, take}
-use Rattle.sat_script.specs.Reading.{AreActsOf}
+use Rattle.sat_script.specs.Spelled.{AreActsOf}
 use Rattle.sat_stitch.specs.Kept.{acts_of}
 use Rattle.sat_live.proofs.lines.acts_in.Given as goal
 

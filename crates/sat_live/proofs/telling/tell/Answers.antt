@@ -1,7 +1,7 @@
 use Rattle.std.proofs.Common.{rules, ◌≡◌, List, Some, None, subst, ◌∙◌}
 use Rattle.std.specs.Prelude.{IfOk}
 use Rattle.sat_act.specs.declared.act.Act.{Act}
-use Rattle.sat_script.specs.Reading.{AreActsOf}
+use Rattle.sat_script.specs.Spelled.{AreActsOf}
 use Rattle.sat_undone.specs.Undone.{undone}
 use Rattle.sat_live.specs.Telling.{IsRunTold}
 use Rattle.sat_live.proofs.Outcomes.{told_run, told_undone}

@@ -1,5 +1,5 @@
 use Rattle.std.proofs.Common.{◌≡◌, ◌+◌, Some, take, drop}
-use Rattle.sat_script.specs.Reading.{AreActsOf}
+use Rattle.sat_script.specs.Spelled.{AreActsOf}
 use Rattle.sat_runs.proofs.Running.{Answers}
 use Rattle.sat_runs.proofs.acts.answer_acts.Given as goal
 

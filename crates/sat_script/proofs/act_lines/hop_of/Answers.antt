@@ -9,10 +9,10 @@ use Rattle.sat_script.proofs.act_lines.hop_of.Goals as goal
 
 pub returns : goal.returns
 returns c =
-    let t = c.in-Some.tree.now in
-    three_say c.args.header.now t t t _ _ _ _ form.Hop kind.Epoch kind.Node kind.Serializer (place c.in-Some.epoch) (at c.in-Some-node_in.from) (place c.in-Some-serializer_in.to) (act.Hop c.in-Some.epoch c.in-Some-node_in.from c.in-Some-serializer_in.to)
+    let t = c.in_ok-epoch.tree.now in
+    three_say c.args.header.now t t t _ _ _ _ form.Hop kind.Epoch kind.Node kind.Serializer (place c.in_ok-epoch.epoch) (at c.in_ok-from.from) (place c.in_ok-to.to) (act.Hop c.in_ok-epoch.epoch c.in_ok-from.from c.in_ok-to.to)
     refl refl refl refl refl
-    (hop_fits c.args.header.now t c.in-Some.epoch c.in-Some-node_in.from c.in-Some-serializer_in.to c.in-Some.ensures.tree c.in-Some-node_in.ensures.inside c.in-Some-serializer_in.ensures.inside (sym c.if-not-is_edge.ensures.edge))
-    (c.in-Some.ensures.read no_tree)
-    (node_read c.args.header.now t _ c.in-Some-node_in.from c.if-not-begins.ensures c.in-Some-node_in.ensures.node)
-    (serializer_read c.args.header.now t _ c.in-Some-serializer_in.to c.if-not-begins-2.ensures c.in-Some-serializer_in.ensures.serializer)
+    (hop_fits c.args.header.now t c.in_ok-epoch.epoch c.in_ok-from.from c.in_ok-to.to c.in_ok-epoch.ensures.tree c.in_ok-from.ensures.inside c.in_ok-to.ensures.inside (sym c.if-not-is_edge.ensures.edge))
+    (c.in_ok-epoch.ensures.read no_tree)
+    (node_read c.args.header.now t _ c.in_ok-from.from c.if-not-begins.ensures c.in_ok-from.ensures.node)
+    (serializer_read c.args.header.now t _ c.in_ok-to.to c.if-not-begins-2.ensures c.in_ok-to.ensures.serializer)

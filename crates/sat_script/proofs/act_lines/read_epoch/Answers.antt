@@ -6,8 +6,8 @@ use Rattle.sat_script.specs.Words.{number_to}
 use Rattle.sat_script.proofs.Once.{epoch_read}
 use Rattle.sat_script.proofs.act_lines.read_epoch.Goals as goal
 
-pub returns-in-Some-tree-clause-read : goal.returns-in-Some-tree-clause-read
-returns-in-Some-tree-clause-read c t =
-    let number : number_to (length c.args.header.now.plans) c.args.word.now ≡ Some c.in-Some.epoch = search rules in
-    let tree : tree_of c.args.header.now c.in-Some.epoch ≡ Some c.in-Some-tree.tree.now = search rules in
-    epoch_read c.args.header.now t c.in-Some-tree.tree.now c.args.word.now c.in-Some.epoch (ap (option_map place) number) tree
+pub returns-clause-read : goal.returns-clause-read
+returns-clause-read c t =
+    let number : number_to (length c.args.header.now.plans) c.args.word.now ≡ Some c.in_ok-epoch.epoch = search rules in
+    let tree : tree_of c.args.header.now c.in_ok-epoch.epoch ≡ Some c.in_ok-tree.tree.now = search rules in
+    epoch_read c.args.header.now t c.in_ok-tree.tree.now c.args.word.now c.in_ok-epoch.epoch (ap (option_map place) number) tree

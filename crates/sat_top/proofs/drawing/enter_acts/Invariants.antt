@@ -1,5 +1,5 @@
 use Rattle.std.proofs.Common.{◌≡◌, length, take, drop}
-use Rattle.sat_script.specs.Reading.{AreActsOf}
+use Rattle.sat_script.specs.Spelled.{AreActsOf}
 use Rattle.sat_top.proofs.drawing.enter_acts.Given as goal
 use Rattle.sat_top.specs.UnderWay.{IsEntering}
 

@@ -1,8 +1,8 @@
 use Rattle.sat_top.proofs.Faults.{has_fault}
 use Rattle.std.proofs.Common.{rules, arith, take, ◌+◌}
-use Rattle.sat_script.specs.Stream.{will_be}
+use Rattle.sat_stream.specs.Stream.{will_be}
 use Rattle.sat_top.proofs.Progress.{read_start, read_more, read_bounded, read_enough}
-use Rattle.sat_script.specs.declared.limits.TheConstants.{MOST_BYTES}
+use Rattle.sat_stream.specs.declared.limits.TheConstants.{MOST_BYTES}
 use Rattle.sat_top.proofs.stream.read_script.Goals as goal
 
 pub loop-taken-init : goal.loop-taken-init

@@ -1,6 +1,6 @@
-use Rattle.sat_script.specs.declared.limits.TheConstants.{MOST_BYTES}
+use Rattle.sat_stream.specs.declared.limits.TheConstants.{MOST_BYTES}
 use Rattle.std.proofs.Common.{◌≡◌, ◌≤◌, ◌-◌, None}
-use Rattle.sat_script.specs.Stream.{will_be, known_fault, bytes_of}
+use Rattle.sat_stream.specs.Stream.{will_be, known_fault, bytes_of}
 use Rattle.sat_top.proofs.Progress.{HasRead}
 use Rattle.sat_top.proofs.stream.read_script.Given as goal
 

@@ -1,6 +1,6 @@
 use Rattle.std.proofs.Common.{false, ◌≡◌, ℕ, List, subst, rules, arith, take, ◌+◌, ◌++◌, [], refl}
-use Rattle.sat_script.specs.Stream.{will_be, behind}
-use Rattle.sat_script.specs.declared.limits.TheConstants.{MOST_BYTES}
+use Rattle.sat_stream.specs.Stream.{will_be, behind}
+use Rattle.sat_stream.specs.declared.limits.TheConstants.{MOST_BYTES}
 use Rattle.sat_top.proofs.Progress.{read_bounded}
 use Rattle.sat_top.proofs.Streamed.{under_start, drained_start, fed, known_fed, few_under, answered, takes_on, front_of, front_on, front_whole, has_answered, keeps, zero_bytes, still_under, known_at_end, few_at_end, ends_whole, ends_early, ok_ended, err_front, err_stopped, not_done, stopped_before, stopped_in, drained_after, fresh_after, bytes_after}
 use Rattle.sat_outside.specs.Streams.{Takes}

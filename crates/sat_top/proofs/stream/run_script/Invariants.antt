@@ -1,7 +1,7 @@
-use Rattle.sat_script.specs.declared.limits.TheConstants.{MOST_BYTES}
+use Rattle.sat_stream.specs.declared.limits.TheConstants.{MOST_BYTES}
 use Rattle.std.proofs.Common.{◌≡◌, ◌≤◌, ◌-◌, ℕ, List, None}
 use Rattle.sat_outside.specs.Streams.{Takes}
-use Rattle.sat_script.specs.Stream.{known_fault, bytes_of}
+use Rattle.sat_stream.specs.Stream.{known_fault, bytes_of}
 use Rattle.sat_top.proofs.Streamed.{IsUnder, IsDrained}
 use Rattle.sat_top.proofs.stream.run_script.Given as goal
 

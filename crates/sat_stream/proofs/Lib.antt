@@ -1,0 +1,11 @@
+pub mod Cuts
+pub mod Meaning
+pub mod Pieces
+pub mod Spelled
+pub mod TreesRead
+pub mod HeadersRead
+pub mod Texts
+pub mod Whole
+pub mod Coming
+pub mod Faulty
+pub mod Drained

@@ -1,0 +1,4 @@
+pub mod Reading
+pub mod Stream
+pub mod Coming
+pub mod Laws

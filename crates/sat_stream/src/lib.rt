@@ -1,0 +1,11 @@
+//! Scripts in pieces: a reader that takes a text as it comes, and says what the whole text is.
+#![tactic(auto)]
+
+mod limits;
+mod lines;
+mod script;
+mod stream;
+
+pub use limits::{BYTES_END, LINE_BYTES, MOST_BYTES};
+pub use script::{Script, one_spelling, read_script, sound_readings};
+pub use stream::{Reading, ScriptReader};
