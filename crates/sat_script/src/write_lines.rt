@@ -31,8 +31,7 @@ fn add(line: &mut Vec<u8>, word: &[u8]) -> Result<(), AllocError>
     ensures { OnOk result (line.new.items ≡ line.old.items ++ 32 ∷ word.now) }
 {
     line.push(b' ')?;
-    line.extend_from_slice(word)?;
-    Ok(())
+    line.extend_from_slice(word)
 }
 
 // Adds a number to a line.
@@ -40,8 +39,7 @@ fn add_number(alloc: Global, line: &mut Vec<u8>, number: u64) -> Result<(), Allo
     ensures { OnOk result (line.new.items ≡ line.old.items ++ 32 ∷ decimal number) }
 {
     let digits = number.to_string(alloc)?;
-    add(line, digits.as_bytes())?;
-    Ok(())
+    add(line, digits.as_bytes())
 }
 
 // ---- lines of a word and numbers
@@ -63,12 +61,10 @@ fn add_with_comma(alloc: Global, list: &mut Vec<u8>, number: u16) -> Result<(), 
 {
     let digits = number.to_string(alloc)?;
     if list.is_empty() {
-        list.extend_from_slice(digits.as_bytes())?;
-        return Ok(());
+        return list.extend_from_slice(digits.as_bytes());
     }
     list.push(b',')?;
-    list.extend_from_slice(digits.as_bytes())?;
-    Ok(())
+    list.extend_from_slice(digits.as_bytes())
 }
 
 // Adds a site to a list with commas, where it is in a set.
@@ -78,8 +74,7 @@ fn add_site(alloc: Global, list: &mut Vec<u8>, set: SiteSet, site: u16) -> Resul
     if !set.has(site) {
         return Ok(());
     }
-    add_with_comma(alloc, list, site)?;
-    Ok(())
+    add_with_comma(alloc, list, site)
 }
 
 // The numbers of a set's sites, with commas between them.
@@ -97,14 +92,10 @@ fn parent_word(alloc: Global, parent: Option<u16>) -> Result<Vec<u8>, AllocError
     ensures { IfOk result (λ word. word.items ≡ parent_text parent) }
 {
     match parent {
-        None => {
-            let word = b"-".as_slice().to_vec(alloc)?;
-            Ok(word)
-        }
+        None => b"-".as_slice().to_vec(alloc),
         Some(number) => {
             let digits = number.to_string(alloc)?;
-            let word = digits.as_bytes().to_vec(alloc)?;
-            Ok(word)
+            digits.as_bytes().to_vec(alloc)
         }
     }
 }
@@ -114,8 +105,7 @@ fn add_node(alloc: Global, line: &mut Vec<u8>, node: NodeId) -> Result<(), Alloc
     ensures { OnOk result (line.new.items ≡ line.old.items ++ 32 ∷ node_text node) }
 {
     let text = node.text(alloc)?;
-    add(line, text.as_bytes())?;
-    Ok(())
+    add(line, text.as_bytes())
 }
 
 fn client_name(d: &Deployment, client: u16) -> &[u8]
@@ -187,10 +177,7 @@ pub fn plan_line(alloc: Global, plan: &Plan) -> Result<Vec<u8>, AllocError>
     ensures { IfOk result (λ line. line.items ≡ line_text (plan_words plan.now)) }
 {
     match plan {
-        Plan::Stamp => {
-            let line = b"plan stamp".as_slice().to_vec(alloc)?;
-            Ok(line)
-        }
+        Plan::Stamp => b"plan stamp".as_slice().to_vec(alloc),
         Plan::Tree(tree) => {
             let mut line = b"plan tree".as_slice().to_vec(alloc)?;
             add_parents(alloc, &mut line, tree)?;
