@@ -22,13 +22,13 @@ use Rattle.sat_act.specs.declared.deployment.Item.{Item}
 use Rattle.sat_act.specs.declared.deployment.ClientLine.{ClientLine}
 use Rattle.sat_act.specs.declared.deployment.Plan.{Plan}
 use Rattle.sat_act.specs.declared.deployment.Plan.TheVariants as plan
-use Rattle.sat_script.specs.Grammar.{is_end, is_ended, body_line, words_line, line_at, after, next_stage, with_parsed, with_act, with_settle, IsNew}
+use Rattle.sat_script.specs.Grammar.{is_end, is_ended, body_line, words_line, line_at, after, next_stage, with_parsed, with_act, with_settle}
 use Rattle.sat_script.specs.Causes.{bar, has_client, has_item}
 use Rattle.sat_script.specs.Table.{act_line}
 use Rattle.sat_script.specs.Grammar.{of_act}
 use Rattle.sat_script.specs.declared.dialect.Dialect.{Dialect}
 use Rattle.sat_script.specs.declared.fault.Cause.{Cause}
-use Rattle.sat_script.specs.Kept.{IsSited, IsOpened, IsWhole, HasHeader, IsFit}
+use Rattle.sat_script.specs.Kept.{IsSited, IsOpened, IsWhole, HasHeader, IsFit, Suits}
 use Rattle.sat_script.specs.Dialect.{limits_of}
 use Rattle.sat_script.specs.Spelled.{HaveNames}
 use Rattle.sat_script.specs.State.{State, start}
@@ -322,16 +322,21 @@ stands_after s p fit h =
 pub fit_after : (s : State) (line : List ℕ) (p : Parsed) → IsFit s → line_at s line ≡ Ok p → IsFit (after s p)
 fit_after s line p fit h = stands_after s p fit (line_is s line p fit h).stands
 
-new_of : (here : Stage) (s : State) (p : Parsed) → Stands here s p → IsNew s.header p
-new_of stage.Header s (parsed.Item item) h = h.new
-new_of stage.Header s (parsed.Client line) h = h.new
-new_of _ s (parsed.Item item) h = absurd h
-new_of _ s (parsed.Client line) h = absurd h
-new_of _ s _ h = tt
+suits_at : (here : Stage) (s : State) (p : Parsed) → s.stage ≡ here → Stands here s p → Suits s p
+suits_at stage.Start s parsed.Format e h = e
+suits_at stage.Sites s (parsed.Sites n) e h = e
+suits_at stage.Gears s (parsed.Gears n) e h = e
+suits_at stage.Header s (parsed.Item item) e h = (e, h.new)
+suits_at stage.Header s (parsed.Client line) e h = (e, h.new)
+suits_at stage.Header s (parsed.Plan p) e h = e
+suits_at stage.Header s parsed.Begin e h = e
+suits_at stage.Body s (parsed.Act a) e h = tt
+suits_at stage.Body s parsed.End e h = e
+suits_at _ s _ e h = absurd h
 
--- and a name that a good line brings is new
-pub new_after : (s : State) (line : List ℕ) (p : Parsed) → IsFit s → line_at s line ≡ Ok p → IsNew s.header p
-new_after s line p fit h = new_of s.stage s p (line_is s line p fit h).stands
+-- and it comes at its stage, and a name that it brings is new
+pub suits_after : (s : State) (line : List ℕ) (p : Parsed) → IsFit s → line_at s line ≡ Ok p → Suits s p
+suits_after s line p fit h = suits_at s.stage s p refl (line_is s line p fit h).stands
 
 pub fit_start : (dialect : Dialect) → IsFit (start dialect)
 fit_start dialect = record { header = refl; sites = omega arith; items = omega arith; clients = omega arith; plans = omega arith; acts = omega arith; settles = omega arith }

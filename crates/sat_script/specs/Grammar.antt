@@ -1,7 +1,7 @@
 -- The lines of a script, each by what the lines before it say. A line of the header has one definition, and its causes stand in it in
 -- their order: first what may keep it from having the form, then the causes that the form alone decides, and then those of its words.
 -- The lines of acts are the table's.
-use Rattle.std.specs.Prelude.{ℕ, ◌≡◌, ◌+◌, List, [], ◌∷◌, ◌++◌, Bool, true, false, ◌&&◌, ◌==◌, nat_lt, length, map, take, drop, is_none, Some, None, Ok, Err, if◌then◌else◌, codes, position}
+use Rattle.std.specs.Prelude.{ℕ, ◌+◌, List, [], ◌∷◌, ◌++◌, Bool, true, false, ◌&&◌, ◌==◌, nat_lt, length, map, take, drop, is_none, Some, None, Ok, Err, if◌then◌else◌, codes, position}
 use Rattle.std.specs.declared.option.Option.{Option}
 use Rattle.std.specs.declared.result.Result.{Result}
 use Rattle.std.specs.List.{list_all}
@@ -243,15 +243,9 @@ abbrev pub after : State → Parsed → State
 after s p =
     record { dialect = s.dialect; stage = next_stage s.stage p; header = with_parsed s.header p; acts = with_act s.acts p; settles = with_settle s.settles p }
 
--- what a good line says has a name of its own
-abbrev pub IsNew : Deployed → Parsed → Type 0
-IsNew d (parsed.Item item) = has_item d item.name ≡ false
-IsNew d (parsed.Client line) = has_client d line.name ≡ false
-IsNew d _ = Unit {0}
-
 -- what a caller is told of a good line
-abbrev pub told_line : Deployed → Parsed → Line
-told_line d parsed.Begin = line.Begin d
-told_line d (parsed.Act a) = line.Act a
-told_line d parsed.End = line.End
-told_line d _ = line.Header
+abbrev pub told_line : Parsed → Line
+told_line parsed.Begin = line.Begin
+told_line (parsed.Act a) = line.Act a
+told_line parsed.End = line.End
+told_line _ = line.Header

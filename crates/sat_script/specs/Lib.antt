@@ -1,5 +1,6 @@
 pub mod Words
 pub mod Names
+pub mod Header
 pub mod Dialect
 pub mod State
 pub mod Causes

@@ -4,7 +4,6 @@ use Rattle.std.specs.declared.option.Option.{Option}
 use Rattle.std.specs.declared.result.Result.{Result}
 use Rattle.sat_tree.specs.Shape.{TreeShape}
 use Rattle.sat_act.specs.declared.act.Act.{Act}
-use Rattle.sat_act.specs.Deployed.{Deployed}
 use Rattle.sat_script.specs.Grammar.{is_tree, line_at, close_at, after, told_line}
 use Rattle.sat_script.specs.State.{State, Seen, number_of}
 use Rattle.sat_script.specs.declared.fault.Cause.{Cause}
@@ -24,11 +23,7 @@ abbrev pub IsTreeOf : ℕ → TreeShape → Option TreeShape → Type 0
 IsTreeOf sites t None = is_tree sites t ≡ false
 IsTreeOf sites t (Some made) = (made ≡ t) × (is_tree sites t ≡ true)
 
--- the deployment and the acts that are known with what a good line says
-abbrev pub deployed_with : Option Deployed → Line → Option Deployed
-deployed_with known (line.Begin d) = Some d
-deployed_with known _ = known
-
+-- the acts that are known with what a good line says
 abbrev pub acts_with : List Act → Line → List Act
 acts_with acts (line.Act a) = acts ++ a ∷ []
 acts_with acts _ = acts
@@ -49,7 +44,7 @@ pub record IsFaultOf (s : State) (bytes : List ℕ) (fault : ScriptFault) : Type
 pub record IsGoodLine (s : State) (bytes : List ℕ) (line : Line) (new : Seen) : Type 0 where
   pub says : Parsed
   pub good : line_at s bytes ≡ Ok says
-  pub told : line ≡ told_line s.header says
+  pub told : line ≡ told_line says
   pub goes : new ≡ running (after s says)
 
 abbrev pub TakesFresh : State → Seen → Result Line ScriptFault → List ℕ → Type 0

@@ -3,7 +3,7 @@ use Rattle.std.specs.Prelude.{ℕ, ◌≡◌, ◌≤◌, List, length, map}
 use Rattle.std.specs.Global.{Vec}
 use Rattle.sat_act.specs.declared.deployment.Item.{Item}
 use Rattle.sat_act.specs.declared.deployment.ClientLine.{ClientLine}
-use Rattle.sat_act.specs.declared.deployment.Plan.{Plan}
+use Rattle.sat_act.specs.Deployed.{Deployed}
 use Rattle.sat_script.specs.declared.limits.TheConstants.{MOST_ITEMS, MOST_CLIENTS, MOST_PLANS}
 
 -- the bytes of each key
@@ -16,10 +16,12 @@ item_name_of item = item.name
 abbrev pub client_name_of : ClientLine → List ℕ
 client_name_of line = line.name
 
--- lists within their limits, and the names of the items and of the clients
-pub record AreNamed (items : List Item) (clients : List ClientLine) (plans : List Plan) (item_names client_names : List (List ℕ)) : Type 0 where
-  pub few_items : length items ≤ MOST_ITEMS
-  pub few_clients : length clients ≤ MOST_CLIENTS
-  pub few_plans : length plans ≤ MOST_PLANS
-  pub items_named : item_names ≡ map item_name_of items
-  pub clients_named : client_names ≡ map client_name_of clients
+-- lists within their limits, and beside them the numbers of sites and of gears, and the names of the items and of the clients
+pub record AreNamed (d : Deployed) (sites gears : ℕ) (item_names client_names : List (List ℕ)) : Type 0 where
+  pub few_items : length d.items ≤ MOST_ITEMS
+  pub few_clients : length d.clients ≤ MOST_CLIENTS
+  pub few_plans : length d.plans ≤ MOST_PLANS
+  pub sites_kept : sites ≡ d.sites
+  pub gears_kept : gears ≡ d.gears
+  pub items_named : item_names ≡ map item_name_of d.items
+  pub clients_named : client_names ≡ map client_name_of d.clients

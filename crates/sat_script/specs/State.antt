@@ -1,5 +1,5 @@
 -- What the lines so far say.
-use Rattle.std.specs.Prelude.{ℕ, ◌+◌, [], length}
+use Rattle.std.specs.Prelude.{ℕ, ◌+◌, [], length, Some, None}
 use Rattle.std.specs.declared.option.Option.{Option}
 use Rattle.sat_act.specs.Deployed.{Deployed}
 use Rattle.sat_script.specs.declared.dialect.Dialect.{Dialect}
@@ -28,6 +28,15 @@ no_header = record { sites = 0; gears = 0; items = []; clients = []; plans = [] 
 -- before the first line
 abbrev pub start : Dialect → State
 start dialect = record { dialect = dialect; stage = stage.Start; header = no_header; acts = 0; settles = 0 }
+
+-- the deployment that a header says, from the line `begin` on
+abbrev pub deployed_at : Stage → Deployed → Option Deployed
+deployed_at stage.Body d = Some d
+deployed_at stage.Ended d = Some d
+deployed_at _ d = None
+
+abbrev pub deployment_of : State → Option Deployed
+deployment_of s = deployed_at s.stage s.header
 
 -- the number of lines of items, clients and plans
 abbrev pub header_lines : Deployed → ℕ

@@ -49,7 +49,7 @@ fn has_shape(kind: Kind, word: &[u8]) -> bool
 }
 
 fn is_known(header: &Header, kind: Kind, word: &[u8]) -> bool
-    ensures { result ≡ known header.now kind word.now }
+    ensures { result ≡ known header.now.said kind word.now }
 {
     match kind {
         Kind::Client => header.client_of(word).is_some(),
@@ -91,7 +91,7 @@ fn serializer_of<'a>(tree: Option<&Tree>, word: &[u8]) -> Option<Said<'a>>
 // What a word says; a node stands in the tree of the epoch before it.
 #[inline(always)]
 fn says<'a>(header: &Header, tree: Option<&Tree>, kind: Kind, word: &'a [u8]) -> Option<Said<'a>>
-    ensures { option_map said_of result ≡ says header.now (shape_of (option_copied tree.entry)) kind word.now }
+    ensures { option_map said_of result ≡ says header.now.said (shape_of (option_copied tree.entry)) kind word.now }
 {
     match kind {
         Kind::Client => place_of(header.client_of(word)),
@@ -128,7 +128,7 @@ fn shapes(kinds: &[Kind], words: &[&[u8]]) -> bool
 }
 
 fn all_known(header: &Header, kinds: &[Kind], words: &[&[u8]]) -> bool
-    ensures { result ≡ all_known header.now kinds.now (map (λ word. word.now) words.now) }
+    ensures { result ≡ all_known header.now.said kinds.now (map (λ word. word.now) words.now) }
 {
     let Some((kind, kinds)) = kinds.split_first() else {
         return true;
@@ -149,7 +149,7 @@ fn all_say<'a>(
     said: &mut Args<'a>,
 ) -> Result<(), Cause>
     requires { length said.old.items + length kinds.now ≤ 4 }
-    ensures { SaysOn result said.old.items said.new.items (all_say header.now (shape_of (option_copied tree.entry)) kinds.now (map (λ word. word.now) words.now)) }
+    ensures { SaysOn result said.old.items said.new.items (all_say header.now.said (shape_of (option_copied tree.entry)) kinds.now (map (λ word. word.now) words.now)) }
 {
     let Some((kind, kinds)) = kinds.split_first() else {
         return Ok(());
@@ -193,8 +193,8 @@ fn begins(kind: Kind, word: &[u8]) -> bool
 
 // What an epoch says, and its tree.
 fn read_epoch<'h>(header: &'h Header, word: &[u8]) -> Option<(u16, &'h Tree)>
-    ensures read { (t : TreeShape) → IfSome result (λ read. IsReadWord header.now t Kind.Epoch word.now (place read.0) read.1.now) }
-    ensures tree { IfSome result (λ read. tree_of header.now read.0 ≡ Some read.1.now) }
+    ensures read { (t : TreeShape) → IfSome result (λ read. IsReadWord header.now.said t Kind.Epoch word.now (place read.0) read.1.now) }
+    ensures tree { IfSome result (λ read. tree_of header.now.said read.0 ≡ Some read.1.now) }
 {
     let epoch = number_to(header.plans(), word)?;
     let tree = header.tree(epoch)?;
@@ -248,7 +248,7 @@ fn pair_cause(from: u16, to: u16) -> Option<Cause>
 // Two sites that are one, or two nodes that are no edge.
 #[inline(always)]
 fn unfit(header: &Header, act: &Act) -> Option<Cause>
-    ensures { result ≡ unfit header.now act.now }
+    ensures { result ≡ unfit header.now.said act.now }
 {
     match act {
         Act::Bulk { from, to, .. } => pair_cause(*from, *to),
@@ -264,7 +264,7 @@ fn unfit(header: &Header, act: &Act) -> Option<Cause>
 // The act that words of a form say, unless its parts do not go together.
 #[inline(always)]
 fn said_act(alloc: Global, header: &Header, form: Form, said: &[Said]) -> Result<Act, Cause>
-    ensures { Gives result (said_act header.now form (Ok (map said_of said.now))) }
+    ensures { Gives result (said_act header.now.said form (Ok (map said_of said.now))) }
 {
     let act = act_of(alloc, form, said)?;
     match unfit(header, &act) {
@@ -318,7 +318,7 @@ fn is_end(words: &[&[u8]]) -> bool
 #[inline(always)]
 #[tactic(auto, using(crate::proofs::Quick::site_at))]
 fn read_site(header: &Header, word: &[u8]) -> Option<u16>
-    ensures { IfSome result (λ site. (t : TreeShape) → IsReadWord header.now t Kind.Site word.now (place site) t) }
+    ensures { IfSome result (λ site. (t : TreeShape) → IsReadWord header.now.said t Kind.Site word.now (place site) t) }
 {
     number_below(header.sites(), word)
 }
@@ -326,7 +326,7 @@ fn read_site(header: &Header, word: &[u8]) -> Option<u16>
 #[inline(always)]
 #[tactic(auto, using(crate::proofs::Quick::gear_at))]
 fn read_gear(header: &Header, word: &[u8]) -> Option<u16>
-    ensures { IfSome result (λ gear. (t : TreeShape) → IsReadWord header.now t Kind.Gear word.now (place gear) t) }
+    ensures { IfSome result (λ gear. (t : TreeShape) → IsReadWord header.now.said t Kind.Gear word.now (place gear) t) }
 {
     number_below(header.gears(), word)
 }
@@ -334,8 +334,8 @@ fn read_gear(header: &Header, word: &[u8]) -> Option<u16>
 #[inline(always)]
 #[tactic(auto, using(crate::proofs::Quick::client_at))]
 fn read_client(header: &Header, word: &[u8]) -> Option<u16>
-    requires { HaveNames header.now }
-    ensures { IfSome result (λ client. (t : TreeShape) → IsReadWord header.now t Kind.Client word.now (place client) t) }
+    requires { HaveNames header.now.said }
+    ensures { IfSome result (λ client. (t : TreeShape) → IsReadWord header.now.said t Kind.Client word.now (place client) t) }
 {
     header.client_of(word)
 }
@@ -343,8 +343,8 @@ fn read_client(header: &Header, word: &[u8]) -> Option<u16>
 #[inline(always)]
 #[tactic(auto, using(crate::proofs::Quick::item_at))]
 fn read_item(header: &Header, word: &[u8]) -> Option<u16>
-    requires { HaveNames header.now }
-    ensures { IfSome result (λ item. (t : TreeShape) → IsReadWord header.now t Kind.Item word.now (place item) t) }
+    requires { HaveNames header.now.said }
+    ensures { IfSome result (λ item. (t : TreeShape) → IsReadWord header.now.said t Kind.Item word.now (place item) t) }
 {
     header.item_of(word)
 }
@@ -359,7 +359,7 @@ fn read_value(alloc: Global, word: &[u8]) -> Option<Value>
 
 #[inline(always)]
 fn bulk_of(header: &Header, from: &[u8], gear: &[u8], to: &[u8]) -> Option<Act>
-    ensures { IfSome result (λ act. SaysAct header.now (codes "bulk") (from.now ∷ gear.now ∷ to.now ∷ []) act) }
+    ensures { IfSome result (λ act. SaysAct header.now.said (codes "bulk") (from.now ∷ gear.now ∷ to.now ∷ []) act) }
 {
     let from = read_site(header, from)?;
     let gear = read_gear(header, gear)?;
@@ -377,7 +377,7 @@ fn bulk_of(header: &Header, from: &[u8], gear: &[u8], to: &[u8]) -> Option<Act>
 
 #[inline(always)]
 fn tick_of(header: &Header, site: &[u8], gear: &[u8], ts: &[u8]) -> Option<Act>
-    ensures { IfSome result (λ act. SaysAct header.now (codes "tick") (site.now ∷ gear.now ∷ ts.now ∷ []) act) }
+    ensures { IfSome result (λ act. SaysAct header.now.said (codes "tick") (site.now ∷ gear.now ∷ ts.now ∷ []) act) }
 {
     let site = read_site(header, site)?;
     let gear = read_gear(header, gear)?;
@@ -387,8 +387,8 @@ fn tick_of(header: &Header, site: &[u8], gear: &[u8], ts: &[u8]) -> Option<Act>
 
 #[inline(always)]
 fn beat_in_of(header: &Header, from: &[u8], to: &[u8], number: &[u8]) -> Option<Act>
-    requires { HaveNames header.now }
-    ensures { IfSome result (λ act. SaysAct header.now (codes "beatin") (from.now ∷ to.now ∷ number.now ∷ []) act) }
+    requires { HaveNames header.now.said }
+    ensures { IfSome result (λ act. SaysAct header.now.said (codes "beatin") (from.now ∷ to.now ∷ number.now ∷ []) act) }
 {
     let from = read_site(header, from)?;
     let to = read_site(header, to)?;
@@ -401,7 +401,7 @@ fn beat_in_of(header: &Header, from: &[u8], to: &[u8], number: &[u8]) -> Option<
 
 #[inline(always)]
 fn hop_of(header: &Header, epoch: &[u8], from: &[u8], to: &[u8]) -> Option<Act>
-    ensures { IfSome result (λ act. SaysAct header.now (codes "hop") (epoch.now ∷ from.now ∷ to.now ∷ []) act) }
+    ensures { IfSome result (λ act. SaysAct header.now.said (codes "hop") (epoch.now ∷ from.now ∷ to.now ∷ []) act) }
 {
     let (epoch, tree) = read_epoch(header, epoch)?;
     if !begins(Kind::Node, from) {
@@ -420,8 +420,8 @@ fn hop_of(header: &Header, epoch: &[u8], from: &[u8], to: &[u8]) -> Option<Act>
 
 #[inline(always)]
 fn write_of(alloc: Global, header: &Header, client: &[u8], item: &[u8], value: &[u8]) -> Option<Act>
-    requires { HaveNames header.now }
-    ensures { IfSome result (λ act. SaysAct header.now (codes "write") (client.now ∷ item.now ∷ value.now ∷ []) act) }
+    requires { HaveNames header.now.said }
+    ensures { IfSome result (λ act. SaysAct header.now.said (codes "write") (client.now ∷ item.now ∷ value.now ∷ []) act) }
 {
     let client = read_client(header, client)?;
     let item = read_item(header, item)?;
@@ -435,8 +435,8 @@ fn write_of(alloc: Global, header: &Header, client: &[u8], item: &[u8], value: &
 
 #[inline(always)]
 fn read_of(header: &Header, client: &[u8], item: &[u8]) -> Option<Act>
-    requires { HaveNames header.now }
-    ensures { IfSome result (λ act. SaysAct header.now (codes "read") (client.now ∷ item.now ∷ []) act) }
+    requires { HaveNames header.now.said }
+    ensures { IfSome result (λ act. SaysAct header.now.said (codes "read") (client.now ∷ item.now ∷ []) act) }
 {
     let client = read_client(header, client)?;
     let item = read_item(header, item)?;
@@ -445,7 +445,7 @@ fn read_of(header: &Header, client: &[u8], item: &[u8]) -> Option<Act>
 
 #[inline(always)]
 fn beat_of(header: &Header, from: &[u8], to: &[u8]) -> Option<Act>
-    ensures { IfSome result (λ act. SaysAct header.now (codes "beat") (from.now ∷ to.now ∷ []) act) }
+    ensures { IfSome result (λ act. SaysAct header.now.said (codes "beat") (from.now ∷ to.now ∷ []) act) }
 {
     let from = read_site(header, from)?;
     let to = read_site(header, to)?;
@@ -457,8 +457,8 @@ fn beat_of(header: &Header, from: &[u8], to: &[u8]) -> Option<Act>
 
 #[inline(always)]
 fn move_of(header: &Header, client: &[u8], site: &[u8]) -> Option<Act>
-    requires { HaveNames header.now }
-    ensures { IfSome result (λ act. SaysAct header.now (codes "move") (client.now ∷ site.now ∷ []) act) }
+    requires { HaveNames header.now.said }
+    ensures { IfSome result (λ act. SaysAct header.now.said (codes "move") (client.now ∷ site.now ∷ []) act) }
 {
     let client = read_client(header, client)?;
     let site = read_site(header, site)?;
@@ -467,8 +467,8 @@ fn move_of(header: &Header, client: &[u8], site: &[u8]) -> Option<Act>
 
 #[inline(always)]
 fn attach_of(header: &Header, client: &[u8], site: &[u8]) -> Option<Act>
-    requires { HaveNames header.now }
-    ensures { IfSome result (λ act. SaysAct header.now (codes "attach") (client.now ∷ site.now ∷ []) act) }
+    requires { HaveNames header.now.said }
+    ensures { IfSome result (λ act. SaysAct header.now.said (codes "attach") (client.now ∷ site.now ∷ []) act) }
 {
     let client = read_client(header, client)?;
     let site = read_site(header, site)?;
@@ -477,8 +477,8 @@ fn attach_of(header: &Header, client: &[u8], site: &[u8]) -> Option<Act>
 
 #[inline(always)]
 fn leave_of(header: &Header, client: &[u8]) -> Option<Act>
-    requires { HaveNames header.now }
-    ensures { IfSome result (λ act. SaysAct header.now (codes "leave") (client.now ∷ []) act) }
+    requires { HaveNames header.now.said }
+    ensures { IfSome result (λ act. SaysAct header.now.said (codes "leave") (client.now ∷ []) act) }
 {
     let client = read_client(header, client)?;
     Some(Act::Leave { client })
@@ -503,7 +503,7 @@ fn act_of_site(form: Form, site: u16) -> Option<Act>
 
 #[inline(always)]
 fn site_act_of(header: &Header, word: &[u8], site: &[u8]) -> Option<Act>
-    ensures { IfSome result (λ act. SaysAct header.now word.now (site.now ∷ []) act) }
+    ensures { IfSome result (λ act. SaysAct header.now.said word.now (site.now ∷ []) act) }
 {
     let form = form_of_one(word)?;
     let site = read_site(header, site)?;
@@ -513,8 +513,8 @@ fn site_act_of(header: &Header, word: &[u8], site: &[u8]) -> Option<Act>
 /// The act that a word and one behind it say. Of rare acts, and where the line may be bad, it says nothing.
 #[inline(always)]
 pub fn act_of_two(header: &Header, word: &[u8], one: &[u8]) -> Option<Act>
-    requires { HaveNames header.now }
-    ensures { IfSome result (λ act. SaysAct header.now word.now (one.now ∷ []) act) }
+    requires { HaveNames header.now.said }
+    ensures { IfSome result (λ act. SaysAct header.now.said word.now (one.now ∷ []) act) }
 {
     match word {
         [b'l', b'e', b'a', b'v', b'e'] => leave_of(header, one),
@@ -525,8 +525,8 @@ pub fn act_of_two(header: &Header, word: &[u8], one: &[u8]) -> Option<Act>
 /// The act that a word and two behind it say, as above.
 #[inline(always)]
 pub fn act_of_three(header: &Header, word: &[u8], one: &[u8], two: &[u8]) -> Option<Act>
-    requires { HaveNames header.now }
-    ensures { IfSome result (λ act. SaysAct header.now word.now (one.now ∷ two.now ∷ []) act) }
+    requires { HaveNames header.now.said }
+    ensures { IfSome result (λ act. SaysAct header.now.said word.now (one.now ∷ two.now ∷ []) act) }
 {
     match word {
         [b'r', b'e', b'a', b'd'] => read_of(header, one, two),
@@ -552,8 +552,8 @@ pub fn act_of_four(
     two: &[u8],
     three: &[u8],
 ) -> Option<Act>
-    requires { HaveNames header.now }
-    ensures { IfSome result (λ act. SaysAct header.now word.now (one.now ∷ two.now ∷ three.now ∷ []) act) }
+    requires { HaveNames header.now.said }
+    ensures { IfSome result (λ act. SaysAct header.now.said word.now (one.now ∷ two.now ∷ three.now ∷ []) act) }
 {
     match word {
         [b'h', b'o', b'p'] => hop_of(header, one, two, three),

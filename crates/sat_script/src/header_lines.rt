@@ -160,7 +160,7 @@ fn client_line(alloc: Global, place: &Place, name: &[u8], site: &[u8]) -> Result
 
 #[tactic(auto, unfolding(crate::specs::Grammar::begin_line))]
 fn begin_line(header: &Header) -> Result<Parsed, Cause>
-    ensures { Gives result (begin_line header.now) }
+    ensures { Gives result (begin_line header.now.said) }
 {
     if header.plans() == 0 {
         Err(Cause::BadHeader)

@@ -1,13 +1,13 @@
 //! Lines: what a caller is told of one, and what it says to the reader.
-use sat_act::{Act, ClientLine, Deployment, Item, Plan};
+use sat_act::{Act, ClientLine, Item, Plan};
 
 /// What a caller is told of a good line.
 #[derive(Drop)]
 pub enum Line {
     /// A line of the header before `begin`.
     Header,
-    /// The line `begin`, with the deployment that the header says.
-    Begin(Deployment),
+    /// The line `begin`: from here on the reader has the deployment that the header says.
+    Begin,
     Act(Act),
     /// The line `end`.
     End,

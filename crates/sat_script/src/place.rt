@@ -1,10 +1,10 @@
 //! What the lines so far say: where the next line stands, and what may stand there.
 ghost use Rattle.std.specs.Prelude.{◌≡◌, ◌≤◌, ◌↔◌, ◌++◌, [], ◌∷◌, IsTrue, IfOk, OnOk, OnErr, MatchResult, Some, None, length};
 ghost use Rattle.sat_script.specs.Dialect.{limits_of};
-ghost use Rattle.sat_script.specs.State.{start, number_of};
+ghost use Rattle.sat_script.specs.State.{start, number_of, deployment_of};
 ghost use Rattle.sat_script.specs.Causes.{has_room, bar};
-ghost use Rattle.sat_script.specs.Grammar.{after, IsNew, told_line};
-ghost use Rattle.sat_script.specs.Kept.{IsFit};
+ghost use Rattle.sat_script.specs.Grammar.{after, told_line};
+ghost use Rattle.sat_script.specs.Kept.{IsFit, Suits};
 ghost use Rattle.sat_script.specs.Said.{TakesActs};
 ghost use Rattle.sat_script.specs.Spelled.{HaveNames};
 ghost use Rattle.sat_script.specs.declared.line.Parsed.TheVariants as parsed;
@@ -14,7 +14,7 @@ use crate::header::Header;
 use crate::limits::{MOST_ACTS, MOST_PLANS};
 use crate::line::{Line, Parsed, Stage};
 use crate::{Cause, Dialect};
-use sat_act::{Act, Acts};
+use sat_act::{Act, Acts, Deployment};
 use std::alloc::{AllocError, Global};
 use std::marker::Model;
 
@@ -30,13 +30,13 @@ pub struct Place {
 
 impl Model for Place {
     ghost use Rattle.sat_script.specs.State.{State};
-    ghost use Rattle.sat_script.specs.Kept.{IsFit};
+    ghost use Rattle.sat_script.specs.Kept.{IsKept};
 
     ghost Value = { State };
 
-    ghost view = { λ a. record { dialect = a.dialect; stage = a.stage; header = a.header; acts = a.acts; settles = a.settles } };
+    ghost view = { λ a. record { dialect = a.dialect; stage = a.stage; header = a.header.said; acts = a.acts; settles = a.settles } };
 
-    ghost invariant = { λ a. IsFit (record { dialect = a.dialect; stage = a.stage; header = a.header; acts = a.acts; settles = a.settles }) };
+    ghost invariant = { λ a. IsKept (record { dialect = a.dialect; stage = a.stage; header = a.header.said; acts = a.acts; settles = a.settles }) a.header.whole };
 }
 
 impl Place {
@@ -63,10 +63,25 @@ impl Place {
     /// The header as far as it has come.
     #[tactic(auto, using(crate::proofs::Fits::fit_names))]
     pub fn header(&self) -> &Header
-        ensures header { result.now ≡ self.now.header }
-        ensures names { HaveNames result.now }
+        ensures header { result.now.said ≡ self.now.header }
+        ensures names { HaveNames result.now.said }
     {
         &self.header
+    }
+
+    /// The deployment that the header says, once the line `begin` has come.
+    pub fn deployment(&self) -> &Option<Deployment>
+        ensures { result.now ≡ deployment_of self.now }
+    {
+        self.header.deployment()
+    }
+
+    /// The same, given away.
+    pub fn into_deployment(self) -> Option<Deployment>
+        ensures { result ≡ deployment_of self }
+    {
+        let Place { header, .. } = self;
+        header.into_deployment()
     }
 
     /// The number of sites.
@@ -163,8 +178,8 @@ impl Place {
     /// Takes what a good line says. For want of memory all is as before.
     pub fn keep(&mut self, alloc: Global, parsed: Parsed) -> Result<Line, AllocError>
         requires fits { IsFit (after self.old parsed) }
-        requires new { IsNew self.old.header parsed }
-        ensures ok { IfOk result (λ line. (line ≡ told_line self.old.header parsed) × (self.new ≡ after self.old parsed)) }
+        requires suits { Suits self.old parsed }
+        ensures ok { IfOk result (λ line. (line ≡ told_line parsed) × (self.new ≡ after self.old parsed)) }
         ensures err { OnErr result (self.new ≡ self.old) }
         ensures fit { IsFit self.new }
     {
@@ -196,9 +211,9 @@ impl Place {
                 Ok(Line::Header)
             }
             Parsed::Begin => {
-                let deployment = self.header.deployment(alloc)?;
+                self.header.begin(alloc);
                 self.stage = Stage::Body;
-                Ok(Line::Begin(deployment))
+                Ok(Line::Begin)
             }
             Parsed::Act(act) => {
                 if matches!(act, Act::Settle) {

@@ -1,10 +1,10 @@
 //! A reader of lines.
 ghost use Rattle.std.specs.Prelude.{◌≡◌, ◌↔◌, ◌++◌, [], ◌∷◌, IsTrue, IfErr, IfSome, OnOk, None, Some, Ok, map, take};
 ghost use Rattle.sat_script.specs.Dialect.{dialect_of};
-ghost use Rattle.sat_script.specs.State.{start, number_of, fault_at};
-ghost use Rattle.sat_script.specs.Grammar.{words_line, line_at, close_in, after, IsNew, told_line};
-ghost use Rattle.sat_script.specs.Kept.{IsFit};
-ghost use Rattle.sat_script.specs.Lines.{Gives, Takes, Closes, running, failed, deployed_with, acts_with};
+ghost use Rattle.sat_script.specs.State.{start, number_of, fault_at, deployment_of};
+ghost use Rattle.sat_script.specs.Grammar.{words_line, line_at, close_in, after, told_line};
+ghost use Rattle.sat_script.specs.Kept.{IsFit, Suits};
+ghost use Rattle.sat_script.specs.Lines.{Gives, Takes, Closes, running, failed, acts_with};
 ghost use Rattle.sat_script.specs.Words.{words_of};
 ghost use Rattle.sat_script.specs.declared.line.Parsed.TheVariants as parsed;
 
@@ -132,6 +132,21 @@ impl Reader {
         self.alloc
     }
 
+    /// The deployment that the header says, once the line `begin` has come.
+    pub fn deployment(&self) -> &Option<Deployment>
+        ensures { result.now ≡ deployment_of self.now.state }
+    {
+        self.place.deployment()
+    }
+
+    /// The same, given away.
+    pub fn into_deployment(self) -> Option<Deployment>
+        ensures { result ≡ deployment_of self.state }
+    {
+        let Reader { place, .. } = self;
+        place.into_deployment()
+    }
+
     /// Whether the line `end` has come.
     pub fn has_ended(&self) -> bool
         ensures { IsTrue result ↔ (self.now.state.stage ≡ Stage.Ended) }
@@ -187,31 +202,21 @@ impl Reader {
         }
     }
 
-    /// Takes what a good line says, and keeps a deployment and an act. For want of memory it fails at that line.
-    pub fn keep_in(
-        &mut self,
-        parsed: Parsed,
-        deployment: &mut Option<Deployment>,
-        acts: &mut Acts,
-    ) -> Result<(), ScriptFault>
+    /// Takes what a good line says, and adds an act to others. For want of memory it fails at that line.
+    pub fn keep_in(&mut self, parsed: Parsed, acts: &mut Acts) -> Result<(), ScriptFault>
         requires fits { IsFit (after self.old.state parsed) }
-        requires new { IsNew self.old.state.header parsed }
+        requires suits { Suits self.old.state parsed }
         ensures ok { OnOk result ((self.new ≡ record { state = after self.old.state parsed; fault = self.old.fault })
-            × (deployment.new ≡ deployed_with deployment.old (told_line self.old.state.header parsed))
-            × (acts.new ≡ acts_with acts.old (told_line self.old.state.header parsed))) }
-        ensures err { IfErr result (λ fault. (fault ≡ fault_at self.old.state Cause.Memory) × (self.new ≡ failed self.old.state fault)
-            × (deployment.new ≡ deployment.old) × (acts.new ≡ acts.old)) }
+            × (acts.new ≡ acts_with acts.old (told_line parsed))) }
+        ensures err { IfErr result (λ fault. (fault ≡ fault_at self.old.state Cause.Memory) × (self.new ≡ failed self.old.state fault) × (acts.new ≡ acts.old)) }
     {
         if let Parsed::Act(act) = parsed {
             return self.keep_act(act, acts);
         }
         match self.place.keep(self.alloc, parsed) {
-            Ok(Line::Begin(said)) => {
-                *deployment = Some(said);
-                Ok(())
-            }
             Ok(Line::Act(_)) => unreachable!(),
             Ok(Line::Header) => Ok(()),
+            Ok(Line::Begin) => Ok(()),
             Ok(Line::End) => Ok(()),
             Err(_) => Err(self.fail(Cause::Memory)),
         }

@@ -6,17 +6,15 @@ use Rattle.std.proofs.lemmas.List.{append-nil, append_assoc, length-append}
 use Rattle.sat_act.specs.declared.act.Act.{Act}
 use Rattle.sat_act.specs.Deployed.{Deployed}
 use Rattle.sat_script.specs.declared.dialect.Dialect.{Dialect}
-use Rattle.sat_script.specs.Grammar.{line_at, after, is_ended, told_line}
+use Rattle.sat_script.specs.Grammar.{line_at, after, next_stage, with_parsed, is_ended, told_line}
 use Rattle.sat_script.specs.Kept.{IsFit, IsWhole, HasHeader}
 use Rattle.sat_stream.specs.Coming.{HasSaid, AreWhole}
 use Rattle.sat_stream.specs.Laws.{IsRead}
-use Rattle.sat_script.specs.Lines.{running, failed, deployed_with, acts_with}
-use Rattle.sat_script.specs.declared.line.Line.{Line}
-use Rattle.sat_script.specs.declared.line.Line.TheVariants as line
+use Rattle.sat_script.specs.Lines.{running, failed, acts_with}
 use Rattle.sat_stream.specs.Reading.{reading, with_line, stopped, bad}
 use Rattle.sat_script.specs.Spelled.{AreActsOf, Spells}
-use Rattle.sat_script.specs.State.{State, Seen, number_of, fault_at}
-use Rattle.sat_stream.specs.Stream.{WholeLines, Came, means, will_be, bytes_of, known_fault, kept, meaning, stopped_at, stuck_with, GoesOn, StopsAt, HasTaken, HasStopped, TakesPiece, goes_on}
+use Rattle.sat_script.specs.State.{State, Seen, number_of, fault_at, deployed_at, deployment_of}
+use Rattle.sat_stream.specs.Stream.{WholeLines, lines_seen, Came, means, will_be, bytes_of, known_fault, kept, meaning, stopped_at, stuck_with, GoesOn, StopsAt, HasTaken, HasStopped, TakesPiece, goes_on}
 use Rattle.sat_script.specs.Words.{HasNo, IsCut}
 use Rattle.sat_script.specs.declared.fault.Cause.{Cause}
 use Rattle.sat_script.specs.declared.fault.Cause.TheVariants.{Memory, AfterEnd, LongLine}
@@ -30,6 +28,7 @@ use Rattle.sat_script.specs.declared.line.Stage.TheVariants as stage
 use Rattle.sat_stream.specs.declared.stream.Reading.{Reading}
 use Rattle.sat_script.proofs.Choices.{tested}
 use Rattle.sat_script.proofs.Fits.{line_is, fit_after}
+use Rattle.sat_script.proofs.Stands.{Stands}
 use Rattle.sat_stream.proofs.Meaning.{IsStuck, stuck_cause, goes_on-stuck}
 use Rattle.sat_stream.proofs.Pieces.{fresh, part_keeps, line_fails, line_goes}
 use Rattle.sat_stream.proofs.Whole.{read_spells, line_counted, lines_counted, said_after, few_after}
@@ -69,7 +68,7 @@ whole_said dialect stage.Ended d deployment acts kept h = (subst (λ (o : Option
 whole_said dialect _ d deployment acts kept h = (subst (λ (o : Option Deployed). IfSome o (λ d. IsWhole d × AreActsOf d acts)) (sym h.0) tt, λ _. h.1)
 
 pub good_goes : (old new : WholeLines) (line : List ℕ) (p : Parsed) → AreWhole old → old.seen.fault ≡ None → line_at old.seen.state line ≡ Ok p
-    → new.seen ≡ running (after old.seen.state p) → kept new.deployment new.acts ≡ with_line (kept old.deployment old.acts) (told_line old.seen.state.header p) → GoesOn old new line
+    → new.seen ≡ running (after old.seen.state p) → kept new.deployment new.acts ≡ with_line old.seen.state.header (kept old.deployment old.acts) (told_line p) → GoesOn old new line
 good_goes old new line p whole none good goes keeps = record {
   fresh = ap (λ (seen : Seen). seen.fault) goes;
   same = λ more.
@@ -84,7 +83,7 @@ good_goes old new line p whole none good goes keeps = record {
 }
 
 pub good_whole : (old new : WholeLines) (line : List ℕ) (p : Parsed) → AreWhole old → old.seen.fault ≡ None → line_at old.seen.state line ≡ Ok p
-    → new.seen ≡ running (after old.seen.state p) → kept new.deployment new.acts ≡ with_line (kept old.deployment old.acts) (told_line old.seen.state.header p) → AreWhole new
+    → new.seen ≡ running (after old.seen.state p) → kept new.deployment new.acts ≡ with_line old.seen.state.header (kept old.deployment old.acts) (told_line p) → AreWhole new
 good_whole old new line p whole none good goes keeps =
     let is = line_is old.seen.state line p whole.fit good in
     let r : Reading = kept old.deployment old.acts in
@@ -102,34 +101,41 @@ pub record KeptLine (old new : WholeLines) (line : List ℕ) (result : Result (U
   pub takes : MatchResult result (λ _. GoesOn old new line) (λ fault. StopsAt old new line fault)
   pub whole : AreWhole new
 
-lines_same : (l : WholeLines) (seen : Seen) (deployment : Option Deployed) (acts : List Act) → l.seen ≡ seen → l.deployment ≡ deployment → l.acts ≡ acts → l ≡ record { seen = seen; deployment = deployment; acts = acts }
-lines_same l seen deployment acts e d a = rw (← e, ← d, ← a) refl
-
--- what a good line adds, part by part
-adds : (new : WholeLines) (deployment : Option Deployed) (acts : List Act) (l : Line) → new.deployment ≡ deployed_with deployment l → new.acts ≡ acts_with acts l
-    → kept new.deployment new.acts ≡ with_line (kept deployment acts) l
-adds new deployment acts l d a = rw (d, a) (go l)
-  where
-    go : (l : Line) → kept (deployed_with deployment l) (acts_with acts l) ≡ with_line (kept deployment acts) l
-    go (line.Act more) = refl
-    go (line.Begin more) = refl
-    go line.Header = refl
-    go line.End = refl
+-- what a good line adds to what was said by then
+adds : (here : Stage) (s : State) (p : Parsed) (acts : List Act) → Stands here s p
+    → kept (deployed_at (next_stage here p) (with_parsed s.header p)) (acts_with acts (told_line p)) ≡ with_line s.header (kept (deployed_at here s.header) acts) (told_line p)
+adds stage.Start s parsed.Format acts h = refl
+adds stage.Sites s (parsed.Sites n) acts h = refl
+adds stage.Gears s (parsed.Gears n) acts h = refl
+adds stage.Header s (parsed.Item item) acts h = refl
+adds stage.Header s (parsed.Client line) acts h = refl
+adds stage.Header s (parsed.Plan p) acts h = refl
+adds stage.Header s parsed.Begin acts h = refl
+adds stage.Body s (parsed.Act a) acts h = refl
+adds stage.Body s parsed.End acts h = refl
+adds _ s _ acts h = absurd h
 
 running_on : (f : Option ScriptFault) (s : State) → f ≡ None → (let seen : Seen = record { state = s; fault = f } in seen) ≡ running s
 running_on f s e = ap (λ (f : Option ScriptFault). (let seen : Seen = record { state = s; fault = f } in seen)) e
 
-pub kept_line : (old new : WholeLines) (line : List ℕ) (p : Parsed) (result : Result (Unit {0}) ScriptFault) → AreWhole old → old.seen.fault ≡ None → line_at old.seen.state line ≡ Ok p
-    → OnOk result ((new.seen ≡ record { state = after old.seen.state p; fault = old.seen.fault }) × (new.deployment ≡ deployed_with old.deployment (told_line old.seen.state.header p)) × (new.acts ≡ acts_with old.acts (told_line old.seen.state.header p)))
-    → IfErr result (λ fault. (fault ≡ fault_at old.seen.state Memory) × (new.seen ≡ failed old.seen.state fault) × (new.deployment ≡ old.deployment) × (new.acts ≡ old.acts))
-    → KeptLine old new line result
-kept_line old new line p (Ok x) whole none good ok err =
-    let goes = ok.0 ∙ running_on old.seen.fault (after old.seen.state p) none in
-    let keeps = adds new old.deployment old.acts (told_line old.seen.state.header p) ok.1 ok.2 in
-    record { takes = good_goes old new line p whole none good goes keeps; whole = good_whole old new line p whole none good goes keeps }
-kept_line old new line p (Err told) whole none good ok err =
-    let stays = lines_same new (failed old.seen.state told) old.deployment old.acts err.1 err.2 err.3 in
-    record { takes = bad_stops old new line told Memory stays err.0 none (λ other. absurd (other refl)); whole = stopped_whole old new told whole stays }
+pub kept_line : (old new : Seen) (acts more : List Act) (line : List ℕ) (p : Parsed) (result : Result (Unit {0}) ScriptFault) → AreWhole (lines_seen old acts) → old.fault ≡ None → line_at old.state line ≡ Ok p
+    → OnOk result ((new ≡ record { state = after old.state p; fault = old.fault }) × (more ≡ acts_with acts (told_line p)))
+    → IfErr result (λ fault. (fault ≡ fault_at old.state Memory) × (new ≡ failed old.state fault) × (more ≡ acts))
+    → KeptLine (lines_seen old acts) (lines_seen new more) line result
+kept_line old new acts more line p (Ok x) whole none good ok err =
+    let goes = ok.0 ∙ running_on old.fault (after old.state p) none in
+    let keeps =
+    ap (λ (seen : Seen). kept (deployment_of seen.state) more) goes
+    ∙ ap (kept (deployment_of (after old.state p))) ok.1
+    ∙ adds old.state.stage old.state p acts (line_is old.state line p whole.fit good).stands in
+    let before = lines_seen old acts in
+    let now = lines_seen new more in
+    record { takes = good_goes before now line p whole none good goes keeps; whole = good_whole before now line p whole none good goes keeps }
+kept_line old new acts more line p (Err told) whole none good ok err =
+    let before = lines_seen old acts in
+    let now = lines_seen new more in
+    let stays : now ≡ stopped_at before told = ap (λ (seen : Seen). lines_seen seen more) err.1 ∙ ap (lines_seen (failed old.state told)) err.2 in
+    record { takes = bad_stops before now line told Memory stays err.0 none (λ other. absurd (other refl)); whole = stopped_whole before now told whole stays }
 
 -- ---- pieces
 
@@ -308,13 +314,3 @@ found_spells live bytes found d is none has =
     let r = no_fault live bytes found is none in
     let same : r.0 ≡ d = (let e : Some r.0 ≡ Some d = sym r.1 ∙ has in cc) in
     subst (λ (d : Deployed). Spells bytes d found.acts) same r.2
-
--- an act that is kept, or memory runs out
-pub kept_act : (old new : WholeLines) (line : List ℕ) (a : Act) (result : Result (Unit {0}) ScriptFault) → AreWhole old → old.seen.fault ≡ None → line_at old.seen.state line ≡ Ok (parsed.Act a) → new.deployment ≡ old.deployment
-    → OnOk result ((new.seen ≡ record { state = after old.seen.state (parsed.Act a); fault = old.seen.fault }) × (new.acts ≡ old.acts ++ a ∷ []))
-    → IfErr result (λ fault. (fault ≡ fault_at old.seen.state Memory) × (new.seen ≡ failed old.seen.state fault) × (new.acts ≡ old.acts))
-    → KeptLine old new line result
-kept_act old new line a (Ok x) whole none good same ok err =
-    kept_line old new line (parsed.Act a) (Ok x) whole none good (ok.0, same, ok.1) tt
-kept_act old new line a (Err told) whole none good same ok err =
-    kept_line old new line (parsed.Act a) (Err told) whole none good tt (err.0, err.1, same, err.2)

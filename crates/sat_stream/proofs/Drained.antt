@@ -37,11 +37,11 @@ use Rattle.sat_stream.proofs.Whole.{said_after, few_after}
 
 -- ---- acts before the others
 
-line_behind : (done : List Act) (r : Reading) (l : Line) → with_line (behind done r) l ≡ behind done (with_line r l)
-line_behind done r line.Header = refl
-line_behind done r (line.Begin d) = refl
-line_behind done r (line.Act a) = ap (λ (acts : List Act). (let found : Reading = record { deployment = r.deployment; acts = acts; fault = r.fault } in found)) (append_assoc done r.acts (a ∷ []))
-line_behind done r line.End = refl
+line_behind : (d : Deployed) (done : List Act) (r : Reading) (l : Line) → with_line d (behind done r) l ≡ behind done (with_line d r l)
+line_behind d done r line.Header = refl
+line_behind d done r line.Begin = refl
+line_behind d done r (line.Act a) = ap (λ (acts : List Act). (let found : Reading = record { deployment = r.deployment; acts = acts; fault = r.fault } in found)) (append_assoc done r.acts (a ∷ []))
+line_behind d done r line.End = refl
 
 closed_behind : (s : State) (done : List Act) (r : Reading) (o : Option Cause) → closed s (behind done r) o ≡ behind done (closed s r o)
 closed_behind s done r None = refl
@@ -49,7 +49,7 @@ closed_behind s done r (Some cause) = refl
 
 after_behind : (s : State) (done : List Act) (r : Reading) (go_on : State → Reading → Reading) → ((later : State) (more : Reading) → go_on later (behind done more) ≡ behind done (go_on later more)) → (said : Result Parsed Cause)
     → after_line s (behind done r) go_on said ≡ behind done (after_line s r go_on said)
-after_behind s done r go_on same (Ok p) = ap (go_on (after s p)) (line_behind done r (told_line s.header p)) ∙ same (after s p) (with_line r (told_line s.header p))
+after_behind s done r go_on same (Ok p) = ap (go_on (after s p)) (line_behind s.header done r (told_line p)) ∙ same (after s p) (with_line s.header r (told_line p))
 after_behind s done r go_on same (Err cause) = refl
 
 from_behind : (s : State) (done : List Act) (r : Reading) (parts : List (List ℕ)) → script_from s (behind done r) parts ≡ behind done (script_from s r parts)
@@ -92,7 +92,7 @@ so_sound s r so =
     let w = whole_said s.dialect s.stage s.header r.deployment r.acts so.fit.header so.said in
     record { whole = w.0; none = w.1; few = omega (arith, so.few, so.fit.acts); stays = λ d e. e }
 
-so_after : (s : State) (r : Reading) (line : List ℕ) (p : Parsed) → IsSo s r → line_at s line ≡ Ok p → IsSo (after s p) (with_line r (told_line s.header p))
+so_after : (s : State) (r : Reading) (line : List ℕ) (p : Parsed) → IsSo s r → line_at s line ≡ Ok p → IsSo (after s p) (with_line s.header r (told_line p))
 so_after s r line p so good = record {
   fit = fit_after s line p so.fit good;
   said = said_after s.stage s p r (line_is s line p so.fit good).stands so.said;
@@ -103,13 +103,13 @@ closed_sound : (s : State) (r : Reading) (o : Option Cause) → IsSo s r → IsS
 closed_sound s r None so = so_sound s r so
 closed_sound s r (Some cause) so = let is = so_sound s r so in record { whole = is.whole; none = is.none; few = is.few; stays = λ d e. e }
 
-line_deploys : (here : Stage) (s : State) (d : Deployed) (p : Parsed) (r : Reading) → Stands here s p → HasSaid s.dialect here s.header r.deployment r.acts → r.deployment ≡ Some d → (with_line r (told_line s.header p)).deployment ≡ Some d
+line_deploys : (here : Stage) (s : State) (d : Deployed) (p : Parsed) (r : Reading) → Stands here s p → HasSaid s.dialect here s.header r.deployment r.acts → r.deployment ≡ Some d → (with_line s.header r (told_line p)).deployment ≡ Some d
 line_deploys stage.Header s d parsed.Begin r h said e = absurd (let never : None ≡ Some d = sym said.0 ∙ e in cc)
 line_deploys _ s d parsed.Begin r h said e = absurd h
 line_deploys _ s d _ r h said e = e
 
 after_sound : (s : State) (r : Reading) (line : List ℕ) (go_on : State → Reading → Reading) → IsSo s r
-    → ((p : Parsed) → IsSo (after s p) (with_line r (told_line s.header p)) → IsSoundIn s.dialect (with_line r (told_line s.header p)) (go_on (after s p) (with_line r (told_line s.header p))))
+    → ((p : Parsed) → IsSo (after s p) (with_line s.header r (told_line p)) → IsSoundIn s.dialect (with_line s.header r (told_line p)) (go_on (after s p) (with_line s.header r (told_line p))))
     → (said : Result Parsed Cause) → line_at s line ≡ said → IsSoundIn s.dialect r (after_line s r go_on said)
 after_sound s r line go_on so on (Ok p) e =
     let next = on p (so_after s r line p so e) in
@@ -121,7 +121,7 @@ unfolding script_from
 from_sound s r [] so = closed_sound s r (close_at s []) so
 from_sound s r (rest ∷ []) so = closed_sound s r (close_at s rest) so
 from_sound s r (line ∷ part ∷ parts) so =
-    after_sound s r line (λ later more. script_from later more (part ∷ parts)) so (λ p next. from_sound (after s p) (with_line r (told_line s.header p)) (part ∷ parts) next) (line_at s line) refl
+    after_sound s r line (λ later more. script_from later more (part ∷ parts)) so (λ p next. from_sound (after s p) (with_line s.header r (told_line p)) (part ∷ parts) next) (line_at s line) refl
 
 whole_deployment : (o : Option Deployed) (acts : List Act) → IfSome o (λ d. IsWhole d × AreActsOf d acts) → IfSome o (λ d. IsDeployment d × HaveNames d × AreActsOf d acts)
 whole_deployment None acts w = tt

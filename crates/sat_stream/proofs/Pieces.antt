@@ -7,7 +7,7 @@ use Rattle.sat_act.specs.Deployed.{Deployed}
 use Rattle.sat_script.specs.Grammar.{line_at, after, told_line}
 use Rattle.sat_script.specs.Lines.{Closes}
 use Rattle.sat_stream.specs.Reading.{after_line, bad, stopped, closed, with_line}
-use Rattle.sat_script.specs.State.{State, Seen, number_of, fault_at}
+use Rattle.sat_script.specs.State.{State, Seen, number_of, fault_at, deployment_of}
 use Rattle.sat_stream.specs.Stream.{goes_on, meaning}
 use Rattle.sat_script.specs.Words.{HasNo}
 use Rattle.sat_script.specs.declared.fault.Cause.{Cause}
@@ -40,7 +40,7 @@ part_keeps s r begun (b ∷ part) more none =
 pub line_fails : (s : State) (r : Reading) (begun : List ℕ) (cause : Cause) → line_at s begun ≡ Err cause → (more : List ℕ) → goes_on s r begun (10 ∷ more) ≡ bad s r cause
 line_fails s r begun cause e more = goes_on-line s r begun more ∙ ap (after_line s r (λ later kept. goes_on later kept [] more)) e
 
-pub line_goes : (s : State) (r : Reading) (begun : List ℕ) (p : Parsed) → line_at s begun ≡ Ok p → (more : List ℕ) → goes_on s r begun (10 ∷ more) ≡ goes_on (after s p) (with_line r (told_line s.header p)) [] more
+pub line_goes : (s : State) (r : Reading) (begun : List ℕ) (p : Parsed) → line_at s begun ≡ Ok p → (more : List ℕ) → goes_on s r begun (10 ∷ more) ≡ goes_on (after s p) (with_line s.header r (told_line p)) [] more
 line_goes s r begun p e more = goes_on-line s r begun more ∙ ap (after_line s r (λ later kept. goes_on later kept [] more)) e
 
 -- ---- the end of the text
@@ -61,6 +61,13 @@ closes_gives None s new (Err told) deployment acts begun c =
     ∙ sym (goes_on-end s (with_fault deployment acts None) begun)
 closes_gives (Some told) s new result deployment acts begun c = ap (λ (seen : Seen). with_fault deployment acts seen.fault) c.1
 
-pub finish_gives : (old new : Seen) (result : Result (Unit {0}) ScriptFault) (deployment : Option Deployed) (acts : List Act) (begun : List ℕ) → Closes old.fault old.state new result begun
-    → with_fault deployment acts new.fault ≡ means old (with_fault deployment acts None) begun []
-finish_gives old new result deployment acts begun closes = closes_gives old.fault old.state new result deployment acts begun closes
+closes_same : (f : Option ScriptFault) (s : State) (new : Seen) (result : Result (Unit {0}) ScriptFault) (begun : List ℕ) → Closes f s new result begun → new.state ≡ s
+closes_same None s new (Ok x) begun c = ap (λ (seen : Seen). seen.state) c.1
+closes_same None s new (Err told) begun c = ap (λ (seen : Seen). seen.state) c.2
+closes_same (Some told) s new result begun c = ap (λ (seen : Seen). seen.state) c.1
+
+pub finish_gives : (old new : Seen) (result : Result (Unit {0}) ScriptFault) (acts : List Act) (begun : List ℕ) → Closes old.fault old.state new result begun
+    → with_fault (deployment_of new.state) acts new.fault ≡ means old (with_fault (deployment_of old.state) acts None) begun []
+finish_gives old new result acts begun closes =
+    ap (λ (s : State). with_fault (deployment_of s) acts new.fault) (closes_same old.fault old.state new result begun closes)
+    ∙ closes_gives old.fault old.state new result (deployment_of old.state) acts begun closes

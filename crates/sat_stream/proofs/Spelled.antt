@@ -63,7 +63,7 @@ step_on s r line [] some = absurd (omega arith)
 step_on s r line (part ∷ parts) some = refl
 
 line_step : (s : State) (r : Reading) (words : List (List ℕ)) (rest : List ℕ) (p : Parsed) → IsLine words → is_ended s.stage ≡ false → words_line s.stage s words ≡ Ok p
-    → script_from s r (slice_split is_newline (ended words ++ rest)) ≡ script_from (after s p) (with_line r (told_line s.header p)) (slice_split is_newline rest)
+    → script_from s r (slice_split is_newline (ended words ++ rest)) ≡ script_from (after s p) (with_line s.header r (told_line p)) (slice_split is_newline rest)
 line_step s r words rest p line going h =
     ap (λ (bs : List ℕ). script_from s r (slice_split is_newline bs)) (append_assoc (line_text words) (10 ∷ []) rest)
     ∙ ap (script_from s r) (slice_split_at is_newline (line_text words) 10 rest (lacks is_newline (is_between 32 126) no_newline (line_text words) (is_text-line words line)) refl)

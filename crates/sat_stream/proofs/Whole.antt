@@ -87,7 +87,7 @@ lines_counted s fit =
 -- ---- what good lines said
 
 pub said_after : (here : Stage) (s : State) (p : Parsed) (r : Reading) → Stands here s p → HasSaid s.dialect here s.header r.deployment r.acts
-    → HasSaid s.dialect (next_stage here p) (with_parsed s.header p) (with_line r (told_line s.header p)).deployment (with_line r (told_line s.header p)).acts
+    → HasSaid s.dialect (next_stage here p) (with_parsed s.header p) (with_line s.header r (told_line p)).deployment (with_line s.header r (told_line p)).acts
 said_after stage.Start s parsed.Format r h said = said
 said_after stage.Sites s (parsed.Sites k) r h said = said
 said_after stage.Gears s (parsed.Gears k) r h said = said
@@ -100,7 +100,7 @@ said_after stage.Body s (parsed.Act a) r h said =
 said_after stage.Body s parsed.End r h said = said
 said_after _ s _ r h said = absurd h
 
-pub few_after : (d : Deployed) (n : ℕ) (p : Parsed) (r : Reading) → length r.acts ≤ n → length (with_line r (told_line d p)).acts ≤ with_act n p
+pub few_after : (d : Deployed) (n : ℕ) (p : Parsed) (r : Reading) → length r.acts ≤ n → length (with_line d r (told_line p)).acts ≤ with_act n p
 few_after d n (parsed.Act a) r few = omega (arith, length-append r.acts (a ∷ []))
 few_after d n _ r few = few
 
@@ -109,7 +109,7 @@ settles_push : (n : ℕ) (acts : List Act) (a : Act) → settles_of acts ≤ n �
 settles_push n acts act.Settle few = let more = ap length (filter-append is_settle acts (act.Settle ∷ [])) ∙ length-append (filter is_settle acts) (act.Settle ∷ []) in omega (arith, more)
 settles_push n acts a few = let more = ap length (filter-append is_settle acts (a ∷ [])) ∙ length-append (filter is_settle acts) (filter is_settle (a ∷ [])) in omega (arith, more)
 
-pub settles_after : (d : Deployed) (n : ℕ) (p : Parsed) (r : Reading) → settles_of r.acts ≤ n → settles_of (with_line r (told_line d p)).acts ≤ with_settle n p
+pub settles_after : (d : Deployed) (n : ℕ) (p : Parsed) (r : Reading) → settles_of r.acts ≤ n → settles_of (with_line d r (told_line p)).acts ≤ with_settle n p
 settles_after d n (parsed.Act a) r few = settles_push n r.acts a few
 settles_after d n _ r few = few
 
@@ -143,7 +143,7 @@ body_front : (h b acts e : List ℕ) → h ++ (b ++ (acts ++ e)) ≡ (h ++ (b ++
 body_front h b acts e = simp append_assoc
 
 front-after : (here : Stage) (s : State) (p : Parsed) (r : Reading) → HasHeader here s.header → Stands here s p → HasSaid s.dialect here s.header r.deployment r.acts
-    → front (next_stage here p) (with_parsed s.header p) (with_line r (told_line s.header p)).acts ≡ front here s.header r.acts ++ ended (parsed_words s.header p)
+    → front (next_stage here p) (with_parsed s.header p) (with_line s.header r (told_line p)).acts ≡ front here s.header r.acts ++ ended (parsed_words s.header p)
 unfolding header_text
 front-after stage.Start s parsed.Format r kept h said = refl
 front-after stage.Sites s (parsed.Sites k) r kept h said = refl
@@ -176,7 +176,7 @@ record IsSo (s : State) (r : Reading) (text : List ℕ) : Type 0 where
   settles : settles_of r.acts ≤ s.settles
   spelled : text ≡ front s.stage s.header r.acts
 
-so_after : (s : State) (r : Reading) (text line : List ℕ) (p : Parsed) → IsSo s r text → line_at s line ≡ Ok p → IsSo (after s p) (with_line r (told_line s.header p)) (text ++ (line ++ 10 ∷ []))
+so_after : (s : State) (r : Reading) (text line : List ℕ) (p : Parsed) → IsSo s r text → line_at s line ≡ Ok p → IsSo (after s p) (with_line s.header r (told_line p)) (text ++ (line ++ 10 ∷ []))
 so_after s r text line p so h =
     let is = line_is s line p so.fit h in
     let same : line ≡ line_text (parsed_words s.header p) = sym (line_text-words line) ∙ ap line_text is.spelled in
@@ -233,12 +233,12 @@ read_end s r text rest so None e none = let c = close_ends s.stage rest e in rea
 read_end s r text rest so (Some cause) e none = absurd (cc)
 
 read_line : (s : State) (r : Reading) (text line rest : List ℕ) (go_on : State → Reading → Reading) → IsSo s r text
-    → ((p : Parsed) → IsSo (after s p) (with_line r (told_line s.header p)) (text ++ (line ++ 10 ∷ [])) → (go_on (after s p) (with_line r (told_line s.header p))).fault ≡ None
-    → IsReadIn s.dialect (go_on (after s p) (with_line r (told_line s.header p))) ((text ++ (line ++ 10 ∷ [])) ++ rest))
+    → ((p : Parsed) → IsSo (after s p) (with_line s.header r (told_line p)) (text ++ (line ++ 10 ∷ [])) → (go_on (after s p) (with_line s.header r (told_line p))).fault ≡ None
+    → IsReadIn s.dialect (go_on (after s p) (with_line s.header r (told_line p))) ((text ++ (line ++ 10 ∷ [])) ++ rest))
     → (result : Result Parsed Cause) → line_at s line ≡ result → (after_line s r go_on result).fault ≡ None → IsReadIn s.dialect (after_line s r go_on result) (text ++ (line ++ 10 ∷ rest))
 read_line s r text line rest go_on so goes (Ok p) e none =
     let same : (text ++ (line ++ 10 ∷ [])) ++ rest ≡ text ++ (line ++ 10 ∷ rest) = append_assoc text (line ++ 10 ∷ []) rest ∙ ap (λ (bs : List ℕ). text ++ bs) (append_assoc line (10 ∷ []) rest) in
-    subst (λ (bs : List ℕ). IsReadIn s.dialect (go_on (after s p) (with_line r (told_line s.header p))) bs) same (goes p (so_after s r text line p so e) none)
+    subst (λ (bs : List ℕ). IsReadIn s.dialect (go_on (after s p) (with_line s.header r (told_line p))) bs) same (goes p (so_after s r text line p so e) none)
 read_line s r text line rest go_on so goes (Err cause) e none = absurd (cc)
 
 read_parts : (s : State) (r : Reading) (text : List ℕ) (parts : List (List ℕ)) → IsSo s r text → (script_from s r parts).fault ≡ None → IsReadIn s.dialect (script_from s r parts) (text ++ join_with_byte 10 parts)
@@ -247,7 +247,7 @@ read_parts s r text [] so none = read_end s r text [] so (close_at s []) refl no
 read_parts s r text (rest ∷ []) so none = read_end s r text rest so (close_at s rest) refl none
 read_parts s r text (line ∷ part ∷ parts) so none =
     read_line s r text line (join_with_byte 10 (part ∷ parts)) (λ later more. script_from later more (part ∷ parts)) so
-    (λ p next good. read_parts (after s p) (with_line r (told_line s.header p)) (text ++ (line ++ 10 ∷ [])) (part ∷ parts) next good)
+    (λ p next good. read_parts (after s p) (with_line s.header r (told_line p)) (text ++ (line ++ 10 ∷ [])) (part ∷ parts) next good)
     (line_at s line) refl none
 
 so_far : (dialect : Dialect) → IsSo (start dialect) nothing []

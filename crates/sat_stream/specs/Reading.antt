@@ -20,12 +20,12 @@ use Rattle.sat_script.specs.declared.line.Line.TheVariants as line
 use Rattle.sat_script.specs.declared.line.Parsed.{Parsed}
 use Rattle.sat_stream.specs.declared.stream.Reading.{Reading}
 
--- a reading and what a line adds to it
-abbrev pub with_line : Reading → Line → Reading
-with_line r line.Header = r
-with_line r (line.Begin d) = record { deployment = Some d; acts = r.acts; fault = r.fault }
-with_line r (line.Act a) = record { deployment = r.deployment; acts = r.acts ++ a ∷ []; fault = r.fault }
-with_line r line.End = r
+-- a reading and what a line adds to it, behind a header
+abbrev pub with_line : Deployed → Reading → Line → Reading
+with_line d r line.Header = r
+with_line d r line.Begin = record { deployment = Some d; acts = r.acts; fault = r.fault }
+with_line d r (line.Act a) = record { deployment = r.deployment; acts = r.acts ++ a ∷ []; fault = r.fault }
+with_line d r line.End = r
 
 -- a reading that stops at a fault
 abbrev pub stopped : Reading → ScriptFault → Reading
@@ -41,7 +41,7 @@ closed s r (Some cause) = bad s r cause
 
 -- what a line makes of it, where go_on says what the lines after it make
 abbrev pub after_line : State → Reading → (State → Reading → Reading) → Result Parsed Cause → Reading
-after_line s r go_on (Ok p) = go_on (after s p) (with_line r (told_line s.header p))
+after_line s r go_on (Ok p) = go_on (after s p) (with_line s.header r (told_line p))
 after_line s r go_on (Err cause) = bad s r cause
 
 -- the lines from a state on; the last part has no byte 10 after it

@@ -7,7 +7,7 @@ use Rattle.sat_act.specs.declared.act.Act.{Act}
 use Rattle.sat_act.specs.Deployed.{Deployed}
 use Rattle.sat_script.specs.Grammar.{is_ended}
 use Rattle.sat_stream.specs.Reading.{script_from, stopped}
-use Rattle.sat_script.specs.State.{State, Seen, number_of}
+use Rattle.sat_script.specs.State.{State, Seen, number_of, deployment_of}
 use Rattle.sat_script.specs.Words.{is_newline}
 use Rattle.sat_script.specs.declared.fault.Cause.{Cause}
 use Rattle.sat_script.specs.declared.fault.Cause.TheVariants.{Memory, AfterEnd, LongLine, NoEnd}
@@ -21,6 +21,10 @@ pub record WholeLines : Type 0 where
   pub seen : Seen
   pub deployment : Option Deployed
   pub acts : List Act
+
+-- the same by the state alone: the header is the deployment from the line `begin` on
+abbrev pub lines_seen : Seen → List Act → WholeLines
+lines_seen seen acts = record { seen = seen; deployment = deployment_of seen.state; acts = acts }
 
 -- what has come of a script: whole lines, and the beginning of a line
 pub record Came : Type 0 where

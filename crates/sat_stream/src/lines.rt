@@ -21,19 +21,18 @@ use std::mem;
 #[derive(Drop)]
 pub struct Lines {
     reader: Reader,
-    deployment: Option<Deployment>,
     acts: Acts,
 }
 
 impl Model for Lines {
-    ghost use Rattle.sat_stream.specs.Stream.{WholeLines};
+    ghost use Rattle.sat_stream.specs.Stream.{WholeLines, lines_seen};
     ghost use Rattle.sat_stream.specs.Coming.{AreWhole};
 
     ghost Value = { WholeLines };
 
-    ghost view = { λ l. record { seen = l.reader; deployment = l.deployment; acts = l.acts } };
+    ghost view = { λ l. lines_seen l.reader l.acts };
 
-    ghost invariant = { λ l. AreWhole (record { seen = l.reader; deployment = l.deployment; acts = l.acts }) };
+    ghost invariant = { λ l. AreWhole (lines_seen l.reader l.acts) };
 }
 
 impl Lines {
@@ -44,7 +43,6 @@ impl Lines {
     {
         Lines {
             reader: Reader::new(alloc, live),
-            deployment: None,
             acts: Acts::new(alloc),
         }
     }
@@ -88,15 +86,14 @@ impl Lines {
             Ok(parsed) => parsed,
             Err(cause) => return Err(self.reader.fail(cause)),
         };
-        self.reader
-            .keep_in(parsed, &mut self.deployment, &mut self.acts)
+        self.reader.keep_in(parsed, &mut self.acts)
     }
 
     /// The deployment, once the line `begin` has come.
     pub fn deployment(&self) -> &Option<Deployment>
         ensures { result.now ≡ self.now.deployment }
     {
-        &self.deployment
+        self.reader.deployment()
     }
 
     /// Hands out the acts that came since the last call. It takes no memory.
@@ -129,16 +126,13 @@ impl Lines {
         ensures none { result.deployment ≡ None → result.acts ≡ [] }
         ensures few { length result.acts ≤ MOST_ACTS }
     {
-        let Lines {
-            mut reader,
-            deployment,
-            acts,
-        } = self;
+        let Lines { mut reader, acts } = self;
         let _ = reader.close(rest);
+        let fault = reader.fault();
         Reading {
-            deployment,
+            deployment: reader.into_deployment(),
             acts,
-            fault: reader.fault(),
+            fault,
         }
     }
 }

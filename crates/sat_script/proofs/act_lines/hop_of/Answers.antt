@@ -10,9 +10,9 @@ use Rattle.sat_script.proofs.act_lines.hop_of.Goals as goal
 pub returns : goal.returns
 returns c =
     let t = c.in_ok-epoch.tree.now in
-    three_say c.args.header.now t t t _ _ _ _ form.Hop kind.Epoch kind.Node kind.Serializer (place c.in_ok-epoch.epoch) (at c.in_ok-from.from) (place c.in_ok-to.to) (act.Hop c.in_ok-epoch.epoch c.in_ok-from.from c.in_ok-to.to)
+    three_say c.args.header.now.said t t t _ _ _ _ form.Hop kind.Epoch kind.Node kind.Serializer (place c.in_ok-epoch.epoch) (at c.in_ok-from.from) (place c.in_ok-to.to) (act.Hop c.in_ok-epoch.epoch c.in_ok-from.from c.in_ok-to.to)
     refl refl refl refl refl
-    (hop_fits c.args.header.now t c.in_ok-epoch.epoch c.in_ok-from.from c.in_ok-to.to c.in_ok-epoch.ensures.tree c.in_ok-from.ensures.inside c.in_ok-to.ensures.inside (sym c.if-not-is_edge.ensures.edge))
+    (hop_fits c.args.header.now.said t c.in_ok-epoch.epoch c.in_ok-from.from c.in_ok-to.to c.in_ok-epoch.ensures.tree c.in_ok-from.ensures.inside c.in_ok-to.ensures.inside (sym c.if-not-is_edge.ensures.edge))
     (c.in_ok-epoch.ensures.read no_tree)
-    (node_read c.args.header.now t _ c.in_ok-from.from c.if-not-begins.ensures c.in_ok-from.ensures.node)
-    (serializer_read c.args.header.now t _ c.in_ok-to.to c.if-not-begins-2.ensures c.in_ok-to.ensures.serializer)
+    (node_read c.args.header.now.said t _ c.in_ok-from.from c.if-not-begins.ensures c.in_ok-from.ensures.node)
+    (serializer_read c.args.header.now.said t _ c.in_ok-to.to c.if-not-begins-2.ensures c.in_ok-to.ensures.serializer)

@@ -7,4 +7,4 @@ pub add-requires : goal.add-requires
 unfolding has_client
 add-requires c =
     let new = rw (← c.self.view_is) at c.requires.new in
-    rw c.bytes.ensures.bytes (any_named _ c.self.inside.clients.items c.self.inside.client_names c.args.line.name c.self.invariant.clients_named ∙ new)
+    rw c.bytes.ensures.bytes (any_named _ _ c.self.inside.client_names c.args.line.name c.self.invariant.clients_named ∙ new)

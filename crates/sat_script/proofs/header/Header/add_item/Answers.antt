@@ -7,4 +7,4 @@ pub add-requires : goal.add-requires
 unfolding has_item
 add-requires c =
     let new = rw (← c.self.view_is) at c.requires.new in
-    rw c.bytes.ensures.bytes (any_named _ c.self.inside.items.items c.self.inside.item_names c.args.item.name c.self.invariant.items_named ∙ new)
+    rw c.bytes.ensures.bytes (any_named _ _ c.self.inside.item_names c.args.item.name c.self.invariant.items_named ∙ new)

@@ -5,4 +5,4 @@ use Rattle.sat_script.proofs.header.Header.has_client.Goals as goal
 
 pub returns : goal.returns
 unfolding has_client
-returns c = rw (← c.self.view_is) (c.has.ensures ∙ any_named _ c.self.inside.clients.items c.self.inside.client_names c.args.name.now c.self.invariant.clients_named)
+returns c = rw (← c.self.view_is) (c.has.ensures ∙ any_named _ _ c.self.inside.client_names c.args.name.now c.self.invariant.clients_named)

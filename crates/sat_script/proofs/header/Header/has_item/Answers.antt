@@ -5,4 +5,4 @@ use Rattle.sat_script.proofs.header.Header.has_item.Goals as goal
 
 pub returns : goal.returns
 unfolding has_item
-returns c = rw (← c.self.view_is) (c.has.ensures ∙ any_named _ c.self.inside.items.items c.self.inside.item_names c.args.name.now c.self.invariant.items_named)
+returns c = rw (← c.self.view_is) (c.has.ensures ∙ any_named _ _ c.self.inside.item_names c.args.name.now c.self.invariant.items_named)

@@ -3,4 +3,4 @@ use Rattle.sat_stream.proofs.lines.Lines.finish.Goals as goal
 
 pub returns-clause-means : goal.returns-clause-means
 returns-clause-means c =
-    rw (c.fault.ensures, ← c.self.view_is) (finish_gives c.self.inside.reader c.close.new.self c.close.result c.self.inside.deployment c.self.inside.acts c.args.rest.now c.close.ensures)
+    rw (c.fault-fault.ensures, c.into_deployment.ensures, ← c.self.view_is) (finish_gives c.self.inside.reader c.close.new.self c.close.result c.self.inside.acts c.args.rest.now c.close.ensures)

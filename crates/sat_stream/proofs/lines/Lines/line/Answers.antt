@@ -1,6 +1,5 @@
-use Rattle.std.proofs.Common.{refl}
 use Rattle.sat_script.specs.declared.line.Parsed.TheVariants as parsed
-use Rattle.sat_stream.proofs.Coming.{kept_act}
+use Rattle.sat_stream.proofs.Coming.{kept_line}
 use Rattle.sat_script.proofs.Fits.{fit_after}
 use Rattle.sat_stream.proofs.lines.Lines.line.Goals as goal
 
@@ -10,20 +9,17 @@ keep_act-requires c = record { fits = fit_after c.self.inside.reader.state c.arg
 pub invariant_of-self : goal.invariant_of-self
 invariant_of-self c =
     let fresh = rw (← c.self.view_is) at c.requires.fresh in
-    let k =
-    kept_act (record { seen = c.self.inside.reader; deployment = c.self.inside.deployment; acts = c.self.inside.acts }) (record { seen = c.keep_act.new.self; deployment = c.self.inside.deployment; acts = c.keep_act.new.acts }) c.args.line.now c.in-Some.act c.keep_act.result c.self.invariant fresh c.in-Some.ensures refl c.keep_act.ensures.ok c.keep_act.ensures.err in
+    let k = kept_line c.self.inside.reader c.keep_act.new.self c.self.inside.acts c.keep_act.new.acts c.args.line.now (parsed.Act c.in-Some.act) c.keep_act.result c.self.invariant fresh c.in-Some.ensures c.keep_act.ensures.ok c.keep_act.ensures.err in
     k.whole
 
 pub returns-in-Some-clause-takes : goal.returns-in-Some-clause-takes
 returns-in-Some-clause-takes c =
     let fresh = rw (← c.self.view_is) at c.requires.fresh in
-    let k =
-    kept_act (record { seen = c.self.inside.reader; deployment = c.self.inside.deployment; acts = c.self.inside.acts }) (record { seen = c.keep_act.new.self; deployment = c.self.inside.deployment; acts = c.keep_act.new.acts }) c.args.line.now c.in-Some.act c.keep_act.result c.self.invariant fresh c.in-Some.ensures refl c.keep_act.ensures.ok c.keep_act.ensures.err in
+    let k = kept_line c.self.inside.reader c.keep_act.new.self c.self.inside.acts c.keep_act.new.acts c.args.line.now (parsed.Act c.in-Some.act) c.keep_act.result c.self.invariant fresh c.in-Some.ensures c.keep_act.ensures.ok c.keep_act.ensures.err in
     rw (← c.self.view_is) k.takes
 
 pub returns-in-Some-clause-fit : goal.returns-in-Some-clause-fit
 returns-in-Some-clause-fit c =
     let fresh = rw (← c.self.view_is) at c.requires.fresh in
-    let k =
-    kept_act (record { seen = c.self.inside.reader; deployment = c.self.inside.deployment; acts = c.self.inside.acts }) (record { seen = c.keep_act.new.self; deployment = c.self.inside.deployment; acts = c.keep_act.new.acts }) c.args.line.now c.in-Some.act c.keep_act.result c.self.invariant fresh c.in-Some.ensures refl c.keep_act.ensures.ok c.keep_act.ensures.err in
+    let k = kept_line c.self.inside.reader c.keep_act.new.self c.self.inside.acts c.keep_act.new.acts c.args.line.now (parsed.Act c.in-Some.act) c.keep_act.result c.self.invariant fresh c.in-Some.ensures c.keep_act.ensures.ok c.keep_act.ensures.err in
     k.whole.fit
