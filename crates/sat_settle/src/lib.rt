@@ -14,7 +14,8 @@ mod settling;
 mod trying;
 
 pub use load_acts::LoadActs;
-pub use load_draft::{Draft, act_of};
+pub use load_draft::Draft;
 pub use load_header::deployment;
 pub use load_script::{MOST_LOADED, load};
+pub use load_texts::drawn_value;
 pub use settling::settle;

@@ -10,7 +10,7 @@ use crate::load_draws::Draws;
 use crate::load_header::SITES;
 use crate::load_rows::next_draft;
 use crate::load_script::MOST_LOADED;
-use sat_act::{Act, Deployment};
+use sat_act::Deployment;
 use std::marker::Model;
 
 /// The acts of a large script, one after another: each is drawn when it is asked for, and none is kept. Contracts see those that
@@ -78,7 +78,7 @@ impl LoadActs {
         if self.closed < SITES {
             let site = self.closed;
             self.closed += 1;
-            return Some(Draft::Other(Act::Close { site }));
+            return Some(Draft::Close { site });
         }
         if self.drawn < self.count {
             let number = self.drawn + 1;
@@ -91,6 +91,6 @@ impl LoadActs {
             return None;
         }
         self.settled = true;
-        Some(Draft::Other(Act::Settle))
+        Some(Draft::Settle)
     }
 }

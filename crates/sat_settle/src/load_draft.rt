@@ -2,41 +2,63 @@
 ghost use Rattle.std.specs.Prelude.{◌≡◌, IfOk};
 ghost use Rattle.sat_settle.specs.LoadDraft.{drafted};
 
-use crate::load_texts::value;
+use crate::load_texts::drawn_value;
 use sat_act::Act;
+use sat_label::NodeId;
 use std::alloc::{AllocError, Global};
 
-/// An act of a large script as it is drawn: a write with its number, from which its value is made, or any other act as it is. Many
-/// writes of a large script are refused whatever their value, so it is made only for those that are done.
-#[derive(Drop)]
+/// An act of a large script as it is drawn: numbers alone, so that it takes no memory. A write has its number, from which its value
+/// is made: most writes of a large script are refused whatever their value.
+#[derive(Clone, Copy)]
 pub enum Draft {
+    /// The value is that of `drawn_value`.
     Write { client: u16, item: u16, number: u32 },
-    Other(Act),
-}
-
-// The write of a number.
-fn write_of(alloc: Global, client: u16, item: u16, number: u32) -> Result<Act, AllocError>
-    ensures { IfOk result (λ act. act ≡ drafted (Draft.Write client item number)) }
-{
-    let value = value(alloc, number)?;
-    Ok(Act::Write {
-        client,
-        item,
-        value,
-    })
+    Read { client: u16, item: u16 },
+    Move { client: u16, site: u16 },
+    Attach { client: u16, site: u16 },
+    Tick { site: u16, gear: u16, ts: u64 },
+    Gather { site: u16 },
+    Emit { site: u16 },
+    Pulse { site: u16 },
+    Hop { epoch: u16, from: NodeId, to: u16 },
+    /// The next payload of a lane.
+    Bulk { from: u16, gear: u16, to: u16 },
+    Turn { site: u16 },
+    Close { site: u16 },
+    Settle,
 }
 
 /// The act that was drawn. A write takes memory for its value.
-#[inline(always)]
 pub fn act_of(alloc: Global, draft: Draft) -> Result<Act, AllocError>
     ensures { IfOk result (λ act. act ≡ drafted draft) }
 {
-    match draft {
+    let act = match draft {
         Draft::Write {
             client,
             item,
             number,
-        } => write_of(alloc, client, item, number),
-        Draft::Other(act) => Ok(act),
-    }
+        } => Act::Write {
+            client,
+            item,
+            value: drawn_value(alloc, number)?,
+        },
+        Draft::Read { client, item } => Act::Read { client, item },
+        Draft::Move { client, site } => Act::Move { client, site },
+        Draft::Attach { client, site } => Act::Attach { client, site },
+        Draft::Tick { site, gear, ts } => Act::Tick { site, gear, ts },
+        Draft::Gather { site } => Act::Gather { site },
+        Draft::Emit { site } => Act::Emit { site },
+        Draft::Pulse { site } => Act::Pulse { site },
+        Draft::Hop { epoch, from, to } => Act::Hop { epoch, from, to },
+        Draft::Bulk { from, gear, to } => Act::Bulk {
+            from,
+            gear,
+            to,
+            number: None,
+        },
+        Draft::Turn { site } => Act::Turn { site },
+        Draft::Close { site } => Act::Close { site },
+        Draft::Settle => Act::Settle,
+    };
+    Ok(act)
 }

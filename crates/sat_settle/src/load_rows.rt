@@ -10,7 +10,7 @@ ghost use Rattle.sat_settle.specs.declared.load_rows.Row.TheVariants as row;
 use crate::load_draft::Draft;
 use crate::load_draws::Draws;
 use crate::load_header::tree_of;
-use sat_act::{Act, Deployment};
+use sat_act::Deployment;
 use sat_label::NodeId;
 use sat_tree::Tree;
 
@@ -65,16 +65,16 @@ fn neighbour(tree: &Tree, z: u16, place: u16) -> NodeId
 
 // A serializer of an epoch's tree, and one of its neighbours.
 #[tactic(auto, using(crate::proofs::LoadTrees::some_serializer, crate::proofs::LoadTrees::some_neighbour, crate::proofs::LoadTrees::few_neighbours))]
-fn hop(d: &Deployment, draws: &mut Draws) -> Act
+fn hop(d: &Deployment, draws: &mut Draws) -> Draft
     requires { d.now ≡ load_deployment }
-    ensures act { result ≡ hop_act draws.old }
+    ensures act { drafted result ≡ hop_act draws.old }
     ensures state { draws.new ≡ after_draws 3 draws.old }
 {
     let epoch = 1 + draws.draw(2);
     let tree = tree_of(d, epoch);
     let to = draws.draw(tree.serializers());
     let place = draws.draw(tree.neighbours(to).len() as u16);
-    Act::Hop {
+    Draft::Hop {
         epoch,
         from: neighbour(tree, to, place),
         to,
@@ -82,19 +82,14 @@ fn hop(d: &Deployment, draws: &mut Draws) -> Act
 }
 
 // A lane from one site for another.
-fn bulk(draws: &mut Draws) -> Act
-    ensures act { result ≡ bulk_act draws.old }
+fn bulk(draws: &mut Draws) -> Draft
+    ensures act { drafted result ≡ bulk_act draws.old }
     ensures state { draws.new ≡ after_draws 3 draws.old }
 {
     let from = draws.draw(5);
     let gear = draws.draw(4);
     let to = (from + 1 + draws.draw(4)) % 5;
-    Act::Bulk {
-        from,
-        gear,
-        to,
-        number: None,
-    }
+    Draft::Bulk { from, gear, to }
 }
 
 #[tactic(auto, unfolding(crate::specs::LoadActs::row_act))]
@@ -118,37 +113,37 @@ fn draft_of(d: &Deployment, draws: &mut Draws, row: Row, number: u32) -> Draft
 {
     match row {
         Row::Write => write(draws, number),
-        Row::Read => Draft::Other(Act::Read {
+        Row::Read => Draft::Read {
             client: draws.draw(40),
             item: draws.draw(200),
-        }),
-        Row::Move => Draft::Other(Act::Move {
+        },
+        Row::Move => Draft::Move {
             client: draws.draw(40),
             site: draws.draw(5),
-        }),
-        Row::Attach => Draft::Other(Act::Attach {
+        },
+        Row::Attach => Draft::Attach {
             client: draws.draw(40),
             site: draws.draw(5),
-        }),
-        Row::Tick => Draft::Other(Act::Tick {
+        },
+        Row::Tick => Draft::Tick {
             site: draws.draw(5),
             gear: draws.draw(4),
             ts: u64::from(number),
-        }),
-        Row::Gather => Draft::Other(Act::Gather {
+        },
+        Row::Gather => Draft::Gather {
             site: draws.draw(5),
-        }),
-        Row::Emit => Draft::Other(Act::Emit {
+        },
+        Row::Emit => Draft::Emit {
             site: draws.draw(5),
-        }),
-        Row::Pulse => Draft::Other(Act::Pulse {
+        },
+        Row::Pulse => Draft::Pulse {
             site: draws.draw(5),
-        }),
-        Row::Hop => Draft::Other(hop(d, draws)),
-        Row::Bulk => Draft::Other(bulk(draws)),
-        Row::Turn => Draft::Other(Act::Turn {
+        },
+        Row::Hop => hop(d, draws),
+        Row::Bulk => bulk(draws),
+        Row::Turn => Draft::Turn {
             site: draws.draw(5),
-        }),
+        },
     }
 }
 

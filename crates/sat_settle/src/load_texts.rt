@@ -1,6 +1,7 @@
 //! A letter and a number, as the names and the values of a large script.
 ghost use Rattle.std.specs.Prelude.{◌≡◌, ◌++◌, ◌∷◌, codes, IfOk};
 ghost use Rattle.std.specs.Fmt.{decimal};
+ghost use Rattle.sat_settle.specs.LoadDraft.{drawn_value};
 
 use itoa::write_digits;
 use sat_label::{Name, Value};
@@ -46,8 +47,8 @@ pub fn client_name(alloc: Global, client: u16) -> Result<Name, AllocError>
 
 /// The value of the write of a number: `v` and this number.
 #[tactic(auto, using(crate::proofs::LoadTexts::value_text))]
-pub fn value(alloc: Global, number: u32) -> Result<Value, AllocError>
-    ensures { IfOk result (λ value. value ≡ codes "v" ++ decimal number) }
+pub fn drawn_value(alloc: Global, number: u32) -> Result<Value, AllocError>
+    ensures { IfOk result (λ value. value ≡ drawn_value number) }
 {
     let mut text = [0; MOST_BYTES];
     let text = lettered(b'v', number, &mut text);

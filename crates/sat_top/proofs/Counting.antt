@@ -1,7 +1,6 @@
 -- One write more.
-use Rattle.std.proofs.Common.{◌≡◌, ◌<◌, ◌≤◌, ℕ, suc, Result, IfOk, Bool, ◌+◌, true, false, List, [], ◌∷◌, ◌++◌, length, drop, get_or, refl, sym, subst, ap, ◌∙◌, arith, add-one, drop-cons}
+use Rattle.std.proofs.Common.{◌≡◌, ◌<◌, ◌≤◌, ℕ, suc, Bool, ◌+◌, true, false, List, [], ◌∷◌, ◌++◌, length, drop, get_or, refl, sym, subst, ap, ◌∙◌, arith, add-one, drop-cons}
 use Rattle.std.specs.Prelude.{None}
-use Rattle.std.specs.declared.alloc.AllocError.{AllocError}
 use Rattle.std.proofs.lemmas.List.{append_assoc, length-append}
 use Rattle.sat_act.specs.declared.act.Act.{Act}
 use Rattle.sat_act.specs.declared.answer.Answer.{Answer}
@@ -85,9 +84,3 @@ pub rest-more : (d : Deployed) (acts : List Act) (n : ℕ) (x : Act) → n < len
 rest-more d acts n x low rest =
     let all : AreActsOf d (get_or acts n x ∷ drop (suc n) acts) = subst (λ (later : List Act). AreActsOf d later) (drop-cons acts n x low) rest in
     subst (λ (m : ℕ). AreActsOf d (drop m acts)) (sym (add-one n)) all.1
-
--- an act that was counted is the one that was drawn
-pub counts_as : (old new : WorldSeen) (a b : Act) (x : Result ℕ AllocError) → a ≡ b
-    → IfOk x (λ one. (acts : List Act) (written : ℕ) → IsCounting old.deployment old written acts → IsCounting old.deployment new (written + one) (acts ++ a ∷ []))
-    → IfOk x (λ one. (acts : List Act) (written : ℕ) → IsCounting old.deployment old written acts → IsCounting old.deployment new (written + one) (acts ++ b ∷ []))
-counts_as old new a b x is counts = subst (λ (a : Act). IfOk x (λ one. (acts : List Act) (written : ℕ) → IsCounting old.deployment old written acts → IsCounting old.deployment new (written + one) (acts ++ a ∷ []))) is counts

@@ -2,6 +2,7 @@ pub mod Progress
 pub mod Faults
 pub mod Counting
 pub mod Unseated
+pub mod Drafts
 pub mod Wordless
 pub mod Good
 pub mod Refused

@@ -1,4 +1,4 @@
--- What a client asks for that has no seat.
+-- A write that a client asks for without a seat.
 use Rattle.std.proofs.Common.{◌≡◌, ℕ, Bool, true, List, Option, refl, sym, ap, ◌∙◌}
 use Rattle.std.specs.Prelude.{Some, None, false, is_some, not}
 use Rattle.sat_act.specs.declared.act.Act.{Act}
@@ -7,7 +7,7 @@ use Rattle.sat_act.specs.declared.answer.Answer.{Answer}
 use Rattle.sat_act.specs.declared.answer.Answer.TheVariants as ans
 use Rattle.sat_act.specs.declared.answer.Refusal.TheVariants as why
 use Rattle.sat_act.specs.declared.entry.Entry.{Entry}
-use Rattle.sat_act.specs.Answers.{answer, at_seat, move_from, read_at, write_at}
+use Rattle.sat_act.specs.Answers.{answer, at_seat, write_at}
 use Rattle.sat_act.specs.Parts.{seat}
 use Rattle.sat_act.specs.Runs.{IsRun}
 use Rattle.sat_world.specs.Laws.{UndoneKeeps}
@@ -20,7 +20,7 @@ none_is : (o : Option ℕ) (none : Bool) → is_some o ≡ not none → none ≡
 none_is None none said is = refl
 none_is (Some x) none said is = let e : true ≡ false = said ∙ ap not is in absurd (cc)
 
--- without a seat, whatever it asks of one
+-- without a seat, whatever it asks for
 unseated : (o : Option ℕ) (gives : ℕ → Answer) → o ≡ None → ans.Refused why.NoSession ≡ at_seat o gives
 unseated o gives none = sym (ap (λ (o : Option ℕ). at_seat o gives) none)
 
@@ -41,11 +41,3 @@ module _ (w : WorldSeen) (c : ℕ) (found : Option ℕ) (keeps : UndoneKeeps) (i
   pub no_write : (x : ℕ) (v : List ℕ) → Does w (act.Write c x v) (ans.Refused why.NoSession) w
   unfolding answer
   no_write x v = left w (act.Write c x v) keeps (λ e. absurd (cc)) (λ h run now. unseated (seat w.deployment h c) (λ i. write_at w.deployment h c x i) (gone h run now))
-
-  pub no_read : (x : ℕ) → Does w (act.Read c x) (ans.Refused why.NoSession) w
-  unfolding answer
-  no_read x = left w (act.Read c x) keeps (λ e. absurd (cc)) (λ h run now. unseated (seat w.deployment h c) (λ i. read_at w.deployment h x i) (gone h run now))
-
-  pub no_move : (j : ℕ) → Does w (act.Move c j) (ans.Refused why.NoSession) w
-  unfolding answer
-  no_move j = left w (act.Move c j) keeps (λ e. absurd (cc)) (λ h run now. unseated (seat w.deployment h c) (λ i. move_from h c j i) (gone h run now))

@@ -11,7 +11,7 @@ use Rattle.sat_stream.specs.declared.stream.Reading.{Reading}
 use Rattle.sat_stream.specs.Stream.{behind}
 use Rattle.sat_world.specs.Seen.{WorldSeen}
 use Rattle.sat_top.specs.Drawing.{told_history}
-use Rattle.sat_runs.specs.Running.{IsAnswering, IsRunning}
+use Rattle.sat_runs.specs.Running.{Does, IsAnswering, IsRunning}
 use Rattle.sat_runs.specs.Runs.{history, run_text}
 use Rattle.sat_top.specs.Whole.{TakesFront}
 
@@ -47,6 +47,10 @@ abbrev pub EndsBefore : Option WorldSeen → ℕ → Reading → Told → Told �
 EndsBefore w count r old new = (front : List ℕ) (done : List Act) → count ≡ length done → AtWorld w front done → (rest : List ℕ) × TakesFront old new rest × (front ++ rest ≡ run_text (behind done r))
 
 -- ---- counted
+
+-- what an act answers and does after each run that the world stood for, with no change of the deployment
+abbrev pub DoesHere : WorldSeen → Act → Answer → WorldSeen → Type 0
+DoesHere old a r new = Does old a r new × (new.deployment ≡ old.deployment)
 
 -- how many writes an answer tells of
 abbrev pub writes_in : Answer → ℕ

@@ -1,5 +1,5 @@
 //! Running a script that is made, for its summary.
-ghost use Rattle.std.specs.Prelude.{ℕ, ◌≡◌, ◌+◌, ◌++◌, [], ◌∷◌, List, ◌≤◌, ◌<◌, IfOk, length, true};
+ghost use Rattle.std.specs.Prelude.{ℕ, ◌≡◌, ◌+◌, ◌++◌, [], ◌∷◌, List, ◌≤◌, ◌<◌, IfOk, OnOk, length, true};
 ghost use Rattle.sat_act.specs.declared.act.Act.{Act};
 ghost use Rattle.sat_act.specs.declared.act.Act.TheVariants as act;
 ghost use Rattle.sat_act.specs.declared.answer.Answer.TheVariants as ans;
@@ -9,21 +9,20 @@ ghost use Rattle.sat_world.specs.Stands.{StandsFor};
 ghost use Rattle.sat_script.specs.Spelled.{AreActsOf};
 ghost use Rattle.sat_runs.specs.Running.{Does};
 ghost use Rattle.sat_settle.specs.LoadActs.{load_acts};
-ghost use Rattle.sat_settle.specs.LoadDraft.{drafted};
+ghost use Rattle.sat_settle.specs.LoadDraft.{drafted, drawn_value};
 ghost use Rattle.sat_settle.specs.LoadHeader.{load_deployment};
 ghost use Rattle.sat_top.specs.Loading.{load_text, IsGoodLoad};
 ghost use Rattle.sat_top.specs.Words.{IsCommand};
-ghost use Rattle.sat_top.specs.UnderWay.{IsCounting, writes_in};
+ghost use Rattle.sat_top.specs.UnderWay.{DoesHere, IsCounting, writes_in};
 
 use crate::output::Output;
 use crate::words::Command;
-use sat_act::{Act, Answer};
+use sat_act::{Answer, Refusal};
 use sat_laws::headline;
 use sat_report::write_summary;
 use sat_rest::settles_all;
-use sat_runs::do_act;
 use sat_script::MOST_ACTS;
-use sat_settle::{Draft, LoadActs, act_of, deployment};
+use sat_settle::{Draft, LoadActs, deployment, drawn_value, settle};
 use sat_world::{World, world_laws};
 use std::alloc::{AllocError, Global};
 
@@ -37,60 +36,75 @@ fn writes_in(answer: &Answer) -> u64
     }
 }
 
-// Does an act, and tells how many writes were done: one or none.
-#[inline(always)]
-fn count_act(world: &mut World, act: &Act) -> Result<u64, AllocError>
-    requires act { IsActOf world.old.deployment act.now }
-    ensures deployment { world.new.deployment ≡ world.old.deployment }
-    ensures one { IfOk result (λ wrote. wrote ≤ 1) }
-    ensures counting { IfOk result (λ wrote. (acts : List Act) (written : ℕ) → IsCounting world.old.deployment world.old written acts
-        → IsCounting world.old.deployment world.new (written + wrote) (acts ++ act.now ∷ [])) }
-{
-    let answer = do_act(world, act)?;
-    Ok(writes_in(&answer))
-}
-
-// Whether a client has no seat. What it asks of one is then refused, whatever item, value and site it names.
+// Whether a client has no seat. A write that it asks for is then refused, whatever its item and value.
 #[inline(always)]
 fn lacks_seat(world: &World, client: u16) -> bool
     requires { client < length world.now.deployment.clients }
-    ensures writes { result ≡ true → (item : ℕ) (value : List ℕ) → Does world.now (act.Write client item value) (ans.Refused why.NoSession) world.now }
-    ensures reads { result ≡ true → (item : ℕ) → Does world.now (act.Read client item) (ans.Refused why.NoSession) world.now }
-    ensures moves { result ≡ true → (site : ℕ) → Does world.now (act.Move client site) (ans.Refused why.NoSession) world.now }
+    ensures { result ≡ true → (item : ℕ) (value : List ℕ) → Does world.now (act.Write client item value) (ans.Refused why.NoSession) world.now }
 {
     // Brings these laws into the proof; they do nothing when they run.
     world_laws();
     world.client(client).seat.is_none()
 }
 
-// Whether an act as it was drawn is refused since its client has no seat. Most acts of clients in a large script are.
+// Does the write of a number. Most writes of a large script are refused since their client has no seat, so the value is made behind
+// that.
 #[inline(always)]
-fn is_refused(world: &World, draft: &Draft) -> bool
-    requires { IsActOf world.now.deployment (drafted draft.now) }
-    ensures { result ≡ true → Does world.now (drafted draft.now) (ans.Refused why.NoSession) world.now }
+fn write(
+    alloc: Global,
+    world: &mut World,
+    client: u16,
+    item: u16,
+    number: u32,
+) -> Result<Answer, AllocError>
+    requires { IsActOf world.old.deployment (act.Write client item (drawn_value number)) }
+    ensures { IfOk result (λ answer. DoesHere world.old (act.Write client item (drawn_value number)) answer world.new) }
+{
+    if lacks_seat(world, client) {
+        return Ok(Answer::Refused(Refusal::NoSession));
+    }
+    let value = drawn_value(alloc, number)?;
+    world.write(client, item, &value)
+}
+
+// Does an act as it was drawn, by the world's call of its kind.
+#[inline(always)]
+fn do_draft(alloc: Global, world: &mut World, draft: Draft) -> Result<Answer, AllocError>
+    requires { IsActOf world.old.deployment (drafted draft) }
+    ensures { IfOk result (λ answer. DoesHere world.old (drafted draft) answer world.new) }
 {
     match draft {
-        Draft::Write { client, .. } => lacks_seat(world, *client),
-        Draft::Other(Act::Read { client, .. }) => lacks_seat(world, *client),
-        Draft::Other(Act::Move { client, .. }) => lacks_seat(world, *client),
-        Draft::Other(_) => false,
+        Draft::Write {
+            client,
+            item,
+            number,
+        } => write(alloc, world, client, item, number),
+        Draft::Read { client, item } => world.read(client, item),
+        Draft::Move { client, site } => world.migrate(client, site),
+        Draft::Attach { client, site } => world.attach(client, site),
+        Draft::Tick { site, gear, ts } => world.tick(site, gear, ts),
+        Draft::Gather { site } => world.gather(site),
+        Draft::Emit { site } => world.emit(site),
+        Draft::Pulse { site } => world.pulse(site),
+        Draft::Hop { epoch, from, to } => world.hop(epoch, from, to),
+        Draft::Bulk { from, gear, to } => world.bulk(from, gear, to, None),
+        Draft::Turn { site } => world.turn(site),
+        Draft::Close { site } => world.close(site),
+        Draft::Settle => settle(world),
     }
 }
 
-// Does an act as it was drawn, and tells how many writes were done: one or none. The value of a write that is refused isn't made.
+// Does an act as it was drawn, and tells how many writes were done: one or none.
 #[inline(always)]
 fn count_draft(alloc: Global, world: &mut World, draft: Draft) -> Result<u64, AllocError>
     requires act { IsActOf world.old.deployment (drafted draft) }
-    ensures deployment { world.new.deployment ≡ world.old.deployment }
+    ensures deployment { OnOk result (world.new.deployment ≡ world.old.deployment) }
     ensures one { IfOk result (λ wrote. wrote ≤ 1) }
     ensures counting { IfOk result (λ wrote. (acts : List Act) (written : ℕ) → IsCounting world.old.deployment world.old written acts
         → IsCounting world.old.deployment world.new (written + wrote) (acts ++ drafted draft ∷ [])) }
 {
-    if is_refused(world, &draft) {
-        return Ok(0);
-    }
-    let act = act_of(alloc, draft)?;
-    count_act(world, &act)
+    let answer = do_draft(alloc, world, draft)?;
+    Ok(writes_in(&answer))
 }
 
 // Does the acts that are still to come one after another, and counts the writes that were done. No act is kept.
@@ -99,7 +113,7 @@ fn count_writes(alloc: Global, world: &mut World, mut coming: LoadActs) -> Resul
     requires fresh { StandsFor world.old [] }
     requires acts { AreActsOf world.old.deployment coming }
     requires few { length coming ≤ MOST_ACTS }
-    ensures deployment { world.new.deployment ≡ world.old.deployment }
+    ensures deployment { OnOk result (world.new.deployment ≡ world.old.deployment) }
     ensures counting { IfOk result (λ written. IsCounting world.old.deployment world.new written coming) }
 {
     let mut written = 0;

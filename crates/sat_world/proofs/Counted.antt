@@ -6,17 +6,17 @@ use Rattle.sat_act.specs.declared.act.Act.{Act}
 use Rattle.sat_act.specs.declared.act.Act.TheVariants as act
 use Rattle.sat_act.specs.declared.answer.Answer.{Answer}
 use Rattle.sat_act.specs.declared.entry.Entry.{Entry}
-use Rattle.sat_act.specs.Answers.{answer}
 use Rattle.sat_act.specs.Deployed.{Deployed}
-use Rattle.sat_act.specs.Headline.{IsGood}
+use Rattle.sat_act.specs.Limits.{IsDeployment}
 use Rattle.sat_act.specs.Ranges.{IsActOf}
-use Rattle.sat_act.specs.Runs.{IsRun, is_settle}
+use Rattle.sat_act.specs.Runs.{is_settle}
 use Rattle.sat_act.specs.Settling.{is_done}
 use Rattle.sat_laws.proofs.Steps.{Step, outcome, showed_turn, showed_stamp}
 use Rattle.sat_world.specs.Counts.{counted}
 use Rattle.sat_world.specs.Seen.{WorldSeen}
 use Rattle.sat_world.specs.Stands.{StandsFor}
-use Rattle.sat_world.specs.Steps.{Counts, Goes}
+use Rattle.sat_world.specs.Applies.{Applies}
+use Rattle.sat_world.specs.Steps.{Counts, Goes, is_local, is_quiet}
 use Rattle.sat_world.specs.Worlds.{IsWorld}
 use Rattle.sat_world.proofs.Counting.{undone-uncounted}
 use Rattle.sat_world.proofs.Runs.{runs, runs-counted}
@@ -45,12 +45,6 @@ plain-counts w v a r k b p f g = record {
   shown = g.shown ∙ sym (uncounted w v a r w.shown k b p f g);
 }
 
--- as the code asks it
-pub counts-in : (w v u : WorldSeen) (a b : Act) (x : Result Answer AllocError) → w ≡ v → IsWorld w → IsActOf v.deployment a → is_settle a ≡ false → a ≡ b → is_showing b ≡ false → IfOk x (λ r. Goes v b r u) → IfOk x (λ r. Counts v a r u)
-counts-in w v u a b (Ok r) e k l p is f g =
-    plain-counts v u a r (subst IsWorld e k) l p (subst (λ (b : Act). is_showing b ≡ false) (sym is) f) (subst (λ (b : Act). Goes v b r u) (sym is) g)
-counts-in w v u a b (Err e) _ k l p is f g = tt
-
 -- ---- acts that may show
 
 pub counted-so : (w v u : WorldSeen) (a : Act) (r : Answer) (n : ℕ) → u ≡ v → Goes w a r v → n ≡ counted r u.shown → Counts w a r (record u { shown = n })
@@ -65,31 +59,53 @@ counts-as w v u a r e c = subst (λ (v : WorldSeen). Counts v a r u) e c
 
 -- ---- what is then true
 
-module _ (w v : WorldSeen) (a : Act) where
-  done : (r : Answer) → Counts w a r v → is_done r ≡ false → v ≡ w
-  done r c e = ap (λ (n : ℕ). record v { shown = n }) (c.shown ∙ undone-uncounted r w.shown e) ∙ c.goes.refused e
+done : (w v : WorldSeen) (a : Act) (r : Answer) → Counts w a r v → is_done r ≡ false → v ≡ w
+done w v a r c e = ap (λ (n : ℕ). record v { shown = n }) (c.shown ∙ undone-uncounted r w.shown e) ∙ c.goes.refused e
 
-  pub applied-answer : (x : Result Answer AllocError) → IsWorld w → IsActOf w.deployment a → is_settle a ≡ false → IfOk x (λ r. Counts w a r v) →
-      IfOk x (λ r. (h : List Entry) → IsRun w.deployment h → StandsFor w h → r ≡ answer w.deployment h a)
-  applied-answer (Ok r) k b p c = λ h run st. (runs w (record v { shown = w.shown }) h a r k.frame.deployment b p run st.parts c.goes).answer
-  applied-answer (Err e) k b p c = tt
+-- an act that is counted
+pub applies : (w v u : WorldSeen) (a : Act) (r : Answer) → w ≡ v → IsWorld w → IsActOf v.deployment a → is_settle a ≡ false → Counts v a r u → Applies v a r u
+applies w v u a r e k b p c = record {
+  answer = λ h run st. (runs v (record u { shown = v.shown }) h a r deployed b p run st.parts c.goes).answer;
+  stands = λ h run st.
+      subst (λ (n : ℕ). StandsFor (record u { shown = n }) (record { act = a; answer = r; inner = false } ∷ h)) (sym c.shown)
+      (runs-counted v (record u { shown = v.shown }) h a r deployed b p run st c.goes);
+  good = λ h run st. (runs v (record u { shown = v.shown }) h a r deployed b p run st.parts c.goes).good;
+  deployment = c.goes.deployment;
+  refused = done v u a r c;
+}
+  where
+    deployed : IsDeployment v.deployment
+    deployed = (subst IsWorld e k).frame.deployment
 
-  pub applied-stands : (x : Result Answer AllocError) → IsWorld w → IsActOf w.deployment a → is_settle a ≡ false → IfOk x (λ r. Counts w a r v) →
-      IfOk x (λ r. (h : List Entry) → IsRun w.deployment h → StandsFor w h → StandsFor v (record { act = a; answer = r; inner = false } ∷ h))
-  applied-stands (Ok r) k b p c = λ h run st.
-      subst (λ (n : ℕ). StandsFor (record v { shown = n }) (record { act = a; answer = r; inner = false } ∷ h)) (sym c.shown)
-      (runs-counted w (record v { shown = w.shown }) h a r k.frame.deployment b p run st c.goes)
-  applied-stands (Err e) k b p c = tt
+-- an act that shows nothing
+pub plainly : (w v u : WorldSeen) (a : Act) (r : Answer) → w ≡ v → IsWorld w → IsActOf v.deployment a → is_settle a ≡ false → is_showing a ≡ false → Goes v a r u → Applies v a r u
+plainly w v u a r e k b p f g = applies w v u a r e k b p (plain-counts v u a r (subst IsWorld e k) b p f g)
 
-  pub applied-good : (x : Result Answer AllocError) → IsWorld w → IsActOf w.deployment a → is_settle a ≡ false → IfOk x (λ r. Counts w a r v) →
-      IfOk x (λ r. (h : List Entry) → IsRun w.deployment h → StandsFor w h → IsGood w.deployment (record { act = a; answer = r; inner = false } ∷ h))
-  applied-good (Ok r) k b p c = λ h run st. (runs w (record v { shown = w.shown }) h a r k.frame.deployment b p run st.parts c.goes).good
-  applied-good (Err e) k b p c = tt
+-- an act that moves no label, is no client's and shows nothing
+pub quiet-local : (a : Act) → is_quiet a ≡ true → is_local a ≡ true
+quiet-local (act.Beat i j) e = refl
+quiet-local (act.Fall i) e = refl
+quiet-local (act.Advance i) e = refl
+quiet-local _ e = absurd (cc)
 
-  pub applied-refused : (x : Result Answer AllocError) → IfOk x (λ r. Counts w a r v) → IfOk x (λ r. is_done r ≡ false → v ≡ w)
-  applied-refused (Ok r) c = done r c
-  applied-refused (Err e) c = tt
+pub quiet-shows : (a : Act) → is_quiet a ≡ true → is_showing a ≡ false
+quiet-shows (act.Beat i j) e = refl
+quiet-shows (act.Fall i) e = refl
+quiet-shows (act.Advance i) e = refl
+quiet-shows _ e = absurd (cc)
 
-  pub applied-deployment : (x : Result Answer AllocError) → IfOk x (λ r. Counts w a r v) → OnErr x (v ≡ w) → v.deployment ≡ w.deployment
-  applied-deployment (Ok r) c e = c.goes.deployment
-  applied-deployment (Err f) c e = ap (λ (x : WorldSeen). x.deployment) e
+-- ---- as the clauses of a call say it
+
+module _ (w v : WorldSeen) where
+  -- the act by its kind
+  pub applies-in : (a b : Act) (x : Result Answer AllocError) → a ≡ b → IfOk x (λ r. Applies w b r v) → IfOk x (λ r. Applies w a r v)
+  applies-in a b x is s = subst (λ (a : Act). IfOk x (λ r. Applies w a r v)) (sym is) s
+
+  pub applied-deployment : (a : Act) (x : Result Answer AllocError) → IfOk x (λ r. Applies w a r v) → OnErr x (v ≡ w) → v.deployment ≡ w.deployment
+  applied-deployment a (Ok r) s e = s.deployment
+  applied-deployment a (Err f) s e = ap (λ (x : WorldSeen). x.deployment) e
+
+  -- a clause of what holds of the answer
+  pub applied : (a : Act) (P : Answer → Type 0) (x : Result Answer AllocError) → ((r : Answer) → Applies w a r v → P r) → IfOk x (λ r. Applies w a r v) → IfOk x P
+  applied a P (Ok r) gives s = gives r s
+  applied a P (Err f) gives s = tt

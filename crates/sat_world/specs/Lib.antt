@@ -4,6 +4,7 @@ pub mod Counts
 pub mod Stands
 pub mod Worlds
 pub mod Steps
+pub mod Applies
 pub mod Shows
 pub mod Clocks
 pub mod Starts

@@ -104,6 +104,13 @@ is_local (act.Fall i) = true
 is_local (act.Advance i) = true
 is_local _ = false
 
+-- an act at one site that moves no label, is no client's and shows nothing, whatever else it is told
+abbrev pub is_quiet : Act → Bool
+is_quiet (act.Beat i j) = true
+is_quiet (act.Fall i) = true
+is_quiet (act.Advance i) = true
+is_quiet _ = false
+
 -- an act at one site that may send a label
 abbrev pub is_sending : Act → Bool
 is_sending (act.Emit i) = true

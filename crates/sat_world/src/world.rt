@@ -10,7 +10,8 @@ ghost use Rattle.sat_act.specs.Parts.{view, emission, in_stamp_mode, waiting, ve
 ghost use Rattle.sat_world.specs.TakesNone.{takes_none};
 ghost use Rattle.sat_world.specs.Counts.{counted, shown_count};
 ghost use Rattle.sat_world.specs.Underway.{underway};
-ghost use Rattle.sat_world.specs.Steps.{act_at, is_local, is_sending, Counts, Goes};
+ghost use Rattle.sat_world.specs.Applies.{Applies};
+ghost use Rattle.sat_world.specs.Steps.{act_at, is_quiet};
 ghost use Rattle.sat_world.specs.Worlds.{IsWorld};
 ghost use Rattle.sat_world.specs.Shows.{IsVersion};
 ghost use Rattle.sat_world.specs.Stands.{StandsFor};
@@ -76,8 +77,8 @@ impl World {
         })
     }
 
-    /// Does an act and answers it. For want of memory the world is as before. A tick, a clock, a leave, an attach, a turn, a stamp, a
-    /// fall, an advance and a kill take none.
+    /// Does an act and answers it, by the call of its kind. For want of memory the world is as before. A tick, a clock, a leave, an
+    /// attach, a turn, a stamp, a fall, an advance and a kill take none.
     pub fn apply(&mut self, act: &Act) -> Result<Answer, AllocError>
         requires act { IsActOf self.old.deployment act.now }
         requires plain { is_settle act.now ≡ false }
@@ -153,16 +154,14 @@ impl World {
         underway::in_lanes(&self.sites, sites, gears).saturating_add(underway::on_links(&self.nets))
     }
 
-    // Does an act, and counts its answer. The calls below do one kind of act each; of these a turn and a stamp count what they show.
+    // The calls below do one kind of act each, with what `apply` ensures said in one clause.
     fn step(&mut self, act: &Act) -> Result<Answer, AllocError>
         requires act { IsActOf self.old.deployment act.now }
         requires plain { is_settle act.now ≡ false }
-        ensures counts { IfOk result (λ r. Counts self.old act.now r self.new) }
-        ensures world { IsWorld self.old }
+        ensures applies { IfOk result (λ r. Applies self.old act.now r self.new) }
         ensures spare { takes_none act.now ≡ true → IsOk result }
         ensures err { OnErr result (self.new ≡ self.old) }
     {
-        let _ = &self.deployment;
         match act {
             Act::Tick { site, gear, ts } => self.tick(*site, *gear, *ts),
             Act::Clock => self.clock(),
@@ -197,60 +196,69 @@ impl World {
         }
     }
 
-    fn tick(&mut self, site: u16, gear: u16, ts: u64) -> Result<Answer, AllocError>
+    /// A tick of a gear, as `apply` does it. It takes no memory.
+    pub fn tick(&mut self, site: u16, gear: u16, ts: u64) -> Result<Answer, AllocError>
         requires { IsActOf self.old.deployment (Act.Tick site gear ts) }
-        ensures goes { IfOk result (λ r. Goes self.old (Act.Tick site gear ts) r self.new) }
+        ensures applies { IfOk result (λ r. Applies self.old (Act.Tick site gear ts) r self.new) }
         ensures fine { IsOk result }
     {
         Ok(places::tick_at(&mut self.sites, site, gear, ts))
     }
 
-    fn gather(&mut self, site: u16) -> Result<Answer, AllocError>
+    /// A gather, as `apply` does it.
+    pub fn gather(&mut self, site: u16) -> Result<Answer, AllocError>
         requires { IsActOf self.old.deployment (Act.Gather site) }
-        ensures goes { IfOk result (λ r. Goes self.old (Act.Gather site) r self.new) }
+        ensures applies { IfOk result (λ r. Applies self.old (Act.Gather site) r self.new) }
         ensures err { OnErr result (self.new ≡ self.old) }
     {
         let answer = places::gather_at(&mut self.sites, site)?;
         Ok(answer)
     }
 
-    fn beat(&mut self, from: u16, to: u16) -> Result<Answer, AllocError>
+    /// A beat, as `apply` does it.
+    pub fn beat(&mut self, from: u16, to: u16) -> Result<Answer, AllocError>
         requires { IsActOf self.old.deployment (Act.Beat from to) }
-        ensures goes { IfOk result (λ r. Goes self.old (Act.Beat from to) r self.new) }
+        ensures applies { IfOk result (λ r. Applies self.old (Act.Beat from to) r self.new) }
         ensures err { OnErr result (self.new ≡ self.old) }
     {
         self.local(from, SiteInput::Beat { to })
     }
 
-    fn fall(&mut self, site: u16) -> Result<Answer, AllocError>
+    /// A fall, as `apply` does it. It takes no memory.
+    pub fn fall(&mut self, site: u16) -> Result<Answer, AllocError>
         requires { IsActOf self.old.deployment (Act.Fall site) }
-        ensures goes { IfOk result (λ r. Goes self.old (Act.Fall site) r self.new) }
+        ensures applies { IfOk result (λ r. Applies self.old (Act.Fall site) r self.new) }
         ensures fine { IsOk result }
     {
         self.local(site, SiteInput::Fall)
     }
 
-    fn advance(&mut self, site: u16) -> Result<Answer, AllocError>
+    /// An advance, as `apply` does it. It takes no memory.
+    pub fn advance(&mut self, site: u16) -> Result<Answer, AllocError>
         requires { IsActOf self.old.deployment (Act.Advance site) }
-        ensures goes { IfOk result (λ r. Goes self.old (Act.Advance site) r self.new) }
+        ensures applies { IfOk result (λ r. Applies self.old (Act.Advance site) r self.new) }
         ensures fine { IsOk result }
     {
         self.local(site, SiteInput::Advance)
     }
 
-    fn stamp(&mut self, site: u16) -> Result<Answer, AllocError>
+    /// A stamp, as `apply` does it. It takes no memory.
+    pub fn stamp(&mut self, site: u16) -> Result<Answer, AllocError>
         requires { IsActOf self.old.deployment (Act.Stamp site) }
-        ensures counts { IfOk result (λ r. Counts self.old (Act.Stamp site) r self.new) }
+        ensures applies { IfOk result (λ r. Applies self.old (Act.Stamp site) r self.new) }
         ensures fine { IsOk result }
     {
-        let answer = self.local(site, SiteInput::Stamp)?;
+        let answer = places::step_at(&mut self.sites, site, SiteInput::Stamp)?;
         self.shown = more_shown(self.shown, &answer);
         Ok(answer)
     }
 
-    fn pulse(&mut self, site: u16) -> Result<Answer, AllocError>
-        requires { site < self.old.deployment.sites }
-        ensures goes { IfOk result (λ r. Goes self.old (Act.Pulse site) r self.new) }
+    /// A pulse, as `apply` does it.
+    // What a site sends is on its way before the site has sent it, in its emission epoch as it is before the act, since a sending
+    // takes no memory and the way may.
+    pub fn pulse(&mut self, site: u16) -> Result<Answer, AllocError>
+        requires { IsActOf self.old.deployment (Act.Pulse site) }
+        ensures applies { IfOk result (λ r. Applies self.old (Act.Pulse site) r self.new) }
         ensures err { OnErr result (self.new ≡ self.old) }
     {
         let known = &self.sites[site as usize];
@@ -260,19 +268,25 @@ impl World {
         Ok(places::pulse_at(&mut self.sites, site))
     }
 
-    fn close(&mut self, site: u16) -> Result<Answer, AllocError>
-        requires { site < self.old.deployment.sites }
-        ensures goes { IfOk result (λ r. Goes self.old (Act.Close site) r self.new) }
+    /// A close, as `apply` does it.
+    pub fn close(&mut self, site: u16) -> Result<Answer, AllocError>
+        requires { IsActOf self.old.deployment (Act.Close site) }
+        ensures applies { IfOk result (λ r. Applies self.old (Act.Close site) r self.new) }
         ensures err { OnErr result (self.new ≡ self.old) }
     {
-        self.sending(site, SiteInput::Close)
+        let known = &self.sites[site as usize];
+        let epoch = known.view().emission;
+        let sent = known.sends(&SiteInput::Close);
+        nets::send_at(&mut self.nets, epoch as usize - 1, site, sent)?;
+        let answer = places::step_at(&mut self.sites, site, SiteInput::Close)?;
+        Ok(answer)
     }
 
-    // An act that changes one site and nothing else.
+    // An act that changes one site and nothing else, and shows nothing.
     fn local(&mut self, site: u16, input: SiteInput) -> Result<Answer, AllocError>
         requires act { IsActOf self.old.deployment (act_at site input) }
-        requires local { is_local (act_at site input) ≡ true }
-        ensures goes { IfOk result (λ r. Goes self.old (act_at site input) r self.new) }
+        requires quiet { is_quiet (act_at site input) ≡ true }
+        ensures applies { IfOk result (λ r. Applies self.old (act_at site input) r self.new) }
         ensures spare { takes_none (act_at site input) ≡ true → IsOk result }
         ensures err { OnErr result (self.new ≡ self.old) }
     {
@@ -280,8 +294,9 @@ impl World {
         Ok(answer)
     }
 
-    fn clock(&mut self) -> Result<Answer, AllocError>
-        ensures goes { IfOk result (λ r. Goes self.old Act.Clock r self.new) }
+    /// A clock, as `apply` does it. It takes no memory.
+    pub fn clock(&mut self) -> Result<Answer, AllocError>
+        ensures applies { IfOk result (λ r. Applies self.old Act.Clock r self.new) }
         ensures fine { IsOk result }
     {
         let gears = self.deployment.gears();
@@ -290,9 +305,10 @@ impl World {
         Ok(Answer::Clocked(ts))
     }
 
-    fn write(&mut self, client: u16, item: u16, value: &Value) -> Result<Answer, AllocError>
+    /// A client's write, as `apply` does it. The value is copied where the write is done.
+    pub fn write(&mut self, client: u16, item: u16, value: &Value) -> Result<Answer, AllocError>
         requires { IsActOf self.old.deployment (Act.Write client item value.now) }
-        ensures goes { IfOk result (λ r. Goes self.old (Act.Write client item value.now) r self.new) }
+        ensures applies { IfOk result (λ r. Applies self.old (Act.Write client item value.now) r self.new) }
         ensures err { OnErr result (self.new ≡ self.old) }
     {
         let known = self.clients[client as usize];
@@ -309,9 +325,10 @@ impl World {
         Ok(answer)
     }
 
-    fn read(&mut self, client: u16, item: u16) -> Result<Answer, AllocError>
+    /// A client's read, as `apply` does it.
+    pub fn read(&mut self, client: u16, item: u16) -> Result<Answer, AllocError>
         requires { IsActOf self.old.deployment (Act.Read client item) }
-        ensures goes { IfOk result (λ r. Goes self.old (Act.Read client item) r self.new) }
+        ensures applies { IfOk result (λ r. Applies self.old (Act.Read client item) r self.new) }
         ensures err { OnErr result (self.new ≡ self.old) }
     {
         let known = self.clients[client as usize];
@@ -327,9 +344,10 @@ impl World {
         Ok(answer)
     }
 
-    fn migrate(&mut self, client: u16, to: u16) -> Result<Answer, AllocError>
+    /// A client's move to a site, as `apply` does it.
+    pub fn migrate(&mut self, client: u16, to: u16) -> Result<Answer, AllocError>
         requires { IsActOf self.old.deployment (Act.Move client to) }
-        ensures goes { IfOk result (λ r. Goes self.old (Act.Move client to) r self.new) }
+        ensures applies { IfOk result (λ r. Applies self.old (Act.Move client to) r self.new) }
         ensures err { OnErr result (self.new ≡ self.old) }
     {
         let known = self.clients[client as usize];
@@ -345,9 +363,10 @@ impl World {
         Ok(answer)
     }
 
-    fn leave(&mut self, client: u16) -> Result<Answer, AllocError>
-        requires { client < length self.old.deployment.clients }
-        ensures goes { IfOk result (λ r. Goes self.old (Act.Leave client) r self.new) }
+    /// A client's leave, as `apply` does it. It takes no memory.
+    pub fn leave(&mut self, client: u16) -> Result<Answer, AllocError>
+        requires { IsActOf self.old.deployment (Act.Leave client) }
+        ensures applies { IfOk result (λ r. Applies self.old (Act.Leave client) r self.new) }
         ensures fine { IsOk result }
     {
         let known = self.clients[client as usize];
@@ -358,9 +377,10 @@ impl World {
         Ok(Answer::Left(known.carried.point))
     }
 
-    fn attach(&mut self, client: u16, site: u16) -> Result<Answer, AllocError>
+    /// A client's attach to a site, as `apply` does it. It takes no memory.
+    pub fn attach(&mut self, client: u16, site: u16) -> Result<Answer, AllocError>
         requires { IsActOf self.old.deployment (Act.Attach client site) }
-        ensures goes { IfOk result (λ r. Goes self.old (Act.Attach client site) r self.new) }
+        ensures applies { IfOk result (λ r. Applies self.old (Act.Attach client site) r self.new) }
         ensures fine { IsOk result }
     {
         let known = self.clients[client as usize];
@@ -375,27 +395,11 @@ impl World {
         Ok(answer)
     }
 
-    // An act at a site that may send a label, in its emission epoch as it is before the act. What is sent is on its way before the
-    // site has sent it, since a sending takes no memory and the way may.
-    fn sending(&mut self, site: u16, input: SiteInput) -> Result<Answer, AllocError>
-        requires site { site < self.old.deployment.sites }
-        requires sends { is_sending (act_at site input) ≡ true }
-        ensures goes { IfOk result (λ r. Goes self.old (act_at site input) r self.new) }
-        ensures err { OnErr result (self.new ≡ self.old) }
-    {
-        let known = &self.sites[site as usize];
-        let epoch = known.view().emission;
-        let sent = known.sends(&input);
-        nets::send_at(&mut self.nets, epoch as usize - 1, site, sent)?;
-        let answer = places::step_at(&mut self.sites, site, input)?;
-        Ok(answer)
-    }
-
-    // What is emitted is on its way before the site has sent it, as above. A site looks for its next label once: where it has none
-    // the act is refused.
-    fn emit(&mut self, site: u16) -> Result<Answer, AllocError>
-        requires { site < self.old.deployment.sites }
-        ensures goes { IfOk result (λ r. Goes self.old (Act.Emit site) r self.new) }
+    /// An emission, as `apply` does it.
+    // A site looks for its next label once: where it has none the act is refused.
+    pub fn emit(&mut self, site: u16) -> Result<Answer, AllocError>
+        requires { IsActOf self.old.deployment (Act.Emit site) }
+        ensures applies { IfOk result (λ r. Applies self.old (Act.Emit site) r self.new) }
         ensures err { OnErr result (self.new ≡ self.old) }
     {
         let known = &self.sites[site as usize];
@@ -408,9 +412,10 @@ impl World {
         Ok(places::emit_at(&mut self.sites, site, label))
     }
 
-    fn hop(&mut self, epoch: u16, from: NodeId, to: u16) -> Result<Answer, AllocError>
+    /// A hop of an epoch's tree, as `apply` does it.
+    pub fn hop(&mut self, epoch: u16, from: NodeId, to: u16) -> Result<Answer, AllocError>
         requires { IsActOf self.old.deployment (Act.Hop epoch from to) }
-        ensures goes { IfOk result (λ r. Goes self.old (Act.Hop epoch from to) r self.new) }
+        ensures applies { IfOk result (λ r. Applies self.old (Act.Hop epoch from to) r self.new) }
         ensures err { OnErr result (self.new ≡ self.old) }
     {
         let place = epoch as usize - 1;
@@ -418,9 +423,10 @@ impl World {
         Ok(answer)
     }
 
-    fn turn(&mut self, site: u16) -> Result<Answer, AllocError>
-        requires { site < self.old.deployment.sites }
-        ensures counts { IfOk result (λ r. Counts self.old (Act.Turn site) r self.new) }
+    /// A turn, as `apply` does it. It takes no memory.
+    pub fn turn(&mut self, site: u16) -> Result<Answer, AllocError>
+        requires { IsActOf self.old.deployment (Act.Turn site) }
+        ensures applies { IfOk result (λ r. Applies self.old (Act.Turn site) r self.new) }
         ensures fine { IsOk result }
     {
         let known = &self.sites[site as usize];
@@ -432,8 +438,9 @@ impl World {
         Ok(answer)
     }
 
-    // A payload of a lane. No memory holds payloads whose number has more than 63 bits.
-    fn bulk(
+    /// A payload of a lane comes in, that of a number or the next one, as `apply` does it.
+    // No memory holds payloads whose number has more than 63 bits.
+    pub fn bulk(
         &mut self,
         from: u16,
         gear: u16,
@@ -441,7 +448,7 @@ impl World {
         asked: Option<u64>,
     ) -> Result<Answer, AllocError>
         requires { IsActOf self.old.deployment (Act.Bulk from gear to asked) }
-        ensures goes { IfOk result (λ r. Goes self.old (Act.Bulk from gear to asked) r self.new) }
+        ensures applies { IfOk result (λ r. Applies self.old (Act.Bulk from gear to asked) r self.new) }
         ensures err { OnErr result (self.new ≡ self.old) }
     {
         let receiver = &self.sites[to as usize];
@@ -458,10 +465,11 @@ impl World {
         Ok(answer)
     }
 
-    // A beat that a site made for another one. No memory holds beats whose number has more than 63 bits.
-    fn beat_in(&mut self, from: u16, to: u16, number: u64) -> Result<Answer, AllocError>
+    /// A beat that a site made for another one comes in, as `apply` does it.
+    // No memory holds beats whose number has more than 63 bits.
+    pub fn beat_in(&mut self, from: u16, to: u16, number: u64) -> Result<Answer, AllocError>
         requires { IsActOf self.old.deployment (Act.BeatIn from to number) }
-        ensures goes { IfOk result (λ r. Goes self.old (Act.BeatIn from to number) r self.new) }
+        ensures applies { IfOk result (λ r. Applies self.old (Act.BeatIn from to number) r self.new) }
         ensures err { OnErr result (self.new ≡ self.old) }
     {
         let sender = &self.sites[from as usize];
@@ -477,9 +485,10 @@ impl World {
         Ok(answer)
     }
 
-    fn kill(&mut self, epoch: u16, serializer: u16) -> Result<Answer, AllocError>
+    /// A serializer of an epoch fails, as `apply` does it. It takes no memory.
+    pub fn kill(&mut self, epoch: u16, serializer: u16) -> Result<Answer, AllocError>
         requires { IsActOf self.old.deployment (Act.Kill epoch serializer) }
-        ensures goes { IfOk result (λ r. Goes self.old (Act.Kill epoch serializer) r self.new) }
+        ensures applies { IfOk result (λ r. Applies self.old (Act.Kill epoch serializer) r self.new) }
         ensures fine { IsOk result }
     {
         Ok(nets::kill_at(&mut self.nets, epoch as usize - 1, serializer))

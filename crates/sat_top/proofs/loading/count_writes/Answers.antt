@@ -10,7 +10,7 @@ pub loop-draft-preserved : goal.loop-draft-preserved
 loop-draft-preserved c =
     let next : c.loop-draft.coming ≡ drafted c.in-Some.draft ∷ c.next.new.self = search rules in
     record {
-      deployment = c.count_draft.ensures.deployment ∙ c.loop-draft.invariant.deployment;
+      deployment = c.in_ok-written.ensures.deployment ∙ c.loop-draft.invariant.deployment;
       counts =
           counts_on c.args.world.now.deployment c.loop-draft.world c.count_draft.new.world c.loop-draft.written c.in_ok-written.field-0 c.loop-draft.coming c.next.new.self c.args.coming (drafted c.in-Some.draft)
           c.loop-draft.invariant.deployment next c.in_ok-written.ensures.one c.in_ok-written.ensures.counting c.loop-draft.invariant.counts;

@@ -1,6 +1,7 @@
 use Rattle.std.proofs.Common.{ap, refl}
 use Rattle.sat_site.specs.declared.input.SiteInput.TheVariants as input
 use Rattle.sat_site.specs.declared.output.SiteView.{SiteView}
+use Rattle.sat_world.proofs.Counted.{plainly}
 use Rattle.sat_world.proofs.Deeds.{emission-placed, net-seat, did-not-emit, did-send, next-at}
 use Rattle.sat_world.proofs.Hands.{fit-here, hands-at, site-at}
 use Rattle.sat_world.proofs.Runs.{seen-as, stays}
@@ -13,8 +14,9 @@ send_at-requires-clause-within c =
 pub send_at-requires-clause-seat : goal.send_at-requires-clause-seat
 send_at-requires-clause-seat c = λ n at. net-seat _ _ _ _ n c.self.view_is c.self.invariant c.requires at
 
-pub returns-in_default-clause-goes : goal.returns-in_default-clause-goes
-returns-in_default-clause-goes c = did-not-emit _ _ _ _ _ c.self.view_is c.self.invariant c.requires c.index-known.ensures c.next.ensures.site c.next.ensures.next c.in_default.is
+pub returns-in_default-clause-applies : goal.returns-in_default-clause-applies
+returns-in_default-clause-applies c = plainly _ _ _ _ _ c.self.view_is c.self.invariant c.requires refl refl
+    (did-not-emit _ _ _ _ _ c.self.view_is c.self.invariant c.requires c.index-known.ensures c.next.ensures.site c.next.ensures.next c.in_default.is)
 
 pub emit_at-requires-clause-next : goal.emit_at-requires-clause-next
 emit_at-requires-clause-next c = next-at _ _ _ _ _ _ c.self.view_is c.self.invariant c.requires c.index-known.ensures c.next.ensures.next c.in-Some.is
@@ -26,6 +28,7 @@ pub invariant_of-self-2 : goal.invariant_of-self-2
 invariant_of-self-2 c = stays _ _ _ _ _ c.self.view_is c.self.invariant c.requires refl
     (did-send _ _ _ _ input.Emit _ _ _ _ _ c.self.view_is c.self.invariant c.requires refl c.index-known.ensures c.view-epoch.ensures.sound (ap (λ (v : SiteView). v.emission) c.view-epoch.ensures.seen) c.sends_next-sent.ensures c.in_ok-send_at.ensures.ok c.emit_at.ensures)
 
-pub returns-clause-goes : goal.returns-clause-goes
-returns-clause-goes c = seen-as _ _ _ _ _ c.self.view_is
-    (did-send _ _ _ _ input.Emit _ _ _ _ _ c.self.view_is c.self.invariant c.requires refl c.index-known.ensures c.view-epoch.ensures.sound (ap (λ (v : SiteView). v.emission) c.view-epoch.ensures.seen) c.sends_next-sent.ensures c.in_ok-send_at.ensures.ok c.emit_at.ensures)
+pub returns-clause-applies : goal.returns-clause-applies
+returns-clause-applies c = plainly _ _ _ _ _ c.self.view_is c.self.invariant c.requires refl refl
+    (seen-as _ _ _ _ _ c.self.view_is
+    (did-send _ _ _ _ input.Emit _ _ _ _ _ c.self.view_is c.self.invariant c.requires refl c.index-known.ensures c.view-epoch.ensures.sound (ap (λ (v : SiteView). v.emission) c.view-epoch.ensures.seen) c.sends_next-sent.ensures c.in_ok-send_at.ensures.ok c.emit_at.ensures))

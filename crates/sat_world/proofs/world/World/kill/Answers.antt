@@ -1,4 +1,5 @@
 use Rattle.std.proofs.Common.{refl}
+use Rattle.sat_world.proofs.Counted.{plainly}
 use Rattle.sat_world.proofs.Deeds.{did-kill, kill-placed, kill-serializer, kill-there}
 use Rattle.sat_world.proofs.Runs.{seen-as, stays}
 use Rattle.sat_world.proofs.world.World.kill.Goals as goal
@@ -15,5 +16,6 @@ kill_at-requires-clause-serializer c = λ n at. kill-serializer _ _ _ _ n c.self
 pub invariant_of-self : goal.invariant_of-self
 invariant_of-self c = stays _ _ _ _ _ c.self.view_is c.self.invariant c.requires refl (did-kill _ _ _ _ _ _ c.self.view_is c.self.invariant c.requires c.kill_at.ensures)
 
-pub returns-clause-goes : goal.returns-clause-goes
-returns-clause-goes c = seen-as _ _ _ _ _ c.self.view_is (did-kill _ _ _ _ _ _ c.self.view_is c.self.invariant c.requires c.kill_at.ensures)
+pub returns-clause-applies : goal.returns-clause-applies
+returns-clause-applies c = plainly _ _ _ _ _ c.self.view_is c.self.invariant c.requires refl refl
+    (seen-as _ _ _ _ _ c.self.view_is (did-kill _ _ _ _ _ _ c.self.view_is c.self.invariant c.requires c.kill_at.ensures))

@@ -1,6 +1,7 @@
 use Rattle.std.proofs.Common.{ap, refl}
 use Rattle.sat_site.specs.declared.input.SiteInput.TheVariants as input
 use Rattle.sat_site.specs.declared.output.SiteView.{SiteView}
+use Rattle.sat_world.proofs.Counted.{plainly}
 use Rattle.sat_world.proofs.Deeds.{emission-placed, net-seat, did-send}
 use Rattle.sat_world.proofs.Hands.{fit-here, hands-at, site-at}
 use Rattle.sat_world.proofs.Runs.{seen-as, stays}
@@ -20,6 +21,7 @@ pub invariant_of-self-2 : goal.invariant_of-self-2
 invariant_of-self-2 c = stays _ _ _ _ _ c.self.view_is c.self.invariant c.requires refl
     (did-send _ _ _ _ input.Pulse _ _ _ _ _ c.self.view_is c.self.invariant c.requires refl c.index-known.ensures c.view-epoch.ensures.sound (ap (λ (v : SiteView). v.emission) c.view-epoch.ensures.seen) c.sends-sent.ensures c.in_ok-send_at.ensures.ok c.pulse_at.ensures)
 
-pub returns-clause-goes : goal.returns-clause-goes
-returns-clause-goes c = seen-as _ _ _ _ _ c.self.view_is
-    (did-send _ _ _ _ input.Pulse _ _ _ _ _ c.self.view_is c.self.invariant c.requires refl c.index-known.ensures c.view-epoch.ensures.sound (ap (λ (v : SiteView). v.emission) c.view-epoch.ensures.seen) c.sends-sent.ensures c.in_ok-send_at.ensures.ok c.pulse_at.ensures)
+pub returns-clause-applies : goal.returns-clause-applies
+returns-clause-applies c = plainly _ _ _ _ _ c.self.view_is c.self.invariant c.requires refl refl
+    (seen-as _ _ _ _ _ c.self.view_is
+    (did-send _ _ _ _ input.Pulse _ _ _ _ _ c.self.view_is c.self.invariant c.requires refl c.index-known.ensures c.view-epoch.ensures.sound (ap (λ (v : SiteView). v.emission) c.view-epoch.ensures.seen) c.sends-sent.ensures c.in_ok-send_at.ensures.ok c.pulse_at.ensures))

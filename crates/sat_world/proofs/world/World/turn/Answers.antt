@@ -1,7 +1,7 @@
 use Rattle.std.proofs.Common.{◌<◌, ◌-◌, ◌∙◌, List, Option, length, slice_get, ap, refl, subst, sym}
 use Rattle.sat_net.specs.Nets.{NetSeen}
 use Rattle.sat_site.specs.declared.output.SiteView.{SiteView}
-use Rattle.sat_world.proofs.Counted.{counted-so, counts-as}
+use Rattle.sat_world.proofs.Counted.{applies, counted-so, counts-as}
 use Rattle.sat_world.proofs.Counting.{recounted}
 use Rattle.sat_world.proofs.Deeds.{view-placed, net-seat, seen-front, turn-handed, did-turn}
 use Rattle.sat_world.proofs.Hands.{fit-here, site-at}
@@ -31,6 +31,7 @@ pub invariant_of-self : goal.invariant_of-self
 invariant_of-self c = recounted _ _ (stays _ _ _ _ _ c.self.view_is c.self.invariant c.requires refl
     (did-turn _ _ _ _ _ _ _ _ _ c.self.view_is c.self.invariant c.requires c.index-known.ensures c.view.ensures.sound (ap (λ (v : SiteView). v.view) c.view.ensures.seen) (seen-front _ _ _ _ _ c.deref.ensures.value c.front_at-front.ensures) c.turn_at-answer.ensures c.take_at.ensures))
 
-pub returns-clause-counts : goal.returns-clause-counts
-returns-clause-counts c = counts-as _ _ _ _ _ c.self.view_is (counted-so _ _ _ _ _ _ refl
-    (did-turn _ _ _ _ _ _ _ _ _ c.self.view_is c.self.invariant c.requires c.index-known.ensures c.view.ensures.sound (ap (λ (v : SiteView). v.view) c.view.ensures.seen) (seen-front _ _ _ _ _ c.deref.ensures.value c.front_at-front.ensures) c.turn_at-answer.ensures c.take_at.ensures) c.more_shown-self-inside.ensures)
+pub returns-clause-applies : goal.returns-clause-applies
+returns-clause-applies c = applies _ _ _ _ _ c.self.view_is c.self.invariant c.requires refl
+    (counts-as _ _ _ _ _ c.self.view_is (counted-so _ _ _ _ _ _ refl
+    (did-turn _ _ _ _ _ _ _ _ _ c.self.view_is c.self.invariant c.requires c.index-known.ensures c.view.ensures.sound (ap (λ (v : SiteView). v.view) c.view.ensures.seen) (seen-front _ _ _ _ _ c.deref.ensures.value c.front_at-front.ensures) c.turn_at-answer.ensures c.take_at.ensures) c.more_shown-self-inside.ensures))

@@ -1,13 +1,15 @@
 use Rattle.std.proofs.Common.{◌<◌, List, length, refl, subst, sym}
 use Rattle.sat_site.specs.Seen.{SiteSeen}
+use Rattle.sat_world.proofs.Counted.{plainly}
 use Rattle.sat_world.proofs.Deeds.{did-refuse-at, did-write, did-not-write, seat-items, write-handed}
 use Rattle.sat_world.proofs.Hands.{client-at, fit-here, seat-within, write-told}
 use Rattle.sat_world.proofs.Seats.{other-may}
 use Rattle.sat_world.proofs.Runs.{seen-as, stays}
 use Rattle.sat_world.proofs.world.World.write.Goals as goal
 
-pub returns-in_default-clause-goes : goal.returns-in_default-clause-goes
-returns-in_default-clause-goes c = did-not-write _ _ _ _ _ _ c.self.view_is c.self.invariant c.requires.0 c.index.ensures c.in_default.is
+pub returns-in_default-clause-applies : goal.returns-in_default-clause-applies
+returns-in_default-clause-applies c = plainly _ _ _ _ _ c.self.view_is c.self.invariant c.requires refl refl
+    (did-not-write _ _ _ _ _ _ c.self.view_is c.self.invariant c.requires.0 c.index.ensures c.in_default.is)
 
 pub write_refusal_at-refusal-requires-clause-within : goal.write_refusal_at-refusal-requires-clause-within
 write_refusal_at-refusal-requires-clause-within c =
@@ -16,9 +18,9 @@ write_refusal_at-refusal-requires-clause-within c =
 pub write_refusal_at-refusal-requires-clause-item : goal.write_refusal_at-refusal-requires-clause-item
 write_refusal_at-refusal-requires-clause-item c = λ z at. seat-items _ _ _ _ _ z c.self.view_is c.self.invariant c.requires.1 c.deref.ensures.value at
 
-pub returns-in-Some-refusal-clause-goes : goal.returns-in-Some-refusal-clause-goes
-returns-in-Some-refusal-clause-goes c =
-    did-refuse-at _ _ _ _ _ _ _ _ _ _ c.self.view_is c.self.invariant c.requires c.index.ensures c.in-Some.is c.deref.ensures.value c.write_refusal_at-refusal.ensures.refusal c.write_refusal_at-refusal.ensures.sound c.in-Some-refusal.is
+pub returns-in-Some-refusal-clause-applies : goal.returns-in-Some-refusal-clause-applies
+returns-in-Some-refusal-clause-applies c = plainly _ _ _ _ _ c.self.view_is c.self.invariant c.requires refl refl
+    (did-refuse-at _ _ _ _ _ _ _ _ _ _ c.self.view_is c.self.invariant c.requires c.index.ensures c.in-Some.is c.deref.ensures.value c.write_refusal_at-refusal.ensures.refusal c.write_refusal_at-refusal.ensures.sound c.in-Some-refusal.is)
 
 pub write_at-requires-clause-within : goal.write_at-requires-clause-within
 write_at-requires-clause-within c = seat-within _ _ _ _ c.self.invariant (client-at _ _ _ _ c.self.view_is c.self.invariant c.requires.0 c.index.ensures) c.in-Some.is
@@ -33,6 +35,7 @@ pub invariant_of-self-2 : goal.invariant_of-self-2
 invariant_of-self-2 c = stays _ _ _ _ _ c.self.view_is c.self.invariant c.requires refl
     (did-write _ _ _ _ _ _ _ _ _ _ _ c.self.view_is c.self.invariant c.requires.0 c.index.ensures c.in-Some.is c.in_ok-value.ensures c.in_ok-answer.ensures.ok c.tell_at.ensures)
 
-pub returns-clause-goes : goal.returns-clause-goes
-returns-clause-goes c = seen-as _ _ _ _ _ c.self.view_is
-    (did-write _ _ _ _ _ _ _ _ _ _ _ c.self.view_is c.self.invariant c.requires.0 c.index.ensures c.in-Some.is c.in_ok-value.ensures c.in_ok-answer.ensures.ok c.tell_at.ensures)
+pub returns-clause-applies : goal.returns-clause-applies
+returns-clause-applies c = plainly _ _ _ _ _ c.self.view_is c.self.invariant c.requires refl refl
+    (seen-as _ _ _ _ _ c.self.view_is
+    (did-write _ _ _ _ _ _ _ _ _ _ _ c.self.view_is c.self.invariant c.requires.0 c.index.ensures c.in-Some.is c.in_ok-value.ensures c.in_ok-answer.ensures.ok c.tell_at.ensures))

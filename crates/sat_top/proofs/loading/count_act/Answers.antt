@@ -1,6 +1,0 @@
-use Rattle.sat_top.proofs.Counting.{counts_more}
-use Rattle.sat_top.proofs.loading.count_act.Goals as goal
-
-pub returns-clause-counting : goal.returns-clause-counting
-returns-clause-counting c = λ acts written now.
-    rw c.writes_in.ensures (counts_more c.args.world.now c.do_act.new.world written acts c.args.act.now c.in_ok-answer.answer c.requires.act c.in_ok-answer.ensures.does now)
