@@ -1,5 +1,5 @@
 -- One act more.
-use Rattle.std.proofs.Common.{◌<◌, drop, arith, ◌≡◌, ℕ, ◌+◌, List, [], ◌∷◌, ◌++◌, length, refl, sym, ap, subst, ◌∙◌}
+use Rattle.std.proofs.Common.{Result, Ok, Err, OnOk, ◌<◌, drop, arith, ◌≡◌, ℕ, ◌+◌, List, [], ◌∷◌, ◌++◌, length, refl, sym, ap, subst, ◌∙◌}
 use Rattle.std.specs.Prelude.{Option, None, Some}
 use Rattle.std.specs.List.{AllByRecursion}
 use Rattle.std.proofs.lemmas.List.{append-nil, append_assoc, reverse-append, length-append, drop_more}
@@ -75,6 +75,11 @@ on old new acts a r range does now =
 pub line_of : (d : Deployed) (number : Option ℕ) (n : ℕ) (r : Answer) → number ≡ Some n → framed number (answer_text d r) ≡ answer_line d n r
 unfolding answer_line
 line_of d number n r is = ap (λ (k : Option ℕ). framed k (answer_text d r)) is ∙ as_line n (answer_text d r)
+
+-- a clause of a call that is handed on as it is
+pub when_ok : {T E P Q : Type 0} (x : Result T E) → OnOk x P → (P → Q) → OnOk x Q
+when_ok (Ok t) p gives = gives p
+when_ok (Err e) p gives = tt
 
 -- with the line of its answer
 pub answers_more : (old new : WorldSeen) (text more : List ℕ) (number : ℕ) (acts : List Act) (a : Act) (r : Answer) → IsActOf old.deployment a → Does old a r new

@@ -36,9 +36,12 @@ fn answer_numbered(
     ensures running { OnOk result ((front : List ℕ) (acts : List Act) → line.now ≡ Some (length acts + 1) → IsAnswering world.old.deployment world.old (front ++ text.old.items) acts
         → IsAnswering world.old.deployment world.new (front ++ text.new.items) (acts ++ act.now ∷ [])) }
 {
-    let answer = do_act(world, act)?;
-    write_numbered(world.deployment(), line, &answer, text)?;
-    Ok(())
+    // The answer is read where it lies.
+    let done = do_act(world, act);
+    match &done {
+        Ok(answer) => write_numbered(world.deployment(), line, answer, text),
+        Err(_) => Err(AllocError),
+    }
 }
 
 /// Does an act, and appends the line of its answer. For want of memory the act may be done without its line, or with a front of it.

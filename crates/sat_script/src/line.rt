@@ -18,13 +18,18 @@ pub enum Line {
 pub enum Parsed {
     /// `saturn 1`
     Format,
+    /// How many sites there are.
     Sites(u16),
+    /// How many gears each site has.
     Gears(u16),
     Item(Item),
     Client(ClientLine),
+    /// What the next epoch is planned to use.
     Plan(Plan),
+    /// The header is whole.
     Begin,
     Act(Act),
+    /// No act comes any more.
     End,
 }
 
