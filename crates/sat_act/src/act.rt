@@ -1,5 +1,5 @@
 //! Acts: the events of a script.
-ghost use Rattle.std.specs.Prelude.{◌≡◌, ◌++◌, [], ◌∷◌, OnOk, OnErr, IfOk};
+ghost use Rattle.std.specs.Prelude.{◌≡◌, ◌<◌, ◌++◌, [], ◌∷◌, OnOk, OnErr, IfOk, vec_len, vec_capacity};
 
 use sat_label::{NodeId, Value};
 use std::alloc::{AllocError, Global};
@@ -207,6 +207,16 @@ impl Model for Acts {
     ghost view = { λ a. a.items.items };
 }
 
+// Takes memory for one member more. A call of its own, since mostly there is room.
+#[inline(never)]
+fn grow(items: &mut Vec<Act>) -> Result<(), AllocError>
+    ensures items { items.new.items ≡ items.old.items }
+    ensures room { OnOk result (vec_len items.new < vec_capacity items.new) }
+{
+    items.reserve(1)?;
+    Ok(())
+}
+
 impl Acts {
     /// An empty list. It takes no memory.
     pub fn new(alloc: Global) -> Self
@@ -218,11 +228,15 @@ impl Acts {
     }
 
     /// Adds a member at the end. For want of memory the list is as before.
+    #[inline(always)]
     pub fn push(&mut self, member: Act) -> Result<(), AllocError>
         ensures ok { OnOk result (self.new ≡ self.old ++ member ∷ []) }
         ensures err { OnErr result (self.new ≡ self.old) }
     {
-        self.items.push(member)?;
+        if self.items.len() == self.items.capacity() {
+            grow(&mut self.items)?;
+        }
+        self.items.push_reserved(member);
         Ok(())
     }
 

@@ -1,11 +1,10 @@
 //! Names and values, as a script spells them.
-ghost use Rattle.std.specs.Prelude.{◌≡◌, ◌≤◌, length, true, false, IfOk, IfSome, IsNone, ◌↔◌};
+ghost use Rattle.std.specs.Prelude.{◌≡◌, ◌≤◌, length, take, true, false, IfOk, IfSome, IsNone, ◌↔◌};
 ghost use Rattle.std.specs.List.{list_all};
 ghost use Rattle.sat_label.specs.Text.{is_between, is_name, is_name_byte, is_value};
-ghost use Rattle.sat_label.specs.Kept.{kept_bytes};
+ghost use Rattle.sat_label.specs.Kept.{kept_bytes, IsWithin};
 
 use crate::limits::{NAME_BYTES, VALUE_BYTES};
-use arrayvec::ArrayVec;
 use std::alloc::{AllocError, Global};
 use std::marker::Model;
 
@@ -125,26 +124,34 @@ impl Eq for Name {
     ghost laws = { nat_list_eq_equiv };
 }
 
+// So many bytes, the first of an array. Its parts are as wide as those of a long value, so that it is copied fast.
+#[derive(Clone, Copy)]
+struct Inline {
+    count: usize,
+    bytes: [u8; SHORT_BYTES],
+}
+
 // The bytes of a short value lie in the value itself, so that it takes no memory of its own; those of a long one do not.
 #[derive(Drop)]
 enum Kept {
-    Short(ArrayVec<u8, SHORT_BYTES>),
+    Short(Inline),
     Long(Vec<u8>),
 }
 
-fn short(bytes: &[u8]) -> ArrayVec<u8, SHORT_BYTES>
+fn short(bytes: &[u8]) -> Inline
     requires { length bytes.now ≤ SHORT_BYTES }
-    ensures { result.items ≡ bytes.now }
+    ensures { (result.count ≡ length bytes.now) × (take result.count result.bytes ≡ bytes.now) }
 {
-    let mut short = ArrayVec::new();
-    match short.try_extend_from_slice(bytes) {
-        Ok(()) => short,
-        Err(_) => unreachable!(),
+    let mut inline = [0; SHORT_BYTES];
+    inline[..bytes.len()].copy_from_slice(bytes);
+    Inline {
+        count: bytes.len(),
+        bytes: inline,
     }
 }
 
 fn keep(alloc: Global, bytes: &[u8]) -> Result<Kept, AllocError>
-    ensures { IfOk result (λ kept. kept_bytes kept ≡ bytes.now) }
+    ensures { IfOk result (λ kept. (kept_bytes kept ≡ bytes.now) × IsWithin kept) }
 {
     if bytes.len() <= SHORT_BYTES {
         return Ok(Kept::Short(short(bytes)));
@@ -162,13 +169,13 @@ pub struct Value {
 impl Model for Value {
     ghost use Rattle.std.specs.Prelude.{List, ℕ, ◌≡◌, true};
     ghost use Rattle.sat_label.specs.Text.{is_value};
-    ghost use Rattle.sat_label.specs.Kept.{kept_bytes};
+    ghost use Rattle.sat_label.specs.Kept.{kept_bytes, IsWithin};
 
     ghost Value = { List ℕ };
 
     ghost view = { λ a. kept_bytes a.kept };
 
-    ghost invariant = { λ a. is_value (kept_bytes a.kept) ≡ true };
+    ghost invariant = { λ a. (is_value (kept_bytes a.kept) ≡ true) × IsWithin a.kept };
 }
 
 impl Value {
@@ -190,7 +197,7 @@ impl Value {
         ensures value { is_value self.now ≡ true }
     {
         match &self.kept {
-            Kept::Short(bytes) => bytes.as_slice(),
+            Kept::Short(inline) => &inline.bytes[..inline.count],
             Kept::Long(bytes) => bytes.as_slice(),
         }
     }
@@ -200,8 +207,8 @@ impl Value {
         ensures { IfOk result (λ value. value ≡ self.now) }
     {
         match &self.kept {
-            Kept::Short(bytes) => Ok(Value {
-                kept: Kept::Short(short(bytes.as_slice())),
+            Kept::Short(inline) => Ok(Value {
+                kept: Kept::Short(*inline),
             }),
             Kept::Long(bytes) => {
                 let bytes = bytes.clone()?;

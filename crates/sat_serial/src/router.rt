@@ -174,6 +174,7 @@ impl Router {
     }
 
     /// The places of the neighbours that a label that came from a node goes on to.
+    #[inline(always)]
     pub fn hits(&self, interest: &Interest, from: NodeId, label: &Label) -> Hits
         requires sites { interest.now.sites ≡ length self.now.tree.seats }
         requires label { IsLabelOf interest.now label.now }

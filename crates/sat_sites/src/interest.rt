@@ -6,6 +6,7 @@ ghost use Rattle.sat_sites.specs.Interested.{is_good_set, all_sites, first_bad, 
 use sat_label::{Kind, Label, SiteSet};
 use std::alloc::{AllocError, Global};
 use std::marker::Model;
+use std::sync::ArcSlice;
 use thiserror::Error;
 
 /// Why no interest was made.
@@ -34,18 +35,19 @@ impl From<AllocError> for InterestFault {
 #[derive(Drop)]
 pub struct Interest {
     sites: u16,
-    replicas: Vec<SiteSet>,
+    replicas: ArcSlice<SiteSet>,
 }
 
 impl Model for Interest {
     ghost use Rattle.std.specs.Prelude.{◌≡◌, None, length};
     ghost use Rattle.sat_sites.specs.Interested.{Interested, IsInterest};
+    ghost use Rattle.std.specs.Arc.{arc_slice_items};
 
     ghost Value = { Interested };
 
-    ghost view = { λ a. record { sites = a.sites; replicas = a.replicas.items } };
+    ghost view = { λ a. record { sites = a.sites; replicas = arc_slice_items a.replicas } };
 
-    ghost invariant = { λ a. IsInterest (record { sites = a.sites; replicas = a.replicas.items }) };
+    ghost invariant = { λ a. IsInterest (record { sites = a.sites; replicas = arc_slice_items a.replicas }) };
 }
 
 // Whether a set has a site, and none that is not below the number.
@@ -103,7 +105,7 @@ impl Interest {
         requires { IsInterest (record { sites = sites; replicas = replicas.now }) }
         ensures { IfOk result (λ a. a ≡ record { sites = sites; replicas = replicas.now }) }
     {
-        let replicas = replicas.to_vec(alloc)?;
+        let replicas = ArcSlice::from_slice(alloc, replicas)?;
         Ok(Interest { sites, replicas })
     }
 
@@ -121,7 +123,7 @@ impl Interest {
         ensures replicas { slice_get self.now.replicas item ≡ Some result }
         ensures limits { IsInterest self.now }
     {
-        self.replicas[item as usize]
+        self.replicas.as_slice()[item as usize]
     }
 
     /// The sites that a label is for: an Update for its item's sites but its own, a Move for the site that it names,
@@ -135,7 +137,7 @@ impl Interest {
         let sites = self.sites;
         let own = SiteSet::one(label.point.site);
         match label.kind {
-            Kind::Update(item) => self.replicas[item as usize].minus(&own),
+            Kind::Update(item) => self.replicas.as_slice()[item as usize].minus(&own),
             Kind::Move(site) => SiteSet::one(site),
             Kind::Pulse => all(sites).minus(&own),
             Kind::Close(_) => all(sites).minus(&own),
