@@ -1,5 +1,5 @@
 //! A reader of lines.
-ghost use Rattle.std.specs.Prelude.{◌≡◌, ◌↔◌, ◌++◌, [], ◌∷◌, IsTrue, IfErr, IfSome, OnOk, None, Some, Ok, map, take};
+ghost use Rattle.std.specs.Prelude.{false, ◌≡◌, ◌↔◌, ◌++◌, [], ◌∷◌, IsTrue, IfErr, IfSome, OnOk, None, Some, Ok, map, take};
 ghost use Rattle.sat_script.specs.Dialect.{dialect_of};
 ghost use Rattle.sat_script.specs.State.{start, number_of, fault_at, deployment_of};
 ghost use Rattle.sat_script.specs.Grammar.{words_line, line_at, close_in, after, told_line};
@@ -188,9 +188,19 @@ impl Reader {
         }
     }
 
-    /// Keeps the act of a good line. For want of memory it fails at that line.
+    /// Keeps the act of a good line, where there is memory for it. Whether it did; else nothing changes.
     #[inline(always)]
-    pub fn keep_act(&mut self, act: Act, acts: &mut Acts) -> Result<(), ScriptFault>
+    pub fn takes_act(&mut self, act: Act, acts: &mut Acts) -> bool
+        requires fits { IsFit (after self.old.state (parsed.Act act)) }
+        ensures yes { IsTrue result → (self.new ≡ record { state = after self.old.state (parsed.Act act); fault = self.old.fault }) × (acts.new ≡ acts.old ++ act ∷ []) }
+        ensures no { result ≡ false → (self.new ≡ self.old) × (acts.new ≡ acts.old) }
+    {
+        self.place.keep_act(act, acts).is_ok()
+    }
+
+    // Keeps the act of a good line. For want of memory it fails at that line.
+    #[inline(always)]
+    fn keep_act(&mut self, act: Act, acts: &mut Acts) -> Result<(), ScriptFault>
         requires fits { IsFit (after self.old.state (parsed.Act act)) }
         ensures ok { OnOk result ((self.new ≡ record { state = after self.old.state (parsed.Act act); fault = self.old.fault })
             × (acts.new ≡ acts.old ++ act ∷ [])) }

@@ -1,5 +1,5 @@
 -- What a reader of pieces keeps.
-use Rattle.std.proofs.Common.{◌≡◌, ◌≢◌, ℕ, ◌+◌, ◌≤◌, ◌<◌, Bool, true, false, List, [], ◌∷◌, ◌++◌, length, Option, Some, None, Result, Ok, Err, cond, eqb, ltb, ◌&&◌, ◌⊎◌, sym, ap, ◌∙◌, refl, subst, arith, inl, inr, OnOk, OnErr, IfErr, MatchResult}
+use Rattle.std.proofs.Common.{◌≡◌, ◌≢◌, ℕ, ◌+◌, ◌≤◌, ◌<◌, Bool, true, false, List, [], ◌∷◌, ◌++◌, length, Option, Some, None, Result, Ok, Err, cond, eqb, ltb, ◌&&◌, ◌⊎◌, sym, ap, ◌∙◌, refl, subst, arith, inl, inr, OnOk, OnErr, IfErr, IsTrue, MatchResult}
 use Rattle.std.proofs.lemmas.Bool.{eqb-true, ltb-true, ltb-false}
 use Rattle.std.specs.Option.{IfSome}
 use Rattle.std.proofs.lemmas.List.{append-nil, append_assoc, length-append}
@@ -136,6 +136,23 @@ kept_line old new acts more line p (Err told) whole none good ok err =
     let now = lines_seen new more in
     let stays : now ≡ stopped_at before told = ap (λ (seen : Seen). lines_seen seen more) err.1 ∙ ap (lines_seen (failed old.state told)) err.2 in
     record { takes = bad_stops before now line told Memory stays err.0 none (λ other. absurd (other refl)); whole = stopped_whole before now told whole stays }
+
+-- what comes of such a line, where it is kept or all stays
+pub record TakenLine (old new : WholeLines) (line : List ℕ) (done : Bool) : Type 0 where
+  pub goes : IsTrue done → GoesOn old new line
+  pub stays : done ≡ false → new ≡ old
+  pub whole : AreWhole new
+
+pub taken_line : (old new : Seen) (acts more : List Act) (line : List ℕ) (p : Parsed) (done : Bool) → AreWhole (lines_seen old acts) → old.fault ≡ None → line_at old.state line ≡ Ok p
+    → (IsTrue done → (new ≡ record { state = after old.state p; fault = old.fault }) × (more ≡ acts_with acts (told_line p)))
+    → (done ≡ false → (new ≡ old) × (more ≡ acts))
+    → TakenLine (lines_seen old acts) (lines_seen new more) line done
+taken_line old new acts more line p true whole none good keeps same =
+    let k = kept_line old new acts more line p (Ok tt) whole none good (keeps refl) tt in
+    record { goes = λ _. k.takes; stays = λ never. absurd (cc); whole = k.whole }
+taken_line old new acts more line p false whole none good keeps same =
+    let e : lines_seen new more ≡ lines_seen old acts = ap (λ (seen : Seen). lines_seen seen more) (same refl).0 ∙ ap (lines_seen old) (same refl).1 in
+    record { goes = λ never. absurd (cc); stays = λ _. e; whole = subst AreWhole (sym e) whole }
 
 -- ---- pieces
 

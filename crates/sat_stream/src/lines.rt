@@ -1,5 +1,5 @@
 //! The whole lines of a script, one after another.
-ghost use Rattle.std.specs.Prelude.{◌≡◌, ◌≤◌, ◌↔◌, ℕ, List, IsTrue, length, [], None, Some, IfSome, MatchResult};
+ghost use Rattle.std.specs.Prelude.{false, ◌≡◌, ◌≤◌, ◌↔◌, ℕ, List, IsTrue, length, [], None, Some, IfSome, MatchResult};
 ghost use Rattle.sat_act.specs.Limits.{IsDeployment};
 ghost use Rattle.sat_script.specs.Kept.{IsFit};
 ghost use Rattle.sat_script.specs.Lines.{running};
@@ -63,16 +63,30 @@ impl Lines {
     }
 
     /// Takes a line, without its byte 10. Want of memory comes after every other cause, and is told at the line for which it ran out.
-    #[inline(never)]
+    #[inline(always)]
     pub fn line(&mut self, line: &[u8]) -> Result<(), ScriptFault>
         requires fresh { self.old.seen.fault ≡ None }
         ensures takes { MatchResult result (λ _. GoesOn self.old self.new line.now) (λ fault. StopsAt self.old self.new line.now fault) }
         ensures fit { IsFit self.new.seen.state }
     {
-        if let Some(act) = self.reader.good_act(line) {
-            return self.reader.keep_act(act, &mut self.acts);
+        if self.takes_act(line) {
+            return Ok(());
         }
         self.any_line(line)
+    }
+
+    // Takes a line, where it is quickly found to be a good act, and there is memory for it. Whether it did; else nothing changes.
+    #[inline(always)]
+    fn takes_act(&mut self, line: &[u8]) -> bool
+        requires fresh { self.old.seen.fault ≡ None }
+        ensures yes { IsTrue result → GoesOn self.old self.new line.now }
+        ensures no { result ≡ false → self.new ≡ self.old }
+        ensures fit { IsFit self.new.seen.state }
+    {
+        match self.reader.good_act(line) {
+            Some(act) => self.reader.takes_act(act, &mut self.acts),
+            None => false,
+        }
     }
 
     // The same, where the line may be no act, or a bad one.

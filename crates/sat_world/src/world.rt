@@ -79,6 +79,7 @@ impl World {
 
     /// Does an act and answers it, by the call of its kind. For want of memory the world is as before. A tick, a clock, a leave, an
     /// attach, a turn, a stamp, a fall, an advance and a kill take none.
+    #[inline(always)]
     pub fn apply(&mut self, act: &Act) -> Result<Answer, AllocError>
         requires act { IsActOf self.old.deployment act.now }
         requires plain { is_settle act.now ≡ false }
@@ -154,8 +155,10 @@ impl World {
         underway::in_lanes(&self.sites, sites, gears).saturating_add(underway::on_links(&self.nets))
     }
 
-    // The calls below do one kind of act each, with what `apply` ensures said in one clause.
-    fn step(&mut self, act: &Act) -> Result<Answer, AllocError>
+    /// Does an act and answers it, as `apply` does it, whose clauses on the answer are one here. The calls below do one kind of act
+    /// each.
+    #[inline(always)]
+    pub fn step(&mut self, act: &Act) -> Result<Answer, AllocError>
         requires act { IsActOf self.old.deployment act.now }
         requires plain { is_settle act.now ≡ false }
         ensures applies { IfOk result (λ r. Applies self.old act.now r self.new) }
