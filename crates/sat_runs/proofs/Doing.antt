@@ -1,5 +1,5 @@
 -- What one act does to a world, be it a settle or not.
-use Rattle.std.proofs.Common.{◌≡◌, false, List, ◌∷◌, Result, Ok, Err, IfOk, refl, sym, ◌∙◌}
+use Rattle.std.proofs.Common.{◌≡◌, false, List, ◌∷◌, Result, Ok, Err, IfOk, OnErr, refl, sym, ap, ◌∙◌}
 use Rattle.sat_act.specs.declared.act.Act.{Act}
 use Rattle.sat_act.specs.declared.act.Act.TheVariants as act
 use Rattle.sat_act.specs.declared.answer.Answer.{Answer}
@@ -10,6 +10,7 @@ use Rattle.sat_act.specs.Runs.{IsRun, is_settle}
 use Rattle.sat_act.specs.Settling.{answer_of, settle, with_inner}
 use Rattle.sat_world.specs.Seen.{WorldSeen}
 use Rattle.sat_world.specs.Stands.{StandsFor}
+use Rattle.sat_world.specs.Applies.{Applies}
 use Rattle.sat_runs.specs.Running.{entry, Does}
 
 pub is_plain : (a : Act) → (a ≡ act.Settle → ⊥) → is_settle a ≡ false
@@ -46,6 +47,15 @@ did old new a r other says stands h run now =
       answer = says h run now ∙ sym (plain-answer old.deployment h a plain);
       stands = rw (plain-inner old.deployment h a plain) (stands h run now);
     }
+
+-- what a step of the world does
+pub stepped : {E : Type 0} (x : Result Answer E) (old new : WorldSeen) (a : Act) → (a ≡ act.Settle → ⊥) → IfOk x (λ r. Applies old a r new) → IfOk x (λ r. Does old a r new)
+stepped (Ok r) old new a other applies = did old new a r other applies.answer applies.stands
+stepped (Err e) old new a other applies = tt
+
+pub stays : {E : Type 0} (x : Result Answer E) (old new : WorldSeen) (a : Act) → IfOk x (λ r. Applies old a r new) → OnErr x (new ≡ old) → new.deployment ≡ old.deployment
+stays (Ok r) old new a applies err = applies.deployment
+stays (Err e) old new a applies err = ap (λ (w : WorldSeen). w.deployment) err
 
 -- two clauses on a result that is handed on as it is
 pub both_of : {E : Type 0} (P Q R : Answer → Type 0) (result : Result Answer E) → ((r : Answer) → P r → Q r → R r) → IfOk result P → IfOk result Q → IfOk result R

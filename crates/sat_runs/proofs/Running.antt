@@ -1,6 +1,6 @@
 -- One act more.
 use Rattle.std.proofs.Common.{Result, Ok, Err, OnOk, ◌<◌, drop, arith, ◌≡◌, ℕ, ◌+◌, List, [], ◌∷◌, ◌++◌, length, refl, sym, ap, subst, ◌∙◌}
-use Rattle.std.specs.Prelude.{Option, None, Some}
+use Rattle.std.specs.Prelude.{Option, None, Some, IfOk}
 use Rattle.std.specs.List.{AllByRecursion}
 use Rattle.std.proofs.lemmas.List.{append-nil, append_assoc, reverse-append, length-append, drop_more}
 use Rattle.sat_act.specs.declared.act.Act.{Act}
@@ -22,7 +22,7 @@ use Rattle.sat_report.specs.Answers.{answers, answer_line, answer_text, printed_
 use Rattle.sat_report.specs.Frames.{framed}
 use Rattle.sat_report.proofs.Frames.{as_line}
 use Rattle.sat_runs.specs.Runs.{history}
-use Rattle.sat_runs.specs.Running.{entry, HasDone, Does, IsRunning, IsAnswering}
+use Rattle.sat_runs.specs.Running.{entry, HasDone, Does, IsRunning, IsAnswering, IsWritten}
 
 -- ---- the entries of a settle's acts
 
@@ -96,6 +96,16 @@ answers_more old new text more number acts a r range does written counted now =
       answers = rw one.next (rw (answers-on d (with_inner d h a) a r, same, count, now.count, ← counted, ← now.answers) written);
       count = rw one.next (rw (printed-on (with_inner d h a) a r, count, now.count) (sym (length-append acts (a ∷ []))));
     }
+
+-- the line of an act's answer, once it is written
+pub answers_line : {T E F : Type 0} (x : Result T F) (done : Result Answer E) (d : Deployed) (old new : WorldSeen) (line : Option ℕ) (text more : List ℕ) (a : Act) → IsActOf old.deployment a → d ≡ old.deployment
+    → OnOk x (IsWritten d line done text more) → IfOk done (λ r. Does old a r new)
+    → OnOk x ((front : List ℕ) (acts : List Act) → line ≡ Some (length acts + 1) → IsAnswering old.deployment old (front ++ text) acts → IsAnswering old.deployment new (front ++ more) (acts ++ a ∷ []))
+answers_line x (Err e) d old new line text more a range same written does = when_ok x written (λ never. absurd never)
+answers_line x (Ok r) d old new line text more a range same written does = when_ok x written (λ wrote front acts numbered now.
+    answers_more old new (front ++ text) (front ++ more) (length acts + 1) acts a r range does
+    (ap (λ (bytes : List ℕ). front ++ bytes) (wrote ∙ ap (λ (e : Deployed). text ++ framed line (answer_text e r)) same ∙ ap (λ (bytes : List ℕ). text ++ bytes) (line_of old.deployment line (length acts + 1) r numbered))
+    ∙ sym (append_assoc front text (answer_line old.deployment (length acts + 1) r))) refl now)
 
 -- ---- before the first act
 

@@ -1,5 +1,5 @@
 -- A run under way.
-use Rattle.std.specs.Prelude.{ℕ, ◌≡◌, false, List, ◌∷◌, length}
+use Rattle.std.specs.Prelude.{ℕ, ◌≡◌, false, List, ◌∷◌, ◌++◌, length, Option, Result, Ok, Err}
 use Rattle.sat_act.specs.declared.act.Act.{Act}
 use Rattle.sat_act.specs.declared.answer.Answer.{Answer}
 use Rattle.sat_act.specs.declared.entry.Entry.{Entry}
@@ -8,7 +8,8 @@ use Rattle.sat_act.specs.Runs.{IsRun}
 use Rattle.sat_act.specs.Settling.{answer_of, with_inner}
 use Rattle.sat_world.specs.Seen.{WorldSeen}
 use Rattle.sat_world.specs.Stands.{StandsFor}
-use Rattle.sat_report.specs.Answers.{answers, printed_count}
+use Rattle.sat_report.specs.Answers.{answers, answer_text, printed_count}
+use Rattle.sat_report.specs.Frames.{framed}
 use Rattle.sat_runs.specs.Runs.{history}
 
 -- an act's entry
@@ -34,3 +35,8 @@ pub record IsAnswering (d : Deployed) (w : WorldSeen) (text : List ℕ) (acts : 
   pub running : IsRunning d w acts
   pub answers : text ≡ answers d (history d acts)
   pub count : printed_count (history d acts) ≡ length acts
+
+-- there was an answer, and a text is longer by its line
+abbrev pub IsWritten : {E : Type 0} → Deployed → Option ℕ → Result Answer E → List ℕ → List ℕ → Type 0
+IsWritten d number (Ok r) old new = new ≡ old ++ framed number (answer_text d r)
+IsWritten d number (Err e) old new = ⊥

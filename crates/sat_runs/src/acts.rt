@@ -3,9 +3,9 @@ ghost use Rattle.std.specs.Prelude.{◌≡◌, ◌+◌, ◌^◌, ◌<◌, ◌++�
 ghost use Rattle.sat_act.specs.declared.act.Act.{Act};
 ghost use Rattle.sat_act.specs.Ranges.{IsActOf};
 ghost use Rattle.sat_script.specs.Spelled.{AreActsOf};
-ghost use Rattle.sat_runs.specs.Running.{Does, IsAnswering};
+ghost use Rattle.sat_runs.specs.Running.{Does, IsAnswering, IsWritten};
 
-use sat_act::{Act, Answer};
+use sat_act::{Act, Answer, Deployment};
 use sat_report::{LineFront, write_numbered};
 use sat_settle::settle;
 use sat_world::World;
@@ -23,7 +23,24 @@ pub fn do_act(world: &mut World, act: &Act) -> Result<Answer, AllocError>
     }
 }
 
-// Does an act, and appends the line of its answer, as `answer_act` does.
+// Appends the line of an answer, where there is one. It is read where it lies.
+#[inline(always)]
+fn write_done(
+    d: &Deployment,
+    line: &LineFront,
+    done: &Result<Answer, AllocError>,
+    text: &mut Vec<u8>,
+) -> Result<(), AllocError>
+    ensures { OnOk result (IsWritten d.now line.now done.now text.old.items text.new.items) }
+{
+    match done {
+        Ok(answer) => write_numbered(d, line, answer, text),
+        Err(_) => Err(AllocError),
+    }
+}
+
+// Does an act, and appends the line of its answer, as `answer_act` does. The answer is not handed on, since each call between copies
+// it.
 #[inline(always)]
 fn answer_numbered(
     world: &mut World,
@@ -36,12 +53,12 @@ fn answer_numbered(
     ensures running { OnOk result ((front : List ℕ) (acts : List Act) → line.now ≡ Some (length acts + 1) → IsAnswering world.old.deployment world.old (front ++ text.old.items) acts
         → IsAnswering world.old.deployment world.new (front ++ text.new.items) (acts ++ act.now ∷ [])) }
 {
-    // The answer is read where it lies.
-    let done = do_act(world, act);
-    match &done {
-        Ok(answer) => write_numbered(world.deployment(), line, answer, text),
-        Err(_) => Err(AllocError),
+    if let Act::Settle = act {
+        let done = settle(world);
+        return write_done(world.deployment(), line, &done, text);
     }
+    let done = world.step(act);
+    write_done(world.deployment(), line, &done, text)
 }
 
 /// Does an act, and appends the line of its answer. For want of memory the act may be done without its line, or with a front of it.
