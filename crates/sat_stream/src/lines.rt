@@ -89,9 +89,9 @@ impl Lines {
         }
     }
 
-    // The same, where the line may be no act, or a bad one.
+    /// The same; the line may be no act, or a bad one.
     #[inline(never)]
-    fn any_line(&mut self, line: &[u8]) -> Result<(), ScriptFault>
+    pub fn any_line(&mut self, line: &[u8]) -> Result<(), ScriptFault>
         requires fresh { self.old.seen.fault ≡ None }
         ensures takes { MatchResult result (λ _. GoesOn self.old self.new line.now) (λ fault. StopsAt self.old self.new line.now fault) }
         ensures fit { IsFit self.new.seen.state }

@@ -94,12 +94,13 @@ impl ScriptReader {
         Ok(())
     }
 
-    // Takes the byte that ends the line that has begun.
+    // Takes the byte that ends the line that has begun. Few lines lie in two pieces, so it takes the line as any other, and the quick
+    // call has one caller, into which it goes whole.
     fn begun_line(&mut self) -> Result<(), ScriptFault>
         requires fresh { known_fault self.old ≡ None }
         ensures { TakesPiece self.old self.new result (10 ∷ []) }
     {
-        match self.lines.line(self.begun.as_slice()) {
+        match self.lines.any_line(self.begun.as_slice()) {
             Ok(()) => {
                 self.begun.clear();
                 Ok(())
