@@ -31,7 +31,7 @@ use sat_world::World;
 use std::alloc::{AllocError, Global};
 
 /// The most bytes that one read takes.
-pub const BUFFER_BYTES: usize = 8_192;
+pub const BUFFER_BYTES: usize = 16_384;
 
 /// Why nothing is written.
 #[derive(Clone, Copy, Debug, PartialEq, Eq)]

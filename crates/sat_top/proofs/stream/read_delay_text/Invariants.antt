@@ -5,7 +5,7 @@ use Rattle.sat_top.proofs.stream.read_delay_text.Given as goal
 abbrev pub invariant-loop-buffer : goal.invariant-loop-buffer
 invariant-loop-buffer g l =
     (g.S.Source.faults l.initial.source ≤ g.S.Source.faults l.source)
-    × Consumes (g.S.Source.left l.initial.source) (g.S.Source.left l.source) l.text.items × (length l.text.items ≤ 1048576 + 8192)
+    × Consumes (g.S.Source.left l.initial.source) (g.S.Source.left l.source) l.text.items × (length l.text.items ≤ 1048576 + 16384)
 
 abbrev pub decreases-loop-buffer : goal.decreases-loop-buffer
 decreases-loop-buffer g l = 1048577 - length l.text.items

@@ -23,12 +23,12 @@ loop-taken-preserved g c =
 pub returns-then-eq-clause-bounded : goal.returns-then-eq-clause-bounded
 returns-then-eq-clause-bounded g c =
     let had = c.loop-taken.invariant in
-    read_bounded (g.S.Source.left c.args.source.now) (g.S.Source.left c.loop-taken.source) (g.S.Source.left c.read.new.self) (will_be c.loop-taken.reader) (take c.in-Ok.count c.read.new.into) c.loop-taken.taken (MOST_BYTES + 8192) had.2 c.in-Ok.ensures.bytes.0 (omega (arith, c.in-Ok.ensures.count.1, c.in-Ok.ensures.count.0))
+    read_bounded (g.S.Source.left c.args.source.now) (g.S.Source.left c.loop-taken.source) (g.S.Source.left c.read.new.self) (will_be c.loop-taken.reader) (take c.in-Ok.count c.read.new.into) c.loop-taken.taken (MOST_BYTES + 16384) had.2 c.in-Ok.ensures.bytes.0 (omega (arith, c.in-Ok.ensures.count.1, c.in-Ok.ensures.count.0))
 
 pub returns-in-Err-feed-clause-bounded : goal.returns-in-Err-feed-clause-bounded
 returns-in-Err-feed-clause-bounded g c =
     let had = c.loop-taken.invariant in
-    read_bounded (g.S.Source.left c.args.source.now) (g.S.Source.left c.loop-taken.source) (g.S.Source.left c.read.new.self) (will_be c.loop-taken.reader) (take c.in-Ok.count c.read.new.into) c.loop-taken.taken (MOST_BYTES + 8192) had.2 c.in-Ok.ensures.bytes.0 (omega (arith, c.in-Ok.ensures.count.1, c.in-Ok.ensures.count.0))
+    read_bounded (g.S.Source.left c.args.source.now) (g.S.Source.left c.loop-taken.source) (g.S.Source.left c.read.new.self) (will_be c.loop-taken.reader) (take c.in-Ok.count c.read.new.into) c.loop-taken.taken (MOST_BYTES + 16384) had.2 c.in-Ok.ensures.bytes.0 (omega (arith, c.in-Ok.ensures.count.1, c.in-Ok.ensures.count.0))
 
 pub returns-in-Err-feed-clause-end : goal.returns-in-Err-feed-clause-end
 returns-in-Err-feed-clause-end g c = has_fault c.feed.new.self c.in-Err-feed.fault c.finish-in-Err-feed.result _ (c.in-Err-feed.ensures.fault) c.finish-in-Err-feed.ensures.script

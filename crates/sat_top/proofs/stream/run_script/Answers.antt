@@ -19,7 +19,7 @@ pieces-init g c = record {
 }
 
 pub returns-in-Err-clause-bounded : goal.returns-in-Err-clause-bounded
-returns-in-Err-clause-bounded g c = read_bounded (g.S.Source.left c.args.source.now) (g.S.Source.left c.pieces.source) (g.S.Source.left c.read.new.self) (λ more. behind c.pieces.invariant.under.1.done (will_be c.pieces.reader more)) [] c.pieces.taken (MOST_BYTES + 8192) c.pieces.invariant.under.1.read (keeps (g.S.Source.left c.pieces.source) (g.S.Source.left c.read.new.self) c.in-Err.ensures.bytes) (omega (arith, c.pieces.invariant.counted, c.pieces.invariant.few))
+returns-in-Err-clause-bounded g c = read_bounded (g.S.Source.left c.args.source.now) (g.S.Source.left c.pieces.source) (g.S.Source.left c.read.new.self) (λ more. behind c.pieces.invariant.under.1.done (will_be c.pieces.reader more)) [] c.pieces.taken (MOST_BYTES + 16384) c.pieces.invariant.under.1.read (keeps (g.S.Source.left c.pieces.source) (g.S.Source.left c.read.new.self) c.in-Err.ensures.bytes) (omega (arith, c.pieces.invariant.counted, c.pieces.invariant.few))
 
 pub returns-in-Err-clause-answered : goal.returns-in-Err-clause-answered
 returns-in-Err-clause-answered g c = λ _. has_answered (g.S.Source.left c.args.source.now) (g.S.Source.left c.read.new.self) (c.pieces.taken + 0) c.pieces.reader c.pieces.world c.pieces.done c.pieces.invariant.under.0 (g.K.Sink.told c.args.sink.now) (g.K.Sink.told c.pieces.sink) (λ text. c.sound_readings.ensures false text) (record { good = c.headline.ensures; settles = c.settles_all.ensures.settles; rests = c.settles_all.ensures.rests }) (still_under (g.S.Source.left c.args.source.now) (g.S.Source.left c.pieces.source) (g.S.Source.left c.read.new.self) c.pieces.taken c.pieces.reader c.pieces.world c.pieces.done c.pieces.invariant.under.0 c.pieces.invariant.under.1 (keeps (g.S.Source.left c.pieces.source) (g.S.Source.left c.read.new.self) c.in-Err.ensures.bytes)) c.pieces.invariant.drained c.pieces.invariant.under.2
@@ -37,7 +37,7 @@ pub returns-in-Ok-eq0-clause-whole : goal.returns-in-Ok-eq0-clause-whole
 returns-in-Ok-eq0-clause-whole g c = ok_ended (g.S.Source.left c.args.source.now) c.finish.result c.pieces.world c.pieces.done c.pieces.invariant.under.0 c.end_script.result (g.K.Sink.told c.args.sink.now) (g.K.Sink.told c.pieces.sink) (g.K.Sink.told c.end_script.new.sink) c.good_scripts.ensures (λ text. c.sound_readings.ensures false text) (record { good = c.headline.ensures; settles = c.settles_all.ensures.settles; rests = c.settles_all.ensures.rests }) (ends_whole (g.S.Source.left c.args.source.now) (g.S.Source.left c.read.new.self) (c.pieces.taken + 0) c.pieces.reader c.pieces.world c.pieces.done c.pieces.invariant.under.0 c.finish.result (still_under (g.S.Source.left c.args.source.now) (g.S.Source.left c.pieces.source) (g.S.Source.left c.read.new.self) c.pieces.taken c.pieces.reader c.pieces.world c.pieces.done c.pieces.invariant.under.0 c.pieces.invariant.under.1 (zero_bytes (g.S.Source.left c.pieces.source) (g.S.Source.left c.read.new.self) c.in-Ok-eq0.field-0 c.read.new.into (let none : c.in-Ok-eq0.field-0 ≡ 0 = search rules in none) c.in-Ok-eq0.ensures.bytes.0)) (c.in-Ok-eq0.ensures.bytes.1 (let none : c.in-Ok-eq0.field-0 ≡ 0 = search rules in none) (omega arith)) c.finish.ensures.script) c.pieces.invariant.under.2 c.end_script.ensures.status c.end_script.ensures.whole
 
 pub returns-in-Ok-eq0-clause-bounded : goal.returns-in-Ok-eq0-clause-bounded
-returns-in-Ok-eq0-clause-bounded g c = read_bounded (g.S.Source.left c.args.source.now) (g.S.Source.left c.pieces.source) (g.S.Source.left c.read.new.self) (λ more. behind c.pieces.invariant.under.1.done (will_be c.pieces.reader more)) [] c.pieces.taken (MOST_BYTES + 8192) c.pieces.invariant.under.1.read (zero_bytes (g.S.Source.left c.pieces.source) (g.S.Source.left c.read.new.self) c.in-Ok-eq0.field-0 c.read.new.into (let none : c.in-Ok-eq0.field-0 ≡ 0 = search rules in none) c.in-Ok-eq0.ensures.bytes.0) (omega (arith, c.pieces.invariant.counted, c.pieces.invariant.few))
+returns-in-Ok-eq0-clause-bounded g c = read_bounded (g.S.Source.left c.args.source.now) (g.S.Source.left c.pieces.source) (g.S.Source.left c.read.new.self) (λ more. behind c.pieces.invariant.under.1.done (will_be c.pieces.reader more)) [] c.pieces.taken (MOST_BYTES + 16384) c.pieces.invariant.under.1.read (zero_bytes (g.S.Source.left c.pieces.source) (g.S.Source.left c.read.new.self) c.in-Ok-eq0.field-0 c.read.new.into (let none : c.in-Ok-eq0.field-0 ≡ 0 = search rules in none) c.in-Ok-eq0.ensures.bytes.0) (omega (arith, c.pieces.invariant.counted, c.pieces.invariant.few))
 
 pub returns-in-Ok-eq0-clause-front : goal.returns-in-Ok-eq0-clause-front
 returns-in-Ok-eq0-clause-front g c = err_front (g.S.Source.left c.args.source.now) (g.S.Source.left c.pieces.source) c.pieces.taken c.pieces.reader c.finish.result c.pieces.world c.pieces.done c.pieces.invariant.under.0 c.end_script.result (g.K.Sink.told c.args.sink.now) (g.K.Sink.told c.pieces.sink) (g.K.Sink.told c.end_script.new.sink) (λ text. c.sound_readings.ensures false text) c.pieces.invariant.under.1 c.pieces.invariant.drained (ends_whole (g.S.Source.left c.args.source.now) (g.S.Source.left c.read.new.self) (c.pieces.taken + 0) c.pieces.reader c.pieces.world c.pieces.done c.pieces.invariant.under.0 c.finish.result (still_under (g.S.Source.left c.args.source.now) (g.S.Source.left c.pieces.source) (g.S.Source.left c.read.new.self) c.pieces.taken c.pieces.reader c.pieces.world c.pieces.done c.pieces.invariant.under.0 c.pieces.invariant.under.1 (zero_bytes (g.S.Source.left c.pieces.source) (g.S.Source.left c.read.new.self) c.in-Ok-eq0.field-0 c.read.new.into (let none : c.in-Ok-eq0.field-0 ≡ 0 = search rules in none) c.in-Ok-eq0.ensures.bytes.0)) (c.in-Ok-eq0.ensures.bytes.1 (let none : c.in-Ok-eq0.field-0 ≡ 0 = search rules in none) (omega arith)) c.finish.ensures.script) c.pieces.invariant.under.2 c.end_script.ensures.front c.end_script.ensures.nothing c.end_script.ensures.causes
@@ -46,7 +46,7 @@ pub returns-in-Ok-eq0-clause-stopped : goal.returns-in-Ok-eq0-clause-stopped
 returns-in-Ok-eq0-clause-stopped g c = err_stopped (g.S.Source.left c.args.source.now) (g.S.Source.left c.pieces.source) (g.S.Source.left c.read.new.self) c.pieces.taken c.pieces.reader c.finish.result c.pieces.world c.pieces.done c.pieces.invariant.under.0 [] c.end_script.result (g.K.Sink.told c.args.sink.now) (g.K.Sink.told c.pieces.sink) (g.K.Sink.told c.end_script.new.sink) c.pieces.invariant.under.1 c.pieces.invariant.drained (zero_bytes (g.S.Source.left c.pieces.source) (g.S.Source.left c.read.new.self) c.in-Ok-eq0.field-0 c.read.new.into (let none : c.in-Ok-eq0.field-0 ≡ 0 = search rules in none) c.in-Ok-eq0.ensures.bytes.0) (omega arith) c.pieces.invariant.under.2 c.end_script.ensures.front c.end_script.ensures.nothing c.end_script.ensures.causes
 
 pub returns-then-eq-clause-bounded : goal.returns-then-eq-clause-bounded
-returns-then-eq-clause-bounded g c = read_bounded (g.S.Source.left c.args.source.now) (g.S.Source.left c.pieces.source) (g.S.Source.left c.read.new.self) (λ more. behind c.pieces.invariant.under.1.done (will_be c.pieces.reader more)) (take c.in-Ok.count c.read.new.into) c.pieces.taken (MOST_BYTES + 8192) c.pieces.invariant.under.1.read c.in-Ok.ensures.bytes.0 (omega (arith, c.pieces.invariant.counted, c.pieces.invariant.few, c.in-Ok.ensures.count.1, c.in-Ok.ensures.count.0))
+returns-then-eq-clause-bounded g c = read_bounded (g.S.Source.left c.args.source.now) (g.S.Source.left c.pieces.source) (g.S.Source.left c.read.new.self) (λ more. behind c.pieces.invariant.under.1.done (will_be c.pieces.reader more)) (take c.in-Ok.count c.read.new.into) c.pieces.taken (MOST_BYTES + 16384) c.pieces.invariant.under.1.read c.in-Ok.ensures.bytes.0 (omega (arith, c.pieces.invariant.counted, c.pieces.invariant.few, c.in-Ok.ensures.count.1, c.in-Ok.ensures.count.0))
 
 pub returns-then-eq-clause-front : goal.returns-then-eq-clause-front
 returns-then-eq-clause-front g c = front_of (g.S.Source.left c.args.source.now) (g.S.Source.left c.pieces.source) c.pieces.taken c.pieces.reader c.pieces.world c.pieces.done c.pieces.invariant.under.0 (g.K.Sink.told c.args.sink.now) (g.K.Sink.told c.pieces.sink) (λ text. c.sound_readings.ensures false text) c.pieces.invariant.under.1 c.pieces.invariant.drained (front_whole (g.K.Sink.told c.args.sink.now) (g.K.Sink.told c.pieces.sink) c.pieces.invariant.under.0 c.pieces.invariant.under.2)
@@ -67,7 +67,7 @@ pub returns-in-Err-feed-clause-end : goal.returns-in-Err-feed-clause-end
 returns-in-Err-feed-clause-end g c = not_done c.feed.new.self c.in-Err-feed.fault c.finish-in-Err-feed.result c.end_script-in-Err-feed.result _ c.in-Err-feed.ensures.fault c.finish-in-Err-feed.ensures.script c.end_script-in-Err-feed.ensures.status
 
 pub returns-in-Err-feed-clause-bounded : goal.returns-in-Err-feed-clause-bounded
-returns-in-Err-feed-clause-bounded g c = read_bounded (g.S.Source.left c.args.source.now) (g.S.Source.left c.pieces.source) (g.S.Source.left c.read.new.self) (λ more. behind c.pieces.invariant.under.1.done (will_be c.pieces.reader more)) (take c.in-Ok.count c.read.new.into) c.pieces.taken (MOST_BYTES + 8192) c.pieces.invariant.under.1.read c.in-Ok.ensures.bytes.0 (omega (arith, c.pieces.invariant.counted, c.pieces.invariant.few, c.in-Ok.ensures.count.1, c.in-Ok.ensures.count.0))
+returns-in-Err-feed-clause-bounded g c = read_bounded (g.S.Source.left c.args.source.now) (g.S.Source.left c.pieces.source) (g.S.Source.left c.read.new.self) (λ more. behind c.pieces.invariant.under.1.done (will_be c.pieces.reader more)) (take c.in-Ok.count c.read.new.into) c.pieces.taken (MOST_BYTES + 16384) c.pieces.invariant.under.1.read c.in-Ok.ensures.bytes.0 (omega (arith, c.pieces.invariant.counted, c.pieces.invariant.few, c.in-Ok.ensures.count.1, c.in-Ok.ensures.count.0))
 
 pub returns-in-Err-feed-clause-front : goal.returns-in-Err-feed-clause-front
 returns-in-Err-feed-clause-front g c = err_front (g.S.Source.left c.args.source.now) (g.S.Source.left c.pieces.source) c.pieces.taken c.pieces.reader c.finish-in-Err-feed.result c.pieces.world c.pieces.done c.pieces.invariant.under.0 c.end_script-in-Err-feed.result (g.K.Sink.told c.args.sink.now) (g.K.Sink.told c.pieces.sink) (g.K.Sink.told c.end_script-in-Err-feed.new.sink) (λ text. c.sound_readings.ensures false text) c.pieces.invariant.under.1 c.pieces.invariant.drained (ends_early (g.S.Source.left c.args.source.now) (g.S.Source.left c.read.new.self) (c.pieces.taken + c.in-Ok.count) c.feed.new.self c.pieces.world c.pieces.done c.pieces.invariant.under.0 c.finish-in-Err-feed.result (fed (g.S.Source.left c.args.source.now) (g.S.Source.left c.pieces.source) (g.S.Source.left c.read.new.self) c.pieces.taken c.in-Ok.count c.pieces.reader c.feed.new.self c.pieces.world c.pieces.done c.pieces.invariant.under.0 (take c.in-Ok.count c.read.new.into) c.pieces.invariant.under.1 c.in-Ok.ensures.bytes.0 (c.in-Err-feed.ensures.script (search rules)) c.in-Ok.ensures.count.1) c.in-Err-feed.ensures.settled c.finish-in-Err-feed.ensures.script) c.pieces.invariant.under.2 c.end_script-in-Err-feed.ensures.front c.end_script-in-Err-feed.ensures.nothing c.end_script-in-Err-feed.ensures.causes
@@ -82,7 +82,7 @@ pub answer_piece-requires-clause-few : goal.answer_piece-requires-clause-few
 answer_piece-requires-clause-few g c = few_under (g.S.Source.left c.args.source.now) (g.S.Source.left c.read.new.self) (c.pieces.taken + c.in-Ok.count) c.feed.new.self c.pieces.world c.pieces.done c.pieces.invariant.under.0 (λ text. c.sound_readings.ensures false text) (fed (g.S.Source.left c.args.source.now) (g.S.Source.left c.pieces.source) (g.S.Source.left c.read.new.self) c.pieces.taken c.in-Ok.count c.pieces.reader c.feed.new.self c.pieces.world c.pieces.done c.pieces.invariant.under.0 (take c.in-Ok.count c.read.new.into) c.pieces.invariant.under.1 c.in-Ok.ensures.bytes.0 c.in_default.ensures.script c.in-Ok.ensures.count.1)
 
 pub returns-in-Err-answer_piece-clause-bounded : goal.returns-in-Err-answer_piece-clause-bounded
-returns-in-Err-answer_piece-clause-bounded g c = read_bounded (g.S.Source.left c.args.source.now) (g.S.Source.left c.pieces.source) (g.S.Source.left c.read.new.self) (λ more. behind c.pieces.invariant.under.1.done (will_be c.pieces.reader more)) (take c.in-Ok.count c.read.new.into) c.pieces.taken (MOST_BYTES + 8192) c.pieces.invariant.under.1.read c.in-Ok.ensures.bytes.0 (omega (arith, c.pieces.invariant.counted, c.pieces.invariant.few, c.in-Ok.ensures.count.1, c.in-Ok.ensures.count.0))
+returns-in-Err-answer_piece-clause-bounded g c = read_bounded (g.S.Source.left c.args.source.now) (g.S.Source.left c.pieces.source) (g.S.Source.left c.read.new.self) (λ more. behind c.pieces.invariant.under.1.done (will_be c.pieces.reader more)) (take c.in-Ok.count c.read.new.into) c.pieces.taken (MOST_BYTES + 16384) c.pieces.invariant.under.1.read c.in-Ok.ensures.bytes.0 (omega (arith, c.pieces.invariant.counted, c.pieces.invariant.few, c.in-Ok.ensures.count.1, c.in-Ok.ensures.count.0))
 
 pub returns-in-Err-answer_piece-clause-front : goal.returns-in-Err-answer_piece-clause-front
 returns-in-Err-answer_piece-clause-front g c = front_of (g.S.Source.left c.args.source.now) (g.S.Source.left c.pieces.source) c.pieces.taken c.pieces.reader c.pieces.world c.pieces.done c.pieces.invariant.under.0 (g.K.Sink.told c.args.sink.now) (g.K.Sink.told c.pieces.sink) (λ text. c.sound_readings.ensures false text) c.pieces.invariant.under.1 c.pieces.invariant.drained (front_whole (g.K.Sink.told c.args.sink.now) (g.K.Sink.told c.pieces.sink) c.pieces.invariant.under.0 c.pieces.invariant.under.2)
@@ -91,7 +91,7 @@ pub returns-in-Err-answer_piece-clause-stopped : goal.returns-in-Err-answer_piec
 returns-in-Err-answer_piece-clause-stopped g c = stopped_before (g.S.Source.left c.args.source.now) (g.S.Source.left c.pieces.source) (g.S.Source.left c.read.new.self) c.pieces.taken c.pieces.reader c.pieces.world c.pieces.done c.pieces.invariant.under.0 (take c.in-Ok.count c.read.new.into) (g.K.Sink.told c.args.sink.now) (g.K.Sink.told c.pieces.sink) c.pieces.invariant.under.1 c.pieces.invariant.drained c.in-Ok.ensures.bytes.0 (omega (arith, c.in-Ok.ensures.count.1, c.in-Ok.ensures.count.0)) c.pieces.invariant.under.2
 
 pub returns-in-Err-write_text-clause-bounded : goal.returns-in-Err-write_text-clause-bounded
-returns-in-Err-write_text-clause-bounded g c = read_bounded (g.S.Source.left c.args.source.now) (g.S.Source.left c.pieces.source) (g.S.Source.left c.read.new.self) (λ more. behind c.pieces.invariant.under.1.done (will_be c.pieces.reader more)) (take c.in-Ok.count c.read.new.into) c.pieces.taken (MOST_BYTES + 8192) c.pieces.invariant.under.1.read c.in-Ok.ensures.bytes.0 (omega (arith, c.pieces.invariant.counted, c.pieces.invariant.few, c.in-Ok.ensures.count.1, c.in-Ok.ensures.count.0))
+returns-in-Err-write_text-clause-bounded g c = read_bounded (g.S.Source.left c.args.source.now) (g.S.Source.left c.pieces.source) (g.S.Source.left c.read.new.self) (λ more. behind c.pieces.invariant.under.1.done (will_be c.pieces.reader more)) (take c.in-Ok.count c.read.new.into) c.pieces.taken (MOST_BYTES + 16384) c.pieces.invariant.under.1.read c.in-Ok.ensures.bytes.0 (omega (arith, c.pieces.invariant.counted, c.pieces.invariant.few, c.in-Ok.ensures.count.1, c.in-Ok.ensures.count.0))
 
 pub returns-in-Err-write_text-clause-front : goal.returns-in-Err-write_text-clause-front
 returns-in-Err-write_text-clause-front g c = front_of (g.S.Source.left c.args.source.now) (g.S.Source.left c.read.new.self) (c.pieces.taken + c.in-Ok.count) c.answer_piece.new.reader c.answer_piece.new.world c.answer_piece.new.done (c.pieces.invariant.under.0 ++ c.answer_piece.new.text.items) (g.K.Sink.told c.args.sink.now) (g.K.Sink.told c.write_text.new.sink) (λ text. c.sound_readings.ensures false text) (answered (g.S.Source.left c.args.source.now) (g.S.Source.left c.read.new.self) (c.pieces.taken + c.in-Ok.count) c.feed.new.self c.answer_piece.new.reader c.pieces.world c.answer_piece.new.world c.pieces.done c.answer_piece.new.done c.pieces.invariant.under.0 c.answer_piece.new.text.items c.feed.new.self.lines.acts (fed (g.S.Source.left c.args.source.now) (g.S.Source.left c.pieces.source) (g.S.Source.left c.read.new.self) c.pieces.taken c.in-Ok.count c.pieces.reader c.feed.new.self c.pieces.world c.pieces.done c.pieces.invariant.under.0 (take c.in-Ok.count c.read.new.into) c.pieces.invariant.under.1 c.in-Ok.ensures.bytes.0 c.in_default.ensures.script c.in-Ok.ensures.count.1) c.in_default-answer_piece.ensures.script c.in_default-answer_piece.ensures.count c.in_default-answer_piece.ensures.more) (drained_after c.feed.new.self c.answer_piece.new.reader c.answer_piece.new.world c.in_default-answer_piece.ensures.reader c.in_default-answer_piece.ensures.known c.in_default-answer_piece.ensures.stays c.in_default-answer_piece.ensures.lacks c.in_default.ensures.fault) (front_on (g.K.Sink.told c.args.sink.now) (g.K.Sink.told c.pieces.sink) (g.K.Sink.told c.write_text.new.sink) c.pieces.invariant.under.0 c.answer_piece.new.text.items c.pieces.invariant.under.2 (subst (λ (bytes : List ℕ). TakesFront (g.K.Sink.told c.pieces.sink) (g.K.Sink.told c.write_text.new.sink) bytes) c.as_slice.ensures.value c.in-Err-write_text.ensures.err))
