@@ -15,6 +15,3 @@ pub use fault::{DelayFault, Place};
 pub use number::{item_at, key_name, number_at};
 pub use read::{MOST_BYTES, json_of, read_delays, table_of};
 pub use text::{write_delay_fault, write_fault};
-
-#[cfg(test)]
-mod tests;

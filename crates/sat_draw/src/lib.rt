@@ -14,6 +14,3 @@ mod trail;
 
 pub use element::{Element, Ink, Spot, Text};
 pub use picture::draw;
-
-#[cfg(test)]
-mod tests;

@@ -16,6 +16,3 @@ pub use stamped::{GearFault, Stamped};
 pub fn lane_laws()
     ensures { EachLane }
 {}
-
-#[cfg(test)]
-mod tests;

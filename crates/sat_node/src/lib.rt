@@ -25,6 +25,3 @@ pub fn link_laws()
     ensures labels { LabelsInOrder }
     ensures numbers { PutsAreNumbered }
 {}
-
-#[cfg(test)]
-mod tests;

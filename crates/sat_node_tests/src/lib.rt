@@ -7,6 +7,10 @@ mod cluster;
 #[cfg(test)]
 mod finish;
 #[cfg(test)]
+mod links;
+#[cfg(test)]
+mod nodes;
+#[cfg(test)]
 mod outcome;
 #[cfg(test)]
 mod undone;

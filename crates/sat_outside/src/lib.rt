@@ -12,6 +12,3 @@ pub use gate::{FreeGate, Gate};
 pub use memory::{MemorySink, MemorySource};
 pub use standard::{StdSink, StdSource};
 pub use traits::{Failed, Sink, Source};
-
-#[cfg(test)]
-mod tests;

@@ -26,6 +26,3 @@ pub fn place_laws()
     ensures one { LeastIsOne }
     ensures found { LeastIsFound }
 {}
-
-#[cfg(test)]
-mod tests;

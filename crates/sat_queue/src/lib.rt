@@ -3,7 +3,4 @@
 
 mod queue;
 
-pub use queue::{Queue, empty_queues, reserve_each};
-
-#[cfg(test)]
-mod tests;
+pub use queue::{Queue, empty_queues};

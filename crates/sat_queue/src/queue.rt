@@ -1,6 +1,5 @@
-//! A queue of plain members, and what is done to each of some queues.
+//! A queue of plain members.
 ghost use Rattle.std.specs.Prelude.{◌≡◌, ◌++◌, [], ◌∷◌, length, map, drop, replicate, slice_get, IfOk, OnOk};
-ghost use Rattle.std.specs.List.{All};
 ghost use Rattle.std.specs.Option.{option_to_list};
 ghost use Rattle.sat_queue.specs.Queued.{members_of, HasRoom, HasRoomFor};
 
@@ -112,15 +111,4 @@ pub fn empty_queues<T: Copy>(alloc: Global, count: usize) -> Result<Vec<Queue<T>
         queues.push(Queue::new(alloc))?;
     }
     Ok(queues)
-}
-
-/// Makes room for one member more in each queue.
-pub fn reserve_each<T: Copy>(queues: &mut [Queue<T>]) -> Result<(), AllocError>
-    ensures members { map members_of queues.new ≡ map members_of queues.old }
-    ensures room { OnOk result (All HasRoom queues.new) }
-{
-    for queue in queues.iter_mut() {
-        queue.reserve(1)?;
-    }
-    Ok(())
 }

@@ -6,6 +6,3 @@ mod queue;
 mod sink;
 
 pub use sink::LabelSink;
-
-#[cfg(test)]
-mod tests;

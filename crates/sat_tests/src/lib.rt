@@ -3,12 +3,22 @@
 #![tactic(auto)]
 
 #[cfg(test)]
+mod drawings;
+#[cfg(test)]
+mod gears;
+#[cfg(test)]
 mod living;
+#[cfg(test)]
+mod outside;
 #[cfg(test)]
 mod parts;
 #[cfg(test)]
 mod program;
 #[cfg(test)]
 mod rows;
+#[cfg(test)]
+mod sinks;
+#[cfg(test)]
+mod tables;
 #[cfg(test)]
 mod texts;
