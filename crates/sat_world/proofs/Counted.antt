@@ -9,7 +9,7 @@ use Rattle.sat_act.specs.declared.entry.Entry.{Entry}
 use Rattle.sat_act.specs.Deployed.{Deployed}
 use Rattle.sat_act.specs.Limits.{IsDeployment}
 use Rattle.sat_act.specs.Ranges.{IsActOf}
-use Rattle.sat_act.specs.Runs.{is_settle}
+use Rattle.sat_act.specs.Runs.{IsRun, is_settle}
 use Rattle.sat_act.specs.Settling.{is_done}
 use Rattle.sat_laws.proofs.Steps.{Step, outcome, showed_turn, showed_stamp}
 use Rattle.sat_world.specs.Counts.{counted}
@@ -66,6 +66,9 @@ done w v a r c e = ap (λ (n : ℕ). record v { shown = n }) (c.shown ∙ undone
 pub applies : (w v u : WorldSeen) (a : Act) (r : Answer) → w ≡ v → IsWorld w → IsActOf v.deployment a → is_settle a ≡ false → Counts v a r u → Applies v a r u
 applies w v u a r e k b p c = record {
   answer = λ h run st. (runs v (record u { shown = v.shown }) h a r deployed b p run st.parts c.goes).answer;
+  run = λ h run st.
+      subst (λ (d : Deployed). IsRun d (record { act = a; answer = r; inner = false } ∷ h)) (sym c.goes.deployment)
+      (runs v (record u { shown = v.shown }) h a r deployed b p run st.parts c.goes).run;
   stands = λ h run st.
       subst (λ (n : ℕ). StandsFor (record u { shown = n }) (record { act = a; answer = r; inner = false } ∷ h)) (sym c.shown)
       (runs-counted v (record u { shown = v.shown }) h a r deployed b p run st c.goes);

@@ -37,7 +37,8 @@ use Rattle.sat_site.specs.Changes.{shape_for}
 use Rattle.sat_sites.specs.declared.shape.Shape.{Shape}
 use Rattle.sat_world.specs.Seen.{WorldSeen}
 use Rattle.sat_world.specs.Stands.{Stands, StandsFor}
-use Rattle.sat_world.specs.Underway.{is_left, is_missing, lane_left, lane_underway, lanes_underway, link_underway, tree_underway, epoch_underway, links_underway, net_underway, underway, IsLeft, IsLeftOf, IsLeftTo, IsOfShape}
+use Rattle.sat_world.specs.Underway.{is_left, lane_underway, lanes_underway, link_underway, tree_underway, epoch_underway, links_underway, underway}
+use Rattle.sat_world.specs.Left.{is_missing, lane_left, net_underway, IsLeft, IsLeftOf, IsLeftTo, IsOfShape}
 use Rattle.sat_world.specs.Worlds.{IsFrame, IsPlanted, IsWorld}
 use Rattle.sat_world.proofs.Lists.{get-is, index-at, there}
 

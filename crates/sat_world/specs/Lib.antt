@@ -10,3 +10,4 @@ pub mod Clocks
 pub mod Starts
 pub mod Laws
 pub mod Underway
+pub mod Left

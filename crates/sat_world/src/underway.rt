@@ -7,7 +7,7 @@ ghost use Rattle.sat_act.specs.Settling.{capped};
 ghost use Rattle.sat_machine.specs.State.{SiteState};
 ghost use Rattle.sat_site.specs.Seen.{SiteSeen};
 ghost use Rattle.sat_site.specs.Stands.{StandsSite};
-ghost use Rattle.sat_world.specs.Underway.{net_underway, IsLeft, IsLeftOf, IsLeftTo, IsOfShape};
+ghost use Rattle.sat_world.specs.Left.{net_underway, IsLeft, IsLeftOf, IsLeftTo, IsOfShape};
 
 use crate::places::sound;
 use sat_net::Net;

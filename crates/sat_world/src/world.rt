@@ -84,6 +84,7 @@ impl World {
         requires act { IsActOf self.old.deployment act.now }
         requires plain { is_settle act.now ≡ false }
         ensures answer { IfOk result (λ r. (h : List Entry) → IsRun self.old.deployment h → StandsFor self.old h → r ≡ answer self.old.deployment h act.now) }
+        ensures run { IfOk result (λ r. (h : List Entry) → IsRun self.old.deployment h → StandsFor self.old h → IsRun self.new.deployment (record { act = act.now; answer = r; inner = false } ∷ h)) }
         ensures stands { IfOk result (λ r. (h : List Entry) → IsRun self.old.deployment h → StandsFor self.old h → StandsFor self.new (record { act = act.now; answer = r; inner = false } ∷ h)) }
         ensures good { IfOk result (λ r. (h : List Entry) → IsRun self.old.deployment h → StandsFor self.old h → IsGood self.old.deployment (record { act = act.now; answer = r; inner = false } ∷ h)) }
         ensures spare { takes_none act.now ≡ true → IsOk result }

@@ -1,5 +1,5 @@
 use Rattle.std.proofs.Common.{ℕ, subst, sym, ◌≡◌, refl, arith}
-use Rattle.sat_world.specs.Underway.{IsLeft, IsLeftTo}
+use Rattle.sat_world.specs.Left.{IsLeft, IsLeftTo}
 use Rattle.sat_world.proofs.Lefts.{all-more}
 use Rattle.sat_world.proofs.underway.in_lanes.Goals as goal
 

@@ -1,4 +1,4 @@
-use Rattle.sat_world.specs.Underway.{IsLeft}
+use Rattle.sat_world.specs.Left.{IsLeft}
 use Rattle.sat_world.proofs.underway.in_lanes.Given as goal
 
 abbrev pub invariant-loop-to : goal.invariant-loop-to

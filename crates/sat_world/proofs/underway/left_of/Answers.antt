@@ -1,5 +1,5 @@
 use Rattle.std.proofs.Common.{ℕ, subst, ◌≡◌, refl, arith}
-use Rattle.sat_world.specs.Underway.{IsLeftOf}
+use Rattle.sat_world.specs.Left.{IsLeftOf}
 use Rattle.sat_world.proofs.Lefts.{gear-more}
 use Rattle.sat_world.proofs.underway.left_of.Goals as goal
 

@@ -1,4 +1,4 @@
-use Rattle.sat_world.specs.Underway.{IsLeftOf}
+use Rattle.sat_world.specs.Left.{IsLeftOf}
 use Rattle.sat_world.proofs.underway.left_of.Given as goal
 
 abbrev pub invariant-loop-gear : goal.invariant-loop-gear

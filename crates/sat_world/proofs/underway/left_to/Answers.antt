@@ -1,5 +1,5 @@
 use Rattle.std.proofs.Common.{ℕ, subst, ◌≡◌, refl, arith}
-use Rattle.sat_world.specs.Underway.{IsLeftTo}
+use Rattle.sat_world.specs.Left.{IsLeftTo}
 use Rattle.sat_world.proofs.Lefts.{site-more}
 use Rattle.sat_world.proofs.underway.left_to.Goals as goal
 

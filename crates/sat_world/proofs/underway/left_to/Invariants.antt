@@ -1,4 +1,4 @@
-use Rattle.sat_world.specs.Underway.{IsLeftTo}
+use Rattle.sat_world.specs.Left.{IsLeftTo}
 use Rattle.sat_world.proofs.underway.left_to.Given as goal
 
 abbrev pub invariant-loop-from : goal.invariant-loop-from

@@ -2,7 +2,7 @@ use Rattle.std.proofs.Common.{ℕ, ap, sym, ◌∙◌, ◌≡◌, ◌≤◌, ari
 use Rattle.std.specs.Prelude.{count_by}
 use Rattle.sat_label.specs.Words.{below}
 use Rattle.sat_proxy.specs.Proxy.{front_at}
-use Rattle.sat_world.specs.Underway.{is_missing}
+use Rattle.sat_world.specs.Left.{is_missing}
 use Rattle.sat_world.proofs.Lefts.{none-missing, missing-stands, count-less}
 use Rattle.sat_world.proofs.underway.missing.Goals as goal
 

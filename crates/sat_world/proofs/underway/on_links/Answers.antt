@@ -1,7 +1,7 @@
 use Rattle.std.proofs.Common.{Option, ap, ◌∙◌, arith}
 use Rattle.sat_act.specs.Settling.{capped}
 use Rattle.sat_net.specs.Nets.{NetSeen}
-use Rattle.sat_world.specs.Underway.{net_underway}
+use Rattle.sat_world.specs.Left.{net_underway}
 use Rattle.sat_world.proofs.Lefts.{net-more}
 use Rattle.sat_world.proofs.underway.on_links.Goals as goal
 

@@ -4,6 +4,9 @@ use Rattle.sat_world.proofs.world.World.apply.Goals as goal
 pub returns-clause-answer : goal.returns-clause-answer
 returns-clause-answer c = applied _ _ _ _ c.step.result (λ r s. s.answer) c.step.ensures.applies
 
+pub returns-clause-run : goal.returns-clause-run
+returns-clause-run c = applied _ _ _ _ c.step.result (λ r s. s.run) c.step.ensures.applies
+
 pub returns-clause-stands : goal.returns-clause-stands
 returns-clause-stands c = applied _ _ _ _ c.step.result (λ r s. s.stands) c.step.ensures.applies
 
