@@ -169,11 +169,10 @@ fn what_is_under_way_is_counted(rt: HostRuntime) -> Result<(), Fail> {
 #[test]
 fn delays_give_a_tree(rt: HostRuntime) -> Result<(), Fail> {
     let alloc = rt.alloc();
-    for (text, want, expected) in [
+    for (text, want) in [
         (
             "{\"sites\":2,\"places\":1,\"reach\":[[3],[4]],\"between\":[[0]],\"optimal\":[[0,10],[7,0]],\"weight\":[[0,2],[1,0]]}",
             "plan tree - / 0 0\nplace z0 0\ndelay z0 s1 3\nmismatch 0\n",
-            0u8,
         ),
         // Sites 0 and 1 are near place 0, and site 2 is near place 2. One serializer at place 0 costs 36, at place 1 108 and at
         // place 2 148. A second one at place 2 takes site 2, and leaves the ways from site 2, each 5 milliseconds short: 10. A third
@@ -182,7 +181,6 @@ fn delays_give_a_tree(rt: HostRuntime) -> Result<(), Fail> {
         (
             "{\"sites\":3,\"places\":3,\"reach\":[[1,5,30],[2,6,30],[30,40,1]],\"between\":[[0,5,20],[5,0,25],[15,25,0]],\"optimal\":[[0,3,22],[3,0,23],[22,23,0]],\"weight\":[[0,1,1],[1,0,1],[1,1,0]]}",
             "plan tree - 0 / 0 0 1\nplace z0 0\nplace z1 2\ndelay z1 z0 5\nmismatch 0\n",
-            0,
         ),
         // The same, but site 1 is to hear of site 2 after 26 milliseconds, and that weighs 2. So the first edge whose delay lowers
         // the mismatch is the one before site 1: 8 milliseconds, at the cost of 8 for what it hears of site 0. Then none of the
@@ -190,50 +188,10 @@ fn delays_give_a_tree(rt: HostRuntime) -> Result<(), Fail> {
         (
             "{\"sites\":3,\"places\":3,\"reach\":[[1,5,30],[2,6,30],[30,40,1]],\"between\":[[0,5,20],[5,0,25],[15,25,0]],\"optimal\":[[0,3,22],[3,0,23],[22,26,0]],\"weight\":[[0,1,1],[1,0,1],[1,2,0]]}",
             "plan tree - 0 / 0 0 1\nplace z0 0\nplace z1 2\ndelay z0 s1 8\nmismatch 13\n",
-            0,
         ),
-        ("{", "plan: NotJson\n", 1),
-        ("{\"sites\":17}", "plan: TooBig sites 0 0\n", 1),
     ] {
         let (status, sink) = ended(alloc, "plan", text.as_bytes().to_vec(alloc)?)?;
-        assert_eq!(rt; status, expected);
-        assert_eq!(rt; sink.held(), want.as_bytes());
-    }
-    Ok(())
-}
-
-// A tree of one serializer at the better place, one of two at the places of least mismatch (both at place 0 is 6, 0 and 1 is 4, 1 and
-// 0 is 27, both at place 1 is 3), and a seat at a serializer that is not there. On several threads it is the same.
-#[test]
-fn a_given_tree_is_placed(rt: HostRuntime) -> Result<(), Fail> {
-    let alloc = rt.alloc();
-    let words = words(alloc, "place")?;
-    for (tree, want, expected) in [
-        (
-            "\"parents\":[],\"seats\":[0,0]}",
-            "plan tree - / 0 0\nplace z0 1\nmismatch 3\n",
-            0u8,
-        ),
-        (
-            "\"parents\":[0],\"seats\":[0,1]}",
-            "plan tree - 0 / 0 1\nplace z0 1\nplace z1 1\nmismatch 3\n",
-            0,
-        ),
-        (
-            "\"parents\":[],\"seats\":[0,1]}",
-            "place: TooBig seats 1 0\n",
-            1,
-        ),
-    ] {
-        let mut text =
-            b"{\"sites\":2,\"places\":2,\"reach\":[[3,9],[4,1]],\"between\":[[0,5],[5,0]],\"optimal\":[[0,10],[7,0]],\"weight\":[[0,2],[1,0]],".to_vec(
-                alloc,
-            )?;
-        text.extend_from_slice(tree.as_bytes())?;
-        let mut source = CleanSource::new(text, 7);
-        let mut sink = CleanSink::with_room(alloc, 7, ROOM)?;
-        let status = saturn(&rt, words.as_slice(), &mut source, &mut sink, &FreeGate);
-        assert_eq!(rt; status, expected);
+        assert_eq!(rt; status, 0);
         assert_eq!(rt; sink.held(), want.as_bytes());
     }
     Ok(())

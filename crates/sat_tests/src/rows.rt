@@ -273,3 +273,177 @@ pub const UNDERWAY: &[(&str, u64)] = &[
         2,
     ),
 ];
+
+const TABLE: &str =
+    "{\"sites\":2,\"places\":2,\"reach\":[[3,9],[4,1]],\"between\":[[0,5],[5,0]],\"optimal\":[[0,10],[7,0]],\"weight\":[[0,2],[1,0]]";
+
+// Two places are as good for each site.
+const TIES: &str =
+    "{\"sites\":2,\"places\":3,\"reach\":[[5,1,1],[5,1,1]],\"between\":[[0,0,0],[0,0,0],[0,0,0]],\"optimal\":[[0,0],[0,0]],\"weight\":[[0,1],[1,0]]";
+
+/// A table of delays, the tree behind it, and what `place` prints. Of two serializers in the first table, both at place 0 cost 6, at 0 and 1
+/// they cost 4, at 1 and 0 27, and both at place 1 cost 3.
+pub const PLACED: &[(&str, &str, &str)] = &[
+    (
+        TABLE,
+        ",\"parents\":[],\"seats\":[0,0]}",
+        "plan tree - / 0 0\nplace z0 1\nmismatch 3\n",
+    ),
+    (
+        TABLE,
+        ",\"parents\":[0],\"seats\":[0,1]}",
+        "plan tree - 0 / 0 1\nplace z0 1\nplace z1 1\nmismatch 3\n",
+    ),
+    (
+        TIES,
+        ",\"parents\":[],\"seats\":[0,0]}",
+        "plan tree - / 0 0\nplace z0 1\nmismatch 4\n",
+    ),
+    (
+        TIES,
+        ",\"parents\":[0],\"seats\":[0,1]}",
+        "plan tree - 0 / 0 1\nplace z0 1\nplace z1 1\nmismatch 4\n",
+    ),
+];
+
+/// The tree behind a table of delays, and what `place` finds wrong with it.
+pub const BAD_SHAPES: &[(&str, &str)] = &[
+    ("", "place: NotJson\n"),
+    (",\"places\":9}", "place: BadShape reach 0 2\n"),
+    ("}", "place: BadShape parents 0 0\n"),
+    (",\"parents\":5}", "place: BadShape parents 0 0\n"),
+    (",\"parents\":{}}", "place: BadShape parents 0 0\n"),
+    (",\"parents\":[null]}", "place: BadShape parents 0 0\n"),
+    (",\"parents\":[1]}", "place: TooBig parents 0 0\n"),
+    (",\"parents\":[0,-1]}", "place: BadShape parents 1 0\n"),
+    (",\"parents\":[0,2]}", "place: TooBig parents 1 0\n"),
+    (
+        ",\"parents\":[0,1,2,3,5,true]}",
+        "place: TooBig parents 4 0\n",
+    ),
+    (
+        ",\"parents\":[0,1,2,3,4,0]}",
+        "place: BadShape parents 5 0\n",
+    ),
+    (",\"parents\":[0,1,2,3,4]}", "place: BadShape seats 0 0\n"),
+    (
+        ",\"parents\":[],\"seats\":0}",
+        "place: BadShape seats 0 0\n",
+    ),
+    (
+        ",\"parents\":[],\"seats\":[0]}",
+        "place: BadShape seats 1 0\n",
+    ),
+    (
+        ",\"parents\":[],\"seats\":[0,1]}",
+        "place: TooBig seats 1 0\n",
+    ),
+    (
+        ",\"parents\":[0],\"seats\":[1,0.0]}",
+        "place: BadShape seats 1 0\n",
+    ),
+    (
+        ",\"parents\":[0],\"seats\":[1,0,2]}",
+        "place: BadShape seats 2 0\n",
+    ),
+];
+
+/// The table that those trees stand behind.
+pub const BEFORE_BAD_SHAPES: &str = TABLE;
+
+/// A table and a tree with nine places, which a table alone may have.
+pub const NINE_PLACES: &str =
+    "{\"sites\":1,\"places\":9,\"reach\":[[0,0,0,0,0,0,0,0,0]],\"between\":[[0,0,0,0,0,0,0,0,0],[0,0,0,0,0,0,0,0,0],[0,0,0,0,0,0,0,0,0],[0,0,0,0,0,0,0,0,0],[0,0,0,0,0,0,0,0,0],[0,0,0,0,0,0,0,0,0],[0,0,0,0,0,0,0,0,0],[0,0,0,0,0,0,0,0,0],[0,0,0,0,0,0,0,0,0]],\"optimal\":[[0]],\"weight\":[[0]]}";
+
+/// Texts that say no sizes, and what `plan` finds wrong with them.
+pub const BAD_SIZES: &[(&str, &str)] = &[
+    ("{", "plan: NotJson\n"),
+    ("", "plan: NotJson\n"),
+    ("{\"sites\":1}x", "plan: NotJson\n"),
+    ("7", "plan: BadShape sites 0 0\n"),
+    ("[2,1]", "plan: BadShape sites 0 0\n"),
+    ("{\"places\":1}", "plan: BadShape sites 0 0\n"),
+    ("{\"sites\":0}", "plan: BadShape sites 0 0\n"),
+    ("{\"sites\":\"2\"}", "plan: BadShape sites 0 0\n"),
+    ("{\"sites\":-1}", "plan: BadShape sites 0 0\n"),
+    ("{\"sites\":2.0}", "plan: BadShape sites 0 0\n"),
+    (
+        "{\"sites\":18446744073709551616}",
+        "plan: BadShape sites 0 0\n",
+    ),
+    (
+        "{\"sites\":18446744073709551615}",
+        "plan: TooBig sites 0 0\n",
+    ),
+    ("{\"sites\":17}", "plan: TooBig sites 0 0\n"),
+    ("{\"sites\":16}", "plan: BadShape places 0 0\n"),
+    ("{\"sites\":16,\"places\":0}", "plan: BadShape places 0 0\n"),
+    ("{\"sites\":16,\"places\":33}", "plan: TooBig places 0 0\n"),
+    ("{\"sites\":16,\"places\":32}", "plan: BadShape reach 0 0\n"),
+    (
+        "{\"sites\":17,\"sites\":16,\"places\":32}",
+        "plan: BadShape reach 0 0\n",
+    ),
+];
+
+/// What stands before the matrices of the next table.
+pub const BEFORE_MATRICES: &str = "{\"sites\":2,\"places\":1,";
+
+/// For each matrix a missing row, a row too many, a missing cell, a cell too many, a cell that is no whole number and one that is too
+/// big.
+pub const BAD_MATRICES: &[(&str, &str)] = &[
+    ("\"reach\":5}", "plan: BadShape reach 0 0\n"),
+    ("\"reach\":[]}", "plan: BadShape reach 0 0\n"),
+    ("\"reach\":[[3]]}", "plan: BadShape reach 1 0\n"),
+    ("\"reach\":[[3],4]}", "plan: BadShape reach 1 0\n"),
+    ("\"reach\":[[3],[4],[5]]}", "plan: BadShape reach 2 0\n"),
+    ("\"reach\":[[],[4]]}", "plan: BadShape reach 0 0\n"),
+    ("\"reach\":[[3],[4,5]]}", "plan: BadShape reach 1 1\n"),
+    ("\"reach\":[[3],[null]]}", "plan: BadShape reach 1 0\n"),
+    ("\"reach\":[[3],[100001]]}", "plan: TooBig reach 1 0\n"),
+    ("\"reach\":[[3],[100000]]}", "plan: BadShape between 0 0\n"),
+    (
+        "\"reach\":[[3],[4]],\"between\":[[0],[0]]}",
+        "plan: BadShape between 1 0\n",
+    ),
+    (
+        "\"reach\":[[3],[4]],\"between\":[[0,0]]}",
+        "plan: BadShape between 0 1\n",
+    ),
+    (
+        "\"reach\":[[3],[4]],\"between\":[[100001]]}",
+        "plan: TooBig between 0 0\n",
+    ),
+    (
+        "\"reach\":[[3],[4]],\"between\":[[0]],\"optimal\":[[0,1]]}",
+        "plan: BadShape optimal 1 0\n",
+    ),
+    (
+        "\"reach\":[[3],[4]],\"between\":[[0]],\"optimal\":[[0,1],[2]]}",
+        "plan: BadShape optimal 1 1\n",
+    ),
+    (
+        "\"reach\":[[3],[4]],\"between\":[[0]],\"optimal\":[[0,1,2],[2]]}",
+        "plan: BadShape optimal 0 2\n",
+    ),
+    (
+        "\"reach\":[[3],[4]],\"between\":[[0]],\"optimal\":[[0,1],[2,100001]]}",
+        "plan: TooBig optimal 1 1\n",
+    ),
+    (
+        "\"reach\":[[3],[4]],\"between\":[[0]],\"optimal\":[[0,1],[2,0]],\"weight\":[[0,1],[2,true]]}",
+        "plan: BadShape weight 1 1\n",
+    ),
+    (
+        "\"reach\":[[3],[4]],\"between\":[[0]],\"optimal\":[[0,1],[2,0]],\"weight\":[[0,1],[1000001,true]]}",
+        "plan: TooBig weight 1 0\n",
+    ),
+    (
+        "\"reach\":[[3],[4]],\"between\":[[0]],\"optimal\":[[0,1],[2,0]],\"weight\":[[0,1],[2,0],[]]}",
+        "plan: BadShape weight 2 0\n",
+    ),
+];
+
+/// The last matrices of a good table.
+pub const GOOD_MATRICES: &str =
+    "\"reach\":[[3],[4]],\"between\":[[0]],\"optimal\":[[0,10],[7,0]],\"weight\":[[0,2],[1,0]]}";

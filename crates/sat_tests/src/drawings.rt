@@ -1,9 +1,7 @@
-//! Drawings of scripts and their answers. What is expected was worked out by hand from the measures of a drawing.
-use crate::draw;
-use sat_act::{Act, Answer, Entries, Entry, Refusal};
-use sat_label::{Kind, Label, NodeId, Nodes, Point, Value};
-use sat_stream::{Reading, ScriptReader};
-use std::alloc::{AllocError, Global};
+//! Drawings of scripts through the program. What is expected was worked out by hand from the measures of a drawing and the rules of acts.
+use sat_outside::CleanSink;
+use sat_top::still_in_memory;
+use std::alloc::Global;
 use std::test::Fail;
 
 const PLAIN: &str =
@@ -53,108 +51,13 @@ const ASIDE_LINES: &str = "<svg xmlns='http://www.w3.org/2000/svg' width='1210' 
 <text class='said' x='1008' y='506'>11 read none
 ";
 
-// The label of the one write of the first script.
-fn label() -> Label {
-    Label {
-        point: Point {
-            ts: 1,
-            site: 0,
-            gear: 0,
-        },
-        kind: Kind::Update(0),
-    }
-}
-
-fn hopped(alloc: Global) -> Result<Answer, AllocError> {
-    let mut to = Nodes::new(alloc);
-    to.push(NodeId::Site(1))?;
-    Ok(Answer::Hopped { label: label(), to })
-}
-
-fn read(alloc: Global) -> Result<Answer, AllocError> {
-    let value = Value::of(alloc, b"<&>\"'")?;
-    match value {
-        Some(value) => Ok(Answer::ReadSome {
-            label: label(),
-            value,
-        }),
-        None => Ok(Answer::ReadNone),
-    }
-}
-
-// The answers of the first script, by the rules of acts.
-fn plain_answer(alloc: Global, place: usize) -> Result<Answer, AllocError> {
-    match place {
-        0 => Ok(Answer::Wrote(label())),
-        1 => Ok(Answer::Gathered {
-            labels: 1,
-            stable: 1,
-        }),
-        2 => Ok(Answer::Emitted(label())),
-        3 => hopped(alloc),
-        4 => Ok(Answer::Refused(Refusal::NoPayload(label()))),
-        5 => Ok(Answer::Brought(label())),
-        6 => Ok(Answer::Shown(label())),
-        _ => read(alloc),
-    }
-}
-
-// Those of the second one.
-fn aside_answer(place: usize) -> Answer {
-    match place {
-        0 => Answer::Ticked(5),
-        1 => Answer::Beat(0),
-        2 => Answer::Taken,
-        3 => Answer::Old,
-        4 => Answer::Killed,
-        5 => Answer::Refused(Refusal::Dead),
-        6 => Answer::Left(Point::zero()),
-        7 => Answer::Refused(Refusal::NoSession),
-        8 => Answer::Clocked(5),
-        9 => Answer::Attached,
-        _ => Answer::ReadNone,
-    }
-}
-
-fn answer(alloc: Global, plain: bool, place: usize) -> Result<Answer, AllocError> {
-    if plain {
-        plain_answer(alloc, place)
-    } else {
-        Ok(aside_answer(place))
-    }
-}
-
-fn entries_of(alloc: Global, acts: &[Act], plain: bool) -> Result<Entries, AllocError> {
-    let mut entries = Entries::new(alloc);
-    for (place, act) in acts.iter().enumerate() {
-        let answer = answer(alloc, plain, place)?;
-        let act = act.copy()?;
-        entries.push(Entry {
-            act,
-            answer,
-            inner: false,
-        })?;
-    }
-    Ok(entries)
-}
-
-// The drawing of one of the scripts.
-fn drawn(alloc: Global, script: &str, plain: bool) -> Result<Vec<u8>, AllocError> {
-    let mut reader = ScriptReader::new(alloc, false);
-    let _ = reader.feed(script.as_bytes());
-    let Reading {
-        deployment,
-        acts,
-        ..
-    } = reader.finish();
-    let Some(d) = deployment else {
-        return Ok(Vec::new(alloc));
-    };
-    let entries = entries_of(alloc, acts.as_slice(), plain)?;
-    if entries.as_slice().len() > 100 {
-        return Ok(Vec::new(alloc));
-    }
-    draw(alloc, &d, entries.as_slice())
+// The status and the drawing of a script.
+fn drawn(alloc: Global, script: &str) -> Result<(u8, CleanSink), Fail> {
+    let mut words = Vec::new(alloc);
+    words.push(String::from_str(alloc, "draw")?)?;
+    let text = script.as_bytes().to_vec(alloc)?;
+    let (status, sink) = still_in_memory(alloc, words.as_slice(), text, 4096, 65_536)?;
+    Ok((status, sink))
 }
 
 // How many lines of a text begin like this.
@@ -180,11 +83,13 @@ fn missing<'a>(text: &str, lines: &'a str) -> &'a str {
 
 #[test]
 fn drawings_have_their_lines(rt: HostRuntime) -> Result<(), Fail> {
-    for (plain, done, refused) in [(true, 7usize, 1usize), (false, 8usize, 3usize)] {
-        let script = if plain { PLAIN } else { ASIDE };
-        let lines = if plain { PLAIN_LINES } else { ASIDE_LINES };
-        let text = drawn(rt.alloc(), script, plain)?;
-        let text = std::str::from_utf8(text.as_slice()).unwrap_or("no text");
+    for (script, lines, done, refused) in [
+        (PLAIN, PLAIN_LINES, 7usize, 1usize),
+        (ASIDE, ASIDE_LINES, 8usize, 3usize),
+    ] {
+        let (status, sink) = drawn(rt.alloc(), script)?;
+        assert_eq!(rt; status, 0);
+        let text = std::str::from_utf8(sink.held()).unwrap_or("no text");
         assert_eq!(rt; missing(text, lines), "none");
         assert_eq!(rt; count(text, "<circle class='done' cx="), done);
         assert_eq!(rt; count(text, "<circle class='refused' cx="), refused);
