@@ -14,4 +14,4 @@ pub use serial_act::{SerialAct, SerialAnswer};
 pub use serial_node::SerialNode;
 pub use site_act::SiteAct;
 pub use site_answer::SiteAnswer;
-pub use site_node::SiteNode;
+pub use site_node::{SiteNode, copy_plain};

@@ -1,37 +1,11 @@
 //! What a machine keeps of a deployment.
 ghost use Rattle.std.specs.Prelude.{◌≡◌, ◌+◌, ◌-◌, ◌^◌, ◌<◌, ◌++◌, length, IfOk, OnOk};
 ghost use Rattle.sat_act.specs.Limits.{IsDeployment};
-ghost use Rattle.sat_machine.specs.Interests.{interest_of};
 ghost use Rattle.sat_machines.specs.Layout.{label_links};
 
 use sat_act::{Deployment, Plan};
-use sat_label::{Counts, SiteSet};
-use sat_sites::{Interest, InterestFault};
+use sat_label::Counts;
 use std::alloc::{AllocError, Global};
-
-fn replicas(alloc: Global, d: &Deployment) -> Result<Vec<SiteSet>, AllocError>
-    ensures replicas { IfOk result (λ sets. sets.items ≡ (interest_of d.now).replicas) }
-    ensures limits { IsDeployment d.now }
-{
-    let mut sets = Vec::new(alloc);
-    for item in d.items() {
-        sets.push(item.replicas)?;
-    }
-    Ok(sets)
-}
-
-/// Which sites keep which items.
-pub fn interest(alloc: Global, d: &Deployment) -> Result<Interest, AllocError>
-    ensures interest { IfOk result (λ interest. interest ≡ interest_of d.now) }
-    ensures limits { IsDeployment d.now }
-{
-    let sets = replicas(alloc, d)?;
-    match Interest::new(alloc, d.sites(), sets.as_slice()) {
-        Ok(interest) => Ok(interest),
-        Err(InterestFault::Memory) => Err(AllocError),
-        Err(InterestFault::BadItem(_)) => unreachable!(),
-    }
-}
 
 // One more end for each tree of these plans, from this number on.
 fn add_links(links: &mut Counts, next: u64, plans: &[Plan]) -> Result<(), AllocError>

@@ -11,12 +11,12 @@ ghost use Rattle.sat_serial.specs.Routes.{leads};
 ghost use Rattle.sat_machines.specs.declared.serial_act.SerialAct.TheVariants as given;
 ghost use Rattle.sat_machines.specs.Serials.{SerialStands, IsSerial, answer_in, arrives, goes_to, is_label_of, is_node, serial_after};
 
-use crate::parts::interest;
 use crate::{Laid, SerialAct, SerialAnswer};
 use sat_act::{Answer, Deployment, Refusal};
 use sat_label::{Kind, Label, NodeId, NodeName, Nodes};
 use sat_node::{Machine, Made};
 use sat_serial::Serializer;
+use sat_site::interest;
 use sat_sites::Interest;
 use sat_tree::Tree;
 use std::alloc::{AllocError, Global};

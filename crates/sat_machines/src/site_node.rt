@@ -13,14 +13,14 @@ ghost use Rattle.sat_machines.specs.Layout.{label_link, peer};
 ghost use Rattle.sat_machines.specs.Plain.{is_plain, is_spare, IsTwice};
 ghost use Rattle.sat_machines.specs.Sites.{Stands, beat_in, bulk_to, keepers_of, payload_in, site_puts};
 
-use crate::parts::{interest, links};
+use crate::parts::links;
 use crate::{Laid, SiteAct, SiteAnswer};
 use sat_act::{Answer, Deployment};
 use sat_beat::Beat;
 use sat_bulk::Payload;
 use sat_label::{Carried, Counts, NodeName, SiteSet, Value};
 use sat_node::{Machine, Made};
-use sat_site::{Site, SiteInput, SiteOutput, site_laws};
+use sat_site::{Site, SiteInput, SiteOutput, interest, site_laws};
 use sat_sites::Interest;
 use std::alloc::{AllocError, Global};
 use std::marker::{Model, PhantomData};
@@ -118,8 +118,8 @@ struct Twice {
     beat: Option<Beat>,
 }
 
-// The same answer again.
-fn copy_plain(answer: &Answer) -> Answer
+/// The same answer again, of one that holds no list. It takes no memory.
+pub fn copy_plain(answer: &Answer) -> Answer
     requires { is_plain answer.now ≡ true }
     ensures { result ≡ answer.now }
 {

@@ -9,6 +9,7 @@ use crate::Noted;
 use sat_act::{Act, Answer, Entry, Refusal};
 use sat_client::Client;
 use sat_label::{NodeName, Point};
+use sat_machines::copy_plain;
 
 // What a granted attach makes of a client.
 fn join(client: &mut Client, act: &Act)
@@ -63,49 +64,6 @@ fn is_plain(answer: &Answer) -> bool
         Answer::ReadSome { label: _, value: _ } => false,
         Answer::Hopped { label: _, to: _ } => false,
         _ => true,
-    }
-}
-
-// The same answer again.
-fn copy_plain(answer: &Answer) -> Answer
-    requires { is_plain answer.now ≡ true }
-    ensures { result ≡ answer.now }
-{
-    match answer {
-        Answer::ReadSome { .. } => unreachable!(),
-        Answer::Hopped { .. } => unreachable!(),
-        Answer::Ticked(promise) => Answer::Ticked(*promise),
-        Answer::Clocked(promise) => Answer::Clocked(*promise),
-        Answer::Wrote(label) => Answer::Wrote(*label),
-        Answer::ReadNone => Answer::ReadNone,
-        Answer::Moved(label) => Answer::Moved(*label),
-        Answer::Left(point) => Answer::Left(*point),
-        Answer::Attached => Answer::Attached,
-        Answer::Gathered { labels, stable } => Answer::Gathered {
-            labels: *labels,
-            stable: *stable,
-        },
-        Answer::Emitted(label) => Answer::Emitted(*label),
-        Answer::Pulsed(label) => Answer::Pulsed(*label),
-        Answer::Shown(label) => Answer::Shown(*label),
-        Answer::Took(label) => Answer::Took(*label),
-        Answer::Brought(label) => Answer::Brought(*label),
-        Answer::Again => Answer::Again,
-        Answer::Beat(number) => Answer::Beat(*number),
-        Answer::Taken => Answer::Taken,
-        Answer::Old => Answer::Old,
-        Answer::Closed { epoch, cut } => Answer::Closed {
-            epoch: *epoch,
-            cut: *cut,
-        },
-        Answer::Fallen => Answer::Fallen,
-        Answer::View(view) => Answer::View(*view),
-        Answer::Killed => Answer::Killed,
-        Answer::Settled { rounds, done } => Answer::Settled {
-            rounds: *rounds,
-            done: *done,
-        },
-        Answer::Refused(refusal) => Answer::Refused(*refusal),
     }
 }
 

@@ -13,6 +13,7 @@ mod tally;
 
 pub use input::SiteInput;
 pub use output::{SiteOutput, SiteView};
+pub use shape::interest;
 pub use site::Site;
 
 /// Of all that a site keeps and all that it is handed: a site answers as the machine of the model does at each state that it

@@ -1,24 +1,38 @@
 //! What the parts of a site of a deployment are made from.
 ghost use Rattle.std.specs.Prelude.{◌≡◌, ◌<◌, map, IfOk};
-ghost use Rattle.sat_machine.specs.Interests.{replicas_of};
+ghost use Rattle.sat_machine.specs.Interests.{interest_of};
 ghost use Rattle.sat_sites.specs.Interested.{IsInterest};
 ghost use Rattle.sat_act.specs.Limits.{IsDeployment};
 ghost use Rattle.sat_site.specs.Changes.{is_stamp_plan, shape_for};
 
-use sat_act::{Deployment, Item, Plan};
+use sat_act::{Deployment, Plan};
 use sat_label::SiteSet;
 use sat_sites::{Interest, InterestFault, Shape};
 use std::alloc::{AllocError, Global};
 
 // The sites that keep each item.
-fn replicas_of(alloc: Global, items: &[Item]) -> Result<Vec<SiteSet>, AllocError>
-    ensures { IfOk result (λ sets. sets.items ≡ map replicas_of items.now) }
+fn replicas(alloc: Global, d: &Deployment) -> Result<Vec<SiteSet>, AllocError>
+    ensures replicas { IfOk result (λ sets. sets.items ≡ (interest_of d.now).replicas) }
+    ensures limits { IsDeployment d.now }
 {
-    let mut sets = Vec::with_capacity(alloc, items.len())?;
-    for item in items {
+    let mut sets = Vec::new(alloc);
+    for item in d.items() {
         sets.push(item.replicas)?;
     }
     Ok(sets)
+}
+
+/// Which sites of a deployment keep which items.
+pub fn interest(alloc: Global, d: &Deployment) -> Result<Interest, AllocError>
+    ensures interest { IfOk result (λ interest. interest ≡ interest_of d.now) }
+    ensures limits { IsDeployment d.now }
+{
+    let sets = replicas(alloc, d)?;
+    match Interest::new(alloc, d.sites(), sets.as_slice()) {
+        Ok(interest) => Ok(interest),
+        Err(InterestFault::Memory) => Err(AllocError),
+        Err(InterestFault::BadItem(_)) => unreachable!(),
+    }
 }
 
 /// The shape of a site with this number.
@@ -27,21 +41,14 @@ pub fn shape_of(alloc: Global, d: &Deployment, site: u16) -> Result<Shape, Alloc
     ensures limits { IfOk result (λ shape. IsDeployment d.now) }
     ensures interest { IfOk result (λ shape. IsInterest shape.interest) }
 {
-    let sites = d.sites();
-    let replicas = replicas_of(alloc, d.items())?;
-    match Interest::new(alloc, sites, &replicas) {
-        Ok(interest) => {
-            let _ = interest.items();
-            Ok(Shape {
-                sites,
-                gears: d.gears(),
-                site,
-                interest,
-            })
-        }
-        Err(InterestFault::Memory) => Err(AllocError),
-        Err(InterestFault::BadItem(_)) => unreachable!(),
-    }
+    let interest = interest(alloc, d)?;
+    let _ = interest.items();
+    Ok(Shape {
+        sites: d.sites(),
+        gears: d.gears(),
+        site,
+        interest,
+    })
 }
 
 /// Of each plan whether it is stamp order.

@@ -1,40 +1,13 @@
 //! The parts of a world in which nothing has happened.
 ghost use Rattle.std.specs.Prelude.{ℕ, ◌≡◌, ◌<◌, [], length, map, slice_get, Some, IfOk};
 ghost use Rattle.sat_act.specs.declared.deployment.Plan.{Plan as PlanSeen};
-ghost use Rattle.sat_act.specs.Limits.{IsDeployment};
-ghost use Rattle.sat_machine.specs.Interests.{interest_of};
 ghost use Rattle.sat_world.specs.Starts.{AreFresh, fresh_for, seated};
 
 use sat_act::{Deployment, Plan};
 use sat_client::Client;
-use sat_label::SiteSet;
 use sat_net::Net;
 use sat_site::Site;
-use sat_sites::{Interest, InterestFault};
 use std::alloc::{AllocError, Global};
-
-fn replicas(alloc: Global, d: &Deployment) -> Result<Vec<SiteSet>, AllocError>
-    ensures replicas { IfOk result (λ sets. sets.items ≡ (interest_of d.now).replicas) }
-    ensures limits { IsDeployment d.now }
-{
-    let mut sets = Vec::new(alloc);
-    for item in d.items() {
-        sets.push(item.replicas)?;
-    }
-    Ok(sets)
-}
-
-/// Which sites keep which items.
-pub fn interest(alloc: Global, d: &Deployment) -> Result<Interest, AllocError>
-    ensures { IfOk result (λ interest. interest ≡ interest_of d.now) }
-{
-    let sets = replicas(alloc, d)?;
-    match Interest::new(alloc, d.sites(), sets.as_slice()) {
-        Ok(interest) => Ok(interest),
-        Err(InterestFault::Memory) => Err(AllocError),
-        Err(InterestFault::BadItem(_)) => unreachable!(),
-    }
-}
 
 /// The sites.
 pub fn sites(alloc: Global, d: &Deployment) -> Result<Vec<Site>, AllocError>

@@ -20,7 +20,7 @@ use crate::{Client, SiteView, Version, clocks, nets, places, start, underway};
 use sat_act::{Act, Answer, Deployment, Refusal};
 use sat_label::{NodeId, Value};
 use sat_net::Net;
-use sat_site::{Site, SiteInput};
+use sat_site::{Site, SiteInput, interest};
 use sat_sites::Interest;
 use std::alloc::{AllocError, Global};
 use std::marker::Model;
@@ -63,7 +63,7 @@ impl World {
         ensures deployment { IfOk result (λ w. w.deployment ≡ d) }
         ensures stands { IfOk result (λ w. StandsFor w []) }
     {
-        let interest = start::interest(alloc, &d)?;
+        let interest = interest(alloc, &d)?;
         let sites = start::sites(alloc, &d)?;
         let nets = start::nets(alloc, d.plans())?;
         let clients = start::clients(alloc, &d)?;
