@@ -1,4 +1,3 @@
-pub mod Fronts
 pub mod Elements
 pub mod Columns
 pub mod Trails

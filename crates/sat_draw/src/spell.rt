@@ -1,7 +1,7 @@
 //! How elements are spelled.
 ghost use Rattle.std.specs.Prelude.{◌≡◌, ◌++◌, OnOk, OnErr, codes};
 ghost use Rattle.sat_draw.specs.Elements.{ink_word, escape, escaped, line_text, dot_text, word_start, spell, spelled};
-ghost use Rattle.sat_draw.specs.Fronts.{Keeps};
+ghost use Rattle.sat_report.specs.Fronts.{Keeps};
 
 use crate::element::{Element, Ink, Spot};
 use std::alloc::AllocError;

@@ -2,7 +2,8 @@
 use Rattle.std.proofs.Common.{◌≡◌, ℕ, ◌≤◌, List, [], ◌∷◌, ◌++◌, length, drop, refl, sym, ap, ◌∙◌, arith}
 use Rattle.std.proofs.lemmas.List.{append-nil, drop_all}
 use Rattle.sat_label.specs.declared.node.NodeId.{NodeId}
-use Rattle.sat_report.specs.Texts.{node_text, nodes_text}
+use Rattle.sat_label.specs.Text.{node_text}
+use Rattle.sat_report.specs.Texts.{nodes_text}
 use Rattle.sat_report.specs.Frames.{commas}
 
 pub joined_by_commas : (n : NodeId) (ns : List NodeId) → nodes_text (n ∷ ns) ≡ node_text n ++ commas ns

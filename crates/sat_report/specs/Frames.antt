@@ -2,7 +2,7 @@
 use Rattle.std.specs.Prelude.{ℕ, ◌+◌, ◌-◌, ◌^◌, min, List, [], ◌∷◌, ◌++◌, Option, None, Some}
 use Rattle.std.specs.Fmt.{decimal}
 use Rattle.sat_label.specs.declared.node.NodeId.{NodeId}
-use Rattle.sat_report.specs.Texts.{node_text}
+use Rattle.sat_label.specs.Text.{node_text}
 
 -- the digits of a line's number, where it has one
 unfoldable pub digits_of : Option ℕ → List ℕ

@@ -1,13 +1,11 @@
 -- The texts of labels, kinds, nodes and items.
-use Rattle.std.specs.Prelude.{ℕ, List, [], ◌++◌, Some, None, map, slice_get, codes}
+use Rattle.std.specs.Prelude.{ℕ, List, [], Some, None, map, slice_get, codes}
 use Rattle.std.specs.List.{join_with_byte}
-use Rattle.std.specs.Fmt.{decimal}
-use Rattle.sat_label.specs.Text.{point_text}
+use Rattle.sat_label.specs.Text.{node_text, point_text}
 use Rattle.sat_label.specs.declared.label.Kind.{Kind}
 use Rattle.sat_label.specs.declared.label.Kind.TheVariants.{Update, Move, Pulse, Close}
 use Rattle.sat_label.specs.declared.label.Label.{Label}
 use Rattle.sat_label.specs.declared.node.NodeId.{NodeId}
-use Rattle.sat_label.specs.declared.node.NodeId.TheVariants.{Site, Serializer}
 use Rattle.sat_act.specs.Deployed.{Deployed}
 
 -- a label is printed as its point
@@ -19,11 +17,6 @@ kind_word (Update x) = codes "update"
 kind_word (Move j) = codes "move"
 kind_word Pulse = codes "pulse"
 kind_word (Close e) = codes "close"
-
--- `s` and a site's number, or `z` and a serializer's
-unfoldable pub node_text : NodeId → List ℕ
-node_text (Site i) = codes "s" ++ decimal i
-node_text (Serializer z) = codes "z" ++ decimal z
 
 -- separated by commas
 unfoldable pub nodes_text : List NodeId → List ℕ

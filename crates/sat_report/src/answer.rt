@@ -1,8 +1,8 @@
 //! Lines of answers.
 ghost use Rattle.std.specs.Prelude.{◌≡◌, ◌≤◌, ◌++◌, ◌∷◌, [], OnOk, OnErr, codes, Some, None};
 ghost use Rattle.std.specs.Fmt.{decimal};
-ghost use Rattle.sat_label.specs.Text.{point_text};
-ghost use Rattle.sat_report.specs.Texts.{kind_word, label_text, name_of_item, node_text, nodes_text};
+ghost use Rattle.sat_label.specs.Text.{node_text, point_text};
+ghost use Rattle.sat_report.specs.Texts.{kind_word, label_text, name_of_item, nodes_text};
 ghost use Rattle.sat_report.specs.Fronts.{Keeps};
 ghost use Rattle.sat_report.specs.Frames.{commas, end_text, framed, front_text};
 ghost use Rattle.sat_report.specs.Answers.{refusal_text, with_item, with_kind, with_label, answer_text, answer_line};

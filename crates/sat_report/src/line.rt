@@ -1,8 +1,8 @@
 //! A text put together from its end, in a small array. Each call writes its piece so that it ends at `end`, and says where it starts.
 ghost use Rattle.std.specs.Prelude.{◌≡◌, ◌+◌, ◌++◌, ◌∷◌, ◌≤◌, length, drop};
 ghost use Rattle.std.specs.Fmt.{decimal};
-ghost use Rattle.sat_label.specs.Text.{point_text};
-ghost use Rattle.sat_report.specs.Texts.{kind_word, node_text};
+ghost use Rattle.sat_label.specs.Text.{node_text, point_text};
+ghost use Rattle.sat_report.specs.Texts.{kind_word};
 ghost use Rattle.sat_report.specs.Frames.{end_text, front_text};
 
 use crate::front::LineFront;
@@ -139,7 +139,7 @@ fn write_lettered(letter: u8, number: u16, text: &mut [u8; LINE_BYTES], end: usi
     write_byte(letter, text, start)
 }
 
-#[tactic(auto, unfolding(crate::specs::Texts::node_text))]
+#[tactic(auto, unfolding(sat_label::specs::Text::node_text))]
 #[inline(always)]
 pub(crate) fn write_node(node: NodeId, text: &mut [u8; LINE_BYTES], end: usize) -> usize
     requires { (6 ≤ end) × (end ≤ 112) }

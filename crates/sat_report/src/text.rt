@@ -1,8 +1,8 @@
 //! Numbers, points, nodes and the names of items, appended to a text.
 ghost use Rattle.std.specs.Prelude.{◌≡◌, ◌++◌, ◌∷◌, ◌≤◌, OnOk, OnErr, length};
 ghost use Rattle.std.specs.Fmt.{decimal};
-ghost use Rattle.sat_label.specs.Text.{point_text};
-ghost use Rattle.sat_report.specs.Texts.{node_text, item_name, name_of_item};
+ghost use Rattle.sat_label.specs.Text.{node_text, point_text};
+ghost use Rattle.sat_report.specs.Texts.{item_name, name_of_item};
 ghost use Rattle.sat_report.specs.Fronts.{Keeps};
 ghost use Rattle.sat_report.specs.Frames.{commas};
 

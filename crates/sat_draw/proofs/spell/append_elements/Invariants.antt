@@ -1,5 +1,5 @@
 use Rattle.std.proofs.Common.{◌≡◌, ◌++◌, take}
-use Rattle.sat_draw.specs.Fronts.{Keeps}
+use Rattle.sat_report.specs.Fronts.{Keeps}
 use Rattle.sat_draw.specs.Elements.{spelled}
 use Rattle.sat_draw.proofs.spell.append_elements.Given as goal
 

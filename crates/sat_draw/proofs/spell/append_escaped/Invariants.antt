@@ -1,5 +1,5 @@
 use Rattle.std.proofs.Common.{◌≡◌, ◌++◌, take}
-use Rattle.sat_draw.specs.Fronts.{Keeps}
+use Rattle.sat_report.specs.Fronts.{Keeps}
 use Rattle.sat_draw.specs.Elements.{escaped}
 use Rattle.sat_draw.proofs.spell.append_escaped.Given as goal
 
