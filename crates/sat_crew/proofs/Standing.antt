@@ -4,7 +4,8 @@ use Rattle.std.proofs.lemmas.Bool.Decides.{nat_tests}
 use Rattle.std.proofs.lemmas.List.{append_assoc, append-nil}
 use Rattle.sat_act.specs.declared.act.Act.{Act}
 use Rattle.sat_act.specs.declared.entry.Entry.{Entry}
-use Rattle.sat_undone.specs.Undone.{IsFront, acts_behind, acts_done, given_up, most_tries, next_tally, no_tally, stopped, tally_by, tally_from, waits}
+use Rattle.sat_undone.specs.declared.tries.TheConstants.{MOST_TRIES}
+use Rattle.sat_undone.specs.Undone.{IsFront, acts_behind, acts_done, given_up, next_tally, no_tally, stopped, tally_by, tally_from, waits}
 use Rattle.sat_crew.specs.Standing.{Stood}
 
 pub stood-none : Stood [] 0 None []
@@ -41,16 +42,16 @@ pub stood-all : (done : List Act) (es : List Entry) → Stood done 0 None es →
 stood-all done es s = stood-end done 0 None es s ∙ append-nil done
 
 -- at the end of those of one that gave up
-pub stood-stopped : (done : List Act) (n : ℕ) (a : Act) (es : List Entry) → most_tries ≤ n → Stood done n (Some a) es → (acts_done es ≡ done ++ a ∷ []) × (stopped (tally_from no_tally es) ≡ true)
+pub stood-stopped : (done : List Act) (n : ℕ) (a : Act) (es : List Entry) → MOST_TRIES ≤ n → Stood done n (Some a) es → (acts_done es ≡ done ++ a ∷ []) × (stopped (tally_from no_tally es) ≡ true)
 stood-stopped done n a es most s =
-    let is : nat_le most_tries n ≡ true = grind (arith, nat_tests) in (
+    let is : nat_le MOST_TRIES n ≡ true = grind (arith, nat_tests) in (
       stood-end done n (Some a) es s ∙ ap (λ (b : Bool). done ++ (if b then a ∷ [] else [])) is,
-      ap (λ (m : ℕ). nat_le most_tries m) s.tries ∙ is,
+      ap (λ (m : ℕ). nat_le MOST_TRIES m) s.tries ∙ is,
     )
 
 given-front : (a : Act) (n : ℕ) (o : Option Act) → IfSome o (λ b. b ≡ a) → IsFront (given_up n o) (a ∷ [])
 given-front a n None e = (a ∷ [], refl)
-given-front a n (Some b) e = go (nat_le most_tries n)
+given-front a n (Some b) e = go (nat_le MOST_TRIES n)
   where
     go : (t : Bool) → IsFront (if t then b ∷ [] else []) (a ∷ [])
     go true = ([], ap (λ (x : Act). x ∷ []) (sym e))

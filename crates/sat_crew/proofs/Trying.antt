@@ -1,5 +1,5 @@
 -- Tries of one act.
-use Rattle.std.proofs.Common.{◌≡◌, ◌≤◌, ◌⊎◌, ℕ, ◌+◌, ◌&&◌, Bool, true, false, List, [], ◌∷◌, ◌++◌, map, Option, Some, None, Result, Ok, Err, refl, sym, ap, ◌∙◌, subst, arith, inl, inr}
+use Rattle.std.proofs.Common.{◌≡◌, ◌≤◌, ◌⊎◌, ℕ, ◌+◌, Bool, true, false, List, [], ◌∷◌, ◌++◌, map, Option, Some, None, Result, Ok, Err, refl, sym, ap, ◌∙◌, subst, arith, inl, inr}
 use Rattle.std.proofs.lemmas.List.{map-append}
 use Rattle.sat_act.specs.declared.act.Act.{Act}
 use Rattle.sat_act.specs.declared.answer.Answer.{Answer}
@@ -8,7 +8,8 @@ use Rattle.sat_node.specs.declared.kept.CallFault.{CallFault}
 use Rattle.sat_finish.specs.Finishing.{note_entry}
 use Rattle.sat_session.specs.Calls.{IsFault, note}
 use Rattle.sat_session.specs.Notes.{SessionSeen}
-use Rattle.sat_undone.specs.Undone.{is_attach, is_not_yet, most_tries}
+use Rattle.sat_undone.specs.declared.tries.TheConstants.{MOST_TRIES}
+use Rattle.sat_undone.specs.Undone.{has_to_wait}
 use Rattle.sat_cluster.specs.Doing.{Did, node_of}
 use Rattle.sat_crew.specs.Crews.{entries_in}
 use Rattle.sat_crew.specs.Standing.{Came, OneMore, Stood, Tried, Trying}
@@ -16,7 +17,7 @@ use Rattle.sat_crew.proofs.Standing.{stood-done, stood-waits}
 
 -- ---- one try
 
-one-more : (a : Act) (r : Answer) (b : Bool) (old new : SessionSeen) → Did a (Ok r) old new → (is_attach a && is_not_yet r) ≡ b → OneMore a b (entries_in old) (entries_in new)
+one-more : (a : Act) (r : Answer) (b : Bool) (old new : SessionSeen) → Did a (Ok r) old new → has_to_wait a r ≡ b → OneMore a b (entries_in old) (entries_in new)
 one-more a r b old new did waiting = record {
   entry = record { act = a; answer = r; inner = false };
   act = refl;
@@ -24,14 +25,14 @@ one-more a r b old new did waiting = record {
   more = ap (map note_entry) did.noted ∙ map-append note_entry old.noted (note new.lamport (node_of a old.client.seat) old.client.carried a r ∷ []);
 }
 
-pub tried_done : (a : Act) (r : Answer) (result : Result Answer CallFault) (old new : SessionSeen) → Did a result old new → result ≡ Ok r → (is_attach a && is_not_yet r) ≡ false → Tried a (Ok false) (entries_in old) (entries_in new)
+pub tried_done : (a : Act) (r : Answer) (result : Result Answer CallFault) (old new : SessionSeen) → Did a result old new → result ≡ Ok r → has_to_wait a r ≡ false → Tried a (Ok false) (entries_in old) (entries_in new)
 tried_done a r result old new did is waiting = one-more a r false old new (subst (λ (x : Result Answer CallFault). Did a x old new) is did) waiting
 
-pub tried_waits : (a : Act) (r : Answer) (result : Result Answer CallFault) (old new : SessionSeen) → Did a result old new → result ≡ Ok r → (is_attach a && is_not_yet r) ≡ true → Tried a (Ok true) (entries_in old) (entries_in new)
+pub tried_waits : (a : Act) (r : Answer) (result : Result Answer CallFault) (old new : SessionSeen) → Did a result old new → result ≡ Ok r → has_to_wait a r ≡ true → Tried a (Ok true) (entries_in old) (entries_in new)
 tried_waits a r result old new did is waiting = one-more a r true old new (subst (λ (x : Result Answer CallFault). Did a x old new) is did) waiting
 
 -- a pass failed behind it
-pub tried_broken : (a : Act) (r : Answer) (f : CallFault) (result : Result Answer CallFault) (old new : SessionSeen) → Did a result old new → result ≡ Ok r → (is_attach a && is_not_yet r) ≡ true → IsFault f → Tried a (Err f) (entries_in old) (entries_in new)
+pub tried_broken : (a : Act) (r : Answer) (f : CallFault) (result : Result Answer CallFault) (old new : SessionSeen) → Did a result old new → result ≡ Ok r → has_to_wait a r ≡ true → IsFault f → Tried a (Err f) (entries_in old) (entries_in new)
 tried_broken a r f result old new did is waiting fault = (fault, inr (one-more a r true old new (subst (λ (x : Result Answer CallFault). Did a x old new) is did) waiting))
 
 pub tried_failed : (a : Act) (f : CallFault) (result : Result Answer CallFault) (old new : SessionSeen) → Did a result old new → result ≡ Err f → Tried a (Err f) (entries_in old) (entries_in new)
@@ -74,8 +75,8 @@ trying_failed done a n f result es new t tried is =
     let x : Tried a (Err f) es new = subst (λ (x : Result Bool CallFault). Tried a x es new) is tried in
     failed-by done a n f es new t x.0 x.1
 
-not-none : (n : ℕ) → most_tries ≤ n → n ≡ 0 → ⊥
+not-none : (n : ℕ) → MOST_TRIES ≤ n → n ≡ 0 → ⊥
 not-none n most none = omega (arith, most, none)
 
-pub trying_given_up : (done : List Act) (a : Act) (n : ℕ) (es : List Entry) → most_tries ≤ n → Trying done a n es → Came done a (Ok false) es
+pub trying_given_up : (done : List Act) (a : Act) (n : ℕ) (es : List Entry) → MOST_TRIES ≤ n → Trying done a n es → Came done a (Ok false) es
 trying_given_up done a n es most t = (n, most, subst (λ (o : Option Act). Stood done n o es) (t.some (not-none n most)) t.stood)

@@ -8,7 +8,8 @@ use Rattle.sat_act.specs.Ranges.{IsActOf}
 use Rattle.sat_node.specs.declared.kept.CallFault.{CallFault}
 use Rattle.sat_session.specs.Calls.{IsFault}
 use Rattle.sat_session.specs.Notes.{SessionSeen}
-use Rattle.sat_undone.specs.Undone.{acts_behind, most_tries, no_tally, tally_from, waits}
+use Rattle.sat_undone.specs.declared.tries.TheConstants.{MOST_TRIES}
+use Rattle.sat_undone.specs.Undone.{acts_behind, no_tally, tally_from, waits}
 use Rattle.sat_crew.specs.Crews.{DoesAll, DoesFront, entries_in, own_acts}
 
 -- by these entries these acts were done, and behind them stand so many attaches in a row that had to wait, the last of which is this:
@@ -32,7 +33,7 @@ Tried a (Err f) old new = IsFault f × ((new ≡ old) ⊎ OneMore a true old new
 -- tries of one act in a row, behind these acts: it was done; its client gave up; or a call failed
 abbrev pub Came : List Act → Act → Result Bool CallFault → List Entry → Type 0
 Came done a (Ok true) es = Stood (done ++ a ∷ []) 0 None es
-Came done a (Ok false) es = (n : ℕ) × (most_tries ≤ n) × Stood done n (Some a) es
+Came done a (Ok false) es = (n : ℕ) × (MOST_TRIES ≤ n) × Stood done n (Some a) es
 Came done a (Err f) es = IsFault f × ((n : ℕ) × (o : Option Act) × IfSome o (λ b. b ≡ a) × Stood done n o es)
 
 -- while one act is tried: so many tries had to wait

@@ -7,17 +7,18 @@ use Rattle.sat_act.specs.declared.act.Act.{Act}
 use Rattle.sat_act.specs.declared.entry.Entry.{Entry}
 use Rattle.sat_stitch.specs.Places.{Session, Client, Operator, session_of, session_eq, is_session}
 use Rattle.sat_undone.specs.declared.lacking.Tally.{Tally}
-use Rattle.sat_undone.specs.Undone.{is_of, acts_of, entries_of, waits, most_tries, given_up, acts_behind, acts_done, tally_by, next_tally, tally_from, no_tally, tally_of, stopped, lacks, lacks_by, lacks_of, undone, undone_behind, IsFront, AreFronts, AreDone, FrontsAreDone}
+use Rattle.sat_undone.specs.declared.tries.TheConstants.{MOST_TRIES}
+use Rattle.sat_undone.specs.Undone.{is_of, acts_of, entries_of, waits, given_up, acts_behind, acts_done, tally_by, next_tally, tally_from, no_tally, tally_of, stopped, lacks, lacks_by, lacks_of, undone, undone_behind, IsFront, AreFronts, AreDone, FrontsAreDone}
 
 -- what is left open is no act where the client did not stop
-none-left : (n : ℕ) (o : Option Act) → nat_le most_tries n ≡ false → length (acts_behind n o []) ≡ 0
+none-left : (n : ℕ) (o : Option Act) → nat_le MOST_TRIES n ≡ false → length (acts_behind n o []) ≡ 0
 none-left n None on = refl
 none-left n (Some a) on = ap (λ (b : Bool). length (if b then a ∷ [] else [])) on
 
 -- where the client did not stop, as many acts were done as were counted
 done-length : (n : ℕ) (o : Option Act) (t : Tally) (es : List Entry) → t.tries ≡ n → stopped (tally_from t es) ≡ false → length (acts_behind n o es) + t.done ≡ (tally_from t es).done
 done-length n o t [] at on =
-    let still : nat_le most_tries n ≡ false = ap (nat_le most_tries) (sym at) ∙ on in
+    let still : nat_le MOST_TRIES n ≡ false = ap (nat_le MOST_TRIES) (sym at) ∙ on in
     let none = none-left n o still in
     omega (arith, none)
 done-length n o t (e ∷ es) at on =

@@ -8,6 +8,7 @@ use Rattle.sat_act.specs.declared.answer.Refusal.TheVariants as why
 use Rattle.sat_act.specs.declared.entry.Entry.{Entry}
 use Rattle.sat_stitch.specs.Places.{Session, Client, Operator, session_of, is_session}
 use Rattle.sat_undone.specs.declared.lacking.Tally.{Tally}
+use Rattle.sat_undone.specs.declared.tries.TheConstants.{MOST_TRIES}
 
 -- ---- whose acts
 
@@ -45,18 +46,17 @@ is_not_yet (ans.Refused why.NotYet) = true
 is_not_yet _ = false
 
 -- an attach that has to wait, and is tried again
-abbrev pub waits : Entry → Bool
-waits e = is_attach e.act && is_not_yet e.answer
+abbrev pub has_to_wait : Act → Answer → Bool
+has_to_wait a r = is_attach a && is_not_yet r
 
--- a client stops at so many in a row
-abbrev pub most_tries : ℕ
-most_tries = 1000
+abbrev pub waits : Entry → Bool
+waits e = has_to_wait e.act e.answer
 
 -- what so many attaches in a row are that had to wait, the last of which is this, where nothing comes behind them: one act where they are
 -- the most, else none
 abbrev pub given_up : ℕ → Option Act → List Act
 given_up n None = []
-given_up n (Some a) = if nat_le most_tries n then a ∷ [] else []
+given_up n (Some a) = if nat_le MOST_TRIES n then a ∷ [] else []
 
 -- the acts of these entries of one session, behind so many attaches in a row that had to wait: such an attach and the entry behind it are one act
 abbrev pub acts_behind : ℕ → Option Act → List Entry → List Act
@@ -89,7 +89,7 @@ tally_of s es = tally_from no_tally (entries_of s es)
 
 -- its client stopped
 abbrev pub stopped : Tally → Bool
-stopped t = nat_le most_tries t.tries
+stopped t = nat_le MOST_TRIES t.tries
 
 -- how many acts were done
 abbrev pub acts_in : Tally → ℕ

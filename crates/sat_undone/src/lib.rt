@@ -2,10 +2,12 @@
 #![tactic(auto)]
 
 mod lacking;
+mod tries;
 
 ghost use Rattle.sat_undone.specs.Undone.{FrontsAreDone};
 
-pub use lacking::{MOST_TRIES, undone};
+pub use lacking::undone;
+pub use tries::{MOST_TRIES, has_to_wait};
 
 /// Where what each session did is a front of its acts and the history lacks nothing, all acts were done but those of clients that
 /// stopped.

@@ -1,5 +1,5 @@
 use Rattle.std.proofs.Common.{◌≡◌, ◌≤◌, ◌∙◌, true, false, Ok, arith}
-use Rattle.sat_undone.specs.Undone.{most_tries}
+use Rattle.sat_undone.specs.declared.tries.TheConstants.{MOST_TRIES}
 use Rattle.sat_crew.specs.Crews.{entries_in}
 use Rattle.sat_crew.proofs.Trying.{tried_fault, trying_done, trying_failed, trying_given_up, trying_more}
 use Rattle.sat_crew.proofs.acting.do_act.Goals as goal
@@ -23,7 +23,7 @@ trying-preserved g c = (
 
 pub returns-clause-came : goal.returns-clause-came
 returns-clause-came g c = λ done s.
-    let most : most_tries ≤ c.trying.counter = omega arith in
+    let most : MOST_TRIES ≤ c.trying.counter = omega arith in
     trying_given_up done c.args.act.now c.trying.counter (entries_in c.trying.session) most (c.trying.invariant.1 done s)
 
 pub returns-in-Err-clause-fault : goal.returns-in-Err-clause-fault
