@@ -118,18 +118,40 @@ unfoldable pub undone : List Entry → List Act → Option Act
 unfolding tally_of
 undone es acts = undone_behind es [] acts
 
+-- ---- what each session did
+
 -- the first of them are these
 abbrev pub IsFront : List Act → List Act → Type 0
 IsFront front all = (rest : List Act) × (all ≡ front ++ rest)
 
--- what was done of a session is a front of its acts
-abbrev pub AreFronts : List Entry → List Act → Type 0
-AreFronts es acts = (s : Session) → IsFront (acts_done (entries_of s es)) (acts_of s acts)
+-- behind entries of this tally, this act of a session comes next, and was not tried the most times yet
+pub record IsNext (t : Tally) (acts : List Act) (a : Act) : Type 0 where
+  pub act : slice_get acts t.done ≡ Some a
+  pub tries : t.tries < MOST_TRIES
 
--- of each session all acts were done, in their order; or a front, behind which its client stopped
+-- behind entries of this tally, each of these entries is of the act that comes next. So behind an attach that has to wait stands the same
+-- act, and behind the most tries of it nothing
+abbrev pub AreInTurn : Tally → List Act → List Entry → Type 0
+AreInTurn t acts [] = Unit {0}
+AreInTurn t acts (e ∷ es) = IsNext t acts e.act × AreInTurn (next_tally t e) acts es
+
+-- by these entries a session did a front of these acts, each in its turn
+pub record DoesFront (acts : List Act) (es : List Entry) : Type 0 where
+  pub front : IsFront (acts_done es) acts
+  pub in_turn : AreInTurn no_tally acts es
+
+-- and these were all of them; or at their end its client gave up, behind the most tries
+pub record DoesAll (acts : List Act) (es : List Entry) : Type 0 where
+  pub does : DoesFront acts es
+  pub all : (acts_done es ≡ acts) ⊎ ((tally_from no_tally es).tries ≡ MOST_TRIES)
+
+-- each session did a front of its acts
+abbrev pub AreFronts : List Entry → List Act → Type 0
+AreFronts es acts = (s : Session) → DoesFront (acts_of s acts) (entries_of s es)
+
+-- each session did all its acts, or its client gave up
 abbrev pub AreDone : List Entry → List Act → Type 0
-AreDone es acts =
-    (s : Session) → (acts_done (entries_of s es) ≡ acts_of s acts) ⊎ ((stopped (tally_of s es) ≡ true) × IsFront (acts_done (entries_of s es)) (acts_of s acts))
+AreDone es acts = (s : Session) → DoesAll (acts_of s acts) (entries_of s es)
 
 -- where what was done are fronts and the history lacks nothing, all acts were done
 abbrev pub FrontsAreDone : Type 0
