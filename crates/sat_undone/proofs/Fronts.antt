@@ -9,7 +9,7 @@ use Rattle.sat_stitch.specs.Places.{Session, Client, Operator, session_of, sessi
 use Rattle.sat_undone.specs.declared.lacking.Tally.{Tally}
 use Rattle.sat_undone.specs.declared.tries.TheConstants.{MOST_TRIES}
 use Rattle.sat_undone.specs.Undone.{is_of, acts_of, entries_of, waits, acts_behind, acts_done, tally_by, tally_from, no_tally, tally_of, stopped, lacks, lacks_by, lacks_of, undone, undone_behind, DoesFront, DoesAll, FrontsAreDone}
-use Rattle.sat_undone.proofs.Turns.{most-exactly}
+use Rattle.sat_undone.proofs.Turns.{most-exactly, operator-done}
 
 -- what is left open is no act where the client did not stop
 none-left : (n : ℕ) (o : Option Act) → nat_le MOST_TRIES n ≡ false → length (acts_behind n o []) ≡ 0
@@ -104,4 +104,6 @@ all-of s es acts does none = go (stopped (tally_of s es)) refl
         record { does = does; all = inl (whole (acts_done (entries_of s es)) front.0 fewer ∙ sym front.1) }
 
 pub fronts_are_done : FrontsAreDone
-fronts_are_done es acts fronts none s = all-of s es acts (fronts s) none
+fronts_are_done es acts fronts none =
+    let each : (s : Session) → DoesAll (acts_of s acts) (entries_of s es) = λ s. all-of s es acts (fronts s) none in
+    record { each = each; operator = operator-done (acts_of Operator acts) es (each Operator) }

@@ -6,6 +6,7 @@ use Rattle.sat_act.specs.declared.answer.Answer.{Answer}
 use Rattle.sat_act.specs.declared.answer.Answer.TheVariants as ans
 use Rattle.sat_act.specs.declared.answer.Refusal.TheVariants as why
 use Rattle.sat_act.specs.declared.entry.Entry.{Entry}
+use Rattle.sat_stitch.specs.Kept.{acts_of as acts_among}
 use Rattle.sat_stitch.specs.Places.{Session, Client, Operator, session_of, is_session}
 use Rattle.sat_undone.specs.declared.lacking.Tally.{Tally}
 use Rattle.sat_undone.specs.declared.tries.TheConstants.{MOST_TRIES}
@@ -149,9 +150,10 @@ pub record DoesAll (acts : List Act) (es : List Entry) : Type 0 where
 abbrev pub AreFronts : List Entry → List Act → Type 0
 AreFronts es acts = (s : Session) → DoesFront (acts_of s acts) (entries_of s es)
 
--- each session did all its acts, or its client gave up
-abbrev pub AreDone : List Entry → List Act → Type 0
-AreDone es acts = (s : Session) → DoesAll (acts_of s acts) (entries_of s es)
+-- each session did all its acts, or its client gave up; and the operator's acts are the script's, in their order
+pub record AreDone (es : List Entry) (acts : List Act) : Type 0 where
+  pub each : (s : Session) → DoesAll (acts_of s acts) (entries_of s es)
+  pub operator : acts_among (entries_of Operator es) ≡ acts_of Operator acts
 
 -- where what was done are fronts and the history lacks nothing, all acts were done
 abbrev pub FrontsAreDone : Type 0
