@@ -1,5 +1,5 @@
 -- Workers, and what all of them together did.
-use Rattle.std.proofs.Common.{◌≡◌, ◌≤◌, ◌<◌, ℕ, suc, List, [], ◌∷◌, ◌++◌, length, map, Option, Some, None, refl, sym, ap, ◌∙◌, subst, arith, inl, inr}
+use Rattle.std.proofs.Common.{◌≡◌, ◌≤◌, ◌<◌, ℕ, suc, List, [], ◌∷◌, ◌++◌, length, map, Option, Some, None, refl, sym, ap, ◌∙◌, subst, arith}
 use Rattle.std.specs.Prelude.{slice_index_or}
 use Rattle.std.specs.List.{AllByRecursion, AllZip}
 use Rattle.std.proofs.lemmas.Slice.Zip.{AllZip-long}
@@ -9,12 +9,12 @@ use Rattle.sat_act.specs.Deployed.{Deployed}
 use Rattle.sat_finish.specs.Finishing.{note_entry}
 use Rattle.sat_node.specs.declared.kept.CallFault.{CallFault}
 use Rattle.sat_session.specs.Notes.{SessionSeen}
-use Rattle.sat_undone.specs.Undone.{acts_done}
+use Rattle.sat_undone.specs.Undone.{DoesFront}
 use Rattle.sat_crew.specs.declared.worker.Caller.{Caller}
 use Rattle.sat_crew.specs.declared.worker.Passer.{Passer}
 use Rattle.sat_crew.specs.declared.worker.Worker.{Worker}
 use Rattle.sat_crew.specs.declared.worker.Worker.TheVariants as worker
-use Rattle.sat_crew.specs.Crews.{CameBack, CameThrough, DoesAll, DoesFront, IsFresh, entries_in, own_acts}
+use Rattle.sat_crew.specs.Crews.{CameBack, CameThrough, IsFresh, entries_in, own_acts}
 use Rattle.sat_crew.specs.Standing.{Worked}
 use Rattle.sat_crew.specs.Workers.{HasFault, IsWell, Serves, Works, sessions_in}
 
@@ -78,16 +78,8 @@ have_faults d acts (x ∷ xs) (y ∷ ys) w = (fault-in d acts x y w.0, have_faul
 
 -- ---- what came of the sessions
 
-done-front : (acts : List Act) (es : List Entry) → DoesAll acts es → DoesFront acts es
-done-front acts es (inl all) = ([], sym all ∙ sym (append-acts (acts_done es)))
-  where
-    append-acts : (xs : List Act) → xs ++ [] ≡ xs
-    append-acts [] = refl
-    append-acts (x ∷ xs) = ap (λ (ys : List Act). x ∷ ys) (append-acts xs)
-done-front acts es (inr stopped) = stopped.1
-
 worked-front : (acts : List Act) (o : Option CallFault) (es : List Entry) → Worked acts o es → DoesFront acts es
-worked-front acts None es w = done-front acts es w
+worked-front acts None es w = w.does
 worked-front acts (Some f) es w = w.1
 
 came-back : {N : Type 0} (d : Deployed) (acts : List Act) (x y : Caller N) → x.session.noted ≡ [] → Serves d acts x y → CameBack d acts x.session y.session
@@ -120,7 +112,10 @@ through d acts (worker.Passer x ∷ xs) (worker.Caller y ∷ ys) fresh w well = 
 -- ---- nobody worked
 
 still-back : (d : Deployed) (acts : List Act) (x : SessionSeen) → x.noted ≡ [] → CameBack d acts x x
-still-back d acts x e = record { same = refl; front = (own_acts d acts x, ap (λ (es : List Entry). acts_done es ++ own_acts d acts x) (ap (map note_entry) (sym e))) }
+still-back d acts x e = record {
+  same = refl;
+  front = subst (DoesFront (own_acts d acts x)) (ap (map note_entry) (sym e)) (record { front = (own_acts d acts x, refl); in_turn = tt });
+}
 
 same-back : (d : Deployed) (acts : List Act) (xs : List SessionSeen) → AllByRecursion IsFresh xs → AllZip (CameBack d acts) xs xs
 same-back d acts [] fresh = tt

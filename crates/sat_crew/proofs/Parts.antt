@@ -11,7 +11,7 @@ use Rattle.sat_stitch.specs.Places.{Session, entry_if, is_session, session_eq, s
 use Rattle.sat_stitch.proofs.Stitches.{reverse-cons}
 use Rattle.sat_stitch.proofs.Tables.{session-is, session-self}
 use Rattle.sat_session.specs.Notes.{SessionSeen, session_at}
-use Rattle.sat_undone.specs.Undone.{IsFront, acts_done, acts_of, entries_of, is_by}
+use Rattle.sat_undone.specs.Undone.{DoesFront, acts_of, entries_of, is_by}
 use Rattle.sat_crew.specs.Crews.{CameBack, GiveFronts, entries_in}
 
 -- ---- a session's part of a journal, in both orders
@@ -71,19 +71,19 @@ before-of d acts (x ∷ xs) [] y w i = absurd w
 before-of d acts (x ∷ xs) (z ∷ ys) y w (inl e) = (x, subst (CameBack d acts x) e w.0)
 before-of d acts (x ∷ xs) (z ∷ ys) y w (inr i) = before-of d acts xs ys y w.1 i
 
-front-of : (d : Deployed) (acts : List Act) (s : Session) (x y : SessionSeen) (es : List Entry) → CameBack d acts x y → session_at d y.number ≡ s → es ≡ entries_in y → IsFront (acts_done es) (acts_of s acts)
+front-of : (d : Deployed) (acts : List Act) (s : Session) (x y : SessionSeen) (es : List Entry) → CameBack d acts x y → session_at d y.number ≡ s → es ≡ entries_in y → DoesFront (acts_of s acts) es
 front-of d acts s x y es c of is =
     let whose : session_at d x.number ≡ s = ap (session_at d) (sym c.same) ∙ of in
-    subst (λ (fs : List Entry). IsFront (acts_done fs) (acts_of s acts)) (sym is) (subst (λ (t : Session). IsFront (acts_done (entries_in y)) (acts_of t acts)) whose c.front)
+    subst (DoesFront (acts_of s acts)) (sym is) (subst (λ (t : Session). DoesFront (acts_of t acts) (entries_in y)) whose c.front)
 
 pub give_fronts : GiveFronts
 give_fronts d acts xs ys journal back holds s = go (find d s ys)
   where
-    go : Found d s ys → IsFront (acts_done (entries_of s journal)) (acts_of s acts)
+    go : Found d s ys → DoesFront (acts_of s acts) (entries_of s journal)
     go (held y i e) =
         let b = before-of d acts xs ys y back i in
         let part : session_part (reverse journal) s ≡ reverse (entries_in y) = ap (session_part (reverse journal)) (sym e) ∙ holds.parts y i in
         front-of d acts s b.0 y (entries_of s journal) b.1 e (entries-are s journal (entries_in y) part)
     go (none f) =
         let empty : entries_of s journal ≡ [] = entries-are s journal [] (holds.no_others s f) in
-        (acts_of s acts, ap (λ (es : List Entry). acts_done es ++ acts_of s acts) (sym empty))
+        subst (DoesFront (acts_of s acts)) (sym empty) (record { front = (acts_of s acts, refl); in_turn = tt })

@@ -1,24 +1,26 @@
 -- A session goes through a script.
-use Rattle.std.proofs.Common.{◌≡◌, ◌≤◌, ◌<◌, ℕ, ◌+◌, Bool, true, false, List, [], ◌∷◌, ◌++◌, length, map, take, drop, get_or, Option, Some, None, Result, Ok, Err, if◌then◌else◌, IfSome, IfErr, refl, sym, ap, ◌∙◌, subst, inl, inr}
+use Rattle.std.proofs.Common.{◌≡◌, ◌≤◌, ◌<◌, ℕ, ◌+◌, Bool, true, false, List, [], ◌∷◌, ◌++◌, length, map, take, drop, get_or, Option, Some, None, Result, Ok, Err, if◌then◌else◌, IfSome, IfErr, refl, sym, ap, ◌∙◌, subst, inr}
 use Rattle.std.proofs.lemmas.List.{append-nil, take-append-drop, take_all}
 use Rattle.std.proofs.lemmas.List.Elements.{filter-append}
 use Rattle.std.specs.List.{AllByRecursion}
 use Rattle.std.specs.Result.{result_err}
 use Rattle.sat_act.specs.declared.act.Act.{Act}
+use Rattle.sat_act.specs.declared.entry.Entry.{Entry}
 use Rattle.sat_act.specs.Deployed.{Deployed}
 use Rattle.sat_act.specs.Ranges.{IsActOf}
 use Rattle.sat_node.specs.declared.kept.CallFault.{CallFault}
 use Rattle.sat_finish.specs.Finishing.{note_entry}
 use Rattle.sat_session.specs.Calls.{IsFault}
 use Rattle.sat_session.specs.Notes.{SessionSeen, session_at}
-use Rattle.sat_undone.specs.Undone.{IsFront, acts_done, acts_of, is_of}
+use Rattle.sat_undone.specs.declared.tries.TheConstants.{MOST_TRIES}
+use Rattle.sat_undone.specs.Undone.{DoesAll, DoesFront, acts_of, is_of}
 use Rattle.sat_undone.proofs.Tables.{front-next, rest-next}
 use Rattle.sat_crew.specs.declared.worker.Caller.{Caller}
 use Rattle.sat_crew.specs.declared.worker.Passer.{Passer}
 use Rattle.sat_crew.specs.Crews.{entries_in, own_acts}
 use Rattle.sat_crew.specs.Standing.{Came, Serving, Stood, Worked}
 use Rattle.sat_crew.specs.Workers.{Passes, Serves}
-use Rattle.sat_crew.proofs.Standing.{front-on, stood-all, stood-front, stood-none, stood-stopped}
+use Rattle.sat_crew.proofs.Standing.{front-on, stood-all, stood-front, stood-none}
 
 -- ---- its acts, up to a place
 
@@ -29,11 +31,11 @@ own-next d acts x n a b low is own =
     ∙ (filter-append (is_of (session_at d x.number)) (take n acts) (a ∷ []) ∙ ap (λ (t : Bool). own_acts d (take n acts) x ++ (if t then a ∷ [] else [])) own)
 
 -- what is done up to a place is a front of all
-own-front : (d : Deployed) (acts : List Act) (x : SessionSeen) (n : ℕ) (front : List Act) → IsFront front (own_acts d (take n acts) x) → IsFront front (own_acts d acts x)
-own-front d acts x n front f =
+own-front : (d : Deployed) (acts : List Act) (x : SessionSeen) (n : ℕ) (es : List Entry) → DoesFront (own_acts d (take n acts) x) es → DoesFront (own_acts d acts x) es
+own-front d acts x n es f =
     let s = session_at d x.number in
     let all : acts_of s acts ≡ acts_of s (take n acts) ++ acts_of s (drop n acts) = ap (acts_of s) (sym (take-append-drop n acts)) ∙ filter-append (is_of s) (take n acts) (drop n acts) in
-    subst (IsFront front) (sym all) (front-on front (acts_of s (take n acts)) (acts_of s (drop n acts)) f)
+    subst (λ (xs : List Act). DoesFront xs es) (sym all) (front-on (acts_of s (take n acts)) (acts_of s (drop n acts)) es f)
 
 own-same : (d : Deployed) (a : Act) (n m : ℕ) (b : Bool) → m ≡ n → is_of (session_at d m) a ≡ b → is_of (session_at d n) a ≡ b
 own-same d a n m b e = subst (λ (k : ℕ). is_of (session_at d k) a ≡ b) e
@@ -77,9 +79,9 @@ pub worked_given_up : (d : Deployed) (acts : List Act) (n : ℕ) (x y z : Sessio
 worked_given_up d acts n x y z a result s low is own came gave e =
     let done = own_acts d (take n acts) x in
     let c : Came done a (Ok false) (entries_in z) = subst (λ (r : Result Bool CallFault). Came done a r (entries_in z)) gave (came done (s.stood e)) in
-    let stop = stood-stopped done c.0 a (entries_in z) c.1 c.2 in
     let next = own-next d acts x n a true low is (own-same d a x.number y.number true s.same own) in
-    inr (stop.1, own-front d acts x (n + 1) (acts_done (entries_in z)) ([], next ∙ (sym stop.0 ∙ sym (append-nil (acts_done (entries_in z))))))
+    let front = stood-front done a MOST_TRIES (Some a) (entries_in z) refl c in
+    record { does = own-front d acts x (n + 1) (entries_in z) (subst (λ (xs : List Act). DoesFront xs (entries_in z)) (sym next) front); all = inr c.tries }
 
 pub worked_failed : (d : Deployed) (acts : List Act) (n : ℕ) (x y z : SessionSeen) (a : Act) (f : CallFault) (result : Result Bool CallFault) → Serving d acts n x y → n < length acts → a ≡ get_or acts n a → is_of (session_at d y.number) a ≡ true →
     ((done : List Act) → Stood done 0 None (entries_in y) → Came done a result (entries_in z)) → result ≡ Err f → x.noted ≡ [] → Worked (own_acts d acts x) (Some f) (entries_in z)
@@ -88,12 +90,12 @@ worked_failed d acts n x y z a f result s low is own came failed e =
     let c : Came done a (Err f) (entries_in z) = subst (λ (r : Result Bool CallFault). Came done a r (entries_in z)) failed (came done (s.stood e)) in
     let next = own-next d acts x n a true low is (own-same d a x.number y.number true s.same own) in
     let front = stood-front done a c.1.0 c.1.1 (entries_in z) c.1.2 c.1.3 in
-    (c.0, own-front d acts x (n + 1) (acts_done (entries_in z)) (subst (IsFront (acts_done (entries_in z))) (sym next) front))
+    (c.0, own-front d acts x (n + 1) (entries_in z) (subst (λ (xs : List Act). DoesFront xs (entries_in z)) (sym next) front))
 
 pub worked_all : (d : Deployed) (acts : List Act) (n : ℕ) (x y : SessionSeen) → Serving d acts n x y → length acts ≤ n → x.noted ≡ [] → Worked (own_acts d acts x) None (entries_in y)
 worked_all d acts n x y s past e =
     let all : take n acts ≡ acts = take_all n acts past in
-    inl (stood-all (own_acts d (take n acts) x) (entries_in y) (s.stood e) ∙ ap (λ (bs : List Act). own_acts d bs x) all)
+    subst (λ (bs : List Act). DoesAll (own_acts d bs x) (entries_in y)) all (stood-all (own_acts d (take n acts) x) (entries_in y) (s.stood e))
 
 -- ---- workers
 

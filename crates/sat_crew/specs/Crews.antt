@@ -1,5 +1,5 @@
 -- What a crew does of a script, session by session.
-use Rattle.std.specs.Prelude.{◌≡◌, ◌⊎◌, true, List, [], map, reverse}
+use Rattle.std.specs.Prelude.{◌≡◌, List, [], map, reverse}
 use Rattle.std.specs.List.{AllZip}
 use Rattle.sat_act.specs.declared.act.Act.{Act}
 use Rattle.sat_act.specs.declared.entry.Entry.{Entry}
@@ -8,7 +8,7 @@ use Rattle.sat_finish.specs.Finishing.{note_entry, noted_entries}
 use Rattle.sat_label.specs.Members.{In}
 use Rattle.sat_stitch.specs.Places.{Session, session_part}
 use Rattle.sat_session.specs.Notes.{SessionSeen, session_at}
-use Rattle.sat_undone.specs.Undone.{AreFronts, IsFront, acts_done, acts_of, no_tally, stopped, tally_from}
+use Rattle.sat_undone.specs.Undone.{AreFronts, DoesAll, DoesFront, acts_of}
 
 -- what a session noted, the oldest first
 abbrev pub entries_in : SessionSeen → List Entry
@@ -22,15 +22,7 @@ IsFresh x = x.noted ≡ []
 abbrev pub own_acts : Deployed → List Act → SessionSeen → List Act
 own_acts d acts x = acts_of (session_at d x.number) acts
 
--- what was done is a front of these acts
-abbrev pub DoesFront : List Act → List Entry → Type 0
-DoesFront acts es = IsFront (acts_done es) acts
-
--- they were all done; or a front, at whose end the client gave up
-abbrev pub DoesAll : List Act → List Entry → Type 0
-DoesAll acts es = (acts_done es ≡ acts) ⊎ ((stopped (tally_from no_tally es) ≡ true) × DoesFront acts es)
-
--- a session that came back: it is the same one, and what it noted is a front of its acts in the script
+-- a session that came back: it is the same one, and by what it noted it did a front of its acts in the script, each in its turn
 pub record CameBack (d : Deployed) (acts : List Act) (x y : SessionSeen) : Type 0 where
   pub same : y.number ≡ x.number
   pub front : DoesFront (own_acts d acts x) (entries_in y)
@@ -45,6 +37,6 @@ pub record HoldsSessions (d : Deployed) (ys : List SessionSeen) (journal : List 
   pub parts : (y : SessionSeen) → In ys y → session_part (reverse journal) (session_at d y.number) ≡ noted_entries y.noted
   pub no_others : (s : Session) → ((y : SessionSeen) → In ys y → session_at d y.number ≡ s → ⊥) → session_part (reverse journal) s ≡ []
 
--- in such a journal of sessions that came back, what each session of the deployment did is a front of its acts
+-- in such a journal of sessions that came back, each session of the deployment did a front of its acts
 abbrev pub GiveFronts : Type 0
 GiveFronts = (d : Deployed) (acts : List Act) (xs ys : List SessionSeen) (journal : List Entry) → AllZip (CameBack d acts) xs ys → HoldsSessions d ys journal → AreFronts journal acts

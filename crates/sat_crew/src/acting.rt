@@ -4,19 +4,19 @@ ghost use Rattle.sat_act.specs.declared.act.Act.{Act as Deed};
 ghost use Rattle.sat_act.specs.Ranges.{IsActOf};
 ghost use Rattle.sat_session.specs.Calls.{IsFault};
 ghost use Rattle.sat_session.specs.Notes.{session_at};
-ghost use Rattle.sat_undone.specs.Undone.{is_attach, is_not_yet, is_of};
+ghost use Rattle.sat_undone.specs.Undone.{is_of};
 ghost use Rattle.sat_cluster.specs.Doing.{Did};
 ghost use Rattle.sat_crew.specs.Crews.{entries_in};
 ghost use Rattle.sat_crew.specs.Standing.{Came, Stood, Tried};
 
 use crate::passing::pass_all;
-use sat_act::{Act, Answer, Deployment, Refusal};
+use sat_act::{Act, Answer, Deployment};
 use sat_cluster::Cluster;
 use sat_machines::Laid;
 use sat_node::{CallFault, Names};
 use sat_outside::Gate;
 use sat_session::Session;
-use sat_undone::MOST_TRIES;
+use sat_undone::{MOST_TRIES, has_to_wait};
 use std::sync::Wait;
 
 // ---- whose act it is
@@ -80,31 +80,6 @@ fn call<N: Laid + Names, R: Wait>(
 
 // ---- tries
 
-fn is_attach(act: &Act) -> bool
-    ensures { result ≡ is_attach act.now }
-{
-    match act {
-        Act::Attach { .. } => true,
-        _ => false,
-    }
-}
-
-fn is_not_yet(answer: &Answer) -> bool
-    ensures { result ≡ is_not_yet answer.now }
-{
-    match answer {
-        Answer::Refused(Refusal::NotYet) => true,
-        _ => false,
-    }
-}
-
-// Whether an act with its answer has to wait, and is tried again.
-fn waits(act: &Act, answer: &Answer) -> bool
-    ensures { result ≡ (is_attach act.now && is_not_yet answer.now) }
-{
-    is_attach(act) && is_not_yet(answer)
-}
-
 // Tells the gate that a client has an answer.
 fn tell<N: Laid, G: Gate>(session: &Session<N>, d: &Deployment, gate: &G) {
     let number = session.number();
@@ -130,7 +105,7 @@ fn try_act<N: Laid + Names, R: Wait, G: Gate>(
     match call(rt, cluster, session, act) {
         Ok(answer) => {
             tell(session, cluster.deployment(), gate);
-            if !waits(act, &answer) {
+            if !has_to_wait(act, &answer) {
                 return Ok(false);
             }
             match pass_all(rt, cluster, gate) {
@@ -142,7 +117,7 @@ fn try_act<N: Laid + Names, R: Wait, G: Gate>(
     }
 }
 
-/// Does the act: an attach that has to wait is tried again, `MOST_TRIES` times in a row at the most. False where the client gave up.
+/// Does the act: an attach that has to wait is tried again, `MOST_TRIES` times in a row at the most. False where the client gave up, after exactly so many.
 #[tactic(auto, using(crate::proofs::Trying::trying_start, crate::proofs::Trying::trying_more, crate::proofs::Trying::trying_done, crate::proofs::Trying::trying_failed, crate::proofs::Trying::trying_given_up, crate::proofs::Owning::own_still))]
 pub(crate) fn do_act<N: Laid + Names, R: Wait, G: Gate>(
     rt: &R,

@@ -14,7 +14,7 @@ pub use fault::CrewFault;
 pub use together::crew;
 
 /// Where a journal has of the sessions that came back what they noted, and of no other session anything, what each session did in it is a
-/// front of its acts.
+/// front of its acts, each in its turn.
 pub fn fronts()
     ensures fronts { GiveFronts }
 {}

@@ -3,7 +3,7 @@ use Rattle.std.proofs.Common.{◌≡◌, ◌⊎◌, ℕ, ◌+◌, Bool, true, fa
 use Rattle.std.proofs.lemmas.Bool.Decides.{nat_tests}
 use Rattle.sat_label.specs.Members.{In}
 use Rattle.sat_stitch.specs.Places.{Session, Client, Operator}
-use Rattle.sat_session.specs.Notes.{Owned}
+use Rattle.sat_session.specs.Owned.{Owned}
 use Rattle.sat_finish.specs.Filing.{rank_of, comes_before, Ascending, IsUnderSame}
 
 abbrev before : ℕ → ℕ → ℕ → ℕ → Bool

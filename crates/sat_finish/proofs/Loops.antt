@@ -22,7 +22,8 @@ use Rattle.sat_stitch.specs.Places.{Session}
 use Rattle.sat_stitch.specs.Stitch.{Numbered, Distinct, seen}
 use Rattle.sat_opened.specs.Keeping.{owner_of, serial_owner}
 use Rattle.sat_session.specs.declared.noted.Noted.{Noted}
-use Rattle.sat_session.specs.Notes.{SessionSeen, session_at, Owned, owned_by, site_note, site_notes, serial_note, serial_notes, at_node, own_notes, notes_of, session_notes}
+use Rattle.sat_session.specs.Notes.{SessionSeen, session_at, owned_by, site_note, site_notes, serial_note, serial_notes, at_node, own_notes, notes_of, session_notes}
+use Rattle.sat_session.specs.Owned.{Owned}
 use Rattle.sat_session.specs.Sessions.{session_number, IsSession, AreSessions}
 use Rattle.sat_finish.specs.Finishing.{Lines, site_lines, serial_lines, node_lines, alone_line, alone_lines, at_places}
 use Rattle.sat_finish.specs.Naming.{plan_names}

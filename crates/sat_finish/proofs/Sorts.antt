@@ -10,7 +10,7 @@ use Rattle.std.proofs.lemmas.List.Sorted.{Contains-permutation, IsPermutation-sy
 use Rattle.sat_label.specs.Members.{In}
 use Rattle.sat_stitch.specs.Places.{Session}
 use Rattle.sat_session.specs.declared.noted.Noted.{Noted}
-use Rattle.sat_session.specs.Notes.{Owned}
+use Rattle.sat_session.specs.Owned.{Owned}
 use Rattle.sat_session.specs.Sessions.{SameNotes}
 use Rattle.sat_finish.specs.Filing.{rank_of, key_of, comes_before, Ascending}
 use Rattle.sat_finish.proofs.Keys.{not-through}

@@ -5,7 +5,7 @@ use Rattle.sat_label.proofs.Members.{In-left, In-right, In-parts, In-get}
 use Rattle.sat_laws.proofs.Labels.{some_is}
 use Rattle.sat_stitch.specs.Places.{Session}
 use Rattle.sat_session.specs.declared.noted.Noted.{Noted}
-use Rattle.sat_session.specs.Notes.{Owned}
+use Rattle.sat_session.specs.Owned.{Owned}
 use Rattle.sat_session.specs.Sessions.{SameNotes}
 use Rattle.sat_finish.specs.Filing.{comes_before, Ascending, IsUnderSame, AllBefore, AllBehind}
 use Rattle.sat_finish.specs.Differences.{IsKeptUnder, IsDifference}

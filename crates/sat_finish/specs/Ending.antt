@@ -1,6 +1,6 @@
 -- What a comparison of notes found.
 use Rattle.std.specs.Prelude.{◌≡◌, List, Option, Some, None}
-use Rattle.sat_session.specs.Notes.{Owned}
+use Rattle.sat_session.specs.Owned.{Owned}
 use Rattle.sat_session.specs.Sessions.{SameNotes}
 use Rattle.sat_finish.specs.declared.compare.Difference.{Difference}
 use Rattle.sat_finish.specs.Differences.{IsDifference}

@@ -2,7 +2,7 @@
 use Rattle.std.specs.Prelude.{◌≡◌, ℕ, ◌+◌, Bool, true, false, ◌&&◌, ◌||◌, ◌==◌, nat_lt, List, [], ◌∷◌, Option, Some, None}
 use Rattle.sat_label.specs.Members.{In}
 use Rattle.sat_stitch.specs.Places.{Session, Client, Operator}
-use Rattle.sat_session.specs.Notes.{Owned}
+use Rattle.sat_session.specs.Owned.{Owned}
 
 -- the session of a client, or the operator's
 abbrev pub owner_in : Option ℕ → Session

@@ -13,7 +13,7 @@ pub(crate) struct Filed {
 }
 
 impl Model for Filed {
-    ghost use Rattle.sat_session.specs.Notes.{Owned};
+    ghost use Rattle.sat_session.specs.Owned.{Owned};
     ghost use Rattle.sat_finish.specs.Filing.{owner_in};
 
     ghost Value = { Owned };

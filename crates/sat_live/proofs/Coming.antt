@@ -1,14 +1,13 @@
 -- Sessions, and what came of them.
-use Rattle.std.proofs.Common.{◌≡◌, ◌<◌, ◌+◌, ℕ, zero, suc, Bool, true, false, List, [], ◌∷◌, ◌++◌, length, get_or, set, replicate, Option, Some, None, Result, Ok, Err, arith, refl, sym, ap, ◌∙◌, subst, inl, inr}
+use Rattle.std.proofs.Common.{◌≡◌, ◌<◌, ◌+◌, ℕ, zero, suc, Bool, true, false, List, [], ◌∷◌, ◌++◌, length, get_or, set, replicate, Option, Some, None, Result, Ok, Err, arith, refl, sym, ap, ◌∙◌, subst}
 use Rattle.std.specs.Prelude.{IsErrOf, IsOk, MatchOption, MatchResult, nat_lt, cond, position}
 use Rattle.std.specs.List.{AllByRecursion, AllZip, position_or_len}
 use Rattle.std.specs.Str.{bytes_eq}
 use Rattle.std.proofs.lemmas.Bool.Decides.{nat_tests}
-use Rattle.std.proofs.lemmas.List.{append-nil, length-append, length-replicate, length-set}
+use Rattle.std.proofs.lemmas.List.{length-append, length-replicate, length-set}
 use Rattle.std.proofs.lemmas.Slice.Zip.{AllZip-long}
 use Rattle.sat_act.specs.declared.act.Act.{Act}
 use Rattle.sat_act.specs.declared.deployment.ClientLine.{ClientLine}
-use Rattle.sat_act.specs.declared.entry.Entry.{Entry}
 use Rattle.sat_act.specs.Deployed.{Deployed}
 use Rattle.sat_session.specs.Notes.{SessionSeen, node_notes, session_notes}
 use Rattle.sat_finish.specs.declared.fault.Ended.{Ended}
@@ -16,11 +15,10 @@ use Rattle.sat_finish.specs.declared.fault.FinishFault.{FinishFault}
 use Rattle.sat_finish.specs.declared.fault.FinishFault.TheVariants as fault
 use Rattle.sat_finish.specs.Ends.{IsEnd, IsFault}
 use Rattle.sat_finish.specs.Finishing.{OpenedSeen}
-use Rattle.sat_undone.specs.Undone.{acts_done}
 use Rattle.sat_cluster.specs.declared.fault.SessionFault.{SessionFault}
 use Rattle.sat_cluster.specs.Clusters.{client_of, count_given, none_given, operator_number, session_fault, taken_if}
 use Rattle.sat_cluster.specs.Ends.{Ends}
-use Rattle.sat_crew.specs.Crews.{CameBack, CameThrough, DoesAll, DoesFront, GiveFronts, IsFresh, entries_in, own_acts}
+use Rattle.sat_crew.specs.Crews.{CameBack, CameThrough, GiveFronts, IsFresh}
 use Rattle.sat_live.specs.declared.nodes.Came.{Came}
 use Rattle.sat_live.specs.declared.nodes.Came.TheVariants.{Whole, Apart, Memory}
 use Rattle.sat_live.specs.Coming.{AreGiven, IsCame, IsEnded, IsFinished}
@@ -88,14 +86,10 @@ count-none (suc n) = count-none n
 pub none_are : (d : Deployed) (given : List Bool) → given ≡ none_given d → AreGiven d given []
 none_are d given is = subst (λ (marks : List Bool). AreGiven d marks []) (sym is) (record { marks = length-replicate (operator_number d + 1) false; count = count-none (operator_number d + 1); fresh = tt })
 
--- ---- all acts done, or a front of them, are a front of them
-
-done-front : (acts : List Act) (es : List Entry) → DoesAll acts es → DoesFront acts es
-done-front acts es (inl all) = ([], sym all ∙ sym (append-nil (acts_done es)))
-done-front acts es (inr stopped) = stopped.1
+-- ---- a session that came through came back
 
 one-back : (d : Deployed) (acts : List Act) (x y : SessionSeen) → CameThrough d acts x y → CameBack d acts x y
-one-back d acts x y came = record { same = came.same; front = done-front (own_acts d acts x) (entries_in y) came.all }
+one-back d acts x y came = record { same = came.same; front = came.all.does }
 
 pub through_back : (d : Deployed) (acts : List Act) (xs ys : List SessionSeen) → AllZip (CameThrough d acts) xs ys → AllZip (CameBack d acts) xs ys
 through_back d acts [] [] all = tt

@@ -10,7 +10,7 @@ use Rattle.sat_runs.specs.Good.{EveryListIsGood}
 use Rattle.sat_runs.specs.Runs.{history}
 use Rattle.sat_stitch.specs.Kept.{acts_of}
 use Rattle.sat_session.specs.declared.noted.Noted.{Noted}
-use Rattle.sat_session.specs.Notes.{Owned}
+use Rattle.sat_session.specs.Owned.{Owned}
 use Rattle.sat_finish.specs.Differences.{IsDifference}
 use Rattle.sat_undone.specs.Undone.{AreFronts, FrontsAreDone, undone}
 use Rattle.sat_outcome.specs.Texts.{differ_text, undone_text}

@@ -6,7 +6,8 @@ use Rattle.sat_act.specs.declared.entry.Entry.{Entry}
 use Rattle.sat_act.specs.Deployed.{Deployed}
 use Rattle.sat_act.specs.Runs.{IsRun}
 use Rattle.sat_act.specs.Settling.{run}
-use Rattle.sat_session.specs.Notes.{Owned, SessionSeen}
+use Rattle.sat_session.specs.Notes.{SessionSeen}
+use Rattle.sat_session.specs.Owned.{Owned}
 use Rattle.sat_stitch.specs.Kept.{acts_of}
 use Rattle.sat_finish.specs.declared.fault.Ended.{Ended}
 use Rattle.sat_finish.specs.declared.fault.FinishFault.{FinishFault}

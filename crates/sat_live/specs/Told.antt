@@ -10,7 +10,7 @@ use Rattle.sat_report.specs.Holdings.{report}
 use Rattle.sat_runs.specs.Good.{IsGoodRun}
 use Rattle.sat_runs.specs.Runs.{history}
 use Rattle.sat_session.specs.declared.noted.Noted.{Noted}
-use Rattle.sat_session.specs.Notes.{Owned}
+use Rattle.sat_session.specs.Owned.{Owned}
 use Rattle.sat_finish.specs.Differences.{IsDifference}
 use Rattle.sat_undone.specs.Undone.{AreDone, AreFronts, undone}
 use Rattle.sat_outcome.specs.Texts.{differ_text, undone_text, unsettled_text}

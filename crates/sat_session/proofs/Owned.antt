@@ -18,7 +18,8 @@ use Rattle.sat_stitch.specs.Stitch.{Distinct}
 use Rattle.sat_stitch.proofs.Tables.{session-self, session-is}
 use Rattle.sat_opened.specs.Keeping.{owner_of, serial_owner, behind}
 use Rattle.sat_session.specs.declared.noted.Noted.{Noted}
-use Rattle.sat_session.specs.Notes.{SessionSeen, session_at, Owned, owned_by, site_note, site_notes, serial_note, serial_notes, at_node, own_notes}
+use Rattle.sat_session.specs.Notes.{SessionSeen, session_at, owned_by, site_note, site_notes, serial_note, serial_notes, at_node, own_notes}
+use Rattle.sat_session.specs.Owned.{Owned}
 use Rattle.sat_session.specs.Sessions.{notes_by, session_number}
 
 -- ---- lists of lists

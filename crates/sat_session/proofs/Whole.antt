@@ -40,7 +40,8 @@ use Rattle.sat_opened.proofs.Distincts.{sites_kept, serials_kept}
 use Rattle.sat_opened.proofs.Owners.{sites_have_owners, serials_have_owners}
 use Rattle.sat_opened.proofs.SerialKept.{nothing-fits}
 use Rattle.sat_session.specs.declared.noted.Noted.{Noted}
-use Rattle.sat_session.specs.Notes.{SessionSeen, session_at, Owned, site_note, site_notes, serial_note, serial_notes, notes_at_site, notes_at_serial, node_notes, own_notes, notes_of, session_notes}
+use Rattle.sat_session.specs.Notes.{SessionSeen, session_at, site_note, site_notes, serial_note, serial_notes, notes_at_site, notes_at_serial, node_notes, own_notes, notes_of, session_notes}
+use Rattle.sat_session.specs.Owned.{Owned}
 use Rattle.sat_session.specs.Sessions.{note_given, note_kept, kept_behind, alone_behind, kept_notes, alone_notes, notes_by, kept_by, alone_in, note_places, IsNote, NotesFrom, NotesRise, IsSession, AreSessions, SameNotes, SessionsFit}
 use Rattle.sat_session.proofs.Walks.{Comes, in-kept, note-comes, Alone, in-alone, alone-kept, kept-rises, alone-rises, kept-known, alone-answers}
 use Rattle.sat_session.proofs.Owned.{in-flat, into-flat, into-behind, in-behind, OfSite, in-site, into-site, OfSerial, in-serial, into-serial, OfSession, in-own, into-own, Among, look-up as find-session, found, one-session, same-session}

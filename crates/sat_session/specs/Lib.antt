@@ -1,3 +1,4 @@
+pub mod Owned
 pub mod Notes
 pub mod Sessions
 pub mod Calls

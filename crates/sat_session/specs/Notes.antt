@@ -20,6 +20,7 @@ use Rattle.sat_stitch.specs.Kept.{entry_of}
 use Rattle.sat_stitch.specs.Places.{Session, Client as OfClient, Operator}
 use Rattle.sat_opened.specs.Keeping.{owner_of, serial_owner, site_kept, serial_kept}
 use Rattle.sat_session.specs.declared.noted.Noted.{Noted}
+use Rattle.sat_session.specs.Owned.{Owned}
 
 -- a session: its number, its client, its Lamport number, and what it noted, the oldest first
 pub record SessionSeen : Type 0 where
@@ -31,10 +32,6 @@ pub record SessionSeen : Type 0 where
 -- whose session has this number: that of the client, or, where there is none, the operator's
 abbrev pub session_at : Deployed → ℕ → Session
 session_at d n = if nat_lt n (length d.clients) then OfClient n else Operator
-
--- a note, with the session that it is of
-abbrev pub Owned : Type 0
-Owned = Session × Noted
 
 abbrev pub owned_by : Option Session → Noted → List Owned
 owned_by None n = []

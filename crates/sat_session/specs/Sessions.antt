@@ -17,7 +17,8 @@ use Rattle.sat_opened.specs.Opened.{AllOpened, lists_of, place_at}
 use Rattle.sat_opened.specs.Fits.{FitsSessions}
 use Rattle.sat_opened.specs.Laws.{SiteHeld, SerialHeld}
 use Rattle.sat_session.specs.declared.noted.Noted.{Noted}
-use Rattle.sat_session.specs.Notes.{SessionSeen, session_at, Owned, node_notes, session_notes, nothing_carried}
+use Rattle.sat_session.specs.Notes.{SessionSeen, session_at, node_notes, session_notes, nothing_carried}
+use Rattle.sat_session.specs.Owned.{Owned}
 
 -- ---- notes as kept entries, the newest first
 

@@ -1,5 +1,5 @@
 -- Where what was done are fronts and nothing is lacking, all was done.
-use Rattle.std.proofs.Common.{◌≡◌, ℕ, zero, suc, ◌+◌, ◌≤◌, ◌<◌, ◌==◌, nat_le, Bool, true, false, not, ◌&&◌, List, [], ◌∷◌, ◌++◌, length, filter, Option, Some, None, if◌then◌else◌, ◌⊎◌, inl, inr, refl, sym, ap, ◌∙◌, arith, length-append}
+use Rattle.std.proofs.Common.{◌≡◌, ℕ, ◌+◌, ◌≤◌, ◌<◌, nat_le, Bool, true, false, not, ◌&&◌, List, [], ◌∷◌, ◌++◌, length, Option, Some, None, if◌then◌else◌, inl, inr, refl, sym, ap, ◌∙◌, arith, length-append}
 use Rattle.std.proofs.lemmas.Bool.{eqb-true}
 use Rattle.std.proofs.lemmas.Bool.Decides.{nat_tests}
 use Rattle.std.proofs.lemmas.List.Elements.{filter-append}
@@ -7,17 +7,19 @@ use Rattle.sat_act.specs.declared.act.Act.{Act}
 use Rattle.sat_act.specs.declared.entry.Entry.{Entry}
 use Rattle.sat_stitch.specs.Places.{Session, Client, Operator, session_of, session_eq, is_session}
 use Rattle.sat_undone.specs.declared.lacking.Tally.{Tally}
-use Rattle.sat_undone.specs.Undone.{is_of, acts_of, entries_of, waits, most_tries, given_up, acts_behind, acts_done, tally_by, next_tally, tally_from, no_tally, tally_of, stopped, lacks, lacks_by, lacks_of, undone, undone_behind, IsFront, AreFronts, AreDone, FrontsAreDone}
+use Rattle.sat_undone.specs.declared.tries.TheConstants.{MOST_TRIES}
+use Rattle.sat_undone.specs.Undone.{is_of, acts_of, entries_of, waits, acts_behind, acts_done, tally_by, tally_from, no_tally, tally_of, stopped, lacks, lacks_by, lacks_of, undone, undone_behind, DoesFront, DoesAll, FrontsAreDone}
+use Rattle.sat_undone.proofs.Turns.{most-exactly, operator-done}
 
 -- what is left open is no act where the client did not stop
-none-left : (n : ℕ) (o : Option Act) → nat_le most_tries n ≡ false → length (acts_behind n o []) ≡ 0
+none-left : (n : ℕ) (o : Option Act) → nat_le MOST_TRIES n ≡ false → length (acts_behind n o []) ≡ 0
 none-left n None on = refl
 none-left n (Some a) on = ap (λ (b : Bool). length (if b then a ∷ [] else [])) on
 
 -- where the client did not stop, as many acts were done as were counted
 done-length : (n : ℕ) (o : Option Act) (t : Tally) (es : List Entry) → t.tries ≡ n → stopped (tally_from t es) ≡ false → length (acts_behind n o es) + t.done ≡ (tally_from t es).done
 done-length n o t [] at on =
-    let still : nat_le most_tries n ≡ false = ap (nat_le most_tries) (sym at) ∙ on in
+    let still : nat_le MOST_TRIES n ≡ false = ap (nat_le MOST_TRIES) (sym at) ∙ on in
     let none = none-left n o still in
     omega (arith, none)
 done-length n o t (e ∷ es) at on =
@@ -88,15 +90,20 @@ whole [] [] few = refl
 whole [] (x ∷ rest) few = absurd (omega arith)
 whole (x ∷ front) rest few = ap (λ ys. x ∷ ys) (whole front rest (omega (arith, few)))
 
-pub fronts_are_done : FrontsAreDone
+all-of : (s : Session) (es : List Entry) (acts : List Act) → DoesFront (acts_of s acts) (entries_of s es) → undone es acts ≡ None → DoesAll (acts_of s acts) (entries_of s es)
 unfolding undone
-fronts_are_done es acts fronts none s = go (stopped (tally_of s es)) refl (fronts s)
+all-of s es acts does none = go (stopped (tally_of s es)) refl
   where
-    go : (b : Bool) → stopped (tally_of s es) ≡ b → IsFront (acts_done (entries_of s es)) (acts_of s acts) →
-        (acts_done (entries_of s es) ≡ acts_of s acts) ⊎ ((stopped (tally_of s es) ≡ true) × IsFront (acts_done (entries_of s es)) (acts_of s acts))
-    go true is front = inr (is, front)
-    go false is front =
+    go : (b : Bool) → stopped (tally_of s es) ≡ b → DoesAll (acts_of s acts) (entries_of s es)
+    go true is = record { does = does; all = inr (most-exactly (acts_of s acts) (entries_of s es) does.in_turn is) }
+    go false is =
         let few = no-more s es [] acts is (omega arith) none in
         let e = all-done s es is in
+        let front = does.front in
         let fewer : length (acts_done (entries_of s es) ++ front.0) ≤ length (acts_done (entries_of s es)) = rw (sym front.1) (omega (arith, few, e)) in
-        inl (whole (acts_done (entries_of s es)) front.0 fewer ∙ sym front.1)
+        record { does = does; all = inl (whole (acts_done (entries_of s es)) front.0 fewer ∙ sym front.1) }
+
+pub fronts_are_done : FrontsAreDone
+fronts_are_done es acts fronts none =
+    let each : (s : Session) → DoesAll (acts_of s acts) (entries_of s es) = λ s. all-of s es acts (fronts s) none in
+    record { each = each; operator = operator-done (acts_of Operator acts) es (each Operator) }

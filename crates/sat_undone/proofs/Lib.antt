@@ -1,2 +1,3 @@
 pub mod Tables
+pub mod Turns
 pub mod Fronts

@@ -1,16 +1,15 @@
 -- The tables of what was counted, after one entry or one act more.
-use Rattle.std.proofs.Common.{◌≡◌, ◌≢◌, ℕ, zero, suc, ◌+◌, ◌<◌, ◌≤◌, ◌==◌, nat_lt, Bool, true, false, List, [], ◌∷◌, ◌++◌, length, filter, take, drop, get_or, set, Option, Some, None, slice_get, if◌then◌else◌, ◌⊎◌, inl, inr, refl, sym, subst, ap, ◌∙◌, arith, add-one, drop-cons}
-use Rattle.std.proofs.lemmas.Bool.{cases_eq, cases_lt}
+use Rattle.std.proofs.Common.{◌≡◌, ◌≢◌, ℕ, zero, suc, ◌+◌, ◌<◌, ◌≤◌, ◌==◌, nat_lt, Bool, true, false, List, [], ◌∷◌, ◌++◌, length, filter, take, drop, get_or, set, Option, Some, None, if◌then◌else◌, ◌⊎◌, inl, inr, refl, sym, subst, ap, ◌∙◌, arith, add-one, drop-cons}
+use Rattle.std.proofs.lemmas.Bool.{cases_eq}
 use Rattle.std.proofs.lemmas.Bool.Decides.{nat_tests}
 use Rattle.std.proofs.lemmas.List.{take_more, length-set, get_or-set_same, get_or-set_other}
 use Rattle.std.proofs.lemmas.List.Elements.{filter-append}
-use Rattle.std.proofs.lemmas.Option.{slice_get_within, get_or_from_slice_get}
 use Rattle.sat_act.specs.declared.act.Act.{Act}
 use Rattle.sat_act.specs.declared.entry.Entry.{Entry}
 use Rattle.sat_stitch.specs.Places.{Session, Client, Operator, session_of, is_session}
 use Rattle.sat_undone.specs.declared.lacking.Tally.{Tally}
 use Rattle.sat_undone.specs.Undone.{session_at, number_of, is_by, is_of, entries_of, acts_of, waits, tally_by, next_tally, tally_from, no_tally, tally_of, lacks, undone_behind}
-use Rattle.sat_undone.specs.Counted.{AreTallies, AreCounts, IsKnown}
+use Rattle.sat_undone.specs.Counted.{AreTallies, AreCounts}
 
 -- ---- numbers of sessions
 
@@ -54,7 +53,8 @@ number_is clients k (Some (Client c)) at = go (nat_lt c clients) refl at
 
 -- ---- tallies
 
-tally-last : (t : Tally) (es : List Entry) (e : Entry) → tally_from t (es ++ e ∷ []) ≡ next_tally (tally_from t es) e
+-- an entry more
+pub tally-last : (t : Tally) (es : List Entry) (e : Entry) → tally_from t (es ++ e ∷ []) ≡ next_tally (tally_from t es) e
 tally-last t [] e = refl
 tally-last t (x ∷ es) e = tally-last (next_tally t x) es e
 

@@ -1,10 +1,10 @@
 -- Tables of what was counted of each session: of each client by its number, and of the operator behind them.
-use Rattle.std.specs.Prelude.{◌≡◌, ℕ, ◌+◌, ◌<◌, ◌==◌, Bool, false, List, length, get_or, Option, Some, None}
+use Rattle.std.specs.Prelude.{◌≡◌, ℕ, ◌+◌, ◌<◌, List, length, get_or, Some}
 use Rattle.sat_act.specs.declared.act.Act.{Act}
 use Rattle.sat_act.specs.declared.entry.Entry.{Entry}
 use Rattle.sat_stitch.specs.Places.{Client, session_of}
 use Rattle.sat_undone.specs.declared.lacking.Tally.{Tally}
-use Rattle.sat_undone.specs.Undone.{session_at, acts_of, no_tally, number_of, tally_of}
+use Rattle.sat_undone.specs.Undone.{session_at, acts_of, no_tally, tally_of}
 
 -- the tallies of these entries
 pub record AreTallies (clients : ℕ) (es : List Entry) (ts : List Tally) : Type 0 where

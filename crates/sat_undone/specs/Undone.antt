@@ -6,8 +6,10 @@ use Rattle.sat_act.specs.declared.answer.Answer.{Answer}
 use Rattle.sat_act.specs.declared.answer.Answer.TheVariants as ans
 use Rattle.sat_act.specs.declared.answer.Refusal.TheVariants as why
 use Rattle.sat_act.specs.declared.entry.Entry.{Entry}
+use Rattle.sat_stitch.specs.Kept.{acts_of as acts_among}
 use Rattle.sat_stitch.specs.Places.{Session, Client, Operator, session_of, is_session}
 use Rattle.sat_undone.specs.declared.lacking.Tally.{Tally}
+use Rattle.sat_undone.specs.declared.tries.TheConstants.{MOST_TRIES}
 
 -- ---- whose acts
 
@@ -45,18 +47,17 @@ is_not_yet (ans.Refused why.NotYet) = true
 is_not_yet _ = false
 
 -- an attach that has to wait, and is tried again
-abbrev pub waits : Entry → Bool
-waits e = is_attach e.act && is_not_yet e.answer
+abbrev pub has_to_wait : Act → Answer → Bool
+has_to_wait a r = is_attach a && is_not_yet r
 
--- a client stops at so many in a row
-abbrev pub most_tries : ℕ
-most_tries = 1000
+abbrev pub waits : Entry → Bool
+waits e = has_to_wait e.act e.answer
 
 -- what so many attaches in a row are that had to wait, the last of which is this, where nothing comes behind them: one act where they are
 -- the most, else none
 abbrev pub given_up : ℕ → Option Act → List Act
 given_up n None = []
-given_up n (Some a) = if nat_le most_tries n then a ∷ [] else []
+given_up n (Some a) = if nat_le MOST_TRIES n then a ∷ [] else []
 
 -- the acts of these entries of one session, behind so many attaches in a row that had to wait: such an attach and the entry behind it are one act
 abbrev pub acts_behind : ℕ → Option Act → List Entry → List Act
@@ -89,7 +90,7 @@ tally_of s es = tally_from no_tally (entries_of s es)
 
 -- its client stopped
 abbrev pub stopped : Tally → Bool
-stopped t = nat_le most_tries t.tries
+stopped t = nat_le MOST_TRIES t.tries
 
 -- how many acts were done
 abbrev pub acts_in : Tally → ℕ
@@ -118,18 +119,41 @@ unfoldable pub undone : List Entry → List Act → Option Act
 unfolding tally_of
 undone es acts = undone_behind es [] acts
 
+-- ---- what each session did
+
 -- the first of them are these
 abbrev pub IsFront : List Act → List Act → Type 0
 IsFront front all = (rest : List Act) × (all ≡ front ++ rest)
 
--- what was done of a session is a front of its acts
-abbrev pub AreFronts : List Entry → List Act → Type 0
-AreFronts es acts = (s : Session) → IsFront (acts_done (entries_of s es)) (acts_of s acts)
+-- behind entries of this tally, this act of a session comes next, and was not tried the most times yet
+pub record IsNext (t : Tally) (acts : List Act) (a : Act) : Type 0 where
+  pub act : slice_get acts t.done ≡ Some a
+  pub tries : t.tries < MOST_TRIES
 
--- of each session all acts were done, in their order; or a front, behind which its client stopped
-abbrev pub AreDone : List Entry → List Act → Type 0
-AreDone es acts =
-    (s : Session) → (acts_done (entries_of s es) ≡ acts_of s acts) ⊎ ((stopped (tally_of s es) ≡ true) × IsFront (acts_done (entries_of s es)) (acts_of s acts))
+-- behind entries of this tally, each of these entries is of the act that comes next. So behind an attach that has to wait stands the same
+-- act, and behind the most tries of it nothing
+abbrev pub AreInTurn : Tally → List Act → List Entry → Type 0
+AreInTurn t acts [] = Unit {0}
+AreInTurn t acts (e ∷ es) = IsNext t acts e.act × AreInTurn (next_tally t e) acts es
+
+-- by these entries a session did a front of these acts, each in its turn
+pub record DoesFront (acts : List Act) (es : List Entry) : Type 0 where
+  pub front : IsFront (acts_done es) acts
+  pub in_turn : AreInTurn no_tally acts es
+
+-- and these were all of them; or at their end its client gave up, behind the most tries
+pub record DoesAll (acts : List Act) (es : List Entry) : Type 0 where
+  pub does : DoesFront acts es
+  pub all : (acts_done es ≡ acts) ⊎ ((tally_from no_tally es).tries ≡ MOST_TRIES)
+
+-- each session did a front of its acts
+abbrev pub AreFronts : List Entry → List Act → Type 0
+AreFronts es acts = (s : Session) → DoesFront (acts_of s acts) (entries_of s es)
+
+-- each session did all its acts, or its client gave up; and the operator's acts are the script's, in their order
+pub record AreDone (es : List Entry) (acts : List Act) : Type 0 where
+  pub each : (s : Session) → DoesAll (acts_of s acts) (entries_of s es)
+  pub operator : acts_among (entries_of Operator es) ≡ acts_of Operator acts
 
 -- where what was done are fronts and the history lacks nothing, all acts were done
 abbrev pub FrontsAreDone : Type 0

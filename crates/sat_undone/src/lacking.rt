@@ -5,13 +5,11 @@ ghost use Rattle.sat_act.specs.declared.entry.Entry.{Entry as Line};
 ghost use Rattle.std.specs.List.{AllByRecursion};
 ghost use Rattle.sat_stitch.specs.Places.{Client, session_of};
 ghost use Rattle.sat_undone.specs.Counted.{AreCounts, AreTallies, IsKnown};
-ghost use Rattle.sat_undone.specs.Undone.{is_attach, is_not_yet, lacks, lacks_of, next_tally, no_tally, number_of, undone, waits};
+ghost use Rattle.sat_undone.specs.Undone.{lacks, lacks_of, next_tally, no_tally, number_of, undone};
 
-use sat_act::{Act, Answer, Entry, Refusal};
+use crate::tries::{MOST_TRIES, has_to_wait};
+use sat_act::{Act, Entry};
 use std::alloc::{AllocError, Global};
-
-/// How many attaches in a row a client tries that have to wait. Behind so many it stops.
-pub const MOST_TRIES: u64 = 1_000;
 
 /// How many acts of a session were done, and how many attaches in a row, behind these, had to wait.
 #[derive(Clone, Copy)]
@@ -45,37 +43,12 @@ fn session_number(clients: usize, act: &Act) -> Option<usize>
     }
 }
 
-fn is_attach(act: &Act) -> bool
-    ensures { result ≡ is_attach act.now }
-{
-    match act {
-        Act::Attach { .. } => true,
-        _ => false,
-    }
-}
-
-fn is_not_yet(answer: &Answer) -> bool
-    ensures { result ≡ is_not_yet answer.now }
-{
-    match answer {
-        Answer::Refused(Refusal::NotYet) => true,
-        _ => false,
-    }
-}
-
-// Whether it is an attach that has to wait.
-fn waits(entry: &Entry) -> bool
-    ensures { result ≡ waits entry.now }
-{
-    is_attach(&entry.act) && is_not_yet(&entry.answer)
-}
-
 // A tally after one entry more.
 fn next_tally(tally: Tally, entry: &Entry) -> Tally
     requires { tally.done + tally.tries + 1 < 2 ^ 64 }
     ensures { result ≡ next_tally tally entry.now }
 {
-    if waits(entry) {
+    if has_to_wait(&entry.act, &entry.answer) {
         Tally {
             done: tally.done,
             tries: tally.tries + 1,

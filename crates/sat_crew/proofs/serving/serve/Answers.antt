@@ -1,8 +1,8 @@
-use Rattle.std.proofs.Common.{◌≡◌, ◌+◌, ◌∙◌, true, false, Ok, sym, subst}
+use Rattle.std.proofs.Common.{◌≡◌, ◌≤◌, ◌+◌, ◌∙◌, true, false, length, Ok, sym, subst, arith}
 use Rattle.sat_session.specs.Notes.{session_at}
 use Rattle.sat_undone.specs.Undone.{is_of}
 use Rattle.sat_crew.specs.Standing.{Serving}
-use Rattle.sat_crew.proofs.Scripts.{serving_other, serving_own, worked_failed, worked_given_up}
+use Rattle.sat_crew.proofs.Scripts.{serving_other, serving_own, worked_all, worked_failed, worked_given_up}
 use Rattle.sat_crew.proofs.serving.serve.Goals as goal
 use Rattle.sat_crew.proofs.serving.serve.Goals.{then-is_own+in-Ok-true, else-is_own}
 
@@ -18,6 +18,11 @@ returns-in-Err-clause-worked g c =
     let a = c.index-acts-place.result in
     let own : is_of (session_at g.N.Laid.deployment c.loop-place.session.number) a ≡ true = cc in
     worked_failed g.N.Laid.deployment c.args.acts.now c.loop-place.place c.args.session.now c.loop-place.session c.do_act.new.session a c.in-Err.fault c.do_act.result c.loop-place.invariant c.loop-place-test.true c.index-acts-place.is own c.do_act.ensures.came c.in-Err.is
+
+pub returns-clause-worked : goal.returns-clause-worked
+returns-clause-worked g c =
+    let past : length c.args.acts.now ≤ c.loop-place.place = omega (arith, c.loop-place.auto.place-end, c.loop-place-test.false) in
+    worked_all g.N.Laid.deployment c.args.acts.now c.loop-place.place c.args.session.now c.loop-place.session c.loop-place.invariant past
 
 pub loop-place-preserved : goal.loop-place-preserved
 loop-place-preserved g c =

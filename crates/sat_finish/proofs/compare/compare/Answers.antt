@@ -1,5 +1,6 @@
 use Rattle.std.proofs.Common.{List, subst}
-use Rattle.sat_session.specs.Notes.{Owned, node_notes}
+use Rattle.sat_session.specs.Notes.{node_notes}
+use Rattle.sat_session.specs.Owned.{Owned}
 use Rattle.sat_finish.specs.Ending.{IsCompared}
 use Rattle.sat_finish.proofs.compare.compare.Goals as goal
 

@@ -1,5 +1,5 @@
 use Rattle.std.proofs.Common.{List, subst}
-use Rattle.sat_session.specs.Notes.{Owned}
+use Rattle.sat_session.specs.Owned.{Owned}
 use Rattle.sat_finish.specs.Ending.{IsCompared}
 use Rattle.sat_finish.proofs.Walks.{compared-moves}
 use Rattle.sat_finish.proofs.compare.compared.Goals as goal

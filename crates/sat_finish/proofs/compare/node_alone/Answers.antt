@@ -3,7 +3,7 @@ use Rattle.std.proofs.lemmas.List.{take-append-drop}
 use Rattle.sat_label.proofs.Members.{In-get}
 use Rattle.sat_label.specs.Members.{In}
 use Rattle.sat_session.specs.declared.noted.Noted.{Noted}
-use Rattle.sat_session.specs.Notes.{Owned}
+use Rattle.sat_session.specs.Owned.{Owned}
 use Rattle.sat_finish.specs.Filing.{AllBefore}
 use Rattle.sat_finish.specs.Differences.{IsDifference}
 use Rattle.sat_finish.proofs.Walks.{node-only, in-taken, pair-differs}

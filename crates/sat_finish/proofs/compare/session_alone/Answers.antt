@@ -2,7 +2,7 @@ use Rattle.std.proofs.Common.{List, None, Some, drop, take, subst, sym, ◌∙�
 use Rattle.std.proofs.lemmas.List.{take-append-drop}
 use Rattle.sat_label.proofs.Members.{In-get}
 use Rattle.sat_session.specs.declared.noted.Noted.{Noted}
-use Rattle.sat_session.specs.Notes.{Owned}
+use Rattle.sat_session.specs.Owned.{Owned}
 use Rattle.sat_finish.specs.Filing.{AllBefore}
 use Rattle.sat_finish.specs.Differences.{IsDifference}
 use Rattle.sat_finish.proofs.Walks.{session-only}

@@ -1,5 +1,5 @@
-use Rattle.std.proofs.Common.{◌∙◌, sym, subst, arith}
-use Rattle.sat_undone.proofs.Tables.{number_is, small_count, count_one, count_other}
+use Rattle.std.proofs.Common.{◌∙◌, sym, arith}
+use Rattle.sat_undone.proofs.Tables.{number_is, small_count}
 use Rattle.sat_undone.proofs.lacking.lacks.Goals as goal
 
 pub count_more-count-requires-clause-small : goal.count_more-count-requires-clause-small

@@ -1,4 +1,4 @@
-use Rattle.std.proofs.Common.{◌∙◌, arith}
+use Rattle.std.proofs.Common.{arith}
 use Rattle.sat_undone.proofs.Tables.{none_counted}
 use Rattle.sat_undone.proofs.lacking.no_tallies.Goals as goal
 

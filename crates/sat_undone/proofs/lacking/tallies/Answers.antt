@@ -1,4 +1,4 @@
-use Rattle.std.proofs.Common.{List, take, sym, subst, arith}
+use Rattle.std.proofs.Common.{List, take, sym, subst}
 use Rattle.sat_act.specs.declared.entry.Entry.{Entry}
 use Rattle.sat_undone.specs.Counted.{AreTallies}
 use Rattle.sat_undone.proofs.Tables.{front-next}
