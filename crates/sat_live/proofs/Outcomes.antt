@@ -10,14 +10,13 @@ use Rattle.sat_runs.specs.Good.{EveryListIsGood}
 use Rattle.sat_runs.specs.Runs.{history}
 use Rattle.sat_stitch.specs.Kept.{acts_of}
 use Rattle.sat_session.specs.declared.noted.Noted.{Noted}
-use Rattle.sat_session.specs.Notes.{Owned}
-use Rattle.sat_finish.specs.Differences.{IsDifference}
 use Rattle.sat_undone.specs.Undone.{AreFronts, FrontsAreDone, undone}
 use Rattle.sat_outcome.specs.Texts.{differ_text, undone_text}
 use Rattle.sat_live.specs.declared.telling.Told.{Told}
-use Rattle.sat_live.specs.Coming.{IsJournalOf}
-use Rattle.sat_live.specs.Telling.{IsRunTold}
+use Rattle.sat_live.specs.Coming.{AreApart, IsJournalOf}
+use Rattle.sat_live.specs.Telling.{CanBeTold, IsRunTold}
 use Rattle.sat_live.specs.Told.{AreActsDone, HasDiffered, HasLeft, HasLived, IsTold}
+use Rattle.sat_live.proofs.Differing.{tells_act}
 use Rattle.sat_live.proofs.Journals.{journal_is}
 
 -- ---- by the status
@@ -30,7 +29,7 @@ told-lived d acts text status is has = record {
   statuses = inl is;
 }
 
-told-differed : (d : Deployed) (acts : List Act) (text : List ℕ) (status : ℕ) → status ≡ 6 → HasDiffered d text → IsTold d acts text status
+told-differed : (d : Deployed) (acts : List Act) (text : List ℕ) (status : ℕ) → status ≡ 6 → HasDiffered d acts text → IsTold d acts text status
 told-differed d acts text status is has = record {
   lived = λ e. absurd (omega (arith, is, e));
   differed = λ e. has;
@@ -94,11 +93,23 @@ pub told_run : {E : Type 0} (d : Deployed) (acts : List Act) (journal : List Ent
 told_run d acts journal (Err fault) good doing is each came none ran = tt
 told_run d acts journal (Ok told) good doing is each came none ran = run-told d acts journal told.text.items told.status good doing is each came none ran
 
-pub told_apart : {E : Type 0} (d : Deployed) (acts : List Act) (node session : Option Noted) (result : Result Told E) → (nodes : List Owned) × (sessions : List Owned) × IsDifference nodes sessions node session
-    → IfOk result (λ told. told.text.items ≡ differ_text d node session) → IfOk result (λ told. told.status ≡ 6) → IfOk result (λ told. IsTold d acts told.text.items told.status)
-told_apart d acts kept noted (Err fault) found wrote status = tt
-told_apart d acts kept noted (Ok told) found wrote status =
-    told-differed d acts told.text.items told.status status (record { nodes = found.0; sessions = found.1; node = kept; session = noted; difference = found.2; apart = found.2.apart; written = wrote })
+pub told_apart : {E : Type 0} (d : Deployed) (acts : List Act) (node session : Option Noted) (result : Result Told E) → AreApart acts node session
+    → IfOk result (λ told. told.text.items ≡ differ_text d node session) → IfOk result (λ told. told.status ≡ 6) → IfOk result (λ _. CanBeTold d acts node session) → IfOk result (λ told. IsTold d acts told.text.items told.status)
+told_apart d acts kept noted (Err fault) found wrote status notes = tt
+told_apart d acts kept noted (Ok told) found wrote status notes =
+    told-differed d acts told.text.items told.status status (record {
+      nodes = found.nodes;
+      sessions = found.sessions;
+      each = found.each;
+      node = kept;
+      session = noted;
+      difference = found.difference;
+      tells = tells_act acts found.nodes found.sessions kept noted found.each found.difference notes.act;
+      at_node = notes.at_node;
+      at_session = notes.at_session;
+      apart = found.difference.apart;
+      written = wrote;
+    })
 
 -- there is no other status
 pub told_status : {E : Type 0} (d : Deployed) (acts : List Act) (result : Result Told E) → IfOk result (λ told. IsTold d acts told.text.items told.status) → IfOk result (λ told. (told.status ≡ 0) ⊎ (told.status ≡ 6) ⊎ (told.status ≡ 8))

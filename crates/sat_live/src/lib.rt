@@ -4,6 +4,7 @@
 mod launch;
 mod lines;
 mod nodes;
+mod notes;
 mod telling;
 
 pub use launch::live;
