@@ -1,11 +1,13 @@
 -- What is told, from what came.
-use Rattle.std.proofs.Common.{◌≡◌, ℕ, List, reverse, Option, Some, None, Result, Ok, Err, arith, sym, subst, inl, inr}
+use Rattle.std.proofs.Common.{◌≡◌, ℕ, List, reverse, Option, Some, None, Result, Ok, Err, arith, sym, ◌∙◌, subst, inl, inr}
 use Rattle.std.specs.Prelude.{IfOk, ◌⊎◌}
 use Rattle.sat_act.specs.declared.act.Act.{Act}
 use Rattle.sat_act.specs.declared.entry.Entry.{Entry}
 use Rattle.sat_act.specs.Deployed.{Deployed}
 use Rattle.sat_act.specs.Limits.{IsDeployment}
-use Rattle.sat_script.specs.Spelled.{AreActsOf}
+use Rattle.sat_script.specs.Spelled.{AreActsOf, HaveNames}
+use Rattle.sat_stream.specs.Laws.{CanBeSpelled, SpellingsBeginOnce}
+use Rattle.sat_report.specs.Holdings.{report}
 use Rattle.sat_runs.specs.Good.{EveryListIsGood}
 use Rattle.sat_runs.specs.Runs.{history}
 use Rattle.sat_stitch.specs.Kept.{acts_of}
@@ -69,10 +71,11 @@ told_undone d acts journal a (Ok told) good is each came first wrote status =
       left = inl (record { act = a; first = still d acts journal (Some a) came first; written = wrote });
     })
 
-run-told : (d : Deployed) (acts : List Act) (journal : List Entry) (text : List ℕ) (status : ℕ) → EveryListIsGood → FrontsAreDone → IsDeployment d → AreActsOf d (acts_of journal) → IsJournalOf d acts journal → undone journal acts ≡ None
+run-told : (d : Deployed) (acts : List Act) (journal : List Entry) (text : List ℕ) (status : ℕ) → EveryListIsGood → FrontsAreDone → SpellingsBeginOnce → IsDeployment d → HaveNames d → AreActsOf d (acts_of journal) → IsJournalOf d acts journal → undone journal acts ≡ None
     → IsRunTold d (acts_of journal) text status → IsTold d acts text status
-run-told d acts journal text status good doing is each came none (inl whole) =
+run-told d acts journal text status good doing once is names each came none (inl whole) =
     let done = done-of d acts journal good is each came in
+    let readable : CanBeSpelled d (acts_of journal) = record { deployment = is; names = names; each = each } in
     told-lived d acts text status whole.0 (record {
       done = acts_of journal;
       journal = done;
@@ -80,18 +83,20 @@ run-told d acts journal text status good doing is each came none (inl whole) =
       moves = whole.1.moves;
       settled = whole.1.settled;
       written = whole.1.written;
+      readable = readable;
+      only = λ e others rest can reads. once d e (acts_of journal) others (report d (history d (acts_of journal))) rest readable can (sym whole.1.written ∙ reads);
     })
-run-told d acts journal text status good doing is each came none (inr left) =
+run-told d acts journal text status good doing once is names each came none (inr left) =
     told-left d acts text status left.0 (record {
       done = acts_of journal;
       journal = done-of d acts journal good is each came;
       left = inr (record { none = still d acts journal None came none; rounds = left.1.rounds; moves = left.1.moves; settled = left.1.settled; some = left.1.some; written = left.1.written });
     })
 
-pub told_run : {E : Type 0} (d : Deployed) (acts : List Act) (journal : List Entry) (result : Result Told E) → EveryListIsGood → FrontsAreDone → IsDeployment d → AreActsOf d (acts_of journal) → IsJournalOf d acts journal → undone journal acts ≡ None
+pub told_run : {E : Type 0} (d : Deployed) (acts : List Act) (journal : List Entry) (result : Result Told E) → EveryListIsGood → FrontsAreDone → SpellingsBeginOnce → IsDeployment d → HaveNames d → AreActsOf d (acts_of journal) → IsJournalOf d acts journal → undone journal acts ≡ None
     → IfOk result (λ told. IsRunTold d (acts_of journal) told.text.items told.status) → IfOk result (λ told. IsTold d acts told.text.items told.status)
-told_run d acts journal (Err fault) good doing is each came none ran = tt
-told_run d acts journal (Ok told) good doing is each came none ran = run-told d acts journal told.text.items told.status good doing is each came none ran
+told_run d acts journal (Err fault) good doing once is names each came none ran = tt
+told_run d acts journal (Ok told) good doing once is names each came none ran = run-told d acts journal told.text.items told.status good doing once is names each came none ran
 
 pub told_apart : {E : Type 0} (d : Deployed) (acts : List Act) (node session : Option Noted) (result : Result Told E) → AreApart acts node session
     → IfOk result (λ told. told.text.items ≡ differ_text d node session) → IfOk result (λ told. told.status ≡ 6) → IfOk result (λ _. CanBeTold d acts node session) → IfOk result (λ told. IsTold d acts told.text.items told.status)

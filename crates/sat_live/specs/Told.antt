@@ -12,6 +12,7 @@ use Rattle.sat_act.specs.Deployed.{Deployed}
 use Rattle.sat_act.specs.Parts.{tree_of}
 use Rattle.sat_act.specs.Settling.{answer_of}
 use Rattle.sat_script.specs.Spelled.{AreActsOf, spelling}
+use Rattle.sat_stream.specs.Laws.{CanBeSpelled}
 use Rattle.sat_report.specs.Holdings.{report}
 use Rattle.sat_runs.specs.Good.{IsGoodRun}
 use Rattle.sat_runs.specs.Runs.{history}
@@ -30,7 +31,8 @@ pub record AreActsDone (d : Deployed) (acts done : List Act) : Type 0 where
   pub fronts : AreFronts (reverse (history d done)) acts
 
 -- 0: the text is the script of the acts of the journal, and behind it the report of their history. Each session did all its acts, in
--- their order, or a front of them at whose end its client gave up; and a settle behind them has nothing left to do
+-- their order, or a front of them at whose end its client gave up; and a settle behind them has nothing left to do. And the text has one
+-- reading: no other script is spelled at its beginning, so that who reads it finds these acts
 pub record HasLived (d : Deployed) (acts : List Act) (text : List ℕ) : Type 0 where
   pub done : List Act
   pub journal : AreActsDone d acts done
@@ -38,6 +40,9 @@ pub record HasLived (d : Deployed) (acts : List Act) (text : List ℕ) : Type 0 
   pub moves : ℕ
   pub settled : answer_of d (history d done) Settle ≡ Settled 0 moves
   pub written : text ≡ spelling d done ++ report d (history d done)
+  pub readable : CanBeSpelled d done
+  pub only : (e : Deployed) (others : List Act) (rest : List ℕ) → CanBeSpelled e others → text ≡ spelling e others ++ rest
+      → (d ≡ e) × (done ≡ others) × (report d (history d done) ≡ rest)
 
 -- a site of the deployment, or a serializer of an epoch's tree
 abbrev pub IsNodeOf : Deployed → NodeName → Type 0

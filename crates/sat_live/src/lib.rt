@@ -3,6 +3,7 @@
 
 mod launch;
 mod lines;
+mod names;
 mod nodes;
 mod notes;
 mod telling;

@@ -12,6 +12,7 @@ ghost use Rattle.sat_live.specs.Told.{IsTold};
 ghost use Rattle.sat_live.specs.Telling.{CanBeTold, IsRunTold};
 
 use crate::lines::acts_in;
+use crate::names::have_names;
 use crate::notes::can_be_told;
 use sat_act::{Act, Answer, Deployment, Entry};
 use sat_outcome::{write_differ, write_undone, write_unsettled};
@@ -20,6 +21,7 @@ use sat_runs::{answer_acts, good_runs};
 use sat_script::write_script;
 use sat_session::Noted;
 use sat_settle::settle;
+use sat_stream::one_beginning;
 use sat_undone::{doing, undone};
 use sat_world::World;
 use std::alloc::{AllocError, Global};
@@ -153,6 +155,8 @@ pub(crate) fn tell(
     // Brings these laws into the proof; they do nothing when they run.
     good_runs();
     doing();
+    one_beginning();
+    have_names(d);
     let done = acts_in(alloc, d, journal)?;
     let clients = d.clients().len() as u16;
     match undone(alloc, clients, journal, acts)? {
