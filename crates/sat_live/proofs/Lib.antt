@@ -1,3 +1,5 @@
+pub mod Members
+pub mod Differing
 pub mod Coming
 pub mod Journals
 pub mod Reruns

@@ -1,23 +1,24 @@
 -- What is told, from what came.
-use Rattle.std.proofs.Common.{◌≡◌, ℕ, List, reverse, Option, Some, None, Result, Ok, Err, arith, sym, subst, inl, inr}
+use Rattle.std.proofs.Common.{◌≡◌, ℕ, List, reverse, Option, Some, None, Result, Ok, Err, arith, sym, ◌∙◌, subst, inl, inr}
 use Rattle.std.specs.Prelude.{IfOk, ◌⊎◌}
 use Rattle.sat_act.specs.declared.act.Act.{Act}
 use Rattle.sat_act.specs.declared.entry.Entry.{Entry}
 use Rattle.sat_act.specs.Deployed.{Deployed}
 use Rattle.sat_act.specs.Limits.{IsDeployment}
-use Rattle.sat_script.specs.Spelled.{AreActsOf}
+use Rattle.sat_script.specs.Spelled.{AreActsOf, HaveNames}
+use Rattle.sat_stream.specs.Laws.{CanBeSpelled, SpellingsBeginOnce}
+use Rattle.sat_report.specs.Holdings.{report}
 use Rattle.sat_runs.specs.Good.{EveryListIsGood}
 use Rattle.sat_runs.specs.Runs.{history}
 use Rattle.sat_stitch.specs.Kept.{acts_of}
 use Rattle.sat_session.specs.declared.noted.Noted.{Noted}
-use Rattle.sat_session.specs.Owned.{Owned}
-use Rattle.sat_finish.specs.Differences.{IsDifference}
 use Rattle.sat_undone.specs.Undone.{AreFronts, FrontsAreDone, undone}
 use Rattle.sat_outcome.specs.Texts.{differ_text, undone_text}
 use Rattle.sat_live.specs.declared.telling.Told.{Told}
-use Rattle.sat_live.specs.Coming.{IsJournalOf}
-use Rattle.sat_live.specs.Telling.{IsRunTold}
+use Rattle.sat_live.specs.Coming.{AreApart, IsJournalOf}
+use Rattle.sat_live.specs.Telling.{CanBeTold, IsRunTold}
 use Rattle.sat_live.specs.Told.{AreActsDone, HasDiffered, HasLeft, HasLived, IsTold}
+use Rattle.sat_live.proofs.Differing.{tells_act}
 use Rattle.sat_live.proofs.Journals.{journal_is}
 
 -- ---- by the status
@@ -30,7 +31,7 @@ told-lived d acts text status is has = record {
   statuses = inl is;
 }
 
-told-differed : (d : Deployed) (acts : List Act) (text : List ℕ) (status : ℕ) → status ≡ 6 → HasDiffered d text → IsTold d acts text status
+told-differed : (d : Deployed) (acts : List Act) (text : List ℕ) (status : ℕ) → status ≡ 6 → HasDiffered d acts text → IsTold d acts text status
 told-differed d acts text status is has = record {
   lived = λ e. absurd (omega (arith, is, e));
   differed = λ e. has;
@@ -70,10 +71,11 @@ told_undone d acts journal a (Ok told) good is each came first wrote status =
       left = inl (record { act = a; first = still d acts journal (Some a) came first; written = wrote });
     })
 
-run-told : (d : Deployed) (acts : List Act) (journal : List Entry) (text : List ℕ) (status : ℕ) → EveryListIsGood → FrontsAreDone → IsDeployment d → AreActsOf d (acts_of journal) → IsJournalOf d acts journal → undone journal acts ≡ None
+run-told : (d : Deployed) (acts : List Act) (journal : List Entry) (text : List ℕ) (status : ℕ) → EveryListIsGood → FrontsAreDone → SpellingsBeginOnce → IsDeployment d → HaveNames d → AreActsOf d (acts_of journal) → IsJournalOf d acts journal → undone journal acts ≡ None
     → IsRunTold d (acts_of journal) text status → IsTold d acts text status
-run-told d acts journal text status good doing is each came none (inl whole) =
+run-told d acts journal text status good doing once is names each came none (inl whole) =
     let done = done-of d acts journal good is each came in
+    let readable : CanBeSpelled d (acts_of journal) = record { deployment = is; names = names; each = each } in
     told-lived d acts text status whole.0 (record {
       done = acts_of journal;
       journal = done;
@@ -81,24 +83,38 @@ run-told d acts journal text status good doing is each came none (inl whole) =
       moves = whole.1.moves;
       settled = whole.1.settled;
       written = whole.1.written;
+      readable = readable;
+      only = λ e others rest can reads. once d e (acts_of journal) others (report d (history d (acts_of journal))) rest readable can (sym whole.1.written ∙ reads);
     })
-run-told d acts journal text status good doing is each came none (inr left) =
+run-told d acts journal text status good doing once is names each came none (inr left) =
     told-left d acts text status left.0 (record {
       done = acts_of journal;
       journal = done-of d acts journal good is each came;
       left = inr (record { none = still d acts journal None came none; rounds = left.1.rounds; moves = left.1.moves; settled = left.1.settled; some = left.1.some; written = left.1.written });
     })
 
-pub told_run : {E : Type 0} (d : Deployed) (acts : List Act) (journal : List Entry) (result : Result Told E) → EveryListIsGood → FrontsAreDone → IsDeployment d → AreActsOf d (acts_of journal) → IsJournalOf d acts journal → undone journal acts ≡ None
+pub told_run : {E : Type 0} (d : Deployed) (acts : List Act) (journal : List Entry) (result : Result Told E) → EveryListIsGood → FrontsAreDone → SpellingsBeginOnce → IsDeployment d → HaveNames d → AreActsOf d (acts_of journal) → IsJournalOf d acts journal → undone journal acts ≡ None
     → IfOk result (λ told. IsRunTold d (acts_of journal) told.text.items told.status) → IfOk result (λ told. IsTold d acts told.text.items told.status)
-told_run d acts journal (Err fault) good doing is each came none ran = tt
-told_run d acts journal (Ok told) good doing is each came none ran = run-told d acts journal told.text.items told.status good doing is each came none ran
+told_run d acts journal (Err fault) good doing once is names each came none ran = tt
+told_run d acts journal (Ok told) good doing once is names each came none ran = run-told d acts journal told.text.items told.status good doing once is names each came none ran
 
-pub told_apart : {E : Type 0} (d : Deployed) (acts : List Act) (node session : Option Noted) (result : Result Told E) → (nodes : List Owned) × (sessions : List Owned) × IsDifference nodes sessions node session
-    → IfOk result (λ told. told.text.items ≡ differ_text d node session) → IfOk result (λ told. told.status ≡ 6) → IfOk result (λ told. IsTold d acts told.text.items told.status)
-told_apart d acts kept noted (Err fault) found wrote status = tt
-told_apart d acts kept noted (Ok told) found wrote status =
-    told-differed d acts told.text.items told.status status (record { nodes = found.0; sessions = found.1; node = kept; session = noted; difference = found.2; apart = found.2.apart; written = wrote })
+pub told_apart : {E : Type 0} (d : Deployed) (acts : List Act) (node session : Option Noted) (result : Result Told E) → AreApart acts node session
+    → IfOk result (λ told. told.text.items ≡ differ_text d node session) → IfOk result (λ told. told.status ≡ 6) → IfOk result (λ _. CanBeTold d acts node session) → IfOk result (λ told. IsTold d acts told.text.items told.status)
+told_apart d acts kept noted (Err fault) found wrote status notes = tt
+told_apart d acts kept noted (Ok told) found wrote status notes =
+    told-differed d acts told.text.items told.status status (record {
+      nodes = found.nodes;
+      sessions = found.sessions;
+      each = found.each;
+      node = kept;
+      session = noted;
+      difference = found.difference;
+      tells = tells_act acts found.nodes found.sessions kept noted found.each found.difference notes.act;
+      at_node = notes.at_node;
+      at_session = notes.at_session;
+      apart = found.difference.apart;
+      written = wrote;
+    })
 
 -- there is no other status
 pub told_status : {E : Type 0} (d : Deployed) (acts : List Act) (result : Result Told E) → IfOk result (λ told. IsTold d acts told.text.items told.status) → IfOk result (λ told. (told.status ≡ 0) ⊎ (told.status ≡ 6) ⊎ (told.status ≡ 8))

@@ -1,14 +1,17 @@
 -- What came of nodes and sessions, in plain values.
-use Rattle.std.specs.Prelude.{◌≡◌, ◌+◌, Bool, List, length, reverse, Result, Ok, Err}
+use Rattle.std.specs.Prelude.{◌≡◌, ◌+◌, Bool, List, length, reverse, Option, Result, Ok, Err}
 use Rattle.std.specs.List.{AllByRecursion}
+use Rattle.sat_label.specs.Members.{In}
 use Rattle.sat_act.specs.declared.act.Act.{Act}
 use Rattle.sat_act.specs.declared.entry.Entry.{Entry}
 use Rattle.sat_act.specs.Deployed.{Deployed}
 use Rattle.sat_act.specs.Runs.{IsRun}
 use Rattle.sat_act.specs.Settling.{run}
-use Rattle.sat_session.specs.Notes.{SessionSeen}
+use Rattle.sat_session.specs.declared.noted.Noted.{Noted}
+use Rattle.sat_session.specs.Notes.{SessionSeen, session_notes}
 use Rattle.sat_session.specs.Owned.{Owned}
 use Rattle.sat_stitch.specs.Kept.{acts_of}
+use Rattle.sat_stitch.specs.Places.{Session}
 use Rattle.sat_finish.specs.declared.fault.Ended.{Ended}
 use Rattle.sat_finish.specs.declared.fault.FinishFault.{FinishFault}
 use Rattle.sat_finish.specs.declared.fault.FinishFault.TheVariants as fault
@@ -18,6 +21,7 @@ use Rattle.sat_cluster.specs.Clusters.{count_given, operator_number}
 use Rattle.sat_crew.specs.Crews.{HoldsSessions, IsFresh}
 use Rattle.sat_live.specs.declared.nodes.Came.{Came}
 use Rattle.sat_live.specs.declared.nodes.Came.TheVariants.{Whole, Apart, Memory}
+use Rattle.sat_live.specs.Told.{IsTried}
 
 -- these sessions of a cluster were given, as many as are marked, and did nothing yet
 pub record AreGiven (d : Deployed) (given : List Bool) (xs : List SessionSeen) : Type 0 where
@@ -35,15 +39,24 @@ pub record IsJournalOf (d : Deployed) (acts : List Act) (journal : List Entry) :
   pub one : IsOneRun d journal
   pub fronts : AreFronts journal acts
 
--- a journal that has of these sessions what they noted, and of no other session anything; or two notes that are not the same
+-- What nodes kept of an act of a session, and what the session kept of it, which are not the same. All that sessions kept is of their acts
+-- in the script
+pub record AreApart (acts : List Act) (node session : Option Noted) : Type 0 where
+  pub nodes : List Owned
+  pub sessions : List Owned
+  pub each : (s : Session) (n : Noted) → In sessions (s, n) → IsTried s acts n.entry
+  pub difference : IsDifference nodes sessions node session
+
+-- a journal that has of these sessions what they noted, and of no other session anything; or what nodes kept and what these sessions
+-- kept, which is not the same
 abbrev pub IsEnded : Deployed → List SessionSeen → Came → Type 0
 IsEnded d xs (Whole journal) = IsOneRun d journal × HoldsSessions d xs journal
-IsEnded d xs (Apart node session) = (nodes : List Owned) × (sessions : List Owned) × IsDifference nodes sessions node session
+IsEnded d xs (Apart node session) = (nodes : List Owned) × IsDifference nodes (session_notes d xs) node session
 IsEnded d xs Memory = Unit {0}
 
 abbrev pub IsCame : Deployed → List Act → Came → Type 0
 IsCame d acts (Whole journal) = IsJournalOf d acts journal
-IsCame d acts (Apart node session) = (nodes : List Owned) × (sessions : List Owned) × IsDifference nodes sessions node session
+IsCame d acts (Apart node session) = AreApart acts node session
 IsCame d acts Memory = Unit {0}
 
 -- the end of a cluster whose sessions all came back

@@ -1,3 +1,4 @@
 pub mod Told
+pub mod Naming
 pub mod Coming
 pub mod Telling

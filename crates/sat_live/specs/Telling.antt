@@ -1,5 +1,6 @@
 -- What is told of the run of a journal's acts.
-use Rattle.std.specs.Prelude.{ℕ, ◌≡◌, ◌≢◌, ◌⊎◌, List, ◌++◌}
+use Rattle.std.specs.Prelude.{ℕ, ◌≡◌, ◌≢◌, ◌⊎◌, List, ◌++◌, Option, None, IfSome}
+use Rattle.sat_label.specs.Members.{In}
 use Rattle.sat_act.specs.declared.act.Act.{Act}
 use Rattle.sat_act.specs.declared.act.Act.TheVariants.{Settle}
 use Rattle.sat_act.specs.declared.answer.Answer.TheVariants.{Settled}
@@ -8,7 +9,9 @@ use Rattle.sat_act.specs.Settling.{answer_of}
 use Rattle.sat_script.specs.Spelled.{spelling}
 use Rattle.sat_report.specs.Holdings.{report}
 use Rattle.sat_runs.specs.Runs.{history}
+use Rattle.sat_session.specs.declared.noted.Noted.{Noted}
 use Rattle.sat_outcome.specs.Texts.{unsettled_text}
+use Rattle.sat_live.specs.Told.{IsAtNode}
 
 -- a settle behind them has nothing left to do: their script, and their report
 pub record IsRunWhole (d : Deployed) (done : List Act) (text : List ℕ) : Type 0 where
@@ -26,3 +29,9 @@ pub record IsRunUnsettled (d : Deployed) (done : List Act) (text : List ℕ) : T
 
 abbrev pub IsRunTold : Deployed → List Act → List ℕ → ℕ → Type 0
 IsRunTold d done text status = ((status ≡ 0) × IsRunWhole d done text) ⊎ ((status ≡ 8) × IsRunUnsettled d done text)
+
+-- two notes that can be told: each is of an act at a node of the deployment; and where there is only a node's, its act is one of these
+pub record CanBeTold (d : Deployed) (acts : List Act) (node session : Option Noted) : Type 0 where
+  pub at_node : IfSome node (IsAtNode d)
+  pub at_session : IfSome session (IsAtNode d)
+  pub act : session ≡ None → IfSome node (λ n. In acts n.entry.act)

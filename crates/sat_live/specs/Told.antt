@@ -1,18 +1,26 @@
 -- What is told of a script that nodes on threads did, status by status.
-use Rattle.std.specs.Prelude.{ℕ, ◌≡◌, ◌≢◌, ◌⊎◌, List, ◌++◌, reverse, Option, Some, None}
+use Rattle.std.specs.Prelude.{ℕ, ◌≡◌, ◌≢◌, ◌≤◌, ◌<◌, ◌⊎◌, true, false, List, ◌++◌, length, reverse, Option, Some, None, IfSome}
+use Rattle.sat_label.specs.declared.node.NodeName.{NodeName}
+use Rattle.sat_label.specs.declared.node.NodeName.TheVariants as named
+use Rattle.sat_label.specs.Members.{In}
+use Rattle.sat_tree.specs.Shape.{TreeShape}
 use Rattle.sat_act.specs.declared.act.Act.{Act}
 use Rattle.sat_act.specs.declared.act.Act.TheVariants.{Settle}
 use Rattle.sat_act.specs.declared.answer.Answer.TheVariants.{Settled}
+use Rattle.sat_act.specs.declared.entry.Entry.{Entry}
 use Rattle.sat_act.specs.Deployed.{Deployed}
+use Rattle.sat_act.specs.Parts.{tree_of}
 use Rattle.sat_act.specs.Settling.{answer_of}
 use Rattle.sat_script.specs.Spelled.{AreActsOf, spelling}
+use Rattle.sat_stream.specs.Laws.{CanBeSpelled}
 use Rattle.sat_report.specs.Holdings.{report}
 use Rattle.sat_runs.specs.Good.{IsGoodRun}
 use Rattle.sat_runs.specs.Runs.{history}
 use Rattle.sat_session.specs.declared.noted.Noted.{Noted}
 use Rattle.sat_session.specs.Owned.{Owned}
 use Rattle.sat_finish.specs.Differences.{IsDifference}
-use Rattle.sat_undone.specs.Undone.{AreDone, AreFronts, undone}
+use Rattle.sat_stitch.specs.Places.{Session, session_of}
+use Rattle.sat_undone.specs.Undone.{AreDone, AreFronts, acts_of, undone, waits}
 use Rattle.sat_outcome.specs.Texts.{differ_text, undone_text, unsettled_text}
 
 -- These are the acts of the one journal of nodes and sessions that did this script. Each of them has a line under the deployment's
@@ -23,7 +31,8 @@ pub record AreActsDone (d : Deployed) (acts done : List Act) : Type 0 where
   pub fronts : AreFronts (reverse (history d done)) acts
 
 -- 0: the text is the script of the acts of the journal, and behind it the report of their history. Each session did all its acts, in
--- their order, or a front of them at whose end its client gave up; and a settle behind them has nothing left to do
+-- their order, or a front of them at whose end its client gave up; and a settle behind them has nothing left to do. And the text has one
+-- reading: no other script is spelled at its beginning, so that who reads it finds these acts
 pub record HasLived (d : Deployed) (acts : List Act) (text : List ℕ) : Type 0 where
   pub done : List Act
   pub journal : AreActsDone d acts done
@@ -31,14 +40,44 @@ pub record HasLived (d : Deployed) (acts : List Act) (text : List ℕ) : Type 0 
   pub moves : ℕ
   pub settled : answer_of d (history d done) Settle ≡ Settled 0 moves
   pub written : text ≡ spelling d done ++ report d (history d done)
+  pub readable : CanBeSpelled d done
+  pub only : (e : Deployed) (others : List Act) (rest : List ℕ) → CanBeSpelled e others → text ≡ spelling e others ++ rest
+      → (d ≡ e) × (done ≡ others) × (report d (history d done) ≡ rest)
 
--- 6: the text tells what a node kept of an act of a session, and what the session kept of it. They are not the same
-pub record HasDiffered (d : Deployed) (text : List ℕ) : Type 0 where
+-- a site of the deployment, or a serializer of an epoch's tree
+abbrev pub IsNodeOf : Deployed → NodeName → Type 0
+IsNodeOf d (named.Site i) = i < d.sites
+IsNodeOf d (named.Serializer e z) = (tree : TreeShape) × (1 ≤ e) × (tree_of d e ≡ Some tree) × (z < length tree.parents)
+
+-- a note of an act that stands for itself, and is no part of a settle, at a node of the deployment
+pub record IsAtNode (d : Deployed) (n : Noted) : Type 0 where
+  pub outer : n.entry.inner ≡ false
+  pub node : (name : NodeName) × (n.at ≡ Some name) × IsNodeOf d name
+
+-- an entry of an act of this session: one of its acts in the script, or an attach that has to wait
+pub record IsTried (s : Session) (acts : List Act) (e : Entry) : Type 0 where
+  pub own : session_of e.act ≡ Some s
+  pub act : (waits e ≡ true) ⊎ In (acts_of s acts) e.act
+
+-- one of the two notes at least is there, and tells of the script: what the session kept is of an act of its own in it; where it kept
+-- nothing, what a node kept is of an act of the script
+abbrev pub TellsAct : List Act → Session → Option Noted → Option Noted → Type 0
+TellsAct acts owner kept (Some n) = IsTried owner acts n.entry
+TellsAct acts owner (Some n) None = In acts n.entry.act
+TellsAct acts owner None None = ⊥
+
+-- 6: the text tells what a node kept of an act of a session, and what the session kept of it. They are not the same. What sessions kept
+-- is of their acts in the script
+pub record HasDiffered (d : Deployed) (acts : List Act) (text : List ℕ) : Type 0 where
   pub nodes : List Owned
   pub sessions : List Owned
+  pub each : (s : Session) (n : Noted) → In sessions (s, n) → IsTried s acts n.entry
   pub node : Option Noted
   pub session : Option Noted
   pub difference : IsDifference nodes sessions node session
+  pub tells : TellsAct acts difference.owner node session
+  pub at_node : IfSome node (IsAtNode d)
+  pub at_session : IfSome session (IsAtNode d)
   pub apart : node ≢ session
   pub written : text ≡ differ_text d node session
 
@@ -66,6 +105,6 @@ pub record HasLeft (d : Deployed) (acts : List Act) (text : List ℕ) : Type 0 w
 -- the text and the status tell of this script; there is no other status
 pub record IsTold (d : Deployed) (acts : List Act) (text : List ℕ) (status : ℕ) : Type 0 where
   pub lived : status ≡ 0 → HasLived d acts text
-  pub differed : status ≡ 6 → HasDiffered d text
+  pub differed : status ≡ 6 → HasDiffered d acts text
   pub left : status ≡ 8 → HasLeft d acts text
   pub statuses : (status ≡ 0) ⊎ (status ≡ 6) ⊎ (status ≡ 8)

@@ -35,7 +35,7 @@ pub fn live<R: Threads + Wait + Sync, G: Gate>(
     let wires = Wires::new(alloc, &copy, LINK_ROOM)?;
     match come::<Brand, R, G>(rt, alloc, copy, wires, d.clients(), acts, gate) {
         Came::Whole(journal) => tell(alloc, &d, acts, journal.as_slice()),
-        Came::Apart { node, session } => tell_apart(alloc, &d, &node, &session),
+        Came::Apart { node, session } => tell_apart(alloc, &d, acts, &node, &session),
         Came::Memory => Err(AllocError),
     }
 }

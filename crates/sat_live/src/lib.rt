@@ -3,7 +3,9 @@
 
 mod launch;
 mod lines;
+mod names;
 mod nodes;
+mod notes;
 mod telling;
 
 pub use launch::live;

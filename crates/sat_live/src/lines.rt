@@ -54,7 +54,7 @@ fn is_hop(d: &Deployment, epoch: u16, from: NodeId, to: u16) -> bool
 }
 
 // Whether an epoch's tree has a serializer.
-fn is_kill(d: &Deployment, epoch: u16, serializer: u16) -> bool
+pub(crate) fn is_kill(d: &Deployment, epoch: u16, serializer: u16) -> bool
     ensures { result ≡ true → IsActOf d.now (Act.Kill epoch serializer) }
 {
     match tree_at(d, epoch) {
@@ -70,7 +70,7 @@ fn are_pair(d: &Deployment, from: u16, to: u16) -> bool
     from < d.sites() && to < d.sites() && from != to
 }
 
-fn is_site(d: &Deployment, site: u16) -> bool
+pub(crate) fn is_site(d: &Deployment, site: u16) -> bool
     ensures { result ≡ true → site < d.now.sites }
 {
     site < d.sites()

@@ -4,6 +4,7 @@ ghost use Rattle.std.specs.List.{AllByRecursion, AllZip};
 ghost use Rattle.sat_act.specs.Ranges.{IsActOf};
 ghost use Rattle.sat_cluster.specs.Clusters.{count_given};
 ghost use Rattle.sat_crew.specs.Crews.{CameBack, IsFresh};
+ghost use Rattle.sat_session.specs.Sessions.{IsSession};
 ghost use Rattle.sat_live.specs.Coming.{AreGiven, IsCame, IsEnded};
 
 use sat_act::{Act, ClientLine, Deployment, Entries};
@@ -96,6 +97,16 @@ fn worked<N: Laid + Names + Send + Sync, R: Threads + Wait + Sync, G: Gate>(
     }
 }
 
+// Tells the prover what is true of every session; it does nothing else when it runs.
+#[tactic(auto, using(crate::proofs::Members::all_next, crate::proofs::Members::all_whole))]
+fn are_sessions<N: Laid>(sessions: &[Session<N>])
+    ensures { AllByRecursion (IsSession N.deployment) sessions.now }
+{
+    'sessions: for session in sessions {
+        let _ = session.number();
+    }
+}
+
 // What nodes and sessions kept.
 #[tactic(auto, using(crate::proofs::Coming::finished))]
 fn ended<N: Laid + Names>(alloc: Global, cluster: Cluster<N>, sessions: Vec<Session<N>>) -> Came
@@ -139,5 +150,6 @@ pub(crate) fn come<N: Laid + Names + Send + Sync, R: Threads + Wait + Sync, G: G
     let Some(sessions) = worked(rt, alloc, &cluster, acts, sessions, gate) else {
         return Came::Memory;
     };
+    are_sessions(sessions.as_slice());
     ended(alloc, cluster, sessions)
 }

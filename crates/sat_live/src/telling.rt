@@ -9,9 +9,11 @@ ghost use Rattle.sat_runs.specs.Running.{IsAnswering};
 ghost use Rattle.sat_outcome.specs.Texts.{differ_text, undone_text, unsettled_text};
 ghost use Rattle.sat_live.specs.Coming.{IsJournalOf};
 ghost use Rattle.sat_live.specs.Told.{IsTold};
-ghost use Rattle.sat_live.specs.Telling.{IsRunTold};
+ghost use Rattle.sat_live.specs.Telling.{CanBeTold, IsRunTold};
 
 use crate::lines::acts_in;
+use crate::names::have_names;
+use crate::notes::can_be_told;
 use sat_act::{Act, Answer, Deployment, Entry};
 use sat_outcome::{write_differ, write_undone, write_unsettled};
 use sat_report::write_holdings;
@@ -19,6 +21,7 @@ use sat_runs::{answer_acts, good_runs};
 use sat_script::write_script;
 use sat_session::Noted;
 use sat_settle::settle;
+use sat_stream::one_beginning;
 use sat_undone::{doing, undone};
 use sat_world::World;
 use std::alloc::{AllocError, Global};
@@ -83,16 +86,22 @@ fn tell_undone(alloc: Global, d: &Deployment, act: &Act) -> Result<Told, AllocEr
     Ok(Told { text, status: 8 })
 }
 
-/// What is told where a node and a session did not keep the same of an act.
+/// What is told where a node and a session did not keep the same of an act of a script. Notes that can't be told, which no node and no
+/// session keeps, are answered as want of memory.
 pub(crate) fn tell_apart(
     alloc: Global,
     d: &Deployment,
+    acts: &[Act],
     node: &Option<Noted>,
     session: &Option<Noted>,
 ) -> Result<Told, AllocError>
     ensures text { IfOk result (λ told. told.text.items ≡ differ_text d.now node.now session.now) }
     ensures status { IfOk result (λ told. told.status ≡ 6) }
+    ensures notes { IfOk result (λ _. CanBeTold d.now acts.now node.now session.now) }
 {
+    if !can_be_told(d, acts, node, session) {
+        return Err(AllocError);
+    }
     let mut text = Vec::new(alloc);
     write_differ(d, node, session, &mut text)?;
     Ok(Told { text, status: 6 })
@@ -146,6 +155,8 @@ pub(crate) fn tell(
     // Brings these laws into the proof; they do nothing when they run.
     good_runs();
     doing();
+    one_beginning();
+    have_names(d);
     let done = acts_in(alloc, d, journal)?;
     let clients = d.clients().len() as u16;
     match undone(alloc, clients, journal, acts)? {

@@ -12,7 +12,7 @@ use Rattle.sat_script.specs.Grammar.{line_at, close_at, close_in, after, is_ende
 use Rattle.sat_script.specs.Kept.{IsFit, IsWhole}
 use Rattle.sat_stream.specs.Coming.{HasSaid, AreWhole}
 use Rattle.sat_stream.specs.Laws.{IsSound}
-use Rattle.sat_stream.specs.Reading.{reading, nothing, script_from, with_line, closed, after_line}
+use Rattle.sat_stream.specs.Reading.{reading, nothing, script_from, with_line, closed, after_line, good}
 use Rattle.sat_script.specs.Spelled.{AreActsOf, HaveNames}
 use Rattle.sat_script.specs.State.{State, start}
 use Rattle.sat_stream.specs.Stream.{WholeLines, Came, means, will_be, known_fault, kept, meaning, goes_on, onto_front, behind, without_acts, drained, LacksOnlyItsEnd}
@@ -122,6 +122,12 @@ from_sound s r [] so = closed_sound s r (close_at s []) so
 from_sound s r (rest ∷ []) so = closed_sound s r (close_at s rest) so
 from_sound s r (line ∷ part ∷ parts) so =
     after_sound s r line (λ later more. script_from later more (part ∷ parts)) so (λ p next. from_sound (after s p) (with_line s.header r (told_line p)) (part ∷ parts) next) (line_at s line) refl
+
+-- whatever comes behind the line `begin`
+pub begun_stays : (dialect : Dialect) (d : Deployed) (parts : List (List ℕ)) → IsFit (record { dialect = dialect; stage = stage.Body; header = d; acts = 0; settles = 0 })
+    → (script_from (record { dialect = dialect; stage = stage.Body; header = d; acts = 0; settles = 0 }) (good d []) parts).deployment ≡ Some d
+begun_stays dialect d parts fit =
+    (from_sound (record { dialect = dialect; stage = stage.Body; header = d; acts = 0; settles = 0 }) (good d []) parts (record { fit = fit; said = (refl, tt, tt); few = omega arith })).stays d refl
 
 whole_deployment : (o : Option Deployed) (acts : List Act) → IfSome o (λ d. IsWhole d × AreActsOf d acts) → IfSome o (λ d. IsDeployment d × HaveNames d × AreActsOf d acts)
 whole_deployment None acts w = tt

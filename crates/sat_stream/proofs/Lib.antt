@@ -9,3 +9,4 @@ pub mod Whole
 pub mod Coming
 pub mod Faulty
 pub mod Drained
+pub mod Begins

@@ -1,5 +1,5 @@
 -- The spelling of a deployment and acts of it is read as them.
-use Rattle.std.proofs.Common.{◌≡◌, ℕ, ◌+◌, ◌-◌, ◌<◌, ◌≤◌, ◌^◌, Bool, true, false, not, cond, eqb, ltb, List, [], ◌∷◌, ◌++◌, length, filter, Some, None, Ok, sym, ap, ◌∙◌, refl, subst, arith}
+use Rattle.std.proofs.Common.{◌≡◌, ℕ, ◌+◌, ◌-◌, ◌<◌, ◌≤◌, ◌^◌, Bool, true, false, not, cond, eqb, ltb, List, [], ◌∷◌, ◌++◌, length, filter, Some, Ok, sym, ap, ◌∙◌, refl, subst, arith}
 use Rattle.std.specs.List.{slice_split, slice_get, list_any, AllByRecursion}
 use Rattle.std.specs.Prelude.{codes}
 use Rattle.std.specs.Fmt.{decimal}
@@ -273,8 +273,8 @@ limits : (live : Bool) (d : Deployed) (acts : List Act) → IsDeployment d → l
 limits true d acts is few settles h = h
 limits false d acts is few settles h = record { sites = is.few_sites; clients = is.few_clients; few = few; settles = settles; each = all_free acts }
 
-spelled_flat : (a b c i f p e rest : List ℕ) → (a ++ (b ++ (c ++ (i ++ (f ++ p))))) ++ (e ++ rest) ≡ a ++ (b ++ (c ++ (i ++ (f ++ (p ++ (e ++ rest))))))
-spelled_flat a b c i f p e rest = simp append_assoc
+header_flat : (a b c i f p rest : List ℕ) → (a ++ (b ++ (c ++ (i ++ (f ++ p))))) ++ rest ≡ a ++ (b ++ (c ++ (i ++ (f ++ (p ++ rest)))))
+header_flat a b c i f p rest = simp append_assoc
 
 first_lines : (dialect : Dialect) (d : Deployed) (rest : List ℕ) → IsDeployment d → d.sites ≤ (limits_of dialect).sites
     → (script_from (start dialect) nothing (slice_split is_newline (ended (codes "saturn" ∷ codes "1" ∷ []) ++ (ended (codes "sites" ∷ decimal d.sites ∷ []) ++ (ended (codes "gears" ∷ decimal d.gears ∷ []) ++ rest))))
@@ -298,32 +298,47 @@ first_lines dialect d rest is few =
       f3,
     )
 
+-- the lines before `begin`, whatever comes behind them
+pub header_reads : (dialect : Dialect) (d : Deployed) (rest : List ℕ) → IsDeployment d → HaveNames d → d.sites ≤ (limits_of dialect).sites → length d.clients ≤ (limits_of dialect).clients
+    → (script_from (start dialect) nothing (slice_split is_newline (header_text d ++ rest)) ≡ script_from (lines dialect d) nothing (slice_split is_newline rest)) × IsFit (lines dialect d)
+unfolding header_text
+header_reads dialect d rest is names sites few =
+    let plan_text : List ℕ = plans_text d.plans ++ rest in
+    let first = first_lines dialect d (items_text d.items ++ (clients_text d.clients ++ plan_text)) is sites in
+    let items = items_read dialect d [] d.items nothing (clients_text d.clients ++ plan_text) is names first.1 refl in
+    let clients = clients_read dialect d [] d.clients nothing plan_text is names few items.1 refl in
+    let plans = plans_read dialect d [] d.plans nothing rest is clients.1 refl in (
+      ap (λ (bs : List ℕ). script_from (start dialect) nothing (slice_split is_newline bs))
+          (header_flat (ended (codes "saturn" ∷ codes "1" ∷ [])) (ended (codes "sites" ∷ decimal d.sites ∷ [])) (ended (codes "gears" ∷ decimal d.gears ∷ [])) (items_text d.items) (clients_text d.clients) (plans_text d.plans) rest)
+          ∙ first.0
+          ∙ items.0
+          ∙ clients.0
+          ∙ plans.0,
+      plans.1,
+    )
+
+-- and `begin`
+pub begin_goes : (dialect : Dialect) (d : Deployed) (rest : List ℕ) → IsDeployment d → IsFit (lines dialect d)
+    → (script_from (lines dialect d) nothing (slice_split is_newline (ended (codes "begin" ∷ []) ++ rest)) ≡ script_from (after (lines dialect d) parsed.Begin) (good d []) (slice_split is_newline rest)) × IsFit (after (lines dialect d) parsed.Begin)
+begin_goes dialect d rest is fit =
+    let s : State = lines dialect d in
+    let some = is.some_plan in (
+      line_step s nothing (codes "begin" ∷ []) rest parsed.Begin (line_fits stage.Header s parsed.Begin fit.header is.few_sites some) refl (header_line_reads s (codes "begin" ∷ []) parsed.Begin refl (begin_reads s some)),
+      stands_after s parsed.Begin fit some,
+    )
+
 last_lines : (dialect : Dialect) (d : Deployed) (acts : List Act) → IsDeployment d → IsFit (lines dialect d) → AreActsOf d acts → AreAllowed dialect acts → length acts ≤ (limits_of dialect).acts → settles_of acts ≤ (limits_of dialect).settles
     → script_from (lines dialect d) nothing (slice_split is_newline (ended (codes "begin" ∷ []) ++ (acts_text d acts ++ ended (codes "end" ∷ [])))) ≡ good d acts
 last_lines dialect d acts is fit each free few settles =
-    let s : State = lines dialect d in
-    let some = is.some_plan in
-    let body = stands_after s parsed.Begin fit some in
-    let rest : List ℕ = acts_text d acts ++ ended (codes "end" ∷ []) in
-    line_step s nothing (codes "begin" ∷ []) rest parsed.Begin (line_fits stage.Header s parsed.Begin fit.header is.few_sites some) refl (header_line_reads s (codes "begin" ∷ []) parsed.Begin refl (begin_reads s some))
-    ∙ body_reads dialect d acts 0 0 (record { deployment = Some d; acts = []; fault = None }) body.header each free (omega (arith, few)) (omega (arith, settles))
+    let body = begin_goes dialect d (acts_text d acts ++ ended (codes "end" ∷ [])) is fit in
+    body.0 ∙ body_reads dialect d acts 0 0 (good d []) body.1.header each free (omega (arith, few)) (omega (arith, settles))
 
 pub spelled_reads : (live : Bool) (text : List ℕ) (d : Deployed) (acts : List Act) → Spells text d acts → IsAllowed live d acts → reading live text ≡ good d acts
-unfolding reading spelling header_text
+unfolding reading spelling
 spelled_reads live text d acts s free =
     let is = s.deployment in
     let most = limits live d acts is s.few s.settles free in
-    let body_text : List ℕ = acts_text d acts ++ ended (codes "end" ∷ []) in
-    let begin_text : List ℕ = ended (codes "begin" ∷ []) ++ body_text in
-    let plan_text : List ℕ = plans_text d.plans ++ begin_text in
-    let first = first_lines (dialect_of live) d (items_text d.items ++ (clients_text d.clients ++ plan_text)) is most.sites in
-    let items = items_read (dialect_of live) d [] d.items nothing (clients_text d.clients ++ plan_text) is s.names first.1 refl in
-    let clients = clients_read (dialect_of live) d [] d.clients nothing plan_text is s.names most.clients items.1 refl in
-    let plans = plans_read (dialect_of live) d [] d.plans nothing begin_text is clients.1 refl in
-    ap (λ (bs : List ℕ). script_from (start (dialect_of live)) nothing (slice_split is_newline bs))
-    (s.spelled ∙ spelled_flat (ended (codes "saturn" ∷ codes "1" ∷ [])) (ended (codes "sites" ∷ decimal d.sites ∷ [])) (ended (codes "gears" ∷ decimal d.gears ∷ [])) (items_text d.items) (clients_text d.clients) (plans_text d.plans) (ended (codes "begin" ∷ [])) body_text)
-    ∙ first.0
-    ∙ items.0
-    ∙ clients.0
-    ∙ plans.0
-    ∙ last_lines (dialect_of live) d acts is plans.1 s.each most.each most.few most.settles
+    let header = header_reads (dialect_of live) d (ended (codes "begin" ∷ []) ++ (acts_text d acts ++ ended (codes "end" ∷ []))) is s.names most.sites most.clients in
+    ap (λ (bs : List ℕ). script_from (start (dialect_of live)) nothing (slice_split is_newline bs)) s.spelled
+    ∙ header.0
+    ∙ last_lines (dialect_of live) d acts is header.1 s.each most.each most.few most.settles

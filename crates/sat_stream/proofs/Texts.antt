@@ -105,7 +105,7 @@ line_is_text (a ∷ b ∷ words) h =
     let more = line_is_text (b ∷ words) h.1 in
     rw (list_all-append (is_between 32 126) a (32 ∷ line_text (b ∷ words)), front, more) refl
 
-again : (words : List (List ℕ)) → AllByRecursion IsWord words → 0 < length words → words_of (line_text words) ≡ words
+pub again : (words : List (List ℕ)) → AllByRecursion IsWord words → 0 < length words → words_of (line_text words) ≡ words
 again [] h some = absurd (omega arith)
 again (a ∷ []) h some = slice_split_none is_blank a (lacks is_blank (is_between 33 126) no_blank a h.0)
 again (a ∷ b ∷ words) h some =
@@ -210,7 +210,7 @@ keyword_fits (act.Bulk i g j None) = (refl, omega arith)
 keyword_fits (act.Bulk i g j (Some n)) = (refl, omega arith)
 keyword_fits _ = (refl, omega arith)
 
-act_line_fits : (d : Deployed) (a : Act) → IsWhole d → IsActOf d a → IsLine (act_words d a)
+pub act_line_fits : (d : Deployed) (a : Act) → IsWhole d → IsActOf d a → IsLine (act_words d a)
 unfolding act_words
 act_line_fits d a is fits =
     let first = keyword_fits a in

@@ -7,5 +7,5 @@ mod script;
 mod stream;
 
 pub use limits::{BYTES_END, LINE_BYTES, MOST_BYTES};
-pub use script::{Script, one_spelling, read_script, sound_readings};
+pub use script::{Script, one_beginning, one_spelling, read_script, sound_readings};
 pub use stream::{Reading, ScriptReader};

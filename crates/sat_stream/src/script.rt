@@ -2,7 +2,7 @@
 ghost use Rattle.std.specs.Prelude.{◌≡◌, ◌≢◌, ℕ, Bool, List, IfOk, IfErr, Some, None};
 ghost use Rattle.sat_act.specs.declared.act.Act.{Act};
 ghost use Rattle.sat_act.specs.Deployed.{Deployed};
-ghost use Rattle.sat_stream.specs.Laws.{IsRead, IsSound};
+ghost use Rattle.sat_stream.specs.Laws.{IsRead, IsSound, SpellingsBeginOnce};
 ghost use Rattle.sat_script.specs.Laws.{ActsAreSpelled, ActsAreRead};
 ghost use Rattle.sat_stream.specs.Reading.{reading, good, IsAllowed};
 ghost use Rattle.sat_script.specs.Spelled.{Spells};
@@ -26,6 +26,12 @@ pub fn one_spelling()
     ensures found { (live : Bool) (text : List ℕ) (d : Deployed) (acts : List Act) → Spells text d acts → IsAllowed live d acts → reading live text ≡ good d acts }
     ensures acts_spelled { ActsAreSpelled }
     ensures acts_read { ActsAreRead }
+{}
+
+/// A text begins with at most one spelling, whatever stands behind it and however many acts it is of: so who reads a text that is the
+/// spelling of a history's acts and more finds that deployment and these acts, and no others.
+pub fn one_beginning()
+    ensures { SpellingsBeginOnce }
 {}
 
 /// What is read of any text, also of one with a fault, is a deployment within its limits and acts of it, no more than there may be; and

@@ -16,6 +16,6 @@ returns-in-Some c =
 pub returns : goal.returns
 returns c =
     let none : undone c.args.journal.now c.args.acts.now ≡ None = search rules in
-    told_run c.args.d.now c.args.acts.now c.args.journal.now c.tell_run.result c.good_runs.ensures c.doing.ensures.done c.clients.ensures.limits (subst (AreActsOf c.args.d.now) c.in_ok-done.ensures.acts c.in_ok-done.ensures.each)
+    told_run c.args.d.now c.args.acts.now c.args.journal.now c.tell_run.result c.good_runs.ensures c.doing.ensures.done c.one_beginning.ensures c.clients.ensures.limits c.have_names.ensures (subst (AreActsOf c.args.d.now) c.in_ok-done.ensures.acts c.in_ok-done.ensures.each)
     c.requires.journal none
     (subst (λ (done : List Act). IfOk c.tell_run.result (λ told. IsRunTold c.args.d.now done told.text.items told.status)) (c.as_slice.ensures.value ∙ c.in_ok-done.ensures.acts) c.tell_run.ensures)

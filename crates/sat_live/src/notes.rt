@@ -1,0 +1,84 @@
+//! What may be told of two notes that are not the same.
+ghost use Rattle.std.specs.Prelude.{◌≡◌, true, None, IfSome};
+ghost use Rattle.sat_label.specs.Members.{In};
+ghost use Rattle.sat_live.specs.Told.{IsAtNode, IsNodeOf};
+ghost use Rattle.sat_live.specs.Telling.{CanBeTold};
+
+use crate::lines::{is_kill, is_site};
+use sat_act::{Act, Deployment};
+use sat_label::NodeName;
+use sat_session::Noted;
+
+// Whether a name is that of a node of the deployment.
+fn is_node(d: &Deployment, name: NodeName) -> bool
+    ensures { result ≡ true → IsNodeOf d.now name }
+{
+    match name {
+        NodeName::Site(site) => is_site(d, site),
+        NodeName::Serializer { epoch, number } => is_kill(d, epoch, number),
+    }
+}
+
+// Whether a note is of an act that stands for itself, at a node of the deployment.
+fn is_at_node(d: &Deployment, noted: &Noted) -> bool
+    ensures { result ≡ true → IsAtNode d.now noted.now }
+{
+    let Some(name) = noted.at else {
+        return false;
+    };
+    !noted.entry.inner && is_node(d, name)
+}
+
+fn is_at_node_if(d: &Deployment, noted: &Option<Noted>) -> bool
+    ensures { result ≡ true → IfSome noted.now (IsAtNode d.now) }
+{
+    match noted {
+        Some(noted) => is_at_node(d, noted),
+        None => true,
+    }
+}
+
+// Whether two acts are one.
+fn is_same(a: &Act, b: &Act) -> bool
+    ensures { result ≡ true → a.now ≡ b.now }
+{
+    *a == *b
+}
+
+// Whether an act is one of these.
+fn is_among(acts: &[Act], act: &Act) -> bool
+    ensures { result ≡ true → In acts.now act.now }
+{
+    for other in acts {
+        if is_same(other, act) {
+            return true;
+        }
+    }
+    false
+}
+
+// Whether the act of a node's note is one of these, where no session has a note beside it.
+fn is_of_script(acts: &[Act], node: &Option<Noted>, session: &Option<Noted>) -> bool
+    ensures { result ≡ true → session.now ≡ None → IfSome node.now (λ n. In acts.now n.entry.act) }
+{
+    if session.is_some() {
+        return true;
+    }
+    match node {
+        Some(node) => is_among(acts, &node.entry.act),
+        None => true,
+    }
+}
+
+/// Whether two notes can be told: each is of an act at a node of the deployment; and where only the node's is there, its act is one of
+/// these. All that nodes and sessions keep is so: a session does only acts of the script, and nodes do no others for it.
+pub(crate) fn can_be_told(
+    d: &Deployment,
+    acts: &[Act],
+    node: &Option<Noted>,
+    session: &Option<Noted>,
+) -> bool
+    ensures { result ≡ true → CanBeTold d.now acts.now node.now session.now }
+{
+    is_at_node_if(d, node) && is_at_node_if(d, session) && is_of_script(acts, node, session)
+}
