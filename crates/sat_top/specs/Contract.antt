@@ -10,7 +10,7 @@ use Rattle.sat_top.specs.declared.words.Command.{Command}
 use Rattle.sat_top.specs.declared.words.Command.TheVariants.{Run, Draw, Plan, Place}
 use Rattle.sat_top.specs.Words.{command_of, is_live}
 use Rattle.sat_top.specs.Living.{MeetsLive}
-use Rattle.sat_top.specs.Streaming.{WroteBefore, BrokeOff, GaveUp}
+use Rattle.sat_top.specs.Streaming.{WroteBefore, BrokeOff, GaveUp, StopsReadingOf}
 use Rattle.sat_top.specs.Whole.{IsTextOf, TakesFront, IsDone, IsRefused, reads, refusal, command_status, command_output}
 
 -- how many bytes a command takes at the most, however many the source has: its longest input, and one piece
@@ -41,6 +41,8 @@ pub record MeetsCommand (command : Option Command) (status : ℕ) (left left_aft
   pub statuses : status ≤ 5
   -- the bytes taken have a bound
   pub bounded : (taken : List ℕ) × Consumes left left_after taken × (length taken ≤ most_taken command)
+  -- and no more are taken once the first bad line of a script that is run is known
+  pub stops : StopsReadingOf command left left_after
   -- no count of faults falls
   pub later : (failed ≤ failed_after) × (refused ≤ refused_after)
   -- where neither has failed, the status is that of the words and the text, unless memory ran out

@@ -12,7 +12,7 @@ ghost use Rattle.sat_place.specs.Shape.{shape_reading};
 ghost use Rattle.sat_stream.specs.declared.limits.TheConstants.{MOST_BYTES as MOST_SCRIPT_BYTES};
 ghost use Rattle.sat_delay.specs.declared.read.TheConstants.{MOST_BYTES as MOST_DELAY_BYTES};
 ghost use Rattle.sat_top.specs.declared.stream.TheConstants.{BUFFER_BYTES};
-ghost use Rattle.sat_top.specs.Streaming.{HasAnswered, HasFront, WasAnswering};
+ghost use Rattle.sat_top.specs.Streaming.{HasAnswered, HasFront, StopsReading, WasAnswering};
 ghost use Rattle.sat_top.specs.Whole.{IsOutput, IsTextOf, TakesFront, run_status};
 ghost use Rattle.sat_top.specs.Living.{HasReadLines};
 ghost use Rattle.sat_top.specs.UnderWay.{DoesMore, Ends, EndsBefore, IsKnown, IsWorldOf};
@@ -121,6 +121,8 @@ pub fn run_script<S: Source, K: Sink>(
     ensures end { IfOk result (λ status. status ≡ 0 → IsAtEnd (S.left source.new)) }
     // The bytes taken have a bound, however much the source has.
     ensures bounded { (taken : List ℕ) × Consumes (S.left source.old) (S.left source.new) taken × (length taken ≤ MOST_SCRIPT_BYTES + BUFFER_BYTES) }
+    // No more is read once the first bad line is known.
+    ensures stops { StopsReading false (S.left source.old) (S.left source.new) }
     ensures failed { IsErrOf result Halt.Source → Rose (S.faults source.old) (S.faults source.new) }
     ensures answered { IsErrOf result Halt.Source → HasAnswered (S.left source.old) (S.left source.new) (K.told sink.old) (K.told sink.new) }
     ensures refused { IsErrOf result Halt.Sink → Rose (K.faults sink.old) (K.faults sink.new) }
