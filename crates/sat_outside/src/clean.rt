@@ -1,8 +1,8 @@
 //! A source and a sink in memory that never fail.
-ghost use Rattle.std.specs.Prelude.{◌≡◌, ℕ, ◌-◌, ◌<◌, ◌≤◌, ◌++◌, List, [], length, take, drop, min, Some, IfOk, IfSome, MatchResult, vec_len, vec_capacity, if◌then◌else◌};
+ghost use Rattle.std.specs.Prelude.{◌≡◌, ◌==◌, ℕ, ◌+◌, ◌-◌, ◌^◌, ◌<◌, ◌≤◌, ◌++◌, List, [], length, take, drop, min, Some, IfOk, IfSome, MatchResult, vec_len, vec_capacity, if◌then◌else◌};
 ghost use Rattle.std.specs.Io.{ReadsAtMost};
 ghost use Rattle.std.specs.Io.KnownBytes.{ReadConsumes};
-ghost use Rattle.sat_outside.specs.Causes.{HasCause};
+ghost use Rattle.sat_outside.specs.Causes.{CountsEnds, HasCause};
 ghost use Rattle.sat_outside.specs.Streams.{Takes, told_within, none_told, flagged-appends};
 
 use crate::{Failed, Sink, Source};
@@ -18,12 +18,23 @@ pub(crate) fn give(from: &[u8], into: &mut [u8]) -> usize
     count
 }
 
+/// A count of ends behind a read that gave so many bytes.
+pub(crate) fn ends_behind(ends: u64, count: usize) -> u64
+    ensures { result ≡ (if count == 0 then min (ends + 1) (2 ^ 64 - 1) else ends) }
+{
+    if count == 0 {
+        return ends.saturating_add(1);
+    }
+    ends
+}
+
 /// Gives bytes of its own, at most a piece at each call.
 #[derive(Drop)]
 pub struct CleanSource {
     bytes: Vec<u8>,
     at: usize,
     piece: usize,
+    ends: u64,
     ghost within: { at ≤ vec_len bytes },
     ghost moves: { 0 < piece },
 }
@@ -35,12 +46,14 @@ impl CleanSource {
     pub fn new(bytes: Vec<u8>, piece: usize) -> CleanSource
         requires { 0 < piece }
         ensures left { ⟦<CleanSource as Source>⟧.left result ≡ Some bytes.items }
+        ensures ends { ⟦<CleanSource as Source>⟧.ends result ≡ 0 }
         ensures piece { source_piece result ≡ piece }
     {
         CleanSource {
             bytes,
             at: 0,
             piece,
+            ends: 0,
         }
     }
 }
@@ -52,11 +65,14 @@ impl Source for CleanSource {
 
     ghost faults = { λ _. 0 };
 
+    ghost ends = { λ s. s.ends };
+
     fn read(&mut self, into: &mut [u8]) -> Result<usize, Failed>
         requires { 0 < length into.old }
         ensures count { ReadsAtMost result into.new }
         ensures bytes { ReadConsumes (Some (drop self.old.at self.old.bytes.items)) (Some (drop self.new.at self.new.bytes.items)) result into.new }
         ensures cause { HasCause 0 0 result }
+        ensures ends { CountsEnds self.old.ends self.new.ends result }
 
         // It gives a whole piece, where there is room for it and as much is left.
         ensures most { IfOk result (λ n. n ≡ min (min (length into.old) (source_piece self.old)) (length (drop self.old.at self.old.bytes.items))) }
@@ -65,6 +81,7 @@ impl Source for CleanSource {
         let most = into.len().min(self.piece);
         let count = give(&self.bytes[self.at..], &mut into[..most]);
         self.at += count;
+        self.ends = ends_behind(self.ends, count);
         Ok(count)
     }
 }

@@ -2,10 +2,10 @@
 ghost use Rattle.std.specs.Prelude.{◌≡◌, ℕ, ◌+◌, ◌-◌, ◌^◌, ◌<◌, ◌≤◌, ◌↔◌, ◌⊎◌, List, [], length, take, drop, min, All, Contains, Some, IfOk, IfSome, IsErr, MatchResult, vec_len, vec_capacity};
 ghost use Rattle.std.specs.Io.{ReadsAtMost};
 ghost use Rattle.std.specs.Io.KnownBytes.{ReadConsumes};
-ghost use Rattle.sat_outside.specs.Causes.{CountsFaults, HasCause};
+ghost use Rattle.sat_outside.specs.Causes.{CountsEnds, CountsFaults, HasCause};
 ghost use Rattle.sat_outside.specs.Streams.{Takes, all_told, all_told-appends};
 
-use crate::clean::give;
+use crate::clean::{ends_behind, give};
 use crate::{Failed, Sink, Source};
 use std::alloc::{AllocError, Global};
 
@@ -18,6 +18,7 @@ pub struct MemorySource {
     failing: Vec<u64>,
     calls: u64,
     faults: u64,
+    ends: u64,
     ghost within: { at ≤ vec_len bytes },
     ghost moves: { 0 < piece },
 }
@@ -33,6 +34,7 @@ impl MemorySource {
         requires counted { All (λ call. call < 2 ^ 64 - 1) failing.items }
         ensures left { ⟦<MemorySource as Source>⟧.left result ≡ Some bytes.items }
         ensures faults { ⟦<MemorySource as Source>⟧.faults result ≡ 0 }
+        ensures ends { ⟦<MemorySource as Source>⟧.ends result ≡ 0 }
         ensures calls { source_calls result ≡ 0 }
         ensures failing { source_failing result ≡ failing.items }
         ensures piece { source_piece result ≡ piece }
@@ -44,6 +46,7 @@ impl MemorySource {
             failing,
             calls: 0,
             faults: 0,
+            ends: 0,
         }
     }
 }
@@ -55,11 +58,14 @@ impl Source for MemorySource {
 
     ghost faults = { λ s. s.faults };
 
+    ghost ends = { λ s. s.ends };
+
     fn read(&mut self, into: &mut [u8]) -> Result<usize, Failed>
         requires { 0 < length into.old }
         ensures count { ReadsAtMost result into.new }
         ensures bytes { ReadConsumes (Some (drop self.old.at self.old.bytes.items)) (Some (drop self.new.at self.new.bytes.items)) result into.new }
         ensures cause { HasCause self.old.faults self.new.faults result }
+        ensures ends { CountsEnds self.old.ends self.new.ends result }
 
         // It fails at the calls that are listed, and at no others.
         ensures fails { IsErr result ↔ Contains (source_failing self.old) (source_calls self.old) }
@@ -80,6 +86,7 @@ impl Source for MemorySource {
         let most = into.len().min(self.piece);
         let count = give(&self.bytes[self.at..], &mut into[..most]);
         self.at += count;
+        self.ends = ends_behind(self.ends, count);
         Ok(count)
     }
 }

@@ -2,9 +2,10 @@
 ghost use Rattle.std.specs.Prelude.{◌≡◌, ℕ, ◌<◌, ◌≤◌, length, take, [], IfOk, MatchResult};
 ghost use Rattle.std.specs.Io.{ReadsAtMost};
 ghost use Rattle.std.specs.Io.KnownBytes.{ReadConsumes, WriteAppends};
-ghost use Rattle.sat_outside.specs.Causes.{CountsFaults, HasCause};
+ghost use Rattle.sat_outside.specs.Causes.{CountsEnds, CountsFaults, HasCause};
 ghost use Rattle.sat_outside.specs.Streams.{Takes, none_told, none_told-appends};
 
+use crate::clean::ends_behind;
 use crate::{Failed, Sink, Source};
 use std::io::{Read, Write};
 
@@ -13,14 +14,20 @@ use std::io::{Read, Write};
 pub struct StdSource<R: Read + Drop> {
     reader: R,
     faults: u64,
+    ends: u64,
 }
 
 impl<R: Read + Drop> StdSource<R> {
     /// A source over a reader, as that of standard input. Its count of faults rises at each error, up to 2^64 - 1.
     pub fn new(reader: R) -> StdSource<R>
-        ensures { ⟦<StdSource<R> as Source>⟧.faults result ≡ 0 }
+        ensures faults { ⟦<StdSource<R> as Source>⟧.faults result ≡ 0 }
+        ensures ends { ⟦<StdSource<R> as Source>⟧.ends result ≡ 0 }
     {
-        StdSource { reader, faults: 0 }
+        StdSource {
+            reader,
+            faults: 0,
+            ends: 0,
+        }
     }
 }
 
@@ -29,15 +36,21 @@ impl<R: Read + Drop> Source for StdSource<R> {
 
     ghost faults = { λ s. s.faults };
 
+    ghost ends = { λ s. s.ends };
+
     fn read(&mut self, into: &mut [u8]) -> Result<usize, Failed>
         requires { 0 < length into.old }
         ensures count { ReadsAtMost result into.new }
         ensures bytes { ReadConsumes (R.remaining self.old.reader) (R.remaining self.new.reader) result into.new }
         ensures cause { HasCause self.old.faults self.new.faults result }
+        ensures ends { CountsEnds self.old.ends self.new.ends result }
         ensures faults { CountsFaults self.old.faults self.new.faults result }
     {
         match self.reader.read(into) {
-            Ok(count) => Ok(count),
+            Ok(count) => {
+                self.ends = ends_behind(self.ends, count);
+                Ok(count)
+            }
             Err(_) => {
                 self.faults = self.faults.saturating_add(1);
                 Err(Failed)

@@ -3,7 +3,7 @@ ghost use Rattle.std.specs.Prelude.{ℕ, ◌<◌, ◌≤◌, List, [], length, t
 ghost use Rattle.std.specs.declared.option.Option.{Option};
 ghost use Rattle.std.specs.Io.{ReadsAtMost};
 ghost use Rattle.std.specs.Io.KnownBytes.{ReadConsumes};
-ghost use Rattle.sat_outside.specs.Causes.{HasCause};
+ghost use Rattle.sat_outside.specs.Causes.{CountsEnds, HasCause};
 ghost use Rattle.sat_outside.specs.Streams.{Appends, Takes};
 
 /// A read or a write didn't happen: nothing was given or taken, and the count of faults rose.
@@ -18,13 +18,17 @@ pub trait Source {
     /// How often it has failed. It never falls.
     ghost faults: { Self → ℕ };
 
+    /// How often it has said that none are left.
+    ghost ends: { Self → ℕ };
+
     /// Puts some of the bytes that are left, the first ones, into the front of a slice that isn't empty, and answers how many.
     /// 0 means that none are left. `Failed` comes only where the count of faults rose in this call, or stands at 2^64 - 1.
     fn read(&mut self, into: &mut [u8]) -> Result<usize, Failed>
         requires { 0 < length into.old }
         ensures count { ReadsAtMost result into.new }
         ensures bytes { ReadConsumes (left self.old) (left self.new) result into.new }
-        ensures cause { HasCause (faults self.old) (faults self.new) result };
+        ensures cause { HasCause (faults self.old) (faults self.new) result }
+        ensures ends { CountsEnds (ends self.old) (ends self.new) result };
 }
 
 /// Where bytes go to. What it holds is known only where it tells it.

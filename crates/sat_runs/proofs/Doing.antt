@@ -1,5 +1,5 @@
 -- What one act does to a world, be it a settle or not.
-use Rattle.std.proofs.Common.{◌≡◌, false, List, ◌∷◌, Result, Ok, Err, IfOk, OnErr, refl, sym, ap, ◌∙◌}
+use Rattle.std.proofs.Common.{◌≡◌, true, false, List, [], ◌∷◌, Result, Ok, Err, IfOk, OnErr, refl, sym, ap, subst, ◌∙◌}
 use Rattle.sat_act.specs.declared.act.Act.{Act}
 use Rattle.sat_act.specs.declared.act.Act.TheVariants as act
 use Rattle.sat_act.specs.declared.answer.Answer.{Answer}
@@ -11,7 +11,8 @@ use Rattle.sat_act.specs.Settling.{answer_of, settle, with_inner}
 use Rattle.sat_world.specs.Seen.{WorldSeen}
 use Rattle.sat_world.specs.Stands.{StandsFor}
 use Rattle.sat_world.specs.Applies.{Applies}
-use Rattle.sat_runs.specs.Running.{entry, Does}
+use Rattle.sat_settle.specs.Going.{StopsBefore}
+use Rattle.sat_runs.specs.Running.{entry, Does, StopsIn}
 
 pub is_plain : (a : Act) → (a ≡ act.Settle → ⊥) → is_settle a ≡ false
 is_plain act.Settle other = absurd (other refl)
@@ -61,3 +62,23 @@ stays (Err e) old new a applies err = ap (λ (w : WorldSeen). w.deployment) err
 pub both_of : {E : Type 0} (P Q R : Answer → Type 0) (result : Result Answer E) → ((r : Answer) → P r → Q r → R r) → IfOk result P → IfOk result Q → IfOk result R
 both_of P Q R (Ok r) gives p q = gives r p q
 both_of P Q R (Err e) gives p q = tt
+
+-- ---- memory runs out
+
+pub stayed : {E : Type 0} (x : Result Answer E) (old new : WorldSeen) (a : Act) → (a ≡ act.Settle → ⊥) → OnErr x (new ≡ old) → OnErr x (StopsIn old a new)
+stayed (Ok r) old new a other err = tt
+stayed (Err e) old new a other err = record {
+  plain = λ _. err;
+  front = λ h run now. record { now = h; stands = subst (λ (w : WorldSeen). StandsFor w h) (sym err) now; run = run; from = ([], refl); to = ([], plain-inner old.deployment h a (is_plain a other)) };
+}
+
+abbrev StopsSettling : WorldSeen → WorldSeen → Type 0
+StopsSettling old new = (h : List Entry) → IsRun old.deployment h → StandsFor old h → StopsBefore old.deployment h (settle old.deployment h).1 new
+
+pub stopped : {E : Type 0} (x : Result Answer E) (old new : WorldSeen) (a : Act) → a ≡ act.Settle → OnErr x (StopsSettling old new) → OnErr x (StopsIn old a new)
+unfolding with_inner
+stopped (Ok r) old new a is err = tt
+stopped (Err e) old new a is err = record {
+  plain = λ plain. absurd (let never : true ≡ false = sym (ap is_settle is) ∙ plain in cc);
+  front = λ h run now. rw is (err h run now);
+}

@@ -1,8 +1,8 @@
 -- One act more.
-use Rattle.std.proofs.Common.{Result, Ok, Err, OnOk, ◌<◌, drop, arith, ◌≡◌, ℕ, ◌+◌, List, [], ◌∷◌, ◌++◌, length, refl, sym, ap, subst, ◌∙◌}
+use Rattle.std.proofs.Common.{Result, Ok, Err, OnOk, OnErr, ◌<◌, take, drop, get_or, arith, ◌≡◌, ℕ, ◌+◌, List, [], ◌∷◌, ◌++◌, length, refl, sym, ap, subst, ◌∙◌}
 use Rattle.std.specs.Prelude.{Option, None, Some, IfOk}
 use Rattle.std.specs.List.{AllByRecursion}
-use Rattle.std.proofs.lemmas.List.{append-nil, append_assoc, reverse-append, length-append, drop_more}
+use Rattle.std.proofs.lemmas.List.{append-nil, append_assoc, reverse-append, length-append, drop_more, take-append-drop}
 use Rattle.sat_act.specs.declared.act.Act.{Act}
 use Rattle.sat_act.specs.declared.act.Act.TheVariants as act
 use Rattle.sat_act.specs.declared.answer.Answer.{Answer}
@@ -22,7 +22,9 @@ use Rattle.sat_report.specs.Answers.{answers, answer_line, answer_text, printed_
 use Rattle.sat_report.specs.Frames.{framed}
 use Rattle.sat_report.proofs.Frames.{as_line}
 use Rattle.sat_runs.specs.Runs.{history}
-use Rattle.sat_runs.specs.Running.{entry, HasDone, Does, IsRunning, IsAnswering, IsWritten}
+use Rattle.sat_settle.specs.Going.{Extends, StopsBefore}
+use Rattle.sat_runs.specs.Running.{entry, HasDone, Does, StopsIn, IsRunning, IsAnswering, HasLines, HasSomeLines}
+use Rattle.sat_runs.specs.OneLine.{IsWritten, HasLine, StopsOnTheWay}
 
 -- ---- the entries of a settle's acts
 
@@ -98,14 +100,54 @@ answers_more old new text more number acts a r range does written counted now =
     }
 
 -- the line of an act's answer, once it is written
-pub answers_line : {T E F : Type 0} (x : Result T F) (done : Result Answer E) (d : Deployed) (old new : WorldSeen) (line : Option ℕ) (text more : List ℕ) (a : Act) → IsActOf old.deployment a → d ≡ old.deployment
-    → OnOk x (IsWritten d line done text more) → IfOk done (λ r. Does old a r new)
-    → OnOk x ((front : List ℕ) (acts : List Act) → line ≡ Some (length acts + 1) → IsAnswering old.deployment old (front ++ text) acts → IsAnswering old.deployment new (front ++ more) (acts ++ a ∷ []))
-answers_line x (Err e) d old new line text more a range same written does = when_ok x written (λ never. absurd never)
-answers_line x (Ok r) d old new line text more a range same written does = when_ok x written (λ wrote front acts numbered now.
-    answers_more old new (front ++ text) (front ++ more) (length acts + 1) acts a r range does
-    (ap (λ (bytes : List ℕ). front ++ bytes) (wrote ∙ ap (λ (e : Deployed). text ++ framed line (answer_text e r)) same ∙ ap (λ (bytes : List ℕ). text ++ bytes) (line_of old.deployment line (length acts + 1) r numbered))
-    ∙ sym (append_assoc front text (answer_line old.deployment (length acts + 1) r))) refl now)
+pub has_line : {T E F : Type 0} (x : Result T F) (done : Result Answer E) (d : Deployed) (old new : WorldSeen) (number : Option ℕ) (text more : List ℕ) (a : Act) → IsActOf old.deployment a → d ≡ old.deployment
+    → OnOk x (IsWritten d number done text more) → IfOk done (λ r. Does old a r new) → OnOk x (HasLine old number a text new more)
+has_line x (Err e) d old new number text more a range same written does = when_ok x written (λ never. absurd never)
+has_line x (Ok r) d old new number text more a range same written does = when_ok x written (λ wrote. record {
+  line = framed number (answer_text old.deployment r);
+  longer_by = wrote ∙ ap (λ (e : Deployed). text ++ framed number (answer_text e r)) same;
+  answers = λ front acts numbered now. answers_more old new front (front ++ framed number (answer_text old.deployment r)) (length acts + 1) acts a r range does
+      (ap (λ (bytes : List ℕ). front ++ bytes) (line_of old.deployment number (length acts + 1) r numbered)) refl now;
+})
+
+-- ---- memory runs out
+
+extends-inner : (d : Deployed) (h : List Entry) (a : Act) → IsRun d h → Extends h (with_inner d h a)
+unfolding with_inner
+extends-inner d h act.Settle run =
+    goes-keep d (λ k. Extends h k) (λ k a run m later old. (inner_entry d k a ∷ old.0, ap (λ (xs : List Entry). inner_entry d k a ∷ xs) old.1)) h _ (settle-after d h run).goes ([], refl)
+extends-inner d h a run = ([], refl)
+
+-- whether the act was done or not
+on-the-way : {E : Type 0} (done : Result Answer E) (old new : WorldSeen) (a : Act) → IsActOf old.deployment a → IfOk done (λ r. Does old a r new) → OnErr done (StopsIn old a new) → StopsOnTheWay old a new
+on-the-way (Ok r) old new a range does err acts now =
+    let d = old.deployment in
+    let one = on old new acts a r range does now in
+    let inner = extends-inner d (history d acts) a now.run in record {
+      now = history d (acts ++ a ∷ []);
+      stands = one.goes.stands;
+      run = one.goes.run;
+      from = (entry a r ∷ inner.0, one.next ∙ ap (λ (xs : List Entry). entry a r ∷ xs) inner.1);
+      to = ([], refl);
+    }
+on-the-way (Err e) old new a range does err acts now =
+    let d = old.deployment in
+    let h = history d acts in
+    let r = answer_of d h a in
+    let at : StopsBefore d h (with_inner d h a) new = err.front h now.run now.stands in record {
+      now = at.now;
+      stands = at.stands;
+      run = at.run;
+      from = at.from;
+      to = (entry a r ∷ at.to.0, history-next d a acts ∙ ap (λ (xs : List Entry). entry a r ∷ xs) at.to.1);
+    }
+
+pub on_err : {T E : Type 0} (x : Result T E) (P : Type 0) → P → OnErr x P
+on_err (Ok t) P p = tt
+on_err (Err e) P p = p
+
+pub stops_on : {T E F : Type 0} (x : Result T F) (done : Result Answer E) (old new : WorldSeen) (a : Act) → IsActOf old.deployment a → IfOk done (λ r. Does old a r new) → OnErr done (StopsIn old a new) → OnErr x (StopsOnTheWay old a new)
+stops_on x done old new a range does err = on_err x (StopsOnTheWay old a new) (on-the-way done old new a range does err)
 
 -- ---- before the first act
 
@@ -117,25 +159,55 @@ pub answers_none : (d : Deployed) (w : WorldSeen) (text : List ℕ) → StandsFo
 unfolding history run answers printed_count
 answers_none d w text stands empty = record { running = runs-none d w stands; answers = empty; count = refl }
 
--- ---- several acts more, behind any front of the text
+-- ---- several acts more
 
--- these acts more were done, where so many had been done before; the text is longer by their answers
-abbrev pub Answers : Deployed → WorldSeen → List ℕ → ℕ → WorldSeen → List ℕ → List Act → Type 0
-Answers d old text before new longer acts = (front : List ℕ) (done : List Act) → before ≡ length done → IsAnswering d old (front ++ text) done → IsAnswering d new (front ++ longer) (done ++ acts)
-
-pub answers_start : (d : Deployed) (w : WorldSeen) (text : List ℕ) (before : ℕ) → Answers d w text before w text []
-answers_start d w text before front done counted now = subst (λ (acts : List Act). IsAnswering d w (front ++ text) acts) (sym (append-nil done)) now
+pub lines_start : (w : WorldSeen) (before : ℕ) (text : List ℕ) → HasLines w before [] text w text
+lines_start w before text = record {
+  lines = [];
+  longer_by = sym (append-nil text);
+  answers = λ front done counted now. subst (λ (bytes : List ℕ). IsAnswering w.deployment w bytes (done ++ [])) (sym (append-nil front)) (subst (λ (acts : List Act). IsAnswering w.deployment w front acts) (sym (append-nil done)) now);
+}
 
 -- one of them
-pub answers_next : (d e : Deployed) (old mid new : WorldSeen) (text longer more : List ℕ) (before place : ℕ) (acts all : List Act) (a : Act) → e ≡ d → length acts ≡ place → all ≡ acts ++ a ∷ []
-    → Answers d old text before mid longer acts
-    → ((front : List ℕ) (done : List Act) → (before + place) + 1 ≡ length done + 1 → IsAnswering e mid (front ++ longer) done → IsAnswering e new (front ++ more) (done ++ a ∷ []))
-    → Answers d old text before new more all
-answers_next d e old mid new text longer more before place acts all a same long is had one front done counted now =
-    let number : (before + place) + 1 ≡ length (done ++ acts) + 1 = omega (arith, long, counted, length-append done acts) in
-    let here : IsAnswering e mid (front ++ longer) (done ++ acts) = subst (λ (x : Deployed). IsAnswering x mid (front ++ longer) (done ++ acts)) (sym same) (had front done counted now) in
-    let then : IsAnswering d new (front ++ more) ((done ++ acts) ++ a ∷ []) = subst (λ (x : Deployed). IsAnswering x new (front ++ more) ((done ++ acts) ++ a ∷ [])) same (one front (done ++ acts) number here) in
-    subst (λ (xs : List Act). IsAnswering d new (front ++ more) xs) (append_assoc done acts (a ∷ []) ∙ ap (λ xs. done ++ xs) (sym is)) then
+pub lines_next : (old mid new : WorldSeen) (text longer more : List ℕ) (before place : ℕ) (number : Option ℕ) (acts all : List Act) (a : Act) → mid.deployment ≡ old.deployment → length acts ≡ place → all ≡ acts ++ a ∷ []
+    → number ≡ Some ((before + place) + 1) → HasLines old before acts text mid longer → HasLine mid number a longer new more → HasLines old before all text new more
+lines_next old mid new text longer more before place number acts all a same long is numbered had one = record {
+  lines = had.lines ++ one.line;
+  longer_by = one.longer_by ∙ ap (λ (bytes : List ℕ). bytes ++ one.line) had.longer_by ∙ append_assoc text had.lines one.line;
+  answers = λ front done counted now.
+      let count : (before + place) + 1 ≡ length (done ++ acts) + 1 = omega (arith, long, counted, length-append done acts) in
+      let here : IsAnswering mid.deployment mid (front ++ had.lines) (done ++ acts) = subst (λ (x : Deployed). IsAnswering x mid (front ++ had.lines) (done ++ acts)) (sym same) (had.answers front done counted now) in
+      let then : IsAnswering old.deployment new ((front ++ had.lines) ++ one.line) ((done ++ acts) ++ a ∷ []) =
+      subst (λ (x : Deployed). IsAnswering x new ((front ++ had.lines) ++ one.line) ((done ++ acts) ++ a ∷ [])) same (one.answers (front ++ had.lines) (done ++ acts) (numbered ∙ ap (λ (n : ℕ). Some n) count) here) in
+      subst (λ (bytes : List ℕ). IsAnswering old.deployment new bytes (done ++ all)) (append_assoc front had.lines one.line)
+      (subst (λ (xs : List Act). IsAnswering old.deployment new ((front ++ had.lines) ++ one.line) xs) (append_assoc done acts (a ∷ []) ∙ ap (λ (xs : List Act). done ++ xs) (sym is)) then);
+}
+
+-- the same behind any front of the text
+pub behind_text : (old new : WorldSeen) (before : ℕ) (acts : List Act) (text longer front : List ℕ) (done : List Act) → HasLines old before acts text new longer → before ≡ length done → IsAnswering old.deployment old (front ++ text) done
+    → IsAnswering old.deployment new (front ++ longer) (done ++ acts)
+behind_text old new before acts text longer front done had counted now =
+    subst (λ (bytes : List ℕ). IsAnswering old.deployment new bytes (done ++ acts)) (append_assoc front text had.lines ∙ ap (λ (bytes : List ℕ). front ++ bytes) (sym had.longer_by)) (had.answers (front ++ text) done counted now)
+
+-- memory runs out in the next one
+pub lines_stop : (old mid new : WorldSeen) (text longer more : List ℕ) (before place : ℕ) (all : List Act) (a : Act) → mid.deployment ≡ old.deployment → place < length all → get_or all place a ≡ a
+    → HasLines old before (take place all) text mid longer → more ≡ longer → StopsOnTheWay mid a new → HasSomeLines old before all text new more
+lines_stop old mid new text longer more before place all a same inside here had kept stops =
+    let acts = take place all in record {
+      first = acts;
+      next = a;
+      rest = drop (place + 1) all;
+      all = sym (take-append-drop place all) ∙ ap (λ (xs : List Act). acts ++ xs) (drop_more all place a inside ∙ ap (λ (x : Act). x ∷ drop (place + 1) all) here);
+      lines = had.lines;
+      longer_by = kept ∙ had.longer_by;
+      stops = λ front done counted now.
+          let at : IsAnswering old.deployment mid (front ++ had.lines) (done ++ acts) = had.answers front done counted now in record {
+            run = at.running.run;
+            answers = at.answers;
+            count = at.count;
+            stands = subst (λ (x : Deployed). StopsBefore x (history x (done ++ acts)) (history x ((done ++ acts) ++ a ∷ [])) new) same (stops (done ++ acts) (subst (λ (x : Deployed). IsRunning x mid (done ++ acts)) (sym same) at.running));
+          };
+    }
 
 -- the lines of acts more stand behind those of the acts before
 line_next : (d : Deployed) (acts : List Act) (a : Act) → IsRun d (history d acts) → (line : List ℕ) × (answers d (history d (acts ++ a ∷ [])) ≡ answers d (history d acts) ++ line)

@@ -1,9 +1,10 @@
 //! Acts done one after another.
-ghost use Rattle.std.specs.Prelude.{◌≡◌, ◌+◌, ◌^◌, ◌<◌, ◌++◌, ℕ, [], ◌∷◌, List, IfOk, OnOk, Some, length};
+ghost use Rattle.std.specs.Prelude.{◌≡◌, ◌+◌, ◌^◌, ◌<◌, ◌++◌, ℕ, List, IfOk, OnOk, OnErr, length};
 ghost use Rattle.sat_act.specs.declared.act.Act.{Act};
 ghost use Rattle.sat_act.specs.Ranges.{IsActOf};
 ghost use Rattle.sat_script.specs.Spelled.{AreActsOf};
-ghost use Rattle.sat_runs.specs.Running.{Does, IsAnswering, IsWritten};
+ghost use Rattle.sat_runs.specs.Running.{Does, StopsIn, IsAnswering, HasLines, HasSomeLines};
+ghost use Rattle.sat_runs.specs.OneLine.{IsWritten, HasLine, StopsOnTheWay};
 
 use sat_act::{Act, Answer, Deployment};
 use sat_report::{LineFront, write_numbered};
@@ -11,10 +12,12 @@ use sat_settle::settle;
 use sat_world::World;
 use std::alloc::AllocError;
 
-/// Does an act: a settle by the acts that it stands for, any other by itself. For want of memory some of a settle's acts may be done.
+/// Does an act: a settle by the acts that it stands for, any other by itself. For want of memory the world is as before, but of a
+/// settle's acts the first ones may be done, each whole.
 pub fn do_act(world: &mut World, act: &Act) -> Result<Answer, AllocError>
     requires { IsActOf world.old.deployment act.now }
     ensures does { IfOk result (λ answer. Does world.old act.now answer world.new) }
+    ensures err { OnErr result (StopsIn world.old act.now world.new) }
     ensures deployment { world.new.deployment ≡ world.old.deployment }
 {
     match act {
@@ -23,7 +26,7 @@ pub fn do_act(world: &mut World, act: &Act) -> Result<Answer, AllocError>
     }
 }
 
-// Appends the line of an answer, where there is one. It is read where it lies.
+// Appends the line of an answer, where there is one. It is read where it lies. For want of memory the text is as before.
 #[inline(always)]
 fn write_done(
     d: &Deployment,
@@ -31,7 +34,8 @@ fn write_done(
     done: &Result<Answer, AllocError>,
     text: &mut Vec<u8>,
 ) -> Result<(), AllocError>
-    ensures { OnOk result (IsWritten d.now line.now done.now text.old.items text.new.items) }
+    ensures written { OnOk result (IsWritten d.now line.now done.now text.old.items text.new.items) }
+    ensures err { OnErr result (text.new.items ≡ text.old.items) }
 {
     match done {
         Ok(answer) => write_numbered(d, line, answer, text),
@@ -39,8 +43,8 @@ fn write_done(
     }
 }
 
-// Does an act, and appends the line of its answer, as `answer_act` does. The answer is not handed on, since each call between copies
-// it.
+// Does an act, and appends the line of its answer. The answer is not handed on, since each call between copies it. For want of memory
+// the text is as before, and the act may be done.
 #[inline(always)]
 fn answer_numbered(
     world: &mut World,
@@ -50,8 +54,9 @@ fn answer_numbered(
 ) -> Result<(), AllocError>
     requires act { IsActOf world.old.deployment act.now }
     ensures deployment { world.new.deployment ≡ world.old.deployment }
-    ensures running { OnOk result ((front : List ℕ) (acts : List Act) → line.now ≡ Some (length acts + 1) → IsAnswering world.old.deployment world.old (front ++ text.old.items) acts
-        → IsAnswering world.old.deployment world.new (front ++ text.new.items) (acts ++ act.now ∷ [])) }
+    ensures line { OnOk result (HasLine world.old line.now act.now text.old.items world.new text.new.items) }
+    ensures text { OnErr result (text.new.items ≡ text.old.items) }
+    ensures world { OnErr result (StopsOnTheWay world.old act.now world.new) }
 {
     if let Act::Settle = act {
         let done = settle(world);
@@ -61,25 +66,9 @@ fn answer_numbered(
     write_done(world.deployment(), line, &done, text)
 }
 
-/// Does an act, and appends the line of its answer. For want of memory the act may be done without its line, or with a front of it.
-pub fn answer_act(
-    world: &mut World,
-    number: u64,
-    act: &Act,
-    text: &mut Vec<u8>,
-) -> Result<(), AllocError>
-    requires act { IsActOf world.old.deployment act.now }
-    ensures deployment { world.new.deployment ≡ world.old.deployment }
-    ensures running { OnOk result ((front : List ℕ) (acts : List Act) → number ≡ length acts + 1 → IsAnswering world.old.deployment world.old (front ++ text.old.items) acts
-        → IsAnswering world.old.deployment world.new (front ++ text.new.items) (acts ++ act.now ∷ [])) }
-{
-    let line = LineFront::of(number);
-    answer_numbered(world, &line, act, text)?;
-    Ok(())
-}
-
-/// Does the acts one after another, behind so many acts, and appends the lines of their answers. For want of memory some of the acts
-/// may be done, with a front of these lines.
+/// Does the acts one after another, behind so many acts, and appends the lines of their answers. For want of memory the first ones of
+/// the acts have their lines, each whole, and no other line is there; the act behind these may be done, or of a settle the first ones
+/// of its acts.
 pub fn answer_acts(
     world: &mut World,
     before: u64,
@@ -89,8 +78,11 @@ pub fn answer_acts(
     requires acts { AreActsOf world.old.deployment acts.now }
     requires few { before + length acts.now < 2 ^ 64 }
     ensures deployment { world.new.deployment ≡ world.old.deployment }
+    ensures lines { OnOk result (HasLines world.old before acts.now text.old.items world.new text.new.items) }
+    // The same of a text that has the answers of the acts before, or their end.
     ensures running { OnOk result ((front : List ℕ) (done : List Act) → before ≡ length done → IsAnswering world.old.deployment world.old (front ++ text.old.items) done
         → IsAnswering world.old.deployment world.new (front ++ text.new.items) (done ++ acts.now)) }
+    ensures err { OnErr result (HasSomeLines world.old before acts.now text.old.items world.new text.new.items) }
 {
     let mut line = LineFront::of(before);
     for act in acts {

@@ -4,5 +4,5 @@
 mod acts;
 mod law;
 
-pub use acts::{answer_act, answer_acts, do_act};
+pub use acts::{answer_acts, do_act};
 pub use law::good_runs;

@@ -5,6 +5,8 @@ use sat_outside::{
     StdSink, StdSource,
 };
 use std::alloc::Global;
+use std::cell::Cell;
+use std::io::{Read, Write};
 use std::test::Fail;
 
 fn bytes(alloc: Global, text: &[u8]) -> Result<Vec<u8>, Fail> {
@@ -77,6 +79,49 @@ fn standard_forms_pass_on(rt: HostRuntime) -> Result<(), Fail> {
     let mut full = StdSink::new(room.as_mut_slice());
     assert_eq!(rt; full.write(b"abc"), Ok(2));
     assert_eq!(rt; full.write(b"c"), Err(Failed));
+    Ok(())
+}
+
+// Fills or takes all that it is given, and counts its calls.
+#[derive(Drop)]
+struct Counting<'a> {
+    calls: &'a Cell<u64>,
+}
+
+impl Counting<'_> {
+    fn count(&self) {
+        self.calls.set(self.calls.get().saturating_add(1));
+    }
+}
+
+impl Read for Counting<'_> {
+    fn read(&mut self, into: &mut [u8]) -> std::io::Result<usize> {
+        self.count();
+        Ok(into.len())
+    }
+}
+
+impl Write for Counting<'_> {
+    fn write(&mut self, piece: &[u8]) -> std::io::Result<usize> {
+        self.count();
+        Ok(piece.len())
+    }
+
+    fn flush(&mut self) -> std::io::Result<()> {
+        Ok(())
+    }
+}
+
+#[test]
+fn standard_forms_move_a_piece_in_one_call(rt: HostRuntime) -> Result<(), Fail> {
+    let calls = Cell::new(0);
+    let mut piece = [0; 4096];
+    let mut source = StdSource::new(Counting { calls: &calls });
+    assert_eq!(rt; source.read(&mut piece), Ok(4096));
+    assert_eq!(rt; calls.get(), 1);
+    let mut sink = StdSink::new(Counting { calls: &calls });
+    assert_eq!(rt; sink.write(&piece), Ok(4096));
+    assert_eq!(rt; calls.get(), 2);
     Ok(())
 }
 

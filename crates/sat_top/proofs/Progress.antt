@@ -1,6 +1,8 @@
 -- What reads of a source and writes to a sink come to.
-use Rattle.std.proofs.Common.{◌≡◌, ℕ, Bool, ◌+◌, ◌≤◌, List, [], ◌++◌, length, take, drop, Option, Some, None, sym, ap, ◌∙◌, refl, arith}
+use Rattle.std.proofs.Common.{◌≡◌, ℕ, Bool, true, false, ◌+◌, ◌≤◌, List, [], ◌++◌, length, take, drop, Option, Some, None, sym, ap, ◌∙◌, refl, arith}
 use Rattle.std.proofs.lemmas.List.{append-nil, append_assoc, take-append-drop, drop-take, take-take, length-append}
+use Rattle.std.specs.Prelude.{◌==◌, ◌≢◌, ◌-◌, ◌^◌, min, if◌then◌else◌}
+use Rattle.std.proofs.lemmas.Bool.Decides.{nat_tests}
 use Rattle.std.specs.Io.KnownBytes.{Consumes, IsAtEnd}
 use Rattle.sat_outside.specs.Streams.{Told, Takes}
 use Rattle.sat_stream.specs.Reading.{reading}
@@ -71,3 +73,21 @@ takes_more a b c text at count h k more =
 pub some_text : (left : Option (List ℕ)) → (text : List ℕ) × IsTextOf left text
 some_text None = ([], tt)
 some_text (Some all) = (all, refl)
+
+-- ---- a source says once that none are left
+
+-- the count behind a read that gave so many bytes
+abbrev Ends : Bool → ℕ → ℕ
+Ends b before = if b then min (before + 1) (2 ^ 64 - 1) else before
+
+pub ends_once : (first before now count : ℕ) → before ≡ first → now ≡ (if count == 0 then min (before + 1) (2 ^ 64 - 1) else before) → now ≤ first + 1
+ends_once first before now count same is = go (count == 0) is
+  where
+    go : (b : Bool) → now ≡ Ends b before → now ≤ first + 1
+    go true e = omega (arith, same, e)
+    go false e = omega (arith, same, e)
+
+pub ends_same : (first before now count : ℕ) → count ≢ 0 → before ≡ first → now ≡ (if count == 0 then min (before + 1) (2 ^ 64 - 1) else before) → now ≡ first
+ends_same first before now count some same is =
+    let test : (count == 0) ≡ false = grind (arith, nat_tests, some) in
+    is ∙ ap (λ (b : Bool). Ends b before) test ∙ same

@@ -26,7 +26,7 @@ use Rattle.sat_top.specs.declared.words.Command.TheVariants.{Run}
 use Rattle.sat_top.specs.Good.{EveryReadingIsGood}
 use Rattle.sat_runs.specs.Runs.{history, run_text, ending}
 use Rattle.sat_top.specs.declared.stream.TheConstants.{BUFFER_BYTES}
-use Rattle.sat_top.specs.Streaming.{answers_under, answers_text, HasAnswered, HasFront, WasAnswering}
+use Rattle.sat_top.specs.Streaming.{answers_under, answers_text, HasAnswered, HasFront, WasAnswering, StopsReading}
 use Rattle.sat_top.specs.Whole.{IsTextOf, IsOutput, TakesFront, run_status}
 use Rattle.sat_runs.proofs.Good.{TheLaws, runs, all_front}
 use Rattle.sat_top.proofs.Progress.{HasRead, consumes_more, read_start, read_more, read_whole, read_enough, rest_of}
@@ -202,6 +202,19 @@ has_answered b n k r w count written old new sound laws had now took =
       lacks = subst LacksOnlyItsEnd is now.lacks;
       written = subst (λ (bytes : List ℕ). Takes old new bytes) (told_so_far b n k r w count written had now) took;
       good = front had.read.taken (reading false had.read.taken) laws (sound had.read.taken).whole refl;
+    }
+
+-- ---- no more is read
+
+pub stops_reading : (b n m : Option (List ℕ)) (k : ℕ) (r : Came) (w : Option WorldSeen) (count : ℕ) (written piece : List ℕ) → IsUnder b n k r w count written → IsDrained r w → Consumes n m piece → length piece ≤ BUFFER_BYTES → StopsReading false b m
+stops_reading b n m k r w count written piece had now took few =
+    let is : behind had.done (will_be r []) ≡ reading false had.read.taken = had.read.means [] ∙ ap (reading false) (append-nil had.read.taken) in
+    record {
+      before = had.read.taken;
+      piece = piece;
+      consumed = consumes_more b n m had.read.taken piece had.read.consumed took;
+      one = few;
+      lacks = subst LacksOnlyItsEnd is now.lacks;
     }
 
 -- ---- it stops while a piece is done

@@ -10,7 +10,7 @@ use Rattle.sat_top.specs.declared.words.Command.{Command}
 use Rattle.sat_top.specs.declared.words.Command.TheVariants.{Run, Draw, Plan, Place}
 use Rattle.sat_top.specs.Words.{command_of, is_live}
 use Rattle.sat_top.specs.Living.{MeetsLive}
-use Rattle.sat_top.specs.Streaming.{WroteBefore, BrokeOff, GaveUp}
+use Rattle.sat_top.specs.Streaming.{WroteBefore, BrokeOff, GaveUp, StopsReadingOf}
 use Rattle.sat_top.specs.Whole.{IsTextOf, TakesFront, IsDone, IsRefused, reads, refusal, command_status, command_output}
 
 -- how many bytes a command takes at the most, however many the source has: its longest input, and one piece
@@ -22,9 +22,9 @@ most_taken (Some Place) = MOST_DELAY_BYTES + BUFFER_BYTES
 most_taken _ = 0
 
 -- What the top call does with a command, and with words that are none. `left` is what the source tells that it still gives, `told`
--- what the sink tells that it holds, `failed` and `refused` are the counts of faults of the source and of the sink; each before the
--- call and after it.
-pub record MeetsCommand (command : Option Command) (status : ℕ) (left left_after : Option (List ℕ)) (told told_after : Told) (failed failed_after refused refused_after : ℕ) : Type 0 where
+-- what the sink tells that it holds, `failed` and `refused` are the counts of faults of the source and of the sink, and `ends` is how
+-- often the source said that none are left; each before the call and after it.
+pub record MeetsCommand (command : Option Command) (status : ℕ) (left left_after : Option (List ℕ)) (told told_after : Told) (failed failed_after refused refused_after ends ends_after : ℕ) : Type 0 where
   -- 0, 1 and 2 say what the words and the text are, and the sink took the whole output
   pub written : status ≤ 2 → (text : List ℕ) × IsTextOf left text × (status ≡ command_status command text) × Takes told told_after (command_output command text)
   pub end : status ≡ 0 → reads command ≡ true → IsAtEnd left_after
@@ -41,19 +41,23 @@ pub record MeetsCommand (command : Option Command) (status : ℕ) (left left_aft
   pub statuses : status ≤ 5
   -- the bytes taken have a bound
   pub bounded : (taken : List ℕ) × Consumes left left_after taken × (length taken ≤ most_taken command)
+  -- and no more are taken once the first bad line of a script that is run is known
+  pub stops : StopsReadingOf command left left_after
+  -- the source says once at most that none are left: it isn't asked again
+  pub once : ends_after ≤ ends + 1
   -- no count of faults falls
   pub later : (failed ≤ failed_after) × (refused ≤ refused_after)
   -- where neither has failed, the status is that of the words and the text, unless memory ran out
   pub complete : (text : List ℕ) → left ≡ Some text → ¬ Rose failed failed_after → ¬ Rose refused refused_after → (status ≡ command_status command text) ⊎ (status ≡ 5)
 
 -- what the top call does with `live`, or else with a command
-abbrev pub MeetsEither : Bool → Option Command → ℕ → Option (List ℕ) → Option (List ℕ) → Told → Told → ℕ → ℕ → ℕ → ℕ → Type 0
-MeetsEither true command status left left_after told told_after failed failed_after refused refused_after =
-    MeetsLive status left left_after told told_after failed failed_after refused refused_after
-MeetsEither false command status left left_after told told_after failed failed_after refused refused_after =
-    MeetsCommand command status left left_after told told_after failed failed_after refused refused_after
+abbrev pub MeetsEither : Bool → Option Command → ℕ → Option (List ℕ) → Option (List ℕ) → Told → Told → ℕ → ℕ → ℕ → ℕ → ℕ → ℕ → Type 0
+MeetsEither true command status left left_after told told_after failed failed_after refused refused_after ends ends_after =
+    MeetsLive status left left_after told told_after failed failed_after refused refused_after ends ends_after
+MeetsEither false command status left left_after told told_after failed failed_after refused refused_after ends ends_after =
+    MeetsCommand command status left left_after told told_after failed failed_after refused refused_after ends ends_after
 
 -- the same of words
-abbrev pub Meets : List (List ℕ) → ℕ → Option (List ℕ) → Option (List ℕ) → Told → Told → ℕ → ℕ → ℕ → ℕ → Type 0
-Meets words status left left_after told told_after failed failed_after refused refused_after =
-    MeetsEither (is_live words) (command_of words) status left left_after told told_after failed failed_after refused refused_after
+abbrev pub Meets : List (List ℕ) → ℕ → Option (List ℕ) → Option (List ℕ) → Told → Told → ℕ → ℕ → ℕ → ℕ → ℕ → ℕ → Type 0
+Meets words status left left_after told told_after failed failed_after refused refused_after ends ends_after =
+    MeetsEither (is_live words) (command_of words) status left left_after told told_after failed failed_after refused refused_after ends ends_after

@@ -72,7 +72,7 @@ IsLiveStatus None status = is_told status ≡ true
 IsLiveStatus (Some fault) status = status ≡ 1
 
 -- What the top call does with `live`. The names are those of `MeetsCommand`.
-pub record MeetsLive (status : ℕ) (left left_after : Option (List ℕ)) (told told_after : Told) (failed failed_after refused refused_after : ℕ) : Type 0 where
+pub record MeetsLive (status : ℕ) (left left_after : Option (List ℕ)) (told told_after : Told) (failed failed_after refused refused_after ends ends_after : ℕ) : Type 0 where
   -- the nodes came to an end, and the sink took the whole output
   pub lived : is_told status ≡ true → HasLived status left told told_after × IsAtEnd left_after
   pub bad : status ≡ 1 → HasLiveFault left told told_after
@@ -83,6 +83,8 @@ pub record MeetsLive (status : ℕ) (left left_after : Option (List ℕ)) (told 
   pub statuses : (status ≤ 8) × (status ≢ 2) × (status ≢ 7)
   -- the bytes taken have a bound
   pub bounded : (taken : List ℕ) × Consumes left left_after taken × (length taken ≤ MOST_BYTES + BUFFER_BYTES)
+  -- the source says once at most that none are left
+  pub once : ends_after ≤ ends + 1
   -- no count of faults falls
   pub later : (failed ≤ failed_after) × (refused ≤ refused_after)
   -- where neither has failed, the status is one of those that the text has, unless memory ran out

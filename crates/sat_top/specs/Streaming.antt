@@ -1,5 +1,5 @@
 -- A script that is run piece by piece: what was written before more was read.
-use Rattle.std.specs.Prelude.{ℕ, ◌≤◌, false, List, [], ◌++◌, length, Option, Some, None}
+use Rattle.std.specs.Prelude.{ℕ, ◌≤◌, Bool, false, List, [], ◌++◌, length, Option, Some, None}
 use Rattle.std.specs.Io.KnownBytes.{Consumes}
 use Rattle.sat_outside.specs.Streams.{Told, Takes}
 use Rattle.sat_act.specs.declared.act.Act.{Act}
@@ -47,6 +47,20 @@ pub record WasAnswering (left left_after : Option (List ℕ)) (old new : Told) :
   pub one : length piece ≤ BUFFER_BYTES
   pub rest : List ℕ
   pub written : Takes old new (answers_text (reading false before) ++ rest)
+
+-- What was read ends with one piece, or with less, and none of the whole lines before that piece is bad: no more is read once the first
+-- bad line is known.
+pub record StopsReading (live : Bool) (left left_after : Option (List ℕ)) : Type 0 where
+  pub before : List ℕ
+  pub piece : List ℕ
+  pub consumed : Consumes left left_after (before ++ piece)
+  pub one : length piece ≤ BUFFER_BYTES
+  pub lacks : LacksOnlyItsEnd (reading live before)
+
+-- so it is with `run`
+abbrev pub StopsReadingOf : Option Command → Option (List ℕ) → Option (List ℕ) → Type 0
+StopsReadingOf (Some Run) left left_after = StopsReading false left left_after
+StopsReadingOf _ left left_after = Unit {0}
 
 -- what was written when the source fails: only `run` writes before its whole input is read
 abbrev pub WroteBefore : Option Command → Option (List ℕ) → Option (List ℕ) → Told → Told → Type 0

@@ -51,7 +51,7 @@ pub(crate) fn lived<R: AllocGlobal + Threads + Wait + Sync, S: Source, K: Sink, 
     gate: &G,
 ) -> u8
     ensures { MeetsLive result (S.left source.old) (S.left source.new) (K.told sink.old) (K.told sink.new)
-        (S.faults source.old) (S.faults source.new) (K.faults sink.old) (K.faults sink.new) }
+        (S.faults source.old) (S.faults source.new) (K.faults sink.old) (K.faults sink.new) (S.ends source.old) (S.ends source.new) }
 {
     // Brings this law into the proof; it does nothing when it runs.
     one_spelling();

@@ -1,5 +1,5 @@
 //! What a command makes in memory, before anything is written.
-ghost use Rattle.std.specs.Prelude.{◌≡◌, ◌≢◌, ◌≤◌, ℕ, List, IfOk, IsErrOf, Some, true, false, length, map, string_bytes};
+ghost use Rattle.std.specs.Prelude.{◌≡◌, ◌≢◌, ◌≤◌, ◌+◌, ℕ, List, IfOk, IsErrOf, Some, true, false, length, map, string_bytes};
 ghost use Rattle.std.specs.Io.KnownBytes.{Consumes, IsAtEnd};
 ghost use Rattle.sat_outside.specs.Causes.{Rose};
 ghost use Rattle.sat_top.specs.declared.stream.Stop.TheVariants.{Memory};
@@ -73,6 +73,7 @@ fn draw<S: Source>(alloc: Global, source: &mut S) -> Result<Output, Stop>
     ensures output { IfOk result (λ out. IsOutput (Some Command.Draw) (S.left source.old) out.text.items out.status) }
     ensures end { IfOk result (λ out. out.status ≡ 0 → IsAtEnd (S.left source.new)) }
     ensures bounded { (taken : List ℕ) × Consumes (S.left source.old) (S.left source.new) taken × (length taken ≤ most_taken (Some Command.Draw)) }
+    ensures once { S.ends source.new ≤ S.ends source.old + 1 }
     ensures later { S.faults source.old ≤ S.faults source.new }
     ensures failed { IsErrOf result Stop.Source → Rose (S.faults source.old) (S.faults source.new) }
 {
@@ -89,6 +90,7 @@ fn plan<S: Source>(alloc: Global, source: &mut S) -> Result<Output, Stop>
     ensures output { IfOk result (λ out. IsOutput (Some Command.Plan) (S.left source.old) out.text.items out.status) }
     ensures end { IfOk result (λ out. out.status ≡ 0 → IsAtEnd (S.left source.new)) }
     ensures bounded { (taken : List ℕ) × Consumes (S.left source.old) (S.left source.new) taken × (length taken ≤ most_taken (Some Command.Plan)) }
+    ensures once { S.ends source.new ≤ S.ends source.old + 1 }
     ensures later { S.faults source.old ≤ S.faults source.new }
     ensures failed { IsErrOf result Stop.Source → Rose (S.faults source.old) (S.faults source.new) }
 {
@@ -102,6 +104,7 @@ fn place<S: Source>(alloc: Global, source: &mut S) -> Result<Output, Stop>
     ensures output { IfOk result (λ out. IsOutput (Some Command.Place) (S.left source.old) out.text.items out.status) }
     ensures end { IfOk result (λ out. out.status ≡ 0 → IsAtEnd (S.left source.new)) }
     ensures bounded { (taken : List ℕ) × Consumes (S.left source.old) (S.left source.new) taken × (length taken ≤ most_taken (Some Command.Place)) }
+    ensures once { S.ends source.new ≤ S.ends source.old + 1 }
     ensures later { S.faults source.old ≤ S.faults source.new }
     ensures failed { IsErrOf result Stop.Source → Rose (S.faults source.old) (S.faults source.new) }
 {
@@ -119,6 +122,7 @@ pub(crate) fn place_wide<R: Threads + Sync, S: Source>(
     ensures output { IfOk result (λ out. IsOutput (Some Command.Place) (S.left source.old) out.text.items out.status) }
     ensures end { IfOk result (λ out. out.status ≡ 0 → IsAtEnd (S.left source.new)) }
     ensures bounded { (taken : List ℕ) × Consumes (S.left source.old) (S.left source.new) taken × (length taken ≤ most_taken (Some Command.Place)) }
+    ensures once { S.ends source.new ≤ S.ends source.old + 1 }
     ensures later { S.faults source.old ≤ S.faults source.new }
     ensures failed { IsErrOf result Stop.Source → Rose (S.faults source.old) (S.faults source.new) }
 {
@@ -137,6 +141,7 @@ pub(crate) fn make_output<S: Source>(
     ensures output { IfOk result (λ out. IsOutput (command_of (map string_bytes words.now)) (S.left source.old) out.text.items out.status) }
     ensures end { IfOk result (λ out. reads (command_of (map string_bytes words.now)) ≡ true → out.status ≡ 0 → IsAtEnd (S.left source.new)) }
     ensures bounded { (taken : List ℕ) × Consumes (S.left source.old) (S.left source.new) taken × (length taken ≤ most_taken (command_of (map string_bytes words.now))) }
+    ensures once { S.ends source.new ≤ S.ends source.old + 1 }
     ensures later { S.faults source.old ≤ S.faults source.new }
     ensures failed { IsErrOf result Stop.Source → Rose (S.faults source.old) (S.faults source.new) }
     ensures unasked { reads (command_of (map string_bytes words.now)) ≡ false → source.new ≡ source.old }

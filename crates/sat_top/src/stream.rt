@@ -12,7 +12,7 @@ ghost use Rattle.sat_place.specs.Shape.{shape_reading};
 ghost use Rattle.sat_stream.specs.declared.limits.TheConstants.{MOST_BYTES as MOST_SCRIPT_BYTES};
 ghost use Rattle.sat_delay.specs.declared.read.TheConstants.{MOST_BYTES as MOST_DELAY_BYTES};
 ghost use Rattle.sat_top.specs.declared.stream.TheConstants.{BUFFER_BYTES};
-ghost use Rattle.sat_top.specs.Streaming.{HasAnswered, HasFront, WasAnswering};
+ghost use Rattle.sat_top.specs.Streaming.{HasAnswered, HasFront, StopsReading, WasAnswering};
 ghost use Rattle.sat_top.specs.Whole.{IsOutput, IsTextOf, TakesFront, run_status};
 ghost use Rattle.sat_top.specs.Living.{HasReadLines};
 ghost use Rattle.sat_top.specs.UnderWay.{DoesMore, Ends, EndsBefore, IsKnown, IsWorldOf};
@@ -121,11 +121,14 @@ pub fn run_script<S: Source, K: Sink>(
     ensures end { IfOk result (λ status. status ≡ 0 → IsAtEnd (S.left source.new)) }
     // The bytes taken have a bound, however much the source has.
     ensures bounded { (taken : List ℕ) × Consumes (S.left source.old) (S.left source.new) taken × (length taken ≤ MOST_SCRIPT_BYTES + BUFFER_BYTES) }
+    // No more is read once the first bad line is known.
+    ensures stops { StopsReading false (S.left source.old) (S.left source.new) }
     ensures failed { IsErrOf result Halt.Source → Rose (S.faults source.old) (S.faults source.new) }
     ensures answered { IsErrOf result Halt.Source → HasAnswered (S.left source.old) (S.left source.new) (K.told sink.old) (K.told sink.new) }
     ensures refused { IsErrOf result Halt.Sink → Rose (K.faults sink.old) (K.faults sink.new) }
     ensures front { OnErr result (HasFront (S.left source.old) (K.told sink.old) (K.told sink.new)) }
     ensures stopped { OnErr result (WasAnswering (S.left source.old) (S.left source.new) (K.told sink.old) (K.told sink.new)) }
+    ensures once { S.ends source.new ≤ S.ends source.old + 1 }
     ensures later { S.faults source.old ≤ S.faults source.new }
     ensures kept { K.faults sink.old ≤ K.faults sink.new }
 {
@@ -178,6 +181,7 @@ pub fn read_script<S: Source>(alloc: Global, source: &mut S, live: bool) -> Resu
     ensures end { IfOk result (λ found. found.fault ≡ None → IsAtEnd (S.left source.new)) }
     // The bytes taken have a bound, however much the source has.
     ensures bounded { (taken : List ℕ) × Consumes (S.left source.old) (S.left source.new) taken × (length taken ≤ MOST_SCRIPT_BYTES + BUFFER_BYTES) }
+    ensures once { S.ends source.new ≤ S.ends source.old + 1 }
     ensures later { S.faults source.old ≤ S.faults source.new }
     ensures failed { IsErrOf result Stop.Source → Rose (S.faults source.old) (S.faults source.new) }
     ensures lines { IsErrOf result Stop.Source → HasReadLines live (S.left source.old) (S.left source.new) }
@@ -209,10 +213,12 @@ pub fn read_script<S: Source>(alloc: Global, source: &mut S, live: bool) -> Resu
 }
 
 /// Reads a text of delays: all that the source has, or more than such a text may have.
+#[tactic(auto, using(crate::proofs::Progress::ends_once, crate::proofs::Progress::ends_same))]
 pub fn read_delay_text<S: Source>(alloc: Global, source: &mut S) -> Result<Vec<u8>, Stop>
     ensures text { IfOk result (λ found. (text : List ℕ) × IsTextOf (S.left source.old) text × (delays_in text ≡ delays_in found.items) × (shape_reading text ≡ shape_reading found.items)) }
     ensures end { IfOk result (λ found. length found.items ≤ MOST_BYTES → IsAtEnd (S.left source.new)) }
     ensures bounded { (taken : List ℕ) × Consumes (S.left source.old) (S.left source.new) taken × (length taken ≤ MOST_DELAY_BYTES + BUFFER_BYTES) }
+    ensures once { S.ends source.new ≤ S.ends source.old + 1 }
     ensures later { S.faults source.old ≤ S.faults source.new }
     ensures failed { IsErrOf result Stop.Source → Rose (S.faults source.old) (S.faults source.new) }
 {

@@ -25,7 +25,7 @@ pub fn still<S: Source, K: Sink>(
     sink: &mut K,
 ) -> u8
     ensures meets { MeetsCommand (command_of (map string_bytes words.now)) result (S.left source.old) (S.left source.new) (K.told sink.old) (K.told sink.new)
-        (S.faults source.old) (S.faults source.new) (K.faults sink.old) (K.faults sink.new) }
+        (S.faults source.old) (S.faults source.new) (K.faults sink.old) (K.faults sink.new) (S.ends source.old) (S.ends source.new) }
     // Words that ask for no input leave the source as it was.
     ensures unasked { reads (command_of (map string_bytes words.now)) ≡ false → source.new ≡ source.old }
 {
@@ -39,7 +39,7 @@ pub fn still<S: Source, K: Sink>(
 #[tactic(auto, using(crate::proofs::Done::is_done, crate::proofs::Done::is_refused))]
 fn streamed<S: Source, K: Sink>(alloc: Global, source: &mut S, sink: &mut K) -> u8
     ensures meets { MeetsCommand (Some Run) result (S.left source.old) (S.left source.new) (K.told sink.old) (K.told sink.new)
-        (S.faults source.old) (S.faults source.new) (K.faults sink.old) (K.faults sink.new) }
+        (S.faults source.old) (S.faults source.new) (K.faults sink.old) (K.faults sink.new) (S.ends source.old) (S.ends source.new) }
 {
     match run_script(alloc, source, sink) {
         Ok(status) => status,
@@ -50,11 +50,11 @@ fn streamed<S: Source, K: Sink>(alloc: Global, source: &mut S, sink: &mut K) -> 
 }
 
 // Does another command: makes its whole output, writes it, and answers the status.
-#[tactic(auto, using(crate::proofs::Done::is_done, crate::proofs::Done::is_refused))]
+#[tactic(auto, using(crate::proofs::Done::is_done, crate::proofs::Done::is_refused, crate::proofs::Done::no_script))]
 fn told<S: Source, K: Sink>(alloc: Global, words: &[String], source: &mut S, sink: &mut K) -> u8
     requires { command_of (map string_bytes words.now) ≢ Some Run }
     ensures meets { MeetsCommand (command_of (map string_bytes words.now)) result (S.left source.old) (S.left source.new) (K.told sink.old) (K.told sink.new)
-        (S.faults source.old) (S.faults source.new) (K.faults sink.old) (K.faults sink.new) }
+        (S.faults source.old) (S.faults source.new) (K.faults sink.old) (K.faults sink.new) (S.ends source.old) (S.ends source.new) }
     ensures unasked { reads (command_of (map string_bytes words.now)) ≡ false → source.new ≡ source.old }
 {
     let output = match make_output(alloc, words, source) {
@@ -78,7 +78,7 @@ fn placed<R: AllocGlobal + Threads + Sync, S: Source, K: Sink>(
 ) -> u8
     requires { command_of (map string_bytes words.now) ≡ Some Place }
     ensures meets { MeetsCommand (command_of (map string_bytes words.now)) result (S.left source.old) (S.left source.new) (K.told sink.old) (K.told sink.new)
-        (S.faults source.old) (S.faults source.new) (K.faults sink.old) (K.faults sink.new) }
+        (S.faults source.old) (S.faults source.new) (K.faults sink.old) (K.faults sink.new) (S.ends source.old) (S.ends source.new) }
 {
     let _ = words.len();
     let output = match place_wide(rt, rt.alloc(), source) {
@@ -102,7 +102,7 @@ pub fn saturn<R: AllocGlobal + Threads + Wait + Sync, S: Source, K: Sink, G: Gat
     gate: &G,
 ) -> u8
     ensures meets { Meets (map string_bytes words.now) result (S.left source.old) (S.left source.new) (K.told sink.old) (K.told sink.new)
-        (S.faults source.old) (S.faults source.new) (K.faults sink.old) (K.faults sink.new) }
+        (S.faults source.old) (S.faults source.new) (K.faults sink.old) (K.faults sink.new) (S.ends source.old) (S.ends source.new) }
     ensures unasked { is_live (map string_bytes words.now) ≡ false → reads (command_of (map string_bytes words.now)) ≡ false → source.new ≡ source.old }
 {
     if is_live(words) {

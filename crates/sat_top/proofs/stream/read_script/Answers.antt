@@ -1,13 +1,13 @@
 use Rattle.sat_top.proofs.Faults.{has_fault}
-use Rattle.std.proofs.Common.{rules, arith, take, ◌+◌}
+use Rattle.std.proofs.Common.{rules, arith, take, ◌+◌, refl}
 use Rattle.sat_stream.specs.Stream.{will_be}
-use Rattle.sat_top.proofs.Progress.{read_start, read_more, read_bounded, read_enough}
+use Rattle.sat_top.proofs.Progress.{ends_once, ends_same, read_bounded, read_enough, read_more, read_start}
 use Rattle.sat_stream.specs.declared.limits.TheConstants.{MOST_BYTES}
 use Rattle.sat_top.proofs.stream.read_script.Goals as goal
 
 pub loop-taken-init : goal.loop-taken-init
 loop-taken-init g c =
-    (c.new-reader.ensures.fresh, omega arith, read_start (g.S.Source.left c.args.source.now) (will_be c.new-reader.result) c.new-reader.ensures.script, omega arith, omega (arith, c.new-reader.ensures.counted))
+    (c.new-reader.ensures.fresh, omega arith, read_start (g.S.Source.left c.args.source.now) (will_be c.new-reader.result) c.new-reader.ensures.script, omega arith, omega (arith, c.new-reader.ensures.counted), refl)
 
 pub loop-taken-preserved : goal.loop-taken-preserved
 loop-taken-preserved g c =
@@ -18,6 +18,7 @@ loop-taken-preserved g c =
       read_more (g.S.Source.left c.args.source.now) (g.S.Source.left c.loop-taken.source) (g.S.Source.left c.read.new.self) (will_be c.loop-taken.reader) (will_be c.feed.new.self) (take c.in-Ok.count c.read.new.into) c.loop-taken.taken c.in-Ok.count had.2 c.in-Ok.ensures.bytes.0 c.in_default.ensures.script c.in-Ok.ensures.count.1,
       omega (arith, counted, c.in-Ok.ensures.count.1),
       c.in_default.ensures.few,
+      ends_same (g.S.Source.ends c.args.source.now) (g.S.Source.ends c.loop-taken.source) (g.S.Source.ends c.read.new.self) c.in-Ok.count c.in-Ok.count-test.1 had.5 c.in-Ok.ensures.ends,
     )
 
 pub returns-then-eq-clause-bounded : goal.returns-then-eq-clause-bounded
@@ -40,3 +41,15 @@ returns-in-Err-feed-clause-script g c =
     read_enough (g.S.Source.left c.args.source.now) (g.S.Source.left c.read.new.self) (will_be c.feed.new.self) c.finish-in-Err-feed.result (c.loop-taken.taken + c.in-Ok.count)
     (read_more (g.S.Source.left c.args.source.now) (g.S.Source.left c.loop-taken.source) (g.S.Source.left c.read.new.self) (will_be c.loop-taken.reader) (will_be c.feed.new.self) (take c.in-Ok.count c.read.new.into) c.loop-taken.taken c.in-Ok.count had.2 c.in-Ok.ensures.bytes.0 script c.in-Ok.ensures.count.1)
     c.in-Err-feed.ensures.settled c.finish-in-Err-feed.ensures.script
+
+pub returns-in-Err-clause-once : goal.returns-in-Err-clause-once
+returns-in-Err-clause-once g c = omega (arith, c.loop-taken.invariant.5, c.in-Err.ensures.ends)
+
+pub returns-in-Ok-eq0-clause-once : goal.returns-in-Ok-eq0-clause-once
+returns-in-Ok-eq0-clause-once g c = ends_once (g.S.Source.ends c.args.source.now) (g.S.Source.ends c.loop-taken.source) (g.S.Source.ends c.read.new.self) c.in-Ok-eq0.field-0 c.loop-taken.invariant.5 c.in-Ok-eq0.ensures.ends
+
+pub returns-then-eq-clause-once : goal.returns-then-eq-clause-once
+returns-then-eq-clause-once g c = ends_once (g.S.Source.ends c.args.source.now) (g.S.Source.ends c.loop-taken.source) (g.S.Source.ends c.read.new.self) c.in-Ok.count c.loop-taken.invariant.5 c.in-Ok.ensures.ends
+
+pub returns-in-Err-feed-clause-once : goal.returns-in-Err-feed-clause-once
+returns-in-Err-feed-clause-once g c = ends_once (g.S.Source.ends c.args.source.now) (g.S.Source.ends c.loop-taken.source) (g.S.Source.ends c.read.new.self) c.in-Ok.count c.loop-taken.invariant.5 c.in-Ok.ensures.ends

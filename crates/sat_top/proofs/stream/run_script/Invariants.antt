@@ -10,6 +10,7 @@ invariant-pieces g l = record {
   fresh : known_fault l.reader ≡ None;
   later : g.S.Source.faults l.initial.source ≤ g.S.Source.faults l.source;
   kept : g.K.Sink.faults l.initial.sink ≤ g.K.Sink.faults l.sink;
+  ends : g.S.Source.ends l.source ≡ g.S.Source.ends l.initial.source;
   under : (written : List ℕ) × IsUnder (g.S.Source.left l.initial.source) (g.S.Source.left l.source) l.taken l.reader l.world l.done written × Takes (g.K.Sink.told l.initial.sink) (g.K.Sink.told l.sink) written;
   drained : IsDrained l.reader l.world;
   counted : l.taken ≤ bytes_of l.reader;
