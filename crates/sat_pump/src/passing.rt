@@ -29,11 +29,11 @@ fn go_through<N: Laid + Names, R: Wait>(
     ensures whole { OnOk result (IsPass N.deployment (time_of N.deployment.gears seen.old.upto seen.old.ts held.old) held.old held.new) }
     ensures fault { IfErr result (Fails held.new) }
 {
-    if let Err(fault) = keep_up(rt, held, d, seen) {
+    if let Err(fault) = keep_up(held, d, seen) {
         return Err(fault);
     }
     sound(held);
-    if let Err(fault) = collect(rt, held) {
+    if let Err(fault) = collect(held) {
         return Err(fault);
     }
     sound(held);
