@@ -6,9 +6,9 @@ ghost use Rattle.sat_passes.specs.Followed.{Follows};
 ghost use Rattle.sat_passes.specs.Sendings.{FailsAlone, would_do};
 ghost use Rattle.sat_pump.specs.Adds.{Adds, is_own};
 
-use crate::sites::sound;
 use sat_machines::{Laid, SiteAct, SiteAnswer, SiteNode};
 use sat_node::{CallFault, Held, Names};
+use sat_passes::sound;
 use sat_site::SiteInput;
 
 /// Does what the site would do by itself: a tick, a gather, a stamp or an advance. After an error nothing changed.

@@ -6,11 +6,11 @@ ghost use Rattle.sat_pump.specs.Steps.{IsRaised};
 ghost use Rattle.sat_pump.specs.Times.{AreUp, Rise, most_in, most_promised, promise_at, time_of, ts_in};
 
 use crate::acting::act;
-use crate::sites::sound;
 use sat_act::Deployment;
 use sat_label::TS_END;
 use sat_machines::{Laid, SiteNode};
 use sat_node::{CallFault, Held, Names};
+use sat_passes::sound;
 use sat_site::SiteInput;
 
 /// How many entries of a node's journal were looked at, and the greatest timestamp of what came by these. In the beginning both

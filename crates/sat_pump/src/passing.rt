@@ -8,11 +8,10 @@ ghost use Rattle.sat_pump.specs.Times.{most_in, time_of};
 use crate::collecting::collect;
 use crate::keeping::{Seen, keep_up};
 use crate::showing::show;
-use crate::sites::sound;
 use sat_act::Deployment;
 use sat_machines::{Laid, SiteNode};
 use sat_node::{CallFault, Held, Names};
-use sat_passes::{receive, send};
+use sat_passes::{receive, send, sound};
 use std::sync::Wait;
 
 // All parts, one after the other.
