@@ -115,9 +115,9 @@ hop_is_of d node k u l st alive at = record { stands = λ a h. refl; takes = her
 
 -- ---- what a hop leaves as it was
 
-state-next : {S I A : Type 0} (m : Meaning S I A) (name : NodeName) (s : S) (ks : List (Kept I A)) (k : Kept I A) → state_from m name s (ks ++ k ∷ []) ≡ m.after name (state_from m name s ks) k.input k.answer
-state-next m name s [] k = refl
-state-next m name s (x ∷ xs) k = state-next m name (m.after name s x.input x.answer) xs k
+pub state_next : {S I A : Type 0} (m : Meaning S I A) (name : NodeName) (s : S) (ks : List (Kept I A)) (k : Kept I A) → state_from m name s (ks ++ k ∷ []) ≡ m.after name (state_from m name s ks) k.input k.answer
+state_next m name s [] k = refl
+state_next m name s (x ∷ xs) k = state_next m name (m.after name s x.input x.answer) xs k
 
 same-self : (x y : SerialSeen) → y ≡ x → SameSerial x y
 same-self x y e = record { epoch = ap (λ (s : SerialSeen). s.epoch) e; tree = ap (λ (s : SerialSeen). s.serial.tree) e; number = ap (λ (s : SerialSeen). s.serial.number) e; killed = ap (λ (s : SerialSeen). s.serial.killed) e }
@@ -147,7 +147,7 @@ hop-same : (d : Deployed) (old new : NodeSeen SerialSeen SerialAct SerialAnswer)
 hop-same d old new u l n a so sn name entries h =
     let dead = replay (serial_meaning d) old.name old.entries in
     let next : replay (serial_meaning d) new.name new.entries ≡ dead_after dead a.answer =
-    (λ i. replay (serial_meaning d) (name i) (entries i)) ∙ state-next (serial_meaning d) old.name false old.entries (entry n (given.Hop u l) a) in
+    (λ i. replay (serial_meaning d) (name i) (entries i)) ∙ state_next (serial_meaning d) old.name false old.entries (entry n (given.Hop u l) a) in
     two-stand d old.name old.machine new.machine dead (replay (serial_meaning d) new.name new.entries) so
     (subst (λ (x : NodeName). SerialStands d x new.machine (replay (serial_meaning d) new.name new.entries)) name sn)
     (hop-lives d (epoch_in old.name) (serial_in old.name) dead u l a h ∙ sym next)

@@ -5,4 +5,5 @@ pub mod Faults
 pub mod Drains
 pub mod Hearing
 pub mod Sendings
+pub mod Following
 pub mod Small

@@ -1,5 +1,5 @@
 -- What a site's node sends.
-use Rattle.std.proofs.Common.{◌≡◌, ◌≢◌, ℕ, ◌+◌, ◌<◌, ◌==◌, ◌&&◌, ◌||◌, max, not, Bool, true, false, List, [], ◌∷◌, ◌++◌, Option, Some, None, Result, Ok, Err, IfOk, IfErr, inl, inr, refl, sym, ap, ◌∙◌, subst, append_assoc, arith, ⊎_elim}
+use Rattle.std.proofs.Common.{◌≡◌, ◌≢◌, ℕ, ◌+◌, ◌<◌, ◌==◌, ◌&&◌, max, not, Bool, true, false, List, [], ◌∷◌, ◌++◌, Option, Some, None, Result, Ok, Err, IfOk, IfErr, inl, inr, refl, sym, ap, ◌∙◌, subst, append_assoc, arith, ⊎_elim}
 use Rattle.std.proofs.lemmas.Bool.{and_parts, cases_eq, lt-ltb}
 use Rattle.std.proofs.lemmas.Bool.Decides.{nat_tests}
 use Rattle.std.proofs.lemmas.List.{append-nil}
@@ -33,7 +33,7 @@ use Rattle.sat_machines.specs.Acts.{ActSeen}
 use Rattle.sat_machines.specs.Layout.{peer}
 use Rattle.sat_machines.specs.Sites.{AnswersAt, Stands, is_standing, number_of, site_meaning, site_takes, taken_on}
 use Rattle.sat_passes.specs.Hearings.{SiteHeld, SiteKept, of_site}
-use Rattle.sat_passes.specs.Sendings.{AreSent, AreTold, FailsAlone, IsIdle, IsTold, Sent, beat_eq, is_sending, is_told, last_made, numbers_eq, points_eq, would_do}
+use Rattle.sat_passes.specs.Sendings.{AreSent, AreTold, FailsAlone, IsTold, Sent, beat_eq, is_sending, is_told, last_made, numbers_eq, points_eq, would_do}
 
 -- ---- beats
 
@@ -90,15 +90,15 @@ beat_done x j less differ = λ n. ((lt-ltb j x.shape.sites less n && not (other-
 pub would_fit : (x : SiteSeen) (given : SiteInput) → would_do x given ≡ true → fits_in x given ≡ true
 would_fit x given e = (let w = and_parts (fits_in x given) (is_done (site_answers x given)) e in w.0)
 
-done-stands : (r : Answer) → is_done r ≡ true → is_standing r ≡ true
-done-stands (ans.Refused why') e = absurd (cc (e))
-done-stands _ e = refl
+pub done_stands : (r : Answer) → is_done r ≡ true → is_standing r ≡ true
+done_stands (ans.Refused why') e = absurd (cc (e))
+done_stands _ e = refl
 
 -- the model's answer is done where the site's is
-done-by : (d : Deployed) (name : NodeName) (x : SiteSeen) (s : SiteState) (given : SiteInput) → EachStep → IsDeployment d → IsSite x → Stands d name x s → would_do x given ≡ true
+pub done_by : (d : Deployed) (name : NodeName) (x : SiteSeen) (s : SiteState) (given : SiteInput) → EachStep → IsDeployment d → IsSite x → Stands d name x s → would_do x given ≡ true
     → is_done (site_answer d (number_of name) s (input_of given)) ≡ true
-done-by d (named.Serializer e z) x s given law dep site st would = absurd st
-done-by d (named.Site i) x s given law dep site st would =
+done_by d (named.Serializer e z) x s given law dep site st would = absurd st
+done_by d (named.Site i) x s given law dep site st would =
     let w = and_parts (fits_in x given) (is_done (site_answers x given)) would in
     ap is_done (sym ((law x given site w.0).answers d i s dep st)) ∙ w.1
 
@@ -128,7 +128,7 @@ pub sending_local : (d : Deployed) (held : SiteHeld) (given : SiteInput) → Eac
     → Stands d held.node.name held.node.machine (replay (site_meaning d) held.node.name held.node.entries)
     → is_sending given ≡ true → would_do held.node.machine given ≡ true → IsLocal (site_meaning d) held.node (of_site given)
 sending_local d held given law dep site st sends would = record {
-  stands = λ a h. done-stands a.answer (ap is_done h.answer ∙ done-by d held.node.name held.node.machine (replay (site_meaning d) held.node.name held.node.entries) given law dep site st would);
+  stands = λ a h. done_stands a.answer (ap is_done h.answer ∙ done_by d held.node.name held.node.machine (replay (site_meaning d) held.node.name held.node.entries) given law dep site st would);
   takes = λ a k h. takes-none held.node.name k given a sends;
 }
 
@@ -164,7 +164,7 @@ given-sent d (Ok a) number may old new given law dep site st sends would takes h
   added = (
     entry (max old.node.number number + 1) (of_site given) a ∷ [],
     takes.taken,
-    (sends, ap is_done h.answer ∙ done-by d old.node.name old.node.machine (replay (site_meaning d) old.node.name old.node.entries) given law dep site st would, tt),
+    (sends, ap is_done h.answer ∙ done_by d old.node.name old.node.machine (replay (site_meaning d) old.node.name old.node.entries) given law dep site st would, tt),
   );
 }
 
@@ -193,32 +193,3 @@ told_more x n all here = λ j less. elim (cases_eq j n) [
   | inl same ↦ subst (IsTold x) (sym same) here
   | inr other ↦ all j (omega arith)
 ]
-
--- nothing was left to do
-pub idle_is : (n : ℕ) (a b c e : SiteHeld) (done : Bool) → a.node.machine.shape.sites ≡ n → (b ≡ a) × (would_do a.node.machine input.Emit ≡ false) → (c ≡ b) × (would_do b.node.machine input.Pulse ≡ false)
-    → (done ≡ false → (e ≡ c) × AreTold n c.node.machine) → done ≡ false → (e ≡ a) × IsIdle a.node.machine
-idle_is n a b c e done sites emit pulse beats none =
-    let h = beats none in
-    let ca : c ≡ a = pulse.0 ∙ emit.0 in (
-      h.0 ∙ ca,
-      record {
-        emit = emit.1;
-        pulse = subst (λ (x : SiteHeld). would_do x.node.machine input.Pulse ≡ false) emit.0 pulse.1;
-        beats = subst (λ (m : ℕ). AreTold m a.node.machine) (sym sites) (subst (λ (x : SiteHeld). AreTold n x.node.machine) ca h.1);
-      },
-    )
-
-neither : (a b : Bool) → (a || b) ≡ false → (a ≡ false) × (b ≡ false)
-neither true b e = absurd (cc (e))
-neither false b e = (refl, e)
-
--- one site more
-pub told_on : (n : ℕ) (a b c : SiteHeld) (done more next : Bool) → next ≡ (done || more) → (done ≡ false → (b ≡ a) × AreTold n a.node.machine) → (more ≡ false → (c ≡ b) × IsTold b.node.machine n)
-    → next ≡ false → (c ≡ a) × AreTold (n + 1) a.node.machine
-told_on n a b c done more next is first second none =
-    let w = neither done more (sym is ∙ none) in
-    let f = first w.0 in
-    let s = second w.1 in (
-      s.0 ∙ f.0,
-      told_more a.node.machine n f.1 (subst (λ (x : SiteHeld). IsTold x.node.machine n) f.0 s.1),
-    )

@@ -3,3 +3,4 @@ pub mod Faults
 pub mod Relays
 pub mod Hearings
 pub mod Sendings
+pub mod Followed

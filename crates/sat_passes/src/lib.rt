@@ -11,3 +11,4 @@ mod sites;
 pub use receiving::receive;
 pub use relaying::relay;
 pub use sending::send;
+pub use sites::sound;

@@ -1,7 +1,9 @@
 //! What a site's node sends.
-ghost use Rattle.std.specs.Prelude.{◌≡◌, ◌≢◌, ◌+◌, ◌<◌, ◌||◌, true, false, length, IfErr, IfOk, OnOk};
+ghost use Rattle.std.specs.Prelude.{◌≡◌, ◌≢◌, ◌+◌, ◌<◌, true, false, length, IfErr, IfOk, OnOk};
 ghost use Rattle.sat_node.specs.Puts.{Stopped};
 ghost use Rattle.sat_site.specs.declared.input.SiteInput.TheVariants as given;
+ghost use Rattle.sat_machines.specs.Sites.{number_of};
+ghost use Rattle.sat_passes.specs.Followed.{Follows, StaysSent, pending_count};
 ghost use Rattle.sat_passes.specs.Members.{Both};
 ghost use Rattle.sat_passes.specs.Sendings.{AreTold, FailsAlone, IsIdle, IsTold, Sent, is_sending, would_do};
 
@@ -26,157 +28,150 @@ fn act<N: Laid + Names>(
     ensures sent { Sent held.old held.new }
     ensures outs { held.new.outs ≡ held.old.outs }
     ensures ins { held.new.ins ≡ held.old.ins }
+    ensures follows { OnOk result (Follows N.deployment (number_of held.old.node.name) input held.old.node.machine held.new.node.machine) }
     ensures fault { IfErr result (FailsAlone held.new) }
 {
     sound(held);
-    held.act(0, SiteAct::of_site(input), SiteAct::of_site(copy))
+    let result = held.act(0, SiteAct::of_site(input), SiteAct::of_site(copy));
+    sound(held);
+    result
 }
 
-// Emits a label, if one is ready. False where none is: then nothing changed.
+// Emits a label, if one is ready, and then fewer are pending. False where none is ready.
 #[tactic(auto, using(crate::proofs::Sendings::sent_same))]
 fn emit<N: Laid + Names>(held: &mut Held<SiteNode<N>, N>) -> Result<bool, CallFault>
     ensures sent { Sent held.old held.new }
     ensures outs { held.new.outs ≡ held.old.outs }
     ensures ins { held.new.ins ≡ held.old.ins }
-    ensures none { IfOk result (λ done. done ≡ false → (held.new ≡ held.old) × (would_do held.old.node.machine given.Emit ≡ false)) }
+    ensures less { IfOk result (λ done. done ≡ true → pending_count held.new.node.machine < pending_count held.old.node.machine) }
+    ensures none { IfOk result (λ done. done ≡ false → would_do held.new.node.machine given.Emit ≡ false) }
     ensures fault { IfErr result (FailsAlone held.new) }
 {
     if !held.node().machine().site().can(&SiteInput::Emit) {
         return Ok(false);
     }
-    match act(held, SiteInput::Emit, SiteInput::Emit) {
-        Ok(_) => Ok(true),
-        Err(fault) => Err(fault),
+    if let Err(fault) = act(held, SiteInput::Emit, SiteInput::Emit) {
+        return Err(fault);
     }
+    Ok(true)
 }
 
-// Sends a pulse, if one is due. False where none is: then nothing changed.
+// Emits until no label is ready: at most as often as labels are pending.
 #[tactic(auto, using(crate::proofs::Sendings::sent_same))]
-fn pulse<N: Laid + Names>(held: &mut Held<SiteNode<N>, N>) -> Result<bool, CallFault>
+fn emit_all<N: Laid + Names>(held: &mut Held<SiteNode<N>, N>) -> Result<(), CallFault>
     ensures sent { Sent held.old held.new }
     ensures outs { held.new.outs ≡ held.old.outs }
     ensures ins { held.new.ins ≡ held.old.ins }
-    ensures none { IfOk result (λ done. done ≡ false → (held.new ≡ held.old) × (would_do held.old.node.machine given.Pulse ≡ false)) }
+    ensures none { OnOk result (would_do held.new.node.machine given.Emit ≡ false) }
+    ensures fault { IfErr result (FailsAlone held.new) }
+{
+    'emitting: loop {
+        match emit(held) {
+            Ok(true) => {}
+            Ok(false) => return Ok(()),
+            Err(fault) => return Err(fault),
+        }
+    }
+}
+
+// Sends a pulse, if one is due. Then none is, and a label is ready where one was.
+#[tactic(auto, using(crate::proofs::Sendings::sent_same))]
+fn pulse<N: Laid + Names>(held: &mut Held<SiteNode<N>, N>) -> Result<(), CallFault>
+    ensures sent { Sent held.old held.new }
+    ensures outs { held.new.outs ≡ held.old.outs }
+    ensures ins { held.new.ins ≡ held.old.ins }
+    ensures none { OnOk result (would_do held.new.node.machine given.Pulse ≡ false) }
+    ensures emit { OnOk result (would_do held.new.node.machine given.Emit ≡ would_do held.old.node.machine given.Emit) }
     ensures fault { IfErr result (FailsAlone held.new) }
 {
     if !held.node().machine().site().can(&SiteInput::Pulse) {
-        return Ok(false);
+        return Ok(());
     }
-    match act(held, SiteInput::Pulse, SiteInput::Pulse) {
-        Ok(_) => Ok(true),
-        Err(fault) => Err(fault),
+    if let Err(fault) = act(held, SiteInput::Pulse, SiteInput::Pulse) {
+        return Err(fault);
     }
+    Ok(())
 }
 
 // Makes a beat for another site.
 #[tactic(auto, using(crate::proofs::Sendings::beat_done, crate::proofs::Sendings::shape_sites))]
-fn make_beat<N: Laid + Names>(
-    held: &mut Held<SiteNode<N>, N>,
-    to: u16,
-) -> Result<SiteAnswer, CallFault>
+fn make_beat<N: Laid + Names>(held: &mut Held<SiteNode<N>, N>, to: u16) -> Result<(), CallFault>
     requires to { to < N.deployment.sites }
     requires other { to ≢ held.old.node.machine.shape.site }
     ensures sent { Sent held.old held.new }
     ensures outs { held.new.outs ≡ held.old.outs }
     ensures ins { held.new.ins ≡ held.old.ins }
+    ensures told { OnOk result (IsTold held.new.node.machine to) }
+    ensures stays { OnOk result (StaysSent N.deployment.sites held.old.node.machine held.new.node.machine) }
     ensures fault { IfErr result (FailsAlone held.new) }
 {
     sound(held);
-    act(held, SiteInput::Beat { to }, SiteInput::Beat { to })
+    if let Err(fault) = act(held, SiteInput::Beat { to }, SiteInput::Beat { to }) {
+        return Err(fault);
+    }
+    Ok(())
 }
 
-// Makes a beat for a site, if it is another one and the beat would differ from the last one made. False where not: then nothing changed.
-#[tactic(auto, using(crate::proofs::Sendings::sent_same, crate::proofs::Sendings::told_is, crate::proofs::Sendings::shape_sites, crate::proofs::Sendings::shape_site))]
-fn beat<N: Laid + Names>(held: &mut Held<SiteNode<N>, N>, to: u16) -> Result<bool, CallFault>
+// Makes a beat for a site, if it is another one and the beat would differ from the last one made. What was sent to others stays.
+#[tactic(auto, using(crate::proofs::Sendings::sent_same, crate::proofs::Sendings::told_is, crate::proofs::Sendings::shape_sites, crate::proofs::Sendings::shape_site, crate::proofs::Following::stays_same))]
+fn beat<N: Laid + Names>(held: &mut Held<SiteNode<N>, N>, to: u16) -> Result<(), CallFault>
     requires { to < N.deployment.sites }
     ensures sent { Sent held.old held.new }
     ensures outs { held.new.outs ≡ held.old.outs }
     ensures ins { held.new.ins ≡ held.old.ins }
-    ensures none { IfOk result (λ done. done ≡ false → (held.new ≡ held.old) × IsTold held.old.node.machine to) }
+    ensures told { OnOk result (IsTold held.new.node.machine to) }
+    ensures stays { OnOk result (StaysSent N.deployment.sites held.old.node.machine held.new.node.machine) }
     ensures fault { IfErr result (FailsAlone held.new) }
 {
     sound(held);
     if site_of(held) == to {
-        return Ok(false);
+        return Ok(());
     }
     match is_told(held.node().machine().site(), to) {
-        Ok(true) => Ok(false),
-        Ok(false) => match make_beat(held, to) {
-            Ok(_) => Ok(true),
-            Err(fault) => Err(fault),
-        },
+        Ok(true) => Ok(()),
+        Ok(false) => make_beat(held, to),
         Err(_) => Err(CallFault::Memory),
     }
 }
 
-fn either(a: bool, b: bool) -> bool
-    ensures { result ≡ (a || b) }
-{
-    a || b
-}
-
-// Makes a beat for each other site for which it would differ from the last one made. False where it made none: then nothing changed.
-#[tactic(auto, using(crate::proofs::Sendings::sent_same, crate::proofs::Sendings::told_none, crate::proofs::Sendings::told_more))]
-fn beat_all<N: Laid + Names>(held: &mut Held<SiteNode<N>, N>) -> Result<bool, CallFault>
+// Makes a beat for each other site for which it would differ from the last one made.
+#[tactic(auto, using(crate::proofs::Sendings::sent_same))]
+fn beat_all<N: Laid + Names>(held: &mut Held<SiteNode<N>, N>) -> Result<(), CallFault>
     ensures sent { Sent held.old held.new }
     ensures outs { held.new.outs ≡ held.old.outs }
     ensures ins { held.new.ins ≡ held.old.ins }
-    ensures none { IfOk result (λ done. done ≡ false → (held.new ≡ held.old) × AreTold N.deployment.sites held.old.node.machine) }
+    ensures told { OnOk result (AreTold N.deployment.sites held.new.node.machine) }
+    ensures stays { OnOk result (StaysSent N.deployment.sites held.old.node.machine held.new.node.machine) }
     ensures fault { IfErr result (FailsAlone held.new) }
 {
     let sites = held.node().machine().sites();
-    let mut done = false;
     for to in 0..sites {
-        match beat(held, to) {
-            Ok(more) => done = either(done, more),
-            Err(fault) => return Err(fault),
+        if let Err(fault) = beat(held, to) {
+            return Err(fault);
         }
     }
-    Ok(done)
+    Ok(())
 }
 
-// Emits, or sends a pulse, or makes beats. False where nothing of it was left to do: then nothing changed.
-#[tactic(auto, using(crate::proofs::Sendings::idle_is, crate::proofs::Sendings::shape_sites, crate::proofs::Sendings::sent_same))]
-fn go_on<N: Laid + Names>(held: &mut Held<SiteNode<N>, N>) -> Result<bool, CallFault>
-    ensures sent { Sent held.old held.new }
-    ensures outs { held.new.outs ≡ held.old.outs }
-    ensures ins { held.new.ins ≡ held.old.ins }
-    ensures none { IfOk result (λ done. done ≡ false → (held.new ≡ held.old) × IsIdle held.old.node.machine) }
-    ensures fault { IfErr result (FailsAlone held.new) }
-{
-    sound(held);
-    match emit(held) {
-        Ok(true) => return Ok(true),
-        Ok(false) => {}
-        Err(fault) => return Err(fault),
-    }
-    match pulse(held) {
-        Ok(true) => return Ok(true),
-        Ok(false) => {}
-        Err(fault) => return Err(fault),
-    }
-    beat_all(held)
-}
-
-// Emits, sends pulses and makes beats until nothing of it is left to do.
-fn make_all<N: Laid + Names, R: Wait>(
-    rt: &R,
-    held: &mut Held<SiteNode<N>, N>,
-) -> Result<(), CallFault>
+// Emits what is ready, then sends a pulse, and then makes beats, as long as something of it is left to do.
+fn make_all<N: Laid + Names>(held: &mut Held<SiteNode<N>, N>) -> Result<(), CallFault>
     ensures sent { Sent held.old held.new }
     ensures outs { held.new.outs ≡ held.old.outs }
     ensures ins { held.new.ins ≡ held.old.ins }
     ensures idle { OnOk result (IsIdle held.new.node.machine) }
     ensures fault { IfErr result (FailsAlone held.new) }
 {
-    'making: for _ in rt.forever() {
-        match go_on(held) {
-            Ok(true) => {}
-            Ok(false) => return Ok(()),
-            Err(fault) => return Err(fault),
-        }
+    if let Err(fault) = emit_all(held) {
+        return Err(fault);
     }
-    unreachable!()
+    if let Err(fault) = pulse(held) {
+        return Err(fault);
+    }
+    sound(held);
+    if let Err(fault) = beat_all(held) {
+        return Err(fault);
+    }
+    Ok(())
 }
 
 /// What a site's node sends: it emits what is ready and then a pulse, makes a beat for each other site for which it would differ from
@@ -194,7 +189,7 @@ pub fn send<N: Laid + Names, R: Wait>(
     ensures fault { IfErr result (FailsAlone held.new) }
 {
     let before = held.node().journal().len();
-    if let Err(fault) = make_all(rt, held) {
+    if let Err(fault) = make_all(held) {
         return Err(fault);
     }
     if let Err(fault) = flush_all(rt, held) {

@@ -1,20 +1,15 @@
 -- What a site does by itself, and which entries it adds.
 use Rattle.std.proofs.Common.{◌≡◌, ℕ, ◌+◌, ◌==◌, max, Bool, true, false, List, [], ◌∷◌, ◌++◌, None, Result, Ok, Err, IfOk, refl, sym, ap, ◌∙◌, subst, append_assoc, arith}
-use Rattle.std.proofs.lemmas.Bool.{and_parts}
 use Rattle.std.proofs.lemmas.Bool.Decides.{nat_tests}
 use Rattle.std.proofs.lemmas.List.{append-nil}
 use Rattle.sat_label.specs.declared.node.NodeName.{NodeName}
 use Rattle.sat_label.specs.declared.node.NodeName.TheVariants as named
-use Rattle.sat_act.specs.declared.answer.Answer.{Answer}
-use Rattle.sat_act.specs.declared.answer.Answer.TheVariants as ans
 use Rattle.sat_act.specs.Deployed.{Deployed}
 use Rattle.sat_act.specs.Limits.{IsDeployment}
 use Rattle.sat_act.specs.Settling.{is_done}
-use Rattle.sat_machine.specs.Reply.{site_answer}
-use Rattle.sat_machine.specs.State.{SiteState}
 use Rattle.sat_site.specs.declared.input.SiteInput.{SiteInput}
 use Rattle.sat_site.specs.declared.input.SiteInput.TheVariants as input
-use Rattle.sat_site.specs.Inputs.{fits_here, fits_in, input_of}
+use Rattle.sat_site.specs.Inputs.{fits_here}
 use Rattle.sat_site.specs.Laws.{EachStep}
 use Rattle.sat_site.specs.Seen.{SiteSeen, IsSite}
 use Rattle.sat_site.specs.SiteSteps.{site_answers}
@@ -25,24 +20,13 @@ use Rattle.sat_node.specs.Links.{IsLocal}
 use Rattle.sat_machines.specs.declared.site_answer.SiteAnswer.{SiteAnswer}
 use Rattle.sat_machines.specs.Acts.{ActSeen, is_clients}
 use Rattle.sat_machines.specs.Layout.{peer}
-use Rattle.sat_machines.specs.Sites.{AnswersAt, Stands, is_standing, number_of, site_meaning, site_takes, taken_on}
+use Rattle.sat_machines.specs.Sites.{AnswersAt, Stands, number_of, site_meaning, site_takes, taken_on}
 use Rattle.sat_passes.specs.Hearings.{SiteHeld, SiteKept, of_site}
 use Rattle.sat_passes.specs.Sendings.{would_do}
+use Rattle.sat_passes.proofs.Sendings.{done_by, done_stands}
 use Rattle.sat_pump.specs.Adds.{Adds, AreDone, is_own}
 
 -- ---- what a site would do
-
-pub done_stands : (r : Answer) → is_done r ≡ true → is_standing r ≡ true
-done_stands (ans.Refused why') e = absurd (cc (e))
-done_stands _ e = refl
-
--- the model's answer is done where the site's is
-pub done_by : (d : Deployed) (name : NodeName) (x : SiteSeen) (s : SiteState) (given : SiteInput) → EachStep → IsDeployment d → IsSite x → Stands d name x s → would_do x given ≡ true
-    → is_done (site_answer d (number_of name) s (input_of given)) ≡ true
-done_by d (named.Serializer e z) x s given law dep site st would = absurd st
-done_by d (named.Site i) x s given law dep site st would =
-    let w = and_parts (fits_in x given) (is_done (site_answers x given)) would in
-    ap is_done (sym ((law x given site w.0).answers d i s dep st)) ∙ w.1
 
 pub own_is_site : (given : SiteInput) → is_own given ≡ true → is_clients given ≡ false
 own_is_site (input.Write seen n value) e = absurd (cc (e))

@@ -1,4 +1,5 @@
 pub mod Doing
 pub mod Times
+pub mod Raising
 pub mod Turns
 pub mod Entries

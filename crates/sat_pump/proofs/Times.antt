@@ -1,6 +1,6 @@
 -- The timestamp to which a site's gears are raised.
-use Rattle.std.proofs.Common.{◌≡◌, ℕ, zero, suc, ◌+◌, ◌<◌, ◌≤◌, ◌&&◌, ◌||◌, max, Bool, true, false, List, [], ◌∷◌, length, drop, Option, Some, None, slice_get, inl, inr, refl, sym, ap, ◌∙◌, subst, arith}
-use Rattle.std.proofs.lemmas.Bool.{cases_eq, le-leb, lt-ltb}
+use Rattle.std.proofs.Common.{◌≡◌, ℕ, zero, suc, ◌+◌, ◌<◌, ◌≤◌, ◌&&◌, max, true, List, [], ◌∷◌, length, drop, Option, Some, None, slice_get, refl, sym, ap, ◌∙◌, subst, arith}
+use Rattle.std.proofs.lemmas.Bool.{le-leb, lt-ltb}
 use Rattle.sat_label.specs.declared.limits.TheConstants.{TS_END}
 use Rattle.sat_label.specs.declared.node.NodeName.{NodeName}
 use Rattle.sat_label.specs.declared.node.NodeName.TheVariants as named
@@ -78,35 +78,8 @@ tick_done x g t less le = λ n. ((lt-ltb g x.shape.gears less n && le-leb t TS_E
 pub up_none : (x : SiteSeen) (t : ℕ) → AreUp 0 x t
 up_none x t = λ g less. absurd (omega arith)
 
-up-more : (x : SiteSeen) (t n : ℕ) → AreUp n x t → t ≤ promise_at x n → AreUp (n + 1) x t
-up-more x t n all here = λ g less. elim (cases_eq g n) [
-  | inl same ↦ subst (λ (m : ℕ). t ≤ promise_at x m) (sym same) here
-  | inr other ↦ all g (omega arith)
-]
-
-neither : (a b : Bool) → (a || b) ≡ false → (a ≡ false) × (b ≡ false)
-neither true b e = absurd (cc (e))
-neither false b e = (refl, e)
-
--- one gear more
-pub up_on : (n t : ℕ) (a b c : SiteHeld) (done more next : Bool) → next ≡ (done || more) → (done ≡ false → (b ≡ a) × AreUp n a.node.machine t) → (more ≡ false → (c ≡ b) × (t ≤ promise_at b.node.machine n))
-    → next ≡ false → (c ≡ a) × AreUp (n + 1) a.node.machine t
-up_on n t a b c done more next is first second none =
-    let w = neither done more (sym is ∙ none) in
-    let f = first w.0 in
-    let s = second w.1 in (
-      s.0 ∙ f.0,
-      up-more a.node.machine t n f.1 (subst (λ (h : SiteHeld). t ≤ promise_at h.node.machine n) f.0 s.1),
-    )
-
 -- where none is below it, one gear more changes nothing
 pub still_on : (gears n t : ℕ) (a b c : SiteHeld) → n < gears → (AreUp gears a.node.machine t → b ≡ a) → (t ≤ promise_at b.node.machine n → c ≡ b) → AreUp gears a.node.machine t → c ≡ a
 still_on gears n t a b c less first second up =
     let f = first up in
     second (subst (λ (h : SiteHeld). t ≤ promise_at h.node.machine n) (sym f) (up n less)) ∙ f
-
--- where none is below it, one more round changes nothing
-pub still_then : (P : SiteHeld → Type 0) (a b c : SiteHeld) → (P a → b ≡ a) → (P b → c ≡ b) → P a → c ≡ a
-still_then P a b c first second h =
-    let f = first h in
-    second (subst P (sym f) h) ∙ f

@@ -40,8 +40,9 @@ use Rattle.sat_passes.specs.Faults.{Fails}
 use Rattle.sat_passes.specs.Hearings.{SiteHeld, SiteKept, of_site}
 use Rattle.sat_passes.specs.Sendings.{FailsAlone, would_do}
 use Rattle.sat_passes.proofs.Drains.{only_know}
+use Rattle.sat_passes.proofs.Sendings.{done_stands}
 use Rattle.sat_pump.specs.Shows.{EndsGoOn, GoesOn, Grows, IsLooked, IsSpent, ShowsNoMore, label_at, label_with}
-use Rattle.sat_pump.proofs.Doing.{done_stands, same_number}
+use Rattle.sat_pump.proofs.Doing.{same_number}
 
 -- ---- which label a front is
 

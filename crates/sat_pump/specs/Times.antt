@@ -36,6 +36,10 @@ most_promised x t (suc n) = max (most_promised x t n) (promise_at x n)
 abbrev pub AreUp : ℕ → SiteSeen → ℕ → Type 0
 AreUp n x t = (g : ℕ) → g < n → t ≤ promise_at x g
 
+-- none of the first n gears' promises fell
+abbrev pub Rise : ℕ → SiteSeen → SiteSeen → Type 0
+Rise n x y = (g : ℕ) → g < n → promise_at x g ≤ promise_at y g
+
 -- of a node of so many gears: the greatest of its promises, of what came by its entries from a place on, and of a timestamp
 abbrev pub time_of : ℕ → ℕ → ℕ → SiteHeld → ℕ
 time_of gears upto ts held = most_promised held.node.machine (most_in ts (drop upto held.node.entries)) gears

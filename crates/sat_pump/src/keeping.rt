@@ -1,18 +1,17 @@
 //! The gears of a site keep up with what came.
-ghost use Rattle.std.specs.Prelude.{◌≡◌, ◌+◌, ◌<◌, ◌≤◌, ◌||◌, false, max, length, drop, IfErr, IfOk, OnOk};
+ghost use Rattle.std.specs.Prelude.{◌≡◌, ◌+◌, ◌<◌, ◌≤◌, max, length, drop, IfErr, IfOk, OnOk};
 ghost use Rattle.sat_passes.specs.Sendings.{FailsAlone};
 ghost use Rattle.sat_pump.specs.Adds.{Adds, is_tick_to};
 ghost use Rattle.sat_pump.specs.Steps.{IsRaised};
-ghost use Rattle.sat_pump.specs.Times.{AreUp, most_in, most_promised, promise_at, time_of, ts_in};
+ghost use Rattle.sat_pump.specs.Times.{AreUp, Rise, most_in, most_promised, promise_at, time_of, ts_in};
 
 use crate::acting::act;
-use crate::sites::sound;
 use sat_act::Deployment;
 use sat_label::TS_END;
 use sat_machines::{Laid, SiteNode};
 use sat_node::{CallFault, Held, Names};
+use sat_passes::sound;
 use sat_site::SiteInput;
-use std::sync::Wait;
 
 /// How many entries of a node's journal were looked at, and the greatest timestamp of what came by these. In the beginning both
 /// are 0.
@@ -82,74 +81,43 @@ fn greatest<N: Laid + Names>(held: &Held<SiteNode<N>, N>, d: &Deployment, ts: u6
     most
 }
 
-// Raises a gear's promise to a timestamp, if it is below that. False where it is not: then nothing changed.
+// Raises a gear's promise to a timestamp, if it is below that. Then it is not, and no other is lower than before.
 #[tactic(auto, using(crate::proofs::Doing::adds_same, crate::proofs::Times::tick_done, crate::proofs::Times::shape_gears))]
 fn tick<N: Laid + Names>(
     held: &mut Held<SiteNode<N>, N>,
     gear: u16,
     ts: u64,
-) -> Result<bool, CallFault>
+) -> Result<(), CallFault>
     requires { gear < N.deployment.gears }
     ensures ticks { Adds (is_tick_to ts) held.old held.new }
     ensures outs { held.new.outs ≡ held.old.outs }
     ensures ins { held.new.ins ≡ held.old.ins }
-    ensures none { IfOk result (λ done. done ≡ false → (held.new ≡ held.old) × (ts ≤ promise_at held.old.node.machine gear)) }
+    ensures up { OnOk result (ts ≤ promise_at held.new.node.machine gear) }
+    ensures rises { OnOk result (Rise N.deployment.gears held.old.node.machine held.new.node.machine) }
     ensures still { ts ≤ promise_at held.old.node.machine gear → held.new ≡ held.old }
     ensures fault { IfErr result (FailsAlone held.new) }
 {
     sound(held);
     if ts <= promise_of(held, gear) {
-        return Ok(false);
+        return Ok(());
     }
     // Nothing that came has a greater timestamp. This branch is never run.
     if ts > TS_END {
         return Err(CallFault::Memory);
     }
-    match act(
+    if let Err(fault) = act(
         held,
         SiteInput::Tick { gear, ts },
         SiteInput::Tick { gear, ts },
     ) {
-        Ok(_) => Ok(true),
-        Err(fault) => Err(fault),
+        return Err(fault);
     }
+    Ok(())
 }
 
-fn either(a: bool, b: bool) -> bool
-    ensures { result ≡ (a || b) }
-{
-    a || b
-}
-
-// Raises each gear's promise that is below a timestamp. False where none is: then nothing changed.
+// Raises each gear's promise that is below a timestamp. Then none is.
 #[tactic(auto, using(crate::proofs::Doing::adds_same, crate::proofs::Times::up_none))]
-fn tick_all<N: Laid + Names>(
-    held: &mut Held<SiteNode<N>, N>,
-    d: &Deployment,
-    ts: u64,
-) -> Result<bool, CallFault>
-    requires { N.deployment ≡ d.now }
-    ensures ticks { Adds (is_tick_to ts) held.old held.new }
-    ensures outs { held.new.outs ≡ held.old.outs }
-    ensures ins { held.new.ins ≡ held.old.ins }
-    ensures none { IfOk result (λ done. done ≡ false → (held.new ≡ held.old) × AreUp N.deployment.gears held.old.node.machine ts) }
-    ensures still { AreUp N.deployment.gears held.old.node.machine ts → held.new ≡ held.old }
-    ensures fault { IfErr result (FailsAlone held.new) }
-{
-    let mut done = false;
-    for gear in 0..d.gears() {
-        match tick(held, gear, ts) {
-            Ok(more) => done = either(done, more),
-            Err(fault) => return Err(fault),
-        }
-    }
-    Ok(done)
-}
-
-// The same until none is below it.
-#[tactic(auto, using(crate::proofs::Doing::adds_same))]
-fn raise<N: Laid + Names, R: Wait>(
-    rt: &R,
+fn raise<N: Laid + Names>(
     held: &mut Held<SiteNode<N>, N>,
     d: &Deployment,
     ts: u64,
@@ -162,21 +130,18 @@ fn raise<N: Laid + Names, R: Wait>(
     ensures still { AreUp N.deployment.gears held.old.node.machine ts → held.new ≡ held.old }
     ensures fault { IfErr result (FailsAlone held.new) }
 {
-    'raising: for _ in rt.forever() {
-        match tick_all(held, d, ts) {
-            Ok(true) => {}
-            Ok(false) => return Ok(()),
-            Err(fault) => return Err(fault),
+    for gear in 0..d.gears() {
+        if let Err(fault) = tick(held, gear, ts) {
+            return Err(fault);
         }
     }
-    unreachable!()
+    Ok(())
 }
 
 /// Raises the promise of each gear that is below the greatest timestamp: of the promises, and of the labels, the payloads and the cuts
 /// of the beats that came. Only the entries that were not looked at are looked at. How many entries the node kept. `Worn`, with the
 /// greatest u64, only where that is the node's number; `Memory`. After an error, what was kept by then stays.
-pub fn keep_up<N: Laid + Names, R: Wait>(
-    rt: &R,
+pub fn keep_up<N: Laid + Names>(
     held: &mut Held<SiteNode<N>, N>,
     d: &Deployment,
     seen: &mut Seen,
@@ -192,7 +157,7 @@ pub fn keep_up<N: Laid + Names, R: Wait>(
     let before = held.node().journal().len();
     look(held, seen);
     let ts = greatest(held, d, seen.ts);
-    if let Err(fault) = raise(rt, held, d, ts) {
+    if let Err(fault) = raise(held, d, ts) {
         return Err(fault);
     }
     let after = held.node().journal().len();

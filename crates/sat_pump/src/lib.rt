@@ -7,7 +7,6 @@ mod collecting;
 mod keeping;
 mod passing;
 mod showing;
-mod sites;
 
 pub use collecting::collect;
 pub use keeping::{Seen, keep_up};

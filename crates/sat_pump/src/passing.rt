@@ -8,11 +8,10 @@ ghost use Rattle.sat_pump.specs.Times.{most_in, time_of};
 use crate::collecting::collect;
 use crate::keeping::{Seen, keep_up};
 use crate::showing::show;
-use crate::sites::sound;
 use sat_act::Deployment;
 use sat_machines::{Laid, SiteNode};
 use sat_node::{CallFault, Held, Names};
-use sat_passes::{receive, send};
+use sat_passes::{receive, send, sound};
 use std::sync::Wait;
 
 // All parts, one after the other.
@@ -29,11 +28,11 @@ fn go_through<N: Laid + Names, R: Wait>(
     ensures whole { OnOk result (IsPass N.deployment (time_of N.deployment.gears seen.old.upto seen.old.ts held.old) held.old held.new) }
     ensures fault { IfErr result (Fails held.new) }
 {
-    if let Err(fault) = keep_up(rt, held, d, seen) {
+    if let Err(fault) = keep_up(held, d, seen) {
         return Err(fault);
     }
     sound(held);
-    if let Err(fault) = collect(rt, held) {
+    if let Err(fault) = collect(held) {
         return Err(fault);
     }
     sound(held);

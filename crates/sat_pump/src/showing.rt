@@ -13,11 +13,11 @@ ghost use Rattle.sat_pump.specs.Shows.{EndsGoOn, IsLooked, ShowsNoMore, label_at
 ghost use Rattle.sat_pump.specs.Steps.{HasShown};
 
 use crate::acting::act;
-use crate::sites::sound;
 use sat_act::{Deployment, Plan};
 use sat_label::Label;
 use sat_machines::{Laid, SiteAct, SiteAnswer, SiteNode};
 use sat_node::{Body, CallFault, Held, Names};
+use sat_passes::sound;
 use sat_site::SiteInput;
 use std::sync::Wait;
 

@@ -2,18 +2,24 @@ use Rattle.std.proofs.Common.{subst, sym}
 use Rattle.sat_node.specs.Links.{IsLocal}
 use Rattle.sat_machines.specs.Acts.{ActSeen}
 use Rattle.sat_machines.specs.Sites.{site_meaning}
+use Rattle.sat_passes.proofs.Following.{act_follows}
 use Rattle.sat_passes.proofs.Sendings.{act_fails, act_sent, sending_local}
 use Rattle.sat_passes.proofs.sending.act.Goals as goal
 
-pub act-requires-clause-local : goal.act-requires-clause-local
-act-requires-clause-local g c =
+pub act-result-requires-clause-local : goal.act-result-requires-clause-local
+act-result-requires-clause-local g c =
     subst (λ (x : ActSeen). IsLocal (site_meaning g.N.Laid.deployment) c.args.held.now.node x) (sym c.of_site.ensures)
     (sending_local g.N.Laid.deployment c.args.held.now c.args.input c.sound.ensures.steps c.sound.ensures.deployment c.sound.ensures.site c.sound.ensures.stands c.requires.sending c.requires.done)
 
 pub returns-clause-sent : goal.returns-clause-sent
 returns-clause-sent g c =
-    act_sent g.N.Laid.deployment c.act.result _ _ c.args.held.now c.act.new.self c.args.input _ c.of_site.ensures c.sound.ensures.steps c.sound.ensures.deployment c.sound.ensures.site c.sound.ensures.stands c.requires.sending c.requires.done
-    c.act.ensures.takes c.act.ensures.answer
+    act_sent g.N.Laid.deployment c.act-result.result _ _ c.args.held.now c.act-result.new.self c.args.input _ c.of_site.ensures c.sound.ensures.steps c.sound.ensures.deployment c.sound.ensures.site c.sound.ensures.stands c.requires.sending c.requires.done
+    c.act-result.ensures.takes c.act-result.ensures.answer
 
 pub returns-clause-fault : goal.returns-clause-fault
-returns-clause-fault g c = act_fails c.act.result _ c.args.held.now c.act.new.self _ c.act.ensures.takes
+returns-clause-fault g c = act_fails c.act-result.result _ c.args.held.now c.act-result.new.self _ c.act-result.ensures.takes
+
+pub returns-clause-follows : goal.returns-clause-follows
+returns-clause-follows g c =
+    act_follows g.N.Laid.deployment c.act-result.result _ _ c.args.held.now c.act-result.new.self c.args.input _ c.of_site.ensures c.sound.ensures.steps c.sound.ensures.deployment c.sound.ensures.site c.sound-2.ensures.site c.sound.ensures.stands c.sound-2.ensures.stands
+    c.requires.done c.act-result.ensures.takes c.act-result.ensures.answer

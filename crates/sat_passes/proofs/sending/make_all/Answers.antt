@@ -1,16 +1,17 @@
-use Rattle.std.proofs.Common.{◌∙◌}
-use Rattle.sat_passes.proofs.Sendings.{sent_then}
+use Rattle.sat_passes.proofs.Following.{idle_is}
+use Rattle.sat_passes.proofs.Sendings.{sent_then, shape_sites}
 use Rattle.sat_passes.proofs.sending.make_all.Goals as goal
 
-pub making-preserved : goal.making-preserved
-making-preserved g c = (
-  sent_then _ _ _ c.making.invariant.0 c.go_on.ensures.sent,
-  c.go_on.ensures.outs ∙ c.making.invariant.1,
-  c.go_on.ensures.ins ∙ c.making.invariant.2,
-)
+pub returns-in-Err-pulse-clause-sent : goal.returns-in-Err-pulse-clause-sent
+returns-in-Err-pulse-clause-sent g c = sent_then _ _ _ c.emit_all.ensures.sent c.pulse.ensures.sent
 
-pub returns-in-Ok-false-clause-sent : goal.returns-in-Ok-false-clause-sent
-returns-in-Ok-false-clause-sent g c = sent_then _ _ _ c.making.invariant.0 c.go_on.ensures.sent
+pub returns-in-Err-beat_all-clause-sent : goal.returns-in-Err-beat_all-clause-sent
+returns-in-Err-beat_all-clause-sent g c = sent_then _ _ _ (sent_then _ _ _ c.emit_all.ensures.sent c.pulse.ensures.sent) c.beat_all.ensures.sent
 
-pub returns-in-Err-clause-sent : goal.returns-in-Err-clause-sent
-returns-in-Err-clause-sent g c = sent_then _ _ _ c.making.invariant.0 c.go_on.ensures.sent
+pub returns-clause-sent : goal.returns-clause-sent
+returns-clause-sent g c = sent_then _ _ _ (sent_then _ _ _ c.emit_all.ensures.sent c.pulse.ensures.sent) c.beat_all.ensures.sent
+
+pub returns-clause-idle : goal.returns-clause-idle
+returns-clause-idle g c =
+    idle_is g.N.Laid.deployment.sites c.emit_all.new.held.node.machine c.pulse.new.held.node.machine c.beat_all.new.held.node.machine (shape_sites g.N.Laid.deployment _ _ _ c.sound.ensures.stands)
+    c.in_default.ensures.none c.in_default-pulse.ensures.emit c.in_default-pulse.ensures.none c.in_default-beat_all.ensures.stays c.in_default-beat_all.ensures.told

@@ -43,15 +43,15 @@ returns-clause-added g c =
 pub returns-clause-whole : goal.returns-clause-whole
 returns-clause-whole g c = record {
   after_raise = c.keep_up.new.held;
-  raised = (c.in_default.ensures.raised, c.sound.ensures.replays);
+  raised = (c.in_default.ensures.raised, record { stands = c.sound.ensures.stands; site = c.sound.ensures.site });
   after_gather = c.collect.new.held;
-  gathered = (c.in_default-collect.ensures.gathered, c.sound-2.ensures.replays);
+  gathered = (c.in_default-collect.ensures.gathered, record { stands = c.sound-2.ensures.stands; site = c.sound-2.ensures.site });
   after_send = c.send.new.held;
-  sent = (record { made = c.send.ensures.made; ins = c.send.ensures.ins; idle = c.in_default-send.ensures.idle; sent = c.in_default-send.ensures.sent }, c.sound-3.ensures.replays);
+  sent = (record { made = c.send.ensures.made; ins = c.send.ensures.ins; idle = c.in_default-send.ensures.idle; sent = c.in_default-send.ensures.sent }, record { stands = c.sound-3.ensures.stands; site = c.sound-3.ensures.site });
   after_hear = c.receive.new.held;
   heard = (
     record { heard = c.receive.ensures.heard; outs = c.receive.ensures.outs; all = c.in_default-receive.ensures.all; emptied = c.in_default-receive.ensures.emptied },
-    c.sound-4.ensures.replays,
+    record { stands = c.sound-4.ensures.stands; site = c.sound-4.ensures.site },
   );
   shown = c.in_default-show.ensures.shown;
 }
