@@ -10,7 +10,8 @@ use Rattle.sat_act.specs.Deployed.{Deployed}
 use Rattle.sat_stitch.specs.Kept.{Kept}
 use Rattle.sat_stitch.specs.Places.{Session, session_of}
 use Rattle.sat_session.specs.declared.noted.Noted.{Noted}
-use Rattle.sat_session.specs.Notes.{SessionSeen, Owned, notes_of, session_at, session_notes}
+use Rattle.sat_session.specs.Notes.{SessionSeen, notes_of, session_at, session_notes}
+use Rattle.sat_session.specs.Owned.{Owned}
 use Rattle.sat_session.specs.Sessions.{IsSession, NotesFrom, note_kept}
 use Rattle.sat_session.proofs.Owned.{OfSession, in-flat, in-own}
 use Rattle.sat_finish.specs.Differences.{IsDifference}
