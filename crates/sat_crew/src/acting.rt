@@ -117,7 +117,8 @@ fn try_act<N: Laid + Names, R: Wait, G: Gate>(
     }
 }
 
-/// Does the act: an attach that has to wait is tried again, `MOST_TRIES` times in a row at the most. False where the client gave up, after exactly so many.
+/// Does the act: an attach that has to wait is tried again, `MOST_TRIES` times in a row at the most. False where the client gave up,
+/// after exactly so many.
 #[tactic(auto, using(crate::proofs::Trying::trying_start, crate::proofs::Trying::trying_more, crate::proofs::Trying::trying_done, crate::proofs::Trying::trying_failed, crate::proofs::Trying::trying_given_up, crate::proofs::Owning::own_still))]
 pub(crate) fn do_act<N: Laid + Names, R: Wait, G: Gate>(
     rt: &R,

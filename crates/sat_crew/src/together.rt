@@ -288,8 +288,9 @@ fn run<N: Laid + Names + Send + Sync, R: Threads + Wait + Sync, G: Gate>(
 /// Does a script at the nodes of a cluster, on threads: one for each session, which does its acts in their order, and one for each
 /// serializer and each site, which makes its passes until all sessions' threads have returned. A client whose attach has to wait tries
 /// again, `MOST_TRIES` times in a row at the most, and then leaves out its further acts. At the end the nodes make passes until nothing is
-/// left to do. After Ok each session did all its acts, or its client gave up at the end of what it did, after exactly so many tries; after an error
-/// each did a front of its acts. Each try is of the act that comes next. `Worn`, with the greatest u64, where a worker's call answered it; `Memory`. All sessions come back, in their order.
+/// left to do. After Ok each session did all its acts, or its client gave up at the end of what it did, after exactly so many tries;
+/// after an error each did a front of its acts. Each try is of the act that comes next. `Worn`, with the greatest u64, where a worker's
+/// call answered it; `Memory`. All sessions come back, in their order.
 #[tactic(auto, using(crate::proofs::Hiring::untouched, crate::proofs::Hiring::back_as, crate::proofs::Hiring::through_as))]
 pub fn crew<N: Laid + Names + Send + Sync, R: Threads + Wait + Sync, G: Gate>(
     rt: &R,
