@@ -149,6 +149,8 @@ impl ScriptReader {
         // The text that came while no fault is known is no longer than the longest good script.
         ensures counted { OnOk result (bytes_of self.old + length piece.now ≤ bytes_of self.new) }
         ensures few { bytes_of self.new ≤ MOST_BYTES }
+        // While no fault is known, none of the whole lines is bad.
+        ensures lacks { known_fault self.new ≡ None → LacksOnlyItsEnd (will_be self.new []) }
         // A fault stands at the line at which the reader stops, also for want of memory, and all before it is kept.
         ensures line { IfErr result (λ fault. fault.line ≡ line_of self.new) }
     {
