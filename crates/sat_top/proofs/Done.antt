@@ -1,6 +1,5 @@
 -- What the statuses of the commands say, once the output is written.
 use Rattle.std.proofs.Common.{◌≡◌, ℕ, zero, suc, false, List, Option, Some, None, Result, Ok, Err, IsSome, refl, sym, ap, subst, ◌∙◌}
-use Rattle.std.specs.Prelude.{◌≢◌}
 use Rattle.sat_outside.specs.Streams.{Told, Takes}
 use Rattle.sat_stream.specs.Reading.{reading}
 use Rattle.sat_script.specs.declared.fault.ScriptFault.{ScriptFault}
@@ -17,7 +16,6 @@ use Rattle.sat_top.specs.Good.{IsGoodScript}
 use Rattle.sat_place.specs.Shape.{Shape, shape_reading}
 use Rattle.sat_place.specs.Texts.{place_text, result_text as place_result}
 use Rattle.sat_top.specs.Placing.{place_status}
-use Rattle.sat_top.specs.Streaming.{StopsReadingOf}
 use Rattle.sat_top.specs.Whole.{IsDone, IsRefused, IsOutput, HasRun, HasDrawn, HasLineFault, HasFault, HasPlan, HasDelayFault, HasPlacement, HasShapeFault, command_output, plan_status, run_status}
 
 written : (c : Option Command) (left : Option (List ℕ)) (text : List ℕ) (status : ℕ) (old new : Told) (o : IsOutput c left text status) → Takes old new text → Takes old new (command_output c o.input)
@@ -162,14 +160,3 @@ is_refused (Some (Load seed acts)) left text status old new o took is-one = absu
 is_refused (Some Help) left text status old new o took is-one = absurd (let e : status ≡ 0 = o.status_is in cc)
 is_refused (Some Version) left text status old new o took is-one = absurd (let e : status ≡ 0 = o.status_is in cc)
 is_refused None left text status old new o took is-one = absurd (let e : status ≡ 2 = o.status_is in cc)
-
--- a command that reads no script
-pub no_script : (c : Option Command) (left left_after : Option (List ℕ)) → c ≢ Some Run → StopsReadingOf c left left_after
-no_script (Some Run) left left_after other = absurd (other refl)
-no_script (Some Draw) left left_after other = tt
-no_script (Some Plan) left left_after other = tt
-no_script (Some Place) left left_after other = tt
-no_script (Some (Load seed acts)) left left_after other = tt
-no_script (Some Help) left left_after other = tt
-no_script (Some Version) left left_after other = tt
-no_script None left left_after other = tt

@@ -12,6 +12,7 @@ use Rattle.sat_stream.specs.declared.stream.Reading.{Reading}
 use Rattle.sat_live.specs.Told.{IsTold}
 use Rattle.sat_top.specs.declared.stream.TheConstants.{BUFFER_BYTES}
 use Rattle.sat_top.specs.Living.{MeetsLive, IsLiveStatus, Tells, TellsOf, is_told}
+use Rattle.sat_top.specs.Streaming.{StopsReading}
 use Rattle.sat_top.specs.Whole.{IsTextOf}
 
 -- what holds of the statuses of a run that came to its end
@@ -24,7 +25,7 @@ one-is-none : (status : ℕ) → status ≡ 1 → is_told status ≡ true → �
 one-is-none status one told = let e : false ≡ true = sym (ap is_told one) ∙ told in cc
 
 module _ (status : ℕ) (left left_after : Option (List ℕ)) (old new : Told) (failed failed_after refused refused_after ends ends_after : ℕ) (text output : List ℕ) (whole : IsTextOf left text)
-    (bounded : (taken : List ℕ) × Consumes left left_after taken × (length taken ≤ MOST_BYTES + BUFFER_BYTES)) (once : ends_after ≤ ends + 1) (later : failed ≤ failed_after) (kept : refused ≤ refused_after) (took : Takes old new output) where
+    (bounded : (taken : List ℕ) × Consumes left left_after taken × (length taken ≤ MOST_BYTES + BUFFER_BYTES)) (stops : StopsReading true left left_after) (once : ends_after ≤ ends + 1) (later : failed ≤ failed_after) (kept : refused ≤ refused_after) (took : Takes old new output) where
   same-text : (other : List ℕ) → left ≡ Some other → other ≡ text
   same-text other is = subst (λ (l : Option (List ℕ)). IsTextOf l text) is whole
 
@@ -41,6 +42,7 @@ module _ (status : ℕ) (left left_after : Option (List ℕ)) (old new : Told) (
         no_memory = λ e. absurd (omega (arith, e, one));
         statuses = (omega (arith, one), (λ e. omega (arith, e, one)), (λ e. omega (arith, e, one)));
         bounded = bounded;
+        stops = stops;
         once = once;
         later = (later, kept);
         complete = λ other at _ _. inl (same-fault other at (Some fault) is one);
@@ -58,6 +60,7 @@ module _ (status : ℕ) (left left_after : Option (List ℕ)) (old new : Told) (
         no_memory = λ e. absurd (each-end (λ n. n ≢ 5) status told.statuses (λ f. omega (arith, f)) (λ f. omega (arith, f)) (λ f. omega (arith, f)) e);
         statuses = (low, each-end (λ n. n ≢ 2) status told.statuses (λ f. omega (arith, f)) (λ f. omega (arith, f)) (λ f. omega (arith, f)), each-end (λ n. n ≢ 7) status told.statuses (λ f. omega (arith, f)) (λ f. omega (arith, f)) (λ f. omega (arith, f)));
         bounded = bounded;
+        stops = stops;
         once = once;
         later = (later, kept);
         complete = λ other at _ _. inl (same-fault other at None is ends-so);
@@ -77,10 +80,11 @@ pub lived_met : (status : ℕ) (left left_after : Option (List ℕ)) (old new : 
     (text : List ℕ) × IsTextOf left text × (reading true text ≡ found) →
     (found.fault ≡ None → IsAtEnd left_after) →
     (taken : List ℕ) × Consumes left left_after taken × (length taken ≤ MOST_BYTES + BUFFER_BYTES) →
+    StopsReading true left left_after →
     ends_after ≤ ends + 1 →
     failed ≤ failed_after → refused ≤ refused_after → Tells found.deployment found.acts found.fault output status → Takes old new output →
     MeetsLive status left left_after old new failed failed_after refused refused_after ends ends_after
-lived_met status left left_after old new failed failed_after refused refused_after ends ends_after found output law from reached bounded once later kept tells took =
-    either status left left_after old new failed failed_after refused refused_after ends ends_after from.0 output from.1 bounded once later kept took law
+lived_met status left left_after old new failed failed_after refused refused_after ends ends_after found output law from reached bounded stops once later kept tells took =
+    either status left left_after old new failed failed_after refused refused_after ends ends_after from.0 output from.1 bounded stops once later kept took law
     (subst (λ (r : Reading). r.fault ≡ None → IsAtEnd left_after) (sym from.2) reached)
     (subst (λ (r : Reading). Tells r.deployment r.acts r.fault output status) (sym from.2) tells)

@@ -1,12 +1,18 @@
 -- What reads of a source and writes to a sink come to.
-use Rattle.std.proofs.Common.{◌≡◌, ℕ, Bool, true, false, ◌+◌, ◌≤◌, List, [], ◌++◌, length, take, drop, Option, Some, None, sym, ap, ◌∙◌, refl, arith}
+use Rattle.std.proofs.Common.{◌≡◌, ℕ, Bool, true, false, ◌+◌, ◌≤◌, List, [], ◌++◌, length, take, drop, Option, Some, None, sym, ap, subst, ◌∙◌, refl, arith}
 use Rattle.std.proofs.lemmas.List.{append-nil, append_assoc, take-append-drop, drop-take, take-take, length-append}
 use Rattle.std.specs.Prelude.{◌==◌, ◌≢◌, ◌-◌, ◌^◌, min, if◌then◌else◌}
 use Rattle.std.proofs.lemmas.Bool.Decides.{nat_tests}
-use Rattle.std.specs.Io.KnownBytes.{Consumes, IsAtEnd}
+use Rattle.std.specs.Io.KnownBytes.{Consumes, Keeps, IsAtEnd}
 use Rattle.sat_outside.specs.Streams.{Told, Takes}
-use Rattle.sat_stream.specs.Reading.{reading}
+use Rattle.sat_script.specs.Grammar.{close_in}
+use Rattle.sat_script.specs.State.{number_of}
+use Rattle.sat_stream.specs.Reading.{reading, script_from}
+use Rattle.sat_stream.specs.Stream.{LacksOnlyItsEnd}
 use Rattle.sat_stream.specs.declared.stream.Reading.{Reading}
+use Rattle.sat_top.specs.declared.stream.TheConstants.{BUFFER_BYTES}
+use Rattle.sat_top.specs.Living.{HasReadLines}
+use Rattle.sat_top.specs.Streaming.{StopsReading}
 use Rattle.sat_top.specs.Whole.{IsTextOf}
 
 -- So many bytes were read, for nodes on threads or not, and a text that begins with them is what the meaning says of the rest.
@@ -40,6 +46,45 @@ read_more {live} a b c old new piece n count had took same is = record {
 pub read_bounded : {live : Bool} → (a b c : Option (List ℕ)) (meaning : List ℕ → Reading) (piece : List ℕ) (n most : ℕ) → HasRead live a b meaning n → Consumes b c piece → n + length piece ≤ most → (taken : List ℕ) × Consumes a c taken × (length taken ≤ most)
 read_bounded a b c meaning piece n most had took few =
     (had.taken ++ piece, consumes_more a b c had.taken piece had.consumed took, omega (arith, length-append had.taken piece, had.counted))
+
+-- ---- none of the whole lines is bad
+
+nothing-lacks : (live : Bool) → LacksOnlyItsEnd (reading live [])
+unfolding reading script_from close_in number_of
+nothing-lacks true = refl
+nothing-lacks false = refl
+
+pub lacks_start : (live : Bool) (meaning : List ℕ → Reading) → ((text : List ℕ) → meaning text ≡ reading live text) → LacksOnlyItsEnd (meaning [])
+lacks_start live meaning means = subst LacksOnlyItsEnd (sym (means [])) (nothing-lacks live)
+
+lacks-so-far : {live : Bool} → (a b : Option (List ℕ)) (meaning : List ℕ → Reading) (n : ℕ) (had : HasRead live a b meaning n) → LacksOnlyItsEnd (meaning []) → LacksOnlyItsEnd (reading live had.taken)
+lacks-so-far {live} a b meaning n had lacks = subst LacksOnlyItsEnd (had.means [] ∙ ap (reading live) (append-nil had.taken)) lacks
+
+pub read_stops : {live : Bool} → (a b c : Option (List ℕ)) (meaning : List ℕ → Reading) (piece : List ℕ) (n : ℕ) → HasRead live a b meaning n → LacksOnlyItsEnd (meaning []) → Consumes b c piece → length piece ≤ BUFFER_BYTES → StopsReading live a c
+read_stops a b c meaning piece n had lacks took few = record {
+  before = had.taken;
+  piece = piece;
+  consumed = consumes_more a b c had.taken piece had.consumed took;
+  one = few;
+  lacks = lacks-so-far a b meaning n had lacks;
+}
+
+pub read_lines : {live : Bool} → (a b c : Option (List ℕ)) (meaning : List ℕ → Reading) (n : ℕ) → HasRead live a b meaning n → LacksOnlyItsEnd (meaning []) → Consumes b c [] → HasReadLines live a c
+read_lines {live} a b c meaning n had lacks took = record {
+  taken = had.taken ++ [];
+  consumed = consumes_more a b c had.taken [] had.consumed took;
+  lacks = subst (λ (bytes : List ℕ). LacksOnlyItsEnd (reading live bytes)) (sym (append-nil had.taken)) (lacks-so-far a b meaning n had lacks);
+}
+
+pub keeps : (n m : Option (List ℕ)) → Keeps n m → Consumes n m []
+keeps None m is = tt
+keeps (Some xs) None is = absurd is
+keeps (Some xs) (Some ys) is = sym is
+
+pub zero_bytes : (n m : Option (List ℕ)) (count : ℕ) (bytes : List ℕ) → count ≡ 0 → Consumes n m (take count bytes) → Consumes n m []
+zero_bytes n m count bytes none took = subst (λ (k : ℕ). Consumes n m (take k bytes)) none took
+
+-- ---- at the end
 
 pub at_end : (a b : Option (List ℕ)) (taken : List ℕ) → Consumes a b taken → IsAtEnd b → IsTextOf a taken
 at_end None b taken h e = tt

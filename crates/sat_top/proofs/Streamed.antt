@@ -2,7 +2,7 @@
 use Rattle.std.proofs.Common.{◌≡◌, ◌≤◌, ◌+◌, ℕ, zero, suc, false, List, [], ◌∷◌, ◌++◌, length, take, Option, Some, None, refl, sym, ap, subst, ◌∙◌, arith}
 use Rattle.std.specs.Prelude.{◌≢◌, Ok, Err, IfSome, IfOk, OnOk, OnErr, IsErrOf}
 use Rattle.std.specs.declared.result.Result.{Result}
-use Rattle.std.specs.Io.KnownBytes.{Consumes, Keeps, IsAtEnd}
+use Rattle.std.specs.Io.KnownBytes.{Consumes, IsAtEnd}
 use Rattle.std.proofs.lemmas.List.{append-nil, append_assoc, length-append}
 use Rattle.sat_outside.specs.Streams.{Told, Takes}
 use Rattle.sat_act.specs.declared.act.Act.{Act}
@@ -282,14 +282,6 @@ ended_before b found w count written old mid new had took ends =
     record { text = had.text; whole = had.whole; front = subst (λ (bytes : List ℕ). TakesFront old new bytes) (rest.2 ∙ ap run_text (sym had.is)) (front_on old mid new written rest.0 took rest.1) }
 
 -- ---- what the last call answers
-
-pub keeps : (n m : Option (List ℕ)) → Keeps n m → Consumes n m []
-keeps None m is = tt
-keeps (Some xs) None is = absurd is
-keeps (Some xs) (Some ys) is = sym is
-
-pub zero_bytes : (n m : Option (List ℕ)) (count : ℕ) (bytes : List ℕ) → count ≡ 0 → Consumes n m (take count bytes) → Consumes n m []
-zero_bytes n m count bytes none took = subst (λ (k : ℕ). Consumes n m (take k bytes)) none took
 
 pub still_under : (b n m : Option (List ℕ)) (k : ℕ) (r : Came) (w : Option WorldSeen) (count : ℕ) (written : List ℕ) → IsUnder b n k r w count written → Consumes n m [] → IsUnder b m (k + 0) r w count written
 still_under b n m k r w count written had took = fed b n m k 0 r r w count written [] had took (λ more. refl) refl

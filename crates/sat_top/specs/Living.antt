@@ -14,6 +14,7 @@ use Rattle.sat_stream.specs.Stream.{LacksOnlyItsEnd}
 use Rattle.sat_report.specs.Faults.{fault_line}
 use Rattle.sat_live.specs.Told.{IsTold}
 use Rattle.sat_top.specs.declared.stream.TheConstants.{BUFFER_BYTES}
+use Rattle.sat_top.specs.Streaming.{StopsReading}
 use Rattle.sat_top.specs.Whole.{IsTextOf, TakesFront}
 
 -- the statuses of a run that came to its end: 0, 6 and 8
@@ -83,6 +84,8 @@ pub record MeetsLive (status : ℕ) (left left_after : Option (List ℕ)) (told 
   pub statuses : (status ≤ 8) × (status ≢ 2) × (status ≢ 7)
   -- the bytes taken have a bound
   pub bounded : (taken : List ℕ) × Consumes left left_after taken × (length taken ≤ MOST_BYTES + BUFFER_BYTES)
+  -- and no more are taken once the first bad line is known
+  pub stops : StopsReading true left left_after
   -- the source says once at most that none are left
   pub once : ends_after ≤ ends + 1
   -- no count of faults falls

@@ -10,7 +10,7 @@ use Rattle.sat_stream.specs.Stream.{LacksOnlyItsEnd}
 use Rattle.sat_stream.specs.declared.stream.Reading.{Reading}
 use Rattle.sat_top.specs.declared.stream.TheConstants.{BUFFER_BYTES}
 use Rattle.sat_top.specs.declared.words.Command.{Command}
-use Rattle.sat_top.specs.declared.words.Command.TheVariants.{Run}
+use Rattle.sat_top.specs.declared.words.Command.TheVariants.{Run, Draw}
 use Rattle.sat_top.specs.Good.{IsGoodFront}
 use Rattle.sat_runs.specs.Runs.{history, run_text}
 use Rattle.sat_top.specs.Whole.{IsTextOf, TakesFront}
@@ -57,9 +57,10 @@ pub record StopsReading (live : Bool) (left left_after : Option (List ℕ)) : Ty
   pub one : length piece ≤ BUFFER_BYTES
   pub lacks : LacksOnlyItsEnd (reading live before)
 
--- so it is with `run`
+-- so it is with each command that reads a script
 abbrev pub StopsReadingOf : Option Command → Option (List ℕ) → Option (List ℕ) → Type 0
 StopsReadingOf (Some Run) left left_after = StopsReading false left left_after
+StopsReadingOf (Some Draw) left left_after = StopsReading false left left_after
 StopsReadingOf _ left left_after = Unit {0}
 
 -- what was written when the source fails: only `run` writes before its whole input is read

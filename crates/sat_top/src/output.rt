@@ -7,6 +7,7 @@ ghost use Rattle.sat_top.specs.declared.words.Command.TheVariants.{Run};
 ghost use Rattle.sat_top.specs.Words.{command_of};
 ghost use Rattle.sat_top.specs.Whole.{refusal, reads, run_status, IsOutput};
 ghost use Rattle.sat_top.specs.Contract.{most_taken};
+ghost use Rattle.sat_top.specs.Streaming.{StopsReading, StopsReadingOf};
 
 use crate::drawing::draw_of;
 use crate::law::good_drawings;
@@ -73,6 +74,7 @@ fn draw<S: Source>(alloc: Global, source: &mut S) -> Result<Output, Stop>
     ensures output { IfOk result (λ out. IsOutput (Some Command.Draw) (S.left source.old) out.text.items out.status) }
     ensures end { IfOk result (λ out. out.status ≡ 0 → IsAtEnd (S.left source.new)) }
     ensures bounded { (taken : List ℕ) × Consumes (S.left source.old) (S.left source.new) taken × (length taken ≤ most_taken (Some Command.Draw)) }
+    ensures stops { StopsReading false (S.left source.old) (S.left source.new) }
     ensures once { S.ends source.new ≤ S.ends source.old + 1 }
     ensures later { S.faults source.old ≤ S.faults source.new }
     ensures failed { IsErrOf result Stop.Source → Rose (S.faults source.old) (S.faults source.new) }
@@ -141,6 +143,7 @@ pub(crate) fn make_output<S: Source>(
     ensures output { IfOk result (λ out. IsOutput (command_of (map string_bytes words.now)) (S.left source.old) out.text.items out.status) }
     ensures end { IfOk result (λ out. reads (command_of (map string_bytes words.now)) ≡ true → out.status ≡ 0 → IsAtEnd (S.left source.new)) }
     ensures bounded { (taken : List ℕ) × Consumes (S.left source.old) (S.left source.new) taken × (length taken ≤ most_taken (command_of (map string_bytes words.now))) }
+    ensures stops { StopsReadingOf (command_of (map string_bytes words.now)) (S.left source.old) (S.left source.new) }
     ensures once { S.ends source.new ≤ S.ends source.old + 1 }
     ensures later { S.faults source.old ≤ S.faults source.new }
     ensures failed { IsErrOf result Stop.Source → Rose (S.faults source.old) (S.faults source.new) }

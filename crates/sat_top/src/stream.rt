@@ -181,6 +181,8 @@ pub fn read_script<S: Source>(alloc: Global, source: &mut S, live: bool) -> Resu
     ensures end { IfOk result (λ found. found.fault ≡ None → IsAtEnd (S.left source.new)) }
     // The bytes taken have a bound, however much the source has.
     ensures bounded { (taken : List ℕ) × Consumes (S.left source.old) (S.left source.new) taken × (length taken ≤ MOST_SCRIPT_BYTES + BUFFER_BYTES) }
+    // No more is read once the first bad line is known.
+    ensures stops { StopsReading live (S.left source.old) (S.left source.new) }
     ensures once { S.ends source.new ≤ S.ends source.old + 1 }
     ensures later { S.faults source.old ≤ S.faults source.new }
     ensures failed { IsErrOf result Stop.Source → Rose (S.faults source.old) (S.faults source.new) }
@@ -192,11 +194,7 @@ pub fn read_script<S: Source>(alloc: Global, source: &mut S, live: bool) -> Resu
     // A first bad line begins before this byte.
     while taken < BYTES_END {
         match source.read(&mut buffer) {
-            Err(_) => {
-                // This tells that no whole line is bad.
-                let _ = reader.drain();
-                return Err(Stop::Source);
-            }
+            Err(_) => return Err(Stop::Source),
             Ok(0) => return Ok(reader.finish()),
             Ok(count) => {
                 taken += count as u64;

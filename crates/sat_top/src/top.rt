@@ -50,7 +50,7 @@ fn streamed<S: Source, K: Sink>(alloc: Global, source: &mut S, sink: &mut K) -> 
 }
 
 // Does another command: makes its whole output, writes it, and answers the status.
-#[tactic(auto, using(crate::proofs::Done::is_done, crate::proofs::Done::is_refused, crate::proofs::Done::no_script))]
+#[tactic(auto, using(crate::proofs::Done::is_done, crate::proofs::Done::is_refused))]
 fn told<S: Source, K: Sink>(alloc: Global, words: &[String], source: &mut S, sink: &mut K) -> u8
     requires { command_of (map string_bytes words.now) ≢ Some Run }
     ensures meets { MeetsCommand (command_of (map string_bytes words.now)) result (S.left source.old) (S.left source.new) (K.told sink.old) (K.told sink.new)
