@@ -2,3 +2,4 @@ mod Marks
 mod Answering
 pub mod Doing
 mod Ending
+pub mod Watching

@@ -12,6 +12,7 @@ use sat_act::{Act, Answer};
 use sat_label::Value;
 use sat_machines::{Laid, SerialNode, SiteNode};
 use sat_node::{CallFault, Held, Names};
+use sat_pump::Watched;
 use sat_session::Session;
 
 // ---- without a node
@@ -75,7 +76,7 @@ fn serial_runs<N: Laid + Names>(held: &Held<SerialNode<N>, N>)
 /// A write at the client's site.
 pub(crate) fn write_at<N: Laid + Names>(
     session: &mut Session<N>,
-    held: &mut Held<SiteNode<N>, N>,
+    watched: &mut Watched<N>,
     site: u16,
     item: u16,
     value: &Value,
@@ -83,9 +84,10 @@ pub(crate) fn write_at<N: Laid + Names>(
     requires client { session.old.number < length N.deployment.clients }
     requires item { item < length N.deployment.items }
     requires seat { session.old.client.seat ≡ Some site }
-    requires name { held.old.node.name ≡ AtSite site }
+    requires name { watched.old.node.name ≡ AtSite site }
     ensures { Did (Act.Write session.old.number item value.now) result session.old session.new }
 {
+    let held = &mut watched.held;
     let result = session.write(held, item, value);
     site_runs(held);
     result
@@ -94,16 +96,17 @@ pub(crate) fn write_at<N: Laid + Names>(
 /// A read at the client's site.
 pub(crate) fn read_at<N: Laid + Names>(
     session: &mut Session<N>,
-    held: &mut Held<SiteNode<N>, N>,
+    watched: &mut Watched<N>,
     site: u16,
     item: u16,
 ) -> Result<Answer, CallFault>
     requires client { session.old.number < length N.deployment.clients }
     requires item { item < length N.deployment.items }
     requires seat { session.old.client.seat ≡ Some site }
-    requires name { held.old.node.name ≡ AtSite site }
+    requires name { watched.old.node.name ≡ AtSite site }
     ensures { Did (Act.Read session.old.number item) result session.old session.new }
 {
+    let held = &mut watched.held;
     let result = session.read(held, item);
     site_runs(held);
     result
@@ -112,16 +115,17 @@ pub(crate) fn read_at<N: Laid + Names>(
 /// A move from the client's site to another one.
 pub(crate) fn move_at<N: Laid + Names>(
     session: &mut Session<N>,
-    held: &mut Held<SiteNode<N>, N>,
+    watched: &mut Watched<N>,
     site: u16,
     to: u16,
 ) -> Result<Answer, CallFault>
     requires client { session.old.number < length N.deployment.clients }
     requires to { to < N.deployment.sites }
     requires seat { session.old.client.seat ≡ Some site }
-    requires name { held.old.node.name ≡ AtSite site }
+    requires name { watched.old.node.name ≡ AtSite site }
     ensures { Did (Act.Move session.old.number to) result session.old session.new }
 {
+    let held = &mut watched.held;
     let result = session.move_to(held, to);
     site_runs(held);
     result
@@ -130,15 +134,16 @@ pub(crate) fn move_at<N: Laid + Names>(
 /// An attach of a client without a seat.
 pub(crate) fn attach_at<N: Laid + Names>(
     session: &mut Session<N>,
-    held: &mut Held<SiteNode<N>, N>,
+    watched: &mut Watched<N>,
     site: u16,
 ) -> Result<Answer, CallFault>
     requires client { session.old.number < length N.deployment.clients }
     requires site { site < N.deployment.sites }
     requires seat { session.old.client.seat ≡ None }
-    requires name { held.old.node.name ≡ AtSite site }
+    requires name { watched.old.node.name ≡ AtSite site }
     ensures { Did (Act.Attach session.old.number site) result session.old session.new }
 {
+    let held = &mut watched.held;
     let result = session.attach(held, site);
     site_runs(held);
     result
@@ -147,13 +152,14 @@ pub(crate) fn attach_at<N: Laid + Names>(
 /// The operator's close.
 pub(crate) fn close_at<N: Laid + Names>(
     session: &mut Session<N>,
-    held: &mut Held<SiteNode<N>, N>,
+    watched: &mut Watched<N>,
     site: u16,
 ) -> Result<Answer, CallFault>
     requires operator { session.old.number ≡ length N.deployment.clients }
-    requires name { held.old.node.name ≡ AtSite site }
+    requires name { watched.old.node.name ≡ AtSite site }
     ensures { Did (Act.Close site) result session.old session.new }
 {
+    let held = &mut watched.held;
     let result = session.close(held, site);
     site_runs(held);
     result
@@ -162,13 +168,14 @@ pub(crate) fn close_at<N: Laid + Names>(
 /// The operator's fall.
 pub(crate) fn fall_at<N: Laid + Names>(
     session: &mut Session<N>,
-    held: &mut Held<SiteNode<N>, N>,
+    watched: &mut Watched<N>,
     site: u16,
 ) -> Result<Answer, CallFault>
     requires operator { session.old.number ≡ length N.deployment.clients }
-    requires name { held.old.node.name ≡ AtSite site }
+    requires name { watched.old.node.name ≡ AtSite site }
     ensures { Did (Act.Fall site) result session.old session.new }
 {
+    let held = &mut watched.held;
     let result = session.fall(held, site);
     site_runs(held);
     result

@@ -34,8 +34,8 @@ impl<N: Laid + Names> Cluster<N> {
         let Some(mut guard) = self.site(rt, site) else {
             return Err(CallFault::Memory);
         };
-        let held = &mut *guard;
-        write_at(session, held, site, item, value)
+        let watched = &mut *guard;
+        write_at(session, watched, site, item, value)
     }
 
     // A read of a client that has a seat.
@@ -55,8 +55,8 @@ impl<N: Laid + Names> Cluster<N> {
         let Some(mut guard) = self.site(rt, site) else {
             return Err(CallFault::Memory);
         };
-        let held = &mut *guard;
-        read_at(session, held, site, item)
+        let watched = &mut *guard;
+        read_at(session, watched, site, item)
     }
 
     // A move of a client that has a seat.
@@ -76,8 +76,8 @@ impl<N: Laid + Names> Cluster<N> {
         let Some(mut guard) = self.site(rt, site) else {
             return Err(CallFault::Memory);
         };
-        let held = &mut *guard;
-        move_at(session, held, site, to)
+        let watched = &mut *guard;
+        move_at(session, watched, site, to)
     }
 
     // An attach of a client that has no seat.
@@ -96,8 +96,8 @@ impl<N: Laid + Names> Cluster<N> {
         let Some(mut guard) = self.site(rt, site) else {
             return Err(CallFault::Memory);
         };
-        let held = &mut *guard;
-        attach_at(session, held, site)
+        let watched = &mut *guard;
+        attach_at(session, watched, site)
     }
 
     /// A client writes an item at the site where it is seated: `NoSession` exactly where it has no seat, which the session answers
@@ -209,8 +209,8 @@ impl<N: Laid + Names> Cluster<N> {
         let Some(mut guard) = self.site(rt, site) else {
             return Err(CallFault::Memory);
         };
-        let held = &mut *guard;
-        close_at(session, held, site)
+        let watched = &mut *guard;
+        close_at(session, watched, site)
     }
 
     /// The operator makes a site go by timestamp order. Errors come as in `close_epoch`.
@@ -228,8 +228,8 @@ impl<N: Laid + Names> Cluster<N> {
         let Some(mut guard) = self.site(rt, site) else {
             return Err(CallFault::Memory);
         };
-        let held = &mut *guard;
-        fall_at(session, held, site)
+        let watched = &mut *guard;
+        fall_at(session, watched, site)
     }
 
     /// The operator kills a serializer of an epoch's tree. Errors come as in `close_epoch`.

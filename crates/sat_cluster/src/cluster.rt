@@ -1,5 +1,5 @@
 //! A cluster: the locked nodes of a deployment, and its sessions.
-ghost use Rattle.std.specs.Prelude.{◌≡◌, ◌<◌, ◌+◌, ◌^◌, true, false, [], length, position, replicate, set, vec_len, MatchOption, IsErrOf, IsOk, IfOk, IfSome, OnErr, Some};
+ghost use Rattle.std.specs.Prelude.{◌≡◌, ◌<◌, ◌+◌, ◌^◌, true, false, [], length, position, replicate, set, MatchOption, IsErrOf, IsOk, IfOk, IfSome, OnErr, Some};
 ghost use Rattle.std.specs.Sync.Mutex.{mutex_guard_value};
 ghost use Rattle.sat_label.specs.Order.{name_eq};
 ghost use Rattle.sat_label.specs.declared.node.NodeName.TheVariants.{Serializer as AtSerializer, Site as AtSite};
@@ -8,14 +8,14 @@ ghost use Rattle.sat_cluster.specs.Clusters.{client_of, count_given, none_given,
 ghost use Rattle.sat_cluster.specs.Ends.{Ends};
 
 use crate::fault::SessionFault;
-use crate::locks::{Locks, names_of};
+use crate::locks::{Locks, lock_serials, lock_sites, names_of, open_serials, open_sites};
 use crate::room::Room;
 use sat_act::Deployment;
 use sat_finish::{Ended, FinishFault, Opened};
 use sat_label::{Name, NodeName};
-use sat_machines::{Laid, SerialNode, SiteNode};
+use sat_machines::{Laid, SerialNode};
 use sat_node::{Held, Names};
-use sat_pump::Seen;
+use sat_pump::Watched;
 use sat_session::Session;
 use sat_wires::{AllNodes, Wires};
 use std::alloc::{AllocError, Global};
@@ -23,16 +23,14 @@ use std::marker::Model;
 use std::sync::{Mutex, MutexGuard, Wait};
 
 /// The sites and serializers of N's deployment, each under its lock, and which sessions were given. Contracts see the latter: by the
-/// number of its client, the operator's last. Beside each site's lock stands what its passes have looked at, under a lock that is taken
-/// only where the site's is held.
+/// number of its client, the operator's last. With each site lies what its passes have looked at.
 #[derive(Drop)]
 pub struct Cluster<N: Laid + Names> {
     d: Deployment,
-    sites: Locks<SiteNode<N>, N>,
-    serials: Locks<SerialNode<N>, N>,
+    sites: Locks<Watched<N>>,
+    serials: Locks<Held<SerialNode<N>, N>>,
     room: Mutex<Room<N>>,
     names: Vec<NodeName>,
-    looks: Vec<Mutex<Seen>>,
     given: Vec<bool>,
 }
 
@@ -57,17 +55,6 @@ fn marks(alloc: Global, count: usize) -> Result<Vec<bool>, AllocError>
     Ok(marks)
 }
 
-// Places for what the passes of so many sites look at. Nothing was looked at.
-fn no_looks(alloc: Global, sites: u16) -> Result<Vec<Mutex<Seen>>, AllocError>
-    ensures { IfOk result (λ looks. vec_len looks ≡ sites) }
-{
-    let mut looks = Vec::new(alloc);
-    'looks: for _ in 0..sites {
-        looks.push(Mutex::new(Seen { upto: 0, ts: 0 }))?;
-    }
-    Ok(looks)
-}
-
 // How many were given.
 fn count_marks(marks: &[bool]) -> u64
     ensures { result ≡ count_given marks.now }
@@ -86,18 +73,16 @@ impl<N: Laid + Names> Cluster<N> {
     {
         let AllNodes { sites, serials } = AllNodes::<N>::new(alloc, &d, wires)?;
         let names = names_of(alloc, serials.as_slice())?;
-        let looks = no_looks(alloc, d.sites())?;
         let given = marks(alloc, d.clients().len() + 1)?;
         let room = Room::new(alloc, usize::from(d.sites()), names.len())?;
-        let sites = Locks::new(alloc, sites)?;
-        let serials = Locks::new(alloc, serials)?;
+        let sites = lock_sites(alloc, sites)?;
+        let serials = lock_serials(alloc, serials)?;
         Ok(Cluster {
             d,
             sites,
             serials,
             room: Mutex::new(room),
             names,
-            looks,
             given,
         })
     }
@@ -117,15 +102,15 @@ impl<N: Laid + Names> Cluster<N> {
     }
 
     // Takes the lock of a site. `None` where its node has another name, which never is.
-    pub(crate) fn site<R: Wait>(
-        &self,
-        rt: &R,
-        site: u16,
-    ) -> Option<MutexGuard<'_, Held<SiteNode<N>, N>>>
+    pub(crate) fn site<R: Wait>(&self, rt: &R, site: u16) -> Option<MutexGuard<'_, Watched<N>>>
         ensures { IfSome result (λ guard. (mutex_guard_value guard).node.name ≡ AtSite site) }
     {
-        let name = NodeName::Site(site);
-        self.sites.lock(rt, usize::from(site), name)
+        let guard = self.sites.lock(rt, usize::from(site))?;
+        if guard.name().is_same(&NodeName::Site(site)) {
+            Some(guard)
+        } else {
+            None
+        }
     }
 
     // Takes the lock of a serializer of an epoch's tree. `None` where there is none of this name, or its node has another one, which
@@ -140,13 +125,12 @@ impl<N: Laid + Names> Cluster<N> {
     {
         let name = NodeName::Serializer { epoch, number };
         let place = self.place(&name)?;
-        self.serials.lock(rt, place, name)
-    }
-
-    // What the passes of a site have looked at. It is asked for only under the site's lock.
-    pub(crate) fn look<R: Wait>(&self, rt: &R, site: u16) -> Option<MutexGuard<'_, Seen>> {
-        let lock = self.looks.as_slice().get(usize::from(site))?;
-        Some(lock.lock(rt))
+        let guard = self.serials.lock(rt, place)?;
+        if guard.node().name().is_same(&name) {
+            Some(guard)
+        } else {
+            None
+        }
     }
 
     // The place of a serializer among all.
@@ -258,12 +242,16 @@ impl<N: Laid + Names> Cluster<N> {
             serials,
             room,
             names: _,
-            looks: _,
             given,
         } = self;
         let room = room.into_inner();
         let given = count_marks(given.as_slice());
-        Opened::new(d, sites.open(room.sites), serials.open(room.serials), given)
+        Opened::new(
+            d,
+            open_sites(sites, room.sites),
+            open_serials(serials, room.serials),
+            given,
+        )
     }
 
     /// Takes all locks apart, and merges what nodes and sessions kept into one journal. `SessionsOut` exactly where not as many sessions

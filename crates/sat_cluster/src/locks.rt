@@ -1,10 +1,11 @@
 //! Nodes under their locks.
-ghost use Rattle.std.specs.Prelude.{◌≡◌, ◌≤◌, [], length, map, vec_capacity, vec_len, IfOk, IfSome};
-ghost use Rattle.std.specs.Sync.Mutex.{mutex_guard_value};
+ghost use Rattle.std.specs.Prelude.{◌≡◌, ◌≤◌, [], length, map, vec_capacity, vec_len, IfOk};
 ghost use Rattle.sat_opened.specs.Opened.{name_in};
 
 use sat_label::NodeName;
+use sat_machines::{Laid, SerialNode, SiteNode};
 use sat_node::{Held, Locked, Machine, Names};
+use sat_pump::Watched;
 use std::alloc::{AllocError, Global};
 use std::marker::Model;
 use std::sync::{Mutex, MutexGuard, Wait};
@@ -23,13 +24,13 @@ pub fn names_of<M: Machine, N: Names>(
     Ok(names)
 }
 
-/// Nodes, each under its lock. Contracts see how many there are.
+/// What lies under locks, each under its own. Contracts see how many there are.
 #[derive(Drop)]
-pub struct Locks<M: Machine, N: Names> {
-    locks: Vec<Locked<M, N>>,
+pub struct Locks<T> {
+    locks: Vec<Mutex<T>>,
 }
 
-impl<M: Machine, N: Names> Model for Locks<M, N> {
+impl<T> Model for Locks<T> {
     ghost use Rattle.std.specs.Prelude.{ℕ, vec_len};
 
     ghost Value = { ℕ };
@@ -51,6 +52,20 @@ fn lock_all<M: Machine + Drop, N: Names>(
     Ok(locks)
 }
 
+// The same of sites, of which nothing was looked at.
+fn lock_watched<N: Laid + Names>(
+    alloc: Global,
+    nodes: Vec<Held<SiteNode<N>, N>>,
+) -> Result<Vec<Mutex<Watched<N>>>, AllocError>
+    ensures { IfOk result (λ locks. vec_len locks ≡ vec_len nodes) }
+{
+    let mut locks = Vec::new(alloc);
+    for held in nodes {
+        locks.push(Mutex::new(Watched::new(held)))?;
+    }
+    Ok(locks)
+}
+
 // Takes all locks apart. There is room for the nodes.
 fn unlock_all<M: Machine + Drop, N: Names>(
     locks: Vec<Locked<M, N>>,
@@ -66,49 +81,69 @@ fn unlock_all<M: Machine + Drop, N: Names>(
     nodes
 }
 
-impl<M: Machine + Drop, N: Names> Locks<M, N> {
-    /// Puts each node under a lock, in their order.
-    pub fn new(alloc: Global, nodes: Vec<Held<M, N>>) -> Result<Locks<M, N>, AllocError>
-        ensures { IfOk result (λ locks. locks ≡ length nodes.items) }
-    {
-        let locks = lock_all(alloc, nodes)?;
-        Ok(Locks { locks })
+// The same of sites. What was looked at is forgotten.
+fn unlock_watched<N: Laid + Names>(
+    locks: Vec<Mutex<Watched<N>>>,
+    room: Vec<Held<SiteNode<N>, N>>,
+) -> Vec<Held<SiteNode<N>, N>>
+    requires { (room.items ≡ []) × (vec_len locks ≤ vec_capacity room) }
+    ensures { length result.items ≡ vec_len locks }
+{
+    let mut nodes = room;
+    for lock in locks {
+        nodes.push_reserved(lock.into_inner().into_held());
     }
-
-    /// Takes all locks apart, into this room. It takes no memory.
-    pub fn open(self, room: Vec<Held<M, N>>) -> Vec<Held<M, N>>
-        requires { (room.items ≡ []) × (self ≤ vec_capacity room) }
-        ensures { length result.items ≡ self }
-    {
-        unlock_all(self.locks, room)
-    }
-
-    /// Takes the lock of this number, if its node has this name. `None` where there is no such lock, or its node has another name.
-    pub fn lock<R: Wait>(
-        &self,
-        rt: &R,
-        number: usize,
-        name: NodeName,
-    ) -> Option<MutexGuard<'_, Held<M, N>>>
-        ensures { IfSome result (λ guard. (mutex_guard_value guard).node.name ≡ name) }
-    {
-        locked(rt, self.locks.as_slice(), number, name)
-    }
+    nodes
 }
 
-fn locked<'a, M: Machine + Drop, N: Names, R: Wait>(
-    rt: &R,
-    locks: &'a [Locked<M, N>],
-    number: usize,
-    name: NodeName,
-) -> Option<MutexGuard<'a, Held<M, N>>>
-    ensures { IfSome result (λ guard. (mutex_guard_value guard).node.name ≡ name) }
+/// Puts each site under a lock, in their order. Nothing of it was looked at.
+pub fn lock_sites<N: Laid + Names>(
+    alloc: Global,
+    nodes: Vec<Held<SiteNode<N>, N>>,
+) -> Result<Locks<Watched<N>>, AllocError>
+    ensures { IfOk result (λ locks. locks ≡ length nodes.items) }
 {
-    let lock = locks.get(number)?;
-    let guard = lock.lock(rt);
-    if guard.node().name().is_same(&name) {
-        Some(guard)
-    } else {
-        None
+    let locks = lock_watched(alloc, nodes)?;
+    Ok(Locks { locks })
+}
+
+/// Puts each serializer under a lock, in their order.
+pub fn lock_serials<N: Laid + Names>(
+    alloc: Global,
+    nodes: Vec<Held<SerialNode<N>, N>>,
+) -> Result<Locks<Held<SerialNode<N>, N>>, AllocError>
+    ensures { IfOk result (λ locks. locks ≡ length nodes.items) }
+{
+    let locks = lock_all(alloc, nodes)?;
+    Ok(Locks { locks })
+}
+
+/// Takes all locks of sites apart, into this room. It takes no memory.
+pub fn open_sites<N: Laid + Names>(
+    locks: Locks<Watched<N>>,
+    room: Vec<Held<SiteNode<N>, N>>,
+) -> Vec<Held<SiteNode<N>, N>>
+    requires { (room.items ≡ []) × (locks ≤ vec_capacity room) }
+    ensures { length result.items ≡ locks }
+{
+    unlock_watched(locks.locks, room)
+}
+
+/// Takes all locks of serializers apart, into this room. It takes no memory.
+pub fn open_serials<N: Laid + Names>(
+    locks: Locks<Held<SerialNode<N>, N>>,
+    room: Vec<Held<SerialNode<N>, N>>,
+) -> Vec<Held<SerialNode<N>, N>>
+    requires { (room.items ≡ []) × (locks ≤ vec_capacity room) }
+    ensures { length result.items ≡ locks }
+{
+    unlock_all(locks.locks, room)
+}
+
+impl<T: Drop> Locks<T> {
+    /// Takes the lock of this number. `None` where there is none.
+    pub fn lock<R: Wait>(&self, rt: &R, number: usize) -> Option<MutexGuard<'_, T>> {
+        let lock = self.locks.as_slice().get(number)?;
+        Some(lock.lock(rt))
     }
 }

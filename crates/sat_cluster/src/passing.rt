@@ -20,12 +20,8 @@ impl<N: Laid + Names> Cluster<N> {
         let Some(mut guard) = self.site(rt, site) else {
             return Err(CallFault::Memory);
         };
-        let held = &mut *guard;
-        let Some(mut look) = self.look(rt, site) else {
-            return Err(CallFault::Memory);
-        };
-        let seen = &mut *look;
-        pass(rt, held, self.deployment(), seen)
+        let watched = &mut *guard;
+        pass(rt, watched, self.deployment())
     }
 
     // A serializer's pass.

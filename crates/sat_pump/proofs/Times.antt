@@ -1,18 +1,26 @@
 -- The timestamp to which a site's gears are raised.
 use Rattle.std.proofs.Common.{◌≡◌, ℕ, zero, suc, ◌+◌, ◌<◌, ◌≤◌, ◌&&◌, max, true, List, [], ◌∷◌, length, drop, Option, Some, None, slice_get, refl, sym, ap, ◌∙◌, subst, arith}
-use Rattle.std.proofs.lemmas.Bool.{le-leb, lt-ltb}
+use Rattle.std.specs.Prelude.{◌==◌, ◌||◌, nat_le}
+use Rattle.std.proofs.lemmas.Bool.{and_parts, le-leb, lt-ltb}
+use Rattle.std.proofs.lemmas.Bool.Decides.{nat_tests}
 use Rattle.sat_label.specs.declared.limits.TheConstants.{TS_END}
 use Rattle.sat_label.specs.declared.node.NodeName.{NodeName}
 use Rattle.sat_label.specs.declared.node.NodeName.TheVariants as named
+use Rattle.sat_label.specs.Words.{has}
 use Rattle.sat_act.specs.Deployed.{Deployed}
 use Rattle.sat_act.specs.Settling.{is_done}
 use Rattle.sat_gear.specs.Gear.{GearSeen}
+use Rattle.sat_machine.specs.Fits.{fits, is_gear, is_kept_kind, is_kind, is_new_point, is_note, is_other, is_point, is_site, is_time}
+use Rattle.sat_machine.specs.Look.{waiting_of}
 use Rattle.sat_machine.specs.State.{SiteState}
+use Rattle.sat_proxy.specs.Proxy.{note_of}
+use Rattle.sat_site.specs.declared.input.SiteInput.{SiteInput}
 use Rattle.sat_site.specs.declared.input.SiteInput.TheVariants as input
-use Rattle.sat_site.specs.Inputs.{fits_here}
+use Rattle.sat_site.specs.Inputs.{fits_here, input_of}
 use Rattle.sat_site.specs.Seen.{SiteSeen, IsSite}
 use Rattle.sat_site.specs.SiteSteps.{site_answers, tick_answer}
-use Rattle.sat_machines.specs.Sites.{Stands}
+use Rattle.sat_node.specs.Meanings.{Runs, RunsFrom}
+use Rattle.sat_machines.specs.Sites.{Stands, number_of, site_meaning}
 use Rattle.sat_passes.specs.Hearings.{SiteHeld, SiteKept}
 use Rattle.sat_passes.specs.Sendings.{would_do}
 use Rattle.sat_pump.specs.Times.{AreUp, most_in, most_promised, promise_at, promise_in, ts_in}
@@ -83,3 +91,47 @@ pub still_on : (gears n t : ℕ) (a b c : SiteHeld) → n < gears → (AreUp gea
 still_on gears n t a b c less first second up =
     let f = first up in
     second (subst (λ (h : SiteHeld). t ≤ promise_at h.node.machine n) (sym f) (up n less)) ∙ f
+
+-- ---- timestamps that fit
+
+time-is : (m n : ℕ) → nat_le m n ≡ true → m ≤ n
+time-is m n e = grind (arith, nat_tests)
+
+-- what fits a site has a timestamp
+fits-small : (d : Deployed) (i : ℕ) (s : SiteState) (given : SiteInput) → fits d i s (input_of given) ≡ true → ts_in given ≤ TS_END
+unfolding fits
+fits-small d i s (input.Turn None) e = omega arith
+fits-small d i s (input.Turn (Some l)) e =
+    time-is l.point.ts TS_END (and_parts (is_time l.point.ts) (is_other d i l.point.site && is_kind d s.views.view l.kind) e).0
+fits-small d i s (input.Bulk from gear number p) e =
+    let a = and_parts (is_other d i from && is_gear d gear) (((is_time p.label.point.ts && (p.label.point.site == from)) && is_kept_kind d i p.label.kind) && (has ◌==◌ (s.proxy.taken from gear) number || is_new_point (waiting_of s) p.label.point)) e in
+    let b = and_parts ((is_time p.label.point.ts && (p.label.point.site == from)) && is_kept_kind d i p.label.kind) (has ◌==◌ (s.proxy.taken from gear) number || is_new_point (waiting_of s) p.label.point) a.1 in
+    let c = and_parts (is_time p.label.point.ts && (p.label.point.site == from)) (is_kept_kind d i p.label.kind) b.0 in
+    time-is p.label.point.ts TS_END (and_parts (is_time p.label.point.ts) (p.label.point.site == from) c.0).0
+fits-small d i s (input.BeatIn from number beat) e =
+    let a = and_parts (is_other d i from) (is_note d (note_of beat)) e in
+    let b = and_parts (is_point d beat.cut) _ a.1 in
+    time-is beat.cut.ts TS_END (and_parts (is_time beat.cut.ts) (is_site d beat.cut.site) b.0).0
+fits-small d i s _ e = omega arith
+
+both-small : (a b n : ℕ) → a ≤ n → b ≤ n → max a b ≤ n
+both-small a b n x y = grind (arith)
+
+runs-small : (d : Deployed) (name : NodeName) (s : SiteState) (ks : List SiteKept) (t : ℕ) → t ≤ TS_END → RunsFrom (site_meaning d) name s ks → most_in t ks ≤ TS_END
+runs-small d name s [] t le runs = le
+runs-small d name s (k ∷ ks) t le runs =
+    runs-small d name ((site_meaning d).after name s k.input k.answer) ks (max t (ts_in k.input.input)) (both-small t (ts_in k.input.input) TS_END le (fits-small d (number_of name) s k.input.input runs.0.fits)) runs.2
+
+promise-small : (x : SiteSeen) (g : ℕ) → IsSite x → promise_at x g ≤ TS_END
+promise-small x g site = go (slice_get x.gears g) refl where
+  go : (o : Option GearSeen) → slice_get x.gears g ≡ o → promise_at x g ≤ TS_END
+  go None at = subst (λ (o : Option GearSeen). promise_in o ≤ TS_END) (sym at) (omega arith)
+  go (Some gear) at = subst (λ (o : Option GearSeen). promise_in o ≤ TS_END) (sym at) (site.gears.are g gear at).promise
+
+promised-small : (x : SiteSeen) (t n : ℕ) → IsSite x → t ≤ TS_END → most_promised x t n ≤ TS_END
+promised-small x t zero site le = le
+promised-small x t (suc n) site le = both-small (most_promised x t n) (promise_at x n) TS_END (promised-small x t n site le) (promise-small x n site)
+
+-- nothing that came has a greater timestamp, and no gear promised one
+pub most_small : (d : Deployed) (name : NodeName) (x : SiteSeen) (ks : List SiteKept) (n : ℕ) → IsSite x → Runs (site_meaning d) name ks → most_promised x (most_in 0 ks) n ≤ TS_END
+most_small d name x ks n site runs = promised-small x (most_in 0 ks) n site (runs-small d name _ ks 0 (omega arith) runs)

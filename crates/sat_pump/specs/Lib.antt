@@ -1,4 +1,5 @@
 pub mod Adds
 pub mod Times
+pub mod Watched
 pub mod Shows
 pub mod Steps

@@ -1,5 +1,5 @@
 -- The timestamp to which a site's gears are raised.
-use Rattle.std.specs.Prelude.{ℕ, zero, suc, ◌<◌, ◌≤◌, max, List, [], ◌∷◌, drop, Option, Some, None, slice_get}
+use Rattle.std.specs.Prelude.{ℕ, zero, suc, ◌<◌, ◌≤◌, max, List, [], ◌∷◌, Option, Some, None, slice_get}
 use Rattle.sat_gear.specs.Gear.{GearSeen}
 use Rattle.sat_site.specs.declared.input.SiteInput.{SiteInput}
 use Rattle.sat_site.specs.declared.input.SiteInput.TheVariants as input
@@ -40,6 +40,6 @@ AreUp n x t = (g : ℕ) → g < n → t ≤ promise_at x g
 abbrev pub Rise : ℕ → SiteSeen → SiteSeen → Type 0
 Rise n x y = (g : ℕ) → g < n → promise_at x g ≤ promise_at y g
 
--- of a node of so many gears: the greatest of its promises, of what came by its entries from a place on, and of a timestamp
-abbrev pub time_of : ℕ → ℕ → ℕ → SiteHeld → ℕ
-time_of gears upto ts held = most_promised held.node.machine (most_in ts (drop upto held.node.entries)) gears
+-- of a node of so many gears: the greatest of its promises and of what came by its entries
+abbrev pub time_of : ℕ → SiteHeld → ℕ
+time_of gears held = most_promised held.node.machine (most_in 0 held.node.entries) gears

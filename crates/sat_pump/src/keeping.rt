@@ -1,25 +1,20 @@
 //! The gears of a site keep up with what came.
-ghost use Rattle.std.specs.Prelude.{◌≡◌, ◌+◌, ◌<◌, ◌≤◌, max, length, drop, IfErr, IfOk, OnOk};
+ghost use Rattle.std.specs.Prelude.{◌≡◌, ◌+◌, ◌<◌, ◌≤◌, length, drop, IfErr, IfOk, OnOk};
+ghost use Rattle.sat_node.specs.Meanings.{Runs};
+ghost use Rattle.sat_machines.specs.Sites.{site_meaning};
 ghost use Rattle.sat_passes.specs.Sendings.{FailsAlone};
 ghost use Rattle.sat_pump.specs.Adds.{Adds, is_tick_to};
 ghost use Rattle.sat_pump.specs.Steps.{IsRaised};
 ghost use Rattle.sat_pump.specs.Times.{AreUp, Rise, most_in, most_promised, promise_at, time_of, ts_in};
 
 use crate::acting::act;
+use crate::watched::Watched;
 use sat_act::Deployment;
 use sat_label::TS_END;
 use sat_machines::{Laid, SiteNode};
 use sat_node::{CallFault, Held, Names};
 use sat_passes::sound;
 use sat_site::SiteInput;
-
-/// How many entries of a node's journal were looked at, and the greatest timestamp of what came by these. In the beginning both
-/// are 0.
-#[derive(Clone, Copy, Debug, PartialEq, Eq)]
-pub struct Seen {
-    pub upto: usize,
-    pub ts: u64,
-}
 
 // The timestamp of what came.
 fn ts_in(input: &SiteInput) -> u64
@@ -45,17 +40,17 @@ fn ts_in(input: &SiteInput) -> u64
     }
 }
 
-// Looks at the entries that were not looked at.
-fn look<N: Laid + Names>(held: &Held<SiteNode<N>, N>, seen: &mut Seen)
-    ensures upto { seen.new.upto ≡ max seen.old.upto (length held.now.node.entries) }
-    ensures ts { seen.new.ts ≡ most_in seen.old.ts (drop seen.old.upto held.now.node.entries) }
+/// The greatest of a timestamp and those of what came by the entries from a place on.
+pub fn look<N: Laid + Names>(held: &Held<SiteNode<N>, N>, upto: usize, ts: u64) -> u64
+    ensures { result ≡ most_in ts (drop upto held.now.node.entries) }
 {
     let journal = held.node().journal();
-    for at in seen.upto..journal.len() {
+    let mut most = ts;
+    for at in upto..journal.len() {
         let kept = &journal[at];
-        seen.ts = seen.ts.max(ts_in(kept.input.input()));
+        most = most.max(ts_in(kept.input.input()));
     }
-    seen.upto = seen.upto.max(journal.len());
+    most
 }
 
 // A gear's promise.
@@ -88,7 +83,8 @@ fn tick<N: Laid + Names>(
     gear: u16,
     ts: u64,
 ) -> Result<(), CallFault>
-    requires { gear < N.deployment.gears }
+    requires gear { gear < N.deployment.gears }
+    requires ts { ts ≤ TS_END }
     ensures ticks { Adds (is_tick_to ts) held.old held.new }
     ensures outs { held.new.outs ≡ held.old.outs }
     ensures ins { held.new.ins ≡ held.old.ins }
@@ -100,10 +96,6 @@ fn tick<N: Laid + Names>(
     sound(held);
     if ts <= promise_of(held, gear) {
         return Ok(());
-    }
-    // Nothing that came has a greater timestamp. This branch is never run.
-    if ts > TS_END {
-        return Err(CallFault::Memory);
     }
     if let Err(fault) = act(
         held,
@@ -122,7 +114,8 @@ fn raise<N: Laid + Names>(
     d: &Deployment,
     ts: u64,
 ) -> Result<(), CallFault>
-    requires { N.deployment ≡ d.now }
+    requires deployment { N.deployment ≡ d.now }
+    requires ts { ts ≤ TS_END }
     ensures ticks { Adds (is_tick_to ts) held.old held.new }
     ensures outs { held.new.outs ≡ held.old.outs }
     ensures ins { held.new.ins ≡ held.old.ins }
@@ -138,28 +131,49 @@ fn raise<N: Laid + Names>(
     Ok(())
 }
 
-/// Raises the promise of each gear that is below the greatest timestamp: of the promises, and of the labels, the payloads and the cuts
-/// of the beats that came. Only the entries that were not looked at are looked at. How many entries the node kept. `Worn`, with the
-/// greatest u64, only where that is the node's number; `Memory`. After an error, what was kept by then stays.
-pub fn keep_up<N: Laid + Names>(
+// The journal is a run.
+fn runs<N: Laid + Names>(held: &Held<SiteNode<N>, N>)
+    ensures { Runs (site_meaning N.deployment) held.now.node.name held.now.node.entries }
+{
+    let _ = held.node().journal();
+}
+
+// The same to the greatest of the promises and of what came, which is given.
+#[tactic(auto, using(crate::proofs::Doing::adds_same))]
+fn raise_to<N: Laid + Names>(
     held: &mut Held<SiteNode<N>, N>,
     d: &Deployment,
-    seen: &mut Seen,
+    ts: u64,
 ) -> Result<u64, CallFault>
-    requires { N.deployment ≡ d.now }
-    ensures upto { seen.new.upto ≡ max seen.old.upto (length held.old.node.entries) }
-    ensures ts { seen.new.ts ≡ most_in seen.old.ts (drop seen.old.upto held.old.node.entries) }
-    ensures ticks { Adds (is_tick_to (time_of N.deployment.gears seen.old.upto seen.old.ts held.old)) held.old held.new }
+    requires deployment { N.deployment ≡ d.now }
+    requires ts { ts ≡ most_in 0 held.old.node.entries }
+    ensures ticks { Adds (is_tick_to (time_of N.deployment.gears held.old)) held.old held.new }
     ensures count { IfOk result (λ n. length held.new.node.entries ≡ length held.old.node.entries + n) }
-    ensures raised { OnOk result (IsRaised N.deployment.gears (time_of N.deployment.gears seen.old.upto seen.old.ts held.old) held.old held.new) }
+    ensures raised { OnOk result (IsRaised N.deployment.gears (time_of N.deployment.gears held.old) held.old held.new) }
     ensures fault { IfErr result (FailsAlone held.new) }
 {
+    sound(held);
+    runs(held);
     let before = held.node().journal().len();
-    look(held, seen);
-    let ts = greatest(held, d, seen.ts);
-    if let Err(fault) = raise(held, d, ts) {
+    let most = greatest(held, d, ts);
+    if let Err(fault) = raise(held, d, most) {
         return Err(fault);
     }
     let after = held.node().journal().len();
     Ok((after - before) as u64)
+}
+
+/// Raises the promise of each gear that is below the greatest timestamp: of the promises, and of the labels, the payloads and the cuts
+/// of the beats that came. Only the entries that were not looked at are looked at. How many entries the node kept. `Worn`, with the
+/// greatest u64, only where that is the node's number; `Memory`. After an error, what was kept by then stays.
+pub fn keep_up<N: Laid + Names>(watched: &mut Watched<N>, d: &Deployment) -> Result<u64, CallFault>
+    requires { N.deployment ≡ d.now }
+    ensures ticks { Adds (is_tick_to (time_of N.deployment.gears watched.old)) watched.old watched.new }
+    ensures count { IfOk result (λ n. length watched.new.node.entries ≡ length watched.old.node.entries + n) }
+    ensures raised { OnOk result (IsRaised N.deployment.gears (time_of N.deployment.gears watched.old) watched.old watched.new) }
+    ensures fault { IfErr result (FailsAlone watched.new) }
+{
+    let ts = watched.look();
+    let held = &mut watched.held;
+    raise_to(held, d, ts)
 }

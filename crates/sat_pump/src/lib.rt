@@ -7,8 +7,10 @@ mod collecting;
 mod keeping;
 mod passing;
 mod showing;
+mod watched;
 
 pub use collecting::collect;
-pub use keeping::{Seen, keep_up};
+pub use keeping::keep_up;
 pub use passing::pass;
 pub use showing::show;
+pub use watched::Watched;

@@ -1,36 +1,32 @@
 //! A site's whole pass.
-ghost use Rattle.std.specs.Prelude.{◌≡◌, ◌+◌, max, length, drop, IfErr, IfOk, OnOk};
+ghost use Rattle.std.specs.Prelude.{◌≡◌, ◌+◌, ℕ, length, IfErr, IfOk, OnOk};
 ghost use Rattle.sat_passes.specs.Faults.{Fails};
+ghost use Rattle.sat_passes.specs.Hearings.{SiteHeld};
 ghost use Rattle.sat_pump.specs.Adds.{Passed};
-ghost use Rattle.sat_pump.specs.Steps.{IsPass};
-ghost use Rattle.sat_pump.specs.Times.{most_in, time_of};
+ghost use Rattle.sat_pump.specs.Steps.{IsPass, IsRaised};
+ghost use Rattle.sat_pump.specs.Times.{time_of};
 
 use crate::collecting::collect;
-use crate::keeping::{Seen, keep_up};
+use crate::keeping::keep_up;
 use crate::showing::show;
+use crate::watched::Watched;
 use sat_act::Deployment;
 use sat_machines::{Laid, SiteNode};
 use sat_node::{CallFault, Held, Names};
 use sat_passes::{receive, send, sound};
 use std::sync::Wait;
 
-// All parts, one after the other.
+// The parts behind the first, one after the other.
 fn go_through<N: Laid + Names, R: Wait>(
     rt: &R,
     held: &mut Held<SiteNode<N>, N>,
     d: &Deployment,
-    seen: &mut Seen,
 ) -> Result<(), CallFault>
     requires { N.deployment ≡ d.now }
-    ensures upto { seen.new.upto ≡ max seen.old.upto (length held.old.node.entries) }
-    ensures ts { seen.new.ts ≡ most_in seen.old.ts (drop seen.old.upto held.old.node.entries) }
     ensures added { Passed held.old held.new }
-    ensures whole { OnOk result (IsPass N.deployment (time_of N.deployment.gears seen.old.upto seen.old.ts held.old) held.old held.new) }
+    ensures whole { OnOk result ((t : ℕ) (before : SiteHeld) → IsRaised N.deployment.gears t before held.old → IsPass N.deployment t before held.new) }
     ensures fault { IfErr result (Fails held.new) }
 {
-    if let Err(fault) = keep_up(held, d, seen) {
-        return Err(fault);
-    }
     sound(held);
     if let Err(fault) = collect(held) {
         return Err(fault);
@@ -55,22 +51,22 @@ fn go_through<N: Laid + Names, R: Wait>(
 /// envelope's after the call; `Memory`. After an error, what was kept and sent by then stays.
 pub fn pass<N: Laid + Names, R: Wait>(
     rt: &R,
-    held: &mut Held<SiteNode<N>, N>,
+    watched: &mut Watched<N>,
     d: &Deployment,
-    seen: &mut Seen,
 ) -> Result<u64, CallFault>
     requires { N.deployment ≡ d.now }
-    ensures upto { seen.new.upto ≡ max seen.old.upto (length held.old.node.entries) }
-    ensures ts { seen.new.ts ≡ most_in seen.old.ts (drop seen.old.upto held.old.node.entries) }
-    ensures added { Passed held.old held.new }
-    ensures count { IfOk result (λ n. length held.new.node.entries ≡ length held.old.node.entries + n) }
-    ensures whole { OnOk result (IsPass N.deployment (time_of N.deployment.gears seen.old.upto seen.old.ts held.old) held.old held.new) }
-    ensures fault { IfErr result (Fails held.new) }
+    ensures added { Passed watched.old watched.new }
+    ensures count { IfOk result (λ n. length watched.new.node.entries ≡ length watched.old.node.entries + n) }
+    ensures whole { OnOk result (IsPass N.deployment (time_of N.deployment.gears watched.old) watched.old watched.new) }
+    ensures fault { IfErr result (Fails watched.new) }
 {
-    let before = held.node().journal().len();
-    if let Err(fault) = go_through(rt, held, d, seen) {
+    let before = watched.count();
+    if let Err(fault) = keep_up(watched, d) {
         return Err(fault);
     }
-    let after = held.node().journal().len();
+    if let Err(fault) = go_through(rt, &mut watched.held, d) {
+        return Err(fault);
+    }
+    let after = watched.count();
     Ok((after - before) as u64)
 }

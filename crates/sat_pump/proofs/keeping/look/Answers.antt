@@ -11,14 +11,12 @@ use Rattle.sat_pump.proofs.keeping.look.Goals as goal
 
 pub loop-at-preserved : goal.loop-at-preserved
 loop-at-preserved g c =
-    let at = slice_get_read c.journal-journal.result.now (length c.journal-journal.result.now) c.loop-at.at c.index-journal-at.result refl (let t = c.loop-at-test.true in omega arith) c.index-journal-at.is in (
-      c.loop-at.invariant.0,
-      ap (λ (t : ℕ). most_in t (drop (c.loop-at.at + 1) c.journal-journal.result.now)) (c.max-seen.ensures ∙ ap (max c.loop-at.seen.ts) (c.ts_in.ensures ∙ ap ts_in c.input.ensures.input))
-          ∙ (most_next c.loop-at.seen.ts c.loop-at.at (c.loop-at.at + 1) c.journal-journal.result.now c.index-journal-at.result at refl ∙ c.loop-at.invariant.1),
-    )
+    let at = slice_get_read c.journal-journal.result.now (length c.journal-journal.result.now) c.loop-at.at c.index-journal-at.result refl (let t = c.loop-at-test.true in omega arith) c.index-journal-at.is in
+    ap (λ (t : ℕ). most_in t (drop (c.loop-at.at + 1) c.journal-journal.result.now)) (c.max-most.ensures ∙ ap (max c.loop-at.most) (c.ts_in.ensures ∙ ap ts_in c.input.ensures.input))
+    ∙ (most_next c.loop-at.most c.loop-at.at (c.loop-at.at + 1) c.journal-journal.result.now c.index-journal-at.result at refl ∙ c.loop-at.invariant)
 
-pub returns-clause-ts : goal.returns-clause-ts
-returns-clause-ts g c =
+pub returns : goal.returns
+returns g c =
     let le : length c.journal-journal.result.now ≤ c.loop-at.at = (let past = c.loop-at-test.false in omega arith) in
-    sym (most_done c.loop-at.seen.ts c.loop-at.at c.journal-journal.result.now le)
-    ∙ (c.loop-at.invariant.1 ∙ ap (λ (ks : List SiteKept). most_in c.args.seen.now.ts (drop c.args.seen.now.upto ks)) (c.journal-journal.ensures.entries ∙ ap (λ (n : NodeSeen SiteSeen ActSeen SiteAnswer). n.entries) c.node.ensures.node))
+    sym (most_done c.loop-at.most c.loop-at.at c.journal-journal.result.now le)
+    ∙ (c.loop-at.invariant ∙ ap (λ (ks : List SiteKept). most_in c.args.ts (drop c.args.upto ks)) (c.journal-journal.ensures.entries ∙ ap (λ (n : NodeSeen SiteSeen ActSeen SiteAnswer). n.entries) c.node.ensures.node))

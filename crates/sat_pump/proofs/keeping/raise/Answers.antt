@@ -13,7 +13,7 @@ loop-gear-init g c = (adds_same (is_tick_to c.args.ts) _ _ refl, refl, refl, up_
 pub loop-gear-preserved : goal.loop-gear-preserved
 loop-gear-preserved g c =
     let v = c.loop-gear.invariant in
-    let less : c.loop-gear.gear < g.N.Laid.deployment.gears = (let e = ap (λ (x : Deployed). x.gears) c.requires in let n = c.gears-gear-end.ensures.gears in let t = c.loop-gear-test.true in omega arith) in (
+    let less : c.loop-gear.gear < g.N.Laid.deployment.gears = (let e = ap (λ (x : Deployed). x.gears) c.requires.deployment in let n = c.gears-gear-end.ensures.gears in let t = c.loop-gear-test.true in omega arith) in (
       adds_then (is_tick_to c.args.ts) _ _ _ v.0 c.tick.ensures.ticks,
       c.tick.ensures.outs ∙ v.1,
       c.tick.ensures.ins ∙ v.2,
@@ -26,15 +26,15 @@ returns-in-Err-clause-ticks g c = adds_then (is_tick_to c.args.ts) _ _ _ c.loop-
 
 pub returns-in-Err-clause-still : goal.returns-in-Err-clause-still
 returns-in-Err-clause-still g c =
-    let less : c.loop-gear.gear < g.N.Laid.deployment.gears = (let e = ap (λ (x : Deployed). x.gears) c.requires in let n = c.gears-gear-end.ensures.gears in let t = c.loop-gear-test.true in omega arith) in
+    let less : c.loop-gear.gear < g.N.Laid.deployment.gears = (let e = ap (λ (x : Deployed). x.gears) c.requires.deployment in let n = c.gears-gear-end.ensures.gears in let t = c.loop-gear-test.true in omega arith) in
     still_on g.N.Laid.deployment.gears c.loop-gear.gear c.args.ts c.args.held.now c.loop-gear.held c.tick.new.held less c.loop-gear.invariant.4 c.tick.ensures.still
 
-pub tick-requires : goal.tick-requires
-tick-requires g c = (let e = ap (λ (x : Deployed). x.gears) c.requires in let n = c.gears-gear-end.ensures.gears in let t = c.loop-gear-test.true in omega arith)
+pub tick-requires-clause-gear : goal.tick-requires-clause-gear
+tick-requires-clause-gear g c = (let e = ap (λ (x : Deployed). x.gears) c.requires.deployment in let n = c.gears-gear-end.ensures.gears in let t = c.loop-gear-test.true in omega arith)
 
 pub returns-clause-up : goal.returns-clause-up
 returns-clause-up g c =
-    let e = ap (λ (x : Deployed). x.gears) c.requires in
+    let e = ap (λ (x : Deployed). x.gears) c.requires.deployment in
     let n = c.gears-gear-end.ensures.gears in
     let past = c.loop-gear-test.false in
     let most = c.loop-gear.auto.gear-end in

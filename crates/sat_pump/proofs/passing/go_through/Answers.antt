@@ -1,51 +1,39 @@
-use Rattle.sat_pump.proofs.Entries.{gathers_passed, heard_passed, passed_then, sent_passed, shows_passed, ticks_passed}
+use Rattle.sat_pump.proofs.Entries.{gathers_passed, heard_passed, passed_then, sent_passed, shows_passed}
 use Rattle.sat_pump.proofs.Turns.{alone_fails}
 use Rattle.sat_pump.proofs.passing.go_through.Goals as goal
 
 pub returns-in-Err-clause-added : goal.returns-in-Err-clause-added
-returns-in-Err-clause-added g c = ticks_passed _ _ _ c.keep_up.ensures.ticks
+returns-in-Err-clause-added g c = gathers_passed _ _ c.collect.ensures.gathers
 
 pub returns-in-Err-clause-fault : goal.returns-in-Err-clause-fault
-returns-in-Err-clause-fault g c = alone_fails c.keep_up.new.held _ c.in-Err.ensures.fault
-
-pub returns-in-Err-collect-clause-added : goal.returns-in-Err-collect-clause-added
-returns-in-Err-collect-clause-added g c = passed_then _ _ _ (ticks_passed _ _ _ c.keep_up.ensures.ticks) (gathers_passed _ _ c.collect.ensures.gathers)
-
-pub returns-in-Err-collect-clause-fault : goal.returns-in-Err-collect-clause-fault
-returns-in-Err-collect-clause-fault g c = alone_fails c.collect.new.held _ c.in-Err-collect.ensures.fault
+returns-in-Err-clause-fault g c = alone_fails c.collect.new.held _ c.in-Err.ensures.fault
 
 pub returns-in-Err-send-clause-added : goal.returns-in-Err-send-clause-added
-returns-in-Err-send-clause-added g c =
-    passed_then _ _ _ (passed_then _ _ _ (ticks_passed _ _ _ c.keep_up.ensures.ticks) (gathers_passed _ _ c.collect.ensures.gathers)) (sent_passed _ _ c.send.ensures.made)
+returns-in-Err-send-clause-added g c = passed_then _ _ _ (gathers_passed _ _ c.collect.ensures.gathers) (sent_passed _ _ c.send.ensures.made)
 
 pub returns-in-Err-send-clause-fault : goal.returns-in-Err-send-clause-fault
 returns-in-Err-send-clause-fault g c = alone_fails c.send.new.held _ c.in-Err-send.ensures.fault
 
 pub returns-in-Err-receive-clause-added : goal.returns-in-Err-receive-clause-added
 returns-in-Err-receive-clause-added g c =
-    passed_then _ _ _ (passed_then _ _ _ (passed_then _ _ _ (ticks_passed _ _ _ c.keep_up.ensures.ticks) (gathers_passed _ _ c.collect.ensures.gathers)) (sent_passed _ _ c.send.ensures.made))
-    (heard_passed _ _ c.receive.ensures.heard)
+    passed_then _ _ _ (passed_then _ _ _ (gathers_passed _ _ c.collect.ensures.gathers) (sent_passed _ _ c.send.ensures.made)) (heard_passed _ _ c.receive.ensures.heard)
 
 pub returns-in-Err-show-clause-added : goal.returns-in-Err-show-clause-added
 returns-in-Err-show-clause-added g c =
-    passed_then _ _ _
-    (passed_then _ _ _ (passed_then _ _ _ (passed_then _ _ _ (ticks_passed _ _ _ c.keep_up.ensures.ticks) (gathers_passed _ _ c.collect.ensures.gathers)) (sent_passed _ _ c.send.ensures.made))
-    (heard_passed _ _ c.receive.ensures.heard))
+    passed_then _ _ _ (passed_then _ _ _ (passed_then _ _ _ (gathers_passed _ _ c.collect.ensures.gathers) (sent_passed _ _ c.send.ensures.made)) (heard_passed _ _ c.receive.ensures.heard))
     (shows_passed _ _ c.show.ensures.shows)
 
 pub returns-clause-added : goal.returns-clause-added
 returns-clause-added g c =
-    passed_then _ _ _
-    (passed_then _ _ _ (passed_then _ _ _ (passed_then _ _ _ (ticks_passed _ _ _ c.keep_up.ensures.ticks) (gathers_passed _ _ c.collect.ensures.gathers)) (sent_passed _ _ c.send.ensures.made))
-    (heard_passed _ _ c.receive.ensures.heard))
+    passed_then _ _ _ (passed_then _ _ _ (passed_then _ _ _ (gathers_passed _ _ c.collect.ensures.gathers) (sent_passed _ _ c.send.ensures.made)) (heard_passed _ _ c.receive.ensures.heard))
     (shows_passed _ _ c.show.ensures.shows)
 
 pub returns-clause-whole : goal.returns-clause-whole
-returns-clause-whole g c = record {
-  after_raise = c.keep_up.new.held;
-  raised = (c.in_default.ensures.raised, record { stands = c.sound.ensures.stands; site = c.sound.ensures.site });
+returns-clause-whole g c = λ t before raised. record {
+  after_raise = c.args.held.now;
+  raised = (raised, record { stands = c.sound.ensures.stands; site = c.sound.ensures.site });
   after_gather = c.collect.new.held;
-  gathered = (c.in_default-collect.ensures.gathered, record { stands = c.sound-2.ensures.stands; site = c.sound-2.ensures.site });
+  gathered = (c.in_default.ensures.gathered, record { stands = c.sound-2.ensures.stands; site = c.sound-2.ensures.site });
   after_send = c.send.new.held;
   sent = (record { made = c.send.ensures.made; ins = c.send.ensures.ins; idle = c.in_default-send.ensures.idle; sent = c.in_default-send.ensures.sent }, record { stands = c.sound-3.ensures.stands; site = c.sound-3.ensures.site });
   after_hear = c.receive.new.held;
