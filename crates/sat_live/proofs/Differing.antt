@@ -1,45 +1,32 @@
 -- What two notes that are not the same tell of a script.
-use Rattle.std.proofs.Common.{◌≡◌, ◌⊎◌, ℕ, ◌+◌, Bool, true, false, List, [], ◌∷◌, map, Option, Some, None, if◌then◌else◌, sym, ap, ◌∙◌, subst, inl, inr, refl}
+use Rattle.std.proofs.Common.{◌≡◌, ℕ, List, [], ◌∷◌, map, Option, Some, None, sym, ap, ◌∙◌, subst, inl, inr, refl}
 use Rattle.std.specs.Prelude.{IfSome}
 use Rattle.std.specs.List.{AllByRecursion, AllZip}
 use Rattle.sat_label.specs.Members.{In}
-use Rattle.sat_label.proofs.Members.{In-left}
+use Rattle.sat_label.proofs.Members.{In-get}
 use Rattle.sat_act.specs.declared.act.Act.{Act}
 use Rattle.sat_act.specs.declared.entry.Entry.{Entry}
 use Rattle.sat_act.specs.Deployed.{Deployed}
 use Rattle.sat_stitch.specs.Kept.{Kept}
 use Rattle.sat_stitch.specs.Places.{Session, session_of}
 use Rattle.sat_session.specs.declared.noted.Noted.{Noted}
-use Rattle.sat_session.specs.Notes.{SessionSeen, notes_of, session_at, session_notes}
 use Rattle.sat_session.specs.Owned.{Owned}
+use Rattle.sat_session.specs.Notes.{SessionSeen, notes_of, session_at, session_notes}
 use Rattle.sat_session.specs.Sessions.{IsSession, NotesFrom, note_kept}
 use Rattle.sat_session.proofs.Owned.{OfSession, in-flat, in-own}
 use Rattle.sat_finish.specs.Differences.{IsDifference}
 use Rattle.sat_finish.specs.Finishing.{note_entry}
-use Rattle.sat_undone.specs.Undone.{acts_behind, acts_done, acts_of, waits}
-use Rattle.sat_crew.specs.Crews.{CameBack, DoesFront, entries_in, own_acts}
+use Rattle.sat_undone.specs.Undone.{AreInTurn, acts_of, next_tally, no_tally}
+use Rattle.sat_crew.specs.Crews.{CameBack, entries_in, own_acts}
 use Rattle.sat_live.specs.Told.{IsTried, TellsAct}
 
 -- ---- the acts of a session that came back
 
-either : (b : Bool) (later now : List Act) (x a : Act) → In later a → In now a → In (if b then later else x ∷ now) a
-either true later now x a i j = i
-either false later now x a i j = inr j
-
--- an entry that doesn't wait is an act that was done
-behind-has : (n : ℕ) (o : Option Act) (es : List Entry) (e : Entry) → In es e → waits e ≡ false → In (acts_behind n o es) e.act
-behind-has n o [] e i w = absurd i
-behind-has n o (x ∷ es) e (inl same) w =
-    let here : waits x ≡ false = ap waits same ∙ w in
-    rw here (inl (ap (λ (y : Entry). y.act) same))
-behind-has n o (x ∷ es) e (inr i) w = either (waits x) (acts_behind (n + 1) (Some x.act) es) (acts_behind 0 None es) x.act e.act (behind-has (n + 1) (Some x.act) es e i w) (behind-has 0 None es e i w)
-
--- each entry of a session waits, or is of one of its acts
-front-has : (acts : List Act) (es : List Entry) (e : Entry) → DoesFront acts es → In es e → (waits e ≡ true) ⊎ In acts e.act
-front-has acts es e front i = go (waits e) refl where
-  go : (b : Bool) → waits e ≡ b → (waits e ≡ true) ⊎ In acts e.act
-  go true w = inl w
-  go false w = inr (subst (λ (all : List Act). In all e.act) (sym front.1) (In-left (acts_done es) front.0 e.act (behind-has 0 None es e i w)))
+-- each entry of a session is of one of its acts
+in-turn-has : (t : _) (acts : List Act) (es : List Entry) (e : Entry) → AreInTurn t acts es → In es e → In acts e.act
+in-turn-has t acts [] e turns i = absurd i
+in-turn-has t acts (x ∷ es) e turns (inl same) = subst (λ (y : Entry). In acts y.act) same (In-get acts t.done x.act turns.0.act)
+in-turn-has t acts (x ∷ es) e turns (inr i) = in-turn-has (next_tally t x) acts es e turns.1 i
 
 in-entries : (ns : List Noted) (n : Noted) → In ns n → In (map note_entry ns) n.entry
 in-entries [] n i = absurd i
@@ -55,7 +42,7 @@ own-act d s before (m ∷ ns) n all (inr i) = own-act d s (note_kept d s before 
 noted-act : (d : Deployed) (acts : List Act) (x y : SessionSeen) (n : Noted) → CameBack d acts x y → IsSession d y → In y.noted n → IsTried (session_at d y.number) acts n.entry
 noted-act d acts x y n back is i = record {
   own = own-act d (session_at d y.number) [] y.noted n is.notes i;
-  act = subst (λ (k : ℕ). (waits n.entry ≡ true) ⊎ In (acts_of (session_at d k) acts) n.entry.act) (sym back.same) (front-has (own_acts d acts x) (entries_in y) n.entry back.front (in-entries y.noted n i));
+  act = subst (λ (k : ℕ). In (acts_of (session_at d k) acts) n.entry.act) (sym back.same) (in-turn-has no_tally (own_acts d acts x) (entries_in y) n.entry back.front.in_turn (in-entries y.noted n i));
 }
 
 came-act : (d : Deployed) (acts : List Act) (xs ys : List SessionSeen) (y : SessionSeen) (n : Noted) → AllZip (CameBack d acts) xs ys → AllByRecursion (IsSession d) ys → In ys y → In y.noted n → IsTried (session_at d y.number) acts n.entry

@@ -1,5 +1,5 @@
 -- What is told of a script that nodes on threads did, status by status.
-use Rattle.std.specs.Prelude.{ℕ, ◌≡◌, ◌≢◌, ◌≤◌, ◌<◌, ◌⊎◌, true, false, List, ◌++◌, length, reverse, Option, Some, None, IfSome}
+use Rattle.std.specs.Prelude.{ℕ, ◌≡◌, ◌≢◌, ◌≤◌, ◌<◌, ◌⊎◌, false, List, ◌++◌, length, reverse, Option, Some, None, IfSome}
 use Rattle.sat_label.specs.declared.node.NodeName.{NodeName}
 use Rattle.sat_label.specs.declared.node.NodeName.TheVariants as named
 use Rattle.sat_label.specs.Members.{In}
@@ -20,7 +20,7 @@ use Rattle.sat_session.specs.declared.noted.Noted.{Noted}
 use Rattle.sat_session.specs.Owned.{Owned}
 use Rattle.sat_finish.specs.Differences.{IsDifference}
 use Rattle.sat_stitch.specs.Places.{Session, session_of}
-use Rattle.sat_undone.specs.Undone.{AreDone, AreFronts, acts_of, undone, waits}
+use Rattle.sat_undone.specs.Undone.{AreDone, AreFronts, acts_of, undone}
 use Rattle.sat_outcome.specs.Texts.{differ_text, undone_text, unsettled_text}
 
 -- These are the acts of the one journal of nodes and sessions that did this script. Each of them has a line under the deployment's
@@ -54,10 +54,10 @@ pub record IsAtNode (d : Deployed) (n : Noted) : Type 0 where
   pub outer : n.entry.inner ≡ false
   pub node : (name : NodeName) × (n.at ≡ Some name) × IsNodeOf d name
 
--- an entry of an act of this session: one of its acts in the script, or an attach that has to wait
+-- an entry of an act of this session, one of its acts in the script
 pub record IsTried (s : Session) (acts : List Act) (e : Entry) : Type 0 where
   pub own : session_of e.act ≡ Some s
-  pub act : (waits e ≡ true) ⊎ In (acts_of s acts) e.act
+  pub act : In (acts_of s acts) e.act
 
 -- one of the two notes at least is there, and tells of the script: what the session kept is of an act of its own in it; where it kept
 -- nothing, what a node kept is of an act of the script
