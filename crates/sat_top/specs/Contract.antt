@@ -41,7 +41,7 @@ pub record MeetsCommand (command : Option Command) (status : ℕ) (left left_aft
   pub statuses : status ≤ 5
   -- the bytes taken have a bound
   pub bounded : (taken : List ℕ) × Consumes left left_after taken × (length taken ≤ most_taken command)
-  -- and no more are taken once the first bad line of a script is known
+  -- and of a script all of them but the last ones, at most a piece, have no bad line among them
   pub stops : StopsReadingOf command left left_after
   -- the source says once at most that none are left: it isn't asked again
   pub once : ends_after ≤ ends + 1

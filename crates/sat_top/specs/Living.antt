@@ -84,7 +84,7 @@ pub record MeetsLive (status : ℕ) (left left_after : Option (List ℕ)) (told 
   pub statuses : (status ≤ 8) × (status ≢ 2) × (status ≢ 7)
   -- the bytes taken have a bound
   pub bounded : (taken : List ℕ) × Consumes left left_after taken × (length taken ≤ MOST_BYTES + BUFFER_BYTES)
-  -- and no more are taken once the first bad line is known
+  -- and all of them but the last ones, at most a piece, have no bad line among them
   pub stops : StopsReading true left left_after
   -- the source says once at most that none are left
   pub once : ends_after ≤ ends + 1

@@ -48,8 +48,8 @@ pub record WasAnswering (left left_after : Option (List ℕ)) (old new : Told) :
   pub rest : List ℕ
   pub written : Takes old new (answers_text (reading false before) ++ rest)
 
--- What was read ends with one piece, or with less, and none of the whole lines before that piece is bad: no more is read once the first
--- bad line is known.
+-- None of the whole lines of what was read is bad, but in its last bytes, which are at most a piece. So behind a first bad line less than a
+-- piece is read. That nothing is read once this line is known is more, and isn't said: a further call could still fill the piece.
 pub record StopsReading (live : Bool) (left left_after : Option (List ℕ)) : Type 0 where
   pub before : List ℕ
   pub piece : List ℕ

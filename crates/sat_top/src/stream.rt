@@ -121,7 +121,7 @@ pub fn run_script<S: Source, K: Sink>(
     ensures end { IfOk result (λ status. status ≡ 0 → IsAtEnd (S.left source.new)) }
     // The bytes taken have a bound, however much the source has.
     ensures bounded { (taken : List ℕ) × Consumes (S.left source.old) (S.left source.new) taken × (length taken ≤ MOST_SCRIPT_BYTES + BUFFER_BYTES) }
-    // No more is read once the first bad line is known.
+    // All that is read but the last bytes, at most a piece, has no bad line in it.
     ensures stops { StopsReading false (S.left source.old) (S.left source.new) }
     ensures failed { IsErrOf result Halt.Source → Rose (S.faults source.old) (S.faults source.new) }
     ensures answered { IsErrOf result Halt.Source → HasAnswered (S.left source.old) (S.left source.new) (K.told sink.old) (K.told sink.new) }
@@ -181,7 +181,7 @@ pub fn read_script<S: Source>(alloc: Global, source: &mut S, live: bool) -> Resu
     ensures end { IfOk result (λ found. found.fault ≡ None → IsAtEnd (S.left source.new)) }
     // The bytes taken have a bound, however much the source has.
     ensures bounded { (taken : List ℕ) × Consumes (S.left source.old) (S.left source.new) taken × (length taken ≤ MOST_SCRIPT_BYTES + BUFFER_BYTES) }
-    // No more is read once the first bad line is known.
+    // All that is read but the last bytes, at most a piece, has no bad line in it.
     ensures stops { StopsReading live (S.left source.old) (S.left source.new) }
     ensures once { S.ends source.new ≤ S.ends source.old + 1 }
     ensures later { S.faults source.old ≤ S.faults source.new }
