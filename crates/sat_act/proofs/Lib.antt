@@ -1,4 +1,3 @@
 pub mod Plans
-pub mod Sets
 pub mod Sound
 pub mod Valid

@@ -1,18 +1,18 @@
 -- A deployment without a flaw.
-use Rattle.std.proofs.Common.{ℕ, zero, suc, ◌≡◌, ◌<◌, ◌≤◌, ◌+◌, ◌-◌, ◌==◌, ◌⊎◌, inl, inr, Bool, true, false, not, nat_le, List, [], ◌∷◌, length, take, Option, Some, None, slice_get, refl, sym, ap, ◌∙◌, arith}
+use Rattle.std.proofs.Common.{ℕ, zero, suc, ◌≡◌, ◌<◌, ◌≤◌, ◌+◌, ◌-◌, ◌==◌, ◌⊎◌, inl, inr, Bool, true, false, not, nat_le, List, [], ◌∷◌, length, take, Option, Some, None, slice_get, refl, sym, ap, eq-or-lt_of_le, ◌∙◌, arith}
 use Rattle.std.specs.List.{list_any}
 use Rattle.std.specs.Option.{option_or, option_map}
 use Rattle.std.specs.Str.{bytes_eq}
-use Rattle.std.proofs.Math.Nat.{eq-or-lt_of_le}
 use Rattle.std.proofs.lemmas.Bool.Decides.{nat_tests}
 use Rattle.std.proofs.lemmas.Bool.{and_parts, cases_lt, eqb-true, ltb-true, not-true}
 use Rattle.std.proofs.lemmas.Option.{slice_get_within}
 use Rattle.std.proofs.lemmas.Slice.Eq.{bytes_eq-Decides}
 use Rattle.sat_label.proofs.Truth.{or-true}
-use Rattle.sat_label.specs.Words.{first_failing, bit}
-use Rattle.std.proofs.Math.Pow.{pow-lt}
+use Rattle.sat_label.specs.Words.{are_sites, first_failing}
+use Rattle.sat_label.specs.Formats.{is_format, limits_of}
 use Rattle.sat_label.proofs.First.{first_none}
-use Rattle.sat_label.proofs.Bits.{bit-some, bit-within}
+use Rattle.sat_label.proofs.Bits.{sites-some, sites-below}
+use Rattle.sat_label.proofs.Formats.{sites_within, items_within}
 use Rattle.sat_tree.specs.Shape.{TreeShape}
 use Rattle.sat_tree.specs.Flaw.{IsSmallTree}
 use Rattle.sat_act.specs.declared.deployment.Item.{Item}
@@ -23,7 +23,7 @@ use Rattle.sat_act.specs.Deployed.{Deployed}
 use Rattle.sat_act.specs.Parts.{tree_of}
 use Rattle.sat_act.specs.Limits.{IsDeployment, HaveTrees}
 use Rattle.sat_act.proofs.Plans.{tree_in_plans}
-use Rattle.sat_act.specs.Flaw.{flaw, wrong_size, is_within, are_sites, item_fits, client_fits, plan_fits}
+use Rattle.sat_act.specs.Flaw.{flaw, wrong_size, is_within, item_fits, client_fits, plan_fits}
 
 -- ---- trees among plans
 
@@ -48,21 +48,23 @@ map-none f None e = refl
 map-none f (Some x) e = absurd (cc)
 
 record Sizes (d : Deployed) : Type 0 where
+  format : is_format d.format ≡ true
   some_site : 0 < d.sites
-  few_sites : d.sites ≤ 16
+  few_sites : d.sites ≤ (limits_of d.format).sites
   some_gear : 0 < d.gears
   few_gears : d.gears ≤ 8
-  few_items : length d.items ≤ 4096
+  few_items : length d.items ≤ (limits_of d.format).items
   few_clients : length d.clients ≤ 1024
   some_plan : 0 < length d.plans
   few_plans : length d.plans ≤ 16
 
 sizes : (d : Deployed) → wrong_size d ≡ None → Sizes d
 unfolding wrong_size
-sizes d none = go _ _ _ _ _ refl refl refl refl refl
+sizes d none = go _ _ _ _ _ _ refl refl refl refl refl refl
   where
-    go : (a b c e f : Bool) → is_within 1 16 d.sites ≡ a → is_within 1 8 d.gears ≡ b → nat_le (length d.items) 4096 ≡ c → nat_le (length d.clients) 1024 ≡ e → is_within 1 16 (length d.plans) ≡ f → Sizes d
-    go true true true true true p q r s t = record {
+    go : (z a b c e f : Bool) → is_format d.format ≡ z → is_within 1 (limits_of d.format).sites d.sites ≡ a → is_within 1 8 d.gears ≡ b → nat_le (length d.items) (limits_of d.format).items ≡ c → nat_le (length d.clients) 1024 ≡ e → is_within 1 16 (length d.plans) ≡ f → Sizes d
+    go true true true true true true y p q r s t = record {
+      format = y;
       some_site = grind (arith, nat_tests);
       few_sites = grind (arith, nat_tests);
       some_gear = grind (arith, nat_tests);
@@ -72,11 +74,12 @@ sizes d none = go _ _ _ _ _ refl refl refl refl refl
       some_plan = grind (arith, nat_tests);
       few_plans = grind (arith, nat_tests);
     }
-    go false b c e f p q r s t = absurd (let w : wrong_size d ≡ Some 0 = rw (p, wrong_size) refl in cc)
-    go true false c e f p q r s t = absurd (let w : wrong_size d ≡ Some 1 = rw (p, q, wrong_size) refl in cc)
-    go true true false e f p q r s t = absurd (let w : wrong_size d ≡ Some 2 = rw (p, q, r, wrong_size) refl in cc)
-    go true true true false f p q r s t = absurd (let w : wrong_size d ≡ Some 3 = rw (p, q, r, s, wrong_size) refl in cc)
-    go true true true true false p q r s t = absurd (let w : wrong_size d ≡ Some 4 = rw (p, q, r, s, t, wrong_size) refl in cc)
+    go false a b c e f y p q r s t = absurd (let w : wrong_size d ≡ Some 5 = rw (y, wrong_size) refl in cc)
+    go true false b c e f y p q r s t = absurd (let w : wrong_size d ≡ Some 0 = rw (y, p, wrong_size) refl in cc)
+    go true true false c e f y p q r s t = absurd (let w : wrong_size d ≡ Some 1 = rw (y, p, q, wrong_size) refl in cc)
+    go true true true false e f y p q r s t = absurd (let w : wrong_size d ≡ Some 2 = rw (y, p, q, r, wrong_size) refl in cc)
+    go true true true true false f y p q r s t = absurd (let w : wrong_size d ≡ Some 3 = rw (y, p, q, r, s, wrong_size) refl in cc)
+    go true true true true true false y p q r s t = absurd (let w : wrong_size d ≡ Some 4 = rw (y, p, q, r, s, t, wrong_size) refl in cc)
 
 record NoFlaw (d : Deployed) : Type 0 where
   sizes : Sizes d
@@ -138,19 +141,6 @@ plan-at sites plans e t fits at = let same = rw (at, plan_fits) at fits in eqb-t
 tree-at : (d : Deployed) (e : ℕ) (t : TreeShape) → tree_of d e ≡ Some t → slice_get d.plans (e - 1) ≡ Some (plan.Tree t)
 tree-at d e t is = (tree_in_plans d e t is).1
 
-positive : (n : ℕ) → not (n == 0) ≡ true → 0 < n
-positive n e = grind (arith, nat_tests)
-
-sites-some : (sites bits : ℕ) → are_sites sites bits ≡ true → sites ≤ 16 → (k : ℕ) × (bit bits k ≡ true)
-sites-some sites bits are few =
-    let both = and_parts _ _ are in
-    let some : 0 < bits = positive _ both.0 in
-    let fits = ltb-true _ _ both.1 in
-    bit-some bits some (omega (arith, pow-lt {i = sites} {j = 64} (omega arith)))
-
-sites-below : (sites bits k : ℕ) → are_sites sites bits ≡ true → bit bits k ≡ true → k < sites
-sites-below sites bits k are has = bit-within bits sites k (ltb-true _ _ ((and_parts _ _ are).1)) has
-
 pub sound : (d : Deployed) → flaw d ≡ None → HaveTrees d.plans → IsDeployment d
 sound d none trees =
     let fine = no-flaw d none in
@@ -159,15 +149,18 @@ sound d none trees =
     let clients = λ (c : ℕ) (line : ClientLine) (at : slice_get d.clients c ≡ Some line). client-at d.sites d.clients c line (first_none _ _ c fine.clients (slice_get_within d.clients c _ at)) at in
     let plans = λ (e : ℕ) (t : TreeShape) (is : tree_of d e ≡ Some t). trees (e - 1) t (tree-at d e t is) in
     record {
+      format = size.format;
+      sites_allowed = size.few_sites;
+      items_allowed = size.few_items;
       some_site = size.some_site;
-      few_sites = size.few_sites;
+      few_sites = sites_within d.format d.sites size.few_sites;
       some_gear = size.some_gear;
       few_gears = size.few_gears;
-      few_items = size.few_items;
+      few_items = items_within d.format (length d.items) size.few_items;
       few_clients = size.few_clients;
       some_plan = size.some_plan;
       few_plans = size.few_plans;
-      kept = λ x item at. sites-some d.sites item.replicas.bits (items x item at).0 size.few_sites;
+      kept = λ x item at. sites-some d.sites item.replicas.bits (items x item at).0 (sites_within d.format d.sites size.few_sites);
       replicas = λ x k item at has. sites-below d.sites item.replicas.bits k (items x item at).0 has;
       item_names = λ x y one other at there same. same-place x y (λ less. absurd (twice (λ (earlier : Item). bytes_eq earlier.name other.name) d.items x y one at less (same-bytes _ _ same) (items y other there).1)) (λ less. absurd (twice (λ (earlier : Item). bytes_eq earlier.name one.name) d.items y x other there less (same-bytes _ _ (sym same)) (items x one at).1));
       homes = λ c line at. (clients c line at).0;

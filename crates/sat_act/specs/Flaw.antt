@@ -7,8 +7,9 @@ use Rattle.std.specs.BTreeSet.{BTreeSet, contains_by}
 use Rattle.std.specs.Cmp.Lexicographic.{slice_cmp}
 use Rattle.std.specs.Ordering.{nat_cmp}
 use Rattle.std.specs.Borrow.{Bor}
-use Rattle.sat_label.specs.declared.limits.TheConstants.{MOST_CLIENTS, MOST_EPOCHS, MOST_GEARS, MOST_ITEMS, MOST_SITES}
-use Rattle.sat_label.specs.Words.{first_failing}
+use Rattle.sat_label.specs.declared.limits.TheConstants.{MOST_CLIENTS, MOST_EPOCHS, MOST_GEARS}
+use Rattle.sat_label.specs.Formats.{is_format, limits_of}
+use Rattle.sat_label.specs.Words.{are_sites, first_failing}
 use Rattle.sat_act.specs.declared.deployment.Item.{Item}
 use Rattle.sat_act.specs.declared.deployment.ClientLine.{ClientLine}
 use Rattle.sat_act.specs.declared.deployment.Plan.{Plan}
@@ -25,19 +26,16 @@ has_name names name = contains_by (λ k. slice_cmp nat_cmp name k.now) names
 abbrev pub is_within : ℕ → ℕ → ℕ → Bool
 is_within low high n = nat_le low n && nat_le n high
 
--- the first part of a wrong size: 0 for the sites, 1 for the gears, 2 for the items, 3 for the clients, 4 for the plans
+-- the first part of a wrong size: 5 for the format, 0 for the sites, 1 for the gears, 2 for the items, 3 for the clients, 4 for the plans
 unfoldable pub wrong_size : Deployed → Option ℕ
 wrong_size d =
-    if not (is_within 1 MOST_SITES d.sites) then Some 0 else
+    if not (is_format d.format) then Some 5 else
+    if not (is_within 1 (limits_of d.format).sites d.sites) then Some 0 else
     if not (is_within 1 MOST_GEARS d.gears) then Some 1 else
-    if not (nat_le (length d.items) MOST_ITEMS) then Some 2 else
+    if not (nat_le (length d.items) (limits_of d.format).items) then Some 2 else
     if not (nat_le (length d.clients) MOST_CLIENTS) then Some 3 else
     if not (is_within 1 MOST_EPOCHS (length d.plans)) then Some 4 else
     None
-
--- a set with a member, all of whose members are sites
-abbrev pub are_sites : ℕ → ℕ → Bool
-are_sites sites bits = not (bits == 0) && nat_lt bits (2 ^ sites)
 
 -- some site keeps the item, each that does is one of the sites, and no earlier item has its name
 unfoldable pub item_fits : ℕ → List Item → ℕ → Bool

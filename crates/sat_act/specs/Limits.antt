@@ -2,6 +2,7 @@
 use Rattle.std.specs.Prelude.{◌≡◌, ◌<◌, ◌≤◌, ℕ, true, Some, length, slice_get, List}
 use Rattle.sat_label.specs.declared.limits.TheConstants.{MOST_CLIENTS, MOST_EPOCHS, MOST_GEARS, MOST_ITEMS, MOST_SERIALIZERS, MOST_SITES}
 use Rattle.sat_label.specs.Words.{bit}
+use Rattle.sat_label.specs.Formats.{is_format, limits_of}
 use Rattle.sat_tree.specs.Shape.{TreeShape}
 use Rattle.sat_tree.specs.Cut.{IsTree}
 use Rattle.sat_tree.specs.Flaw.{IsSmallTree}
@@ -12,9 +13,12 @@ use Rattle.sat_act.specs.declared.deployment.ClientLine.{ClientLine}
 use Rattle.sat_act.specs.Deployed.{Deployed}
 use Rattle.sat_act.specs.Parts.{tree_of}
 
--- what `Deployment::new` makes sure of: the limits of the numbers, each item kept somewhere and only at sites, no name twice among
+-- what `Deployment::new` makes sure of: the limits of the numbers, those of any format and those of its own, each item kept somewhere and only at sites, no name twice among
 -- the items or the clients, each client's site a site, and each epoch's tree, if any, a tree that seats every site
 pub record IsDeployment (d : Deployed) : Type 0 where
+  pub format : is_format d.format ≡ true
+  pub sites_allowed : d.sites ≤ (limits_of d.format).sites
+  pub items_allowed : length d.items ≤ (limits_of d.format).items
   pub some_site : 0 < d.sites
   pub few_sites : d.sites ≤ MOST_SITES
   pub some_gear : 0 < d.gears

@@ -9,11 +9,11 @@ ghost use Rattle.sat_label.specs.Words.{first_failing};
 ghost use Rattle.sat_label.specs.declared.limits.TheConstants.{MOST_CLIENTS, MOST_EPOCHS, MOST_ITEMS, MOST_SITES};
 ghost use Rattle.sat_act.specs.declared.deployment.Item.{Item};
 ghost use Rattle.sat_act.specs.declared.deployment.ClientLine.{ClientLine};
-ghost use Rattle.sat_act.specs.Flaw.{are_sites, has_name, HaveItemNames, HaveClientLineNames, client_fits, flaw, item_fits, plan_fits, wrong_size};
+ghost use Rattle.sat_act.specs.Flaw.{has_name, HaveItemNames, HaveClientLineNames, client_fits, flaw, item_fits, plan_fits, wrong_size};
 ghost use Rattle.sat_act.specs.Limits.{HaveTrees};
 
 use crate::{ClientLine, DeploymentFault, Item, Plan};
-use sat_label::{MOST_CLIENTS, MOST_EPOCHS, MOST_GEARS, MOST_ITEMS, MOST_SITES, SiteSet};
+use sat_label::{MOST_CLIENTS, MOST_EPOCHS, MOST_GEARS, limits_of};
 use std::alloc::{AllocError, Global};
 use std::collections::BTreeSet;
 
@@ -38,16 +38,6 @@ fn has_client(clients: &[ClientLine], name: &[u8]) -> bool
     clients.iter().any(|client| client.name.bytes() == name)
 }
 
-// Whether a set has a member, and only sites of the deployment.
-#[tactic(auto, using(crate::proofs::Sets::few_bits))]
-fn are_sites(sites: u16, set: &SiteSet) -> bool
-    requires { sites ≤ MOST_SITES }
-    ensures { result ≡ are_sites sites set.now.bits }
-{
-    let bits = set.bits;
-    bits != 0 && bits < 1 << sites
-}
-
 #[tactic(auto, unfolding(crate::specs::Flaw::item_fits))]
 fn scan_item(sites: u16, items: &[Item], x: u16) -> bool
     requires place { x < length items.now }
@@ -55,7 +45,7 @@ fn scan_item(sites: u16, items: &[Item], x: u16) -> bool
     ensures { result ≡ item_fits sites items.now x }
 {
     let item = &items[x as usize];
-    are_sites(sites, &item.replicas) && !has_item(&items[..x as usize], item.name.bytes())
+    item.replicas.is_among(sites) && !has_item(&items[..x as usize], item.name.bytes())
 }
 
 #[tactic(auto, unfolding(crate::specs::Flaw::client_fits))]
@@ -121,7 +111,7 @@ fn take_item<'a>(
     ensures names { IfOk result (λ fits. fits ≡ true → HaveItemNames names.new (take (x + 1) items.now)) }
 {
     let item = &items[x as usize];
-    if !are_sites(sites, &item.replicas) {
+    if !item.replicas.is_among(sites) {
         return Ok(false);
     }
     let new = add_name(names, item.name.bytes())?;
@@ -221,21 +211,28 @@ fn first_wrong_plan(sites: u16, plans: &[Plan]) -> Option<u16>
 
 #[tactic(auto, unfolding(crate::specs::Flaw::wrong_size))]
 fn wrong_size(
+    format: u16,
     sites: u16,
     gears: u16,
     items: &[Item],
     clients: &[ClientLine],
     plans: &[Plan],
 ) -> Option<u16>
-    ensures { result ≡ wrong_size (record { sites = sites; gears = gears; items = items.now; clients = clients.now; plans = plans.now }) }
+    ensures part { result ≡ wrong_size (record { format = format; sites = sites; gears = gears; items = items.now; clients = clients.now; plans = plans.now }) }
+    ensures few_sites { result ≡ None → sites ≤ MOST_SITES }
+    ensures few_items { result ≡ None → length items.now ≤ MOST_ITEMS }
 {
-    if sites < 1 || MOST_SITES < sites {
+    if format != 1 && format != 2 {
+        return Some(5);
+    }
+    let limits = limits_of(format);
+    if sites < 1 || limits.sites < sites {
         return Some(0);
     }
     if gears < 1 || MOST_GEARS < gears {
         return Some(1);
     }
-    if MOST_ITEMS < items.len() {
+    if limits.items < items.len() {
         return Some(2);
     }
     if MOST_CLIENTS < clients.len() {
@@ -251,16 +248,17 @@ fn wrong_size(
 #[tactic(auto, unfolding(crate::specs::Flaw::flaw))]
 pub fn flaw_of(
     alloc: Global,
+    format: u16,
     sites: u16,
     gears: u16,
     items: &[Item],
     clients: &[ClientLine],
     plans: &[Plan],
 ) -> Option<DeploymentFault>
-    ensures flaw { result ≡ flaw (record { sites = sites; gears = gears; items = items.now; clients = clients.now; plans = plans.now }) }
+    ensures flaw { result ≡ flaw (record { format = format; sites = sites; gears = gears; items = items.now; clients = clients.now; plans = plans.now }) }
     ensures trees { result ≡ None → HaveTrees plans.now }
 {
-    if let Some(part) = wrong_size(sites, gears, items, clients, plans) {
+    if let Some(part) = wrong_size(format, sites, gears, items, clients, plans) {
         return Some(DeploymentFault::Size(part));
     }
     if let Some(place) = first_wrong_item(alloc, sites, items) {

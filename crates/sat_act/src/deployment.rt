@@ -103,6 +103,7 @@ fn copy_plans(alloc: Global, plans: &[Plan]) -> Result<Vec<Plan>, AllocError>
 /// A deployment within its limits.
 #[derive(Drop)]
 pub struct Deployment {
+    format: u16,
     sites: u16,
     gears: u16,
     items: Vec<Item>,
@@ -117,34 +118,36 @@ impl Model for Deployment {
 
     ghost use Rattle.sat_act.specs.Limits.{IsDeployment};
 
-    ghost view = { λ a. record { sites = a.sites; gears = a.gears; items = a.items.items; clients = a.clients.items; plans = a.plans.items } };
+    ghost view = { λ a. record { format = a.format; sites = a.sites; gears = a.gears; items = a.items.items; clients = a.clients.items; plans = a.plans.items } };
 
-    ghost invariant = { λ a. IsDeployment (record { sites = a.sites; gears = a.gears; items = a.items.items; clients = a.clients.items; plans = a.plans.items }) };
+    ghost invariant = { λ a. IsDeployment (record { format = a.format; sites = a.sites; gears = a.gears; items = a.items.items; clients = a.clients.items; plans = a.plans.items }) };
 }
 
 impl Deployment {
     ghost use Rattle.sat_act.specs.Limits.{IsDeployment};
     ghost use Rattle.sat_act.specs.Flaw.{flaw};
 
-    /// A deployment of 1 to 16 sites with 1 to 8 gears each, at most 4,096 items, at most 1,024 clients, and the plans of 1 to
-    /// 16 epochs. Its faults say what is wrong, the sizes first, then the items, the clients and the plans, each in order. For want
+    /// A deployment of format 1 or 2, with as many sites and items as that allows, 1 to 8 gears at each site, at most 1,024 clients,
+    /// and the plans of 1 to 16 epochs. Its faults say what is wrong, the sizes first, then the items, the clients and the plans, each in order. For want
     /// of memory it compares names pair by pair, which takes none, so it never answers `Memory`.
     pub fn new(
         alloc: Global,
+        format: u16,
         sites: u16,
         gears: u16,
         items: Vec<Item>,
         clients: Vec<ClientLine>,
         plans: Vec<Plan>,
     ) -> Result<Self, DeploymentFault>
-        ensures deployment { IfOk result (λ d. d ≡ record { sites = sites; gears = gears; items = items.items; clients = clients.items; plans = plans.items }) }
-        ensures fault { MatchOption (flaw (record { sites = sites; gears = gears; items = items.items; clients = clients.items; plans = plans.items }))
+        ensures deployment { IfOk result (λ d. d ≡ record { format = format; sites = sites; gears = gears; items = items.items; clients = clients.items; plans = plans.items }) }
+        ensures fault { MatchOption (flaw (record { format = format; sites = sites; gears = gears; items = items.items; clients = clients.items; plans = plans.items }))
             (IsOk result)
             (λ fault. IsErrOf result fault) }
     {
-        match flaw_of(alloc, sites, gears, &items, &clients, &plans) {
+        match flaw_of(alloc, format, sites, gears, &items, &clients, &plans) {
             Some(fault) => Err(fault),
             None => Ok(Deployment {
+                format,
                 sites,
                 gears,
                 items,
@@ -152,6 +155,14 @@ impl Deployment {
                 plans,
             }),
         }
+    }
+
+    /// The format of its scripts, 1 or 2.
+    pub fn format(&self) -> u16
+        ensures format { result ≡ self.now.format }
+        ensures limits { IsDeployment self.now }
+    {
+        self.format
     }
 
     /// The number of sites.
@@ -204,6 +215,7 @@ impl Deployment {
         let clients = copy_clients(alloc, self.clients.as_slice())?;
         let plans = copy_plans(alloc, self.plans.as_slice())?;
         Ok(Deployment {
+            format: self.format,
             sites: self.sites,
             gears: self.gears,
             items,

@@ -47,6 +47,7 @@ close ts site gear e = record { point = point_at ts site gear; kind = kind.Close
 -- two sites of two gears that keep x and y, two clients at the first site and one at the second, and stamp order from the second epoch on
 abbrev two_gears : Deployed
 two_gears = record {
+  format = 1;
   sites = 2;
   gears = 2;
   items = record { name = codes "x"; replicas = record { bits = 3 } } ∷ record { name = codes "y"; replicas = record { bits = 3 } } ∷ [];

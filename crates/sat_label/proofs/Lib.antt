@@ -7,3 +7,4 @@ pub mod Truth
 pub mod Orders
 pub mod Members
 pub mod Least
+pub mod Formats

@@ -4,3 +4,4 @@ pub mod Text
 pub mod Kept
 pub mod Members
 pub mod Least
+pub mod Formats

@@ -1,5 +1,5 @@
 -- Small words on lists that the definitions share.
-use Rattle.std.specs.Prelude.{ℕ, zero, suc, Bool, false, ◌||◌, ◌==◌, ◌/◌, ◌%◌, ◌^◌, List, [], ◌∷◌, ◌++◌, Option, Some, None, if◌then◌else◌}
+use Rattle.std.specs.Prelude.{ℕ, zero, suc, Bool, false, not, ◌||◌, ◌&&◌, ◌==◌, nat_lt, ◌/◌, ◌%◌, ◌^◌, List, [], ◌∷◌, ◌++◌, Option, Some, None, if◌then◌else◌}
 
 -- the numbers below n, ascending
 abbrev pub below : ℕ → List ℕ
@@ -14,6 +14,10 @@ has same (y ∷ ys) x = same y x || has same ys x
 -- whether a set of sites, as bits, has this one
 abbrev pub bit : ℕ → ℕ → Bool
 bit bits k = (bits / 2 ^ k) % 2 == 1
+
+-- some site of those below a number, and none else: the set, as bits, is at least 1 and below 2 to that power
+abbrev pub are_sites : ℕ → ℕ → Bool
+are_sites sites bits = not (bits == 0) && nat_lt bits (2 ^ sites)
 
 -- the first place below n that fails a test
 unfoldable pub first_failing : (ℕ → Bool) → ℕ → Option ℕ

@@ -15,8 +15,9 @@ mod text;
 pub use carried::Carried;
 pub use label::{Kind, Label};
 pub use limits::{
-    MARK_GEAR, MOST_ACTS, MOST_CLIENTS, MOST_EPOCHS, MOST_GEARS, MOST_ITEMS, MOST_SERIALIZERS,
-    MOST_SETTLES, MOST_SITES, NAME_BYTES, PULSE_GEAR, TS_END, VALUE_BYTES,
+    Limits, MARK_GEAR, MOST_ACTS, MOST_CLIENTS, MOST_EPOCHS, MOST_GEARS, MOST_ITEMS,
+    MOST_SERIALIZERS, MOST_SETTLES, MOST_SITES, NAME_BYTES, PULSE_GEAR, TS_END, VALUE_BYTES,
+    limits_of,
 };
 pub use lists::{Counts, Labels, List, Nodes, Points};
 pub use node::{NodeId, NodeName};

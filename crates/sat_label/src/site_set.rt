@@ -1,6 +1,6 @@
 //! Sets of sites.
-ghost use Rattle.std.specs.Prelude.{◌≡◌, ℕ, ◌<◌, ◌==◌, ◌&&◌, ◌||◌, not, true, IsTrue, ◌↔◌};
-ghost use Rattle.sat_label.specs.Words.{bit};
+ghost use Rattle.std.specs.Prelude.{◌≡◌, ℕ, ◌<◌, ◌≤◌, ◌==◌, ◌&&◌, ◌||◌, not, true, nat_lt, IsTrue, ◌↔◌};
+ghost use Rattle.sat_label.specs.Words.{are_sites, bit};
 
 /// A set of sites below 64, one bit each.
 #[derive(Clone, Copy, Debug, PartialEq, Eq)]
@@ -22,6 +22,19 @@ impl SiteSet {
         ensures { (k : ℕ) → bit result.bits k ≡ (k == site) }
     {
         SiteSet { bits: 1 << site }
+    }
+
+    /// The set of all sites below a number, at most 64.
+    pub fn all(sites: u16) -> SiteSet
+        requires { sites ≤ 64 }
+        ensures { (k : ℕ) → bit result.bits k ≡ nat_lt k sites }
+    {
+        if sites == 0 {
+            return SiteSet { bits: 0 };
+        }
+        SiteSet {
+            bits: u64::MAX >> (64 - sites),
+        }
     }
 
     /// Whether a site is in the set; none from 64 on is.
@@ -49,6 +62,19 @@ impl SiteSet {
         SiteSet {
             bits: self.bits & !other.bits,
         }
+    }
+
+    /// Whether the set has a site, and only sites below a number, at most 64.
+    #[tactic(auto, using(crate::proofs::Bits::shifted))]
+    pub fn is_among(&self, sites: u16) -> bool
+        requires { sites ≤ 64 }
+        ensures { result ≡ are_sites sites self.now.bits }
+    {
+        let bits = self.bits;
+        if bits == 0 {
+            return false;
+        }
+        sites == 64 || bits >> sites == 0
     }
 
     /// Whether the two sets have a site in common.

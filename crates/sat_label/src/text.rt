@@ -7,6 +7,7 @@ ghost use Rattle.sat_label.specs.Kept.{kept_bytes, IsWithin};
 use crate::limits::{NAME_BYTES, VALUE_BYTES};
 use std::alloc::{AllocError, Global};
 use std::marker::Model;
+use std::sync::ArcSlice;
 
 // A value of so many bytes is no larger than one whose bytes lie elsewhere.
 const SHORT_BYTES: usize = 16;
@@ -131,11 +132,12 @@ struct Inline {
     bytes: [u8; SHORT_BYTES],
 }
 
-// The bytes of a short value lie in the value itself, so that it takes no memory of its own; those of a long one do not.
+// The bytes of a short value lie in the value itself, so that it takes no memory of its own; those of a long one lie elsewhere, once
+// for all its copies.
 #[derive(Drop)]
 enum Kept {
     Short(Inline),
-    Long(Vec<u8>),
+    Long(ArcSlice<u8>),
 }
 
 fn short(bytes: &[u8]) -> Inline
@@ -156,7 +158,7 @@ fn keep(alloc: Global, bytes: &[u8]) -> Result<Kept, AllocError>
     if bytes.len() <= SHORT_BYTES {
         return Ok(Kept::Short(short(bytes)));
     }
-    let bytes = bytes.to_vec(alloc)?;
+    let bytes = ArcSlice::from_slice(alloc, bytes)?;
     Ok(Kept::Long(bytes))
 }
 

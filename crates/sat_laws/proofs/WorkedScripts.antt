@@ -55,51 +55,51 @@ client name site = record { name = name; site = site }
 
 -- two sites that keep x, a client at each, and one serializer
 abbrev two_sites : Deployed
-two_sites = record { sites = 2; gears = 1; items = item (codes "x") 3 ∷ []; clients = client (codes "a") 0 ∷ client (codes "b") 1 ∷ []; plans = star (0 ∷ 0 ∷ []) ∷ [] }
+two_sites = record { format = 1; sites = 2; gears = 1; items = item (codes "x") 3 ∷ []; clients = client (codes "a") 0 ∷ client (codes "b") 1 ∷ []; plans = star (0 ∷ 0 ∷ []) ∷ [] }
 
 -- two sites of two gears that keep x and y, two clients at the first site and one at the second
 abbrev two_gears : Deployed
-two_gears = record { sites = 2; gears = 2; items = item (codes "x") 3 ∷ item (codes "y") 3 ∷ []; clients = client (codes "a") 0 ∷ client (codes "b") 0 ∷ client (codes "c") 1 ∷ []; plans = star (0 ∷ 0 ∷ []) ∷ [] }
+two_gears = record { format = 1; sites = 2; gears = 2; items = item (codes "x") 3 ∷ item (codes "y") 3 ∷ []; clients = client (codes "a") 0 ∷ client (codes "b") 0 ∷ client (codes "c") 1 ∷ []; plans = star (0 ∷ 0 ∷ []) ∷ [] }
 
 -- three sites, p at the first and the last, q at the last two, and a second serializer above the last
 abbrev three_sites : Deployed
-three_sites = record { sites = 3; gears = 1; items = item (codes "p") 5 ∷ item (codes "q") 6 ∷ []; clients = client (codes "a") 0 ∷ []; plans = fork (0 ∷ 0 ∷ 1 ∷ []) ∷ [] }
+three_sites = record { format = 1; sites = 3; gears = 1; items = item (codes "p") 5 ∷ item (codes "q") 6 ∷ []; clients = client (codes "a") 0 ∷ []; plans = fork (0 ∷ 0 ∷ 1 ∷ []) ∷ [] }
 
 -- two sites that keep x and y, and three clients
 abbrev two_items : Deployed
-two_items = record { sites = 2; gears = 1; items = item (codes "x") 3 ∷ item (codes "y") 3 ∷ []; clients = client (codes "a") 0 ∷ client (codes "b") 1 ∷ client (codes "c") 0 ∷ []; plans = star (0 ∷ 0 ∷ []) ∷ [] }
+two_items = record { format = 1; sites = 2; gears = 1; items = item (codes "x") 3 ∷ item (codes "y") 3 ∷ []; clients = client (codes "a") 0 ∷ client (codes "b") 1 ∷ client (codes "c") 0 ∷ []; plans = star (0 ∷ 0 ∷ []) ∷ [] }
 
 -- two sites that keep x, a client at each, and two epochs by timestamp order
 abbrev two_stamps : Deployed
-two_stamps = record { sites = 2; gears = 1; items = item (codes "x") 3 ∷ []; clients = client (codes "a") 0 ∷ client (codes "b") 1 ∷ []; plans = plan.Stamp ∷ plan.Stamp ∷ [] }
+two_stamps = record { format = 1; sites = 2; gears = 1; items = item (codes "x") 3 ∷ []; clients = client (codes "a") 0 ∷ client (codes "b") 1 ∷ []; plans = plan.Stamp ∷ plan.Stamp ∷ [] }
 
 -- two sites of which the first alone keeps x, one client, and two epochs by timestamp order
 abbrev kept_at_one : Deployed
-kept_at_one = record { sites = 2; gears = 1; items = item (codes "x") 1 ∷ []; clients = client (codes "a") 0 ∷ []; plans = plan.Stamp ∷ plan.Stamp ∷ [] }
+kept_at_one = record { format = 1; sites = 2; gears = 1; items = item (codes "x") 1 ∷ []; clients = client (codes "a") 0 ∷ []; plans = plan.Stamp ∷ plan.Stamp ∷ [] }
 
 -- two sites of two gears that keep x, one client, and one epoch by timestamp order
 abbrev two_clocks : Deployed
-two_clocks = record { sites = 2; gears = 2; items = item (codes "x") 3 ∷ []; clients = client (codes "a") 0 ∷ []; plans = plan.Stamp ∷ [] }
+two_clocks = record { format = 1; sites = 2; gears = 2; items = item (codes "x") 3 ∷ []; clients = client (codes "a") 0 ∷ []; plans = plan.Stamp ∷ [] }
 
 -- three sites that keep x, one client, and one serializer
 abbrev one_star : Deployed
-one_star = record { sites = 3; gears = 1; items = item (codes "x") 7 ∷ []; clients = client (codes "a") 0 ∷ []; plans = star (0 ∷ 0 ∷ 0 ∷ []) ∷ [] }
+one_star = record { format = 1; sites = 3; gears = 1; items = item (codes "x") 7 ∷ []; clients = client (codes "a") 0 ∷ []; plans = star (0 ∷ 0 ∷ 0 ∷ []) ∷ [] }
 
 -- the two sites, with a second tree of two serializers
 abbrev two_trees : Deployed
-two_trees = record { sites = 2; gears = 1; items = item (codes "x") 3 ∷ []; clients = client (codes "a") 0 ∷ client (codes "b") 1 ∷ []; plans = star (0 ∷ 0 ∷ []) ∷ fork (0 ∷ 1 ∷ []) ∷ [] }
+two_trees = record { format = 1; sites = 2; gears = 1; items = item (codes "x") 3 ∷ []; clients = client (codes "a") 0 ∷ client (codes "b") 1 ∷ []; plans = star (0 ∷ 0 ∷ []) ∷ fork (0 ∷ 1 ∷ []) ∷ [] }
 
 -- three sites, x at all, y at the last two, and two trees of one serializer
 abbrev two_stars : Deployed
-two_stars = record { sites = 3; gears = 1; items = item (codes "x") 7 ∷ item (codes "y") 6 ∷ []; clients = client (codes "a") 0 ∷ client (codes "b") 1 ∷ []; plans = star (0 ∷ 0 ∷ 0 ∷ []) ∷ star (0 ∷ 0 ∷ 0 ∷ []) ∷ [] }
+two_stars = record { format = 1; sites = 3; gears = 1; items = item (codes "x") 7 ∷ item (codes "y") 6 ∷ []; clients = client (codes "a") 0 ∷ client (codes "b") 1 ∷ []; plans = star (0 ∷ 0 ∷ 0 ∷ []) ∷ star (0 ∷ 0 ∷ 0 ∷ []) ∷ [] }
 
 -- two gears, and stamp order from the second epoch on
 abbrev a_tree_and_stamps : Deployed
-a_tree_and_stamps = record { sites = 2; gears = 2; items = item (codes "x") 3 ∷ item (codes "y") 3 ∷ []; clients = client (codes "a") 0 ∷ client (codes "b") 0 ∷ client (codes "c") 1 ∷ []; plans = star (0 ∷ 0 ∷ []) ∷ plan.Stamp ∷ plan.Stamp ∷ [] }
+a_tree_and_stamps = record { format = 1; sites = 2; gears = 2; items = item (codes "x") 3 ∷ item (codes "y") 3 ∷ []; clients = client (codes "a") 0 ∷ client (codes "b") 0 ∷ client (codes "c") 1 ∷ []; plans = star (0 ∷ 0 ∷ []) ∷ plan.Stamp ∷ plan.Stamp ∷ [] }
 
 -- two sites in stamp order
 abbrev stamps : Deployed
-stamps = record { sites = 2; gears = 1; items = item (codes "x") 3 ∷ []; clients = client (codes "a") 0 ∷ []; plans = plan.Stamp ∷ [] }
+stamps = record { format = 1; sites = 2; gears = 1; items = item (codes "x") 3 ∷ []; clients = client (codes "a") 0 ∷ []; plans = plan.Stamp ∷ [] }
 
 -- a label that comes before its payload is not shown until the payload is there
 label_before_payload : Plays two_sites (
@@ -417,11 +417,11 @@ sessions = refl
 
 -- five sites under three serializers; x at sites 1 and 3
 abbrev five_sites : Deployed
-five_sites = record { sites = 5; gears = 1; items = item (codes "x") 10 ∷ []; clients = client (codes "a") 1 ∷ []; plans = plan.Tree (record { parents = None ∷ Some 0 ∷ Some 0 ∷ []; seats = 0 ∷ 1 ∷ 1 ∷ 2 ∷ 2 ∷ [] }) ∷ [] }
+five_sites = record { format = 1; sites = 5; gears = 1; items = item (codes "x") 10 ∷ []; clients = client (codes "a") 1 ∷ []; plans = plan.Tree (record { parents = None ∷ Some 0 ∷ Some 0 ∷ []; seats = 0 ∷ 1 ∷ 1 ∷ 2 ∷ 2 ∷ [] }) ∷ [] }
 
 -- three sites, p at all, q at the last two, and a second serializer above the last
 abbrev a_chain : Deployed
-a_chain = record { sites = 3; gears = 1; items = item (codes "p") 7 ∷ item (codes "q") 6 ∷ []; clients = client (codes "a") 0 ∷ client (codes "b") 1 ∷ []; plans = fork (0 ∷ 0 ∷ 1 ∷ []) ∷ [] }
+a_chain = record { format = 1; sites = 3; gears = 1; items = item (codes "p") 7 ∷ item (codes "q") 6 ∷ []; clients = client (codes "a") 0 ∷ client (codes "b") 1 ∷ []; plans = fork (0 ∷ 0 ∷ 1 ∷ []) ∷ [] }
 
 -- a write, and the way of its label and its payload to the other site
 the_plain_path : Plays two_sites (

@@ -22,6 +22,7 @@ item name bits = record { name = name; replicas = record { bits = bits } }
 -- three sites of two gears; x is kept at the first two, y at the last two, z at the first alone; two epochs
 abbrev three_sites : Deployed
 three_sites = record {
+  format = 1;
   sites = 3;
   gears = 2;
   items = item (codes "x") 3 ∷ item (codes "y") 6 ∷ item (codes "z") 1 ∷ [];

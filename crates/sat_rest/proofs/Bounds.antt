@@ -1,9 +1,9 @@
 -- How much is left after the opening of a settle.
-use Rattle.std.specs.Prelude.{◌≡◌, ◌⊎◌, ◌<◌, ◌≤◌, ℕ, ◌+◌, ◌*◌, Bool, true, false, ◌&&◌, not, ◌==◌, List, [], ◌∷◌, ◌++◌, Option, Some, None, refl, length, filter, map, if◌then◌else◌}
+use Rattle.std.specs.Prelude.{◌≡◌, ◌⊎◌, ◌<◌, ◌≤◌, ℕ, ◌+◌, ◌-◌, ◌*◌, Bool, true, false, ◌&&◌, not, ◌==◌, List, [], ◌∷◌, ◌++◌, Option, Some, None, refl, length, filter, map, if◌then◌else◌}
 use Rattle.std.proofs.Common.{sym, subst, arith, inl, inr, ap, ◌∙◌, length-append}
 use Rattle.std.proofs.lemmas.List.{append-nil, length-map}
 use Rattle.std.proofs.lemmas.Bool.Decides.{nat_tests}
-use Rattle.std.proofs.Math.Nat.{mul_comm}
+use Rattle.std.proofs.Math.Nat.{mul_comm, add-mul, mul-add, mul-le-mul_left}
 use Rattle.std.proofs.lemmas.Bool.{not_from_true}
 use Rattle.sat_label.proofs.Numbers.{length-below}
 use Rattle.sat_label.specs.declared.label.Label.{Label}
@@ -26,7 +26,8 @@ use Rattle.sat_act.specs.Answers.{base, gear_of}
 use Rattle.sat_act.specs.Runs.{IsRun}
 use Rattle.sat_act.specs.Goals.{Gives}
 use Rattle.sat_act.specs.Settling.{total, payload_entry, payloads, payload_left, payloads_left, handlings, sending_entry, sendings, nodes_of, was_handled, sending_left, epochs_left, left}
-use Rattle.sat_rest.specs.Ends.{IsWithin, any_sent_entry, sent_count, wrote_entry, wrote_count}
+use Rattle.sat_label.specs.Formats.{limits_of}
+use Rattle.sat_rest.specs.Ends.{IsWithin, most_others, most_rounds, any_sent_entry, sent_count, wrote_entry, wrote_count}
 use Rattle.sat_laws.proofs.Steps.{Step, wrote}
 use Rattle.sat_laws.proofs.Runs.{step_of, before_of, entry}
 use Rattle.sat_act.specs.Done.{sent_in, is_at}
@@ -112,8 +113,8 @@ wrote-grows : (h : List Entry) (x : Entry) → wrote_count h ≤ wrote_count (x 
 unfolding wrote_count
 wrote-grows h x = omega (arith, length-append (listed wrote_entry h) (tail_of (wrote_entry h x)))
 
-wrote-sum : (d : Deployed) (h : List Entry) (a : Act) (l : Label) (x i : ℕ) (n : Bool) → d.sites ≤ 16 → l.kind ≡ kind.Update x → i < d.sites → is_target d l i ≡ false → payloads_made d (entry a (ans.Wrote l) n ∷ h) ≤ payloads_made d h + 15
-wrote-sum d h a l x i n few k b e =
+wrote-sum : (d : Deployed) (h : List Entry) (a : Act) (l : Label) (x i m : ℕ) (n : Bool) → d.sites ≤ m + 1 → l.kind ≡ kind.Update x → i < d.sites → is_target d l i ≡ false → payloads_made d (entry a (ans.Wrote l) n ∷ h) ≤ payloads_made d h + m
+wrote-sum d h a l x i m n few k b e =
     let p : total (payload_count d (entry a (ans.Wrote l) n ∷ h)) (below d.sites) ≡ total (payload_count d h) (below d.sites) + total (aim d l) (below d.sites) =
     total-plus (payload_count d h) (aim d l) (payload_count d (entry a (ans.Wrote l) n ∷ h)) (below d.sites) (λ j. wrote-payload d h a l x j n k) in
     let q : total (aim d l) (below d.sites) < d.sites = targets-few d l i b e in
@@ -123,27 +124,37 @@ same-sum : (d : Deployed) (h : List Entry) (x : Entry) → ((j : ℕ) → payloa
 same-sum d h x w =
     total-le (payload_count d (x ∷ h)) (payload_count d h) (below d.sites) (λ j m. let e : payload_count d (x ∷ h) j ≡ payload_count d h j = ap (λ (ls : List Label). length ls) (w j) in omega arith)
 
-payloads-step : (d : Deployed) (h : List Entry) (a : Act) (r : Answer) (n : Bool) → IsWithin d → IsRun d h → Step d h a r →
-    ((j : ℕ) → payloads d (entry a r n ∷ h) j ≡ payloads d h j) ⊎ ((wrote_count (entry a r n ∷ h) ≡ wrote_count h + 1) × (payloads_made d (entry a r n ∷ h) ≤ payloads_made d h + 15))
-payloads-step d h a r n w run (wrote {c = c} {x = x} {i = i} {value = value} p q s) =
+payloads-step : (d : Deployed) (h : List Entry) (a : Act) (r : Answer) (m : ℕ) (n : Bool) → d.sites ≤ m + 1 → IsWithin d → IsRun d h → Step d h a r →
+    ((j : ℕ) → payloads d (entry a r n ∷ h) j ≡ payloads d h j) ⊎ ((wrote_count (entry a r n ∷ h) ≡ wrote_count h + 1) × (payloads_made d (entry a r n ∷ h) ≤ payloads_made d h + m))
+payloads-step d h a r m n few w run (wrote {c = c} {x = x} {i = i} {value = value} p q s) =
     let l : Label = record { point = point_at (base h c i (gear_of d x) + 1) i (gear_of d x); kind = kind.Update x } in
-    inr (wrote-more h (act.Write c x value) l n, wrote-sum d h (act.Write c x value) l x i n w.few_sites refl (seat-range d h c i w.valid run p) (own-not d (base h c i (gear_of d x) + 1) i (gear_of d x) x))
-payloads-step d h a r n w run _ = inl (λ j. unfold payloads in append-nil (listed (payload_entry d j) h))
+    inr (wrote-more h (act.Write c x value) l n, wrote-sum d h (act.Write c x value) l x i m n few refl (seat-range d h c i w.valid run p) (own-not d (base h c i (gear_of d x) + 1) i (gear_of d x) x))
+payloads-step d h a r m n few w run _ = inl (λ j. unfold payloads in append-nil (listed (payload_entry d j) h))
 
-payloads-made : (d : Deployed) (h : List Entry) → IsWithin d → IsRun d h → payloads_made d h ≤ 15 * wrote_count h
-payloads-made d [] w run = let a : payloads_made d [] ≤ 0 = total-none (payload_count d []) (below d.sites) (λ j. none j) in omega arith
+up : (a b c e : ℕ) → a ≤ b → b ≤ c → c ≤ e → a ≤ e
+up a b c e p q r = omega arith
+
+more : (m w : ℕ) → m * (w + 1) ≡ m * w + m
+more m w = let e : m * (w + 1) ≡ m * w + m * 1 = mul-add m w 1 in omega arith
+
+payloads-made : (d : Deployed) (h : List Entry) (m : ℕ) → d.sites ≤ m + 1 → IsWithin d → IsRun d h → payloads_made d h ≤ m * wrote_count h
+payloads-made d [] m few w run = let a : payloads_made d [] ≤ 0 = total-none (payload_count d []) (below d.sites) (λ j. none j) in omega arith
   where
     none : (j : ℕ) → payload_count d [] j ≤ 0
     none j = unfold payloads in omega arith
-payloads-made d (x ∷ h) w run =
-    go (payloads-step d h x.act x.answer x.inner w (before_of d h x run) (step_of d h x run)) (payloads-made d h w (before_of d h x run)) (wrote-grows h x)
+payloads-made d (x ∷ h) m few w run =
+    go (payloads-step d h x.act x.answer m x.inner few w (before_of d h x run) (step_of d h x run)) (payloads-made d h m few w (before_of d h x run)) (wrote-grows h x)
   where
-    go : ((j : ℕ) → payloads d (x ∷ h) j ≡ payloads d h j) ⊎ ((wrote_count (x ∷ h) ≡ wrote_count h + 1) × (payloads_made d (x ∷ h) ≤ payloads_made d h + 15)) → payloads_made d h ≤ 15 * wrote_count h → wrote_count h ≤ wrote_count (x ∷ h) → payloads_made d (x ∷ h) ≤ 15 * wrote_count (x ∷ h)
-    go (inl s) old grows = let a : payloads_made d (x ∷ h) ≤ payloads_made d h = same-sum d h x s in omega arith
+    go : ((j : ℕ) → payloads d (x ∷ h) j ≡ payloads d h j) ⊎ ((wrote_count (x ∷ h) ≡ wrote_count h + 1) × (payloads_made d (x ∷ h) ≤ payloads_made d h + m)) → payloads_made d h ≤ m * wrote_count h → wrote_count h ≤ wrote_count (x ∷ h) → payloads_made d (x ∷ h) ≤ m * wrote_count (x ∷ h)
+    go (inl s) old grows =
+        let a : payloads_made d (x ∷ h) ≤ payloads_made d h = same-sum d h x s in
+        let b : m * wrote_count h ≤ m * wrote_count (x ∷ h) = mul-le-mul_left m grows in
+        up (payloads_made d (x ∷ h)) (payloads_made d h) (m * wrote_count h) (m * wrote_count (x ∷ h)) a old b
     go (inr s) old grows =
-        let a : payloads_made d (x ∷ h) ≤ payloads_made d h + 15 = s.1 in
-        let b : wrote_count (x ∷ h) ≡ wrote_count h + 1 = s.0 in
-        omega arith
+        over (payloads_made d (x ∷ h)) (payloads_made d h) (m * wrote_count h) (m * wrote_count (x ∷ h)) s.1 old (ap (λ (k : ℕ). m * k) s.0 ∙ more m (wrote_count h))
+      where
+        over : (a b c e : ℕ) → a ≤ b + m → b ≤ c → e ≡ c + m → a ≤ e
+        over a b c e p q r = omega arith
 
 weight : (bs ss : List Label) (l : Label) → payload_left bs ss l ≤ 2
 weight bs ss l = go (has label_eq bs l) (has label_eq ss l)
@@ -159,14 +170,19 @@ twice d h j =
     let b : total (payload_left (brought h j) (shown h j)) (payloads d h j) ≤ 2 * length (payloads d h j) = total-bound 2 (payload_left (brought h j) (shown h j)) (payloads d h j) (λ l m. weight (brought h j) (shown h j) l) in
     omega arith
 
-payloads-bound : (d : Deployed) (h : List Entry) → IsWithin d → IsRun d h → payloads_all d h ≤ 30 * wrote_count h
-payloads-bound d h w run =
+payloads-bound : (d : Deployed) (h : List Entry) (m : ℕ) → d.sites ≤ m + 1 → IsWithin d → IsRun d h → payloads_all d h ≤ (2 * m) * wrote_count h
+payloads-bound d h m few w run =
     let a : payloads_all d h ≤ total (λ (j : ℕ). payload_count d h j + payload_count d h j) (below d.sites) =
     total-le (payloads_left d h) (λ (j : ℕ). payload_count d h j + payload_count d h j) (below d.sites) (λ j m. twice d h j) in
     let b : total (λ (j : ℕ). payload_count d h j + payload_count d h j) (below d.sites) ≡ payloads_made d h + payloads_made d h =
     total-plus (payload_count d h) (payload_count d h) (λ (j : ℕ). payload_count d h j + payload_count d h j) (below d.sites) (λ j. refl) in
-    let c : payloads_made d h ≤ 15 * wrote_count h = payloads-made d h w run in
-    omega arith
+    let c : payloads_made d h ≤ m * wrote_count h = payloads-made d h m few w run in
+    let e : (m + m) * wrote_count h ≡ m * wrote_count h + m * wrote_count h = add-mul m m (wrote_count h) in
+    let f : 2 * m ≡ m + m = omega arith in
+    both (payloads_all d h) (total (λ (j : ℕ). payload_count d h j + payload_count d h j) (below d.sites)) (payloads_made d h) (m * wrote_count h) ((2 * m) * wrote_count h) a b c (ap (λ (k : ℕ). k * wrote_count h) f ∙ e)
+  where
+    both : (a t b c e : ℕ) → a ≤ t → t ≡ b + b → b ≤ c → e ≡ c + c → a ≤ e
+    both a t b c e p q r s = omega arith
 
 -- ---- links
 
@@ -204,11 +220,11 @@ into-handled d [] e u o l k = absurd k
 into-handled d (x ∷ h) e u o l (inl k) = handled-grows d h x e l u (into-handled d h e u o l k)
 into-handled d (x ∷ h) e u o l (inr k) = handled-now d h x e l u o k
 
-nodes-few : (d : Deployed) (e : ℕ) → IsWithin d → length (nodes_of d e) ≤ 31
+nodes-few : (d : Deployed) (e m : ℕ) → d.sites ≤ m + 1 → IsWithin d → length (nodes_of d e) ≤ 16 + m
 unfolding nodes_of
-nodes-few d e w = go (tree_of d e) refl
+nodes-few d e m few w = go (tree_of d e) refl
   where
-    go : (o : Option TreeShape) → tree_of d e ≡ o → length {A = NodeId} (elim o [ None ↦ [] | Some t ↦ map Site (below d.sites) ++ map Serializer (below (length t.parents)) ]) ≤ 31
+    go : (o : Option TreeShape) → tree_of d e ≡ o → length {A = NodeId} (elim o [ None ↦ [] | Some t ↦ map Site (below d.sites) ++ map Serializer (below (length t.parents)) ]) ≤ 16 + m
     go None k = omega arith
     go (Some t) k =
         let a : length (map Site (below d.sites) ++ map Serializer (below (length t.parents))) ≡ length (map Site (below d.sites)) + length (map Serializer (below (length t.parents))) = length-append (map Site (below d.sites)) (map Serializer (below (length t.parents))) in
@@ -216,35 +232,34 @@ nodes-few d e w = go (tree_of d e) refl
         let c : length (map Serializer (below (length t.parents))) ≡ length (below (length t.parents)) = length-map (below (length t.parents)) Serializer in
         let p : length (below d.sites) ≡ d.sites = length-below d.sites in
         let q : length (below (length t.parents)) ≡ length t.parents = length-below (length t.parents) in
-        let x : d.sites ≤ 16 = w.few_sites in
         let y : length t.parents ≤ 15 = w.few_serializers e t k in
         omega arith
 
-none-left : (d : Deployed) (hs : List Handling) (s : Handling) → tree_of d s.epoch ≡ None → sending_left d hs s ≤ 30
+none-left : (d : Deployed) (hs : List Handling) (s : Handling) (m : ℕ) → tree_of d s.epoch ≡ None → sending_left d hs s ≤ 15 + m
 unfolding sending_left nodes_of
-none-left d hs s k = go (tree_of d s.epoch) k
+none-left d hs s m k = go (tree_of d s.epoch) k
   where
-    go : (o : Option TreeShape) → o ≡ None → length (filter {X = NodeId} (λ v. not (was_handled hs s.epoch s.label v)) (elim o [ None ↦ [] | Some t ↦ map Site (below d.sites) ++ map Serializer (below (length t.parents)) ])) ≤ 30
+    go : (o : Option TreeShape) → o ≡ None → length (filter {X = NodeId} (λ v. not (was_handled hs s.epoch s.label v)) (elim o [ None ↦ [] | Some t ↦ map Site (below d.sites) ++ map Serializer (below (length t.parents)) ])) ≤ 15 + m
     go None e = omega arith
     go (Some t) e = absurd (cc)
 
-some-left : (d : Deployed) (hs : List Handling) (s : Handling) → length (nodes_of d s.epoch) ≤ 31 → In (nodes_of d s.epoch) s.node → was_handled hs s.epoch s.label s.node ≡ true → sending_left d hs s ≤ 30
+some-left : (d : Deployed) (hs : List Handling) (s : Handling) (n : ℕ) → length (nodes_of d s.epoch) ≤ 16 + n → In (nodes_of d s.epoch) s.node → was_handled hs s.epoch s.label s.node ≡ true → sending_left d hs s ≤ 15 + n
 unfolding sending_left
-some-left d hs s few m k =
+some-left d hs s n few m k =
     let a : length (filter (λ (v : NodeId). not (was_handled hs s.epoch s.label v)) (nodes_of d s.epoch)) < length (nodes_of d s.epoch) =
     filter-less (λ (v : NodeId). not (was_handled hs s.epoch s.label v)) (nodes_of d s.epoch) s.node m (not_from_true (was_handled hs s.epoch s.label s.node) k) in
     below_limit (length (filter (λ (v : NodeId). not (was_handled hs s.epoch s.label v)) (nodes_of d s.epoch))) (length (nodes_of d s.epoch)) a few
   where
-    below_limit : (a b : ℕ) → a < b → b ≤ 31 → a ≤ 30
+    below_limit : (a b : ℕ) → a < b → b ≤ 16 + n → a ≤ 15 + n
     below_limit a b p q = omega arith
 
-sending-few : (d : Deployed) (h : List Entry) (s : Handling) → IsWithin d → IsRun d h → In (sendings d h) s → sending_left d (handlings d h) s ≤ 30
-sending-few d h s w run m = go (tree_of d s.epoch) refl (sending-is d h s run m)
+sending-few : (d : Deployed) (h : List Entry) (s : Handling) (n : ℕ) → d.sites ≤ n + 1 → IsWithin d → IsRun d h → In (sendings d h) s → sending_left d (handlings d h) s ≤ 15 + n
+sending-few d h s n few w run m = go (tree_of d s.epoch) refl (sending-is d h s run m)
   where
-    go : (o : Option TreeShape) → tree_of d s.epoch ≡ o → IsSending d h s → sending_left d (handlings d h) s ≤ 30
-    go None k i = none-left d (handlings d h) s k
+    go : (o : Option TreeShape) → tree_of d s.epoch ≡ o → IsSending d h s → sending_left d (handlings d h) s ≤ 15 + n
+    go None k i = none-left d (handlings d h) s n k
     go (Some t) k i =
-        some-left d (handlings d h) s (nodes-few d s.epoch w) (subst (λ (n : NodeId). In (nodes_of d s.epoch) n) (sym i.node) (site-node d s.epoch i.site t k i.in_range))
+        some-left d (handlings d h) s n (nodes-few d s.epoch n few w) (subst (λ (n : NodeId). In (nodes_of d s.epoch) n) (sym i.node) (site-node d s.epoch i.site t k i.in_range))
         (into-handled d h s.epoch s.node s.from s.label i.handled)
 
 sent-in-answer : (h : List Entry) (x : Entry) (i : ℕ) (l : Label) → sent_entry i h x ≡ Some l → sent_in x.answer ≡ Some l
@@ -267,11 +282,11 @@ sendings-count d (x ∷ h) run =
         let q : (i : ℕ) × (s.node ≡ Site i) × (i < d.sites) × (sent_entry i h x ≡ Some s.label) × (emission h i ≡ s.epoch) = own-sending d h x s (view-of d h x s run p.0) p.1 in
         (s.label, sent-in-answer h x q.0 s.label q.3)
 
-sendings-bound : (d : Deployed) (h : List Entry) → IsWithin d → IsRun d h → sendings_all d h ≤ 30 * sent_count h
-sendings-bound d h w run =
-    let a : sendings_all d h ≤ 30 * length (sendings d h) = total-bound 30 (sending_left d (handlings d h)) (sendings d h) (λ s m. sending-few d h s w run m) in
-    let b : length (sendings d h) ≤ sent_count h = sendings-count d h run in
-    omega arith
+sendings-bound : (d : Deployed) (h : List Entry) (n : ℕ) → d.sites ≤ n + 1 → IsWithin d → IsRun d h → sendings_all d h ≤ (15 + n) * sent_count h
+sendings-bound d h n few w run =
+    let a : sendings_all d h ≤ (15 + n) * length (sendings d h) = total-bound (15 + n) (sending_left d (handlings d h)) (sendings d h) (λ s m. sending-few d h s n few w run m) in
+    let b : (15 + n) * length (sendings d h) ≤ (15 + n) * sent_count h = mul-le-mul_left (15 + n) (sendings-count d h run) in
+    up (sendings_all d h) (sendings_all d h) ((15 + n) * length (sendings d h)) ((15 + n) * sent_count h) (omega arith) a b
 
 -- ---- epochs
 
@@ -285,13 +300,20 @@ epochs-bound d h =
     at_most : (a b c : ℕ) → a ≤ b → b ≡ c → a ≤ c
     at_most a b c l e = omega arith
 
-pub left-bound : (d : Deployed) (h : List Entry) → IsWithin d → IsRun d h → left d h ≤ (30 * sent_count h + 30 * wrote_count h) + d.sites * length d.plans
+few-others : (d : Deployed) → IsWithin d → d.sites ≤ most_others d + 1
+few-others d w = sub-one d.sites (limits_of d.format).sites w.few_sites
+  where
+    sub-one : (a b : ℕ) → a ≤ b → a ≤ (b - 1) + 1
+    sub-one a b h = omega arith
+
+pub left-bound : (d : Deployed) (h : List Entry) → IsWithin d → IsRun d h → left d h ≤ most_rounds d h
 left-bound d h w run =
     let a : left d h ≡ (payloads_all d h + sendings_all d h) + epochs_all d h = left-is d h in
-    let b : payloads_all d h ≤ 30 * wrote_count h = payloads-bound d h w run in
-    let c : sendings_all d h ≤ 30 * sent_count h = sendings-bound d h w run in
+    let few : d.sites ≤ most_others d + 1 = few-others d w in
+    let b : payloads_all d h ≤ (2 * most_others d) * wrote_count h = payloads-bound d h (most_others d) few w run in
+    let c : sendings_all d h ≤ (15 + most_others d) * sent_count h = sendings-bound d h (most_others d) few w run in
     let e : epochs_all d h ≤ d.sites * length d.plans = epochs-bound d h in
-    sum (left d h) (payloads_all d h) (sendings_all d h) (epochs_all d h) (30 * wrote_count h) (30 * sent_count h) (d.sites * length d.plans) a b c e
+    sum (left d h) (payloads_all d h) (sendings_all d h) (epochs_all d h) ((2 * most_others d) * wrote_count h) ((15 + most_others d) * sent_count h) (d.sites * length d.plans) a b c e
   where
     sum : (l p s e a b c : ℕ) → l ≡ (p + s) + e → p ≤ a → s ≤ b → e ≤ c → l ≤ (b + a) + c
     sum l p s e a b c k x y z = omega arith

@@ -25,6 +25,7 @@ star = record { parents = None ∷ []; seats = 0 ∷ 0 ∷ [] }
 
 abbrev A : Deployed
 A = record {
+  format = 1;
   sites = 2;
   gears = 1;
   items = record { name = 120 ∷ []; replicas = record { bits = 3 } } ∷ [];

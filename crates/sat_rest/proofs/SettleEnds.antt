@@ -3,7 +3,7 @@ use Rattle.std.specs.Prelude.{◌≤◌, ℕ, ◌+◌, ◌*◌, length}
 use Rattle.std.proofs.Common.{arith}
 use Rattle.sat_act.specs.Settling.{opening, left, round_acts, settle}
 use Rattle.sat_rest.specs.Laws.{EverySettleSettles}
-use Rattle.sat_rest.specs.Ends.{sent_count, wrote_count}
+use Rattle.sat_rest.specs.Ends.{sent_count, wrote_count, most_rounds}
 use Rattle.sat_rest.proofs.Rounds.{IsAfter, round-act, among-in, falls, until-ends, emits-end}
 use Rattle.sat_rest.proofs.Settles.{RoundsEnd, round-quiet, opens, settle-ends}
 use Rattle.sat_rest.proofs.Bounds.{left-bound}
@@ -13,7 +13,7 @@ settles d h w run =
     let o : IsAfter d h (opening d h) = opens d h run in
     let e : RoundsEnd d (opening d h) (settle d h) = settle-ends d h w run in
     let a : (settle d h).0 ≤ left d (opening d h) = e.count in
-    let b : left d (opening d h) ≤ (30 * sent_count (opening d h) + 30 * wrote_count (opening d h)) + d.sites * length d.plans = left-bound d (opening d h) w o.is_run in
+    let b : left d (opening d h) ≤ most_rounds d (opening d h) = left-bound d (opening d h) w o.is_run in
     record {
       is_run = e.progress.is_run;
       emits = λ i l k r. emits-end d i k l r;

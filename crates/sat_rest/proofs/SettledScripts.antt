@@ -11,6 +11,7 @@ use Rattle.sat_rest.specs.Printed.{printed}
 
 abbrev A : Deployed
 A = record {
+  format = 1;
   sites = 2;
   gears = 1;
   items = record { name = 120 ∷ []; replicas = record { bits = 3 } } ∷ [];
@@ -27,6 +28,7 @@ one_update_settles = refl
 -- a tree and then stamp order: an update is under way when both sites close the first epoch; settle drains it, both sites advance, and the second is at rest too
 abbrev B : Deployed
 B = record {
+  format = 1;
   sites = 2;
   gears = 1;
   items = record { name = 120 ∷ []; replicas = record { bits = 3 } } ∷ [];

@@ -1,5 +1,5 @@
 -- How a settle goes on and ends.
-use Rattle.std.specs.Prelude.{◌≡◌, ◌⊎◌, ◌<◌, ◌≤◌, ℕ, ◌+◌, ◌*◌, true, false, List, [], ◌∷◌, length, Option, Some, None}
+use Rattle.std.specs.Prelude.{◌≡◌, ◌⊎◌, ◌<◌, ◌≤◌, ℕ, ◌+◌, ◌-◌, ◌*◌, true, false, List, [], ◌∷◌, length, Option, Some, None}
 use Rattle.sat_label.specs.declared.label.Label.{Label}
 use Rattle.sat_tree.specs.Shape.{TreeShape}
 use Rattle.sat_act.specs.declared.act.Act.{Act}
@@ -15,7 +15,8 @@ use Rattle.sat_act.specs.Runs.{IsRun}
 use Rattle.sat_act.specs.Goals.{IsValid}
 use Rattle.sat_act.specs.Headline.{HasTrees}
 use Rattle.sat_act.specs.Settling.{is_done, inner_entry, emit_all, opening, left, round_acts, until_refused, settle}
-use Rattle.sat_label.specs.declared.limits.TheConstants.{MOST_SERIALIZERS, MOST_SITES}
+use Rattle.sat_label.specs.declared.limits.TheConstants.{MOST_SERIALIZERS}
+use Rattle.sat_label.specs.Formats.{limits_of}
 
 -- a deployment within the limits that the laws of settle need: more than `IsValid` asks and less than `IsDeployment`
 pub record IsWithin (d : Deployed) : Type 0 where
@@ -23,7 +24,7 @@ pub record IsWithin (d : Deployed) : Type 0 where
   pub some_site : 0 < d.sites
   pub trees : HasTrees d
   pub some_plan : 0 < length d.plans
-  pub few_sites : d.sites ≤ MOST_SITES
+  pub few_sites : d.sites ≤ (limits_of d.format).sites
   pub few_serializers : (epoch : ℕ) (tree : TreeShape) → tree_of d epoch ≡ Some tree → length tree.parents ≤ MOST_SERIALIZERS
   pub all_seated : (epoch : ℕ) (tree : TreeShape) → tree_of d epoch ≡ Some tree → length tree.seats ≡ d.sites
 
@@ -59,6 +60,15 @@ unfoldable pub wrote_count : List Entry → ℕ
 unfolding listed
 wrote_count h = length (listed wrote_entry h)
 
+-- the most sites beside one that the deployment's format allows: 15, or 63
+abbrev pub most_others : Deployed → ℕ
+most_others d = (limits_of d.format).sites - 1
+
+-- the most rounds after a history: each label that was sent is handled at most once by each of 15 serializers and by each other
+-- site, each update is brought to and shown at most at each other site, and each site advances to each epoch at most once
+abbrev pub most_rounds : Deployed → List Entry → ℕ
+most_rounds d h = ((MOST_SERIALIZERS + most_others d) * sent_count h + (2 * most_others d) * wrote_count h) + d.sites * length d.plans
+
 -- what a settle keeps: it makes a run; each "until refused" of it ends by a refusal, not by its count; less is left with each act of a round that is
 -- done; the rounds end with a quiet one, and their number is bounded
 pub record Settles (d : Deployed) (h : List Entry) : Type 0 where
@@ -67,4 +77,4 @@ pub record Settles (d : Deployed) (h : List Entry) : Type 0 where
   pub acts : (a : Act) → IsAmong (round_acts d) a → (k : List Entry) → IsRun d k → UntilRefused d a k (until_refused d a k)
   pub falls : (a : Act) → IsAmong (round_acts d) a → (k : List Entry) → IsRun d k → is_done (answer d k a) ≡ true → left d (inner_entry d k a ∷ k) < left d k
   pub quiet : IsQuiet d (settle d h).1
-  pub bound : (settle d h).0 ≤ (30 * sent_count (opening d h) + 30 * wrote_count (opening d h)) + d.sites * length d.plans
+  pub bound : (settle d h).0 ≤ most_rounds d (opening d h)

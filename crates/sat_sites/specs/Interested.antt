@@ -1,26 +1,19 @@
 -- Which sites keep each item, and which sites a label is for.
-use Rattle.std.specs.Prelude.{ℕ, ◌≡◌, ◌^◌, ◌<◌, ◌≤◌, Bool, true, false, ◌&&◌, not, ◌==◌, nat_lt, List, length, Option, Some, None, slice_get, position}
+use Rattle.std.specs.Prelude.{ℕ, ◌≡◌, ◌<◌, ◌≤◌, Bool, true, false, ◌&&◌, not, ◌==◌, nat_lt, List, length, Option, Some, None, slice_get, position}
 use Rattle.sat_label.specs.declared.site_set.SiteSet.{SiteSet}
 use Rattle.sat_label.specs.declared.label.Label.{Label}
 use Rattle.sat_label.specs.declared.label.Kind.{Kind}
 use Rattle.sat_label.specs.declared.label.Kind.TheVariants.{Update, Move, Pulse, Close}
-use Rattle.sat_label.specs.Words.{bit}
+use Rattle.sat_label.specs.Words.{are_sites, bit}
 
 -- the number of sites, and the sites that keep each item
 pub record Interested : Type 0 where
   pub sites : ℕ
   pub replicas : List SiteSet
 
-abbrev pub all_sites : ℕ → ℕ → Bool
-all_sites sites k = nat_lt k sites
-
--- some site of those below the number, and none else: the number that the set is, as bits, is at least 1 and below 2 to that power
-abbrev pub is_good_set : ℕ → SiteSet → Bool
-is_good_set sites set = not (set.bits == 0) && nat_lt set.bits (2 ^ sites)
-
 -- the first item whose set of sites is empty, or has a site that is none
 abbrev pub first_bad : ℕ → List SiteSet → Option ℕ
-first_bad sites sets = position (λ set. not (is_good_set sites set)) sets
+first_bad sites sets = position (λ set. not (are_sites sites set.bits)) sets
 
 -- the sites that keep an item
 abbrev pub keeps : Interested → ℕ → ℕ → Bool

@@ -1,7 +1,7 @@
 //! Which sites keep each item.
 ghost use Rattle.std.specs.Prelude.{◌≡◌, ◌<◌, ◌≤◌, ℕ, length, Some, slice_get, IfOk, IfSome, IsErrOf, IsOkUnless, MatchOption};
 ghost use Rattle.sat_label.specs.Words.{bit, first_failing};
-ghost use Rattle.sat_sites.specs.Interested.{is_good_set, all_sites, first_bad, is_for, IsLabelOf};
+ghost use Rattle.sat_sites.specs.Interested.{first_bad, is_for, IsLabelOf};
 
 use sat_label::{Kind, Label, SiteSet};
 use std::alloc::{AllocError, Global};
@@ -50,36 +50,12 @@ impl Model for Interest {
     ghost invariant = { λ a. IsInterest (record { sites = a.sites; replicas = arc_slice_items a.replicas }) };
 }
 
-// Whether a set has a site, and none that is not below the number.
-#[tactic(auto, using(crate::proofs::Sets::shifted))]
-fn is_good_set(sites: u16, set: SiteSet) -> bool
-    requires { sites ≤ 64 }
-    ensures { result ≡ is_good_set sites set }
-{
-    if set.bits == 0 {
-        return false;
-    }
-    sites == 64 || set.bits >> sites == 0
-}
-
 // The first item whose set is not good.
 fn first_bad(sites: u16, replicas: &[SiteSet]) -> Option<usize>
     requires { sites ≤ 64 }
     ensures { result ≡ first_bad sites replicas.now }
 {
-    replicas.iter().position(|set| !is_good_set(sites, *set))
-}
-
-// The set of all sites.
-fn all(sites: u16) -> SiteSet
-    requires { sites ≤ 64 }
-    ensures { (k : ℕ) → bit result.bits k ≡ all_sites sites k }
-{
-    let mut set = SiteSet::none();
-    for k in 0..sites {
-        set = set.with(k);
-    }
-    set
+    replicas.iter().position(|set| !set.is_among(sites))
 }
 
 impl Interest {
@@ -139,8 +115,8 @@ impl Interest {
         match label.kind {
             Kind::Update(item) => self.replicas.as_slice()[item as usize].minus(&own),
             Kind::Move(site) => SiteSet::one(site),
-            Kind::Pulse => all(sites).minus(&own),
-            Kind::Close(_) => all(sites).minus(&own),
+            Kind::Pulse => SiteSet::all(sites).minus(&own),
+            Kind::Close(_) => SiteSet::all(sites).minus(&own),
         }
     }
 

@@ -35,7 +35,7 @@ tree_flaw t =
     ]
     else Some (TooMany (length t.parents))
 
--- a tree, of 1 to 15 serializers and at most 16 sites
+-- a tree, of 1 to 15 serializers and at most 64 sites
 pub record IsSmallTree (t : TreeShape) : Type 0 where
   pub tree : IsTree t
   pub some_serializer : 0 < length t.parents

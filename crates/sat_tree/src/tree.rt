@@ -16,7 +16,7 @@ use sat_label::{NodeId, Nodes, SiteSet};
 use std::alloc::{AllocError, Global};
 use std::marker::Model;
 
-/// A tree of 1 to 15 serializers, each but the root hanging on one of a smaller number, and of at most 16 sites, each seated
+/// A tree of 1 to 15 serializers, each but the root hanging on one of a smaller number, and of at most 64 sites, each seated
 /// at one of them. Contracts see the list of parents, None for the root, and the list of seats.
 #[derive(Drop)]
 pub struct Tree {
@@ -85,7 +85,7 @@ impl Tree {
         self.layout.seat(site)
     }
 
-    /// The number of sites, at most 16.
+    /// The number of sites, at most 64.
     pub fn sites(&self) -> u16
         ensures sites { result ≡ length self.now.seats }
         ensures limits { IsSmallTree self.now }
