@@ -7,7 +7,7 @@ use Rattle.sat_tree.specs.Shape.{TreeShape}
 use Rattle.sat_machines.specs.Layout.{out_places, in_places, label_link}
 
 abbrev two : Deployed
-two = record { sites = 2; gears = 1; items = []; clients = []; plans = plan.Stamp ∷ plan.Tree (record { parents = None ∷ []; seats = 0 ∷ 0 ∷ [] }) ∷ [] }
+two = record { format = 1; sites = 2; gears = 1; items = []; clients = []; plans = plan.Stamp ∷ plan.Tree (record { parents = None ∷ []; seats = 0 ∷ 0 ∷ [] }) ∷ [] }
 
 first-out : out_places two (named.Site 0) ≡ 0 ∷ 1 ∷ []
 unfolding out_places

@@ -11,5 +11,5 @@ pub trait Laid {
 impl Laid for Brand {
     ghost use Rattle.std.specs.Prelude.{[]};
 
-    ghost deployment = { record { sites = 0; gears = 0; items = []; clients = []; plans = [] } };
+    ghost deployment = { record { format = 1; sites = 0; gears = 0; items = []; clients = []; plans = [] } };
 }

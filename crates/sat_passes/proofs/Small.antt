@@ -20,13 +20,13 @@ abbrev pub one_tree : TreeShape
 one_tree = record { parents = None ∷ []; seats = 0 ∷ 0 ∷ [] }
 
 small : Deployed → Deployed
-small d = record { sites = 2; gears = d.gears; items = d.items; clients = d.clients; plans = plan.Tree one_tree ∷ [] }
+small d = record { format = d.format; sites = 2; gears = d.gears; items = d.items; clients = d.clients; plans = plan.Tree one_tree ∷ [] }
 
 is-small : (d : Deployed) (t : TreeShape) → d.sites ≡ 2 → d.plans ≡ plan.Tree t ∷ [] → t ≡ one_tree → d ≡ small d
 unfolding small
 is-small d t sites plans tree =
     let all : d.plans ≡ plan.Tree one_tree ∷ [] = plans ∙ ap (λ (x : TreeShape). plan.Tree x ∷ []) tree in
-    λ i. record { sites = sites i; gears = d.gears; items = d.items; clients = d.clients; plans = all i }
+    λ i. record { format = d.format; sites = sites i; gears = d.gears; items = d.items; clients = d.clients; plans = all i }
 
 serial-outs : (d : Deployed) → out_places (small d) (named.Serializer 1 0) ≡ 4 ∷ 5 ∷ []
 unfolding small out_places neighbours seat_of is_edge hangs_on over parent_of

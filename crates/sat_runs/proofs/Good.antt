@@ -1,24 +1,24 @@
 -- Every list of acts has a good history, and each of its settles comes to rest.
-use Rattle.std.proofs.Common.{◌≡◌, ◌<◌, ℕ, true, List, [], ◌∷◌, ◌++◌, Option, Some, None, refl, subst}
-use Rattle.std.specs.Prelude.{reverse, slice_get}
+use Rattle.std.proofs.Common.{◌≡◌, ◌<◌, ℕ, true, List, [], ◌∷◌, ◌++◌, refl, subst}
+use Rattle.std.specs.Prelude.{reverse}
 use Rattle.std.specs.List.{AllByRecursion}
 use Rattle.std.proofs.lemmas.List.{reverse-append}
 use Rattle.sat_act.specs.declared.act.Act.{Act}
 use Rattle.sat_act.specs.declared.act.Act.TheVariants.{Settle}
-use Rattle.sat_act.specs.declared.deployment.ClientLine.{ClientLine}
 use Rattle.sat_act.specs.declared.entry.Entry.{Entry}
 use Rattle.sat_act.specs.Deployed.{Deployed}
-use Rattle.sat_act.specs.Parts.{home, replicates, version}
-use Rattle.sat_act.specs.Goals.{IsValid, IsGreatestMade}
+use Rattle.sat_act.specs.Parts.{replicates, version}
+use Rattle.sat_act.specs.Goals.{IsGreatestMade}
 use Rattle.sat_act.specs.Headline.{AllInRange, IsGood}
 use Rattle.sat_act.specs.Limits.{IsDeployment}
 use Rattle.sat_act.specs.Runs.{IsRun}
 use Rattle.sat_act.specs.Settling.{run, settle}
 use Rattle.sat_laws.specs.Laws.{EveryHistoryIsGood}
-use Rattle.sat_rest.specs.Ends.{IsWithin, Settles}
+use Rattle.sat_rest.specs.Ends.{Settles}
 use Rattle.sat_rest.specs.Rest.{IsAtRest}
 use Rattle.sat_rest.specs.Laws.{EverySettleSettles, EverySettleRests}
 use Rattle.sat_rest.proofs.Headlines.{run-is}
+use Rattle.sat_settle.proofs.Ranges.{within}
 use Rattle.sat_script.specs.Spelled.{AreActsOf}
 use Rattle.sat_world.proofs.Meets.{in-range}
 use Rattle.sat_runs.specs.Runs.{history}
@@ -44,27 +44,6 @@ pub runs : (d : Deployed) (acts : List Act) → AreActsOf d acts → IsRun d (hi
 unfolding history
 runs d acts all = run-is d (reverse acts) (ranges d (reverse acts) (all_reverse _ acts all))
 
-homes_is : (d : Deployed) → IsDeployment d → (c i : ℕ) → home d c ≡ Some i → i < d.sites
-unfolding home
-homes_is d is c i e = go (slice_get d.clients c) refl e where
-  go : (o : Option ClientLine) → slice_get d.clients c ≡ o → elim o [ None ↦ None | Some line ↦ Some line.site ] ≡ Some i → i < d.sites
-  go None at e = absurd (cc)
-  go (Some line) at e = let same : line.site ≡ i = cc in rw (← same) (is.homes c line at)
-
-is_valid : (d : Deployed) → IsDeployment d → IsValid d
-is_valid d is = record { some_gear = is.some_gear; few_gears = is.few_gears; homes = homes_is d is }
-
-is_within : (d : Deployed) → IsDeployment d → IsWithin d
-is_within d is = record {
-  valid = is_valid d is;
-  some_site = is.some_site;
-  trees = is.trees;
-  some_plan = is.some_plan;
-  few_sites = is.few_sites;
-  few_serializers = is.few_serializers;
-  all_seated = is.all_seated;
-}
-
 -- ---- the laws, as proofs of runs take them
 
 pub record TheLaws : Type 0 where
@@ -78,11 +57,11 @@ agrees d h v k x good rest is-site kept = good.settled k x (λ i g n l at. rest.
 
 rests : (d : Deployed) (h : List Entry) → TheLaws → IsDeployment d → IsRun d h → ComesToRest d h
 rests d h laws is run =
-    let within = is_within d is in
-    let ends : Settles d h = laws.settles d h within run in record {
+    let fits = within d is in
+    let ends : Settles d h = laws.settles d h fits run in record {
       bound = ends.bound;
-      rests = laws.rests d h within run;
-      agree = λ end k x is-site kept. agrees d (settle d h).1 end.epoch k x (laws.good d (settle d h).1 within.valid within.trees ends.is_run) (laws.rests d h within run end) is-site kept;
+      rests = laws.rests d h fits run;
+      agree = λ end k x is-site kept. agrees d (settle d h).1 end.epoch k x (laws.good d (settle d h).1 fits.valid fits.trees ends.is_run) (laws.rests d h fits run end) is-site kept;
     }
 
 -- each settle of acts of the deployment
@@ -92,5 +71,5 @@ each_rests d acts laws is all front rest split =
 
 pub good_run : (d : Deployed) (acts : List Act) → TheLaws → IsDeployment d → AreActsOf d acts → IsGoodRun d acts
 good_run d acts laws is all =
-    let within = is_within d is in
-    record { good = laws.good d (history d acts) within.valid within.trees (runs d acts all); settles = each_rests d acts laws is all }
+    let fits = within d is in
+    record { good = laws.good d (history d acts) fits.valid fits.trees (runs d acts all); settles = each_rests d acts laws is all }

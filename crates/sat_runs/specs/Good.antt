@@ -1,5 +1,5 @@
 -- What a list of acts gives.
-use Rattle.std.specs.Prelude.{ℕ, ◌≡◌, ◌<◌, ◌≤◌, ◌+◌, ◌*◌, true, List, ◌∷◌, ◌++◌, length}
+use Rattle.std.specs.Prelude.{ℕ, ◌≡◌, ◌<◌, ◌≤◌, true, List, ◌∷◌, ◌++◌}
 use Rattle.sat_act.specs.declared.act.Act.{Act}
 use Rattle.sat_act.specs.declared.entry.Entry.{Entry}
 use Rattle.sat_act.specs.Deployed.{Deployed}
@@ -9,7 +9,7 @@ use Rattle.sat_act.specs.Headline.{IsGood}
 use Rattle.sat_act.specs.Limits.{IsDeployment}
 use Rattle.sat_act.specs.Parts.{replicates, version}
 use Rattle.sat_act.specs.Settling.{opening, settle}
-use Rattle.sat_rest.specs.Ends.{sent_count, wrote_count}
+use Rattle.sat_rest.specs.Ends.{most_rounds}
 use Rattle.sat_rest.specs.Rest.{CanEnd, IsAtRest}
 use Rattle.sat_script.specs.Spelled.{AreActsOf}
 use Rattle.sat_runs.specs.Runs.{history}
@@ -18,7 +18,7 @@ use Rattle.sat_runs.specs.Runs.{history}
 -- were written when its rounds begin. And where it can, it ends at rest: no payload waits, nothing is under way, and each site holds
 -- its items' greatest versions
 pub record ComesToRest (d : Deployed) (h : List Entry) : Type 0 where
-  pub bound : (settle d h).0 ≤ (30 * sent_count (opening d h) + 30 * wrote_count (opening d h)) + d.sites * length d.plans
+  pub bound : (settle d h).0 ≤ most_rounds d (opening d h)
   pub rests : (end : CanEnd d (settle d h).1) → IsAtRest d (settle d h).1 end.epoch
   pub agree : CanEnd d (settle d h).1 → (k x : ℕ) → k < d.sites → replicates d x k ≡ true → IsGreatestMade (settle d h).1 x (version (settle d h).1 k x)
 

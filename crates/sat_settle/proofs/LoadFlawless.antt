@@ -7,13 +7,13 @@ use Rattle.std.proofs.lemmas.Fmt.{decimal_injective}
 use Rattle.std.proofs.lemmas.List.{take-map}
 use Rattle.std.proofs.lemmas.Bool.{lt-ltb}
 use Rattle.std.proofs.lemmas.Slice.Eq.{bytes_eq-Decides}
-use Rattle.sat_label.specs.Words.{below, first_failing}
+use Rattle.sat_label.specs.Words.{are_sites, below, first_failing}
 use Rattle.sat_label.proofs.First.{first_none}
 use Rattle.sat_act.specs.declared.deployment.Item.{Item}
 use Rattle.sat_act.specs.declared.deployment.ClientLine.{ClientLine}
 use Rattle.sat_act.specs.declared.deployment.Plan.{Plan}
 use Rattle.sat_act.specs.declared.deployment.Plan.TheVariants as plan
-use Rattle.sat_act.specs.Flaw.{flaw, wrong_size, are_sites, item_fits, client_fits, plan_fits}
+use Rattle.sat_act.specs.Flaw.{flaw, wrong_size, item_fits, client_fits, plan_fits}
 use Rattle.sat_act.specs.Limits.{IsDeployment, HaveTrees}
 use Rattle.sat_act.proofs.Sound.{sound}
 use Rattle.sat_settle.specs.LoadHeader.{first_tree, second_tree, load_item, load_client, load_deployment}
@@ -102,6 +102,6 @@ load_is_deployment = sound load_deployment no_flaw trees
 -- the same of lists that are those of a large script
 pub no_flaw_of : (items : List Item) (clients : List ClientLine) (plans : List Plan)
     → items ≡ map load_item (below 200) → clients ≡ map load_client (below 40) → plans ≡ plan.Tree first_tree ∷ plan.Tree second_tree ∷ []
-    → flaw (record { sites = 5; gears = 4; items = items; clients = clients; plans = plans }) ≡ None
+    → flaw (record { format = 1; sites = 5; gears = 4; items = items; clients = clients; plans = plans }) ≡ None
 unfolding load_deployment
 no_flaw_of items clients plans one two three = rw (one, two, three) no_flaw

@@ -32,6 +32,7 @@ load_tree epoch = if epoch == 1 then first_tree else second_tree
 -- 5 sites of 4 gears, items x0 to x199, clients c0 to c39, and two epochs
 unfoldable pub load_deployment : Deployed
 load_deployment = record {
+  format = 1;
   sites = 5;
   gears = 4;
   items = map load_item (below 200);

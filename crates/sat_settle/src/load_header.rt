@@ -10,6 +10,9 @@ use sat_label::SiteSet;
 use sat_tree::{Tree, TreeFault};
 use std::alloc::{AllocError, Global};
 
+// Its format.
+const FORMAT: u16 = 1;
+
 /// How many sites the deployment has.
 pub const SITES: u16 = 5;
 
@@ -113,7 +116,7 @@ pub fn deployment(alloc: Global) -> Result<Deployment, AllocError>
     let items = items(alloc)?;
     let clients = clients(alloc)?;
     let plans = plans(alloc)?;
-    match Deployment::new(alloc, SITES, GEARS, items, clients, plans) {
+    match Deployment::new(alloc, FORMAT, SITES, GEARS, items, clients, plans) {
         Ok(d) => Ok(d),
         Err(DeploymentFault::Memory) => Err(AllocError),
         Err(_) => unreachable!(),
