@@ -26,8 +26,7 @@ use Rattle.sat_act.specs.Answers.{base, gear_of}
 use Rattle.sat_act.specs.Runs.{IsRun}
 use Rattle.sat_act.specs.Goals.{Gives}
 use Rattle.sat_act.specs.Settling.{total, payload_entry, payloads, payload_left, payloads_left, handlings, sending_entry, sendings, nodes_of, was_handled, sending_left, epochs_left, left}
-use Rattle.sat_label.specs.Formats.{limits_of}
-use Rattle.sat_rest.specs.Ends.{IsWithin, most_others, most_rounds, any_sent_entry, sent_count, wrote_entry, wrote_count}
+use Rattle.sat_rest.specs.Ends.{IsWithin, most_rounds, any_sent_entry, sent_count, wrote_entry, wrote_count}
 use Rattle.sat_laws.proofs.Steps.{Step, wrote}
 use Rattle.sat_laws.proofs.Runs.{step_of, before_of, entry}
 use Rattle.sat_act.specs.Done.{sent_in, is_at}
@@ -300,20 +299,14 @@ epochs-bound d h =
     at_most : (a b c : ℕ) → a ≤ b → b ≡ c → a ≤ c
     at_most a b c l e = omega arith
 
-few-others : (d : Deployed) → IsWithin d → d.sites ≤ most_others d + 1
-few-others d w = sub-one d.sites (limits_of d.format).sites w.few_sites
-  where
-    sub-one : (a b : ℕ) → a ≤ b → a ≤ (b - 1) + 1
-    sub-one a b h = omega arith
-
 pub left-bound : (d : Deployed) (h : List Entry) → IsWithin d → IsRun d h → left d h ≤ most_rounds d h
 left-bound d h w run =
     let a : left d h ≡ (payloads_all d h + sendings_all d h) + epochs_all d h = left-is d h in
-    let few : d.sites ≤ most_others d + 1 = few-others d w in
-    let b : payloads_all d h ≤ (2 * most_others d) * wrote_count h = payloads-bound d h (most_others d) few w run in
-    let c : sendings_all d h ≤ (15 + most_others d) * sent_count h = sendings-bound d h (most_others d) few w run in
+    let few : d.sites ≤ (d.sites - 1) + 1 = omega arith in
+    let b : payloads_all d h ≤ (2 * (d.sites - 1)) * wrote_count h = payloads-bound d h (d.sites - 1) few w run in
+    let c : sendings_all d h ≤ (15 + (d.sites - 1)) * sent_count h = sendings-bound d h (d.sites - 1) few w run in
     let e : epochs_all d h ≤ d.sites * length d.plans = epochs-bound d h in
-    sum (left d h) (payloads_all d h) (sendings_all d h) (epochs_all d h) ((2 * most_others d) * wrote_count h) ((15 + most_others d) * sent_count h) (d.sites * length d.plans) a b c e
+    sum (left d h) (payloads_all d h) (sendings_all d h) (epochs_all d h) ((2 * (d.sites - 1)) * wrote_count h) ((15 + (d.sites - 1)) * sent_count h) (d.sites * length d.plans) a b c e
   where
     sum : (l p s e a b c : ℕ) → l ≡ (p + s) + e → p ≤ a → s ≤ b → e ≤ c → l ≤ (b + a) + c
     sum l p s e a b c k x y z = omega arith

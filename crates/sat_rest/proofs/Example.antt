@@ -86,7 +86,6 @@ within = record {
   some_site = lit≤ tt;
   trees = trees;
   some_plan = lit≤ tt;
-  few_sites = lit≤ tt;
   few_serializers = λ e t k. subst (λ (s : TreeShape). length s.parents ≤ 15) (only-tree e t k) (lit≤ tt);
   all_seated = λ e t k. subst (λ (s : TreeShape). length s.seats ≡ 2) (only-tree e t k) refl;
 }

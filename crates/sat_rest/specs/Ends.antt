@@ -16,7 +16,6 @@ use Rattle.sat_act.specs.Goals.{IsValid}
 use Rattle.sat_act.specs.Headline.{HasTrees}
 use Rattle.sat_act.specs.Settling.{is_done, inner_entry, emit_all, opening, left, round_acts, until_refused, settle}
 use Rattle.sat_label.specs.declared.limits.TheConstants.{MOST_SERIALIZERS}
-use Rattle.sat_label.specs.Formats.{limits_of}
 
 -- a deployment within the limits that the laws of settle need: more than `IsValid` asks and less than `IsDeployment`
 pub record IsWithin (d : Deployed) : Type 0 where
@@ -24,7 +23,6 @@ pub record IsWithin (d : Deployed) : Type 0 where
   pub some_site : 0 < d.sites
   pub trees : HasTrees d
   pub some_plan : 0 < length d.plans
-  pub few_sites : d.sites ≤ (limits_of d.format).sites
   pub few_serializers : (epoch : ℕ) (tree : TreeShape) → tree_of d epoch ≡ Some tree → length tree.parents ≤ MOST_SERIALIZERS
   pub all_seated : (epoch : ℕ) (tree : TreeShape) → tree_of d epoch ≡ Some tree → length tree.seats ≡ d.sites
 
@@ -60,14 +58,11 @@ unfoldable pub wrote_count : List Entry → ℕ
 unfolding listed
 wrote_count h = length (listed wrote_entry h)
 
--- the most sites beside one that the deployment's format allows: 15, or 63
-abbrev pub most_others : Deployed → ℕ
-most_others d = (limits_of d.format).sites - 1
-
 -- the most rounds after a history: each label that was sent is handled at most once by each of 15 serializers and by each other
--- site, each update is brought to and shown at most at each other site, and each site advances to each epoch at most once
+-- site, each update is brought to and shown at most at each other site, and each site advances to each epoch at most once. With 16
+-- sites these are 30 for a label and 30 for an update, with 64 they are 78 and 126
 abbrev pub most_rounds : Deployed → List Entry → ℕ
-most_rounds d h = ((MOST_SERIALIZERS + most_others d) * sent_count h + (2 * most_others d) * wrote_count h) + d.sites * length d.plans
+most_rounds d h = ((MOST_SERIALIZERS + (d.sites - 1)) * sent_count h + (2 * (d.sites - 1)) * wrote_count h) + d.sites * length d.plans
 
 -- what a settle keeps: it makes a run; each "until refused" of it ends by a refusal, not by its count; less is left with each act of a round that is
 -- done; the rounds end with a quiet one, and their number is bounded

@@ -29,7 +29,6 @@ within d k = record {
   some_site = k.some_site;
   trees = has_trees d k;
   some_plan = k.some_plan;
-  few_sites = k.sites_allowed;
   few_serializers = k.few_serializers;
   all_seated = k.all_seated;
 }
