@@ -58,7 +58,7 @@ fn deployment(alloc: Global) -> Result<Deployment, AllocError>
         name: name(alloc, b"a")?,
         site: 0,
     })?;
-    match Deployment::new(alloc, 2, 1, items, clients, plans) {
+    match Deployment::new(alloc, 1, 2, 1, items, clients, plans) {
         Ok(d) => Ok(d),
         Err(_) => Err(AllocError),
     }

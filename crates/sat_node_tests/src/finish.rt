@@ -76,7 +76,7 @@ fn a_run_ends(rt: HostRuntime) -> Result<(), Fail> {
     let alloc = rt.alloc();
     let mut plans = Vec::new(alloc);
     plans.push(Plan::Stamp)?;
-    let d = Deployment::new(alloc, 1, 1, Vec::new(alloc), Vec::new(alloc), plans)?;
+    let d = Deployment::new(alloc, 1, 1, 1, Vec::new(alloc), Vec::new(alloc), plans)?;
     let ends = [
         end::<Brand>(alloc, &d, true, 1)?,
         end::<Brand>(alloc, &d, false, 1)?,

@@ -26,7 +26,7 @@ fn deployment(alloc: Global) -> Result<Deployment, Fail> {
     let mut plans = Vec::new(alloc);
     plans.push(Plan::Tree(Tree::new(alloc, &[None], &[0])?))?;
     plans.push(Plan::Tree(Tree::new(alloc, &[None], &[0])?))?;
-    Ok(Deployment::new(alloc, 1, 1, items, clients, plans)?)
+    Ok(Deployment::new(alloc, 1, 1, 1, items, clients, plans)?)
 }
 
 fn note(at: Option<NodeName>, act: Act, answer: Answer) -> Noted {

@@ -41,7 +41,7 @@ fn deployment(alloc: Global, tree: &Tree) -> Result<Deployment, Fail>
     let mut plans = Vec::new(alloc);
     plans.push(Plan::Tree(tree.copy()?))?;
     let clients: Vec<ClientLine> = Vec::new(alloc);
-    let deployment = Deployment::new(alloc, 3, 1, items, clients, plans)?;
+    let deployment = Deployment::new(alloc, 1, 3, 1, items, clients, plans)?;
     Ok(deployment)
 }
 

@@ -68,18 +68,33 @@ fn a_label_goes_on_to_where_it_is_wanted(rt: HostRuntime) -> Result<(), Fail> {
     Ok(())
 }
 
+// The format comes before the sites, and these before the plans, of which there are none.
 #[test]
-fn a_deployment_has_a_site(rt: HostRuntime) -> Result<(), Fail> {
+fn a_deployment_has_the_sites_of_its_format(rt: HostRuntime) -> Result<(), Fail> {
     let alloc = rt.alloc();
-    let made = Deployment::new(
-        alloc,
-        0,
-        1,
-        Vec::new(alloc),
-        Vec::new(alloc),
-        Vec::new(alloc),
-    );
-    assert!(rt; matches!(made, Err(DeploymentFault::Size(0))));
+    for (format, sites, part) in [
+        (0, 0, 5),
+        (3, 1, 5),
+        (1, 0, 0),
+        (1, 16, 4),
+        (1, 17, 0),
+        (2, 64, 4),
+        (2, 65, 0),
+    ] {
+        let made = Deployment::new(
+            alloc,
+            format,
+            sites,
+            1,
+            Vec::new(alloc),
+            Vec::new(alloc),
+            Vec::new(alloc),
+        );
+        assert!(rt;
+            matches!(made, Err(DeploymentFault::Size(wrong)) if wrong == part),
+            "{sites} sites of format {format}"
+        );
+    }
     Ok(())
 }
 

@@ -36,6 +36,10 @@ const STAMPS: &str = "saturn 1\nsites 2\ngears 1\nitem x 0,1\nclient a 0\nplan s
 
 const ONE_SITE: &str = "saturn 1\nsites 1\ngears 1\nplan stamp\nbegin\n";
 
+// The most sites that there may be, all at one serializer.
+const SIXTY_FOUR_SITES: &str =
+    "saturn 2\nsites 64\ngears 1\nitem x 0,63\nclient a 0\nplan tree - / 0 0 0 0 0 0 0 0 0 0 0 0 0 0 0 0 0 0 0 0 0 0 0 0 0 0 0 0 0 0 0 0 0 0 0 0 0 0 0 0 0 0 0 0 0 0 0 0 0 0 0 0 0 0 0 0 0 0 0 0 0 0 0 0\nbegin\n";
+
 /// A header, acts, and their answers.
 pub const ANSWERS: &[(&str, &str, &str)] = &[
     // Nothing is shown at first, and an update is shown once, when its label and its payload have come.
@@ -150,6 +154,19 @@ pub const ANSWERS: &[(&str, &str, &str)] = &[
         "write a x 1\nwrite b y 2\ngather 0\nemit 0\nclose 0\nclose 0\nemit 0\nhop 1 s0 z0\nhop 1 s0 z0\nhop 1 s0 z0\nbulk 0 0 1\nbulk 0 1 1\nturn 1\nturn 1\nclose 1\nadvance 1\nturn 1\nstamp 1\nbeat 0 1\nbeatin 0 1 0\nstamp 1\nbeatin 0 1 0\nend\n",
         "1 wrote 1.0.0\n2 wrote 1.0.1\n3 gathered 2 stable 1\n4 emitted update 1.0.0\n5 closed 1 1.0.0\n6 refused Behind\n7 emitted update 1.0.1\n8 hopped update 1.0.0 to s1\n9 hopped close 1.0.0 to s1\n10 refused Empty\n11 brought x 1.0.0\n12 brought y 1.0.1\n13 shown x 1.0.0\n14 took close 1.0.0\n15 closed 1 0.1.65535\n16 view 2\n17 refused StampOrder\n18 refused NotYet\n19 beat 0\n20 taken\n21 shown y 1.0.1\n22 old\nholdings\n",
     ),
+    // Of 64 sites the last one keeps the item, and the label goes to no other.
+    (
+        SIXTY_FOUR_SITES,
+        "write a x v\ngather 0\nemit 0\nhop 1 s0 z0\nbulk 0 0 63\nturn 63\nturn 62\nend\n",
+        "1 wrote 1.0.0\n2 gathered 1 stable 1\n3 emitted update 1.0.0\n4 hopped update 1.0.0 to s63\n5 brought x 1.0.0\n6 shown x 1.0.0\n7 refused Empty\nholdings\n",
+    ),
+    // A settle of 64 sites: a clock, 64 gathers, an emission, 64 pulses, and 4,032 beats that are made and taken; in one round a
+    // payload, 65 hops, a turn for the update and 4,032 for the pulses.
+    (
+        SIXTY_FOUR_SITES,
+        "write a x v\nsettle\nend\n",
+        "1 wrote 1.0.0\n2 settled 1 12293\nholdings\n",
+    ),
     // Sessions.
     (
         CHAIN_OF_TWO,
@@ -222,7 +239,10 @@ pub const REPORTS: &[(&str, &str, &str)] = &[
     (HEADER, "end\nx", "line 10: AfterEnd\n"),
     // A bad header.
     ("", "", "line 1: NoEnd\n"),
-    ("saturn 2\n", "", "line 1: BadHeader\n"),
+    ("saturn 2\n", "", "line 2: NoEnd\n"),
+    ("saturn 3\n", "", "line 1: BadHeader\n"),
+    ("saturn 02\n", "", "line 1: BadHeader\n"),
+    ("saturn 0\n", "", "line 1: BadHeader\n"),
     (
         "saturn 1\nsites 2\ngears 1\nitem x 0\nitem x 1\n",
         "",
@@ -235,6 +255,7 @@ pub const REPORTS: &[(&str, &str, &str)] = &[
     ),
     ("saturn\t1\n", "", "line 1: NotText\n"),
     ("saturn 1\nsites 17\n", "", "line 2: OutOfRange\n"),
+    ("saturn 2\nsites 65\n", "", "line 2: OutOfRange\n"),
     (
         "saturn 1\nsites 2\ngears 1\nitem x 0,1\nclient a 0\nclient b 1\nplan tree - 1 / 0 0\n",
         "",

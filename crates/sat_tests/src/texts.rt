@@ -15,7 +15,13 @@ const PLAIN: &str =
 const WIDE: &str =
     "saturn 1\nsites 16\ngears 8\nitem p 0,2,15\nitem q-1.z 1\nitem r 0,1,2,3,4,5,6,7,8,9,10,11,12,13,14,15\nclient C 2\nclient d_ 15\nplan tree - 0 0 2 / 0 0 1 1 2 2 3 3 0 0 1 1 2 2 3 3\nplan stamp\nplan tree - / 0 0 0 0 0 0 0 0 0 0 0 0 0 0 0 0\nbegin\ntick 15 7 4611686018427387904\nclock\nwrite C q-1.z ->\nread d_ p\ngather 15\nemit 0\nhop 1 s15 z3\nhop 1 z3 z2\nturn 9\nbulk 15 7 0\nbulk 0 0 15 18446744073709551615\nmove C 15\nleave d_\nattach d_ 0\npulse 9\nbeat 0 15\nbeatin 15 0 18446744073709551615\nstamp 3\nclose 4\nfall 5\nadvance 15\nhop 3 s15 z0\nkill 1 z3\nkill 3 z0\nsettle\nend\n";
 
-// A text that begins with the header above.
+const SECOND_FORMAT: &str =
+    "saturn 2\nsites 2\ngears 1\nitem x 0,1\nclient a 0\nclient b 1\nplan tree - / 0 0\nbegin\n";
+
+const WIDEST: &str =
+    "saturn 2\nsites 64\ngears 8\nitem p 0,16,63\nitem q 0,1,2,3,4,5,6,7,8,9,10,11,12,13,14,15,16,17,18,19,20,21,22,23,24,25,26,27,28,29,30,31,32,33,34,35,36,37,38,39,40,41,42,43,44,45,46,47,48,49,50,51,52,53,54,55,56,57,58,59,60,61,62,63\nclient a 63\nplan tree - 0 1 2 3 4 5 6 7 8 9 10 11 12 13 / 0 1 2 3 4 5 6 7 8 9 10 11 12 13 14 14 14 14 14 14 14 14 14 14 14 14 14 14 14 14 14 14 14 14 14 14 14 14 14 14 14 14 14 14 14 14 14 14 14 14 14 14 14 14 14 14 14 14 14 14 14 14 14 14\nbegin\nwrite a q v\nhop 1 s63 z14\nhop 1 z14 z13\nturn 63\nbulk 63 7 62\nbeat 16 63\nkill 1 z14\nend\n";
+
+// A text that begins with the header of format 1 above.
 fn under_header(alloc: Global, lines: &str) -> Result<Vec<u8>, AllocError> {
     let mut text = HEADER.as_bytes().to_vec(alloc)?;
     text.extend_from_slice(lines.as_bytes())?;
@@ -60,6 +66,7 @@ fn good_texts_are_written_back(rt: HostRuntime) -> Result<(), Fail> {
     for text in [
         PLAIN,
         WIDE,
+        WIDEST,
         "saturn 1\nsites 1\ngears 1\nplan tree - / 0\nbegin\nend\n",
     ] {
         let out = written(alloc, text.as_bytes(), false)?;
@@ -105,6 +112,7 @@ fn nodes_on_threads_have_their_own_limits(rt: HostRuntime) -> Result<(), Fail> {
     let alloc = rt.alloc();
     for (text, line, cause) in [
         ("saturn 1\nsites 9\n", 2, Cause::OutOfRange),
+        ("saturn 2\nsites 9\n", 2, Cause::OutOfRange),
         (
             "saturn 1\nsites 2\ngears 1\nitem x 0,1\nclient a 0\nclient b 1\nplan tree - / 0 0\nbegin\ngather 0\n",
             9,
@@ -153,9 +161,9 @@ fn a_cut_script_ends_too_early(rt: HostRuntime) -> Result<(), Fail> {
     Ok(())
 }
 
-// A script of so many acts, each of this line.
-fn many_acts(alloc: Global, line: &str, count: u32) -> Result<Vec<u8>, AllocError> {
-    let mut text = HEADER.as_bytes().to_vec(alloc)?;
+// A script of so many acts, each of this line, behind a header.
+fn many_acts(alloc: Global, header: &str, line: &str, count: u32) -> Result<Vec<u8>, AllocError> {
+    let mut text = header.as_bytes().to_vec(alloc)?;
     for _ in 0..count {
         text.extend_from_slice(line.as_bytes())?;
     }
@@ -163,16 +171,22 @@ fn many_acts(alloc: Global, line: &str, count: u32) -> Result<Vec<u8>, AllocErro
     Ok(text)
 }
 
-// A header of so many items or clients with names of their own, and then a line.
-fn many_names(alloc: Global, word: &[u8], count: u32, last: &[u8]) -> Result<Vec<u8>, AllocError> {
-    let mut text = b"saturn 1\nsites 2\ngears 1\n".as_slice().to_vec(alloc)?;
+// A header of so many items or clients with names of their own behind its first lines, and then further lines.
+fn many_names(
+    alloc: Global,
+    front: &str,
+    word: &str,
+    count: u32,
+    last: &str,
+) -> Result<Vec<u8>, AllocError> {
+    let mut text = front.as_bytes().to_vec(alloc)?;
     for number in 0..count {
-        text.extend_from_slice(word)?;
+        text.extend_from_slice(word.as_bytes())?;
         let digits = number.to_string(alloc)?;
         text.extend_from_slice(digits.as_bytes())?;
         text.extend_from_slice(b" 0\n")?;
     }
-    text.extend_from_slice(last)?;
+    text.extend_from_slice(last.as_bytes())?;
     Ok(text)
 }
 
@@ -212,42 +226,99 @@ fn at(line: u64, cause: Cause) -> Option<ScriptFault> {
     Some(ScriptFault { line, cause })
 }
 
+// The limits of each format, and those of nodes on threads, which go by no format.
+#[test]
+fn limits_of_acts_are_exact(rt: HostRuntime) -> Result<(), Fail> {
+    let alloc = rt.alloc();
+    for (live, header, line, count, want) in [
+        (false, HEADER, "gather 0\n", 200000, None),
+        (
+            false,
+            HEADER,
+            "gather 0\n",
+            200001,
+            at(200009, Cause::TooMany),
+        ),
+        (false, HEADER, "settle\n", 64, None),
+        (false, HEADER, "settle\n", 65, at(73, Cause::TooMany)),
+        (false, SECOND_FORMAT, "gather 0\n", 30000, None),
+        (
+            false,
+            SECOND_FORMAT,
+            "gather 0\n",
+            30001,
+            at(30009, Cause::TooMany),
+        ),
+        (false, SECOND_FORMAT, "settle\n", 64, None),
+        (false, SECOND_FORMAT, "settle\n", 65, at(73, Cause::TooMany)),
+        (true, SECOND_FORMAT, "read a x\n", 4000, None),
+        (
+            true,
+            SECOND_FORMAT,
+            "read a x\n",
+            4001,
+            at(4009, Cause::TooMany),
+        ),
+    ] {
+        assert_eq!(rt;
+            fault_of(alloc, &many_acts(alloc, header, line, count)?, live),
+            want,
+            "{count} lines {line} behind {header}"
+        );
+    }
+    Ok(())
+}
+
+// Items go by the format, also for nodes on threads. TooMany comes before all else that is wrong with a line.
+#[test]
+fn limits_of_names_are_exact(rt: HostRuntime) -> Result<(), Fail> {
+    let alloc = rt.alloc();
+    let good = "plan tree - / 0 0\nbegin\nend\n";
+    let first = "saturn 1\nsites 2\ngears 1\n";
+    let second = "saturn 2\nsites 2\ngears 1\n";
+    for (live, front, word, count, last, want) in [
+        (false, first, "item x", 4096, good, None),
+        (false, first, "item x", 4097, "", at(4100, Cause::TooMany)),
+        (false, second, "item x", 65535, good, None),
+        (
+            false,
+            second,
+            "item x",
+            65536,
+            "",
+            at(65539, Cause::TooMany),
+        ),
+        (true, second, "item x", 4097, good, None),
+        (false, first, "client x", 1024, good, None),
+        (
+            false,
+            first,
+            "client x",
+            1024,
+            "client x0 9\n",
+            at(1028, Cause::TooMany),
+        ),
+        (
+            false,
+            second,
+            "client x",
+            1024,
+            "client x0 9\n",
+            at(1028, Cause::TooMany),
+        ),
+    ] {
+        assert_eq!(rt;
+            fault_of(alloc, &many_names(alloc, front, word, count, last)?, live),
+            want,
+            "{count} lines {word} behind {front}"
+        );
+    }
+    Ok(())
+}
+
 #[test]
 fn limits_are_exact(rt: HostRuntime) -> Result<(), Fail> {
     let alloc = rt.alloc();
-    let good = b"plan tree - / 0 0\nbegin\nend\n".as_slice();
-    for (line, count, want) in [
-        ("gather 0\n", 200000, None),
-        ("gather 0\n", 200001, at(200009, Cause::TooMany)),
-        ("settle\n", 64, None),
-        ("settle\n", 65, at(73, Cause::TooMany)),
-    ] {
-        assert_eq!(rt;
-            fault_of(alloc, &many_acts(alloc, line, count)?, false),
-            want,
-            "{count} lines {line}"
-        );
-    }
-    assert_eq!(rt;
-        fault_of(alloc, &many_names(alloc, b"item x", 4096, good)?, false),
-        None
-    );
-    assert_eq!(rt;
-        fault_of(alloc, &many_names(alloc, b"item x", 4097, b"")?, false),
-        at(4100, Cause::TooMany)
-    );
-    assert_eq!(rt;
-        fault_of(alloc, &many_names(alloc, b"client x", 1024, good)?, false),
-        None
-    );
-    assert_eq!(rt;
-        fault_of(
-            alloc,
-            &many_names(alloc, b"client x", 1024, b"client x0 9\n")?,
-            false
-        ),
-        at(1028, Cause::TooMany)
-    );
     assert_eq!(rt; fault_of(alloc, &many_plans(alloc, 16)?, false), None);
     assert_eq!(rt;
         fault_of(alloc, &many_plans(alloc, 17)?, false),
