@@ -13,8 +13,9 @@ use Rattle.sat_act.specs.declared.deployment.ClientLine.{ClientLine}
 use Rattle.sat_act.specs.Deployed.{Deployed}
 use Rattle.sat_act.specs.Parts.{tree_of}
 
--- what `Deployment::new` makes sure of: the limits of the numbers, those of any format and those of its own, each item kept somewhere and only at sites, no name twice among
--- the items or the clients, each client's site a site, and each epoch's tree, if any, a tree that seats every site
+-- what `Deployment::new` makes sure of: the limits of the numbers, those of its format and so those of any, each item kept
+-- somewhere and only at sites, no name twice among the items or the clients, each client's site a site, and each epoch's tree, if any,
+-- a tree that seats every site
 pub record IsDeployment (d : Deployed) : Type 0 where
   pub format : is_format d.format ≡ true
   pub sites_allowed : d.sites ≤ (limits_of d.format).sites

@@ -127,9 +127,10 @@ impl Deployment {
     ghost use Rattle.sat_act.specs.Limits.{IsDeployment};
     ghost use Rattle.sat_act.specs.Flaw.{flaw};
 
-    /// A deployment of format 1 or 2, with as many sites and items as that allows, 1 to 8 gears at each site, at most 1,024 clients,
-    /// and the plans of 1 to 16 epochs. Its faults say what is wrong, the sizes first, then the items, the clients and the plans, each in order. For want
-    /// of memory it compares names pair by pair, which takes none, so it never answers `Memory`.
+    /// A deployment of format 1 or 2: 1 to 16 sites and at most 4,096 items, or 1 to 64 sites and at most 65,535 items; 1 to 8 gears
+    /// at each site, at most 1,024 clients, and the plans of 1 to 16 epochs. Its faults say what is wrong, the sizes first and of these
+    /// the format first, then the items, the clients and the plans, each in order. For want of memory it compares names pair by pair,
+    /// which takes none, so it never answers `Memory`.
     pub fn new(
         alloc: Global,
         format: u16,
