@@ -39,30 +39,35 @@ pub enum Put {
 /// when it is made.
 #[derive(Drop)]
 pub struct Store {
-    versions: Vec<Option<Version>>,
+    // For each item the place of its version, if it has one.
+    places: Vec<Option<u16>>,
+    // The versions, in the order in which their items first had one. There is room for one of each item; the machine gives a page
+    // of it when that is first written, so a store of many items of which few have a version is small.
+    versions: Vec<Version>,
 }
 
 impl Model for Store {
-    ghost use Rattle.std.specs.Prelude.{List};
+    ghost use Rattle.std.specs.Prelude.{List, vec_capacity};
     ghost use Rattle.std.specs.declared.option.Option.{Option};
     ghost use Rattle.sat_store.specs.declared.store.Version.{Version};
+    ghost use Rattle.sat_store.specs.Placed.{placed, IsPlaced};
 
     ghost Value = { List (Option Version) };
 
-    ghost view = { λ a. a.versions.items };
+    ghost view = { λ a. placed a.versions.items a.places.items };
+
+    ghost invariant = { λ a. IsPlaced a.places.items a.versions.items (vec_capacity a.versions) };
 }
 
 impl Store {
     /// A store of so many items, with no versions.
-    #[tactic(auto, using(std::proofs::lemmas::List::replicate_more))]
     pub fn new(alloc: Global, items: u16) -> Result<Store, AllocError>
         ensures { IfOk result (λ store. store ≡ replicate items None) }
     {
-        let mut versions = Vec::with_capacity(alloc, items as usize)?;
-        'items: for _ in 0..items {
-            versions.push(None)?;
-        }
-        Ok(Store { versions })
+        let mut places = Vec::new(alloc);
+        places.resize(items as usize, None)?;
+        let versions = Vec::with_capacity(alloc, items as usize)?;
+        Ok(Store { places, versions })
     }
 
     /// Puts a version. It is kept exactly where the item had none, or one with a lower label.
@@ -71,13 +76,16 @@ impl Store {
         ensures new { self.new ≡ slice_set self.old item (newer (version_at self.old item) (record { label = label; value = value })) }
         ensures kept { result ≡ Put.Kept ↔ is_kept (version_at self.old item) label }
     {
-        let place = &mut self.versions[item as usize];
-        if let Some(version) = place {
-            if !version.label.is_below(&label) {
-                return Put::Lower;
-            }
+        let Some(place) = self.places.as_slice()[item as usize] else {
+            self.places[item as usize] = Some(self.versions.len() as u16);
+            self.versions.push_reserved(Version { label, value });
+            return Put::Kept;
+        };
+        let version = &mut self.versions[place as usize];
+        if !version.label.is_below(&label) {
+            return Put::Lower;
         }
-        *place = Some(Version { label, value });
+        *version = Version { label, value };
         Put::Kept
     }
 
@@ -86,6 +94,7 @@ impl Store {
         requires { item < length self.now }
         ensures { MatchOption result (version_at self.now item ≡ None) (λ version. version_at self.now item ≡ Some version.now) }
     {
-        self.versions[item as usize].as_ref()
+        let place = self.places.as_slice()[item as usize]?;
+        Some(&self.versions[place as usize])
     }
 }
