@@ -18,6 +18,7 @@ use Rattle.sat_tree.specs.Shape.{TreeShape}
 use Rattle.sat_tree.specs.Cut.{is_edge, neighbours}
 use Rattle.sat_tree.specs.Flaw.{IsSmallTree}
 use Rattle.sat_queue.specs.Queued.{Queued, members_of, HasRoom}
+use Rattle.sat_serial.specs.declared.hits.TheConstants.{MOST_PLACES}
 use Rattle.sat_serial.specs.Outboxes.{change_where}
 use Rattle.sat_serial.specs.Hits.{hit_at, hits, nodes_at, changed_at, AllInside, Ascending, HasRoomAt, code}
 use Rattle.sat_serial.proofs.Ways.{all-below}
@@ -118,7 +119,7 @@ changed-all test f nodes boxes same =
 
 -- ---- a tree is small
 
-pub few-neighbours : (t : TreeShape) (z : ℕ) → IsSmallTree t → length (neighbours t z) ≤ 31
+pub few-neighbours : (t : TreeShape) (z : ℕ) → IsSmallTree t → length (neighbours t z) ≤ MOST_PLACES
 unfolding neighbours
 few-neighbours t z small =
     let few = few-filter (λ n. is_edge t (Serializer z) n) (map Site (below (length t.seats)) ++ map Serializer (below (length t.parents))) in
@@ -154,7 +155,7 @@ next-hit test nodes i d b had less is before =
     ∙ (ap (λ c. filter (hit_at test nodes) (below i) ++ cond c (i ∷ []) []) (is ∙ ap test (get_or_default nodes i d (Site 0) less))
     ∙ sym (hits-more (hit_at test nodes) i))
 
-pub has-space : (p : ℕ → Bool) (nodes : List NodeId) (t : TreeShape) (z i : ℕ) (had : List ℕ) → nodes ≡ neighbours t z → IsSmallTree t → i < length nodes → had ≡ filter p (below i) → (length had < 32) × (i < 32)
+pub has-space : (p : ℕ → Bool) (nodes : List NodeId) (t : TreeShape) (z i : ℕ) (had : List ℕ) → nodes ≡ neighbours t z → IsSmallTree t → i < length nodes → had ≡ filter p (below i) → (length had < MOST_PLACES) × (i < MOST_PLACES)
 has-space p nodes t z i had are small less before =
     let few = few-neighbours t z small in
     let hit = few-hits p i in
