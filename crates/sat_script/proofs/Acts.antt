@@ -9,7 +9,6 @@ use Rattle.sat_label.specs.declared.node.NodeId.{NodeId}
 use Rattle.sat_label.specs.declared.node.NodeId.TheVariants.{Site, Serializer}
 use Rattle.sat_tree.specs.Shape.{TreeShape}
 use Rattle.sat_tree.specs.Cut.{is_edge, IsNode}
-use Rattle.sat_script.specs.Dialect.{limits_of}
 use Rattle.sat_act.specs.Deployed.{Deployed}
 use Rattle.sat_act.specs.Limits.{IsDeployment}
 use Rattle.sat_act.specs.Parts.{tree_of}
@@ -19,7 +18,7 @@ use Rattle.sat_act.specs.declared.act.Act.TheVariants as act
 use Rattle.sat_script.specs.Causes.{bar, has_room, client_of, item_of, given, barred}
 use Rattle.sat_script.specs.Grammar.{with_settle}
 use Rattle.sat_script.specs.Laws.{ActsAreSpelled}
-use Rattle.sat_script.specs.State.{State}
+use Rattle.sat_script.specs.State.{State, limits_at}
 use Rattle.sat_script.specs.Table.{Said, place, num, bytes, at, word_of, kinds_of, act_forms, act_of, form_of, args_of, shape, says, text, shapes, all_known, onto, in_tree, all_say, no_tree, has_node, joins, edge_cause, unfit, said_act, found_form, form_line, act_line, texts, act_words}
 use Rattle.sat_script.specs.Words.{number_below, number_to, number_up_to, node_in, serializer_in, is_node, is_serializer, is_number}
 use Rattle.sat_script.specs.declared.fault.Cause.{Cause}
@@ -28,6 +27,7 @@ use Rattle.sat_script.specs.declared.form.Form.{Form}
 use Rattle.sat_script.specs.declared.form.Form.TheVariants as form
 use Rattle.sat_script.specs.declared.form.Kind.{Kind}
 use Rattle.sat_script.specs.declared.form.Kind.TheVariants as kind
+use Rattle.sat_script.specs.declared.limits.TheConstants.{MOST_SITES}
 use Rattle.sat_script.specs.declared.line.Parsed.TheVariants as parsed
 use Rattle.sat_script.proofs.Bars.{free, bars_nothing}
 use Rattle.sat_script.proofs.Choices.{passed, unbarred, found, same_ok, word_is}
@@ -52,7 +52,7 @@ mapped f None y h = absurd (cc)
 either_byte : (byte : ℕ) → (eqb byte 115 || eqb byte 122) ≡ true → eqb byte 115 ≡ false → byte ≡ 122
 either_byte byte h other = grind (arith, nat_tests)
 
-pub node_is : (t : TreeShape) (word : List ℕ) (u : NodeId) → length t.parents ≤ 15 → length t.seats ≤ 16 → is_node word ≡ true → node_in t word ≡ Some u → IsNode t u × (word ≡ node_text u)
+pub node_is : (t : TreeShape) (word : List ℕ) (u : NodeId) → length t.parents ≤ 15 → length t.seats ≤ MOST_SITES → is_node word ≡ true → node_in t word ≡ Some u → IsNode t u × (word ≡ node_text u)
 unfolding node_in is_node node_text
 node_is t [] u few seats shape h = absurd (cc)
 node_is t (byte ∷ number) u few seats shape h = go (eqb byte 115) refl h
@@ -87,11 +87,11 @@ Fits d t kind.Serializer (place z) = z < length t.parents
 Fits d t _ _ = ⊥
 
 pub record IsSmall (d : Deployed) (t : TreeShape) : Type 0 where
-  pub sites : d.sites ≤ 16
+  pub sites : d.sites ≤ MOST_SITES
   pub gears : d.gears ≤ 8
   pub plans : length d.plans ≤ 16
   pub parents : length t.parents ≤ 15
-  pub seats : length t.seats ≤ 16
+  pub seats : length t.seats ≤ MOST_SITES
 
 word_fits : (d : Deployed) (t : TreeShape) (k : Kind) (w : List ℕ) (a : Said) → IsSmall d t → shape k w ≡ true → says d t k w ≡ Some a → (w ≡ text d k a) × Fits d t k a
 word_fits d t kind.Client w a small h e = let m = mapped place (client_of d w) a e in let is = client_is d w m.0 m.1 in subst (λ a. (w ≡ text d kind.Client a) × Fits d t kind.Client a) (sym m.2) (sym is.1, is.0)
@@ -116,7 +116,7 @@ AllFit d t (kind.Epoch ∷ ks) (place e ∷ xs) = (u : TreeShape) × (tree_of d 
 AllFit d t (k ∷ ks) (a ∷ xs) = Fits d t k a × AllFit d t ks xs
 AllFit d t _ _ = ⊥
 
-pub no_small : (d : Deployed) (t : TreeShape) → IsDeployment d → (length t.parents ≤ 15) → (length t.seats ≤ 16) → IsSmall d t
+pub no_small : (d : Deployed) (t : TreeShape) → IsDeployment d → (length t.parents ≤ 15) → (length t.seats ≤ MOST_SITES) → IsSmall d t
 no_small d t is ps ss = record { sites = is.few_sites; gears = is.few_gears; plans = is.few_plans; parents = ps; seats = ss }
 
 onto_ok : (a : Said) (r : Result (List Said) Cause) (xs : List Said) → onto a r ≡ Ok xs → (more : List Said) × (r ≡ Ok more) × (xs ≡ a ∷ more)
@@ -326,25 +326,25 @@ pub stands_free : (s : State) (a : Act) → ActStands s a → bar s (form_of a) 
 stands_free s a st = bars_nothing s (form_of a) st.has st.room
 
 -- the room for one more act, and for a settle
-pub act_room : (s : State) (a : Act) → has_room s (form_of a) ≡ true → s.acts < (limits_of s.dialect).acts
+pub act_room : (s : State) (a : Act) → has_room s (form_of a) ≡ true → s.acts < (limits_at s).acts
 unfolding has_room
-act_room s act.Settle h = ltb-true s.acts (limits_of s.dialect).acts (and_parts (ltb s.acts (limits_of s.dialect).acts) (ltb s.settles (limits_of s.dialect).settles) h).0
-act_room s (act.Bulk i g j None) h = ltb-true s.acts (limits_of s.dialect).acts h
-act_room s (act.Bulk i g j (Some n)) h = ltb-true s.acts (limits_of s.dialect).acts h
-act_room s _ h = ltb-true s.acts (limits_of s.dialect).acts h
+act_room s act.Settle h = ltb-true s.acts (limits_at s).acts (and_parts (ltb s.acts (limits_at s).acts) (ltb s.settles (limits_at s).settles) h).0
+act_room s (act.Bulk i g j None) h = ltb-true s.acts (limits_at s).acts h
+act_room s (act.Bulk i g j (Some n)) h = ltb-true s.acts (limits_at s).acts h
+act_room s _ h = ltb-true s.acts (limits_at s).acts h
 
-pub settle_room : (s : State) (a : Act) → s.settles ≤ (limits_of s.dialect).settles → has_room s (form_of a) ≡ true → with_settle s.settles (parsed.Act a) ≤ (limits_of s.dialect).settles
+pub settle_room : (s : State) (a : Act) → s.settles ≤ (limits_at s).settles → has_room s (form_of a) ≡ true → with_settle s.settles (parsed.Act a) ≤ (limits_at s).settles
 unfolding has_room
 settle_room s act.Settle few h =
-    let less = ltb-true s.settles (limits_of s.dialect).settles (and_parts (ltb s.acts (limits_of s.dialect).acts) (ltb s.settles (limits_of s.dialect).settles) h).1 in
+    let less = ltb-true s.settles (limits_at s).settles (and_parts (ltb s.acts (limits_at s).acts) (ltb s.settles (limits_at s).settles) h).1 in
     omega (arith, less)
 settle_room s _ few h = few
 
 -- and the other way
-pub has_both : (s : State) (a : Act) → s.acts < (limits_of s.dialect).acts → with_settle s.settles (parsed.Act a) ≤ (limits_of s.dialect).settles → has_room s (form_of a) ≡ true
+pub has_both : (s : State) (a : Act) → s.acts < (limits_at s).acts → with_settle s.settles (parsed.Act a) ≤ (limits_at s).settles → has_room s (form_of a) ≡ true
 unfolding has_room
 has_both s act.Settle acts settles =
-    and_from (ltb s.acts (limits_of s.dialect).acts) (ltb s.settles (limits_of s.dialect).settles) (lt-ltb s.acts (limits_of s.dialect).acts acts) (lt-ltb s.settles (limits_of s.dialect).settles (omega (arith, settles)))
-has_both s (act.Bulk i g j None) acts settles = lt-ltb s.acts (limits_of s.dialect).acts acts
-has_both s (act.Bulk i g j (Some n)) acts settles = lt-ltb s.acts (limits_of s.dialect).acts acts
-has_both s _ acts settles = lt-ltb s.acts (limits_of s.dialect).acts acts
+    and_from (ltb s.acts (limits_at s).acts) (ltb s.settles (limits_at s).settles) (lt-ltb s.acts (limits_at s).acts acts) (lt-ltb s.settles (limits_at s).settles (omega (arith, settles)))
+has_both s (act.Bulk i g j None) acts settles = lt-ltb s.acts (limits_at s).acts acts
+has_both s (act.Bulk i g j (Some n)) acts settles = lt-ltb s.acts (limits_at s).acts acts
+has_both s _ acts settles = lt-ltb s.acts (limits_at s).acts acts

@@ -31,6 +31,7 @@ use Rattle.sat_script.specs.declared.fault.Cause.TheVariants.{BadAct, OutOfRange
 use Rattle.sat_script.specs.declared.form.Form.{Form}
 use Rattle.sat_script.specs.declared.form.Kind.{Kind}
 use Rattle.sat_script.specs.declared.form.Kind.TheVariants as kind
+use Rattle.sat_script.specs.declared.limits.TheConstants.{MOST_SITES}
 use Rattle.sat_script.proofs.Acts.{Fits, AllFit, IsSmall, no_small, shape_small, stands_free}
 use Rattle.sat_script.proofs.Digits.{decimal_number, below_reads, to_reads, up_to_reads}
 use Rattle.sat_script.proofs.Lists.{all_at}
@@ -53,12 +54,12 @@ pub serializer_reads : (t : TreeShape) (z : ℕ) → z < length t.parents → le
 unfolding serializer_in node_text
 serializer_reads t z less few = below_reads (length t.parents) z less (omega arith)
 
-pub node_reads : (t : TreeShape) (u : NodeId) → IsNode t u → length t.parents ≤ 15 → length t.seats ≤ 16 → node_in t (node_text u) ≡ Some u
+pub node_reads : (t : TreeShape) (u : NodeId) → IsNode t u → length t.parents ≤ 15 → length t.seats ≤ MOST_SITES → node_in t (node_text u) ≡ Some u
 unfolding node_in node_text
 node_reads t (Site i) less few seats = rw (below_reads (length t.seats) i less (omega arith)) refl
 node_reads t (Serializer z) less few seats = rw (below_reads (length t.parents) z less (omega arith)) refl
 
-pub node_shape : (t : TreeShape) (u : NodeId) → IsNode t u → length t.parents ≤ 15 → length t.seats ≤ 16 → is_node (node_text u) ≡ true
+pub node_shape : (t : TreeShape) (u : NodeId) → IsNode t u → length t.parents ≤ 15 → length t.seats ≤ MOST_SITES → is_node (node_text u) ≡ true
 unfolding is_node node_text
 node_shape t (Site i) less few seats = decimal_number i (omega arith)
 node_shape t (Serializer z) less few seats = decimal_number z (omega arith)

@@ -1,16 +1,15 @@
 -- What it means that the form of a line bars nothing.
 use Rattle.std.proofs.Common.{◌≡◌, Bool, true, false, not, cond, Some, None, ◌<◌, ap, refl}
 use Rattle.std.proofs.lemmas.Bool.{lt-ltb}
-use Rattle.sat_script.specs.Dialect.{limits_of}
+use Rattle.sat_label.specs.Formats.{limits_of as format_limits}
 use Rattle.sat_script.specs.Said.{TakesActs, is_counted}
 use Rattle.sat_script.specs.declared.dialect.Dialect.{Dialect}
 use Rattle.sat_script.specs.declared.dialect.Dialect.TheVariants as dialect
 use Rattle.sat_script.specs.declared.form.Form.TheVariants as form
 use Rattle.sat_script.specs.declared.line.Stage.TheVariants as stage
-use Rattle.sat_script.specs.declared.limits.TheConstants.{MOST_ACTS}
 use Rattle.sat_script.specs.Causes.{bar, has_room}
 use Rattle.sat_script.specs.Dialect.{has_form}
-use Rattle.sat_script.specs.State.{State}
+use Rattle.sat_script.specs.State.{State, limits_at}
 use Rattle.sat_script.specs.declared.fault.Cause.TheVariants.{NotLive, TooMany}
 use Rattle.sat_script.specs.declared.form.Form.{Form}
 
@@ -33,7 +32,7 @@ unfolding bar
 bars_nothing s f has room = rw (has, room) refl
 
 -- every form that only the number of acts limits may stand in the body of a script for the machine
-pub takes_acts : (s : State) → s.stage ≡ stage.Body → s.dialect ≡ dialect.Run → s.acts < MOST_ACTS → TakesActs s
+pub takes_acts : (s : State) → s.stage ≡ stage.Body → s.dialect ≡ dialect.Run → s.acts < (format_limits s.header.format).acts → TakesActs s
 unfolding has_room
 takes_acts s body dialect few = record { body = body; free = λ f h. bars_nothing s f (ap (λ (d : Dialect). has_form d f) dialect) (room f h) }
   where
@@ -43,4 +42,4 @@ takes_acts s body dialect few = record { body = body; free = λ f h. bars_nothin
     room form.PlanStamp h = absurd (cc)
     room form.PlanTree h = absurd (cc)
     room form.Settle h = absurd (cc)
-    room _ h = lt-ltb s.acts (limits_of s.dialect).acts (rw dialect few)
+    room _ h = lt-ltb s.acts (limits_at s).acts (rw dialect few)

@@ -12,12 +12,12 @@ format_first (a ∷ []) = refl
 format_first (a ∷ b ∷ []) = refl
 format_first (a ∷ b ∷ c ∷ ws) = refl
 
-pub sites_first : (dialect : _) (ws : List (List ℕ)) → sites_line dialect (take 6 ws) ≡ sites_line dialect ws
+pub sites_first : (s : State) (ws : List (List ℕ)) → sites_line s (take 6 ws) ≡ sites_line s ws
 unfolding sites_line
-sites_first dialect [] = refl
-sites_first dialect (a ∷ []) = refl
-sites_first dialect (a ∷ b ∷ []) = refl
-sites_first dialect (a ∷ b ∷ c ∷ ws) = refl
+sites_first s [] = refl
+sites_first s (a ∷ []) = refl
+sites_first s (a ∷ b ∷ []) = refl
+sites_first s (a ∷ b ∷ c ∷ ws) = refl
 
 pub gears_first : (ws : List (List ℕ)) → gears_line (take 6 ws) ≡ gears_line ws
 unfolding gears_line

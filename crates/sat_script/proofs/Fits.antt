@@ -8,13 +8,15 @@ use Rattle.std.proofs.Math.Seq.{take-append_seam}
 use Rattle.std.proofs.lemmas.Bool.Decides.{nat_tests}
 use Rattle.std.proofs.lemmas.Bool.{and_from, le-leb, lt-ltb}
 use Rattle.sat_label.specs.Text.{is_name}
-use Rattle.sat_label.specs.Words.{first_failing}
+use Rattle.sat_label.specs.Formats.{is_format, limits_of as format_limits}
+use Rattle.sat_label.specs.Words.{are_sites, first_failing}
+use Rattle.sat_label.proofs.Formats.{sites_within}
 use Rattle.sat_label.proofs.First.{first_more, first_none, first_start}
 use Rattle.sat_label.proofs.Numbers.{get-front}
 use Rattle.sat_tree.specs.Shape.{TreeShape}
 use Rattle.sat_tree.specs.Flaw.{IsSmallTree}
 use Rattle.sat_act.specs.Deployed.{Deployed}
-use Rattle.sat_act.specs.Flaw.{flaw, wrong_size, is_within, are_sites, item_fits, client_fits, plan_fits}
+use Rattle.sat_act.specs.Flaw.{flaw, wrong_size, is_within, item_fits, client_fits, plan_fits}
 use Rattle.sat_act.specs.Limits.{IsDeployment, HaveTrees}
 use Rattle.sat_act.proofs.Sound.{sound}
 use Rattle.sat_act.specs.declared.act.Act.{Act}
@@ -27,13 +29,14 @@ use Rattle.sat_script.specs.Causes.{bar, has_client, has_item}
 use Rattle.sat_script.specs.Table.{act_line}
 use Rattle.sat_script.specs.Grammar.{of_act}
 use Rattle.sat_script.specs.declared.dialect.Dialect.{Dialect}
+use Rattle.sat_script.specs.declared.dialect.Dialect.TheVariants as dialect
 use Rattle.sat_script.specs.declared.fault.Cause.{Cause}
-use Rattle.sat_script.specs.Kept.{IsSited, IsOpened, IsWhole, HasHeader, IsFit, Suits}
+use Rattle.sat_script.specs.Kept.{IsFormatted, IsSited, IsOpened, IsWhole, HasHeader, HasActs, IsFit, Suits}
 use Rattle.sat_script.specs.Dialect.{limits_of}
 use Rattle.sat_script.specs.Spelled.{HaveNames}
-use Rattle.sat_script.specs.State.{State, start}
+use Rattle.sat_script.specs.State.{State, start, no_header, limits_at}
 use Rattle.sat_script.specs.Words.{words_of, is_text}
-use Rattle.sat_script.specs.declared.limits.TheConstants.{LONGEST_LINE, MOST_GEARS, MOST_PLANS}
+use Rattle.sat_script.specs.declared.limits.TheConstants.{LONGEST_LINE, LAST_FORMAT, MOST_GEARS, MOST_PLANS, MOST_SITES}
 use Rattle.sat_script.specs.declared.line.Parsed.{Parsed}
 use Rattle.sat_script.specs.declared.line.Parsed.TheVariants as parsed
 use Rattle.sat_script.specs.declared.line.Stage.{Stage}
@@ -72,7 +75,7 @@ unfolding words_line
 words_are stage.Start s words p kept h = format_is s words p h
 words_are stage.Sites s words p kept h = sites_is s words p h
 words_are stage.Gears s words p kept h = gears_is s words p h
-words_are stage.Header s words p kept h = header_is s words p kept.few_sites h
+words_are stage.Header s words p kept h = header_is s words p (sites_within s.header.format s.header.sites kept.few_sites) h
 words_are stage.Body s words p kept h = body_is s words p kept.deployment h
 words_are stage.Ended s words p kept h = absurd (cc)
 
@@ -129,11 +132,11 @@ clients_push sites clients x none home new =
 abbrev plan_at : ℕ → Option Plan → Bool
 plan_at sites o = elim o [ None ↦ true | Some p ↦ elim p [ plan.Stamp ↦ true | plan.Tree t ↦ eqb (length t.seats) sites ] ]
 
-plan_seats : (sites : ℕ) (p : Plan) → sites ≤ 16 → IsPlanFor sites p → plan_at sites (Some p) ≡ true
+plan_seats : (sites : ℕ) (p : Plan) → sites ≤ MOST_SITES → IsPlanFor sites p → plan_at sites (Some p) ≡ true
 plan_seats sites plan.Stamp few h = refl
 plan_seats sites (plan.Tree t) few h = let seats = (tree_small sites t h few).1 in grind (arith, nat_tests)
 
-plans_push : (sites : ℕ) (plans : List Plan) (x : Plan) → sites ≤ 16 → first_failing (plan_fits sites plans) (length plans) ≡ None → IsPlanFor sites x → first_failing (plan_fits sites (plans ++ x ∷ [])) (length (plans ++ x ∷ [])) ≡ None
+plans_push : (sites : ℕ) (plans : List Plan) (x : Plan) → sites ≤ MOST_SITES → first_failing (plan_fits sites plans) (length plans) ≡ None → IsPlanFor sites x → first_failing (plan_fits sites (plans ++ x ∷ [])) (length (plans ++ x ∷ [])) ≡ None
 unfolding plan_fits
 plans_push sites plans x few none h = grown (λ earlier. plan_at sites) plans x none (plan_seats sites x few h)
 
@@ -151,13 +154,14 @@ no_trees e t at = absurd (cc)
 within : (low high n : ℕ) → low ≤ n → n ≤ high → is_within low high n ≡ true
 within low high n a b = and_from (leb low n) (leb n high) (le-leb low n a) (le-leb n high b)
 
-pub flawless : (d : Deployed) → IsOpened d → 0 < length d.plans → length d.items ≤ 4096 → length d.clients ≤ 1024 → length d.plans ≤ 16 → flaw d ≡ None
+pub flawless : (d : Deployed) → IsOpened d → 0 < length d.plans → length d.items ≤ (format_limits d.format).items → length d.clients ≤ 1024 → length d.plans ≤ 16 → flaw d ≡ None
 unfolding flaw wrong_size
 flawless d is some items clients plans =
     rw (
-      within 1 16 d.sites (omega (arith, is.some_site)) is.few_sites,
+      is.format,
+      within 1 (format_limits d.format).sites d.sites (omega (arith, is.some_site)) is.few_sites,
       within 1 8 d.gears (omega (arith, is.some_gear)) is.few_gears,
-      le-leb (length d.items) 4096 items,
+      le-leb (length d.items) (format_limits d.format).items items,
       le-leb (length d.clients) 1024 clients,
       within 1 16 (length d.plans) (omega arith) plans,
       is.items,
@@ -165,7 +169,7 @@ flawless d is some items clients plans =
       is.plans,
     ) refl
 
-pub whole : (d : Deployed) → IsOpened d → 0 < length d.plans → length d.items ≤ 4096 → length d.clients ≤ 1024 → length d.plans ≤ 16 → IsWhole d
+pub whole : (d : Deployed) → IsOpened d → 0 < length d.plans → length d.items ≤ (format_limits d.format).items → length d.clients ≤ 1024 → length d.plans ≤ 16 → IsWhole d
 whole d is some items clients plans =
     let none = flawless d is some items clients plans in
     record { flawless = none; deployment = sound d none is.trees; names = is.names }
@@ -175,6 +179,7 @@ whole d is some items clients plans =
 with_item : (s : State) (item : Item) → IsOpened s.header → ItemStands s item → IsOpened (record s.header { items = s.header.items ++ item ∷ [] })
 unfolding has_item
 with_item s item is st = record {
+  format = is.format;
   some_site = is.some_site;
   few_sites = is.few_sites;
   some_gear = is.some_gear;
@@ -189,6 +194,7 @@ with_item s item is st = record {
 with_client : (s : State) (line : ClientLine) → IsOpened s.header → ClientStands s line → IsOpened (record s.header { clients = s.header.clients ++ line ∷ [] })
 unfolding has_client
 with_client s line is st = record {
+  format = is.format;
   some_site = is.some_site;
   few_sites = is.few_sites;
   some_gear = is.some_gear;
@@ -203,28 +209,31 @@ with_client s line is st = record {
 abbrev plans_with : Deployed → List Plan → Deployed
 plans_with d plans = record d { plans = plans }
 
-tree_of_plan : (sites : ℕ) (p : Plan) (t : TreeShape) → sites ≤ 16 → IsPlanFor sites p → p ≡ plan.Tree t → IsSmallTree t
+tree_of_plan : (sites : ℕ) (p : Plan) (t : TreeShape) → sites ≤ MOST_SITES → IsPlanFor sites p → p ≡ plan.Tree t → IsSmallTree t
 tree_of_plan sites p t few h e = (tree_small sites t (subst (λ (p : Plan). IsPlanFor sites p) e h) few).0
 
 with_plan : (s : State) (p : Plan) → IsOpened s.header → PlanStands s p → IsOpened (plans_with s.header (s.header.plans ++ p ∷ []))
-with_plan s p is st = record {
-  some_site = is.some_site;
-  few_sites = is.few_sites;
-  some_gear = is.some_gear;
-  few_gears = is.few_gears;
-  items = is.items;
-  clients = is.clients;
-  plans = plans_push s.header.sites s.header.plans p is.few_sites is.plans st.fits;
-  trees = trees_push s.header.plans p is.trees (λ t e. tree_of_plan s.header.sites p t is.few_sites st.fits e);
-  names = record { items = is.names.items; clients = is.names.clients };
-}
+with_plan s p is st =
+    let few = sites_within s.header.format s.header.sites is.few_sites in
+    record {
+      format = is.format;
+      some_site = is.some_site;
+      few_sites = is.few_sites;
+      some_gear = is.some_gear;
+      few_gears = is.few_gears;
+      items = is.items;
+      clients = is.clients;
+      plans = plans_push s.header.sites s.header.plans p few is.plans st.fits;
+      trees = trees_push s.header.plans p is.trees (λ t e. tree_of_plan s.header.sites p t few st.fits e);
+      names = record { items = is.names.items; clients = is.names.clients };
+    }
 
 no_names : (d : Deployed) → d.items ≡ [] → d.clients ≡ [] → HaveNames d
 no_names d items clients = record { items = subst (λ (xs : List Item). AllByRecursion (λ (item : Item). is_name item.name ≡ true) xs) (sym items) tt; clients = subst (λ (xs : List ClientLine). AllByRecursion (λ (line : ClientLine). is_name line.name ≡ true) xs) (sym clients) tt }
 
 header_names : (here : Stage) (d : Deployed) → HasHeader here d → HaveNames d
 header_names stage.Start d is = no_names d (ap (λ (d : Deployed). d.items) is) (ap (λ (d : Deployed). d.clients) is)
-header_names stage.Sites d is = no_names d (ap (λ (d : Deployed). d.items) is) (ap (λ (d : Deployed). d.clients) is)
+header_names stage.Sites d is = no_names d is.items is.clients
 header_names stage.Gears d is = no_names d is.items is.clients
 header_names stage.Header d is = is.names
 header_names stage.Body d is = is.names
@@ -237,6 +246,7 @@ fit_names s is = header_names s.stage s.header is.header
 opened : (s : State) (n : ℕ) → IsSited s.header → 1 ≤ n → n ≤ MOST_GEARS → IsOpened (record s.header { gears = n })
 opened s n is some few =
     record {
+      format = is.format;
       some_site = is.some;
       few_sites = is.few;
       some_gear = omega arith;
@@ -248,16 +258,47 @@ opened s n is some few =
       names = no_names (record s.header { gears = n }) is.items is.clients;
     }
 
-header_after : (here : Stage) (s : State) (p : Parsed) → HasHeader here s.header → length s.header.items ≤ 4096 → length s.header.clients ≤ 1024 → length s.header.plans ≤ 16 → Stands here s p → HasHeader (next_stage here p) (with_parsed s.header p)
-header_after stage.Start s parsed.Format kept a b c h = kept
-header_after stage.Sites s (parsed.Sites n) kept a b c h =
-    let most = (limits_few s.dialect).sites in record {
-      some = omega (arith, h.0);
-      few = omega (arith, h.1);
-      items = ap (λ (d : Deployed). d.items) kept;
-      clients = ap (λ (d : Deployed). d.clients) kept;
-      plans = ap (λ (d : Deployed). d.plans) kept;
-    }
+-- a number from 1 to the last format is one
+formats : (f : ℕ) → 1 ≤ f → f ≤ LAST_FORMAT → is_format f ≡ true
+formats f some few = grind (arith, nat_tests)
+
+-- no dialect allows more sites than its format does, and each as many items
+pub sites_allowed : (dialect : Dialect) (format n : ℕ) → n ≤ (limits_of dialect format).sites → n ≤ (format_limits format).sites
+sites_allowed dialect.Run format n few = few
+sites_allowed dialect.Live format n few = go (eqb format 1)
+  where
+    go : (b : Bool) → n ≤ (cond b (format_limits 1) (format_limits 2)).sites
+    go true = omega (arith, few)
+    go false = omega (arith, few)
+
+pub items_allowed : (dialect : Dialect) (format : ℕ) → (limits_of dialect format).items ≡ (format_limits format).items
+items_allowed dialect.Run format = refl
+items_allowed dialect.Live format = refl
+
+-- and no dialect allows more acts
+pub acts_allowed : (dialect : Dialect) (format n : ℕ) → n ≤ (limits_of dialect format).acts → n ≤ (format_limits format).acts
+acts_allowed dialect.Run format n few = few
+acts_allowed dialect.Live format n few = go (eqb format 1)
+  where
+    go : (b : Bool) → n ≤ (cond b (format_limits 1) (format_limits 2)).acts
+    go true = omega (arith, few)
+    go false = omega (arith, few)
+
+header_after : (here : Stage) (s : State) (p : Parsed) → HasHeader here s.header → length s.header.items ≤ (format_limits s.header.format).items → length s.header.clients ≤ 1024 → length s.header.plans ≤ 16 → Stands here s p → HasHeader (next_stage here p) (with_parsed s.header p)
+header_after stage.Start s (parsed.Format f) kept a b c h = record {
+  format = formats f h.0 h.1;
+  items = ap (λ (d : Deployed). d.items) kept;
+  clients = ap (λ (d : Deployed). d.clients) kept;
+  plans = ap (λ (d : Deployed). d.plans) kept;
+}
+header_after stage.Sites s (parsed.Sites n) kept a b c h = record {
+  format = kept.format;
+  some = omega (arith, h.0);
+  few = sites_allowed s.dialect s.header.format n h.1;
+  items = kept.items;
+  clients = kept.clients;
+  plans = kept.plans;
+}
 header_after stage.Gears s (parsed.Gears n) kept a b c h = opened s n kept h.0 h.1
 header_after stage.Header s (parsed.Item item) kept a b c h = with_item s item kept h
 header_after stage.Header s (parsed.Client line) kept a b c h = with_client s line kept h
@@ -267,34 +308,44 @@ header_after stage.Body s (parsed.Act x) kept a b c h = kept
 header_after stage.Body s parsed.End kept a b c h = kept
 header_after _ s _ kept a b c h = absurd h
 
+-- a dialect allows as many settles in each format
+same_settles : (dialect : Dialect) (format other : ℕ) → (limits_of dialect format).settles ≡ (limits_of dialect other).settles
+same_settles dialect.Run format other = refl
+same_settles dialect.Live format other = refl
+
 record Counts (s : State) (p : Parsed) : Type 0 where
-  sites : (with_parsed s.header p).sites ≤ (limits_of s.dialect).sites
-  items : length (with_parsed s.header p).items ≤ (limits_of s.dialect).items
-  clients : length (with_parsed s.header p).clients ≤ (limits_of s.dialect).clients
+  sites : (with_parsed s.header p).sites ≤ (limits_at (after s p)).sites
+  items : length (with_parsed s.header p).items ≤ (limits_at (after s p)).items
+  clients : length (with_parsed s.header p).clients ≤ (limits_at (after s p)).clients
   plans : length (with_parsed s.header p).plans ≤ MOST_PLANS
-  acts : with_act s.acts p ≤ (limits_of s.dialect).acts
-  settles : with_settle s.settles p ≤ (limits_of s.dialect).settles
+  acts : with_act s.acts p ≤ (limits_at (after s p)).acts
+  settles : with_settle s.settles p ≤ (limits_at (after s p)).settles
 
-same_counts : (s : State) → IsFit s → (p : Parsed) → with_parsed s.header p ≡ s.header → with_act s.acts p ≤ (limits_of s.dialect).acts → with_settle s.settles p ≡ s.settles → Counts s p
-same_counts s fit p header acts settles = record {
-  sites = subst (λ (d : Deployed). d.sites ≤ (limits_of s.dialect).sites) (sym header) fit.sites;
-  items = subst (λ (d : Deployed). length d.items ≤ (limits_of s.dialect).items) (sym header) fit.items;
-  clients = subst (λ (d : Deployed). length d.clients ≤ (limits_of s.dialect).clients) (sym header) fit.clients;
-  plans = subst (λ (d : Deployed). length d.plans ≤ MOST_PLANS) (sym header) fit.plans;
-  acts = acts;
-  settles = subst (λ (n : ℕ). n ≤ (limits_of s.dialect).settles) (sym settles) fit.settles;
-}
+-- before the line of the format there is nothing to count
+no_counts : (s : State) (f : ℕ) → IsFit s → s.header ≡ no_header → s.acts ≡ 0 → Counts s (parsed.Format f)
+no_counts s f fit header acts =
+    let sites : s.header.sites ≡ 0 = ap (λ (d : Deployed). d.sites) header in
+    let items : length s.header.items ≡ 0 = ap (λ (d : Deployed). length d.items) header in
+    let clients : length s.header.clients ≡ 0 = ap (λ (d : Deployed). length d.clients) header in
+    record {
+      sites = omega (arith, sites);
+      items = omega (arith, items);
+      clients = omega (arith, clients);
+      plans = fit.plans;
+      acts = omega (arith, acts);
+      settles = omega (arith, fit.settles, same_settles s.dialect s.header.format f);
+    }
 
-counts : (here : Stage) (s : State) (p : Parsed) → IsFit s → Stands here s p → Counts s p
-counts stage.Start s parsed.Format fit h = same_counts s fit parsed.Format refl fit.acts refl
-counts stage.Sites s (parsed.Sites n) fit h = record { sites = h.1; items = fit.items; clients = fit.clients; plans = fit.plans; acts = fit.acts; settles = fit.settles }
-counts stage.Gears s (parsed.Gears n) fit h = record { sites = fit.sites; items = fit.items; clients = fit.clients; plans = fit.plans; acts = fit.acts; settles = fit.settles }
-counts stage.Header s (parsed.Item item) fit h = record { sites = fit.sites; items = omega (arith, push_length s.header.items item, h.room); clients = fit.clients; plans = fit.plans; acts = fit.acts; settles = fit.settles }
-counts stage.Header s (parsed.Client line) fit h = record { sites = fit.sites; items = fit.items; clients = omega (arith, push_length s.header.clients line, h.room); plans = fit.plans; acts = fit.acts; settles = fit.settles }
-counts stage.Header s (parsed.Plan p) fit h =
+counts : (here : Stage) (s : State) (p : Parsed) → IsFit s → HasHeader here s.header → HasActs here s.acts → Stands here s p → Counts s p
+counts stage.Start s (parsed.Format f) fit kept acts h = no_counts s f fit kept acts
+counts stage.Sites s (parsed.Sites n) fit kept acts h = record { sites = h.1; items = fit.items; clients = fit.clients; plans = fit.plans; acts = fit.acts; settles = fit.settles }
+counts stage.Gears s (parsed.Gears n) fit kept acts h = record { sites = fit.sites; items = fit.items; clients = fit.clients; plans = fit.plans; acts = fit.acts; settles = fit.settles }
+counts stage.Header s (parsed.Item item) fit kept acts h = record { sites = fit.sites; items = omega (arith, push_length s.header.items item, h.room); clients = fit.clients; plans = fit.plans; acts = fit.acts; settles = fit.settles }
+counts stage.Header s (parsed.Client line) fit kept acts h = record { sites = fit.sites; items = fit.items; clients = omega (arith, push_length s.header.clients line, h.room); plans = fit.plans; acts = fit.acts; settles = fit.settles }
+counts stage.Header s (parsed.Plan p) fit kept acts h =
     record { sites = fit.sites; items = fit.items; clients = fit.clients; plans = omega (arith, push_length s.header.plans p, h.room); acts = fit.acts; settles = fit.settles }
-counts stage.Header s parsed.Begin fit h = same_counts s fit parsed.Begin refl fit.acts refl
-counts stage.Body s (parsed.Act a) fit h = record {
+counts stage.Header s parsed.Begin fit kept acts h = record { sites = fit.sites; items = fit.items; clients = fit.clients; plans = fit.plans; acts = fit.acts; settles = fit.settles }
+counts stage.Body s (parsed.Act a) fit kept acts h = record {
   sites = fit.sites;
   items = fit.items;
   clients = fit.clients;
@@ -302,19 +353,33 @@ counts stage.Body s (parsed.Act a) fit h = record {
   acts = let less = act_room s a h.room in omega (arith, less);
   settles = settle_room s a fit.settles h.room;
 }
-counts stage.Body s parsed.End fit h = same_counts s fit parsed.End refl fit.acts refl
-counts _ s _ fit h = absurd h
+counts stage.Body s parsed.End fit kept acts h = record { sites = fit.sites; items = fit.items; clients = fit.clients; plans = fit.plans; acts = fit.acts; settles = fit.settles }
+counts _ s _ fit kept acts h = absurd h
+
+-- once the format is known, so is how many acts may come
+begun_after : (here : Stage) (s : State) (p : Parsed) → Stands here s p → HasActs (next_stage here p) (with_act s.acts p)
+begun_after stage.Start s (parsed.Format f) h = tt
+begun_after stage.Sites s (parsed.Sites n) h = tt
+begun_after stage.Gears s (parsed.Gears n) h = tt
+begun_after stage.Header s (parsed.Item item) h = tt
+begun_after stage.Header s (parsed.Client line) h = tt
+begun_after stage.Header s (parsed.Plan p) h = tt
+begun_after stage.Header s parsed.Begin h = tt
+begun_after stage.Body s (parsed.Act a) h = tt
+begun_after stage.Body s parsed.End h = tt
+begun_after _ s _ h = absurd h
 
 pub stands_after : (s : State) (p : Parsed) → IsFit s → Stands s.stage s p → IsFit (after s p)
 stands_after s p fit h =
-    let n = counts s.stage s p fit h in
-    let most = limits_few s.dialect in
+    let n = counts s.stage s p fit fit.header fit.begun h in
+    let most = limits_few s.dialect s.header.format in
     record {
-      header = header_after s.stage s p fit.header (omega (arith, fit.items, most.items)) (omega (arith, fit.clients, most.clients)) fit.plans h;
+      header = header_after s.stage s p fit.header (omega (arith, fit.items, items_allowed s.dialect s.header.format)) (omega (arith, fit.clients, most.clients)) fit.plans h;
       sites = n.sites;
       items = n.items;
       clients = n.clients;
       plans = n.plans;
+      begun = begun_after s.stage s p h;
       acts = n.acts;
       settles = n.settles;
     }
@@ -323,7 +388,7 @@ pub fit_after : (s : State) (line : List ℕ) (p : Parsed) → IsFit s → line_
 fit_after s line p fit h = stands_after s p fit (line_is s line p fit h).stands
 
 suits_at : (here : Stage) (s : State) (p : Parsed) → s.stage ≡ here → Stands here s p → Suits s p
-suits_at stage.Start s parsed.Format e h = e
+suits_at stage.Start s (parsed.Format f) e h = e
 suits_at stage.Sites s (parsed.Sites n) e h = e
 suits_at stage.Gears s (parsed.Gears n) e h = e
 suits_at stage.Header s (parsed.Item item) e h = (e, h.new)
@@ -339,4 +404,4 @@ pub suits_after : (s : State) (line : List ℕ) (p : Parsed) → IsFit s → lin
 suits_after s line p fit h = suits_at s.stage s p refl (line_is s line p fit h).stands
 
 pub fit_start : (dialect : Dialect) → IsFit (start dialect)
-fit_start dialect = record { header = refl; sites = omega arith; items = omega arith; clients = omega arith; plans = omega arith; acts = omega arith; settles = omega arith }
+fit_start dialect = record { header = refl; sites = omega arith; items = omega arith; clients = omega arith; plans = omega arith; begun = refl; acts = omega arith; settles = omega arith }

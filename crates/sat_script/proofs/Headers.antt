@@ -12,22 +12,20 @@ use Rattle.std.proofs.lemmas.Simd.{map-map}
 use Rattle.std.proofs.lemmas.List.Splits.{join_with_byte-slice_split, length-slice_split}
 use Rattle.std.proofs.lemmas.List.Quantifiers.{position-Some}
 use Rattle.sat_label.specs.Text.{is_name}
-use Rattle.sat_label.specs.Words.{bit, below}
+use Rattle.sat_label.specs.Words.{are_sites, bit, below}
 use Rattle.sat_label.specs.declared.site_set.SiteSet.{SiteSet}
 use Rattle.sat_tree.specs.Shape.{TreeShape}
 use Rattle.sat_act.specs.declared.deployment.Plan.TheVariants as plan
-use Rattle.sat_act.specs.Flaw.{are_sites}
-use Rattle.sat_script.specs.Dialect.{limits_of}
 use Rattle.sat_script.specs.Causes.{bar, has_room, has_client, has_item}
 use Rattle.sat_script.specs.Grammar.{format_line, counted, of_count, sites_line, gears_line, item_line, client_line, begin_line, are_parents, parent_number, tree_on, tree_in, is_tree, tree_line, is_slash, parted_line, stamp_line, plan_line, named_line, header_form, header_line}
 use Rattle.sat_script.specs.Spelled.{sites_text}
 use Rattle.sat_tree.specs.PlanLine.{parent_text}
-use Rattle.sat_script.specs.State.{State}
+use Rattle.sat_script.specs.State.{State, limits_at}
 use Rattle.sat_script.specs.Words.{is_number, value_of, is_comma, parts_of, is_rising, are_rising, is_list, set_of, are_below, sites_among, number_below, number_to}
 use Rattle.sat_script.specs.declared.fault.Cause.{Cause}
-use Rattle.sat_script.specs.declared.fault.Cause.TheVariants.{OutOfRange, BadTree}
+use Rattle.sat_script.specs.declared.fault.Cause.TheVariants.{BadHeader, OutOfRange, BadTree}
 use Rattle.sat_script.specs.declared.form.Form.TheVariants as form
-use Rattle.sat_script.specs.declared.limits.TheConstants.{MOST_GEARS, MOST_PLANS}
+use Rattle.sat_script.specs.declared.limits.TheConstants.{LAST_FORMAT, MOST_GEARS, MOST_PLANS, MOST_SITES}
 use Rattle.sat_script.specs.declared.line.Parsed.{Parsed}
 use Rattle.sat_script.specs.declared.line.Parsed.TheVariants as parsed
 use Rattle.sat_script.proofs.Bars.{free}
@@ -64,10 +62,10 @@ wide limit n xs few h = all_weaker (λ x. ltb x limit) (λ x. ltb x n) (λ x low
 among_some : (x : ℕ) (xs : List ℕ) → bit (set_of (x ∷ xs)) x ≡ true
 among_some x xs = bit_set_of (x ∷ xs) x ∙ (let same : eqb x x ≡ true = grind (arith, nat_tests) in rw same refl)
 
-pub bit_none : (n k : ℕ) → n ≡ 0 → bit n k ≡ true → ⊥
+bit_none : (n k : ℕ) → n ≡ 0 → bit n k ≡ true → ⊥
 bit_none n k e h = let never : true ≡ false = sym h ∙ ap (λ n. bit n k) e ∙ bit_zero k in cc
 
-pub not_zero : (n : ℕ) → (n ≡ 0 → ⊥) → not (eqb n 0) ≡ true
+not_zero : (n : ℕ) → (n ≡ 0 → ⊥) → not (eqb n 0) ≡ true
 not_zero n h = ap not (false_from_ne_true (eqb n 0) (λ t. h (eqb-true n 0 t)))
 
 some_member : (xs : List ℕ) → 0 < length xs → not (eqb (set_of xs) 0) ≡ true
@@ -82,7 +80,7 @@ rises parts h = go (list_all is_number parts) refl h
     go true e h = (e, h)
     go false e h = absurd (cc)
 
-pub list_is : (limit : ℕ) (list : List ℕ) (set : SiteSet) → limit ≤ 16 → is_list list ≡ true → sites_among limit (parts_of list) ≡ Some set → (list ≡ sites_text set) × (are_sites limit set.bits ≡ true)
+pub list_is : (limit : ℕ) (list : List ℕ) (set : SiteSet) → limit ≤ MOST_SITES → is_list list ≡ true → sites_among limit (parts_of list) ≡ Some set → (list ≡ sites_text set) × (are_sites limit set.bits ≡ true)
 unfolding sites_among sites_text
 list_is limit list set few rising h =
     let parts : List (List ℕ) = parts_of list in
@@ -112,10 +110,11 @@ three_words a b c x y z h k m = rw (h, k, m) refl
 pub format_is : (s : State) (words : List (List ℕ)) (p : Parsed) → format_line words ≡ Ok p → IsGood stage.Start s words p
 unfolding format_line
 format_is s (word ∷ number ∷ []) p h =
-    let t = passed (bytes_eq word (codes "saturn") && bytes_eq number (codes "1")) _ _ _ h in
-    let b = and_parts (bytes_eq word (codes "saturn")) (bytes_eq number (codes "1")) t.0 in
-    subst (λ (p : Parsed). IsGood stage.Start s (word ∷ number ∷ []) p) (same_ok _ p t.1)
-    (record { spelled = two_words word number _ _ (word_is word (codes "saturn") b.0) (word_is number (codes "1") b.1); stands = tt })
+    let t = passed (bytes_eq word (codes "saturn")) _ _ _ h in
+    let f = found (number_to LAST_FORMAT number) BadHeader _ p t.1 in
+    let is = to_is LAST_FORMAT number f.0 (omega arith) f.1 in
+    subst (λ (p : Parsed). IsGood stage.Start s (word ∷ number ∷ []) p) (same_ok _ p f.2)
+    (record { spelled = two_words word number _ _ (word_is word (codes "saturn") t.0) is.2; stands = (is.0, is.1) })
 format_is s _ p h = absurd (cc)
 
 counted_is : (keyword : List ℕ) (limit : ℕ) (word number : List ℕ) (n : ℕ) → limit < 2 ^ 16 → counted keyword limit word number ≡ Ok n → (word ≡ keyword) × (number ≡ decimal n) × (1 ≤ n) × (n ≤ limit)
@@ -132,12 +131,12 @@ of_count_is : (says : ℕ → Parsed) (r : Result ℕ Cause) (p : Parsed) → of
 of_count_is says (Ok n) p h = (n, refl, same_ok (says n) p h)
 of_count_is says (Err cause) p h = absurd (cc)
 
-pub sites_is : (s : State) (words : List (List ℕ)) (p : Parsed) → sites_line s.dialect words ≡ Ok p → IsGood stage.Sites s words p
+pub sites_is : (s : State) (words : List (List ℕ)) (p : Parsed) → sites_line s words ≡ Ok p → IsGood stage.Sites s words p
 unfolding sites_line
 sites_is s (word ∷ number ∷ []) p h =
-    let few = (limits_few s.dialect).sites in
-    let c = of_count_is parsed.Sites (counted (codes "sites") (limits_of s.dialect).sites word number) p h in
-    let is = counted_is (codes "sites") (limits_of s.dialect).sites word number c.0 (omega arith) c.1 in
+    let few = (limits_few s.dialect s.header.format).sites in
+    let c = of_count_is parsed.Sites (counted (codes "sites") (limits_at s).sites word number) p h in
+    let is = counted_is (codes "sites") (limits_at s).sites word number c.0 (omega arith) c.1 in
     subst (λ (p : Parsed). IsGood stage.Sites s (word ∷ number ∷ []) p) c.2 (record { spelled = two_words word number _ _ is.0 is.1; stands = (is.2, is.3) })
 sites_is s _ p h = absurd (cc)
 
@@ -151,7 +150,7 @@ gears_is s _ p h = absurd (cc)
 
 -- ---- items and clients
 
-item_says : (s : State) (word name sites : List ℕ) (p : Parsed) → s.header.sites ≤ 16 → word ≡ codes "item" → item_line s name sites ≡ Ok p → IsGood stage.Header s (word ∷ name ∷ sites ∷ []) p
+item_says : (s : State) (word name sites : List ℕ) (p : Parsed) → s.header.sites ≤ MOST_SITES → word ≡ codes "item" → item_line s name sites ≡ Ok p → IsGood stage.Header s (word ∷ name ∷ sites ∷ []) p
 unfolding item_line has_room
 item_says s word name sites p few is h =
     let t = passed (eqb (length s.header.clients) 0 && eqb (length s.header.plans) 0) _ _ _ h in
@@ -166,10 +165,10 @@ item_says s word name sites p few is h =
     subst (λ (p : Parsed). IsGood stage.Header s (word ∷ name ∷ sites ∷ []) p) (same_ok _ p set.2)
     (record {
       spelled = three_words word name sites _ _ _ is refl list.0;
-      stands = record { name = shapes.0; sites = list.1; clients = empty s.header.clients places.0; plans = empty s.header.plans places.1; room = ltb-true (length s.header.items) (limits_of s.dialect).items room; new = new.0 };
+      stands = record { name = shapes.0; sites = list.1; clients = empty s.header.clients places.0; plans = empty s.header.plans places.1; room = ltb-true (length s.header.items) (limits_at s).items room; new = new.0 };
     })
 
-client_says : (s : State) (word name site : List ℕ) (p : Parsed) → s.header.sites ≤ 16 → word ≡ codes "client" → client_line s name site ≡ Ok p → IsGood stage.Header s (word ∷ name ∷ site ∷ []) p
+client_says : (s : State) (word name site : List ℕ) (p : Parsed) → s.header.sites ≤ MOST_SITES → word ≡ codes "client" → client_line s name site ≡ Ok p → IsGood stage.Header s (word ∷ name ∷ site ∷ []) p
 unfolding client_line has_room
 client_says s word name site p few is h =
     let t = passed (eqb (length s.header.plans) 0) _ _ _ h in
@@ -183,13 +182,13 @@ client_says s word name site p few is h =
     subst (λ (p : Parsed). IsGood stage.Header s (word ∷ name ∷ site ∷ []) p) (same_ok _ p home.2)
     (record {
       spelled = three_words word name site _ _ _ is refl at.1;
-      stands = record { name = shapes.0; home = at.0; plans = empty s.header.plans t.0; room = ltb-true (length s.header.clients) (limits_of s.dialect).clients room; new = new.0 };
+      stands = record { name = shapes.0; home = at.0; plans = empty s.header.plans t.0; room = ltb-true (length s.header.clients) (limits_at s).clients room; new = new.0 };
     })
 
 -- ---- plans
 
 -- the words of a tree are those of its parents and seats
-rooted : (sites : ℕ) (words seats : List (List ℕ)) → sites ≤ 16 → list_all is_number words ≡ true → list_all is_number seats ≡ true → is_tree sites (tree_on words seats) ≡ true
+rooted : (sites : ℕ) (words seats : List (List ℕ)) → sites ≤ MOST_SITES → list_all is_number words ≡ true → list_all is_number seats ≡ true → is_tree sites (tree_on words seats) ≡ true
     → (words ≡ map parent_text (map parent_number words)) × (seats ≡ map decimal (map value_of seats))
 rooted sites words seats few numbers places h =
     let t : TreeShape = tree_on words seats in
@@ -199,7 +198,7 @@ rooted sites words seats few numbers places h =
       digits_of (length t.parents) seats (omega arith) places (seats_below t seats is.tree refl),
     )
 
-tree_says : (s : State) (parents seats : List (List ℕ)) (p : Parsed) → s.header.sites ≤ 16 → tree_line s parents seats ≡ Ok p
+tree_says : (s : State) (parents seats : List (List ℕ)) (p : Parsed) → s.header.sites ≤ MOST_SITES → tree_line s parents seats ≡ Ok p
     → (t : TreeShape) × (p ≡ parsed.Plan (plan.Tree t)) × (is_tree s.header.sites t ≡ true) × (length s.header.plans < MOST_PLANS) × (parents ≡ map parent_text t.parents) × (seats ≡ map decimal t.seats)
 unfolding tree_line are_parents tree_in has_room
 tree_says s [] seats p few h =
@@ -231,7 +230,7 @@ parted_words words k h =
     let next = drop_more words k [] at.0 in
     sym (take-append-drop k words) ∙ ap (λ (ws : List (List ℕ)). take k words ++ ws) (next ∙ ap (λ (w : List ℕ). w ∷ drop (k + 1) words) (word_is (get_or words k []) (codes "/") at.1))
 
-parted_says : (s : State) (words : List (List ℕ)) (o : Option ℕ) (p : Parsed) → s.header.sites ≤ 16 → position is_slash words ≡ o → parted_line s words o ≡ Ok p → IsGood stage.Header s (codes "plan" ∷ codes "tree" ∷ words) p
+parted_says : (s : State) (words : List (List ℕ)) (o : Option ℕ) (p : Parsed) → s.header.sites ≤ MOST_SITES → position is_slash words ≡ o → parted_line s words o ≡ Ok p → IsGood stage.Header s (codes "plan" ∷ codes "tree" ∷ words) p
 unfolding parted_line
 parted_says s words None p few at h = absurd (cc)
 parted_says s words (Some k) p few at h =
@@ -258,7 +257,7 @@ by_word {X} word text r other p yields later h = go (bytes_eq word text) refl h
     go true e h = yields (word_is word text e) h
     go false e h = later h
 
-plan_says : (s : State) (word : List ℕ) (words : List (List ℕ)) (p : Parsed) → s.header.sites ≤ 16 → word ≡ codes "plan" → plan_line s words ≡ Ok p → IsGood stage.Header s (word ∷ words) p
+plan_says : (s : State) (word : List ℕ) (words : List (List ℕ)) (p : Parsed) → s.header.sites ≤ MOST_SITES → word ≡ codes "plan" → plan_line s words ≡ Ok p → IsGood stage.Header s (word ∷ words) p
 unfolding plan_line
 plan_says s word [] p few is h = absurd (cc)
 plan_says s word (kind ∷ words) p few is h =
@@ -275,7 +274,7 @@ begin_says s word p is h =
     let t = skipped (eqb (length s.header.plans) 0) _ _ _ h in
     subst (λ (p : Parsed). IsGood stage.Header s (word ∷ []) p) (same_ok _ p t.1) (record { spelled = ap (λ (w : List ℕ). w ∷ []) is; stands = grind (arith, nat_tests) })
 
-form_says : (s : State) (word : List ℕ) (words : List (List ℕ)) (p : Parsed) → s.header.sites ≤ 16 → header_form s word words ≡ Ok p → IsGood stage.Header s (word ∷ words) p
+form_says : (s : State) (word : List ℕ) (words : List (List ℕ)) (p : Parsed) → s.header.sites ≤ MOST_SITES → header_form s word words ≡ Ok p → IsGood stage.Header s (word ∷ words) p
 unfolding header_form named_line
 form_says s word [] p few h = by_word word (codes "begin") (begin_line s.header) _ p (begin_says s word p) (λ e. absurd (cc)) h
 form_says s word (name ∷ place ∷ []) p few h =
@@ -283,7 +282,7 @@ form_says s word (name ∷ place ∷ []) p few h =
     (by_word word (codes "client") (client_line s name place) _ p (client_says s word name place p few) (λ e. absurd (cc))) h
 form_says s word _ p few h = absurd (cc)
 
-pub header_is : (s : State) (words : List (List ℕ)) (p : Parsed) → s.header.sites ≤ 16 → header_line s words ≡ Ok p → IsGood stage.Header s words p
+pub header_is : (s : State) (words : List (List ℕ)) (p : Parsed) → s.header.sites ≤ MOST_SITES → header_line s words ≡ Ok p → IsGood stage.Header s words p
 unfolding header_line
 header_is s [] p few h = absurd (cc)
 header_is s (word ∷ words) p few h = by_word word (codes "plan") (plan_line s words) _ p (plan_says s word words p few) (form_says s word words p few) h

@@ -3,9 +3,10 @@ use Rattle.std.proofs.Common.{◌≡◌, ℕ, ◌<◌, ◌≤◌, true, false, L
 use Rattle.std.specs.Prelude.{codes}
 use Rattle.std.specs.Fmt.{decimal}
 use Rattle.sat_label.specs.Text.{is_name}
+use Rattle.sat_label.specs.Words.{are_sites}
+use Rattle.sat_label.proofs.Formats.{sites_within, items_within, acts_within}
 use Rattle.sat_script.specs.Dialect.{limits_of, has_form}
 use Rattle.sat_act.specs.Deployed.{Deployed}
-use Rattle.sat_act.specs.Flaw.{are_sites}
 use Rattle.sat_act.specs.Ranges.{IsActOf}
 use Rattle.sat_act.specs.declared.act.Act.{Act}
 use Rattle.sat_act.specs.declared.deployment.Item.{Item}
@@ -16,11 +17,11 @@ use Rattle.sat_script.specs.Causes.{has_client, has_item, has_room}
 use Rattle.sat_script.specs.Grammar.{is_tree}
 use Rattle.sat_script.specs.Spelled.{item_words, client_words, plan_words}
 use Rattle.sat_script.specs.Table.{form_of, act_words}
-use Rattle.sat_script.specs.State.{State}
+use Rattle.sat_script.specs.State.{State, limits_at}
 use Rattle.sat_script.specs.declared.dialect.Dialect.{Dialect}
 use Rattle.sat_script.specs.declared.dialect.Dialect.TheVariants as dialect
 use Rattle.sat_script.specs.declared.dialect.Limits.{Limits}
-use Rattle.sat_script.specs.declared.limits.TheConstants.{MOST_ACTS, MOST_GEARS, MOST_ITEMS, MOST_PLANS, MOST_SETTLES}
+use Rattle.sat_script.specs.declared.limits.TheConstants.{LAST_FORMAT, MOST_ACTS, MOST_GEARS, MOST_ITEMS, MOST_PLANS, MOST_SETTLES, MOST_SITES}
 use Rattle.sat_script.specs.declared.line.Parsed.{Parsed}
 use Rattle.sat_script.specs.declared.line.Parsed.TheVariants as parsed
 use Rattle.sat_script.specs.declared.line.Stage.{Stage}
@@ -28,23 +29,23 @@ use Rattle.sat_script.specs.declared.line.Stage.TheVariants as stage
 
 -- ---- limits
 
--- no dialect has higher limits than these
+-- no dialect has higher limits than these in any format
 pub record AreFew (l : Limits) : Type 0 where
-  pub sites : l.sites ≤ 16
+  pub sites : l.sites ≤ MOST_SITES
   pub items : l.items ≤ MOST_ITEMS
   pub clients : l.clients ≤ 1024
   pub acts : l.acts ≤ MOST_ACTS
   pub settles : l.settles ≤ MOST_SETTLES
 
-pub limits_few : (dialect : Dialect) → AreFew (limits_of dialect)
-limits_few dialect.Run = record { sites = omega arith; items = omega arith; clients = omega arith; acts = omega arith; settles = omega arith }
-limits_few dialect.Live = record { sites = omega arith; items = omega arith; clients = omega arith; acts = omega arith; settles = omega arith }
+pub limits_few : (dialect : Dialect) (format : ℕ) → AreFew (limits_of dialect format)
+limits_few dialect.Run format = record { sites = sites_within format _ (omega arith); items = items_within format _ (omega arith); clients = omega arith; acts = acts_within format _ (omega arith); settles = omega arith }
+limits_few dialect.Live format = record { sites = omega arith; items = items_within format _ (omega arith); clients = omega arith; acts = omega arith; settles = omega arith }
 
 -- ---- lines
 
 -- the words of what a line says
 abbrev pub parsed_words : Deployed → Parsed → List (List ℕ)
-parsed_words d parsed.Format = codes "saturn" ∷ codes "1" ∷ []
+parsed_words d (parsed.Format f) = codes "saturn" ∷ decimal f ∷ []
 parsed_words d (parsed.Sites n) = codes "sites" ∷ decimal n ∷ []
 parsed_words d (parsed.Gears n) = codes "gears" ∷ decimal n ∷ []
 parsed_words d (parsed.Item item) = item_words item
@@ -59,14 +60,14 @@ pub record ItemStands (s : State) (item : Item) : Type 0 where
   pub sites : are_sites s.header.sites item.replicas.bits ≡ true
   pub clients : s.header.clients ≡ []
   pub plans : s.header.plans ≡ []
-  pub room : length s.header.items < (limits_of s.dialect).items
+  pub room : length s.header.items < (limits_at s).items
   pub new : has_item s.header item.name ≡ false
 
 pub record ClientStands (s : State) (line : ClientLine) : Type 0 where
   pub name : is_name line.name ≡ true
   pub home : line.site < s.header.sites
   pub plans : s.header.plans ≡ []
-  pub room : length s.header.clients < (limits_of s.dialect).clients
+  pub room : length s.header.clients < (limits_at s).clients
   pub new : has_client s.header line.name ≡ false
 
 -- stamp order, or a tree of so many sites
@@ -85,8 +86,8 @@ pub record ActStands (s : State) (a : Act) : Type 0 where
 
 -- where it stands, and after what
 abbrev pub Stands : Stage → State → Parsed → Type 0
-Stands stage.Start s parsed.Format = Unit {0}
-Stands stage.Sites s (parsed.Sites n) = (1 ≤ n) × (n ≤ (limits_of s.dialect).sites)
+Stands stage.Start s (parsed.Format f) = (1 ≤ f) × (f ≤ LAST_FORMAT)
+Stands stage.Sites s (parsed.Sites n) = (1 ≤ n) × (n ≤ (limits_at s).sites)
 Stands stage.Gears s (parsed.Gears n) = (1 ≤ n) × (n ≤ MOST_GEARS)
 Stands stage.Header s (parsed.Item item) = ItemStands s item
 Stands stage.Header s (parsed.Client line) = ClientStands s line

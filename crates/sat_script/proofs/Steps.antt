@@ -6,6 +6,7 @@ use Rattle.std.proofs.lemmas.List.{drop-map, length-drop, map-append, map_more, 
 use Rattle.std.proofs.lemmas.List.Folds.{list_all-map, list_all_at}
 use Rattle.std.proofs.lemmas.List.Sums.{AllPass-from_list_all}
 use Rattle.sat_script.specs.Words.{is_number, value_of, number_below, are_below}
+use Rattle.sat_script.specs.declared.limits.TheConstants.{MOST_SITES}
 use Rattle.sat_script.proofs.Cuts.{texts}
 use Rattle.sat_script.proofs.Choices.{tested}
 use Rattle.sat_script.proofs.Lists.{all_next, all_weaker}
@@ -45,8 +46,8 @@ below_all limit words i numbers all below had =
     let whole = take_all i words all in
     (rw whole at below, rw whole at had)
 
--- numbers below a limit of at most 16 are below 64
-pub few_sites : (limit : ℕ) (words : List (List ℕ)) → limit ≤ 16 → are_below limit words ≡ true → list_all (λ site. ltb site 64) (map value_of words) ≡ true
+-- numbers below a limit of sites are below 64
+pub few_sites : (limit : ℕ) (words : List (List ℕ)) → limit ≤ MOST_SITES → are_below limit words ≡ true → list_all (λ site. ltb site 64) (map value_of words) ≡ true
 few_sites limit words few h =
     list_all-map (λ site. ltb site 64) value_of words ∙ all_weaker (λ w. ltb (value_of w) limit) (λ w. ltb (value_of w) 64) (λ w low. let less = ltb-true (value_of w) limit low in lt-ltb (value_of w) 64 (omega arith)) words h
 

@@ -15,6 +15,7 @@ use Rattle.sat_tree.specs.declared.fault.TreeFault.TheVariants.{Memory}
 use Rattle.sat_tree.proofs.Small.{small_tree, no_flaw as flawless}
 use Rattle.sat_script.specs.Grammar.{is_tree, tree_in, tree_on, parent_number}
 use Rattle.sat_script.specs.Words.{value_of, are_below}
+use Rattle.sat_script.specs.declared.limits.TheConstants.{MOST_SITES}
 
 pub seats_differ : (sites : ℕ) (t : TreeShape) → eqb (length t.seats) sites ≡ false → is_tree sites t ≡ false
 unfolding is_tree
@@ -64,7 +65,7 @@ tree_is sites t h =
     no_value (Some x) e = absurd (cc)
 
 -- it is small, with a seat for each site
-pub tree_small : (sites : ℕ) (t : TreeShape) → is_tree sites t ≡ true → sites ≤ 16 → IsSmallTree t × (length t.seats ≡ sites)
+pub tree_small : (sites : ℕ) (t : TreeShape) → is_tree sites t ≡ true → sites ≤ MOST_SITES → IsSmallTree t × (length t.seats ≡ sites)
 tree_small sites t h few =
     let is = tree_is sites t h in
     (small_tree t is.0 (omega (arith, is.1)), is.1)
@@ -73,7 +74,7 @@ pub tree_fits : (sites : ℕ) (t : TreeShape) → IsSmallTree t → length t.sea
 tree_fits sites t is seats = no_flaw sites t (flawless t is) (eq-eqb (length t.seats) sites seats)
 
 -- what isn't small is none
-no_tree : (sites : ℕ) (t : TreeShape) → sites ≤ 16 → (IsSmallTree t → ⊥) → is_tree sites t ≡ false
+no_tree : (sites : ℕ) (t : TreeShape) → sites ≤ MOST_SITES → (IsSmallTree t → ⊥) → is_tree sites t ≡ false
 no_tree sites t few never = false_from_ne_true (is_tree sites t) (λ h. never (tree_small sites t h few).0)
 
 parents_length : (parents seats : List (List ℕ)) → length (tree_in parents seats).parents ≡ length parents
@@ -81,10 +82,10 @@ unfolding tree_in
 parents_length [] seats = refl
 parents_length (root ∷ words) seats = ap suc (length-map words parent_number)
 
-pub long_line : (sites : ℕ) (parents seats : List (List ℕ)) → sites ≤ 16 → 15 < length parents → is_tree sites (tree_in parents seats) ≡ false
+pub long_line : (sites : ℕ) (parents seats : List (List ℕ)) → sites ≤ MOST_SITES → 15 < length parents → is_tree sites (tree_in parents seats) ≡ false
 long_line sites parents seats few many = no_tree sites (tree_in parents seats) few (λ is. omega (arith, is.few_serializers, parents_length parents seats))
 
-pub empty_line : (sites : ℕ) (seats : List (List ℕ)) → sites ≤ 16 → is_tree sites (tree_in [] seats) ≡ false
+pub empty_line : (sites : ℕ) (seats : List (List ℕ)) → sites ≤ MOST_SITES → is_tree sites (tree_in [] seats) ≡ false
 empty_line sites seats few = no_tree sites (tree_in [] seats) few (λ is. omega (arith, is.some_serializer, parents_length [] seats))
 
 all_from : {X : Type 0} (p : X → Bool) (xs : List X) → ((k : ℕ) (x : X) → slice_get xs k ≡ Some x → p x ≡ true) → list_all p xs ≡ true
@@ -108,16 +109,16 @@ parents_below t words is parents = all_from (λ word. ltb (value_of word) (lengt
     lt-ltb (value_of w) (length t.parents) (omega arith))
 
 -- numbers that aren't below the number of serializers
-wrong : (sites : ℕ) (words seats numbers : List (List ℕ)) → sites ≤ 16 → (IsTree (tree_on words seats) → are_below (length (tree_on words seats).parents) numbers ≡ true) → are_below (length words + 1) numbers ≡ false
+wrong : (sites : ℕ) (words seats numbers : List (List ℕ)) → sites ≤ MOST_SITES → (IsTree (tree_on words seats) → are_below (length (tree_on words seats).parents) numbers ≡ true) → are_below (length words + 1) numbers ≡ false
     → is_tree sites (tree_on words seats) ≡ false
 wrong sites words seats numbers few below none = no_tree sites (tree_on words seats) few (λ is.
     let count : length (tree_on words seats).parents ≡ length words + 1 = omega (arith, length-map words parent_number) in
     let never : true ≡ false = sym (below is.tree) ∙ ap (λ n. are_below n numbers) count ∙ none in cc)
 
-pub wrong_parents : (sites : ℕ) (words seats : List (List ℕ)) → sites ≤ 16 → are_below (length words + 1) words ≡ false → is_tree sites (tree_on words seats) ≡ false
+pub wrong_parents : (sites : ℕ) (words seats : List (List ℕ)) → sites ≤ MOST_SITES → are_below (length words + 1) words ≡ false → is_tree sites (tree_on words seats) ≡ false
 wrong_parents sites words seats few none = wrong sites words seats words few (λ is. parents_below (tree_on words seats) words is refl) none
 
-pub wrong_seats : (sites : ℕ) (words seats : List (List ℕ)) → sites ≤ 16 → are_below (length words + 1) seats ≡ false → is_tree sites (tree_on words seats) ≡ false
+pub wrong_seats : (sites : ℕ) (words seats : List (List ℕ)) → sites ≤ MOST_SITES → are_below (length words + 1) seats ≡ false → is_tree sites (tree_on words seats) ≡ false
 wrong_seats sites words seats few none = wrong sites words seats seats few (λ is. seats_below (tree_on words seats) seats is refl) none
 
 pub tree_named : (words seats : List (List ℕ)) (parents : List (Option ℕ)) (numbers sites : List ℕ) → numbers ≡ map value_of words → parents ≡ None ∷ map Some numbers → sites ≡ map value_of seats

@@ -5,8 +5,8 @@ use Rattle.std.specs.declared.result.Result.{Result}
 use Rattle.std.specs.List.{list_any}
 use Rattle.std.specs.Str.{bytes_eq}
 use Rattle.sat_act.specs.Deployed.{Deployed}
-use Rattle.sat_script.specs.Dialect.{limits_of, has_form}
-use Rattle.sat_script.specs.State.{State}
+use Rattle.sat_script.specs.Dialect.{has_form}
+use Rattle.sat_script.specs.State.{State, limits_at}
 use Rattle.sat_script.specs.declared.fault.Cause.{Cause}
 use Rattle.sat_script.specs.declared.fault.Cause.TheVariants.{NotLive, TooMany}
 use Rattle.sat_script.specs.declared.form.Form.{Form}
@@ -35,12 +35,12 @@ given cause (Some x) next = next x
 
 -- whether one more line of the form is within the limits
 unfoldable pub has_room : State → Form → Bool
-has_room s form.Item = nat_lt (length s.header.items) (limits_of s.dialect).items
-has_room s form.Client = nat_lt (length s.header.clients) (limits_of s.dialect).clients
+has_room s form.Item = nat_lt (length s.header.items) (limits_at s).items
+has_room s form.Client = nat_lt (length s.header.clients) (limits_at s).clients
 has_room s form.PlanStamp = nat_lt (length s.header.plans) MOST_PLANS
 has_room s form.PlanTree = nat_lt (length s.header.plans) MOST_PLANS
-has_room s form.Settle = nat_lt s.acts (limits_of s.dialect).acts && nat_lt s.settles (limits_of s.dialect).settles
-has_room s _ = nat_lt s.acts (limits_of s.dialect).acts
+has_room s form.Settle = nat_lt s.acts (limits_at s).acts && nat_lt s.settles (limits_at s).settles
+has_room s _ = nat_lt s.acts (limits_at s).acts
 
 -- why a line of the form may not stand here whatever its words say
 unfoldable pub bar : State → Form → Option Cause

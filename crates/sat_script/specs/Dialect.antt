@@ -1,16 +1,18 @@
--- What a script may have, by what it is read for: a dialect chooses the limits and the forms. A further dialect or format is a row more.
-use Rattle.std.specs.Prelude.{Bool, true, false}
+-- What a script may have: what it is read for, its dialect, and its format choose the limits, and the dialect alone the forms. A further
+-- dialect is a row more.
+use Rattle.std.specs.Prelude.{ℕ, Bool, true, false}
+use Rattle.sat_label.specs.Formats.{limits_of as format_limits}
 use Rattle.sat_script.specs.declared.dialect.Dialect.{Dialect}
 use Rattle.sat_script.specs.declared.dialect.Dialect.TheVariants as dialect
 use Rattle.sat_script.specs.declared.dialect.Limits.{Limits}
 use Rattle.sat_script.specs.declared.form.Form.{Form}
 use Rattle.sat_script.specs.declared.form.Form.TheVariants as form
-use Rattle.sat_script.specs.declared.limits.TheConstants.{MOST_SITES, MOST_ITEMS, MOST_CLIENTS, MOST_ACTS, MOST_SETTLES, LIVE_SITES, LIVE_CLIENTS, LIVE_ACTS}
+use Rattle.sat_script.specs.declared.limits.TheConstants.{MOST_CLIENTS, MOST_SETTLES, LIVE_SITES, LIVE_CLIENTS, LIVE_ACTS}
 
--- the limits of each dialect
-abbrev pub limits_of : Dialect → Limits
-limits_of dialect.Run = record { sites = MOST_SITES; items = MOST_ITEMS; clients = MOST_CLIENTS; acts = MOST_ACTS; settles = MOST_SETTLES }
-limits_of dialect.Live = record { sites = LIVE_SITES; items = MOST_ITEMS; clients = LIVE_CLIENTS; acts = LIVE_ACTS; settles = MOST_SETTLES }
+-- the limits of scripts of a dialect and a format
+abbrev pub limits_of : Dialect → ℕ → Limits
+limits_of dialect.Run format = record { sites = (format_limits format).sites; items = (format_limits format).items; clients = MOST_CLIENTS; acts = (format_limits format).acts; settles = MOST_SETTLES }
+limits_of dialect.Live format = record { sites = LIVE_SITES; items = (format_limits format).items; clients = LIVE_CLIENTS; acts = LIVE_ACTS; settles = MOST_SETTLES }
 
 -- the forms of a script for nodes on threads
 unfoldable pub is_live : Form → Bool

@@ -14,11 +14,9 @@ use Rattle.sat_act.specs.declared.act.Act.{Act}
 use Rattle.sat_act.specs.declared.act.Act.TheVariants as act
 use Rattle.sat_act.specs.declared.deployment.Plan.TheVariants as plan
 use Rattle.sat_script.specs.Causes.{needs, refused, barred, given, bar, has_client, has_item}
-use Rattle.sat_script.specs.Dialect.{limits_of}
-use Rattle.sat_script.specs.State.{State}
+use Rattle.sat_script.specs.State.{State, limits_at}
 use Rattle.sat_script.specs.Table.{act_line}
 use Rattle.sat_script.specs.Words.{is_text, is_number, is_list, are_rising, words_of, value_of, number_below, number_to, sites_in, sites_among}
-use Rattle.sat_script.specs.declared.dialect.Dialect.{Dialect}
 use Rattle.sat_script.specs.declared.fault.Cause.{Cause}
 use Rattle.sat_script.specs.declared.fault.Cause.TheVariants.{AfterEnd, LongLine, NoEnd, NotText, BadHeader, SameName, OutOfRange, BadTree}
 use Rattle.sat_script.specs.declared.form.Form.TheVariants as form
@@ -28,13 +26,14 @@ use Rattle.sat_script.specs.declared.line.Parsed.{Parsed}
 use Rattle.sat_script.specs.declared.line.Parsed.TheVariants as parsed
 use Rattle.sat_script.specs.declared.line.Stage.{Stage}
 use Rattle.sat_script.specs.declared.line.Stage.TheVariants as stage
-use Rattle.sat_script.specs.declared.limits.TheConstants.{LONGEST_LINE, MOST_GEARS}
+use Rattle.sat_script.specs.declared.limits.TheConstants.{LONGEST_LINE, LAST_FORMAT, MOST_GEARS}
 
 -- ---- the header
 
--- `saturn 1`
+-- `saturn F`, with F a format. Another number is no form of a line at all
 unfoldable pub format_line : List (List ℕ) → Result Parsed Cause
-format_line (word ∷ number ∷ []) = needs BadHeader (bytes_eq word (codes "saturn") && bytes_eq number (codes "1")) (Ok parsed.Format)
+unfolding number_to
+format_line (word ∷ number ∷ []) = needs BadHeader (bytes_eq word (codes "saturn")) (given BadHeader (number_to LAST_FORMAT number) (λ format. Ok (parsed.Format format)))
 format_line _ = Err BadHeader
 
 -- a word and a number from 1 to a limit
@@ -50,10 +49,10 @@ of_count says (Ok n) = Ok (says n)
 of_count says (Err cause) = Err cause
 
 -- `sites N`
-unfoldable pub sites_line : Dialect → List (List ℕ) → Result Parsed Cause
+unfoldable pub sites_line : State → List (List ℕ) → Result Parsed Cause
 unfolding counted
-sites_line dialect (word ∷ number ∷ []) = of_count parsed.Sites (counted (codes "sites") (limits_of dialect).sites word number)
-sites_line dialect _ = Err BadHeader
+sites_line s (word ∷ number ∷ []) = of_count parsed.Sites (counted (codes "sites") (limits_at s).sites word number)
+sites_line s _ = Err BadHeader
 
 -- `gears N`
 unfoldable pub gears_line : List (List ℕ) → Result Parsed Cause
@@ -179,7 +178,7 @@ body_line s words = if is_end words then Ok parsed.End else of_act (act_line (ba
 unfoldable pub words_line : Stage → State → List (List ℕ) → Result Parsed Cause
 unfolding format_line sites_line gears_line header_line body_line
 words_line stage.Start s words = format_line words
-words_line stage.Sites s words = sites_line s.dialect words
+words_line stage.Sites s words = sites_line s words
 words_line stage.Gears s words = gears_line words
 words_line stage.Header s words = header_line s words
 words_line stage.Body s words = body_line s words
@@ -209,7 +208,7 @@ close_at s rest = close_in s.stage rest
 -- ---- what a good line adds
 
 abbrev pub next_stage : Stage → Parsed → Stage
-next_stage here parsed.Format = stage.Sites
+next_stage here (parsed.Format f) = stage.Sites
 next_stage here (parsed.Sites n) = stage.Gears
 next_stage here (parsed.Gears n) = stage.Header
 next_stage here (parsed.Item item) = here
@@ -220,12 +219,12 @@ next_stage here (parsed.Act a) = here
 next_stage here parsed.End = stage.Ended
 
 abbrev pub with_parsed : Deployed → Parsed → Deployed
+with_parsed d (parsed.Format f) = record d { format = f }
 with_parsed d (parsed.Sites n) = record d { sites = n }
 with_parsed d (parsed.Gears n) = record d { gears = n }
 with_parsed d (parsed.Item item) = record d { items = d.items ++ item ∷ [] }
 with_parsed d (parsed.Client line) = record d { clients = d.clients ++ line ∷ [] }
 with_parsed d (parsed.Plan p) = record d { plans = d.plans ++ p ∷ [] }
-with_parsed d parsed.Format = d
 with_parsed d parsed.Begin = d
 with_parsed d (parsed.Act a) = d
 with_parsed d parsed.End = d

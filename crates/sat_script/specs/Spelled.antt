@@ -2,6 +2,7 @@
 use Rattle.std.specs.Prelude.{ℕ, ◌≡◌, ◌≤◌, true, List, [], ◌∷◌, ◌++◌, length, map, filter, codes}
 use Rattle.std.specs.List.{flat_map, join_with_byte, AllByRecursion}
 use Rattle.std.specs.Fmt.{decimal}
+use Rattle.sat_label.specs.Formats.{limits_of as format_limits}
 use Rattle.sat_label.specs.Words.{below, bit}
 use Rattle.sat_label.specs.Text.{is_name}
 use Rattle.sat_label.specs.declared.site_set.SiteSet.{SiteSet}
@@ -16,7 +17,7 @@ use Rattle.sat_act.specs.Limits.{IsDeployment}
 use Rattle.sat_act.specs.Ranges.{IsActOf}
 use Rattle.sat_act.specs.Runs.{is_settle}
 use Rattle.sat_script.specs.Table.{act_words}
-use Rattle.sat_script.specs.declared.limits.TheConstants.{MOST_ACTS, MOST_SETTLES}
+use Rattle.sat_script.specs.declared.limits.TheConstants.{MOST_SETTLES}
 
 -- words with one blank between them
 abbrev pub line_text : List (List ℕ) → List ℕ
@@ -68,7 +69,7 @@ acts_text d acts = flat_map (λ a. ended (act_words d a)) acts
 -- the lines before `begin`
 unfoldable pub header_text : Deployed → List ℕ
 header_text d =
-    ended (codes "saturn" ∷ codes "1" ∷ []) ++ (ended (codes "sites" ∷ decimal d.sites ∷ []) ++ (ended (codes "gears" ∷ decimal d.gears ∷ [])
+    ended (codes "saturn" ∷ decimal d.format ∷ []) ++ (ended (codes "sites" ∷ decimal d.sites ∷ []) ++ (ended (codes "gears" ∷ decimal d.gears ∷ [])
     ++ (items_text d.items ++ (clients_text d.clients ++ plans_text d.plans))))
 
 -- the one spelling of a deployment and a list of acts
@@ -89,11 +90,11 @@ AreActsOf d acts = AllByRecursion (λ a. IsActOf d a) acts
 abbrev pub settles_of : List Act → ℕ
 settles_of acts = length (filter is_settle acts)
 
--- the text spells this deployment and these acts, which are within the limits of scripts
+-- the text spells this deployment and these acts, of which there are no more than its format allows
 pub record Spells (text : List ℕ) (d : Deployed) (acts : List Act) : Type 0 where
   pub spelled : text ≡ spelling d acts
   pub deployment : IsDeployment d
   pub names : HaveNames d
   pub each : AreActsOf d acts
-  pub few : length acts ≤ MOST_ACTS
+  pub few : length acts ≤ (format_limits d.format).acts
   pub settles : settles_of acts ≤ MOST_SETTLES

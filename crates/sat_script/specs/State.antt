@@ -2,7 +2,9 @@
 use Rattle.std.specs.Prelude.{ℕ, ◌+◌, [], length, Some, None}
 use Rattle.std.specs.declared.option.Option.{Option}
 use Rattle.sat_act.specs.Deployed.{Deployed}
+use Rattle.sat_script.specs.Dialect.{limits_of}
 use Rattle.sat_script.specs.declared.dialect.Dialect.{Dialect}
+use Rattle.sat_script.specs.declared.dialect.Limits.{Limits}
 use Rattle.sat_script.specs.declared.fault.Cause.{Cause}
 use Rattle.sat_script.specs.declared.fault.ScriptFault.{ScriptFault}
 use Rattle.sat_script.specs.declared.line.Stage.{Stage}
@@ -21,13 +23,17 @@ pub record Seen : Type 0 where
   pub state : State
   pub fault : Option ScriptFault
 
--- a header of which nothing has come
+-- a header of which nothing has come. Until its first line its format is 1
 abbrev pub no_header : Deployed
-no_header = record { sites = 0; gears = 0; items = []; clients = []; plans = [] }
+no_header = record { format = 1; sites = 0; gears = 0; items = []; clients = []; plans = [] }
 
 -- before the first line
 abbrev pub start : Dialect → State
 start dialect = record { dialect = dialect; stage = stage.Start; header = no_header; acts = 0; settles = 0 }
+
+-- the limits of the script
+abbrev pub limits_at : State → Limits
+limits_at s = limits_of s.dialect s.header.format
 
 -- the deployment that a header says, from the line `begin` on
 abbrev pub deployed_at : Stage → Deployed → Option Deployed

@@ -1,12 +1,10 @@
-//! What a script may have, by what it is read for.
+//! What a script may have, by what it is read for and its format.
 ghost use Rattle.std.specs.Prelude.{◌≡◌};
 ghost use Rattle.sat_script.specs.Dialect.{dialect_of, limits_of, has_form};
 
 use crate::form::{Form, is_live};
-use crate::limits::{
-    LIVE_ACTS, LIVE_CLIENTS, LIVE_SITES, MOST_ACTS, MOST_CLIENTS, MOST_ITEMS, MOST_SETTLES,
-    MOST_SITES,
-};
+use crate::limits::{LIVE_ACTS, LIVE_CLIENTS, LIVE_SITES, MOST_CLIENTS, MOST_SETTLES};
+use sat_label::limits_of as format_limits;
 
 /// What a script is read for.
 #[derive(Clone, Copy, Debug, PartialEq, Eq)]
@@ -17,7 +15,7 @@ pub enum Dialect {
     Live,
 }
 
-/// The most of what a script may have that differs from dialect to dialect.
+/// The most of what a script may have that differs by dialect or format.
 #[derive(Clone, Copy, Debug, PartialEq, Eq)]
 pub struct Limits {
     pub sites: u16,
@@ -36,21 +34,22 @@ impl Dialect {
         if live { Dialect::Live } else { Dialect::Run }
     }
 
-    /// Its limits.
-    pub fn limits(self) -> Limits
-        ensures { result ≡ limits_of self }
+    /// The limits of its scripts of a format.
+    pub fn limits(self, format: u16) -> Limits
+        ensures { result ≡ limits_of self format }
     {
+        let format = format_limits(format);
         match self {
             Dialect::Run => Limits {
-                sites: MOST_SITES,
-                items: MOST_ITEMS,
+                sites: format.sites,
+                items: format.items,
                 clients: MOST_CLIENTS,
-                acts: MOST_ACTS,
+                acts: format.acts,
                 settles: MOST_SETTLES,
             },
             Dialect::Live => Limits {
                 sites: LIVE_SITES,
-                items: MOST_ITEMS,
+                items: format.items,
                 clients: LIVE_CLIENTS,
                 acts: LIVE_ACTS,
                 settles: MOST_SETTLES,

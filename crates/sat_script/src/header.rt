@@ -16,6 +16,7 @@ use std::mem;
 /// A header as far as it has come. Its items, clients and plans move into its deployment, once it is whole.
 #[derive(Drop)]
 pub struct Header {
+    format: u16,
     sites: u16,
     gears: u16,
     items: Vec<Item>,
@@ -34,9 +35,9 @@ impl Model for Header {
 
     ghost Value = { HeaderSeen };
 
-    ghost view = { λ h. record { said = said_by h.whole (record { sites = h.sites; gears = h.gears; items = h.items.items; clients = h.clients.items; plans = h.plans.items }); whole = h.whole } };
+    ghost view = { λ h. record { said = said_by h.whole (record { format = h.format; sites = h.sites; gears = h.gears; items = h.items.items; clients = h.clients.items; plans = h.plans.items }); whole = h.whole } };
 
-    ghost invariant = { λ h. AreNamed (said_by h.whole (record { sites = h.sites; gears = h.gears; items = h.items.items; clients = h.clients.items; plans = h.plans.items })) h.sites h.gears h.item_names h.client_names };
+    ghost invariant = { λ h. AreNamed (said_by h.whole (record { format = h.format; sites = h.sites; gears = h.gears; items = h.items.items; clients = h.clients.items; plans = h.plans.items })) h.format h.sites h.gears h.item_names h.client_names };
 }
 
 impl Header {
@@ -45,6 +46,7 @@ impl Header {
         ensures { result ≡ record { said = no_header; whole = None } }
     {
         Header {
+            format: 1,
             sites: 0,
             gears: 0,
             items: Vec::new(alloc),
@@ -54,6 +56,14 @@ impl Header {
             client_names: Names::new(alloc),
             whole: None,
         }
+    }
+
+    /// The format, and until its line has come 1.
+    #[inline(always)]
+    pub fn format(&self) -> u16
+        ensures { result ≡ self.now.said.format }
+    {
+        self.format
     }
 
     /// The number of sites.
@@ -128,7 +138,7 @@ impl Header {
     /// The number of lines of items, clients and plans.
     pub fn lines(&self) -> u64
         ensures lines { result ≡ header_lines self.now.said }
-        ensures few { result ≤ 6000 }
+        ensures few { result ≤ 66575 }
     {
         self.item_list().len() as u64
             + self.client_list().len() as u64
@@ -180,6 +190,14 @@ impl Header {
         ensures { result ≡ has_item self.now.said name.now }
     {
         self.item_names.has(name)
+    }
+
+    /// Takes the line of the format.
+    pub fn set_format(&mut self, format: u16)
+        requires open { self.old.whole ≡ None }
+        ensures { self.new ≡ record self.old { said = record self.old.said { format = format } } }
+    {
+        self.format = format;
     }
 
     /// Takes the line of the sites.
@@ -246,7 +264,15 @@ impl Header {
         let items = mem::replace(&mut self.items, Vec::new(alloc));
         let clients = mem::replace(&mut self.clients, Vec::new(alloc));
         let plans = mem::replace(&mut self.plans, Vec::new(alloc));
-        match Deployment::new(alloc, self.sites, self.gears, items, clients, plans) {
+        match Deployment::new(
+            alloc,
+            self.format,
+            self.sites,
+            self.gears,
+            items,
+            clients,
+            plans,
+        ) {
             Ok(deployment) => self.whole = Some(deployment),
             Err(_) => unreachable!(),
         }

@@ -8,7 +8,7 @@ ghost use Rattle.sat_script.specs.Lines.{Gives, IsTreeOf};
 use crate::Cause;
 use crate::form::Form;
 use crate::header::Header;
-use crate::limits::MOST_GEARS;
+use crate::limits::{LAST_FORMAT, MOST_GEARS, MOST_SITES};
 use crate::line::Parsed;
 use crate::list::{is_rising, numbers_below, parts_of, set_of};
 use crate::number::{is_number, number_below, number_to};
@@ -19,7 +19,7 @@ use sat_label::{Name, SiteSet, spells_name};
 use sat_tree::{Tree, TreeFault};
 use std::alloc::{AllocError, Global};
 
-/// `saturn 1`
+/// `saturn F`
 #[tactic(auto, unfolding(crate::specs::Grammar::format_line))]
 #[inline(never)]
 pub fn format_line(words: &[&[u8]]) -> Result<Parsed, Cause>
@@ -27,11 +27,11 @@ pub fn format_line(words: &[&[u8]]) -> Result<Parsed, Cause>
 {
     match words {
         [word, number] => {
-            if *word == b"saturn".as_slice() && *number == b"1".as_slice() {
-                Ok(Parsed::Format)
-            } else {
-                Err(Cause::BadHeader)
+            if *word != b"saturn".as_slice() {
+                return Err(Cause::BadHeader);
             }
+            let format = number_to(LAST_FORMAT, number).ok_or(Cause::BadHeader)?;
+            Ok(Parsed::Format(format))
         }
         _ => Err(Cause::BadHeader),
     }
@@ -55,11 +55,11 @@ fn counted(keyword: &[u8], limit: u16, word: &[u8], number: &[u8]) -> Result<u16
 #[tactic(auto, unfolding(crate::specs::Grammar::sites_line))]
 #[inline(never)]
 pub fn sites_line(place: &Place, words: &[&[u8]]) -> Result<Parsed, Cause>
-    ensures { Gives result (sites_line place.now.dialect (map (λ word. word.now) words.now)) }
+    ensures { Gives result (sites_line place.now (map (λ word. word.now) words.now)) }
 {
     match words {
         [word, number] => {
-            let sites = counted(b"sites", place.most_sites(), word, number)?;
+            let sites = counted(b"sites", place.limits().sites, word, number)?;
             Ok(Parsed::Sites(sites))
         }
         _ => Err(Cause::BadHeader),
@@ -96,7 +96,7 @@ fn is_list(parts: &[&[u8]]) -> bool
 #[tactic(auto, unfolding(crate::specs::Words::sites_among))]
 fn sites_in(alloc: Global, limit: u16, parts: &[&[u8]]) -> Result<Option<SiteSet>, AllocError>
     requires numbers { list_all is_number (map (λ part. part.now) parts.now) ≡ true }
-    requires few { limit ≤ 16 }
+    requires few { limit ≤ MOST_SITES }
     ensures { IfOk result (λ found. found ≡ sites_among limit (map (λ part. part.now) parts.now)) }
 {
     match numbers_below(alloc, limit, parts)? {
@@ -199,7 +199,7 @@ fn new_tree(
     parents: &[Option<u16>],
     seats: &[u16],
 ) -> Result<Option<Tree>, AllocError>
-    requires { sites ≤ 16 }
+    requires { sites ≤ MOST_SITES }
     ensures { IfOk result (λ found. IsTreeOf sites (record { parents = parents.now; seats = seats.now }) found) }
 {
     if seats.len() != usize::from(sites) {
@@ -222,7 +222,7 @@ fn tree_on(
 ) -> Result<Option<Tree>, AllocError>
     requires words { list_all is_number (map (λ word. word.now) words.now) ≡ true }
     requires seats { list_all is_number (map (λ word. word.now) seats.now) ≡ true }
-    requires few { sites ≤ 16 }
+    requires few { sites ≤ MOST_SITES }
     requires short { length words.now < 15 }
     ensures { IfOk result (λ found. IsTreeOf sites (tree_on (map (λ word. word.now) words.now) (map (λ word. word.now) seats.now)) found) }
 {
@@ -248,7 +248,7 @@ fn tree_in(
 ) -> Result<Option<Tree>, AllocError>
     requires parents { are_parents (map (λ word. word.now) parents.now) ≡ true }
     requires seats { list_all is_number (map (λ word. word.now) seats.now) ≡ true }
-    requires few { sites ≤ 16 }
+    requires few { sites ≤ MOST_SITES }
     ensures { IfOk result (λ found. IsTreeOf sites (tree_in (map (λ word. word.now) parents.now) (map (λ word. word.now) seats.now)) found) }
 {
     if parents.len() > 15 {

@@ -23,8 +23,8 @@ mod write_lines;
 pub use dialect::{Dialect, Limits};
 pub use fault::{Cause, ScriptFault};
 pub use limits::{
-    LIVE_ACTS, LIVE_CLIENTS, LIVE_SITES, LONGEST_LINE, MOST_ACTS, MOST_CLIENTS, MOST_GEARS,
-    MOST_ITEMS, MOST_PLANS, MOST_SETTLES, MOST_SITES,
+    LAST_FORMAT, LIVE_ACTS, LIVE_CLIENTS, LIVE_SITES, LONGEST_LINE, MOST_ACTS, MOST_CLIENTS,
+    MOST_GEARS, MOST_ITEMS, MOST_PLANS, MOST_SETTLES, MOST_SITES,
 };
 pub use line::{Line, Parsed};
 pub use number::number_up_to;

@@ -16,8 +16,8 @@ pub enum Line {
 /// What a good line says.
 #[derive(Drop)]
 pub enum Parsed {
-    /// `saturn 1`
-    Format,
+    /// The format, 1 or 2.
+    Format(u16),
     /// How many sites there are.
     Sites(u16),
     /// How many gears each site has.
@@ -36,7 +36,7 @@ pub enum Parsed {
 /// The part of a script that the next line stands in.
 #[derive(Clone, Copy, Debug, PartialEq, Eq)]
 pub enum Stage {
-    /// At the line `saturn 1`.
+    /// At the line of the format.
     Start,
     /// At the line of the sites.
     Sites,

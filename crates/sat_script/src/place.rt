@@ -1,7 +1,6 @@
 //! What the lines so far say: where the next line stands, and what may stand there.
 ghost use Rattle.std.specs.Prelude.{◌≡◌, ◌≤◌, ◌↔◌, ◌++◌, [], ◌∷◌, IsTrue, IfOk, OnOk, OnErr, MatchResult, Some, None, length};
-ghost use Rattle.sat_script.specs.Dialect.{limits_of};
-ghost use Rattle.sat_script.specs.State.{start, number_of, deployment_of};
+ghost use Rattle.sat_script.specs.State.{start, limits_at, number_of, deployment_of};
 ghost use Rattle.sat_script.specs.Causes.{has_room, bar};
 ghost use Rattle.sat_script.specs.Grammar.{after, told_line};
 ghost use Rattle.sat_script.specs.Kept.{IsFit, Suits};
@@ -11,10 +10,11 @@ ghost use Rattle.sat_script.specs.declared.line.Parsed.TheVariants as parsed;
 
 use crate::form::Form;
 use crate::header::Header;
-use crate::limits::{MOST_ACTS, MOST_PLANS};
+use crate::limits::{MOST_PLANS, MOST_SITES};
 use crate::line::{Line, Parsed, Stage};
-use crate::{Cause, Dialect};
+use crate::{Cause, Dialect, Limits};
 use sat_act::{Act, Acts, Deployment};
+use sat_label::limits_of as format_limits;
 use std::alloc::{AllocError, Global};
 use std::marker::Model;
 
@@ -87,16 +87,17 @@ impl Place {
     /// The number of sites.
     pub fn sites(&self) -> u16
         ensures sites { result ≡ self.now.header.sites }
-        ensures few { result ≤ 16 }
+        ensures few { result ≤ MOST_SITES }
     {
         self.header.sites()
     }
 
-    /// The most sites.
-    pub fn most_sites(&self) -> u16
-        ensures { result ≡ (limits_of self.now.dialect).sites }
+    /// The limits of the script.
+    #[inline(always)]
+    pub fn limits(&self) -> Limits
+        ensures { result ≡ limits_at self.now }
     {
-        self.dialect.limits().sites
+        self.dialect.limits(self.header.format())
     }
 
     /// The number of the next line, from 1.
@@ -126,7 +127,7 @@ impl Place {
         if self.dialect != Dialect::Run {
             return false;
         }
-        self.acts < MOST_ACTS
+        self.acts < format_limits(self.header.format()).acts
     }
 
     #[tactic(auto, unfolding(crate::specs::Causes::has_room))]
@@ -134,7 +135,7 @@ impl Place {
     fn has_room(&self, form: Form) -> bool
         ensures { result ≡ has_room self.now form }
     {
-        let limits = self.dialect.limits();
+        let limits = self.limits();
         match form {
             Form::Item => self.header.items() < limits.items,
             Form::Client => usize::from(self.header.clients()) < limits.clients,
@@ -184,7 +185,8 @@ impl Place {
         ensures fit { IsFit self.new }
     {
         match parsed {
-            Parsed::Format => {
+            Parsed::Format(format) => {
+                self.header.set_format(format);
                 self.stage = Stage::Sites;
                 Ok(Line::Header)
             }

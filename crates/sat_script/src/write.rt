@@ -49,7 +49,8 @@ fn header_bytes(alloc: Global, d: &Deployment) -> Result<Vec<u8>, AllocError>
     ensures { IfOk result (λ text. text.items ≡ header_text d.now ++ ended (codes "begin" ∷ [])) }
 {
     let mut text = Vec::new(alloc);
-    push_line(&mut text, b"saturn 1")?;
+    let format = number_line(alloc, b"saturn", u64::from(d.format()))?;
+    push_line(&mut text, format.as_slice())?;
     let sites = number_line(alloc, b"sites", u64::from(d.sites()))?;
     push_line(&mut text, sites.as_slice())?;
     let gears = number_line(alloc, b"gears", u64::from(d.gears()))?;

@@ -1,5 +1,7 @@
-use Rattle.std.proofs.Common.{◌≡◌, rules}
+use Rattle.std.proofs.Common.{◌≡◌, ◌<◌, rules, subst}
 use Rattle.std.proofs.lemmas.Bool.{ltb-true}
+use Rattle.sat_label.specs.Formats.{limits_of as format_limits}
+use Rattle.sat_label.specs.declared.limits.Limits.{Limits}
 use Rattle.sat_script.specs.declared.dialect.Dialect.TheVariants as dialect
 use Rattle.sat_script.specs.declared.line.Stage.TheVariants as stage
 use Rattle.sat_script.proofs.Bars.{takes_acts}
@@ -9,4 +11,6 @@ pub returns : goal.returns
 returns c h =
     let body : c.self.inside.stage ≡ stage.Body = search rules in
     let run : c.self.inside.dialect ≡ dialect.Run = search rules in
-    rw (← c.self.view_is) (takes_acts _ body run (ltb-true c.self.inside.acts 200000 h))
+    let limits : c.limits_of.result ≡ format_limits c.self.inside.header.said.format = search rules in
+    let few = subst (λ (l : Limits). c.self.inside.acts < l.acts) limits (ltb-true c.self.inside.acts c.limits_of.result.acts h) in
+    rw (← c.self.view_is) (takes_acts _ body run few)
