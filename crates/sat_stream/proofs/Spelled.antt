@@ -13,7 +13,6 @@ use Rattle.std.proofs.lemmas.Bool.{false_from_ne_true}
 use Rattle.std.proofs.lemmas.Bool.Decides.{nat_tests}
 use Rattle.sat_label.specs.Text.{is_between, is_name}
 use Rattle.sat_label.specs.Formats.{is_format, limits_of as format_limits}
-use Rattle.sat_label.specs.Words.{bit}
 use Rattle.sat_label.proofs.Bits.{sites-are}
 use Rattle.sat_tree.specs.Shape.{TreeShape}
 use Rattle.sat_act.specs.Deployed.{Deployed}
