@@ -31,7 +31,7 @@ use Rattle.sat_script.specs.Grammar.{of_act}
 use Rattle.sat_script.specs.declared.dialect.Dialect.{Dialect}
 use Rattle.sat_script.specs.declared.dialect.Dialect.TheVariants as dialect
 use Rattle.sat_script.specs.declared.fault.Cause.{Cause}
-use Rattle.sat_script.specs.Kept.{IsFormatted, IsSited, IsOpened, IsWhole, HasHeader, HasActs, IsFit, Suits}
+use Rattle.sat_script.specs.Kept.{IsSited, IsOpened, IsWhole, HasHeader, HasActs, IsFit, Suits}
 use Rattle.sat_script.specs.Dialect.{limits_of}
 use Rattle.sat_script.specs.Spelled.{HaveNames}
 use Rattle.sat_script.specs.State.{State, start, no_header, limits_at}

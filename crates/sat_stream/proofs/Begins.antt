@@ -93,7 +93,7 @@ deployment_read : (d : Deployed) (acts : List Act) (rest : List ℕ) → IsDeplo
 unfolding reading spelling
 deployment_read d acts rest is names =
     let body : List ℕ = acts_text d acts ++ (ended end_words ++ rest) in
-    let header = header_reads dialect.Run d (begin_text ++ body) is names is.few_sites is.few_clients in
+    let header = header_reads dialect.Run d (begin_text ++ body) is names is.sites_allowed is.few_clients in
     let begun = begin_goes dialect.Run d body is header.1 in (
       ap (λ (bs : List ℕ). (script_from (start dialect.Run) nothing (slice_split is_newline bs)).deployment) (flat (header_text d) begin_text (acts_text d acts) (ended end_words) rest)
           ∙ ap (λ (r : Reading). r.deployment) (header.0 ∙ begun.0)

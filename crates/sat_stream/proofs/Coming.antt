@@ -104,7 +104,7 @@ pub record KeptLine (old new : WholeLines) (line : List ℕ) (result : Result (U
 -- what a good line adds to what was said by then
 adds : (here : Stage) (s : State) (p : Parsed) (acts : List Act) → Stands here s p
     → kept (deployed_at (next_stage here p) (with_parsed s.header p)) (acts_with acts (told_line p)) ≡ with_line s.header (kept (deployed_at here s.header) acts) (told_line p)
-adds stage.Start s parsed.Format acts h = refl
+adds stage.Start s (parsed.Format f) acts h = refl
 adds stage.Sites s (parsed.Sites n) acts h = refl
 adds stage.Gears s (parsed.Gears n) acts h = refl
 adds stage.Header s (parsed.Item item) acts h = refl

@@ -21,7 +21,7 @@ use Rattle.sat_script.specs.declared.dialect.Dialect.{Dialect}
 use Rattle.sat_script.specs.declared.fault.Cause.{Cause}
 use Rattle.sat_script.specs.declared.fault.Cause.TheVariants.{NoEnd}
 use Rattle.sat_script.specs.declared.fault.ScriptFault.{ScriptFault}
-use Rattle.sat_script.specs.declared.limits.TheConstants.{LONGEST_LINE}
+use Rattle.sat_script.specs.declared.limits.TheConstants.{LONGEST_LINE, MOST_ACTS}
 use Rattle.sat_script.specs.declared.line.Line.{Line}
 use Rattle.sat_script.specs.declared.line.Line.TheVariants as line
 use Rattle.sat_script.specs.declared.line.Parsed.{Parsed}
@@ -32,7 +32,7 @@ use Rattle.sat_stream.specs.declared.stream.Reading.{Reading}
 use Rattle.sat_stream.proofs.Coming.{whole_said}
 use Rattle.sat_script.proofs.Fits.{line_is, fit_after, fit_start}
 use Rattle.sat_stream.proofs.Meaning.{goes_on-end}
-use Rattle.sat_script.proofs.Stands.{Stands}
+use Rattle.sat_script.proofs.Stands.{Stands, limits_few}
 use Rattle.sat_stream.proofs.Whole.{said_after, few_after}
 
 -- ---- acts before the others
@@ -84,13 +84,19 @@ record IsSo (s : State) (r : Reading) : Type 0 where
 record IsSoundIn (dialect : Dialect) (old r : Reading) : Type 0 where
   whole : IfSome r.deployment (λ d. IsWhole d × AreActsOf d r.acts)
   none : r.deployment ≡ None → r.acts ≡ []
-  few : length r.acts ≤ (limits_of dialect).acts
+  few : IfSome r.deployment (λ d. length r.acts ≤ (limits_of dialect d.format).acts)
   stays : (d : Deployed) → old.deployment ≡ Some d → r.deployment ≡ Some d
+
+few_said : (dialect : Dialect) (here : Stage) (d : Deployed) (said : Option Deployed) (acts : List Act) → HasSaid dialect here d said acts → length acts ≤ (limits_of dialect d.format).acts
+    → IfSome said (λ d. length acts ≤ (limits_of dialect d.format).acts)
+few_said dialect stage.Body d said acts h few = subst (λ (o : Option Deployed). IfSome o (λ d. length acts ≤ (limits_of dialect d.format).acts)) (sym h.0) few
+few_said dialect stage.Ended d said acts h few = subst (λ (o : Option Deployed). IfSome o (λ d. length acts ≤ (limits_of dialect d.format).acts)) (sym h.0) few
+few_said dialect _ d said acts h few = subst (λ (o : Option Deployed). IfSome o (λ d. length acts ≤ (limits_of dialect d.format).acts)) (sym h.0) tt
 
 so_sound : (s : State) (r : Reading) → IsSo s r → IsSoundIn s.dialect r r
 so_sound s r so =
     let w = whole_said s.dialect s.stage s.header r.deployment r.acts so.fit.header so.said in
-    record { whole = w.0; none = w.1; few = omega (arith, so.few, so.fit.acts); stays = λ d e. e }
+    record { whole = w.0; none = w.1; few = few_said s.dialect s.stage s.header r.deployment r.acts so.said (omega (arith, so.few, so.fit.acts)); stays = λ d e. e }
 
 so_after : (s : State) (r : Reading) (line : List ℕ) (p : Parsed) → IsSo s r → line_at s line ≡ Ok p → IsSo (after s p) (with_line s.header r (told_line p))
 so_after s r line p so good = record {
@@ -139,6 +145,14 @@ reading_sound live text =
     let so : IsSo (start (dialect_of live)) nothing = record { fit = fit_start (dialect_of live); said = (refl, refl); few = omega arith } in
     let is = from_sound (start (dialect_of live)) nothing (slice_split is_newline text) so in
     record { whole = whole_deployment _ _ is.whole; none = is.none; few = is.few }
+
+-- and so no more than a script of any format has
+pub few_read : (live : Bool) (found : Reading) → IsSound live found → length found.acts ≤ MOST_ACTS
+few_read live found sound = go found.deployment refl sound.few
+  where
+    go : (o : Option Deployed) → found.deployment ≡ o → IfSome o (λ d. length found.acts ≤ (limits_of (dialect_of live) d.format).acts) → length found.acts ≤ MOST_ACTS
+    go None e few = omega (arith, ap (λ (acts : List Act). length acts) (sound.none e))
+    go (Some d) e few = let most = (limits_few (dialect_of live) d.format).acts in omega (arith, few, most)
 
 meaning_deploys : (o : Option ScriptFault) (s : State) (d : Deployed) (r : Reading) (begun more : List ℕ) → r.deployment ≡ Some d → (o ≡ None → IsSo s r) → (meaning o s r begun more).deployment ≡ Some d
 unfolding goes_on

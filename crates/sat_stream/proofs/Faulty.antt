@@ -202,8 +202,12 @@ a_tab_in_a_header = refl
 
 no_first_line : HaveFault 1 BadHeader (
     codes "sites 2\n" ∷
-    codes "saturn 2\n" ∷
+    codes "saturn\n" ∷
+    codes "saturn 0\n" ∷
+    codes "saturn 3\n" ∷
     codes "saturn 01\n" ∷
+    codes "saturn 02\n" ∷
+    codes "saturn 2 2\n" ∷
     [])
 unfolding reading close_in first_failing client_of item_of is_node is_serializer node_in serializer_in number_below number_to number_up_to tree_of is_edge
 no_first_line = refl
@@ -258,10 +262,20 @@ lists_and_items_out_of_order = refl
 sites_out_of_range : HaveFault 2 OutOfRange (
     codes "saturn 1\nsites 0\n" ∷
     codes "saturn 1\nsites 17\n" ∷
+    codes "saturn 2\nsites 0\n" ∷
+    codes "saturn 2\nsites 65\n" ∷
     codes "saturn 1\nsites 18446744073709551617\n" ∷
     [])
 unfolding reading close_in first_failing client_of item_of is_node is_serializer node_in serializer_in number_below number_to number_up_to tree_of is_edge
 sites_out_of_range = refl
+
+sites_of_each_format : HaveFault 3 NoEnd (
+    codes "saturn 1\nsites 16\n" ∷
+    codes "saturn 2\nsites 17\n" ∷
+    codes "saturn 2\nsites 64\n" ∷
+    [])
+unfolding reading close_in first_failing client_of item_of is_node is_serializer node_in serializer_in number_below number_to number_up_to tree_of is_edge
+sites_of_each_format = refl
 
 gears_out_of_range : HaveFault 3 OutOfRange (
     codes "saturn 1\nsites 2\ngears 0\n" ∷

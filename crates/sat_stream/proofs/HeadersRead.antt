@@ -16,17 +16,17 @@ use Rattle.sat_label.specs.declared.site_set.SiteSet.{SiteSet}
 use Rattle.sat_act.specs.declared.deployment.Item.{Item}
 use Rattle.sat_act.specs.declared.deployment.ClientLine.{ClientLine}
 use Rattle.sat_act.specs.declared.deployment.Plan.{Plan}
-use Rattle.sat_script.specs.Dialect.{is_live, limits_of, has_form}
+use Rattle.sat_script.specs.Dialect.{is_live, has_form}
 use Rattle.sat_script.specs.declared.dialect.Dialect.{Dialect}
 use Rattle.sat_script.specs.declared.dialect.Dialect.TheVariants as dialect
 use Rattle.sat_script.specs.Causes.{bar, has_room}
 use Rattle.sat_script.specs.Grammar.{format_line, counted, of_count, sites_line, gears_line, item_line, client_line, begin_line, named_line, header_form, header_line}
 use Rattle.sat_script.specs.Spelled.{item_words, client_words, sites_text}
-use Rattle.sat_script.specs.State.{State}
+use Rattle.sat_script.specs.State.{State, limits_at}
 use Rattle.sat_script.specs.Words.{is_number, value_of, is_comma, parts_of, is_rising, are_rising, is_list, set_of, are_below, sites_among}
 use Rattle.sat_script.specs.declared.form.Form.{Form}
 use Rattle.sat_script.specs.declared.form.Form.TheVariants as form
-use Rattle.sat_script.specs.declared.limits.TheConstants.{MOST_GEARS, MOST_PLANS}
+use Rattle.sat_script.specs.declared.limits.TheConstants.{LAST_FORMAT, MOST_GEARS, MOST_PLANS, MOST_SITES}
 use Rattle.sat_script.specs.declared.line.Parsed.TheVariants as parsed
 use Rattle.sat_script.proofs.Bars.{bars_nothing}
 use Rattle.sat_script.proofs.Digits.{decimal_number, decimal_between, below_reads, to_reads, all_small, numbers_back, values_back}
@@ -79,7 +79,7 @@ numbers_read limit ns set small lt-ltb rising some whole =
       ap (sites_among limit) parts ∙ named limit (map decimal ns) set (small_below limit ns small lt-ltb) (ap set_of values ∙ whole),
     )
 
-members_read : (limit n : ℕ) (set : SiteSet) → n ≡ 64 → limit ≤ 16 → IsSites limit set
+members_read : (limit n : ℕ) (set : SiteSet) → n ≡ 64 → limit ≤ MOST_SITES → IsSites limit set
     → (is_list (join_with_byte 44 (map decimal (filter (bit set.bits) (below n)))) ≡ true) × (sites_among limit (parts_of (join_with_byte 44 (map decimal (filter (bit set.bits) (below n))))) ≡ Some set)
 members_read limit n set e few is =
     let small : list_all (λ x. ltb x 64) (filter (bit set.bits) (below n)) ≡ true = subst (λ (m : ℕ). list_all (λ x. ltb x m) (filter (bit set.bits) (below n)) ≡ true) e (members_under (bit set.bits) n) in
@@ -89,23 +89,23 @@ members_read limit n set e few is =
     (list_all-from_AllPass (λ x. ltb x limit) (filter (bit set.bits) (below n)) (λ k d inside. lt-ltb _ limit (is.inside _ (filter_passes (bit set.bits) (below n) k d inside))))
     (members_rise (bit set.bits) n) (has_member (filter (bit set.bits) (below n)) is.some.0 member) (members_set set.bits n (λ k h. let inside = is.inside k h in omega arith))
 
-pub list_reads : (limit : ℕ) (set : SiteSet) → limit ≤ 16 → IsSites limit set → (is_list (sites_text set) ≡ true) × (sites_among limit (parts_of (sites_text set)) ≡ Some set)
+pub list_reads : (limit : ℕ) (set : SiteSet) → limit ≤ MOST_SITES → IsSites limit set → (is_list (sites_text set) ≡ true) × (sites_among limit (parts_of (sites_text set)) ≡ Some set)
 unfolding sites_text
 list_reads limit set few is = members_read limit 64 set refl few is
 
 -- ---- the lines
 
-pub format_reads : format_line (codes "saturn" ∷ codes "1" ∷ []) ≡ Ok parsed.Format
+pub format_reads : (f : ℕ) → 1 ≤ f → f ≤ LAST_FORMAT → format_line (codes "saturn" ∷ decimal f ∷ []) ≡ Ok (parsed.Format f)
 unfolding format_line
-format_reads = refl
+format_reads f some few = rw (to_reads LAST_FORMAT f some few (omega arith)) refl
 
 counted_reads : (keyword : List ℕ) (limit n : ℕ) → bytes_eq keyword keyword ≡ true → 1 ≤ n → n ≤ limit → limit < 2 ^ 16 → counted keyword limit keyword (decimal n) ≡ Ok n
 unfolding counted
 counted_reads keyword limit n same some few small = rw (to_reads limit n some few small, same, decimal_number n (omega arith)) refl
 
-pub sites_reads : (dialect : Dialect) (n : ℕ) → 1 ≤ n → n ≤ (limits_of dialect).sites → sites_line dialect (codes "sites" ∷ decimal n ∷ []) ≡ Ok (parsed.Sites n)
+pub sites_reads : (s : State) (n : ℕ) → 1 ≤ n → n ≤ (limits_at s).sites → sites_line s (codes "sites" ∷ decimal n ∷ []) ≡ Ok (parsed.Sites n)
 unfolding sites_line
-sites_reads dialect n some few = let most = (limits_few dialect).sites in ap (of_count parsed.Sites) (counted_reads (codes "sites") (limits_of dialect).sites n refl some few (omega arith))
+sites_reads s n some few = let most = (limits_few s.dialect s.header.format).sites in ap (of_count parsed.Sites) (counted_reads (codes "sites") (limits_at s).sites n refl some few (omega arith))
 
 pub gears_reads : (n : ℕ) → 1 ≤ n → n ≤ MOST_GEARS → gears_line (codes "gears" ∷ decimal n ∷ []) ≡ Ok (parsed.Gears n)
 unfolding gears_line
@@ -115,13 +115,13 @@ any_live : (dialect : Dialect) (f : Form) → is_live f ≡ true → has_form di
 any_live dialect.Run f h = refl
 any_live dialect.Live f h = h
 
-item_free : (s : State) → length s.header.items < (limits_of s.dialect).items → bar s form.Item ≡ None
+item_free : (s : State) → length s.header.items < (limits_at s).items → bar s form.Item ≡ None
 unfolding is_live has_room
-item_free s room = bars_nothing s form.Item (any_live s.dialect form.Item refl) (lt-ltb (length s.header.items) (limits_of s.dialect).items room)
+item_free s room = bars_nothing s form.Item (any_live s.dialect form.Item refl) (lt-ltb (length s.header.items) (limits_at s).items room)
 
-client_free : (s : State) → length s.header.clients < (limits_of s.dialect).clients → bar s form.Client ≡ None
+client_free : (s : State) → length s.header.clients < (limits_at s).clients → bar s form.Client ≡ None
 unfolding is_live has_room
-client_free s room = bars_nothing s form.Client (any_live s.dialect form.Client refl) (lt-ltb (length s.header.clients) (limits_of s.dialect).clients room)
+client_free s room = bars_nothing s form.Client (any_live s.dialect form.Client refl) (lt-ltb (length s.header.clients) (limits_at s).clients room)
 
 pub tree_free : (s : State) → length s.header.plans < MOST_PLANS → bar s form.PlanTree ≡ None
 unfolding is_live has_room
@@ -131,7 +131,7 @@ pub stamp_free : (s : State) → length s.header.plans < MOST_PLANS → bar s fo
 unfolding is_live has_room
 stamp_free s room = bars_nothing s form.PlanStamp (any_live s.dialect form.PlanStamp refl) (lt-ltb (length s.header.plans) MOST_PLANS room)
 
-item_said : (s : State) (item : Item) → s.header.sites ≤ 16 → IsSites s.header.sites item.replicas → ItemStands s item → item_line s item.name (sites_text item.replicas) ≡ Ok (parsed.Item item)
+item_said : (s : State) (item : Item) → s.header.sites ≤ MOST_SITES → IsSites s.header.sites item.replicas → ItemStands s item → item_line s item.name (sites_text item.replicas) ≡ Ok (parsed.Item item)
 unfolding item_line
 item_said s item few sites st =
     let list = list_reads s.header.sites item.replicas few sites in
@@ -139,18 +139,18 @@ item_said s item few sites st =
     let plans : eqb (length s.header.plans) 0 ≡ true = ap (λ (xs : List Plan). eqb (length xs) 0) st.plans in
     rw (clients, plans, st.name, list.0, item_free s st.room, st.new, list.1) refl
 
-pub item_reads : (s : State) (item : Item) → s.header.sites ≤ 16 → IsSites s.header.sites item.replicas → ItemStands s item → header_line s (item_words item) ≡ Ok (parsed.Item item)
+pub item_reads : (s : State) (item : Item) → s.header.sites ≤ MOST_SITES → IsSites s.header.sites item.replicas → ItemStands s item → header_line s (item_words item) ≡ Ok (parsed.Item item)
 unfolding header_line header_form named_line
 item_reads s item few sites st = item_said s item few sites st
 
-client_said : (s : State) (line : ClientLine) → s.header.sites ≤ 16 → ClientStands s line → client_line s line.name (decimal line.site) ≡ Ok (parsed.Client line)
+client_said : (s : State) (line : ClientLine) → s.header.sites ≤ MOST_SITES → ClientStands s line → client_line s line.name (decimal line.site) ≡ Ok (parsed.Client line)
 unfolding client_line
 client_said s line few st =
     let home = st.home in
     let plans : eqb (length s.header.plans) 0 ≡ true = ap (λ (xs : List Plan). eqb (length xs) 0) st.plans in
     rw (below_reads s.header.sites line.site st.home (omega arith), plans, st.name, decimal_number line.site (omega arith), client_free s st.room, st.new) refl
 
-pub client_reads : (s : State) (line : ClientLine) → s.header.sites ≤ 16 → ClientStands s line → header_line s (client_words line) ≡ Ok (parsed.Client line)
+pub client_reads : (s : State) (line : ClientLine) → s.header.sites ≤ MOST_SITES → ClientStands s line → header_line s (client_words line) ≡ Ok (parsed.Client line)
 unfolding header_line header_form named_line
 client_reads s line few st = client_said s line few st
 

@@ -1,5 +1,5 @@
 -- The spelling of a deployment and acts of it is read as them.
-use Rattle.std.proofs.Common.{◌≡◌, ℕ, ◌+◌, ◌-◌, ◌<◌, ◌≤◌, ◌^◌, Bool, true, false, not, cond, eqb, ltb, List, [], ◌∷◌, ◌++◌, length, filter, Some, Ok, sym, ap, ◌∙◌, refl, subst, arith}
+use Rattle.std.proofs.Common.{◌≡◌, ℕ, ◌+◌, ◌-◌, ◌<◌, ◌≤◌, Bool, true, false, cond, List, [], ◌∷◌, ◌++◌, length, Some, Ok, sym, ap, ◌∙◌, refl, subst, arith}
 use Rattle.std.specs.List.{slice_split, slice_get, list_any, AllByRecursion}
 use Rattle.std.specs.Prelude.{codes}
 use Rattle.std.specs.Fmt.{decimal}
@@ -9,12 +9,13 @@ use Rattle.std.proofs.lemmas.List.Folds.{Any-from_list_any}
 use Rattle.std.proofs.lemmas.List.Splits.{slice_split_at, length-slice_split}
 use Rattle.std.proofs.lemmas.Option.{slice_get-get_or}
 use Rattle.sat_label.proofs.Numbers.{get-front}
-use Rattle.std.proofs.lemmas.Bool.{and_from, false_from_ne_true, lt-ltb}
+use Rattle.std.proofs.lemmas.Bool.{false_from_ne_true}
+use Rattle.std.proofs.lemmas.Bool.Decides.{nat_tests}
 use Rattle.sat_label.specs.Text.{is_between, is_name}
-use Rattle.sat_label.specs.Words.{bit, below}
+use Rattle.sat_label.specs.Formats.{is_format, limits_of as format_limits}
+use Rattle.sat_label.proofs.Bits.{sites-are}
 use Rattle.sat_tree.specs.Shape.{TreeShape}
 use Rattle.sat_act.specs.Deployed.{Deployed}
-use Rattle.sat_act.specs.Flaw.{are_sites}
 use Rattle.sat_act.specs.Limits.{IsDeployment}
 use Rattle.sat_act.specs.Parts.{planned_tree, tree_of}
 use Rattle.sat_act.proofs.Plans.{tree_from_plans}
@@ -36,7 +37,7 @@ use Rattle.sat_stream.specs.Reading.{script_from, reading, nothing, after_line, 
 use Rattle.sat_script.specs.Spelled.{AreActsOf, settles_of, line_text, item_words, client_words, plan_words, ended, items_text, clients_text, plans_text, acts_text, header_text, spelling, HaveNames, Spells}
 use Rattle.sat_script.specs.State.{State, start}
 use Rattle.sat_script.specs.Words.{is_newline}
-use Rattle.sat_script.specs.declared.limits.TheConstants.{MOST_ACTS, MOST_ITEMS, MOST_SETTLES}
+use Rattle.sat_script.specs.declared.limits.TheConstants.{LAST_FORMAT, MOST_SETTLES}
 use Rattle.sat_script.specs.declared.line.Parsed.{Parsed}
 use Rattle.sat_script.specs.declared.line.Parsed.TheVariants as parsed
 use Rattle.sat_script.specs.declared.line.Stage.{Stage}
@@ -45,11 +46,9 @@ use Rattle.sat_stream.specs.declared.stream.Reading.{Reading}
 use Rattle.sat_script.proofs.Acts.{has_both}
 use Rattle.sat_script.proofs.ActsRead.{act_reads, not_end}
 use Rattle.sat_script.proofs.Choices.{word_is}
-use Rattle.sat_script.proofs.Fits.{fit_start, stands_after}
-use Rattle.sat_script.proofs.Headers.{not_zero, bit_none}
+use Rattle.sat_script.proofs.Fits.{fit_start, stands_after, items_allowed}
 use Rattle.sat_script.proofs.Lists.{get_mid}
 use Rattle.sat_stream.proofs.HeadersRead.{IsSites, format_reads, sites_reads, gears_reads, item_reads, client_reads, begin_reads}
-use Rattle.sat_script.proofs.Rising.{members_set, members_under, set_small}
 use Rattle.sat_script.proofs.Stands.{ItemStands, ClientStands, IsPlanFor, PlanStands, ActStands}
 use Rattle.sat_stream.proofs.Texts.{IsLine, line_fits, is_text-line, line_at-words, lacks, no_newline}
 use Rattle.sat_stream.proofs.TreesRead.{plan_reads}
@@ -93,7 +92,7 @@ settles_cons : (m : ℕ) (a : Act) (more : List Act) → with_settle m (parsed.A
 settles_cons m act.Settle more = omega arith
 settles_cons m _ more = refl
 
-body_reads : (dialect : Dialect) (d : Deployed) (more : List Act) (n m : ℕ) (r : Reading) → IsWhole d → AreActsOf d more → AreAllowed dialect more → n + length more ≤ (limits_of dialect).acts → m + settles_of more ≤ (limits_of dialect).settles
+body_reads : (dialect : Dialect) (d : Deployed) (more : List Act) (n m : ℕ) (r : Reading) → IsWhole d → AreActsOf d more → AreAllowed dialect more → n + length more ≤ (limits_of dialect d.format).acts → m + settles_of more ≤ (limits_of dialect d.format).settles
     → script_from (record { dialect = dialect; stage = stage.Body; header = d; acts = n; settles = m }) r (slice_split is_newline (acts_text d more ++ ended (codes "end" ∷ []))) ≡ with_acts r (r.acts ++ more)
 body_reads dialect d [] n m r is each free few settles = end_reads dialect d n m r is ∙ ap (with_acts r) (sym (append-nil r.acts))
 body_reads dialect d (a ∷ more) n m r is each free few settles =
@@ -117,16 +116,10 @@ abbrev lines : Dialect → Deployed → State
 lines dialect d = record { dialect = dialect; stage = stage.Header; header = d; acts = 0; settles = 0 }
 
 abbrev of_items : Deployed → List Item → Deployed
-of_items d items = record { sites = d.sites; gears = d.gears; items = items; clients = []; plans = [] }
+of_items d items = record { format = d.format; sites = d.sites; gears = d.gears; items = items; clients = []; plans = [] }
 
 item_sites : (d : Deployed) (item : Item) (x : ℕ) → IsDeployment d → slice_get d.items x ≡ Some item → IsSites d.sites item.replicas
 item_sites d item x is at = record { some = is.kept x item at; inside = λ k h. is.replicas x k item at h }
-
-sites_are : (sites bits : ℕ) → ((k : ℕ) × (bit bits k ≡ true)) → ((k : ℕ) → bit bits k ≡ true → k < sites) → are_sites sites bits ≡ true
-sites_are sites bits some inside =
-    let whole = members_set bits sites inside in
-    let small : bits < 2 ^ sites = subst (λ (n : ℕ). n < 2 ^ sites) whole (set_small (filter (bit bits) (below sites)) sites (members_under (bit bits) sites)) in
-    and_from (not (eqb bits 0)) (ltb bits (2 ^ sites)) (not_zero bits (λ e. bit_none bits some.0 e some.1)) (lt-ltb bits (2 ^ sites) small)
 
 -- none before it has its name
 new_name : {X : Type 0} (name : X → List ℕ) (all done todo : List X) (x : X) → ((j k : ℕ) (y z : X) → slice_get all j ≡ Some y → slice_get all k ≡ Some z → name y ≡ name z → j ≡ k) → all ≡ done ++ x ∷ todo
@@ -142,22 +135,18 @@ item_new : (d : Deployed) (done todo : List Item) (item : Item) → IsDeployment
 unfolding has_item
 item_new d done todo item is e = new_name item_name_of d.items done todo item is.item_names e
 
-all_items : (dialect : Dialect) → (limits_of dialect).items ≡ MOST_ITEMS
-all_items dialect.Run = refl
-all_items dialect.Live = refl
-
 item_stands : (dialect : Dialect) (d : Deployed) (done todo : List Item) (item : Item) → IsDeployment d → HaveNames d → d.items ≡ done ++ item ∷ todo → ItemStands (lines dialect (of_items d done)) item
 item_stands dialect d done todo item is names e =
     let here : slice_get d.items (length done) ≡ Some item = ap (λ (xs : List Item). slice_get xs (length done)) e ∙ get_mid done todo item in
     let sites = item_sites d item (length done) is here in
-    let few = is.few_items in
+    let few = is.items_allowed in
     let count : length d.items ≡ length (done ++ item ∷ todo) = ap length e in
     record {
       name = all_mid (λ (item : Item). is_name item.name ≡ true) done todo item (subst (λ (xs : List Item). AllByRecursion (λ (item : Item). is_name item.name ≡ true) xs) e names.items);
-      sites = sites_are d.sites item.replicas.bits sites.some sites.inside;
+      sites = sites-are d.sites item.replicas.bits sites.some sites.inside;
       clients = refl;
       plans = refl;
-      room = omega (arith, all_items dialect, length-append done (item ∷ todo));
+      room = omega (arith, items_allowed dialect d.format, length-append done (item ∷ todo));
       new = item_new d done todo item is e;
     }
 
@@ -185,13 +174,13 @@ items_read dialect d done (item ∷ todo) r rest is names fit e =
 -- ---- the clients
 
 abbrev of_clients : Deployed → List ClientLine → Deployed
-of_clients d clients = record { sites = d.sites; gears = d.gears; items = d.items; clients = clients; plans = [] }
+of_clients d clients = record { format = d.format; sites = d.sites; gears = d.gears; items = d.items; clients = clients; plans = [] }
 
 client_new : (d : Deployed) (done todo : List ClientLine) (line : ClientLine) → IsDeployment d → d.clients ≡ done ++ line ∷ todo → has_client (of_clients d done) line.name ≡ false
 unfolding has_client
 client_new d done todo line is e = new_name client_name_of d.clients done todo line is.client_names e
 
-client_stands : (dialect : Dialect) (d : Deployed) (done todo : List ClientLine) (line : ClientLine) → IsDeployment d → HaveNames d → length d.clients ≤ (limits_of dialect).clients → d.clients ≡ done ++ line ∷ todo → ClientStands (lines dialect (of_clients d done)) line
+client_stands : (dialect : Dialect) (d : Deployed) (done todo : List ClientLine) (line : ClientLine) → IsDeployment d → HaveNames d → length d.clients ≤ (limits_of dialect d.format).clients → d.clients ≡ done ++ line ∷ todo → ClientStands (lines dialect (of_clients d done)) line
 client_stands dialect d done todo line is names few e =
     let here : slice_get d.clients (length done) ≡ Some line = ap (λ (xs : List ClientLine). slice_get xs (length done)) e ∙ get_mid done todo line in
     let count : length d.clients ≡ length (done ++ line ∷ todo) = ap length e in
@@ -203,7 +192,7 @@ client_stands dialect d done todo line is names few e =
       new = client_new d done todo line is e;
     }
 
-clients_read : (dialect : Dialect) (d : Deployed) (done todo : List ClientLine) (r : Reading) (rest : List ℕ) → IsDeployment d → HaveNames d → length d.clients ≤ (limits_of dialect).clients → IsFit (lines dialect (of_clients d done)) → d.clients ≡ done ++ todo
+clients_read : (dialect : Dialect) (d : Deployed) (done todo : List ClientLine) (r : Reading) (rest : List ℕ) → IsDeployment d → HaveNames d → length d.clients ≤ (limits_of dialect d.format).clients → IsFit (lines dialect (of_clients d done)) → d.clients ≡ done ++ todo
     → (script_from (lines dialect (of_clients d done)) r (slice_split is_newline (clients_text todo ++ rest)) ≡ script_from (lines dialect (of_clients d d.clients)) r (slice_split is_newline rest)) × IsFit (lines dialect (of_clients d d.clients))
 clients_read dialect d done [] r rest is names few fit e =
     let same : done ≡ d.clients = sym (append-nil done) ∙ sym e in
@@ -222,7 +211,7 @@ clients_read dialect d done (line ∷ todo) r rest is names few fit e =
 -- ---- the plans
 
 abbrev of_plans : Deployed → List Plan → Deployed
-of_plans d plans = record { sites = d.sites; gears = d.gears; items = d.items; clients = d.clients; plans = plans }
+of_plans d plans = record { format = d.format; sites = d.sites; gears = d.gears; items = d.items; clients = d.clients; plans = plans }
 
 tree_at : (d : Deployed) (k : ℕ) (t : TreeShape) → slice_get d.plans k ≡ Some (plan.Tree t) → tree_of d (k + 1) ≡ Some t
 tree_at d k t at =
@@ -269,37 +258,42 @@ all_free : (acts : List Act) → AreAllowed dialect.Run acts
 all_free [] = tt
 all_free (a ∷ acts) = (refl, all_free acts)
 
-limits : (live : Bool) (d : Deployed) (acts : List Act) → IsDeployment d → length acts ≤ MOST_ACTS → settles_of acts ≤ MOST_SETTLES → IsAllowed live d acts → IsWithin (dialect_of live) d acts
+limits : (live : Bool) (d : Deployed) (acts : List Act) → IsDeployment d → length acts ≤ (format_limits d.format).acts → settles_of acts ≤ MOST_SETTLES → IsAllowed live d acts → IsWithin (dialect_of live) d acts
 limits true d acts is few settles h = h
-limits false d acts is few settles h = record { sites = is.few_sites; clients = is.few_clients; few = few; settles = settles; each = all_free acts }
+limits false d acts is few settles h = record { sites = is.sites_allowed; clients = is.few_clients; few = few; settles = settles; each = all_free acts }
 
 header_flat : (a b c i f p rest : List ℕ) → (a ++ (b ++ (c ++ (i ++ (f ++ p))))) ++ rest ≡ a ++ (b ++ (c ++ (i ++ (f ++ (p ++ rest)))))
 header_flat a b c i f p rest = simp append_assoc
 
-first_lines : (dialect : Dialect) (d : Deployed) (rest : List ℕ) → IsDeployment d → d.sites ≤ (limits_of dialect).sites
-    → (script_from (start dialect) nothing (slice_split is_newline (ended (codes "saturn" ∷ codes "1" ∷ []) ++ (ended (codes "sites" ∷ decimal d.sites ∷ []) ++ (ended (codes "gears" ∷ decimal d.gears ∷ []) ++ rest))))
+-- a format is a number from 1 to the last one
+format_range : (f : ℕ) → is_format f ≡ true → (1 ≤ f) × (f ≤ LAST_FORMAT)
+format_range f is = (grind (arith, nat_tests), grind (arith, nat_tests))
+
+first_lines : (dialect : Dialect) (d : Deployed) (rest : List ℕ) → IsDeployment d → d.sites ≤ (limits_of dialect d.format).sites
+    → (script_from (start dialect) nothing (slice_split is_newline (ended (codes "saturn" ∷ decimal d.format ∷ []) ++ (ended (codes "sites" ∷ decimal d.sites ∷ []) ++ (ended (codes "gears" ∷ decimal d.gears ∷ []) ++ rest))))
     ≡ script_from (lines dialect (of_items d [])) nothing (slice_split is_newline rest)) × IsFit (lines dialect (of_items d []))
 unfolding words_line
 first_lines dialect d rest is few =
     let s0 : State = start dialect in
-    let s1 : State = after s0 parsed.Format in
+    let s1 : State = after s0 (parsed.Format d.format) in
     let s2 : State = after s1 (parsed.Sites d.sites) in
     let f0 = fit_start dialect in
-    let f1 = stands_after s0 parsed.Format f0 tt in
-    let site_stands : (1 ≤ d.sites) × (d.sites ≤ (limits_of dialect).sites) = (omega (arith, is.some_site), few) in
+    let format_stands = format_range d.format is.format in
+    let f1 = stands_after s0 (parsed.Format d.format) f0 format_stands in
+    let site_stands : (1 ≤ d.sites) × (d.sites ≤ (limits_of dialect d.format).sites) = (omega (arith, is.some_site), few) in
     let f2 = stands_after s1 (parsed.Sites d.sites) f1 site_stands in
     let gear_stands : (1 ≤ d.gears) × (d.gears ≤ 8) = (omega (arith, is.some_gear), is.few_gears) in
     let f3 = stands_after s2 (parsed.Gears d.gears) f2 gear_stands in
     let gears_text : List ℕ = ended (codes "gears" ∷ decimal d.gears ∷ []) ++ rest in
     let sites_text : List ℕ = ended (codes "sites" ∷ decimal d.sites ∷ []) ++ gears_text in (
-      line_step s0 nothing (codes "saturn" ∷ codes "1" ∷ []) sites_text parsed.Format (line_fits stage.Start s0 parsed.Format f0.header (omega arith) tt) refl format_reads
-          ∙ line_step s1 nothing (codes "sites" ∷ decimal d.sites ∷ []) gears_text (parsed.Sites d.sites) (line_fits stage.Sites s1 (parsed.Sites d.sites) f1.header (omega arith) site_stands) refl (sites_reads dialect d.sites site_stands.0 few)
+      line_step s0 nothing (codes "saturn" ∷ decimal d.format ∷ []) sites_text (parsed.Format d.format) (line_fits stage.Start s0 (parsed.Format d.format) f0.header (omega arith) format_stands) refl (format_reads d.format format_stands.0 format_stands.1)
+          ∙ line_step s1 nothing (codes "sites" ∷ decimal d.sites ∷ []) gears_text (parsed.Sites d.sites) (line_fits stage.Sites s1 (parsed.Sites d.sites) f1.header (omega arith) site_stands) refl (sites_reads s1 d.sites site_stands.0 few)
           ∙ line_step s2 nothing (codes "gears" ∷ decimal d.gears ∷ []) rest (parsed.Gears d.gears) (line_fits stage.Gears s2 (parsed.Gears d.gears) f2.header is.few_sites gear_stands) refl (gears_reads d.gears gear_stands.0 gear_stands.1),
       f3,
     )
 
 -- the lines before `begin`, whatever comes behind them
-pub header_reads : (dialect : Dialect) (d : Deployed) (rest : List ℕ) → IsDeployment d → HaveNames d → d.sites ≤ (limits_of dialect).sites → length d.clients ≤ (limits_of dialect).clients
+pub header_reads : (dialect : Dialect) (d : Deployed) (rest : List ℕ) → IsDeployment d → HaveNames d → d.sites ≤ (limits_of dialect d.format).sites → length d.clients ≤ (limits_of dialect d.format).clients
     → (script_from (start dialect) nothing (slice_split is_newline (header_text d ++ rest)) ≡ script_from (lines dialect d) nothing (slice_split is_newline rest)) × IsFit (lines dialect d)
 unfolding header_text
 header_reads dialect d rest is names sites few =
@@ -309,7 +303,7 @@ header_reads dialect d rest is names sites few =
     let clients = clients_read dialect d [] d.clients nothing plan_text is names few items.1 refl in
     let plans = plans_read dialect d [] d.plans nothing rest is clients.1 refl in (
       ap (λ (bs : List ℕ). script_from (start dialect) nothing (slice_split is_newline bs))
-          (header_flat (ended (codes "saturn" ∷ codes "1" ∷ [])) (ended (codes "sites" ∷ decimal d.sites ∷ [])) (ended (codes "gears" ∷ decimal d.gears ∷ [])) (items_text d.items) (clients_text d.clients) (plans_text d.plans) rest)
+          (header_flat (ended (codes "saturn" ∷ decimal d.format ∷ [])) (ended (codes "sites" ∷ decimal d.sites ∷ [])) (ended (codes "gears" ∷ decimal d.gears ∷ [])) (items_text d.items) (clients_text d.clients) (plans_text d.plans) rest)
           ∙ first.0
           ∙ items.0
           ∙ clients.0
@@ -327,7 +321,7 @@ begin_goes dialect d rest is fit =
       stands_after s parsed.Begin fit some,
     )
 
-last_lines : (dialect : Dialect) (d : Deployed) (acts : List Act) → IsDeployment d → IsFit (lines dialect d) → AreActsOf d acts → AreAllowed dialect acts → length acts ≤ (limits_of dialect).acts → settles_of acts ≤ (limits_of dialect).settles
+last_lines : (dialect : Dialect) (d : Deployed) (acts : List Act) → IsDeployment d → IsFit (lines dialect d) → AreActsOf d acts → AreAllowed dialect acts → length acts ≤ (limits_of dialect d.format).acts → settles_of acts ≤ (limits_of dialect d.format).settles
     → script_from (lines dialect d) nothing (slice_split is_newline (ended (codes "begin" ∷ []) ++ (acts_text d acts ++ ended (codes "end" ∷ [])))) ≡ good d acts
 last_lines dialect d acts is fit each free few settles =
     let body = begin_goes dialect d (acts_text d acts ++ ended (codes "end" ∷ [])) is fit in

@@ -40,7 +40,7 @@ use Rattle.sat_script.proofs.Acts.{Fits, AllFit, IsSmall, no_small, shape_small}
 use Rattle.sat_script.proofs.ActsRead.{args_fit, epoch_inside, named_client, named_item}
 use Rattle.sat_script.specs.State.{State}
 use Rattle.sat_script.specs.Words.{is_newline, is_blank, is_text, words_of}
-use Rattle.sat_script.specs.declared.limits.TheConstants.{LONGEST_LINE}
+use Rattle.sat_script.specs.declared.limits.TheConstants.{LONGEST_LINE, MOST_SITES}
 use Rattle.sat_stream.specs.declared.limits.TheConstants.{LINE_BYTES}
 use Rattle.sat_script.specs.declared.line.Parsed.{Parsed}
 use Rattle.sat_script.specs.declared.line.Parsed.TheVariants as parsed
@@ -145,7 +145,7 @@ lettered : (letter n : ℕ) → is_between 33 126 letter ≡ true → n < 2 ^ 16
 lettered letter n h small = let w = number_word n small in (and_from (is_between 33 126 letter) (list_all (is_between 33 126) (decimal n)) h w.0, omega (arith, w.1))
 
 -- a node of a small tree
-node_word : (t : TreeShape) (u : NodeId) → length t.parents ≤ 15 → length t.seats ≤ 16 → IsNode t u → IsWord (node_text u) × (length (node_text u) ≤ 6)
+node_word : (t : TreeShape) (u : NodeId) → length t.parents ≤ 15 → length t.seats ≤ MOST_SITES → IsNode t u → IsWord (node_text u) × (length (node_text u) ≤ 6)
 unfolding node_text
 node_word t (Site i) few seats inside = lettered 115 i refl (omega arith)
 node_word t (Serializer z) few seats inside = lettered 122 z refl (omega arith)
@@ -280,15 +280,15 @@ tree_line_fits t is =
     let tail_size = size_append (map parent_text t.parents) (codes "/" ∷ map decimal t.seats) in
     record { each = (refl, (refl, tail_words)); some = omega arith; short = omega (arith, ps.1, ss.1) }
 
-plan_line_fits : (sites : ℕ) (p : Plan) → sites ≤ 16 → IsPlanFor sites p → IsLine (plan_words p)
+plan_line_fits : (sites : ℕ) (p : Plan) → sites ≤ MOST_SITES → IsPlanFor sites p → IsLine (plan_words p)
 plan_line_fits sites plan.Stamp few h = record { each = (refl, (refl, tt)); some = omega arith; short = omega arith }
 plan_line_fits sites (plan.Tree t) few h = tree_line_fits t (tree_small sites t h few).0
 
 -- ---- any line
 
-pub line_fits : (here : Stage) (s : State) (p : Parsed) → HasHeader here s.header → s.header.sites ≤ 16 → Stands here s p → IsLine (parsed_words s.header p)
-line_fits stage.Start s parsed.Format kept few h = record { each = (refl, (refl, tt)); some = omega arith; short = omega arith }
-line_fits stage.Sites s (parsed.Sites n) kept few h = let most = (limits_few s.dialect).sites in let w = number_word n (omega (arith, h.1)) in record { each = (refl, (w.0, tt)); some = omega arith; short = omega (arith, w.1) }
+pub line_fits : (here : Stage) (s : State) (p : Parsed) → HasHeader here s.header → s.header.sites ≤ MOST_SITES → Stands here s p → IsLine (parsed_words s.header p)
+line_fits stage.Start s (parsed.Format f) kept few h = let w = number_word f (omega (arith, h.1)) in record { each = (refl, (w.0, tt)); some = omega arith; short = omega (arith, w.1) }
+line_fits stage.Sites s (parsed.Sites n) kept few h = let most = (limits_few s.dialect s.header.format).sites in let w = number_word n (omega (arith, h.1)) in record { each = (refl, (w.0, tt)); some = omega arith; short = omega (arith, w.1) }
 line_fits stage.Gears s (parsed.Gears n) kept few h = let w = number_word n (omega (arith, h.1)) in record { each = (refl, (w.0, tt)); some = omega arith; short = omega (arith, w.1) }
 line_fits stage.Header s (parsed.Item item) kept few h = item_line_fits s item h
 line_fits stage.Header s (parsed.Client line) kept few h =

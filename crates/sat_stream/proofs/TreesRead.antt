@@ -20,7 +20,7 @@ use Rattle.sat_script.specs.Spelled.{plan_words}
 use Rattle.sat_tree.specs.PlanLine.{parent_text}
 use Rattle.sat_script.specs.State.{State}
 use Rattle.sat_script.specs.Words.{is_number, value_of}
-use Rattle.sat_script.specs.declared.limits.TheConstants.{MOST_PLANS}
+use Rattle.sat_script.specs.declared.limits.TheConstants.{MOST_PLANS, MOST_SITES}
 use Rattle.sat_script.specs.declared.line.Parsed.{Parsed}
 use Rattle.sat_script.specs.declared.line.Parsed.TheVariants as parsed
 use Rattle.sat_script.proofs.Choices.{word_is}
@@ -131,6 +131,6 @@ stamp_reads : (s : State) → length s.header.plans < MOST_PLANS → header_line
 unfolding header_line plan_line stamp_line
 stamp_reads s room = rw (stamp_free s room) refl
 
-pub plan_reads : (s : State) (p : Plan) → s.header.sites ≤ 16 → PlanStands s p → header_line s (plan_words p) ≡ Ok (parsed.Plan p)
+pub plan_reads : (s : State) (p : Plan) → s.header.sites ≤ MOST_SITES → PlanStands s p → header_line s (plan_words p) ≡ Ok (parsed.Plan p)
 plan_reads s plan.Stamp few st = stamp_reads s st.room
 plan_reads s (plan.Tree t) few st = tree_reads s t (tree_small s.header.sites t st.fits few).0 st.fits st.room

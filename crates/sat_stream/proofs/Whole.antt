@@ -1,5 +1,5 @@
 -- A text has no fault exactly where it is the spelling of its deployment and its acts.
-use Rattle.std.proofs.Common.{◌≡◌, ℕ, ◌+◌, ◌-◌, ◌*◌, ◌≤◌, Bool, true, false, cond, ltb, List, [], ◌∷◌, ◌++◌, length, Option, Some, None, Result, Ok, Err, sym, ap, ◌∙◌, refl, subst, arith}
+use Rattle.std.proofs.Common.{◌≡◌, ℕ, ◌+◌, ◌-◌, ◌*◌, ◌≤◌, Bool, true, false, cond, eqb, ltb, List, [], ◌∷◌, ◌++◌, length, Option, Some, None, Result, Ok, Err, sym, ap, ◌∙◌, refl, subst, arith}
 use Rattle.std.specs.List.{filter, flat_map, slice_split, join_with_byte}
 use Rattle.std.specs.Prelude.{codes}
 use Rattle.std.specs.Fmt.{decimal}
@@ -7,6 +7,7 @@ use Rattle.std.proofs.lemmas.List.{append-nil, append_assoc, length-append}
 use Rattle.std.proofs.lemmas.Grind.{flat_map-append}
 use Rattle.std.proofs.lemmas.List.Elements.{filter-append}
 use Rattle.std.proofs.lemmas.List.Splits.{join_with_byte-slice_split}
+use Rattle.sat_label.specs.Formats.{limits_of as format_limits}
 use Rattle.sat_act.specs.Deployed.{Deployed}
 use Rattle.sat_act.specs.Ranges.{IsActOf}
 use Rattle.sat_act.specs.Runs.{is_settle}
@@ -22,14 +23,15 @@ use Rattle.sat_stream.specs.Coming.{HasSaid}
 use Rattle.sat_stream.specs.Reading.{script_from, reading, nothing, after_line, closed, with_line, AreAllowed, IsAllowed, IsWithin}
 use Rattle.sat_script.specs.Spelled.{AreActsOf, settles_of, line_text, item_words, client_words, plan_words, ended, items_text, clients_text, plans_text, acts_text, header_text, spelling, Spells}
 use Rattle.sat_script.specs.Table.{act_words, form_of}
-use Rattle.sat_script.specs.Dialect.{has_form, dialect_of}
+use Rattle.sat_script.specs.Dialect.{has_form, dialect_of, limits_of}
 use Rattle.sat_script.specs.State.{State, start, number_of, header_lines, first_of}
 use Rattle.sat_script.specs.Words.{is_newline}
 use Rattle.sat_script.specs.declared.dialect.Dialect.{Dialect}
+use Rattle.sat_script.specs.declared.dialect.Dialect.TheVariants as dialect
 use Rattle.sat_script.specs.declared.fault.Cause.{Cause}
 use Rattle.sat_script.specs.declared.fault.Cause.TheVariants.{LongLine, NoEnd}
 use Rattle.sat_script.specs.declared.limits.TheConstants.{LONGEST_LINE}
-use Rattle.sat_stream.specs.declared.limits.TheConstants.{LINE_BYTES}
+use Rattle.sat_stream.specs.declared.limits.TheConstants.{LINE_BYTES, MOST_LINES}
 use Rattle.sat_script.specs.declared.line.Parsed.{Parsed}
 use Rattle.sat_script.specs.declared.line.Parsed.TheVariants as parsed
 use Rattle.sat_script.specs.declared.line.Stage.{Stage}
@@ -37,14 +39,14 @@ use Rattle.sat_script.specs.declared.line.Stage.TheVariants as stage
 use Rattle.sat_stream.specs.declared.stream.Reading.{Reading}
 use Rattle.sat_script.proofs.Lists.{all_more}
 use Rattle.sat_script.proofs.Stands.{parsed_words, Stands, limits_few}
-use Rattle.sat_script.proofs.Fits.{line_is, fit_start, fit_after}
+use Rattle.sat_script.proofs.Fits.{line_is, fit_start, fit_after, acts_allowed}
 use Rattle.sat_stream.proofs.Texts.{line_fits, line_size, line_text-words}
 
 -- ---- counting lines and bytes
 
 number-after : (here : Stage) (s : State) (p : Parsed) → Stands here s p
     → first_of (next_stage here p) + header_lines (with_parsed s.header p) + with_act s.acts p ≡ first_of here + header_lines s.header + s.acts + 1
-number-after stage.Start s parsed.Format h = omega arith
+number-after stage.Start s (parsed.Format f) h = omega arith
 number-after stage.Sites s (parsed.Sites n) h = omega arith
 number-after stage.Gears s (parsed.Gears n) h = omega arith
 number-after stage.Header s (parsed.Item item) h = omega (arith, length-append s.header.items (item ∷ []))
@@ -68,7 +70,7 @@ pub line_counted : (s : State) (line : List ℕ) (p : Parsed) → IsFit s → li
 unfolding number_of
 line_counted s line p fit h =
     let is = line_is s line p fit h in
-    let most = (limits_few s.dialect).sites in
+    let most = (limits_few s.dialect s.header.format).sites in
     let fits = line_fits s.stage s p fit.header (omega (arith, fit.sites)) is.stands in
     let text : line ≡ line_text (parsed_words s.header p) = sym (line_text-words line) ∙ ap line_text is.spelled in
     let few = line_size (parsed_words s.header p) fits in
@@ -77,18 +79,27 @@ line_counted s line p fit h =
     let some = first_some s.stage in
     omega arith
 
-pub lines_counted : (s : State) → IsFit s → LINE_BYTES * (number_of s - 1) ≤ 123120000
+-- a format that allows more items allows fewer acts
+most_lines : (dialect : Dialect) (format : ℕ) → (limits_of dialect format).items + (limits_of dialect format).acts ≤ 204096
+most_lines dialect.Run format = go (eqb format 1)
+  where
+    go : (b : Bool) → (cond b (format_limits 1) (format_limits 2)).items + (cond b (format_limits 1) (format_limits 2)).acts ≤ 204096
+    go true = omega arith
+    go false = omega arith
+most_lines dialect.Live format = let few = (limits_few dialect.Live format).items in omega (arith, few)
+
+pub lines_counted : (s : State) → IsFit s → LINE_BYTES * (number_of s - 1) ≤ LINE_BYTES * MOST_LINES
 unfolding number_of
 lines_counted s fit =
     let first = first_few s.stage in
-    let most = limits_few s.dialect in
-    omega (arith, most.items, most.clients, most.acts, fit.items, fit.clients, fit.plans, fit.acts)
+    let clients = (limits_few s.dialect s.header.format).clients in
+    omega (arith, most_lines s.dialect s.header.format, clients, fit.items, fit.clients, fit.plans, fit.acts)
 
 -- ---- what good lines said
 
 pub said_after : (here : Stage) (s : State) (p : Parsed) (r : Reading) → Stands here s p → HasSaid s.dialect here s.header r.deployment r.acts
     → HasSaid s.dialect (next_stage here p) (with_parsed s.header p) (with_line s.header r (told_line p)).deployment (with_line s.header r (told_line p)).acts
-said_after stage.Start s parsed.Format r h said = said
+said_after stage.Start s (parsed.Format f) r h said = said
 said_after stage.Sites s (parsed.Sites k) r h said = said
 said_after stage.Gears s (parsed.Gears k) r h said = said
 said_after stage.Header s (parsed.Item item) r h said = said
@@ -121,8 +132,8 @@ text_more text xs x = flat_map-append text xs (x ∷ []) ∙ ap (λ (bs : List �
 -- the lines so far
 abbrev front : Stage → Deployed → List Act → List ℕ
 front stage.Start d acts = []
-front stage.Sites d acts = ended (codes "saturn" ∷ codes "1" ∷ [])
-front stage.Gears d acts = ended (codes "saturn" ∷ codes "1" ∷ []) ++ ended (codes "sites" ∷ decimal d.sites ∷ [])
+front stage.Sites d acts = ended (codes "saturn" ∷ decimal d.format ∷ [])
+front stage.Gears d acts = ended (codes "saturn" ∷ decimal d.format ∷ []) ++ ended (codes "sites" ∷ decimal d.sites ∷ [])
 front stage.Header d acts = header_text d
 front stage.Body d acts = header_text d ++ (ended (codes "begin" ∷ []) ++ acts_text d acts)
 front stage.Ended d acts = header_text d ++ (ended (codes "begin" ∷ []) ++ (acts_text d acts ++ ended (codes "end" ∷ [])))
@@ -145,22 +156,22 @@ body_front h b acts e = simp append_assoc
 front-after : (here : Stage) (s : State) (p : Parsed) (r : Reading) → HasHeader here s.header → Stands here s p → HasSaid s.dialect here s.header r.deployment r.acts
     → front (next_stage here p) (with_parsed s.header p) (with_line s.header r (told_line p)).acts ≡ front here s.header r.acts ++ ended (parsed_words s.header p)
 unfolding header_text
-front-after stage.Start s parsed.Format r kept h said = refl
+front-after stage.Start s (parsed.Format f) r kept h said = refl
 front-after stage.Sites s (parsed.Sites k) r kept h said = refl
 front-after stage.Gears s (parsed.Gears k) r kept h said =
     let items = kept.items in
     let clients = kept.clients in
     let plans = kept.plans in
-    rw (items, clients, plans) (opened_front (ended (codes "saturn" ∷ codes "1" ∷ [])) (ended (codes "sites" ∷ decimal s.header.sites ∷ [])) (ended (codes "gears" ∷ decimal k ∷ [])) [])
+    rw (items, clients, plans) (opened_front (ended (codes "saturn" ∷ decimal s.header.format ∷ [])) (ended (codes "sites" ∷ decimal s.header.sites ∷ [])) (ended (codes "gears" ∷ decimal k ∷ [])) [])
 front-after stage.Header s (parsed.Item item) r kept h said =
     let clients = h.clients in
     let plans = h.plans in
-    rw (clients, plans, text_more (λ (item : Item). ended (item_words item)) s.header.items item) (item_front (ended (codes "saturn" ∷ codes "1" ∷ [])) (ended (codes "sites" ∷ decimal s.header.sites ∷ [])) (ended (codes "gears" ∷ decimal s.header.gears ∷ [])) (items_text s.header.items) (ended (item_words item)))
+    rw (clients, plans, text_more (λ (item : Item). ended (item_words item)) s.header.items item) (item_front (ended (codes "saturn" ∷ decimal s.header.format ∷ [])) (ended (codes "sites" ∷ decimal s.header.sites ∷ [])) (ended (codes "gears" ∷ decimal s.header.gears ∷ [])) (items_text s.header.items) (ended (item_words item)))
 front-after stage.Header s (parsed.Client line) r kept h said =
     let plans = h.plans in
-    rw (plans, text_more (λ (line : ClientLine). ended (client_words line)) s.header.clients line) (client_front (ended (codes "saturn" ∷ codes "1" ∷ [])) (ended (codes "sites" ∷ decimal s.header.sites ∷ [])) (ended (codes "gears" ∷ decimal s.header.gears ∷ [])) (items_text s.header.items) (clients_text s.header.clients) (ended (client_words line)))
+    rw (plans, text_more (λ (line : ClientLine). ended (client_words line)) s.header.clients line) (client_front (ended (codes "saturn" ∷ decimal s.header.format ∷ [])) (ended (codes "sites" ∷ decimal s.header.sites ∷ [])) (ended (codes "gears" ∷ decimal s.header.gears ∷ [])) (items_text s.header.items) (clients_text s.header.clients) (ended (client_words line)))
 front-after stage.Header s (parsed.Plan p) r kept h said =
-    rw (text_more (λ (p : Plan). ended (plan_words p)) s.header.plans p) (plan_front (ended (codes "saturn" ∷ codes "1" ∷ [])) (ended (codes "sites" ∷ decimal s.header.sites ∷ [])) (ended (codes "gears" ∷ decimal s.header.gears ∷ [])) (items_text s.header.items) (clients_text s.header.clients) (plans_text s.header.plans) (ended (plan_words p)))
+    rw (text_more (λ (p : Plan). ended (plan_words p)) s.header.plans p) (plan_front (ended (codes "saturn" ∷ decimal s.header.format ∷ [])) (ended (codes "sites" ∷ decimal s.header.sites ∷ [])) (ended (codes "gears" ∷ decimal s.header.gears ∷ [])) (items_text s.header.items) (clients_text s.header.clients) (plans_text s.header.plans) (ended (plan_words p)))
 front-after stage.Header s parsed.Begin r kept h said = ap (λ (acts : List Act). header_text s.header ++ (ended (codes "begin" ∷ []) ++ acts_text s.header acts)) said.1 ∙ ap (λ (bs : List ℕ). header_text s.header ++ bs) (append-nil (ended (codes "begin" ∷ [])))
 front-after stage.Body s (parsed.Act a) r kept h said = ap (λ (bs : List ℕ). header_text s.header ++ (ended (codes "begin" ∷ []) ++ bs)) (text_more (λ (a : Act). ended (act_words s.header a)) r.acts a) ∙ body_front (header_text s.header) (ended (codes "begin" ∷ [])) (acts_text s.header r.acts) (ended (act_words s.header a))
 front-after stage.Body s parsed.End r kept h said = body_front (header_text s.header) (ended (codes "begin" ∷ [])) (acts_text s.header r.acts) (ended (codes "end" ∷ []))
@@ -213,7 +224,7 @@ read_ended : (s : State) (r : Reading) (text rest : List ℕ) → IsSo s r text 
 unfolding spelling
 read_ended s r text rest so e none =
     let said = subst (λ (here : Stage). HasSaid s.dialect here s.header r.deployment r.acts) e so.said in
-    let most = limits_few s.dialect in
+    let most = limits_few s.dialect s.header.format in
     let kept = subst (λ (here : Stage). HasHeader here s.header) e so.fit.header in (
       s.header,
       said.0,
@@ -222,7 +233,7 @@ read_ended s r text rest so e none =
         deployment = kept.deployment;
         names = kept.names;
         each = said.1;
-        few = omega (arith, so.few, so.fit.acts, most.acts);
+        few = acts_allowed s.dialect s.header.format (length r.acts) (omega (arith, so.few, so.fit.acts));
         settles = omega (arith, so.settles, so.fit.settles, most.settles);
       },
       record { sites = so.fit.sites; clients = so.fit.clients; few = omega (arith, so.few, so.fit.acts); settles = omega (arith, so.settles, so.fit.settles); each = said.2 },

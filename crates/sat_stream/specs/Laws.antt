@@ -29,4 +29,4 @@ SpellingsBeginOnce =
 pub record IsSound (live : Bool) (found : Reading) : Type 0 where
   pub whole : IfSome found.deployment (λ d. IsDeployment d × HaveNames d × AreActsOf d found.acts)
   pub none : found.deployment ≡ None → found.acts ≡ []
-  pub few : length found.acts ≤ (limits_of (dialect_of live)).acts
+  pub few : IfSome found.deployment (λ d. length found.acts ≤ (limits_of (dialect_of live) d.format).acts)

@@ -68,12 +68,12 @@ good d acts = record { deployment = Some d; acts = acts; fault = None }
 abbrev pub AreAllowed : Dialect → List Act → Type 0
 AreAllowed dialect acts = AllByRecursion (λ a. has_form dialect (form_of a) ≡ true) acts
 
--- within the limits of a dialect
+-- within the limits of a dialect and of the deployment's format
 pub record IsWithin (dialect : Dialect) (d : Deployed) (acts : List Act) : Type 0 where
-  pub sites : d.sites ≤ (limits_of dialect).sites
-  pub clients : length d.clients ≤ (limits_of dialect).clients
-  pub few : length acts ≤ (limits_of dialect).acts
-  pub settles : settles_of acts ≤ (limits_of dialect).settles
+  pub sites : d.sites ≤ (limits_of dialect d.format).sites
+  pub clients : length d.clients ≤ (limits_of dialect d.format).clients
+  pub few : length acts ≤ (limits_of dialect d.format).acts
+  pub settles : settles_of acts ≤ (limits_of dialect d.format).settles
   pub each : AreAllowed dialect acts
 
 -- the same where the script is for nodes on threads; every deployment and its acts are within the limits of the others
