@@ -1,5 +1,6 @@
 -- A large script has a spelling: it is within the limits of scripts.
-use Rattle.std.proofs.Common.{ℕ, ◌≡◌, ◌≤◌, true, refl, arith}
+use Rattle.std.proofs.Common.{ℕ, ◌≡◌, ◌≤◌, true, length, refl, arith}
+use Rattle.sat_label.specs.Formats.{limits_of as format_limits}
 use Rattle.sat_label.specs.Text.{is_name}
 use Rattle.sat_act.specs.declared.deployment.Item.{Item}
 use Rattle.sat_act.specs.declared.deployment.ClientLine.{ClientLine}
@@ -18,6 +19,10 @@ names = record {
   clients = all-below (λ (line : ClientLine). is_name line.name ≡ true) load_client 40 (λ k less. client_name k (omega arith));
 }
 
+allowed : (n : ℕ) → n ≤ 200000 → n ≤ (format_limits load_deployment.format).acts
+unfolding load_deployment
+allowed n few = few
+
 pub load_spelled : (seed n : ℕ) → 2 ≤ n → n ≤ 199000 → Spells (spelling load_deployment (load_acts seed n)) load_deployment (load_acts seed n)
 load_spelled seed n some few =
     let count = acts_counted seed n some in
@@ -27,6 +32,6 @@ load_spelled seed n some few =
       deployment = load_is_deployment;
       names = names;
       each = each-in-range seed n few;
-      few = omega arith;
+      few = allowed (length (load_acts seed n)) (omega arith);
       settles = omega arith;
     }

@@ -19,7 +19,7 @@ use Rattle.sat_stream.specs.Stream.{Came, will_be, known_fault, bytes_of, behind
 use Rattle.sat_script.specs.declared.fault.ScriptFault.{ScriptFault}
 use Rattle.sat_script.specs.declared.limits.TheConstants.{MOST_ACTS}
 use Rattle.sat_stream.specs.declared.stream.Reading.{Reading}
-use Rattle.sat_stream.proofs.Drained.{ends_as}
+use Rattle.sat_stream.proofs.Drained.{ends_as, few_read}
 use Rattle.sat_top.specs.declared.stream.Halt.{Halt}
 use Rattle.sat_top.specs.declared.stream.Halt.TheVariants.{Source, Sink, Memory}
 use Rattle.sat_top.specs.declared.words.Command.TheVariants.{Run}
@@ -77,7 +77,7 @@ known_fed r new (Some w) piece had same =
 pub few_under : (b n : Option (List ℕ)) (k : ℕ) (r : Came) (w : Option WorldSeen) (count : ℕ) (written : List ℕ) → EverySound → IsUnder b n k r w count written → count + length r.lines.acts ≤ MOST_ACTS
 few_under b n k r w count written sound had =
     let e : length (had.done ++ (will_be r []).acts) ≡ length (reading false (had.read.taken ++ [])).acts = ap (λ (x : Reading). length x.acts) (had.read.means []) in
-    let few : length (reading false (had.read.taken ++ [])).acts ≤ MOST_ACTS = (sound (had.read.taken ++ [])).few in
+    let few : length (reading false (had.read.taken ++ [])).acts ≤ MOST_ACTS = few_read false (reading false (had.read.taken ++ [])) (sound (had.read.taken ++ [])) in
     omega (arith, e, few, length-append had.done (will_be r []).acts, ap (λ (acts : List Act). length acts) (ends_as r).1, had.number)
 
 -- ---- its acts are done

@@ -78,6 +78,7 @@ pub(crate) fn fault_output(alloc: Global, fault: &ScriptFault) -> Result<Output,
 }
 
 /// What `draw` writes of what a text was read as: the drawing of its run, or the line of its first fault.
+#[tactic(auto, using(sat_stream::proofs::Drained::few_read))]
 pub(crate) fn draw_of(alloc: Global, reading: Reading) -> Result<Output, AllocError>
     requires { IsSound false reading }
     ensures text { IfOk result (λ out. out.text.items ≡ draw_text reading) }
