@@ -8,6 +8,7 @@ use Rattle.sat_delay.specs.declared.fault.Place.{Place}
 use Rattle.sat_delay.specs.declared.fault.DelayFault.{DelayFault}
 use Rattle.sat_delay.specs.declared.fault.DelayFault.TheVariants.{TooLong, NotJson, BadShape, TooBig, Memory}
 use Rattle.sat_delay.specs.declared.matrix.Form.{Form}
+use Rattle.sat_delay.specs.declared.read.TheConstants.{MOST_TABLE_SITES}
 use Rattle.sat_delay.specs.Table.{DelayTable}
 
 -- the keys, by number
@@ -96,7 +97,7 @@ keyed form input = matrix_of form (get (key_name form.key) input)
 unfoldable pub table_of : Data → Result DelayTable DelayFault
 unfolding size_of keyed
 table_of input =
-    and_then (size_of 0 16 input) (λ sites.
+    and_then (size_of 0 MOST_TABLE_SITES input) (λ sites.
     and_then (size_of 1 32 input) (λ places.
     and_then (keyed (form_of 2 sites places 100000) input) (λ reach.
     and_then (keyed (form_of 3 places places 100000) input) (λ between.

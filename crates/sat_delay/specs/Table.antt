@@ -1,6 +1,7 @@
 -- A table of delays as plain lists.
 use Rattle.std.specs.Prelude.{ℕ, ◌≡◌, ◌<◌, ◌≤◌, List, [], length, slice_index}
 use Rattle.std.specs.List.{slice_index_or}
+use Rattle.sat_delay.specs.declared.read.TheConstants.{MOST_TABLE_SITES}
 
 -- The numbers of sites and places; milliseconds between a site and a place, from a place to a place and at best from site to
 -- site; and how much each pair of sites weighs. Each matrix is a list of rows.
@@ -25,7 +26,7 @@ pub record IsMatrix (rows : List (List ℕ)) (count width most : ℕ) : Type 0 w
 -- at most 16 sites and 32 places, 100,000 milliseconds and a weight of 1,000,000
 pub record IsWithinLimits (t : DelayTable) : Type 0 where
   pub some_site : 0 < t.sites
-  pub few_sites : t.sites ≤ 16
+  pub few_sites : t.sites ≤ MOST_TABLE_SITES
   pub some_place : 0 < t.places
   pub few_places : t.places ≤ 32
   pub reach : IsMatrix t.reach t.sites t.places 100000

@@ -13,5 +13,5 @@ mod text;
 pub use delays::Delays;
 pub use fault::{DelayFault, Place};
 pub use number::{item_at, key_name, number_at};
-pub use read::{MOST_BYTES, json_of, read_delays, table_of};
+pub use read::{MOST_BYTES, MOST_TABLE_SITES, json_of, read_delays, table_of};
 pub use text::{write_delay_fault, write_fault};

@@ -8,12 +8,14 @@ use crate::DelayFault;
 use crate::delays::Delays;
 use crate::matrix::{Form, keyed};
 use crate::number::size_of;
-use sat_label::MOST_SITES;
 use serde_json::Value;
 use std::alloc::Global;
 
 /// The most bytes that a text of delays may have.
 pub const MOST_BYTES: usize = 1_048_576;
+
+/// The most sites of a table. A deployment may have more.
+pub const MOST_TABLE_SITES: u16 = 16;
 
 // The greatest numbers of places, milliseconds and weights.
 const MOST_PLACES: u16 = 32;
@@ -45,7 +47,7 @@ pub fn json_of(alloc: Global, bytes: &[u8]) -> Result<Value, DelayFault>
 pub fn table_of(alloc: Global, input: &Value) -> Result<Delays, DelayFault>
     ensures { Gives result (table_of (view input.now)) }
 {
-    let sites = size_of(0, MOST_SITES, input)?;
+    let sites = size_of(0, MOST_TABLE_SITES, input)?;
     let places = size_of(1, MOST_PLACES, input)?;
     let most = MOST_MILLISECONDS;
     let reach = keyed(

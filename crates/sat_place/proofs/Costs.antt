@@ -9,6 +9,7 @@ use Rattle.std.proofs.lemmas.List.{get_or_append_left}
 use Rattle.std.proofs.lemmas.List.Elements.{All-head, All-tail, All-weaker}
 use Rattle.std.proofs.lemmas.List.Sums.{sum_by-cons, sum_by-le}
 use Rattle.sat_delay.specs.Table.{DelayTable, IsWithinLimits}
+use Rattle.sat_plan.specs.declared.limits.TheConstants.{MOST_EDGES, MOST_PAIRS}
 use Rattle.sat_plan.specs.Sums.{gap}
 use Rattle.sat_place.specs.declared.ways.Hop.{Hop}
 use Rattle.sat_place.specs.declared.ways.Way.{Way}
@@ -135,7 +136,7 @@ cost_few d places w limits is =
     (let near = limits.reach.bounded w.from (slice_index places w.near) in
     let far = limits.reach.bounded w.to (slice_index places w.far) in
     let hops = hops_few d places w.hops limits in
-    let few = product_few (length w.hops) 465 100000 is.few in
+    let few = product_few (length w.hops) MOST_EDGES 100000 is.few in
     omega arith)
     (let o = is.optimal in omega arith))
 
@@ -145,12 +146,12 @@ known_cost_few d places w limits is = elim (cases_lt w.last (length places)) [
   | inr past ↦ let a = known_no d places w past in omega arith
 ]
 
-pub known_few : (d : DelayTable) (ways : List Way) (places : List ℕ) → AreWays d ways → known d ways places ≤ 256 * 100000000000000
+pub known_few : (d : DelayTable) (ways : List Way) (places : List ℕ) → AreWays d ways → known d ways places ≤ MOST_PAIRS * 100000000000000
 unfolding known
 known_few d ways places are =
     let each = All-weaker (IsWay d) (λ w. known_cost d places w ≤ 100000000000000) (λ w is. known_cost_few d places w are.limits is) ways are.sound in
     let most = sum_by-le (known_cost d places) 100000000000000 ways each in
-    let bound = product_few (length ways) 256 100000000000000 are.few in
+    let bound = product_few (length ways) MOST_PAIRS 100000000000000 are.few in
     omega arith
 
 pub known_small : (d : DelayTable) (ways : List Way) → AreWays d ways → (places : List ℕ) → known d ways places < 18446744073709551615

@@ -10,6 +10,7 @@ use Rattle.sat_tree.specs.Cut.{parent_of, seat_of}
 use Rattle.sat_tree.specs.Flaw.{IsSmallTree}
 use Rattle.sat_delay.specs.declared.fault.DelayFault.{DelayFault}
 use Rattle.sat_delay.specs.declared.fault.Place.{Place}
+use Rattle.sat_delay.specs.declared.read.TheConstants.{MOST_TABLE_SITES}
 use Rattle.sat_delay.specs.Table.{DelayTable}
 use Rattle.sat_delay.specs.Reading.{key_name, place_at, and_then, ended, item_at}
 use Rattle.sat_delay.proofs.Gathered.{IsGathered, is_gathered}
@@ -105,7 +106,7 @@ seat_at : (parents seats : List ℕ) (i : ℕ) → seat_of (tree_with parents se
 unfolding seat_of
 seat_at parents seats i = unwrap_or-slice_get seats i 0
 
-pub small_tree : (parents seats : List ℕ) (sites : ℕ) → sites ≤ 16 → AreParents parents → AreSeats (length parents) sites seats → IsSmallTree (tree_with parents seats)
+pub small_tree : (parents seats : List ℕ) (sites : ℕ) → sites ≤ MOST_TABLE_SITES → AreParents parents → AreSeats (length parents) sites seats → IsSmallTree (tree_with parents seats)
 small_tree parents seats sites limit are sit = record {
   tree = record { down = down; inner = inner; hung = hung; seats = sat };
   some_serializer = omega arith;

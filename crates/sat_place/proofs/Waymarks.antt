@@ -89,15 +89,15 @@ hops_within near far hops = All-from_get_or (IsHopWithin (highest near far hops 
 pub pair_in : (sites n : ℕ) (list : List Pair) (p : Pair) → list ≡ pairs sites → n < length list → IsPairBelow sites (get_or list n p)
 pair_in sites n list p is within = rw is (All-get_or (IsPairBelow sites) (pairs sites) n p (let l = ap length is in omega arith) (pairs_are sites))
 
-own_way : (d : DelayTable) (t : TreeShape) (p : Pair) → IsWithinLimits d → IsSmallTree t → IsPairBelow d.sites p → IsWay d (way_of d t p)
+own_way : (d : DelayTable) (t : TreeShape) (p : Pair) → IsWithinLimits d → IsSmallTree t → length t.seats ≡ d.sites → IsPairBelow d.sites p → IsWay d (way_of d t p)
 unfolding way_of hops_of
-own_way d t p limits small pair = record {
+own_way d t p limits small seats pair = record {
   from = pair.from;
   to = pair.to;
   near = (ends_within (seat_of t p.from) (seat_of t p.to) (hops_below t p.from p.to (length (edges t))) _).0;
   far = (ends_within (seat_of t p.from) (seat_of t p.to) (hops_below t p.from p.to (length (edges t))) _).1;
   hops = hops_within (seat_of t p.from) (seat_of t p.to) (hops_below t p.from p.to (length (edges t)));
-  few = let few = hops_few t p.from p.to (length (edges t)) in let most = edges_few t small in omega arith;
+  few = let few = hops_few t p.from p.to (length (edges t)) in let most = edges_few t small (let sites = limits.few_sites in omega arith) in omega arith;
   weight = limits.weight.bounded p.from p.to;
   optimal = limits.optimal.bounded p.from p.to;
 }
@@ -110,10 +110,10 @@ pub record AreFirst (d : DelayTable) (t : TreeShape) (list : List Pair) (n : ℕ
 pub first_none : (d : DelayTable) (t : TreeShape) (list : List Pair) (ways : List Way) → ways ≡ [] → AreFirst d t list 0 ways
 first_none d t list ways none = record { same = none; sound = rw none (All-nil (IsWay d)) }
 
-pub first_more : (d : DelayTable) (t : TreeShape) (list : List Pair) (n : ℕ) (p : Pair) (w : Way) (ways more : List Way) → IsWithinLimits d → IsSmallTree t → list ≡ pairs d.sites → n < length list → w ≡ way_of d t (get_or list n p) → more ≡ ways ++ w ∷ [] → AreFirst d t list n ways → AreFirst d t list (n + 1) more
-first_more d t list n p w ways more limits small is within own grown front = record {
+pub first_more : (d : DelayTable) (t : TreeShape) (list : List Pair) (n : ℕ) (p : Pair) (w : Way) (ways more : List Way) → IsWithinLimits d → IsSmallTree t → length t.seats ≡ d.sites → list ≡ pairs d.sites → n < length list → w ≡ way_of d t (get_or list n p) → more ≡ ways ++ w ∷ [] → AreFirst d t list n ways → AreFirst d t list (n + 1) more
+first_more d t list n p w ways more limits small seats is within own grown front = record {
   same = grown ∙ rw (front.same, own, take_more list n p within) (sym (map-append (way_of d t) (take n list) (get_or list n p ∷ [])));
-  sound = rw grown (All-push (IsWay d) ways w front.sound (rw own (own_way d t (get_or list n p) limits small (pair_in d.sites n list p is within))));
+  sound = rw grown (All-push (IsWay d) ways w front.sound (rw own (own_way d t (get_or list n p) limits small seats (pair_in d.sites n list p is within))));
 }
 
 pub first_all : (d : DelayTable) (t : TreeShape) (list : List Pair) (n : ℕ) (ways : List Way) → list ≡ pairs d.sites → n ≡ length list → AreFirst d t list n ways → ways ≡ map (way_of d t) (pairs d.sites)

@@ -7,6 +7,7 @@ use Rattle.sat_tree.specs.Shape.{TreeShape}
 use Rattle.sat_tree.specs.Cut.{seat_of}
 use Rattle.sat_delay.specs.Table.{DelayTable, IsWithinLimits, entry}
 use Rattle.sat_plan.specs.declared.edges.Edge.{Edge}
+use Rattle.sat_plan.specs.declared.limits.TheConstants.{MOST_EDGES, MOST_PAIRS}
 use Rattle.sat_plan.specs.declared.pairs.Pair.{Pair}
 use Rattle.sat_plan.specs.Sums.{gap}
 use Rattle.sat_plan.specs.Config.{edges, edge_at}
@@ -114,12 +115,12 @@ pub record IsWay (d : DelayTable) (w : Way) : Type 0 where
   pub near : w.near ≤ w.last
   pub far : w.far ≤ w.last
   pub hops : All (IsHopWithin w.last) w.hops
-  pub few : length w.hops ≤ 465
+  pub few : length w.hops ≤ MOST_EDGES
   pub weight : w.weight ≤ 1000000
   pub optimal : w.optimal ≤ 100000
 
--- at most 256 of them
+-- so few of them that sums fit
 pub record AreWays (d : DelayTable) (ways : List Way) : Type 0 where
   pub limits : IsWithinLimits d
   pub sound : All (IsWay d) ways
-  pub few : length ways ≤ 256
+  pub few : length ways ≤ MOST_PAIRS

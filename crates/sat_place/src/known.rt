@@ -1,6 +1,7 @@
 //! What pairs of sites add to the mismatch once the places on their ways are known.
 ghost use Rattle.std.specs.Prelude.{◌≡◌, ℕ, ◌<◌, ◌≤◌, ◌*◌, length, slice_index, All};
 ghost use Rattle.sat_delay.specs.Table.{IsWithinLimits};
+ghost use Rattle.sat_plan.specs.declared.limits.TheConstants.{MOST_EDGES, MOST_PAIRS};
 ghost use Rattle.sat_place.specs.Ways.{hop_span, hops_span, way_latency, way_cost, known_cost, known, added_cost, added, IsHopWithin, IsWay, AreWays};
 
 use crate::ways::{Hop, Way};
@@ -28,9 +29,9 @@ fn hops_span(d: &Delays, places: &[u64], hops: &[Hop], last: u16) -> u64
     requires within { (z : ℕ) → z < length places.now → slice_index places.now z < d.now.places }
     requires hops { All (IsHopWithin last) hops.now }
     requires known { last < length places.now }
-    requires few { length hops.now ≤ 465 }
+    requires few { length hops.now ≤ MOST_EDGES }
     ensures span { result ≡ hops_span d.now places.now hops.now }
-    ensures short { result ≤ 46500000 }
+    ensures short { result ≤ MOST_EDGES * 100000 }
 {
     let mut total = 0;
     for hop in hops {
@@ -105,7 +106,7 @@ pub fn known(d: &Delays, ways: &[Way], places: &[u64]) -> u64
     requires ways { AreWays d.now ways.now }
     requires within { (z : ℕ) → z < length places.now → slice_index places.now z < d.now.places }
     ensures known { result ≡ known d.now ways.now places.now }
-    ensures few { result ≤ 256 * 100000000000000 }
+    ensures few { result ≤ MOST_PAIRS * 100000000000000 }
 {
     let mut total = 0;
     for way in ways {
@@ -120,7 +121,7 @@ pub fn added(d: &Delays, ways: &[Way], places: &[u64]) -> u64
     requires ways { AreWays d.now ways.now }
     requires within { (z : ℕ) → z < length places.now → slice_index places.now z < d.now.places }
     ensures added { result ≡ added d.now ways.now places.now }
-    ensures few { result ≤ 256 * 100000000000000 }
+    ensures few { result ≤ MOST_PAIRS * 100000000000000 }
 {
     let mut total = 0;
     for way in ways {

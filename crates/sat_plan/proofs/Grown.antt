@@ -11,6 +11,7 @@ use Rattle.sat_tree.specs.Shape.{TreeShape}
 use Rattle.sat_tree.specs.Cut.{parent_of, seat_of}
 use Rattle.sat_tree.specs.Flaw.{IsSmallTree}
 use Rattle.sat_delay.specs.Table.{DelayTable, IsWithinLimits}
+use Rattle.sat_delay.specs.declared.read.TheConstants.{MOST_TABLE_SITES}
 use Rattle.sat_plan.specs.Config.{Config, edges, Fits}
 use Rattle.sat_plan.specs.Steps.{star, undelayed, start_at, seat_cost, nearest, nearest_seats, hung, hung_tree}
 use Rattle.sat_plan.proofs.SumLemmas.{least_is_least}
@@ -31,7 +32,7 @@ seat_alone : (sites i : ℕ) → seat_of (star sites) i ≡ 0
 unfolding seat_of
 seat_alone sites i = unwrap_or-slice_get (replicate sites 0) i 0 ∙ zeros sites i
 
-pub star_small : (sites : ℕ) → sites ≤ 16 → IsSmallTree (star sites)
+pub star_small : (sites : ℕ) → sites ≤ MOST_TABLE_SITES → IsSmallTree (star sites)
 star_small sites few = record {
   tree = record {
     down = λ z p is. absurd (alone z p is);
@@ -41,7 +42,7 @@ star_small sites few = record {
   };
   some_serializer = omega arith;
   few_serializers = omega arith;
-  few_seats = rw (length-replicate sites zero) few;
+  few_seats = rw (length-replicate sites zero) (omega arith);
 }
 
 -- ---- one serializer more
@@ -86,7 +87,7 @@ hung_small d c q p limits small one_each room within = record {
   };
   some_serializer = let count = length-one_more c.tree.parents (Some q) in omega arith;
   few_serializers = let count = length-one_more c.tree.parents (Some q) in omega arith;
-  few_seats = rw (nearest_seats_length d (c.places ++ p ∷ [])) limits.few_sites;
+  few_seats = rw (nearest_seats_length d (c.places ++ p ∷ [])) (let few = limits.few_sites in omega arith);
 }
   where
     now : List (Option ℕ)

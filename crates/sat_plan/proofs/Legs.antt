@@ -83,11 +83,11 @@ access_short d t places access i limits is = elim (cases_lt i (length t.seats)) 
   | inr past ↦ rw (get_or_past access i 0 (let l = access_length d t places access is in omega arith)) (omega arith)
 ]
 
-pub are_short : (d : DelayTable) (t : TreeShape) (places : List ℕ) (r : Routes) → IsWithinLimits d → IsSmallTree t → r.access.items ≡ map (site_access d t places) (below (length t.seats)) → AreLegs d t places (length (edges t)) r.legs.items → AreShort r
-are_short d t places r limits small access legs = record {
+pub are_short : (d : DelayTable) (t : TreeShape) (places : List ℕ) (r : Routes) → IsWithinLimits d → IsSmallTree t → length t.seats ≡ d.sites → r.access.items ≡ map (site_access d t places) (below (length t.seats)) → AreLegs d t places (length (edges t)) r.legs.items → AreShort r
+are_short d t places r limits small seats access legs = record {
   access = λ i. access_short d t places r.access.items i limits access;
   spans = legs.short;
-  few = let many = legs.many in let few = edges_few t small in omega arith;
+  few = let many = legs.many in let few = edges_few t small (let sites = limits.few_sites in omega arith) in omega arith;
 }
 
 pub routes_seated : (d : DelayTable) (t : TreeShape) (places : List ℕ) (r : Routes) → IsRoutes d t places r → length r.access.items ≡ length t.seats

@@ -4,11 +4,14 @@ use Rattle.std.specs.List.{All}
 use Rattle.std.proofs.lemmas.List.{length-map}
 use Rattle.std.proofs.lemmas.List.Elements.{All-nil, All-cons, All-head, All-tail, All-append, All-map, All-push, All-weaker}
 use Rattle.sat_label.specs.declared.node.NodeId.TheVariants.{Site, Serializer}
+use Rattle.sat_label.specs.declared.limits.TheConstants.{MOST_SERIALIZERS}
 use Rattle.sat_label.specs.Words.{below}
 use Rattle.sat_label.proofs.Numbers.{length-below}
 use Rattle.sat_tree.specs.Shape.{TreeShape}
 use Rattle.sat_tree.specs.Cut.{neighbours, is_edge, IsNode}
 use Rattle.sat_tree.specs.Flaw.{IsSmallTree}
+use Rattle.sat_delay.specs.declared.read.TheConstants.{MOST_TABLE_SITES}
+use Rattle.sat_plan.specs.declared.limits.TheConstants.{MOST_EDGES, MOST_PAIRS}
 use Rattle.sat_plan.specs.Config.{edge_of, edges_below, edges}
 use Rattle.sat_plan.specs.Mismatch.{pair_of, is_other, pairs_below, pairs}
 use Rattle.sat_plan.specs.Drafts.{IsEdgeOf, IsPairBelow}
@@ -44,7 +47,7 @@ pub edges_more : (t : TreeShape) (z : ℕ) → edges_below t (z + 1) ≡ edges_b
 unfolding edges_below
 edges_more t z = rw (add-one, edges_below) refl
 
-neighbours_few : (t : TreeShape) (z : ℕ) → length t.seats ≤ 16 → length t.parents ≤ 15 → length (neighbours t z) ≤ 31
+neighbours_few : (t : TreeShape) (z : ℕ) → length t.seats ≤ MOST_TABLE_SITES → length t.parents ≤ MOST_SERIALIZERS → length (neighbours t z) ≤ MOST_TABLE_SITES + MOST_SERIALIZERS
 unfolding neighbours
 neighbours_few t z seats parents =
     let most = length-filter-le (is_edge t (Serializer z)) (map Site (below (length t.seats)) ++ map Serializer (below (length t.parents))) in
@@ -53,7 +56,7 @@ neighbours_few t z seats parents =
     let serializers = length-map (below (length t.parents)) Serializer in
     omega (arith, length-below (length t.seats), length-below (length t.parents))
 
-edges_few_below : (t : TreeShape) (z : ℕ) → length t.seats ≤ 16 → length t.parents ≤ 15 → length (edges_below t z) ≤ z * 31
+edges_few_below : (t : TreeShape) (z : ℕ) → length t.seats ≤ MOST_TABLE_SITES → length t.parents ≤ MOST_SERIALIZERS → length (edges_below t z) ≤ z * (MOST_TABLE_SITES + MOST_SERIALIZERS)
 unfolding edges_below
 edges_few_below t zero seats parents = omega arith
 edges_few_below t (suc z) seats parents =
@@ -63,9 +66,9 @@ edges_few_below t (suc z) seats parents =
     let mapped = length-map (neighbours t z) (edge_of z) in
     omega arith
 
-pub edges_few : (t : TreeShape) → IsSmallTree t → length (edges t) ≤ 465
+pub edges_few : (t : TreeShape) → IsSmallTree t → length t.seats ≤ MOST_TABLE_SITES → length (edges t) ≤ MOST_EDGES
 unfolding edges
-edges_few t small = let most = edges_few_below t (length t.parents) small.few_seats small.few_serializers in let few = small.few_serializers in omega arith
+edges_few t small seats = let most = edges_few_below t (length t.parents) seats small.few_serializers in let few = small.few_serializers in omega arith
 
 neighbours_are : (t : TreeShape) (z : ℕ) → z < length t.parents → All (λ n. IsEdgeOf t (edge_of z n)) (neighbours t z)
 unfolding neighbours
@@ -108,7 +111,7 @@ pub pairs_are : (sites : ℕ) → All (IsPairBelow sites) (pairs sites)
 unfolding pairs
 pairs_are sites = pairs_are_below sites sites (omega arith)
 
-pairs_few_below : (sites i : ℕ) → sites ≤ 16 → length (pairs_below sites i) ≤ i * 16
+pairs_few_below : (sites i : ℕ) → sites ≤ MOST_TABLE_SITES → length (pairs_below sites i) ≤ i * MOST_TABLE_SITES
 unfolding pairs_below
 pairs_few_below sites zero few = omega arith
 pairs_few_below sites (suc i) few =
@@ -118,7 +121,7 @@ pairs_few_below sites (suc i) few =
     let filtered = length-filter-le (is_other i) (below sites) in
     omega (arith, length-below sites)
 
-pub pairs_few : (sites : ℕ) → sites ≤ 16 → length (pairs sites) ≤ 256
+pub pairs_few : (sites : ℕ) → sites ≤ MOST_TABLE_SITES → length (pairs sites) ≤ MOST_PAIRS
 unfolding pairs
 pairs_few sites few = let most = pairs_few_below sites sites few in omega arith
 

@@ -6,6 +6,7 @@ use Rattle.std.proofs.lemmas.List.Elements.{All-take, All-weaker}
 use Rattle.std.proofs.lemmas.List.Sums.{sum_by-le}
 use Rattle.sat_label.specs.Words.{bit}
 use Rattle.sat_delay.specs.Table.{DelayTable, IsWithinLimits}
+use Rattle.sat_plan.specs.declared.limits.TheConstants.{MOST_EDGES, MOST_PAIRS}
 use Rattle.sat_plan.specs.declared.pairs.Pair.{Pair}
 use Rattle.sat_plan.specs.declared.routes.Leg.{Leg}
 use Rattle.sat_plan.specs.declared.routes.Routes.{Routes}
@@ -22,7 +23,7 @@ way_short l delay i k span short = go (bit l.far.bits k && not (bit l.far.bits i
     go true is = rw is (omega arith)
     go false is = rw is (omega arith)
 
-pub legs_short : (r : Routes) (delays : List ℕ) (i k n : ℕ) → AreShort r → ((e : ℕ) → slice_index delays e ≤ 100000) → n ≤ length r.legs.items → sum_to (routed_leg r.legs.items delays i k) n ≤ 93000000
+pub legs_short : (r : Routes) (delays : List ℕ) (i k n : ℕ) → AreShort r → ((e : ℕ) → slice_index delays e ≤ 100000) → n ≤ length r.legs.items → sum_to (routed_leg r.legs.items delays i k) n ≤ MOST_EDGES * 200000
 unfolding routed_leg
 legs_short r delays i k n short prompt within =
     let few = short.few in
@@ -45,10 +46,10 @@ length-take-most zero xs = omega arith
 length-take-most (suc n) [] = omega arith
 length-take-most (suc n) (x ∷ xs) = let most = length-take-most n xs in omega arith
 
-product_few : (a m : ℕ) → a ≤ 256 → a * m ≤ 256 * m
-product_few a m few = mul-le a m 256 m few (omega arith)
+product_few : (a m : ℕ) → a ≤ MOST_PAIRS → a * m ≤ MOST_PAIRS * m
+product_few a m few = mul-le a m MOST_PAIRS m few (omega arith)
 
-pub terms_short : (terms : List Term) (delay i : ℕ) → All IsSmallTerm terms → length terms ≤ 256 → delay ≤ 100000 → sum_by (term_cost delay) (take i terms) ≤ 25625600000000000
+pub terms_short : (terms : List Term) (delay i : ℕ) → All IsSmallTerm terms → length terms ≤ MOST_PAIRS → delay ≤ 100000 → sum_by (term_cost delay) (take i terms) ≤ MOST_PAIRS * (1000000 * 100100000)
 terms_short terms delay i small few short =
     let each = All-weaker IsSmallTerm (λ t. term_cost delay t ≤ 1000000 * 100100000) (λ t is. term_few t delay is short) (take i terms) (All-take IsSmallTerm i terms small) in
     let most = sum_by-le (term_cost delay) (1000000 * 100100000) (take i terms) each in
@@ -73,7 +74,7 @@ cost_few d r delays p limits short prompt =
 All-every : {X : Type 0} (P : X → Type 0) → ((x : X) → P x) → (xs : List X) → All P xs
 All-every P each xs = λ k d under. each _
 
-pub total_short : (d : DelayTable) (r : Routes) (delays : List ℕ) (pairs : List Pair) (i : ℕ) → IsWithinLimits d → AreShort r → ((e : ℕ) → slice_index delays e ≤ 100000) → length pairs ≤ 256 → sum_by (routed_cost d r delays) (take i pairs) ≤ 25600000000000000
+pub total_short : (d : DelayTable) (r : Routes) (delays : List ℕ) (pairs : List Pair) (i : ℕ) → IsWithinLimits d → AreShort r → ((e : ℕ) → slice_index delays e ≤ 100000) → length pairs ≤ MOST_PAIRS → sum_by (routed_cost d r delays) (take i pairs) ≤ MOST_PAIRS * (1000000 * 100000000)
 total_short d r delays pairs i limits short prompt few =
     let each = All-every (λ p. routed_cost d r delays p ≤ 1000000 * 100000000) (λ p. cost_few d r delays p limits short prompt) (take i pairs) in
     let most = sum_by-le (routed_cost d r delays) (1000000 * 100000000) (take i pairs) each in

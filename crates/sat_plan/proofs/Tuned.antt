@@ -6,6 +6,8 @@ use Rattle.std.proofs.lemmas.List.{set-get_or, get_or-set_same, get_or-set_other
 use Rattle.std.proofs.lemmas.List.Sums.{sum_by-cons}
 use Rattle.std.proofs.lemmas.List.Elements.{All-head, All-tail}
 use Rattle.sat_delay.specs.Table.{DelayTable, entry, IsWithinLimits}
+use Rattle.sat_delay.specs.declared.read.TheConstants.{MOST_TABLE_SITES}
+use Rattle.sat_plan.specs.declared.limits.TheConstants.{MOST_PAIRS}
 use Rattle.sat_plan.specs.declared.pairs.Pair.{Pair}
 use Rattle.sat_plan.specs.declared.routes.Routes.{Routes}
 use Rattle.sat_plan.specs.declared.terms.Term.{Term}
@@ -197,7 +199,7 @@ tuned_stays d c r e best cost terms ways is all routes fits edge least few costs
     let no_lower : mismatch d c ≤ delay_cost d c e (best_delay d c e) = rw known (omega arith) in
     delayed_same c e ∙ sym (tuned_else d c e no_lower)
 
-pub terms_few : (d : DelayTable) (r : Routes) (delays : List ℕ) (e : ℕ) (terms : List Term) (ways : List Pair) → terms ≡ map (term_of d r delays e) ways → ways ≡ pairs d.sites → d.sites ≤ 16 → length terms ≤ 256
+pub terms_few : (d : DelayTable) (r : Routes) (delays : List ℕ) (e : ℕ) (terms : List Term) (ways : List Pair) → terms ≡ map (term_of d r delays e) ways → ways ≡ pairs d.sites → d.sites ≤ MOST_TABLE_SITES → length terms ≤ MOST_PAIRS
 terms_few d r delays e terms ways is all few =
     let most = pairs_few d.sites few in
     let count = length-map ways (term_of d r delays e) in

@@ -7,6 +7,7 @@ use Rattle.sat_tree.specs.Shape.{TreeShape}
 use Rattle.sat_tree.specs.Cut.{beyond, seat_of}
 use Rattle.sat_delay.specs.Table.{DelayTable, entry}
 use Rattle.sat_plan.specs.declared.edges.Edge.{Edge}
+use Rattle.sat_plan.specs.declared.limits.TheConstants.{MOST_EDGES}
 use Rattle.sat_plan.specs.declared.pairs.Pair.{Pair}
 use Rattle.sat_plan.specs.declared.routes.Leg.{Leg}
 use Rattle.sat_plan.specs.declared.routes.Routes.{Routes}
@@ -61,4 +62,4 @@ pub record IsRoutes (d : DelayTable) (t : TreeShape) (places : List ℕ) (r : Ro
 pub record AreShort (r : Routes) : Type 0 where
   pub access : (i : ℕ) → slice_index r.access.items i ≤ 100000
   pub spans : (e : ℕ) → (slice_index_or r.legs.items e no_leg).span ≤ 100000
-  pub few : length r.legs.items ≤ 465
+  pub few : length r.legs.items ≤ MOST_EDGES

@@ -8,6 +8,7 @@ mod building;
 mod draft;
 pub mod edges;
 mod grow;
+pub mod limits;
 mod measure;
 pub mod pairs;
 mod routes;

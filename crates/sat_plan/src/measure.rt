@@ -7,6 +7,7 @@ ghost use Rattle.sat_plan.specs.Config.{config_of, Fits};
 ghost use Rattle.sat_plan.specs.Mismatch.{mismatch};
 ghost use Rattle.sat_plan.specs.Drafts.{IsPairBelow};
 ghost use Rattle.sat_plan.specs.Routes.{routed_cost, AreShort};
+ghost use Rattle.sat_plan.specs.declared.limits.TheConstants.{MOST_PAIRS};
 
 use crate::pairs::{Pair, pairs};
 use crate::routes::{Routes, routes_of};
@@ -44,7 +45,7 @@ fn total(d: &Delays, routes: &Routes, delays: &[u64], pairs: &[Pair]) -> u64
     requires prompt { (e : ℕ) → slice_index delays.now e ≤ 100000 }
     requires seated { length routes.now.access.items ≡ d.now.sites }
     requires pairs { All (IsPairBelow d.now.sites) pairs.now }
-    requires few { length pairs.now ≤ 256 }
+    requires few { length pairs.now ≤ MOST_PAIRS }
     ensures { result ≡ sum_by (routed_cost d.now routes.now delays.now) pairs.now }
 {
     let mut total = 0;

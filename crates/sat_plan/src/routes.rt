@@ -1,5 +1,5 @@
 //! What is kept of a tree at its places, so that latencies need no walk.
-ghost use Rattle.std.specs.Prelude.{◌≡◌, ℕ, ◌<◌, ◌≤◌, ◌&&◌, not, length, map, slice_index, IfOk};
+ghost use Rattle.std.specs.Prelude.{◌≡◌, ℕ, ◌<◌, ◌≤◌, ◌*◌, ◌&&◌, not, length, map, slice_index, IfOk};
 ghost use Rattle.sat_label.specs.Words.{bit, below};
 ghost use Rattle.sat_tree.specs.Cut.{seat_of};
 ghost use Rattle.sat_tree.specs.Flaw.{IsSmallTree};
@@ -9,6 +9,7 @@ ghost use Rattle.sat_plan.specs.Mismatch.{span};
 ghost use Rattle.sat_plan.specs.Sums.{sum_to};
 ghost use Rattle.sat_plan.specs.Drafts.{EndsBelow, IsEdgeOf};
 ghost use Rattle.sat_plan.specs.Routes.{leg_way, routed_leg, routed, site_access, IsLeg, AreLegs, IsRoutes, AreShort};
+ghost use Rattle.sat_plan.specs.declared.limits.TheConstants.{MOST_EDGES};
 
 use crate::edges::{Edge, edges};
 use sat_delay::Delays;
@@ -157,7 +158,7 @@ impl Routes {
         requires delays { length delays.now ≡ length self.now.legs.items }
         requires prompt { (e : ℕ) → slice_index delays.now e ≤ 100000 }
         ensures way { result ≡ sum_to (routed_leg self.now.legs.items delays.now from to) (length self.now.legs.items) }
-        ensures short { result ≤ 93000000 }
+        ensures short { result ≤ MOST_EDGES * 200000 }
     {
         let mut total = 0;
         for e in 0..self.legs.len() {

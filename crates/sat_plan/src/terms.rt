@@ -3,6 +3,7 @@ ghost use Rattle.std.specs.Prelude.{◌≡◌, ◌<◌, ◌≤◌, ℕ, length, 
 ghost use Rattle.sat_plan.specs.Sums.{IsLeast};
 ghost use Rattle.sat_plan.specs.Drafts.{term_cost, terms_cost, turn_of, better, term_of, IsSmallTerm, IsPairBelow};
 ghost use Rattle.sat_plan.specs.Routes.{AreShort};
+ghost use Rattle.sat_plan.specs.declared.limits.TheConstants.{MOST_PAIRS};
 
 use crate::measure::gap;
 use crate::pairs::Pair;
@@ -71,7 +72,7 @@ impl Choice {
 #[tactic(auto, using(crate::proofs::Short::terms_short), unfolding(crate::specs::Drafts::terms_cost))]
 pub fn terms_cost(terms: &[Term], delay: u64) -> u64
     requires small { All IsSmallTerm terms.now }
-    requires few { length terms.now ≤ 256 }
+    requires few { length terms.now ≤ MOST_PAIRS }
     requires delay { delay ≤ 100000 }
     ensures { result ≡ terms_cost terms.now delay }
 {
@@ -87,7 +88,7 @@ pub fn terms_cost(terms: &[Term], delay: u64) -> u64
 #[tactic(auto, using(crate::proofs::Chosen::best_start, crate::proofs::Chosen::best_next, crate::proofs::Chosen::best_is_least))]
 pub fn best_delay(terms: &[Term]) -> Choice
     requires small { All IsSmallTerm terms.now }
-    requires few { length terms.now ≤ 256 }
+    requires few { length terms.now ≤ MOST_PAIRS }
     ensures least { IsLeast (terms_cost terms.now) result.delay }
     ensures cost { result.cost ≡ terms_cost terms.now result.delay }
     ensures bound { result.delay ≤ 100000 }

@@ -5,7 +5,7 @@ use Rattle.sat_place.proofs.ways.ways_of.Goals as goal
 
 pub loop-pair-preserved : goal.loop-pair-preserved
 loop-pair-preserved c =
-    first_more c.args.d.now c.args.tree.now c.deref-pair-items.result.now c.loop-pair.pair-index _ c.in_ok-way.way c.loop-pair.ways.items _ c.in_ok-way.ensures.limits c.in_ok-way.ensures.small
+    first_more c.args.d.now c.args.tree.now c.deref-pair-items.result.now c.loop-pair.pair-index _ c.in_ok-way.way c.loop-pair.ways.items _ c.in_ok-way.ensures.limits c.in_ok-way.ensures.small c.requires
     (c.deref-pair-items.ensures.value ∙ c.in_ok-pairs.ensures ∙ ap pairs c.sites.ensures.sites) c.loop-pair-test.true c.in_ok-way.ensures.way c.in_ok-push.ensures.items c.loop-pair.invariant
 
 pub returns-clause-ways : goal.returns-clause-ways
