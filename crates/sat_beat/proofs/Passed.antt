@@ -10,7 +10,8 @@ use Rattle.std.proofs.lemmas.Bool.Decides.{nat_tests}
 use Rattle.sat_label.specs.Members.{In}
 use Rattle.sat_beat.specs.declared.Beat.{Beat}
 use Rattle.sat_beat.specs.declared.beats.BeatTake.TheVariants.{New, Again, Old}
-use Rattle.sat_beat.specs.Beats.{TakenBeats, is_complete, newest, above, forward, refreshed, starts_to, passed, is_old, has_beat, placed, take_answer, after_take, RisesFrom, next_number, IsTaken}
+use Rattle.sat_beat.specs.Beats.{TakenBeats, is_complete, newest, above, forward, refreshed, starts_to, passed, moved, is_old, is_old_by, has_beat, placed, take_answer, after_take, RisesFrom, next_number, IsTaken}
+use Rattle.sat_beat.proofs.Newest.{or_else, alone}
 
 abbrev kept : Option (ℕ × Beat) → List (ℕ × Beat) → TakenBeats
 kept best later = record { best = best; later = later }
@@ -112,14 +113,14 @@ passed-newest fronts n best (c ∷ bs) b rises e = go (newest fronts bs) refl (i
         (o.0 ∙ (passed-all c.0 (Some c) bs rises.1 ∙ ap (λ (ys : List (ℕ × Beat)). kept (Some c) ys) (sym (o.1 ∙ above-all c.0 bs rises.1))))
     go None w false e rest = absurd (cc)
 
-pub refreshed_none : (fronts : List ℕ) (t : TakenBeats) → option_map (λ b. b.0) (newest fronts t.later) ≡ None → refreshed fronts t ≡ t
+refreshed_none : (fronts : List ℕ) (t : TakenBeats) → option_map (λ b. b.0) (newest fronts t.later) ≡ None → refreshed fronts t ≡ t
 refreshed_none fronts t e = go (newest fronts t.later) e
   where
     go : (o : Option (ℕ × Beat)) → option_map (λ b. b.0) o ≡ None → forward t o ≡ t
     go None e = refl
     go (Some b) e = absurd (cc)
 
-pub refreshed_some : (fronts : List ℕ) (best : Option (ℕ × Beat)) (later : List (ℕ × Beat)) (n : ℕ) → IsTaken (record { best = best; later = later }) → option_map (λ b. b.0) (newest fronts later) ≡ Some n → passed n best later ≡ refreshed fronts (record { best = best; later = later })
+refreshed_some : (fronts : List ℕ) (best : Option (ℕ × Beat)) (later : List (ℕ × Beat)) (n : ℕ) → IsTaken (record { best = best; later = later }) → option_map (λ b. b.0) (newest fronts later) ≡ Some n → passed n best later ≡ refreshed fronts (record { best = best; later = later })
 refreshed_some fronts best later n is e = go (newest fronts later) refl e
   where
     go : (o : Option (ℕ × Beat)) → newest fronts later ≡ o → option_map (λ b. b.0) o ≡ Some n → passed n best later ≡ forward (kept best later) o
@@ -133,20 +134,31 @@ refreshed_taken fronts t is = go (newest fronts t.later)
     go None = is
     go (Some b) = above-rises (next_number t.best) b.0 t.later is
 
-pub passed_taken : (fronts : List ℕ) (best : Option (ℕ × Beat)) (later : List (ℕ × Beat)) (t : TakenBeats) (n : ℕ) → IsTaken (record { best = best; later = later }) → option_map (λ b. b.0) (newest fronts later) ≡ Some n → t ≡ passed n best later → IsTaken t
-passed_taken fronts best later t n is e w = subst (λ (r : TakenBeats). IsTaken r) (sym (w ∙ refreshed_some fronts best later n is e)) (refreshed_taken fronts (kept best later) is)
+pub refreshed_moved : (fronts : List ℕ) (t : TakenBeats) (to : Option ℕ) → IsTaken t → to ≡ option_map (λ b. b.0) (newest fronts t.later) → moved to t ≡ refreshed fronts t
+refreshed_moved fronts t None is e = sym (refreshed_none fronts t (sym e))
+refreshed_moved fronts t (Some n) is e = refreshed_some fronts t.best t.later n is (sym e)
+
+-- numbers ascend, however far it goes
+passed_taken : (n : ℕ) (best : Option (ℕ × Beat)) (bs : List (ℕ × Beat)) → RisesFrom (next_number best) bs → IsTaken (passed n best bs)
+passed_taken n best [] is = tt
+passed_taken n best (b ∷ bs) is = go (nat_le b.0 n) (passed_taken n (Some b) bs is.1)
+  where
+    go : (t : Bool) → IsTaken (passed n (Some b) bs) → IsTaken (if t then passed n (Some b) bs else kept best (b ∷ bs))
+    go true rest = rest
+    go false rest = is
+
+pub moved_taken : (to : Option ℕ) (t : TakenBeats) → IsTaken t → IsTaken (moved to t)
+moved_taken None t is = is
+moved_taken (Some n) t is = passed_taken n t.best t.later is
 
 -- ---- a beat comes
 
-pub old_none : (fronts : List ℕ) (t : TakenBeats) (k : ℕ) → option_map (λ b. b.0) (newest fronts t.later) ≡ None → is_old (refreshed fronts t).best k ≡ is_old t.best k
-old_none fronts t k e = ap (λ (r : TakenBeats). is_old r.best k) (refreshed_none fronts t e)
-
-pub old_some : (fronts : List ℕ) (t : TakenBeats) (k n : ℕ) → option_map (λ b. b.0) (newest fronts t.later) ≡ Some n → is_old (refreshed fronts t).best k ≡ nat_le k n
-old_some fronts t k n e = go (newest fronts t.later) e
+pub old_by : (fronts : List ℕ) (t : TakenBeats) (k : ℕ) → is_old_by (option_map (λ b. b.0) (newest fronts t.later)) t.best k ≡ is_old (refreshed fronts t).best k
+old_by fronts t k = go (newest fronts t.later)
   where
-    go : (o : Option (ℕ × Beat)) → option_map (λ b. b.0) o ≡ Some n → is_old (forward t o).best k ≡ nat_le k n
-    go None e = absurd (cc)
-    go (Some b) e = ap (λ (m : ℕ). nat_le k m) (some_is b.0 n e)
+    go : (o : Option (ℕ × Beat)) → is_old_by (option_map (λ b. b.0) o) t.best k ≡ is_old (forward t o).best k
+    go None = refl
+    go (Some b) = refl
 
 by-tests : {X : Type 0} (b c : Bool) (p q r : X) → match_ordering (cond b Less (cond c Equal Greater)) p q r ≡ (if b then p else (if c then q else r))
 by-tests true c p q r = refl
@@ -207,6 +219,64 @@ pub placed_taken : (fronts : List ℕ) (best : Option (ℕ × Beat)) (later more
 placed_taken fronts best later more n beat is e w =
     subst (λ (ys : List (ℕ × Beat)). RisesFrom (next_number best) ys) (sym w) (placed-rises (next_number best) n beat later (young fronts (kept best later) n is e) is)
 
+neither : (p q : Bool) → (p || q) ≡ false → (p ≡ false) × (q ≡ false)
+neither true q e = absurd (cc)
+neither false q e = (refl, e)
+
+young-rest : (n : ℕ) (o p : Option (ℕ × Beat)) → is_old (or_else o p) n ≡ false → is_old o n ≡ false
+young-rest n None p e = refl
+young-rest n (Some b) p e = e
+
+-- the number of the newest complete one, once a beat comes that is newer than the newest before
+abbrev number_with : Bool → ℕ → Option (ℕ × Beat) → Option ℕ
+number_with complete n o = if complete then Some n else option_map (λ b. b.0) o
+
+ahead-of : (n : ℕ) (beat : Beat) (t : Bool) (o : Option (ℕ × Beat)) → o ≡ None → option_map (λ b. b.0) (or_else o (if t then Some (n, beat) else None)) ≡ number_with t n o
+ahead-of n beat true None e = refl
+ahead-of n beat false None e = refl
+ahead-of n beat t (Some b) e = absurd (cc)
+
+beyond-one : (n : ℕ) (t : Bool) (o was p : Option (ℕ × Beat)) → option_map (λ b. b.0) o ≡ number_with t n was → option_map (λ b. b.0) (or_else o p) ≡ number_with t n (or_else was p)
+beyond-one n true (Some b) was p e = e
+beyond-one n true None was p e = absurd (cc)
+beyond-one n false (Some b) (Some c) p e = e
+beyond-one n false (Some b) None p e = absurd (cc)
+beyond-one n false None (Some c) p e = absurd (cc)
+beyond-one n false None None p e = refl
+
+newest-placed : (fronts : List ℕ) (low n : ℕ) (beat : Beat) (bs : List (ℕ × Beat)) → RisesFrom low bs → is_old (newest fronts bs) n ≡ false → has_beat bs n ≡ false →
+    option_map (λ b. b.0) (newest fronts (placed bs n beat)) ≡ number_with (is_complete fronts beat) n (newest fronts bs)
+newest-placed fronts low n beat [] rises young new = ahead-of n beat (is_complete fronts beat) None refl
+newest-placed fronts low n beat (b ∷ bs) rises young new =
+    go (nat_lt n b.0) (n == b.0) refl refl (newest-placed fronts (b.0 + 1) n beat bs rises.1 (young-rest n (newest fronts bs) (alone fronts b) young) (neither (b.0 == n) (has_beat bs n) new).1)
+  where
+    apart : (x y z : ℕ) → nat_lt x y ≡ true → y ≤ z → nat_le x z ≡ false → ⊥
+    apart x y z e low up = grind (arith, nat_tests)
+
+    differ : (x y : ℕ) → (x == y) ≡ true → (y == x) ≡ false → ⊥
+    differ x y e f = grind (arith, nat_tests)
+
+    -- where the first of them has a greater number, none is complete
+    none : (o : Option (ℕ × Beat)) → newest fronts (b ∷ bs) ≡ o → nat_lt n b.0 ≡ true → o ≡ None
+    none None w e = refl
+    none (Some c) w e =
+        let low : b.0 ≤ c.0 = rises-in b.0 (b ∷ bs) c (same-le b.0, rises.1) (newest-in fronts (b ∷ bs) c w).0 in
+        let up : nat_le n c.0 ≡ false = subst (λ (o : Option (ℕ × Beat)). is_old o n ≡ false) w young in
+        absurd (apart n b.0 c.0 e low up)
+
+    go : (t u : Bool) → nat_lt n b.0 ≡ t → (n == b.0) ≡ u → option_map (λ c. c.0) (newest fronts (placed bs n beat)) ≡ number_with (is_complete fronts beat) n (newest fronts bs) →
+        option_map (λ c. c.0) (newest fronts (if t then (n, beat) ∷ b ∷ bs else (if u then (b.0, beat) ∷ bs else b ∷ placed bs n beat))) ≡ number_with (is_complete fronts beat) n (newest fronts (b ∷ bs))
+    go true u e f rest = ahead-of n beat (is_complete fronts beat) (newest fronts (b ∷ bs)) (none (newest fronts (b ∷ bs)) refl e)
+    go false true e f rest = absurd (differ n b.0 f (neither (b.0 == n) (has_beat bs n) new).0)
+    go false false e f rest = beyond-one n (is_complete fronts beat) (newest fronts (placed bs n beat)) (newest fronts bs) (alone fronts b) rest
+
+young-newest : (fronts : List ℕ) (t : TakenBeats) (n : ℕ) → is_old (refreshed fronts t).best n ≡ false → is_old (newest fronts t.later) n ≡ false
+young-newest fronts t n e = go (newest fronts t.later) e
+  where
+    go : (o : Option (ℕ × Beat)) → is_old (forward t o).best n ≡ false → is_old o n ≡ false
+    go None e = refl
+    go (Some b) e = e
+
 pub take_old : (fronts : List ℕ) (t : TakenBeats) (n : ℕ) (beat : Beat) → is_old (refreshed fronts t).best n ≡ true → (take_answer fronts t n ≡ Old) × (after_take fronts t n beat ≡ refreshed fronts t)
 take_old fronts t n beat e = (
   ap (λ (c : Bool). if c then Old else (if has_beat t.later n then Again else New)) e,
@@ -226,3 +296,13 @@ take_new fronts t n beat e k = (
   ap (λ (c : Bool). if c || has_beat t.later n then refreshed fronts t else refreshed fronts (kept t.best (placed t.later n beat))) e
       ∙ ap (λ (c : Bool). if c then refreshed fronts t else refreshed fronts (kept t.best (placed t.later n beat))) k,
 )
+
+-- a new one stands among the later ones, and the best goes forward to it where it is complete, else as without it
+pub moved_new : (fronts : List ℕ) (t was with : TakenBeats) (n : ℕ) (beat : Beat) (found to : Option ℕ) → IsTaken t → t ≡ was → is_old (refreshed fronts was).best n ≡ false → has_beat was.later n ≡ false →
+    with ≡ record { best = t.best; later = placed t.later n beat } → found ≡ option_map (λ b. b.0) (newest fronts was.later) → to ≡ (if is_complete fronts beat then Some n else found) → moved to with ≡ after_take fronts was n beat
+moved_new fronts t was with n beat found to is same young new w f e =
+    let taken : IsTaken was = subst (λ (r : TakenBeats). IsTaken r) same is in
+    ap (moved to) (w ∙ ap (λ (r : TakenBeats). kept r.best (placed r.later n beat)) same)
+    ∙ (refreshed_moved fronts (kept was.best (placed was.later n beat)) to (placed_taken fronts was.best was.later (placed was.later n beat) n beat taken young refl)
+    (e ∙ ap (λ (o : Option ℕ). if is_complete fronts beat then Some n else o) f ∙ sym (newest-placed fronts (next_number was.best) n beat was.later taken (young-newest fronts was n young) new))
+    ∙ sym (take_new fronts was n beat young new).1)

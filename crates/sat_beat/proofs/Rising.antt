@@ -1,14 +1,18 @@
 -- Where counts rise with the numbers, the complete beats come first.
-use Rattle.std.specs.Prelude.{◌≡◌, ◌≤◌, ◌<◌, ◌-◌, ℕ, suc, ◌+◌, ◌==◌, Bool, true, false, nat_le, List, [], ◌∷◌, length, slice_get, Option, Some, None, option_map, if◌then◌else◌, refl}
-use Rattle.std.proofs.Common.{arith, sym, ◌∙◌, ap, subst}
-use Rattle.std.proofs.lemmas.Bool.{le-ltb, ne_eqb}
-use Rattle.sat_label.proofs.Members.{In-get}
+use Rattle.std.specs.Prelude.{◌≡◌, ◌≤◌, ◌<◌, ℕ, ◌==◌, Bool, true, false, nat_le, nat_lt, cond, filter, List, [], ◌∷◌, ◌++◌, length, Option, Some, None, option_map, if◌then◌else◌, refl}
+use Rattle.std.specs.Ordering.{nat_cmp}
+use Rattle.std.specs.BTreeMap.Range.{range_contains, entries_between}
+use Rattle.std.specs.declared.ops.Bound.TheVariants.{Included, Excluded, Unbounded}
+use Rattle.std.proofs.Common.{arith, sym, ◌∙◌, ap, subst, inl, inr}
+use Rattle.std.proofs.lemmas.Bool.Decides.{nat_tests}
+use Rattle.sat_label.specs.Members.{In}
+use Rattle.sat_label.proofs.Members.{In-right, into-filter}
 use Rattle.sat_beat.specs.declared.Beat.{Beat}
-use Rattle.sat_beat.specs.Beats.{TakenBeats, are_reached, is_complete, newest, above, forward, refreshed, passed, is_old, placed, next_number, RisesFrom}
-use Rattle.sat_beat.specs.Rising.{RiseFrom, CountsRise, last_before, GoesOn, IsKept}
+use Rattle.sat_beat.specs.Beats.{TakenBeats, are_reached, is_complete, newest, refreshed, passed, moved, is_old, placed, IsTaken}
+use Rattle.sat_beat.specs.Rising.{RiseFrom, CountsRise, last_before, RisesTo, RisesOn, IsKept}
 use Rattle.sat_beat.proofs.Complete.{reached-trans}
 use Rattle.sat_beat.proofs.Newest.{or_else}
-use Rattle.sat_beat.proofs.Passed.{some_is, rises-in, refreshed_some, refreshed_taken, placed_taken}
+use Rattle.sat_beat.proofs.Passed.{moved_taken, placed_taken}
 
 -- ---- the loop
 
@@ -64,65 +68,114 @@ rise-all : (counts : List ℕ) (bs : List (ℕ × Beat)) → RiseFrom counts bs 
 rise-all counts [] rise = tt
 rise-all counts (b ∷ bs) rise = (refl, rise.1)
 
-above-rise : (n : ℕ) (bs : List (ℕ × Beat)) → CountsRise bs → CountsRise (above n bs)
-above-rise n [] rise = tt
-above-rise n (b ∷ bs) rise = go (nat_le b.0 n) (above-rise n bs (rise-all b.1.counts bs rise.1))
+passed-rise : (n : ℕ) (best : Option (ℕ × Beat)) (bs : List (ℕ × Beat)) → CountsRise bs → CountsRise (passed n best bs).later
+passed-rise n best [] rise = tt
+passed-rise n best (b ∷ bs) rise = go (nat_le b.0 n) (passed-rise n (Some b) bs (rise-all b.1.counts bs rise.1))
   where
-    go : (t : Bool) → CountsRise (above n bs) → CountsRise (if t then above n bs else b ∷ bs)
+    go : (t : Bool) → CountsRise (passed n (Some b) bs).later → CountsRise (if t then passed n (Some b) bs else record { best = best; later = b ∷ bs }).later
     go true rest = rest
     go false rest = rise
 
-pub refreshed_kept : (fronts : List ℕ) (t : TakenBeats) (rising : Bool) → IsKept t rising → IsKept (refreshed fronts t) rising
-refreshed_kept fronts t rising is = record { taken = refreshed_taken fronts t is.taken; rises = λ e. go (newest fronts t.later) (is.rises e) }
-  where
-    go : (o : Option (ℕ × Beat)) → CountsRise t.later → CountsRise (forward t o).later
-    go None rise = rise
-    go (Some b) rise = above-rise b.0 t.later rise
+moved-rise : (to : Option ℕ) (t : TakenBeats) → CountsRise t.later → CountsRise (moved to t).later
+moved-rise None t rise = rise
+moved-rise (Some n) t rise = passed-rise n t.best t.later rise
 
-pub passed_kept : (fronts : List ℕ) (best : Option (ℕ × Beat)) (later : List (ℕ × Beat)) (t : TakenBeats) (n : ℕ) (rising : Bool) → IsKept (record { best = best; later = later }) rising → option_map (λ b. b.0) (newest fronts later) ≡ Some n → t ≡ passed n best later → IsKept t rising
-passed_kept fronts best later t n rising is e w =
-    subst (λ (r : TakenBeats). IsKept r rising) (sym (w ∙ refreshed_some fronts best later n is.taken e)) (refreshed_kept fronts (record { best = best; later = later }) rising is)
+pub moved_kept : (to : Option ℕ) (t new : TakenBeats) (rising rises : Bool) → IsKept t rising → new ≡ moved to t → rises ≡ rising → IsKept new rises
+moved_kept to t new rising rises is e same = record {
+  taken = subst (λ (r : TakenBeats). IsTaken r) (sym e) (moved_taken to t is.taken);
+  rises = λ b. subst (λ (r : TakenBeats). CountsRise r.later) (sym e) (moved-rise to t (is.rises (sym same ∙ b)));
+}
+
+-- where none are left they rise
+pub emptied_kept : (to : Option ℕ) (t new : TakenBeats) (rising empty rises : Bool) → IsKept t rising → new ≡ moved to t → (empty ≡ true → length new.later ≡ 0) → rises ≡ empty → IsKept new rises
+emptied_kept to t new rising empty rises is e none same = record {
+  taken = subst (λ (r : TakenBeats). IsTaken r) (sym e) (moved_taken to t is.taken);
+  rises = λ b. no-counts new.later (none (sym same ∙ b));
+}
+  where
+    no-counts : (bs : List (ℕ × Beat)) → length bs ≡ 0 → CountsRise bs
+    no-counts [] z = tt
+    no-counts (b ∷ bs) z = absurd (omega arith)
 
 -- ---- a beat comes
 
-pub first_rises : (bs : List (ℕ × Beat)) (n : ℕ) (beat : Beat) → length bs ≡ 0 → GoesOn bs n beat
-first_rises [] n beat e low up rise = (refl, tt)
-first_rises (b ∷ bs) n beat e low up rise = absurd (omega arith)
+-- counts that rise from some counts are at or above them
+rise-in : (counts : List ℕ) (bs : List (ℕ × Beat)) (c : ℕ × Beat) → RiseFrom counts bs → In bs c → are_reached counts c.1.counts ≡ true
+rise-in counts [] c rise m = absurd m
+rise-in counts (b ∷ bs) c rise (inl e) = subst (λ (x : ℕ × Beat). are_reached counts x.1.counts ≡ true) e rise.0
+rise-in counts (b ∷ bs) c rise (inr m) = reached-trans counts b.1.counts c.1.counts rise.0 (rise-in b.1.counts bs c rise.1 m)
 
-behind : (c : ℕ × Beat) (bs : List (ℕ × Beat)) (n : ℕ) (beat : Beat) → c.0 < n → placed (c ∷ bs) n beat ≡ c ∷ placed bs n beat
-behind c bs n beat lt =
-    ap (λ (t : Bool). if t then (n, beat) ∷ c ∷ bs else (if n == c.0 then (c.0, beat) ∷ bs else c ∷ placed bs n beat)) (le-ltb n c.0 (below-le c.0 n lt))
-    ∙ ap (λ (t : Bool). if t then (c.0, beat) ∷ bs else c ∷ placed bs n beat) (ne_eqb n c.0 (below-ne c.0 n lt))
+rise-lower : (low counts : List ℕ) (bs : List (ℕ × Beat)) → are_reached low counts ≡ true → RiseFrom counts bs → RiseFrom low bs
+rise-lower low counts [] r rise = tt
+rise-lower low counts (b ∷ bs) r rise = (reached-trans low counts b.1.counts r rise.0, rise.1)
+
+-- some of them rise too
+rise-filter : (p : ℕ × Beat → Bool) (counts : List ℕ) (bs : List (ℕ × Beat)) → RiseFrom counts bs → RiseFrom counts (filter p bs)
+rise-filter p counts [] rise = tt
+rise-filter p counts (b ∷ bs) rise = go (p b) (rise-filter p b.1.counts bs rise.1)
   where
-    below-le : (a b : ℕ) → a < b → a ≤ b
-    below-le a b lt = omega arith
+    go : (t : Bool) → RiseFrom b.1.counts (filter p bs) → RiseFrom counts (cond t (b ∷ filter p bs) (filter p bs))
+    go true rest = (rise.0, rest)
+    go false rest = rise-lower counts b.1.counts (filter p bs) rise.0 rest
 
-    below-ne : (a b : ℕ) → a < b → b ≡ a → ⊥
-    below-ne a b lt e = omega arith
+-- the last one has the greatest counts
+last-most : (counts : List ℕ) (bs : List (ℕ × Beat)) (c d : ℕ × Beat) (beat : Beat) → RiseFrom counts (bs ++ c ∷ []) → are_reached c.1.counts beat.counts ≡ true → In (bs ++ c ∷ []) d → are_reached d.1.counts beat.counts ≡ true
+last-most counts [] c d beat rise r (inl e) = subst (λ (x : ℕ × Beat). are_reached x.1.counts beat.counts ≡ true) e r
+last-most counts [] c d beat rise r (inr m) = absurd m
+last-most counts (b ∷ bs) c d beat rise r (inl e) =
+    subst (λ (x : ℕ × Beat). are_reached x.1.counts beat.counts ≡ true) e
+    (reached-trans b.1.counts c.1.counts beat.counts (rise-in b.1.counts (bs ++ c ∷ []) c rise.1 (In-right bs (c ∷ []) c (inl refl))) r)
+last-most counts (b ∷ bs) c d beat rise r (inr m) = last-most b.1.counts bs c d beat rise.1 r m
 
--- behind a last beat with a lower number a beat stands last
-at-end : (low : ℕ) (counts : List ℕ) (bs : List (ℕ × Beat)) (n : ℕ) (beat before : Beat) (last : ℕ) → RisesFrom low bs → RiseFrom counts bs → slice_get bs (length bs - 1) ≡ Some (last, before) → last < n →
-    are_reached before.counts beat.counts ≡ true → RiseFrom counts (placed bs n beat)
-at-end low counts [] n beat before last up rise e lt r = absurd (cc)
-at-end low counts (c ∷ []) n beat before last up rise e lt r =
-    let s : (last, before) ≡ c = sym (some_is c (last, before) e) in
-    let lt' : c.0 < n = subst (λ (x : ℕ × Beat). x.0 < n) s lt in
-    subst (λ (ys : List (ℕ × Beat)). RiseFrom counts ys) (sym (behind c [] n beat lt')) (rise.0, (subst (λ (x : ℕ × Beat). are_reached x.1.counts beat.counts ≡ true) s r, tt))
-at-end low counts (c ∷ d ∷ bs) n beat before last up rise e lt r =
-    let e' : slice_get (d ∷ bs) (length (d ∷ bs) - 1) ≡ Some (last, before) = subst (λ (m : ℕ). slice_get (c ∷ d ∷ bs) m ≡ Some (last, before)) (tail-place (length bs)) e in
-    let up' : c.0 + 1 ≤ last = rises-in (c.0 + 1) (d ∷ bs) (last, before) up.1 (In-get (d ∷ bs) (length (d ∷ bs) - 1) (last, before) e') in
-    let lt' : c.0 < n = omega arith in
-    subst (λ (ys : List (ℕ × Beat)). RiseFrom counts ys) (sym (behind c (d ∷ bs) n beat lt')) (rise.0, at-end (c.0 + 1) c.1.counts (d ∷ bs) n beat before last up.1 rise.1 e' lt r)
+-- the first one has the least
+first-least : (counts : List ℕ) (bs : List (ℕ × Beat)) (c d : ℕ × Beat) (beat : Beat) → RiseFrom counts (c ∷ bs) → are_reached beat.counts c.1.counts ≡ true → In (c ∷ bs) d → are_reached beat.counts d.1.counts ≡ true
+first-least counts bs c d beat rise r (inl e) = subst (λ (x : ℕ × Beat). are_reached beat.counts x.1.counts ≡ true) e r
+first-least counts bs c d beat rise r (inr m) = reached-trans beat.counts c.1.counts d.1.counts r (rise-in c.1.counts bs d rise.1 m)
+
+below-test : (n k : ℕ) → k < n → range_contains nat_cmp Unbounded (Excluded n) k ≡ true
+below-test n k lt = grind (arith, nat_tests)
+
+above-test : (n k : ℕ) → n ≤ k → range_contains nat_cmp (Included n) Unbounded k ≡ true
+above-test n k le = grind (arith, nat_tests)
+
+pub none_below : (bs : List (ℕ × Beat)) (n : ℕ) (beat : Beat) → entries_between nat_cmp Unbounded (Excluded n) bs ≡ [] → RisesTo bs n beat
+none_below bs n beat e c m lt = absurd (subst (λ (xs : List (ℕ × Beat)). In xs c) e (into-filter (λ b. range_contains nat_cmp Unbounded (Excluded n) b.0) bs c m (below-test n c.0 lt)))
+
+pub rises_from_last : (bs xs : List (ℕ × Beat)) (n : ℕ) (beat : Beat) (b : ℕ × Beat) → CountsRise bs → entries_between nat_cmp Unbounded (Excluded n) bs ≡ xs ++ b ∷ [] → are_reached b.1.counts beat.counts ≡ true → RisesTo bs n beat
+rises_from_last bs xs n beat b rise e r c m lt =
+    last-most [] xs b c beat (subst (λ (ys : List (ℕ × Beat)). CountsRise ys) e (rise-filter (λ b. range_contains nat_cmp Unbounded (Excluded n) b.0) [] bs rise)) r
+    (subst (λ (ys : List (ℕ × Beat)). In ys c) e (into-filter (λ b. range_contains nat_cmp Unbounded (Excluded n) b.0) bs c m (below-test n c.0 lt)))
+
+pub none_above : (bs : List (ℕ × Beat)) (n : ℕ) (beat : Beat) → entries_between nat_cmp (Included n) Unbounded bs ≡ [] → RisesOn bs n beat
+none_above bs n beat e c m le = absurd (subst (λ (xs : List (ℕ × Beat)). In xs c) e (into-filter (λ b. range_contains nat_cmp (Included n) Unbounded b.0) bs c m (above-test n c.0 le)))
+
+pub rises_to_first : (bs xs : List (ℕ × Beat)) (n : ℕ) (beat : Beat) (b : ℕ × Beat) → CountsRise bs → entries_between nat_cmp (Included n) Unbounded bs ≡ b ∷ xs → are_reached beat.counts b.1.counts ≡ true → RisesOn bs n beat
+rises_to_first bs xs n beat b rise e r c m le =
+    first-least [] xs b c beat (subst (λ (ys : List (ℕ × Beat)). CountsRise ys) e (rise-filter (λ b. range_contains nat_cmp (Included n) Unbounded b.0) [] bs rise)) r
+    (subst (λ (ys : List (ℕ × Beat)). In ys c) e (into-filter (λ b. range_contains nat_cmp (Included n) Unbounded b.0) bs c m (above-test n c.0 le)))
+
+-- at its place by its number a beat leaves the counts rising
+placed-rise : (counts : List ℕ) (bs : List (ℕ × Beat)) (n : ℕ) (beat : Beat) → RiseFrom counts bs → are_reached counts beat.counts ≡ true → RisesTo bs n beat → RisesOn bs n beat → RiseFrom counts (placed bs n beat)
+placed-rise counts [] n beat rise r to on = (r, tt)
+placed-rise counts (b ∷ bs) n beat rise r to on = go (nat_lt n b.0) (n == b.0) refl refl (λ lt. placed-rise b.1.counts bs n beat rise.1 (to b (inl refl) lt) (λ c m. to c (inr m)) (λ c m. on c (inr m)))
   where
-    tail-place : (m : ℕ) → suc (suc m) - 1 ≡ suc (suc m - 1)
-    tail-place m = omega arith
+    under : (x y : ℕ) → nat_lt x y ≡ true → x ≤ y
+    under x y e = grind (arith, nat_tests)
 
-pub last_rises : (bs : List (ℕ × Beat)) (n : ℕ) (beat before : Beat) (last : ℕ) → slice_get bs (length bs - 1) ≡ Some (last, before) → last < n → are_reached before.counts beat.counts ≡ true → GoesOn bs n beat
-last_rises bs n beat before last e lt r low up rise = at-end low [] bs n beat before last up rise e lt r
+    level : (x y : ℕ) → (x == y) ≡ true → x ≤ y
+    level x y e = grind (arith, nat_tests)
+
+    past : (x y : ℕ) → nat_lt x y ≡ false → (x == y) ≡ false → y < x
+    past x y e f = grind (arith, nat_tests)
+
+    go : (t u : Bool) → nat_lt n b.0 ≡ t → (n == b.0) ≡ u → (b.0 < n → RiseFrom b.1.counts (placed bs n beat)) → RiseFrom counts (if t then (n, beat) ∷ b ∷ bs else (if u then (b.0, beat) ∷ bs else b ∷ placed bs n beat))
+    go true u e f rest = (r, (on b (inl refl) (under n b.0 e), rise.1))
+    go false true e f rest = (r, rise-lower beat.counts b.1.counts bs (on b (inl refl) (level n b.0 f)) rise.1)
+    go false false e f rest = (rise.0, rest (past n b.0 e f))
 
 pub placed_kept : (fronts : List ℕ) (best : Option (ℕ × Beat)) (later more : List (ℕ × Beat)) (n : ℕ) (beat : Beat) (rising rises : Bool) → IsKept (record { best = best; later = later }) rising → is_old (refreshed fronts (record { best = best; later = later })).best n ≡ false →
-    more ≡ placed later n beat → (rises ≡ true → (rising ≡ true) × GoesOn later n beat) → IsKept (record { best = best; later = more }) rises
-placed_kept fronts best later more n beat rising rises is e w k = record {
+    more ≡ placed later n beat → (rises ≡ true → rising ≡ true) → (rises ≡ true → RisesTo later n beat) → (rises ≡ true → RisesOn later n beat) → IsKept (record { best = best; later = more }) rises
+placed_kept fronts best later more n beat rising rises is e w k to on = record {
   taken = placed_taken fronts best later more n beat is.taken e w;
-  rises = λ b. let p : (rising ≡ true) × GoesOn later n beat = k b in subst (λ (ys : List (ℕ × Beat)). CountsRise ys) (sym w) (p.1 (next_number best) is.taken (is.rises p.0));
+  rises = λ b. subst (λ (ys : List (ℕ × Beat)). CountsRise ys) (sym w) (placed-rise [] later n beat (is.rises (k b)) refl (to b) (on b));
 }

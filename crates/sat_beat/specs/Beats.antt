@@ -60,12 +60,22 @@ abbrev pub passed : ℕ → Option (ℕ × Beat) → List (ℕ × Beat) → Take
 passed n best [] = record { best = best; later = [] }
 passed n best (b ∷ bs) = if nat_le b.0 n then passed n (Some b) bs else record { best = best; later = b ∷ bs }
 
+-- the best goes forward up to a number, if any
+abbrev pub moved : Option ℕ → TakenBeats → TakenBeats
+moved None t = t
+moved (Some n) t = passed n t.best t.later
+
 -- ---- a beat comes
 
 -- the best beat has this number or a greater one
 abbrev pub is_old : Option (ℕ × Beat) → ℕ → Bool
 is_old None n = false
 is_old (Some b) n = nat_le n b.0
+
+-- so it has once it went forward up to a number, if any
+abbrev pub is_old_by : Option ℕ → Option (ℕ × Beat) → ℕ → Bool
+is_old_by None best n = is_old best n
+is_old_by (Some m) best n = nat_le n m
 
 -- a beat of this number is one of these
 abbrev pub has_beat : List (ℕ × Beat) → ℕ → Bool

@@ -1,7 +1,8 @@
 -- Beats whose counts rise with their numbers, as those of every run do: of them the complete ones come first.
-use Rattle.std.specs.Prelude.{ℕ, ◌≡◌, Bool, true, List, [], ◌∷◌, Option, Some, if◌then◌else◌}
+use Rattle.std.specs.Prelude.{ℕ, ◌≡◌, ◌≤◌, ◌<◌, Bool, true, List, [], ◌∷◌, Option, Some, if◌then◌else◌}
+use Rattle.sat_label.specs.Members.{In}
 use Rattle.sat_beat.specs.declared.Beat.{Beat}
-use Rattle.sat_beat.specs.Beats.{TakenBeats, are_reached, is_complete, placed, RisesFrom, IsTaken}
+use Rattle.sat_beat.specs.Beats.{TakenBeats, are_reached, is_complete, IsTaken}
 
 -- each beat's counts are at or above those of the beat before it, and the first one's at or above these
 abbrev pub RiseFrom : List ℕ → List (ℕ × Beat) → Type 0
@@ -17,9 +18,13 @@ abbrev pub last_before : List ℕ → Option ℕ → List (ℕ × Beat) → Opti
 last_before fronts o [] = o
 last_before fronts o (b ∷ bs) = if is_complete fronts b.1 then last_before fronts (Some b.0) bs else o
 
--- a beat of this number that comes leaves the counts rising, where the others rise
-abbrev pub GoesOn : List (ℕ × Beat) → ℕ → Beat → Type 0
-GoesOn bs n beat = (low : ℕ) → RisesFrom low bs → CountsRise bs → CountsRise (placed bs n beat)
+-- the counts of each beat whose number is below this one are at or below those of this beat
+abbrev pub RisesTo : List (ℕ × Beat) → ℕ → Beat → Type 0
+RisesTo bs n beat = (c : ℕ × Beat) → In bs c → c.0 < n → are_reached c.1.counts beat.counts ≡ true
+
+-- those of each other beat are at or above them
+abbrev pub RisesOn : List (ℕ × Beat) → ℕ → Beat → Type 0
+RisesOn bs n beat = (c : ℕ × Beat) → In bs c → n ≤ c.0 → are_reached beat.counts c.1.counts ≡ true
 
 -- what is kept of one site: where the mark says that the counts rise, they do
 pub record IsKept (t : TakenBeats) (rising : Bool) : Type 0 where

@@ -1,7 +1,7 @@
 //! The beats that were taken of one site.
-ghost use Rattle.std.specs.Prelude.{◌≡◌, get_or, true, option_map, option_copied, Some, None, IfOk, IfErr, OnOk, OnErr};
-ghost use Rattle.sat_beat.specs.Beats.{after_take, are_reached, has_beat, is_old, newest, none_taken, passed, placed, refreshed, starts_to, take_answer};
-ghost use Rattle.sat_beat.specs.Rising.{last_before, CountsRise, GoesOn, IsKept};
+ghost use Rattle.std.specs.Prelude.{◌≡◌, ℕ, get_or, true, if◌then◌else◌, option_map, option_copied, Some, None, IfOk, IfErr, OnOk, OnErr};
+ghost use Rattle.sat_beat.specs.Beats.{after_take, are_reached, has_beat, is_complete, is_old, is_old_by, moved, newest, none_taken, passed, placed, refreshed, starts_to, take_answer};
+ghost use Rattle.sat_beat.specs.Rising.{last_before, CountsRise, RisesOn, RisesTo};
 
 use crate::{Beat, BeatTake};
 use std::alloc::Global;
@@ -9,7 +9,7 @@ use std::collections::BTreeMap;
 use std::marker::Model;
 
 /// The best beat, with its number, and those of greater numbers, by number. A mark says that their counts rise with their
-/// numbers; then the complete ones come first, and no other is looked at.
+/// numbers, as those of one sender do in whatever order they come; then the complete ones come first, and no other is looked at.
 #[derive(Drop)]
 pub struct Taken {
     best: Option<(u64, Beat)>,
@@ -114,36 +114,57 @@ fn pass(best: &mut Option<(u64, Beat)>, later: &mut BTreeMap<u64, Beat>, number:
     }
 }
 
-// Moves the best forward to the newest of the later beats that is complete.
-#[tactic(auto, using(crate::proofs::Passed::refreshed_none, crate::proofs::Passed::refreshed_some))]
-fn move_forward(
-    best: &mut Option<(u64, Beat)>,
-    later: &mut BTreeMap<u64, Beat>,
-    rising: bool,
-    fronts: &[u64],
-)
-    requires { IsKept (record { best = best.old; later = later.old.entries }) rising }
-    ensures new { record { best = best.new; later = later.new.entries } ≡ refreshed fronts.now (record { best = best.old; later = later.old.entries }) }
-    ensures kept { IsKept (record { best = best.new; later = later.new.entries }) rising }
+// Takes the beats up to a number, if any, out; the last of them becomes the best.
+fn move_forward(best: &mut Option<(u64, Beat)>, later: &mut BTreeMap<u64, Beat>, to: Option<u64>)
+    ensures { record { best = best.new; later = later.new.entries } ≡ moved to (record { best = best.old; later = later.old.entries }) }
 {
-    if let Some(number) = newest(later, rising, fronts) {
+    if let Some(number) = to {
         pass(best, later, number);
     }
 }
 
-// Whether the counts of some beats, which rise or not, rise with one more: it stands behind the last one, with no count below.
-#[tactic(auto, using(crate::proofs::Rising::first_rises, crate::proofs::Rising::last_rises))]
-fn goes_on(rising: bool, later: &BTreeMap<u64, Beat>, number: u64, beat: &Beat) -> bool
-    ensures { result ≡ true → (rising ≡ true) × GoesOn later.now.entries number beat.now }
+// Whether the counts of the next beat below a number are at or below those of a beat. Where counts rise, those of all below are.
+#[tactic(auto, using(crate::proofs::Rising::none_below, crate::proofs::Rising::rises_from_last))]
+fn rises_to(later: &BTreeMap<u64, Beat>, number: u64, beat: &Beat) -> bool
+    requires { CountsRise later.now.entries }
+    ensures { result ≡ true → RisesTo later.now.entries number beat.now }
 {
-    if !rising {
-        return false;
-    }
-    match later.last_key_value() {
+    match later.range(..number).next_back() {
         None => true,
-        Some((last, before)) => {
-            *last < number && are_reached(before.counts.as_slice(), beat.counts.as_slice())
-        }
+        Some((_, below)) => are_reached(below.counts.as_slice(), beat.counts.as_slice()),
+    }
+}
+
+// Whether the counts of the next beat from a number on are at or above those of a beat. Where counts rise, those of all above are.
+#[tactic(auto, using(crate::proofs::Rising::none_above, crate::proofs::Rising::rises_to_first))]
+fn rises_on(later: &BTreeMap<u64, Beat>, number: u64, beat: &Beat) -> bool
+    requires { CountsRise later.now.entries }
+    ensures { result ≡ true → RisesOn later.now.entries number beat.now }
+{
+    match later.range(number..).next() {
+        None => true,
+        Some((_, above)) => are_reached(beat.counts.as_slice(), above.counts.as_slice()),
+    }
+}
+
+// Whether the counts of some beats, which rise or not, rise with one more. It looks at the two that it would stand between.
+fn goes_on(rising: bool, later: &BTreeMap<u64, Beat>, number: u64, beat: &Beat) -> bool
+    requires { rising ≡ true → CountsRise later.now.entries }
+    ensures rising { result ≡ true → rising ≡ true }
+    ensures below { result ≡ true → RisesTo later.now.entries number beat.now }
+    ensures above { result ≡ true → RisesOn later.now.entries number beat.now }
+{
+    rising && rises_to(later, number, beat) && rises_on(later, number, beat)
+}
+
+// The number of the newest complete beat once one comes which is newer than the newest one before.
+fn newest_with(newest: Option<u64>, number: u64, beat: &Beat, fronts: &[u64]) -> Option<u64>
+    ensures { result ≡ (if is_complete fronts.now beat.now then Some number else newest) }
+{
+    if are_reached(beat.counts.as_slice(), fronts) {
+        Some(number)
+    } else {
+        newest
     }
 }
 
@@ -182,20 +203,37 @@ impl Taken {
         }
     }
 
+    // The number of the newest complete one of the later beats, up to which the best is to go forward.
+    #[tactic(auto, using(crate::proofs::Passed::refreshed_moved, crate::proofs::Passed::old_by))]
+    fn newest(&self, fronts: &[u64]) -> Option<u64>
+        ensures number { result ≡ option_map (λ b. b.0) (newest fronts.now self.now.later) }
+        ensures forward { moved result self.now ≡ refreshed fronts.now self.now }
+        ensures old { (k : ℕ) → is_old_by result self.now.best k ≡ is_old (refreshed fronts.now self.now).best k }
+    {
+        newest(&self.later, self.rising, fronts)
+    }
+
+    // Moves the best forward up to a number, if any.
+    fn forward(&mut self, to: Option<u64>)
+        ensures { self.new ≡ moved to self.old }
+    {
+        move_forward(&mut self.best, &mut self.later, to);
+        self.rising = self.rising || self.later.is_empty();
+    }
+
     /// Moves the best forward, by the front of each gear. It takes no memory.
     pub fn refresh(&mut self, fronts: &[u64])
         ensures { self.new ≡ refreshed fronts.now self.old }
     {
-        move_forward(&mut self.best, &mut self.later, self.rising, fronts);
-        self.rising = self.rising || self.later.is_empty();
+        let newest = self.newest(fronts);
+        self.forward(newest);
     }
 
-    // Whether the best beat, once it has gone forward, has this number or a greater one.
-    #[tactic(auto, using(crate::proofs::Passed::old_none, crate::proofs::Passed::old_some))]
-    fn is_old(&self, number: u64, fronts: &[u64]) -> bool
-        ensures { result ≡ is_old (refreshed fronts.now self.now).best number }
+    // Whether the best beat, once it has gone forward up to a number, if any, has this number or a greater one.
+    fn is_old(&self, newest: Option<u64>, number: u64) -> bool
+        ensures { result ≡ is_old_by newest self.now.best number }
     {
-        match newest(&self.later, self.rising, fronts) {
+        match newest {
             Some(newest) => number <= newest,
             None => match &self.best {
                 None => false,
@@ -220,18 +258,20 @@ impl Taken {
         ensures back { IfErr result (λ back. back ≡ beat) }
         ensures err { OnErr result (self.new ≡ self.old) }
     {
-        if self.is_old(number, fronts) {
-            self.refresh(fronts);
+        let newest = self.newest(fronts);
+        if self.is_old(newest, number) {
+            self.forward(newest);
             return Ok(BeatTake::Old);
         }
         if self.has_later(number) {
-            self.refresh(fronts);
+            self.forward(newest);
             return Ok(BeatTake::Again);
         }
+        let newest = newest_with(newest, number, &beat, fronts);
         let rising = goes_on(self.rising, &self.later, number, &beat);
         insert(&mut self.later, number, beat)?;
         self.rising = rising;
-        self.refresh(fronts);
+        self.forward(newest);
         Ok(BeatTake::New)
     }
 }
