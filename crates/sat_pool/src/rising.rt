@@ -1,6 +1,7 @@
 //! What waits of one gear, where it came in the order of its points.
 ghost use Rattle.std.specs.Prelude.{◌≡◌, ◌++◌, ◌∷◌, ◌<◌, [], true, drop, length, is_some, option_copied, set, slice_get, IfErr, OnErr, OnOk};
 ghost use Rattle.std.specs.Bool.{OnTrue};
+ghost use Rattle.std.specs.VecDeque.{deque_capacity, deque_len};
 ghost use Rattle.sat_label.specs.Order.{point_lt};
 ghost use Rattle.sat_pool.specs.declared.rising.Slot.TheVariants as slot;
 ghost use Rattle.sat_pool.specs.Pool.{at_point, without};
@@ -9,7 +10,7 @@ ghost use Rattle.sat_pool.specs.Slots.{payload_at, payload_in, place_of, point_i
 
 use sat_bulk::Payload;
 use sat_label::{Label, Point};
-use std::alloc::Global;
+use std::alloc::{AllocError, Global};
 use std::collections::VecDeque;
 use std::marker::Model;
 use std::mem;
@@ -182,6 +183,28 @@ fn take_at(slots: &mut VecDeque<Slot>, place: usize, point: &Point) -> Option<Pa
     take_among(slots, place, *point)
 }
 
+// Takes memory for one more. A call of its own, since mostly there is room.
+#[inline(never)]
+fn grow(slots: &mut VecDeque<Slot>) -> Result<(), AllocError>
+    ensures items { slots.new.items ≡ slots.old.items }
+    ensures room { OnOk result (deque_len slots.new < deque_capacity slots.new) }
+{
+    slots.reserve(1)?;
+    Ok(())
+}
+
+// Room for one more.
+#[inline(always)]
+fn make_room(slots: &mut VecDeque<Slot>) -> Result<(), AllocError>
+    ensures items { slots.new.items ≡ slots.old.items }
+    ensures room { OnOk result (deque_len slots.new < deque_capacity slots.new) }
+{
+    if slots.len() < slots.capacity() {
+        return Ok(());
+    }
+    grow(slots)
+}
+
 impl Rising {
     /// Nothing waits. It takes no memory.
     pub fn new(alloc: Global) -> Rising
@@ -209,7 +232,7 @@ impl Rising {
         ensures back { IfErr result (λ back. back ≡ payload) }
         ensures err { OnErr result (self.new ≡ self.old) }
     {
-        if self.slots.reserve(1).is_err() {
+        if make_room(&mut self.slots).is_err() {
             return Err(payload);
         }
         self.slots.push_back_reserved(Slot::Waits(payload));
