@@ -1,5 +1,5 @@
 //! Which numbers of a lane were taken.
-ghost use Rattle.std.specs.Prelude.{◌≡◌, ◌<◌, ◌+◌, ◌^◌, ◌==◌, ◌||◌, ℕ, [], if◌then◌else◌, IfOk, OnOk, OnErr};
+ghost use Rattle.std.specs.Prelude.{◌≡◌, ◌<◌, ◌+◌, ◌^◌, ◌==◌, ◌||◌, false, ℕ, [], if◌then◌else◌, IfOk, OnOk, OnErr};
 ghost use Rattle.sat_bulk.specs.Windows.{after_take, has_number, settled, starts_at, IsWindow, RisesFrom};
 
 use std::alloc::{AllocError, Global};
@@ -85,7 +85,7 @@ impl Window {
     }
 
     /// Takes a number below 2^64 - 1. At the front it takes no memory; for want of it all is as before.
-    #[tactic(auto, using(crate::proofs::Windows::take_again, crate::proofs::Windows::take_front, crate::proofs::Windows::take_above, crate::proofs::Windows::take_has, crate::proofs::Windows::take_window))]
+    #[tactic(auto, using(crate::proofs::Windows::take_again, crate::proofs::Windows::take_has))]
     pub fn take(&mut self, number: u64) -> Result<Take, AllocError>
         requires { number + 1 < 2 ^ 64 }
         ensures answer { IfOk result (λ took. took ≡ (if has_number self.old number then Take.Again else Take.New)) }
@@ -96,11 +96,24 @@ impl Window {
         if self.has(number) {
             return Ok(Take::Again);
         }
+        self.take_new(number)?;
+        Ok(Take::New)
+    }
+
+    /// Takes a number below 2^64 - 1 that was not taken. At the front it takes no memory; for want of it all is as before.
+    #[tactic(auto, using(crate::proofs::Windows::take_front, crate::proofs::Windows::take_above, crate::proofs::Windows::take_has, crate::proofs::Windows::take_window))]
+    pub fn take_new(&mut self, number: u64) -> Result<(), AllocError>
+        requires small { number + 1 < 2 ^ 64 }
+        requires new { has_number self.old number ≡ false }
+        ensures new { OnOk result (self.new ≡ after_take self.old number) }
+        ensures numbers { OnOk result ((k : ℕ) → has_number self.new k ≡ (has_number self.old k || (k == number))) }
+        ensures err { OnErr result (self.new ≡ self.old) }
+    {
         if number == self.front {
             self.front = pass(&mut self.above, number + 1);
         } else {
             self.above.insert(number)?;
         }
-        Ok(Take::New)
+        Ok(())
     }
 }

@@ -85,7 +85,7 @@ below-all test x ls f = go (least_label test ls) refl
     go None e = refl
     go (Some y) e = ap (λ (b : Bool). if b then Some x else Some y) (f y (least-is test ls y e).member)
 
-least-first : (test : Label → Bool) (p : Payload) (ps : List Payload) → Ascends (p ∷ ps) → test p.label ≡ true → least_label test (map labelled (p ∷ ps)) ≡ Some p.label
+pub least-first : (test : Label → Bool) (p : Payload) (ps : List Payload) → Ascends (p ∷ ps) → test p.label ≡ true → least_label test (map labelled (p ∷ ps)) ≡ Some p.label
 unfolding least_label
 least-first test p ps up e =
     ap (λ (b : Bool). if b then lesser (Some p.label) (least_label test (map labelled ps)) else least_label test (map labelled ps)) e

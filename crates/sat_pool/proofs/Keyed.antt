@@ -97,7 +97,7 @@ placed-in (q ∷ qs) p x i = go (point_lt p.label.point q.label.point) (point_eq
     go false false (inl e) rest = inr (inl e)
     go false false (inr i) rest = elim (rest i) [ inl a ↦ inl a | inr b ↦ inr (inr b) ]
 
-lt-by : (p q : Point) → point_lt p q ≡ false → point_eq p q ≡ false → point_lt q p ≡ true
+pub lt-by : (p q : Point) → point_lt p q ≡ false → point_eq p q ≡ false → point_lt q p ≡ true
 lt-by p q a b = grind (arith, nat_tests)
 
 lt-same : (p q r : Point) → point_eq p q ≡ true → point_lt q r ≡ true → point_lt p r ≡ true

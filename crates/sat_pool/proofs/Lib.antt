@@ -1,4 +1,6 @@
 pub mod Firsts
 pub mod Keyed
 pub mod Members
+pub mod Parts
 pub mod Pools
+pub mod Slots

@@ -34,12 +34,12 @@ row-placed k ps p is e = row-from k (placed ps p) (placed-ascends ps p (row-asce
   | inr b ↦ row-site k ps x is b
 ])
 
-without-in : (ps : List Payload) (q : Point) (x : Payload) → In (without ps q) x → In ps x × (point_eq x.label.point q ≡ false)
+pub without-in : (ps : List Payload) (q : Point) (x : Payload) → In (without ps q) x → In ps x × (point_eq x.label.point q ≡ false)
 without-in ps q x i =
     let m : In ps x × (not (point_eq x.label.point q) ≡ true) = In-filter (λ (y : Payload). not (point_eq y.label.point q)) ps x i in
     (m.0, not-true (point_eq x.label.point q) m.1)
 
-in-without : (ps : List Payload) (q : Point) (x : Payload) → In ps x → point_eq x.label.point q ≡ false → In (without ps q) x
+pub in-without : (ps : List Payload) (q : Point) (x : Payload) → In ps x → point_eq x.label.point q ≡ false → In (without ps q) x
 in-without ps q x i e = into-filter (λ (y : Payload). not (point_eq y.label.point q)) ps x i (not_from_false (point_eq x.label.point q) e)
 
 row-without : (k : ℕ) (ps : List Payload) (q : Point) → IsRow k ps → IsRow k (without ps q)
@@ -55,7 +55,7 @@ at-in (x ∷ ps) q p e = go (point_eq x.label.point q) refl e (at-in ps q p)
         (inl s, subst (λ (y : Payload). y.label.point ≡ q) s (same-point x.label.point q w))
     go false w e rest = let k : In ps p × (p.label.point ≡ q) = rest e in (inr k.0, k.1)
 
-point-self : (p : Point) → point_eq p p ≡ true
+pub point-self : (p : Point) → point_eq p p ≡ true
 point-self p = grind (arith, nat_tests)
 
 pub in-at : (ps : List Payload) (p : Payload) → Ascends ps → In ps p → at_point ps p.label.point ≡ Some p
@@ -67,7 +67,7 @@ in-at (x ∷ ps) p up (inr i) =
     ap (λ (b : Bool). if b then Some x else at_point ps p.label.point) (lt-not_eq x.label.point p.label.point (up.0 p i))
     ∙ in-at ps p up.1 i
 
-none-at : (ps : List Payload) (q : Point) → at_point ps q ≡ None → (x : Payload) → In ps x → point_eq x.label.point q ≡ false
+pub none-at : (ps : List Payload) (q : Point) → at_point ps q ≡ None → (x : Payload) → In ps x → point_eq x.label.point q ≡ false
 none-at [] q e x i = absurd i
 none-at (y ∷ ps) q e x i = go (point_eq y.label.point q) refl e i (none-at ps q)
   where
@@ -76,7 +76,7 @@ none-at (y ∷ ps) q e x i = go (point_eq y.label.point q) refl e i (none-at ps 
     go false w e (inl a) rest = subst (λ (z : Payload). point_eq z.label.point q ≡ false) a w
     go false w e (inr j) rest = rest e x j
 
-in-placed-new : (ps : List Payload) (p : Payload) → In (placed ps p) p
+pub in-placed-new : (ps : List Payload) (p : Payload) → In (placed ps p) p
 in-placed-new [] p = inl refl
 in-placed-new (q ∷ qs) p = go (point_lt p.label.point q.label.point) (point_eq p.label.point q.label.point) (in-placed-new qs p)
   where
@@ -85,10 +85,10 @@ in-placed-new (q ∷ qs) p = go (point_lt p.label.point q.label.point) (point_eq
     go false true rest = inl refl
     go false false rest = inr rest
 
-eq-turned : (p q : Point) → point_eq p q ≡ point_eq q p
+pub eq-turned : (p q : Point) → point_eq p q ≡ point_eq q p
 eq-turned p q = grind (arith, nat_tests)
 
-in-placed-old : (ps : List Payload) (p x : Payload) → at_point ps p.label.point ≡ None → In ps x → In (placed ps p) x
+pub in-placed-old : (ps : List Payload) (p x : Payload) → at_point ps p.label.point ≡ None → In ps x → In (placed ps p) x
 in-placed-old [] p x e i = absurd i
 in-placed-old (q ∷ qs) p x e i = go (point_lt p.label.point q.label.point) (point_eq p.label.point q.label.point) refl i (in-placed-old qs p x (after e))
   where
@@ -160,11 +160,11 @@ in-row [] k x i = absurd i
 in-row (r ∷ rows) zero x i = In-left r (all_waiting (waits rows)) x i
 in-row (r ∷ rows) (suc k) x i = In-right r (all_waiting (waits rows)) x (in-row rows k x i)
 
-record Place (rows : List (List Payload)) (x : Payload) : Type 0 where
-  row : ℕ
-  there : In (get_or rows row []) x
+pub record Place (rows : List (List Payload)) (x : Payload) : Type 0 where
+  pub row : ℕ
+  pub there : In (get_or rows row []) x
 
-row-in : (rows : List (List Payload)) (x : Payload) → In (all_waiting (waits rows)) x → Place rows x
+pub row-in : (rows : List (List Payload)) (x : Payload) → In (all_waiting (waits rows)) x → Place rows x
 row-in [] x i = absurd i
 row-in (r ∷ rows) x i = elim (In-parts r (all_waiting (waits rows)) x i) [
   | inl a ↦ record { row = zero; there = a }
@@ -197,12 +197,12 @@ set-row rows k r is row lt = record { each = λ n. go n (cases_eq n k) }
     go n (inl e) = subst (λ (ps : List Payload). IsRow n ps) (sym (ap (λ (m : ℕ). get_or (set rows k r) m []) e ∙ get_or-set_same rows k r [] lt)) (subst (λ (m : ℕ). IsRow m r) (sym e) row)
     go n (inr ne) = subst (λ (ps : List Payload). IsRow n ps) (sym (get_or-set_other rows k n r [] ne)) (is.each n)
 
-set-past : (rows : List (List Payload)) (k : ℕ) (r : List Payload) → length rows ≤ k → set rows k r ≡ rows
+pub set-past : (rows : List (List Payload)) (k : ℕ) (r : List Payload) → length rows ≤ k → set rows k r ≡ rows
 set-past [] k r le = refl
 set-past (x ∷ rows) zero r le = absurd (omega arith)
 set-past (x ∷ rows) (suc k) r le = ap (λ (ys : List (List Payload)). x ∷ ys) (set-past rows k r (omega arith))
 
-set-same : (rows : List (List Payload)) (k : ℕ) → set rows k (get_or rows k []) ≡ rows
+pub set-same : (rows : List (List Payload)) (k : ℕ) → set rows k (get_or rows k []) ≡ rows
 set-same [] k = refl
 set-same (x ∷ rows) zero = refl
 set-same (x ∷ rows) (suc k) = ap (λ (ys : List (List Payload)). x ∷ ys) (set-same rows k)

@@ -3,7 +3,7 @@ use Rattle.std.specs.Prelude.{ℕ, ◌≡◌, Bool, true, ◌&&◌, not, ◌==�
 use Rattle.std.specs.List.{flat_map, list_any}
 use Rattle.sat_label.specs.declared.point.Point.{Point}
 use Rattle.sat_label.specs.declared.label.Label.{Label}
-use Rattle.sat_label.specs.Order.{point_lt, point_le, point_eq}
+use Rattle.sat_label.specs.Order.{label_eq, point_lt, point_le, point_eq}
 use Rattle.sat_label.specs.Least.{least_label}
 use Rattle.sat_label.specs.Members.{In}
 use Rattle.sat_bulk.specs.declared.Payload.{Payload}
@@ -42,6 +42,10 @@ at_point (p ∷ ps) q = if point_eq p.label.point q then Some p else at_point ps
 abbrev pub waiting_at : Waiting → Point → Option Payload
 waiting_at w q = at_point (row_of w q.site) q
 
+-- the waiting payload of a label
+abbrev pub waiting_of : Waiting → Label → Option Payload
+waiting_of w l = elim (waiting_at w l.point) [ None ↦ None | Some p ↦ if label_eq p.label l then Some p else None ]
+
 -- whether a label is not past the close cut of its site, if one is given
 abbrev pub is_before : List (Option Point) → Label → Bool
 is_before closes l = elim (get_or closes l.point.site None) [ None ↦ true | Some p ↦ point_le l.point p ]
@@ -76,6 +80,11 @@ after_add w p = record { rows = set w.rows p.label.point.site (placed (row_of w 
 -- the payload with this point waits no more
 abbrev pub after_take : Waiting → Point → Waiting
 after_take w q = record { rows = set w.rows q.site (without (row_of w q.site) q) }
+
+-- the payload of a label waits no more, if it did
+abbrev pub after_take_of : Waiting → Label → Option Payload → Waiting
+after_take_of w l None = w
+after_take_of w l (Some p) = after_take w l.point
 
 -- ---- what is true of it
 

@@ -3,7 +3,9 @@
 
 ghost use Rattle.sat_pool.specs.Laws.{AddCounts, AddKeeps, AddMembers, FoundWaits, NoneWaits, TakeCounts, TakeKeeps, TakeMembers, TakeOfNone, WaitingIsFound};
 
+mod others;
 mod pool;
+mod rising;
 mod row;
 
 pub use pool::Pool;

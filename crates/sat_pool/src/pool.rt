@@ -1,10 +1,10 @@
 //! What waits of all sites.
 ghost use Rattle.std.specs.Prelude.{◌≡◌, ◌<◌, [], length, map, replicate, option_copied, IfOk, IfErr, OnOk, OnErr};
-ghost use Rattle.sat_label.specs.Least.{least_label, lesser};
+ghost use Rattle.sat_label.specs.Least.{least_label};
 ghost use Rattle.sat_pool.specs.Pool as waits;
 ghost use Rattle.sat_pool.specs.Rows.{first_label, OfOneSite};
 
-use crate::row::Row;
+use crate::row::{Row, lesser};
 use sat_bulk::Payload;
 use sat_label::{Label, Point};
 use std::alloc::{AllocError, Global};
@@ -48,19 +48,6 @@ fn is_before(closes: &[Option<Point>], label: &Label) -> bool
         Some(Some(close)) => label.point.is_below(close) || label.point.is_same(close),
         _ => true,
     }
-}
-
-// The lesser of two labels, of which each may be missing.
-fn lesser(left: Option<Label>, right: Option<Label>) -> Option<Label>
-    ensures { result ≡ lesser left right }
-{
-    let Some(label) = left else {
-        return right;
-    };
-    let Some(other) = right else {
-        return left;
-    };
-    if label.is_below(&other) { left } else { right }
 }
 
 // The least label of a site that is not past its close cut: the first, if any.
@@ -164,6 +151,18 @@ impl Pool {
         let taken = row.remove(point)?;
         self.count -= 1;
         Some(taken)
+    }
+
+    /// Takes the payload of a label, if it waits. It takes no memory.
+    pub fn take_if(&mut self, label: &Label) -> Option<Payload>
+        ensures found { result ≡ waits.waiting_of self.old label.now }
+        ensures new { self.new ≡ waits.after_take_of self.old label.now (waits.waiting_of self.old label.now) }
+    {
+        let waiting = self.get(&label.point)?;
+        if !waiting.label.is_same(label) {
+            return None;
+        }
+        self.take(&label.point)
     }
 
     /// The least waiting label that is not past the close cut of its site. `closes` has a place for each site; where it is

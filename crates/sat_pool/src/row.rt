@@ -1,49 +1,53 @@
 //! What waits of one site.
-ghost use Rattle.std.specs.Prelude.{◌≡◌, [], map, nat_le, option_copied, IfOk, IfErr, OnOk, OnErr};
+ghost use Rattle.std.specs.Prelude.{◌≡◌, [], get_or, map, nat_le, option_copied, set, None, if◌then◌else◌, IfOk, IfErr, OnOk, OnErr};
+ghost use Rattle.std.specs.Bool.{OnTrue};
 ghost use Rattle.std.specs.List.{list_any};
-ghost use Rattle.std.specs.BTreeMap.{insert_entry, is_at};
-ghost use Rattle.std.specs.Map.{lookup};
+ghost use Rattle.sat_label.specs.Least.{lesser};
 ghost use Rattle.sat_label.specs.Order.{point_le};
 ghost use Rattle.sat_pool.specs.Pool.{at_point, labelled, placed, without};
-ghost use Rattle.sat_pool.specs.Rows.{first_label, point_cmp, Ascends};
+ghost use Rattle.sat_pool.specs.Rows.{first_label, row_view, sets_first, stands_at, Ascends, IsParts, MayStand, SameQueues};
+ghost use Rattle.sat_pool.specs.Slots.{waiting_in};
 
+use crate::others::Others;
+use crate::rising::Rising;
 use sat_bulk::Payload;
-use sat_label::{Label, Point};
-use std::alloc::Global;
-use std::collections::BTreeMap;
+use sat_label::{Label, MOST_GEARS, Point};
+use std::alloc::{AllocError, Global};
 use std::marker::Model;
 
-/// The payloads of one site's updates that wait, by their points. Contracts see the list of the payloads.
+/// The payloads of one site's updates that wait, by their points: for each gear those that came in order, beside them the others,
+/// and the first label of all. Contracts see the list of the payloads.
 #[derive(Drop)]
 pub struct Row {
-    waiting: BTreeMap<Point, Payload>,
+    rising: Vec<Rising>,
+    others: Others,
+    first: Option<Label>,
 }
 
 impl Model for Row {
-    ghost use Rattle.std.specs.Prelude.{List};
-    ghost use Rattle.std.specs.Map.{values_of};
+    ghost use Rattle.std.specs.Prelude.{List, map};
     ghost use Rattle.sat_bulk.specs.declared.Payload as bulk;
-    ghost use Rattle.sat_pool.specs.Rows.{IsKeptRow};
+    ghost use Rattle.sat_pool.specs.Rows.{row_view, IsKept};
+    ghost use Rattle.sat_pool.specs.Slots.{waiting_in};
 
     ghost Value = { List bulk.Payload };
 
-    ghost view = { λ a. values_of a.waiting.entries };
+    ghost view = { λ a. row_view (map waiting_in a.rising.items) a.others };
 
-    ghost invariant = { λ a. IsKeptRow a.waiting.entries };
+    ghost invariant = { λ a. IsKept (map waiting_in a.rising.items) a.others a.first };
 }
 
-// Puts a payload under its point; one that was there comes back. For want of memory the payload itself does, and the map is as
-// before.
-fn put(waiting: &mut BTreeMap<Point, Payload>, payload: Payload) -> Result<Option<Payload>, Payload>
-    ensures before { IfOk result (λ before. before ≡ lookup (is_at (point_cmp payload.label.point)) waiting.old.entries) }
-    ensures ok { OnOk result (waiting.new.entries ≡ insert_entry point_cmp waiting.old.entries payload.label.point payload) }
-    ensures back { IfErr result (λ back. back ≡ payload) }
-    ensures err { OnErr result (waiting.new.entries ≡ waiting.old.entries) }
+// The lesser of two labels, of which each may be missing.
+pub fn lesser(left: Option<Label>, right: Option<Label>) -> Option<Label>
+    ensures { result ≡ lesser left right }
 {
-    match waiting.insert(payload.label.point, payload) {
-        Ok(before) => Ok(before),
-        Err(failed) => Err(failed.value.1),
-    }
+    let Some(label) = left else {
+        return right;
+    };
+    let Some(other) = right else {
+        return left;
+    };
+    if label.is_below(&other) { left } else { right }
 }
 
 // Whether a label's point is up to this one.
@@ -53,13 +57,203 @@ fn is_up_to(label: &Label, point: &Point) -> bool
     label.point.is_below(point) || label.point.is_same(point)
 }
 
+// Whether a label, if there is one, is at a point.
+fn stands_at(label: Option<Label>, point: &Point) -> bool
+    ensures { result ≡ stands_at label point.now }
+{
+    match label {
+        None => false,
+        Some(label) => label.point.is_same(point),
+    }
+}
+
+// The first label, once one more came.
+fn first_with(first: Option<Label>, label: Label) -> Option<Label>
+    ensures { result ≡ sets_first first label }
+{
+    match first {
+        None => Some(label),
+        Some(before) => {
+            if before.point.is_below(&label.point) {
+                Some(before)
+            } else {
+                Some(label)
+            }
+        }
+    }
+}
+
+// A queue for each gear up to this one. Few gears make labels; what comes of another number stands among the others.
+#[tactic(auto, using(crate::proofs::Parts::more_queues, crate::proofs::Parts::same_queues))]
+fn make_queues(rising: &mut Vec<Rising>, gear: u16) -> Result<(), AllocError>
+    ensures { SameQueues (map waiting_in rising.old.items) (map waiting_in rising.new.items) }
+{
+    if gear >= MOST_GEARS {
+        return Ok(());
+    }
+    let alloc = *rising.allocator();
+    'queues: for _ in rising.len()..gear as usize + 1 {
+        rising.push(Rising::new(alloc))?;
+    }
+    Ok(())
+}
+
+// Whether a payload may stand at the end of its gear's queue: its point is above all there, and none of the others has it.
+#[tactic(auto, using(crate::proofs::Parts::may_stand))]
+fn goes_on(rising: &Vec<Rising>, others: &Others, point: &Point) -> bool
+    ensures { OnTrue result (MayStand rising.now.items others.now point.now) }
+{
+    match rising.get(point.gear as usize) {
+        None => false,
+        Some(queue) => queue.is_past(point) && others.get(point).is_none(),
+    }
+}
+
+// The payload at a point in its gear's queue.
+#[tactic(auto, using(crate::proofs::Parts::queue_some, crate::proofs::Parts::queue_none))]
+fn queued_at<'a>(rising: &'a Vec<Rising>, point: &Point) -> Option<&'a Payload>
+    ensures { option_copied result ≡ at_point (get_or (map waiting_in rising.now.items) point.now.gear []) point.now }
+{
+    let queue = rising.get(point.gear as usize)?;
+    queue.get(point)
+}
+
+// Takes the payload at a point out of its gear's queue.
+fn take_rising(rising: &mut Vec<Rising>, point: &Point) -> Option<Payload>
+    ensures found { result ≡ at_point (get_or (map waiting_in rising.old.items) point.now.gear []) point.now }
+    ensures new { map waiting_in rising.new.items ≡ set (map waiting_in rising.old.items) point.now.gear (without (get_or (map waiting_in rising.old.items) point.now.gear []) point.now) }
+{
+    if point.gear as usize >= rising.len() {
+        return None;
+    }
+    let queue = &mut rising[point.gear as usize];
+    queue.take(point)
+}
+
+// Puts a payload at the end of its gear's queue.
+fn push(rising: &mut Vec<Rising>, others: &Others, payload: Payload) -> Result<(), Payload>
+    requires parts { IsParts (map waiting_in rising.old.items) others.now }
+    requires may { MayStand rising.old.items others.now payload.label.point }
+    ensures parts { IsParts (map waiting_in rising.new.items) others.now }
+    ensures before { at_point (row_view (map waiting_in rising.old.items) others.now) payload.label.point ≡ None }
+    ensures ok { OnOk result (row_view (map waiting_in rising.new.items) others.now ≡ placed (row_view (map waiting_in rising.old.items) others.now) payload) }
+    ensures back { IfErr result (λ back. back ≡ payload) }
+    ensures err { OnErr result (row_view (map waiting_in rising.new.items) others.now ≡ row_view (map waiting_in rising.old.items) others.now) }
+{
+    let queue = &mut rising[payload.label.point.gear as usize];
+    queue.push(payload)
+}
+
+// Puts a payload among the others; one that waited at its point comes back.
+fn put_aside(
+    rising: &mut Vec<Rising>,
+    others: &mut Others,
+    payload: Payload,
+) -> Result<Option<Payload>, Payload>
+    requires { IsParts (map waiting_in rising.old.items) others.old }
+    ensures parts { IsParts (map waiting_in rising.new.items) others.new }
+    ensures before { IfOk result (λ before. before ≡ at_point (row_view (map waiting_in rising.old.items) others.old) payload.label.point) }
+    ensures ok { OnOk result (row_view (map waiting_in rising.new.items) others.new ≡ placed (row_view (map waiting_in rising.old.items) others.old) payload) }
+    ensures back { IfErr result (λ back. back ≡ payload) }
+    ensures err { OnErr result (row_view (map waiting_in rising.new.items) others.new ≡ row_view (map waiting_in rising.old.items) others.old) }
+{
+    let point = payload.label.point;
+    let aside = others.insert(payload)?;
+    let queued = take_rising(rising, &point);
+    Ok(queued.or(aside))
+}
+
+// Puts a payload where it belongs, where its gear has a queue; one that waited at its point comes back.
+fn store(
+    rising: &mut Vec<Rising>,
+    others: &mut Others,
+    payload: Payload,
+) -> Result<Option<Payload>, Payload>
+    requires { IsParts (map waiting_in rising.old.items) others.old }
+    ensures parts { IsParts (map waiting_in rising.new.items) others.new }
+    ensures before { IfOk result (λ before. before ≡ at_point (row_view (map waiting_in rising.old.items) others.old) payload.label.point) }
+    ensures ok { OnOk result (row_view (map waiting_in rising.new.items) others.new ≡ placed (row_view (map waiting_in rising.old.items) others.old) payload) }
+    ensures back { IfErr result (λ back. back ≡ payload) }
+    ensures err { OnErr result (row_view (map waiting_in rising.new.items) others.new ≡ row_view (map waiting_in rising.old.items) others.old) }
+{
+    if goes_on(rising, others, &payload.label.point) {
+        push(rising, others, payload)?;
+        return Ok(None);
+    }
+    put_aside(rising, others, payload)
+}
+
+// The same, where it may have none.
+fn put(
+    rising: &mut Vec<Rising>,
+    others: &mut Others,
+    payload: Payload,
+) -> Result<Option<Payload>, Payload>
+    requires { IsParts (map waiting_in rising.old.items) others.old }
+    ensures parts { IsParts (map waiting_in rising.new.items) others.new }
+    ensures before { IfOk result (λ before. before ≡ at_point (row_view (map waiting_in rising.old.items) others.old) payload.label.point) }
+    ensures ok { OnOk result (row_view (map waiting_in rising.new.items) others.new ≡ placed (row_view (map waiting_in rising.old.items) others.old) payload) }
+    ensures back { IfErr result (λ back. back ≡ payload) }
+    ensures err { OnErr result (row_view (map waiting_in rising.new.items) others.new ≡ row_view (map waiting_in rising.old.items) others.old) }
+{
+    if make_queues(rising, payload.label.point.gear).is_err() {
+        return Err(payload);
+    }
+    store(rising, others, payload)
+}
+
+// Takes the payload at a point out.
+fn take_out(rising: &mut Vec<Rising>, others: &mut Others, point: &Point) -> Option<Payload>
+    requires { IsParts (map waiting_in rising.old.items) others.old }
+    ensures parts { IsParts (map waiting_in rising.new.items) others.new }
+    ensures found { result ≡ at_point (row_view (map waiting_in rising.old.items) others.old) point.now }
+    ensures new { row_view (map waiting_in rising.new.items) others.new ≡ without (row_view (map waiting_in rising.old.items) others.old) point.now }
+{
+    let queued = take_rising(rising, point);
+    if queued.is_some() {
+        return queued;
+    }
+    others.remove(point)
+}
+
+// The first label of all: the least.
+#[tactic(auto, using(crate::proofs::Parts::first_start, crate::proofs::Parts::first_more, crate::proofs::Parts::first_whole))]
+fn first_of(rising: &[Rising], others: &Others) -> Option<Label>
+    requires { IsParts (map waiting_in rising.now) others.now }
+    ensures { result ≡ first_label (row_view (map waiting_in rising.now) others.now) }
+{
+    let mut least = others.first();
+    for queue in rising {
+        least = lesser(least, queue.first());
+    }
+    least
+}
+
+// The first label of all, once one was taken: another one only where that was the first.
+fn first_left(
+    first: Option<Label>,
+    rising: &Vec<Rising>,
+    others: &Others,
+    point: &Point,
+) -> Option<Label>
+    requires { IsParts (map waiting_in rising.now.items) others.now }
+    ensures { result ≡ (if stands_at first point.now then first_label (row_view (map waiting_in rising.now.items) others.now) else first) }
+{
+    if stands_at(first, point) {
+        return first_of(rising.as_slice(), others);
+    }
+    first
+}
+
 impl Row {
     /// Nothing waits. It takes no memory.
     pub fn new(alloc: Global) -> Row
         ensures { result ≡ [] }
     {
         Row {
-            waiting: BTreeMap::new(alloc),
+            rising: Vec::new(alloc),
+            others: Others::new(alloc),
+            first: None,
         }
     }
 
@@ -71,7 +265,9 @@ impl Row {
         ensures back { IfErr result (λ back. back ≡ payload) }
         ensures err { OnErr result (self.new ≡ self.old) }
     {
-        let before = put(&mut self.waiting, payload)?;
+        let label = payload.label;
+        let before = put(&mut self.rising, &mut self.others, payload)?;
+        self.first = first_with(self.first, label);
         Ok(before)
     }
 
@@ -79,16 +275,20 @@ impl Row {
     pub fn get(&self, point: &Point) -> Option<&Payload>
         ensures { option_copied result ≡ at_point self.now point.now }
     {
-        self.waiting.get(point)
+        match queued_at(&self.rising, point) {
+            Some(payload) => Some(payload),
+            None => self.others.get(point),
+        }
     }
 
     /// Takes the payload that waits at a point. It takes no memory.
-    #[tactic(auto, using(crate::proofs::Keyed::removed_seen))]
     pub fn remove(&mut self, point: &Point) -> Option<Payload>
         ensures found { result ≡ at_point self.old point.now }
         ensures new { self.new ≡ without self.old point.now }
     {
-        self.waiting.remove(point)
+        let taken = take_out(&mut self.rising, &mut self.others, point);
+        self.first = first_left(self.first, &self.rising, &self.others, point);
+        taken
     }
 
     /// The first label, which is the least.
@@ -96,10 +296,7 @@ impl Row {
         ensures first { result ≡ first_label self.now }
         ensures ascends { Ascends self.now }
     {
-        match self.waiting.first_key_value() {
-            None => None,
-            Some((_, payload)) => Some(payload.label),
-        }
+        self.first
     }
 
     /// Whether a label with a point up to this one waits.

@@ -1,7 +1,7 @@
 -- What is true of what a site has of the others stays true.
 use Rattle.std.specs.Prelude.{ℕ, zero, suc, ◌≡◌, ◌⊎◌, ◌<◌, ◌≤◌, ◌*◌, ◌||◌, Bool, true, false, List, [], ◌∷◌, length, map, get_or, set, replicate, Option, Some, None, if◌then◌else◌, refl}
 use Rattle.std.proofs.Common.{arith, ap, sym, ◌∙◌, subst, inl, inr}
-use Rattle.std.proofs.lemmas.List.{get_or_read, get_or-set_same, get_or-set_other, length-set, length-replicate, map-set, set-get_or}
+use Rattle.std.proofs.lemmas.List.{get_or_default, get_or_read, get_or-set_same, get_or-set_other, length-set, length-replicate, map-set, set-get_or}
 use Rattle.std.proofs.lemmas.Bool.{cases_eq}
 use Rattle.sat_label.specs.declared.point.Point.{Point}
 use Rattle.sat_label.specs.Members.{In}
@@ -30,6 +30,13 @@ get-replicate (suc n) (suc i) x = get-replicate n i x
 
 pub fresh_numbers : (n k : ℕ) → IsWindow (get_or (replicate n no_numbers) k no_numbers)
 fresh_numbers n k = subst (λ (w : Numbers). IsWindow w) (sym (get-replicate n k no_numbers)) tt
+
+-- a number that its lane's window lacks
+pub fresh_number : (p r : ProxySeen) (from gear n place : ℕ) (was : Numbers) → p ≡ r → place ≡ lane_place r from gear → place < length r.windows → was ≡ get_or p.windows place was → windows.has_number (window_of r from gear) n ≡ false → windows.has_number was n ≡ false
+fresh_number p r from gear n place was same at lt e new =
+    subst (λ (w : Numbers). windows.has_number w n ≡ false)
+    (sym (e ∙ (ap (λ (q : ProxySeen). get_or q.windows place was) same ∙ (get_or_default r.windows place was no_numbers lt ∙ ap (λ (k : ℕ). get_or r.windows k no_numbers) at))))
+    new
 
 -- a window in place of another
 pub set_numbers : (xs : List Numbers) (place : ℕ) (w : Numbers) → ((n : ℕ) → IsWindow (get_or xs n no_numbers)) → IsWindow w → place < length xs → (n : ℕ) → IsWindow (get_or (set xs place w) n no_numbers)

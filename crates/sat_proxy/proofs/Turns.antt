@@ -1,11 +1,12 @@
 -- After a turn the epochs are still those of the site.
 use Rattle.std.specs.Prelude.{◌≡◌, true, Option, Some, None, OnErr, OnOk, refl}
-use Rattle.std.proofs.Common.{Result, Ok, Err, sym, subst, ◌∙◌}
+use Rattle.std.proofs.Common.{Result, Ok, Err, ap, sym, subst, ◌∙◌}
 use Rattle.std.proofs.lemmas.List.{length-set}
 use Rattle.sat_label.specs.declared.label.Kind.{Kind}
 use Rattle.sat_label.specs.declared.label.Kind.TheVariants.{Update, Move, Pulse, Close}
 use Rattle.sat_label.specs.declared.label.Label.{Label}
 use Rattle.sat_bulk.specs.declared.Payload.{Payload}
+use Rattle.sat_pool.specs.Pool as pool
 use Rattle.sat_epoch.specs.Epochs.{Epochs}
 use Rattle.sat_proxy.specs.declared.proxy.TurnFault.{TurnFault}
 use Rattle.sat_proxy.specs.declared.proxy.Turned.{Turned}
@@ -34,3 +35,10 @@ front_stays (Ok turned) views after p q l are new heard err unheard =
     subst (λ (x : ProxySeen). StaysHere p x after) (sym new) (subst (λ (v : Epochs). StaysHere p (front_after p l l.kind) v) (sym heard) (kind-stays views p l l.kind are))
 front_stays (Err fault) views after p q l are new heard err unheard =
     subst (λ (x : ProxySeen). StaysHere p x after) (sym err) (subst (λ (v : Epochs). StaysHere p p v) (sym unheard) (still_here p views are))
+
+-- what waits where the payload of a label was taken, or none was
+pub taken_if : (w v : pool.Waiting) (l : Label) (x : Payload) → Some x ≡ pool.waiting_of w l → v ≡ pool.after_take_of w l (pool.waiting_of w l) → v ≡ pool.after_take w l.point
+taken_if w v l x found new = new ∙ ap (pool.after_take_of w l) (sym found)
+
+pub stays_if : (w v : pool.Waiting) (l : Label) → None ≡ pool.waiting_of w l → v ≡ pool.after_take_of w l (pool.waiting_of w l) → v ≡ w
+stays_if w v l none new = new ∙ ap (pool.after_take_of w l) (sym none)

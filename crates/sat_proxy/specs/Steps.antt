@@ -4,7 +4,7 @@ use Rattle.sat_label.specs.declared.point.Point.{Point}
 use Rattle.sat_label.specs.declared.label.Label.{Label}
 use Rattle.sat_label.specs.declared.label.Kind.{Kind}
 use Rattle.sat_label.specs.declared.label.Kind.TheVariants.{Update, Close}
-use Rattle.sat_label.specs.Order.{greater_point, label_eq}
+use Rattle.sat_label.specs.Order.{greater_point}
 use Rattle.sat_label.specs.Words.{below}
 use Rattle.sat_bulk.specs.declared.Payload.{Payload}
 use Rattle.sat_bulk.specs.declared.window.Take.{Take}
@@ -75,7 +75,7 @@ after_beat p from number beat = if is_old (best_of p from) number || has_beat (t
 
 -- the waiting payload of a label
 abbrev pub waiting_of : Waiting → Label → Option Payload
-waiting_of w l = elim (waiting_at w l.point) [ None ↦ None | Some p ↦ if label_eq p.label l then Some p else None ]
+waiting_of w l = pool.waiting_of w l
 
 abbrev pub missing : Label → Option Payload → Option TurnFault
 missing l None = Some (turn.NoPayload l)

@@ -118,6 +118,7 @@ fn take_both(
 ) -> Result<(), Payload>
     requires site { payload.label.point.site < length pool.old.rows }
     requires small { number < 2 ^ 63 }
+    requires new { has_number window.old number ≡ false }
     requires alone { waiting_at pool.old payload.label.point ≡ None }
     ensures waits { OnOk result (pool.new ≡ after_add pool.old payload) }
     ensures number { OnOk result (window.new ≡ after_take window.old number) }
@@ -127,7 +128,7 @@ fn take_both(
 {
     let point = payload.label.point;
     pool.add(payload)?;
-    if window.take(number).is_ok() {
+    if window.take_new(number).is_ok() {
         return Ok(());
     }
     match pool.take(&point) {
@@ -410,6 +411,7 @@ impl Proxy {
     }
 
     // Shows the update of a label, if its payload waits.
+    #[tactic(auto, using(crate::proofs::Turns::taken_if, crate::proofs::Turns::stays_if))]
     fn show(&mut self, label: Label) -> Result<Turned, TurnFault>
         requires { label.point.site < self.old.sites }
         ensures fault { MatchResult result (λ _. missing label (waiting_of self.old.pool label) ≡ None) (λ fault. missing label (waiting_of self.old.pool label) ≡ Some fault) }
@@ -417,10 +419,7 @@ impl Proxy {
         ensures new { OnOk result (self.new ≡ shown_after self.old label (waiting_of self.old.pool label)) }
         ensures err { OnErr result (self.new ≡ self.old) }
     {
-        if !waits(&self.pool, &label) {
-            return Err(TurnFault::NoPayload(label));
-        }
-        let Some(payload) = self.pool.take(&label.point) else {
+        let Some(payload) = self.pool.take_if(&label) else {
             return Err(TurnFault::NoPayload(label));
         };
         limits(&self.pool, &self.beats, self.site);
