@@ -18,6 +18,7 @@ use sat_outside::Gate;
 use sat_session::Session;
 use sat_undone::{MOST_TRIES, has_to_wait};
 use std::sync::Wait;
+use std::thread;
 
 // ---- whose act it is
 
@@ -135,7 +136,8 @@ pub(crate) fn do_act<N: Laid + Names, R: Wait, G: Gate>(
 {
     'trying: for _ in 0..MOST_TRIES {
         match try_act(rt, cluster, session, act, gate) {
-            Ok(true) => {}
+            // What it waits for may be another's act, which wants the same lock.
+            Ok(true) => thread::yield_now(),
             Ok(false) => return Ok(true),
             Err(fault) => return Err(fault),
         }

@@ -4,6 +4,7 @@
 mod acting;
 mod fault;
 mod passing;
+mod roll;
 mod serving;
 mod together;
 mod worker;

@@ -2,17 +2,20 @@
 ghost use Rattle.std.specs.Prelude.{IfErr};
 ghost use Rattle.sat_session.specs.Calls.{IsFault};
 
+use crate::roll::Roll;
 use sat_cluster::Cluster;
 use sat_label::NodeName;
 use sat_machines::Laid;
 use sat_node::{CallFault, Names};
 use sat_outside::Gate;
 use std::sync::Wait;
-use std::sync::atomic::{AtomicU64, Ordering};
 use std::thread;
 
 /// How many passes over all nodes are made at the end, at the most.
 pub const MOST_PASSES: u64 = 1_000;
+
+/// Behind so many passes of one node in a row during which no session's worker was at work, its own makes no more.
+pub const IDLE_PASSES: u64 = 10_000;
 
 /// Behind so many passes over all nodes in a row that added no entry, no more are made.
 pub const QUIET_PASSES: u64 = 3;
@@ -70,20 +73,35 @@ pub(crate) fn pass_all<N: Laid + Names, R: Wait, G: Gate>(
     }
 }
 
-/// Passes of one node, until so many that had not returned have.
+// One more, or none: how many passes in a row found no session's worker at work.
+fn idle_passes(before: u64, roll: &Roll) -> u64 {
+    if roll.none_works() {
+        before.saturating_add(1)
+    } else {
+        0
+    }
+}
+
+/// Passes of one node, until all sessions' workers have returned. Where threads are few, some of these begin only once this returns: so it
+/// also does after `IDLE_PASSES` during which none was at work.
 pub(crate) fn pass_until<N: Laid + Names, R: Wait, G: Gate>(
     rt: &R,
     cluster: &Cluster<N>,
     node: NodeName,
     gate: &G,
-    left: &AtomicU64,
+    roll: &Roll,
 ) -> Result<(), CallFault>
     ensures { IfErr result IsFault }
 {
+    let mut idle = 0u64;
     'passing: for _ in rt.forever() {
-        if left.load(Ordering::SeqCst) == 0 {
+        if roll.all_returned() {
             return Ok(());
         }
+        if idle >= IDLE_PASSES {
+            return Ok(());
+        }
+        idle = idle_passes(idle, roll);
         match cluster.round(rt, node, gate) {
             Ok(_) => thread::yield_now(),
             Err(fault) => return Err(fault),

@@ -10,6 +10,7 @@ ghost use Rattle.sat_crew.specs.Workers.{Passes, Serves, Works};
 
 use crate::acting::{do_act, is_own};
 use crate::passing::pass_until;
+use crate::roll::Roll;
 use crate::worker::{Caller, Passer, Worker};
 use sat_act::Act;
 use sat_cluster::Cluster;
@@ -18,7 +19,6 @@ use sat_node::{CallFault, Names};
 use sat_outside::Gate;
 use sat_session::Session;
 use std::sync::Wait;
-use std::sync::atomic::{AtomicU64, Ordering};
 
 /// Does a session's acts of a script, in their order, until its client gives up or a call fails.
 #[tactic(auto, using(crate::proofs::Scripts::serving_start, crate::proofs::Scripts::serving_act, crate::proofs::Scripts::serving_other, crate::proofs::Scripts::serving_own, crate::proofs::Scripts::worked_failed, crate::proofs::Scripts::worked_given_up, crate::proofs::Scripts::worked_all))]
@@ -69,30 +69,31 @@ fn work_passer<N: Laid + Names, R: Wait, G: Gate>(
     cluster: &Cluster<N>,
     passer: &mut Passer,
     gate: &G,
-    left: &AtomicU64,
+    roll: &Roll,
 )
     ensures { Passes passer.old passer.new }
 {
-    passer.fault = pass_until(rt, cluster, passer.node, gate, left).err();
+    passer.fault = pass_until(rt, cluster, passer.node, gate, roll).err();
 }
 
-/// What a worker does. A session's worker that returns is one less of those that are left, for which nodes' workers go on.
+/// What a worker does. Sessions' workers say when they begin and when they return, since nodes' workers go on for them.
 pub(crate) fn work<N: Laid + Names, R: Wait, G: Gate>(
     rt: &R,
     cluster: &Cluster<N>,
     acts: &[Act],
     worker: &mut Worker<N>,
     gate: &G,
-    left: &AtomicU64,
+    roll: &Roll,
 )
     requires acts { AllByRecursion (IsActOf N.deployment) acts.now }
     ensures { Works N.deployment acts.now worker.old worker.new }
 {
     match worker {
         Worker::Caller(caller) => {
+            roll.begins();
             work_caller(rt, cluster, acts, caller, gate);
-            left.fetch_sub(1, Ordering::SeqCst);
+            roll.returns();
         }
-        Worker::Passer(passer) => work_passer(rt, cluster, passer, gate, left),
+        Worker::Passer(passer) => work_passer(rt, cluster, passer, gate, roll),
     }
 }

@@ -8,6 +8,7 @@ ghost use Rattle.sat_crew.specs.Workers.{HasFault, IsWell, Works, fault_of, sess
 
 use crate::fault::CrewFault;
 use crate::passing::pass_to_end;
+use crate::roll::Roll;
 use crate::serving::work;
 use crate::worker::{Caller, Passer, Worker};
 use sat_act::Act;
@@ -19,7 +20,6 @@ use sat_outside::Gate;
 use sat_session::Session;
 use std::alloc::{AllocError, Global};
 use std::sync::Wait;
-use std::sync::atomic::AtomicU64;
 use std::thread;
 use std::thread::Threads;
 
@@ -222,8 +222,8 @@ fn first_fault<N: Laid>(workers: &[Worker<N>]) -> Option<CallFault>
     }
 }
 
-// Each worker works in a thread of its own. Where none can be made, they work one after another in their order: then all sessions'
-// workers have returned before a node's begins.
+// Each worker works in a thread of its own. Where the system refuses threads, some work one after another in one, in no order that
+// anything says: a node's worker then does not wait for a session's that cannot begin.
 #[tactic(auto, using(crate::proofs::Hiring::zip_each))]
 fn work_all<N: Laid + Names + Send + Sync, R: Threads + Wait + Sync, G: Gate>(
     rt: &R,
@@ -231,7 +231,7 @@ fn work_all<N: Laid + Names + Send + Sync, R: Threads + Wait + Sync, G: Gate>(
     acts: &[Act],
     workers: &mut [Worker<N>],
     gate: &G,
-    left: &AtomicU64,
+    roll: &Roll,
 )
     requires acts { AllByRecursion (IsActOf N.deployment) acts.now }
     ensures { AllZip (Works N.deployment acts.now) workers.old workers.new }
@@ -240,7 +240,7 @@ fn work_all<N: Laid + Names + Send + Sync, R: Threads + Wait + Sync, G: Gate>(
     let each = |_: usize, worker: &mut Worker<N>|
         requires { AllByRecursion (IsActOf N.deployment) acts.now }
         ensures { Works N.deployment acts.entry.now worker.entry.now worker.exit.now }
-    { work(rt, cluster, acts, worker, gate, left) };
+    { work(rt, cluster, acts, worker, gate, roll) };
     thread::for_each_mut(rt, workers, threads, &each);
 }
 
@@ -251,13 +251,13 @@ fn work_whole<N: Laid + Names + Send + Sync, R: Threads + Wait + Sync, G: Gate>(
     acts: &[Act],
     workers: &mut Vec<Worker<N>>,
     gate: &G,
-    left: &AtomicU64,
+    roll: &Roll,
 )
     requires acts { AllByRecursion (IsActOf N.deployment) acts.now }
     ensures many { vec_len workers.new ≡ vec_len workers.old }
     ensures works { AllZip (Works N.deployment acts.now) workers.old.items workers.new.items }
 {
-    work_all(rt, cluster, acts, workers.as_mut_slice(), gate, left);
+    work_all(rt, cluster, acts, workers.as_mut_slice(), gate, roll);
 }
 
 // All workers work, and then the nodes make passes until nothing is left to do. Where a worker stopped at a fault, no passes are made.
@@ -277,8 +277,8 @@ fn run<N: Laid + Names + Send + Sync, R: Threads + Wait + Sync, G: Gate>(
     ensures through { OnOk result (AllZip (CameThrough N.deployment acts.now) (sessions_in workers.old.items) (sessions_in workers.new.items)) }
     ensures fault { IfErr result IsFault }
 {
-    let left = AtomicU64::new(count);
-    work_whole(rt, cluster, acts, workers, gate, &left);
+    let roll = Roll::new(count);
+    work_whole(rt, cluster, acts, workers, gate, &roll);
     match first_fault(workers.as_slice()) {
         Some(fault) => Err(fault),
         None => pass_to_end(rt, cluster, gate),
@@ -286,11 +286,12 @@ fn run<N: Laid + Names + Send + Sync, R: Threads + Wait + Sync, G: Gate>(
 }
 
 /// Does a script at the nodes of a cluster, on threads: one for each session, which does its acts in their order, and one for each
-/// serializer and each site, which makes its passes until all sessions' threads have returned. A client whose attach has to wait tries
-/// again, `MOST_TRIES` times in a row at the most, and then leaves out its further acts. At the end the nodes make passes until nothing is
-/// left to do. After Ok each session did all its acts, or its client gave up at the end of what it did, after exactly so many tries;
-/// after an error each did a front of its acts. Each try is of the act that comes next. `Worn`, with the greatest u64, where a worker's
-/// call answered it; `Memory`. All sessions come back, in their order.
+/// serializer and each site, which makes its passes until all sessions' threads have returned, or until for many passes none was at
+/// work, as where the system refuses threads. A client whose attach has to wait tries again, `MOST_TRIES` times in a row at the most,
+/// and then leaves out its further acts. At the end the nodes make passes until nothing is left to do. After Ok each session did all
+/// its acts, or its client gave up at the end of what it did, after exactly so many tries; after an error each did a front of its acts.
+/// Each try is of the act that comes next. `Worn`, with the greatest u64, where a worker's call answered it; `Memory`. All sessions
+/// come back, in their order.
 #[tactic(auto, using(crate::proofs::Hiring::untouched, crate::proofs::Hiring::back_as, crate::proofs::Hiring::through_as))]
 pub fn crew<N: Laid + Names + Send + Sync, R: Threads + Wait + Sync, G: Gate>(
     rt: &R,

@@ -1,0 +1,40 @@
+//! Which sessions' workers have returned, and which are at work.
+use std::sync::atomic::{AtomicU64, Ordering};
+
+/// How many sessions' workers have not returned, and how many of these have begun.
+#[derive(Drop)]
+pub(crate) struct Roll {
+    left: AtomicU64,
+    at_work: AtomicU64,
+}
+
+impl Roll {
+    /// Of so many, none has begun.
+    pub(crate) fn new(count: u64) -> Roll {
+        Roll {
+            left: AtomicU64::new(count),
+            at_work: AtomicU64::new(0),
+        }
+    }
+
+    /// One begins.
+    pub(crate) fn begins(&self) {
+        self.at_work.fetch_add(1, Ordering::SeqCst);
+    }
+
+    /// One that has begun returns.
+    pub(crate) fn returns(&self) {
+        self.at_work.fetch_sub(1, Ordering::SeqCst);
+        self.left.fetch_sub(1, Ordering::SeqCst);
+    }
+
+    /// Whether all have returned.
+    pub(crate) fn all_returned(&self) -> bool {
+        self.left.load(Ordering::SeqCst) == 0
+    }
+
+    /// Whether none is at work: none has begun, or each that has has returned.
+    pub(crate) fn none_works(&self) -> bool {
+        self.at_work.load(Ordering::SeqCst) == 0
+    }
+}
