@@ -12,7 +12,7 @@ use Rattle.sat_label.specs.Members.{In}
 use Rattle.sat_bulk.specs.declared.Payload.{Payload}
 use Rattle.sat_pool.specs.declared.rising.Slot.{Slot}
 use Rattle.sat_pool.specs.Pool.{Waiting, all_waiting, at_point, placed, IsPool, IsRow}
-use Rattle.sat_pool.specs.Slots.{waiting_in, AreBelow}
+use Rattle.sat_pool.specs.Slots.{AreBelow}
 
 -- how points compare, as the map compares them
 abbrev pub point_cmp : Point → Point → Ordering

@@ -1,9 +1,9 @@
 -- Every settle ends with a quiet round, within its bound.
-use Rattle.std.specs.Prelude.{◌≤◌, ℕ, ◌+◌, ◌*◌, length}
+use Rattle.std.specs.Prelude.{◌≤◌, ℕ}
 use Rattle.std.proofs.Common.{arith}
 use Rattle.sat_act.specs.Settling.{opening, left, round_acts, settle}
 use Rattle.sat_rest.specs.Laws.{EverySettleSettles}
-use Rattle.sat_rest.specs.Ends.{sent_count, wrote_count, most_rounds}
+use Rattle.sat_rest.specs.Ends.{most_rounds}
 use Rattle.sat_rest.proofs.Rounds.{IsAfter, round-act, among-in, falls, until-ends, emits-end}
 use Rattle.sat_rest.proofs.Settles.{RoundsEnd, round-quiet, opens, settle-ends}
 use Rattle.sat_rest.proofs.Bounds.{left-bound}
