@@ -40,6 +40,9 @@ returns-in-Err-clause-stopped g c = stopped_before (g.S.Source.left c.args.sourc
 pub end_script-requires-clause-known : goal.end_script-requires-clause-known
 end_script-requires-clause-known g c = known_at_end c.pieces.reader c.pieces.world c.finish.result (known_fed c.pieces.reader c.pieces.reader c.pieces.world [] c.pieces.invariant.drained (λ more. refl)) c.finish.ensures.script
 
+pub end_script-requires-clause-few : goal.end_script-requires-clause-few
+end_script-requires-clause-few g c = few_at_end c.pieces.reader c.pieces.done c.finish.result (few_under (g.S.Source.left c.args.source.now) (g.S.Source.left c.pieces.source) c.pieces.taken c.pieces.reader c.pieces.world c.pieces.done c.pieces.invariant.under.0 (λ text. c.sound_readings.ensures false text) c.pieces.invariant.under.1) c.finish.ensures.script
+
 pub returns-in-Ok-eq0-clause-whole : goal.returns-in-Ok-eq0-clause-whole
 returns-in-Ok-eq0-clause-whole g c = ok_ended (g.S.Source.left c.args.source.now) c.finish.result c.pieces.world c.pieces.done c.pieces.invariant.under.0 c.end_script.result (g.K.Sink.told c.args.sink.now) (g.K.Sink.told c.pieces.sink) (g.K.Sink.told c.end_script.new.sink) c.good_scripts.ensures (λ text. c.sound_readings.ensures false text) (record { good = c.headline.ensures; settles = c.settles_all.ensures.settles; rests = c.settles_all.ensures.rests }) (ends_whole (g.S.Source.left c.args.source.now) (g.S.Source.left c.read.new.self) (c.pieces.taken + 0) c.pieces.reader c.pieces.world c.pieces.done c.pieces.invariant.under.0 c.finish.result (still_under (g.S.Source.left c.args.source.now) (g.S.Source.left c.pieces.source) (g.S.Source.left c.read.new.self) c.pieces.taken c.pieces.reader c.pieces.world c.pieces.done c.pieces.invariant.under.0 c.pieces.invariant.under.1 (zero_bytes (g.S.Source.left c.pieces.source) (g.S.Source.left c.read.new.self) c.in-Ok-eq0.field-0 c.read.new.into (let none : c.in-Ok-eq0.field-0 ≡ 0 = search rules in none) c.in-Ok-eq0.ensures.bytes.0)) (c.in-Ok-eq0.ensures.bytes.1 (let none : c.in-Ok-eq0.field-0 ≡ 0 = search rules in none) (omega arith)) c.finish.ensures.script) c.pieces.invariant.under.2 c.end_script.ensures.status c.end_script.ensures.whole
 
