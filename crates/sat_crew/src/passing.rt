@@ -15,7 +15,7 @@ use std::thread;
 pub const MOST_PASSES: u64 = 1_000;
 
 /// Behind so many passes of one node in a row during which no session's worker was at work, its own makes no more.
-pub const IDLE_PASSES: u64 = 10_000;
+pub const IDLE_PASSES: u64 = 200_000;
 
 /// Behind so many passes over all nodes in a row that added no entry, no more are made.
 pub const QUIET_PASSES: u64 = 3;
