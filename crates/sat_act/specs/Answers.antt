@@ -2,6 +2,9 @@
 use Rattle.std.specs.Prelude.{◌≡◌, ◌<◌, ◌≤◌, ℕ, zero, suc, ◌+◌, ◌-◌, ◌%◌, Bool, true, false, ◌&&◌, ◌||◌, not, ◌==◌, nat_le, max, List, [], ◌∷◌, length, filter, Option, Some, None, is_some, slice_get, if◌then◌else◌}
 use Rattle.std.specs.List.{list_any}
 use Rattle.sat_label.specs.declared.limits.TheConstants.{PULSE_GEAR, TS_END}
+use Rattle.sat_label.specs.declared.items.Items.{Items}
+use Rattle.sat_label.specs.declared.items.Items.TheVariants.{One}
+use Rattle.sat_label.specs.Grouped.{are_items, least_item, list_of}
 use Rattle.sat_label.specs.declared.label.Kind.TheVariants as kind
 use Rattle.sat_label.specs.declared.label.Label.{Label}
 use Rattle.sat_label.specs.declared.node.NodeId.{NodeId}
@@ -18,7 +21,7 @@ use Rattle.sat_act.specs.declared.answer.Refusal.{Refusal}
 use Rattle.sat_act.specs.declared.answer.Refusal.TheVariants as why
 use Rattle.sat_act.specs.declared.entry.Entry.{Entry}
 use Rattle.sat_act.specs.Deployed.{Deployed}
-use Rattle.sat_act.specs.Parts.{BeatNote, replicates, tree_of, promise, least_promise, made_to, gathered, stable, ready, cut, last_pulse, emission, view, in_stamp_mode, seat_in, goes_beyond, link_front, killed, is_update, version, value_of, lane, lane_front, brought, waiting, beats, beats_taken, best, best_passes, all_others, seat, carried, may_attach, next_stamp}
+use Rattle.sat_act.specs.Parts.{BeatNote, replicates, keeps_all, tree_of, promise, least_promise, made_to, gathered, stable, ready, cut, last_pulse, emission, view, in_stamp_mode, seat_in, goes_beyond, link_front, killed, is_update, version, values_of, value_of, lane, lane_front, brought, waiting, beats, beats_taken, best, best_passes, all_others, seat, carried, may_attach, next_stamp}
 
 -- refused with the reason where the test holds, else the answer
 abbrev pub refused_if : Bool → Refusal → Answer → Answer
@@ -36,21 +39,22 @@ unfoldable pub base : List Entry → ℕ → ℕ → ℕ → ℕ
 unfolding promise carried
 base h c i g = max (promise h i g) (carried h c).ts
 
--- a write of item x by client c, seated at i
-unfoldable pub write_at : Deployed → List Entry → ℕ → ℕ → ℕ → Answer
+-- a write of some items by client c, seated at i. The gear of the least item stamps it
+unfoldable pub write_at : Deployed → List Entry → ℕ → Items → ℕ → Answer
 unfolding replicates base
-write_at d h c x i =
-    refused_if (not (replicates d x i)) why.NotHere (
-    let ts = base h c i (gear_of d x) in
+write_at d h c items i =
+    refused_if (not (keeps_all d (list_of items) i)) why.NotHere (
+    let g = gear_of d (least_item (list_of items)) in
+    let ts = base h c i g in
     refused_if (nat_le TS_END ts) why.Spent (
-    ans.Wrote (record { point = point_at (ts + 1) i (gear_of d x); kind = kind.Update x })))
+    ans.Wrote (record { point = point_at (ts + 1) i g; kind = kind.Update items })))
 
 -- a read of item x at site i
 unfoldable pub read_at : Deployed → List Entry → ℕ → ℕ → Answer
-unfolding replicates version value_of
+unfolding replicates version values_of
 read_at d h x i =
     refused_if (not (replicates d x i)) why.NotHere (
-    elim (version h i x) [ None ↦ ans.ReadNone | Some l ↦ ans.ReadSome l (value_of h l) ])
+    elim (version h i x) [ None ↦ ans.ReadNone | Some l ↦ ans.ReadSome l (value_of h l x) ])
 
 -- a move of client c from its seat i to site j. Gear 0 stamps it
 unfoldable pub move_from : List Entry → ℕ → ℕ → ℕ → Answer
@@ -235,7 +239,8 @@ unfoldable pub answer : Deployed → List Entry → Act → Answer
 unfolding promise write_at read_at move_from seat carried attach_to gather_of emit_of pulse_of hop_to turn_of bulk_to beat_to beat_in_to stamp_of close_of fall_of advance_of killed greatest_promise
 answer d h (act.Tick i g ts) = ans.Ticked (max (promise h i g) ts)
 answer d h act.Clock = ans.Clocked (greatest_promise h d.sites d.gears)
-answer d h (act.Write c x value) = at_seat (seat d h c) (λ i. write_at d h c x i)
+answer d h (act.Write c x value) = at_seat (seat d h c) (λ i. write_at d h c (One x) i)
+answer d h (act.Writes c items values) = at_seat (seat d h c) (λ i. write_at d h c items i)
 answer d h (act.Read c x) = at_seat (seat d h c) (λ i. read_at d h x i)
 answer d h (act.Move c j) = at_seat (seat d h c) (λ i. move_from h c j i)
 answer d h (act.Leave c) = at_seat (seat d h c) (λ i. ans.Left (carried h c))
@@ -256,9 +261,11 @@ answer d h (act.Kill epoch z) = refused_if (killed h epoch z) why.Already ans.Ki
 answer d h act.Settle = ans.Settled 0 0
 
 -- what the laws of histories need of an act's numbers. `IsActOf` (Ranges), by which acts have a line, asks for more: of clients,
--- items, values, kills and numbers of payloads and beats nothing is needed here, so the laws hold of more histories than scripts have
+-- of which items there are, of the spelling of values, of kills and of numbers of payloads and beats nothing is needed here, so
+-- the laws hold of more histories than scripts have
 abbrev pub InRange : Deployed → Act → Type 0
 InRange d (act.Tick i g ts) = (i < d.sites) × (g < d.gears) × (ts ≤ TS_END)
+InRange d (act.Writes c items values) = (length values ≡ length (list_of items)) × (are_items (list_of items) ≡ true)
 InRange d (act.Move c j) = j < d.sites
 InRange d (act.Attach c j) = j < d.sites
 InRange d (act.Gather i) = i < d.sites

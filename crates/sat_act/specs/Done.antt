@@ -1,5 +1,7 @@
 -- What one entry did, by its act and its answer.
-use Rattle.std.specs.Prelude.{ℕ, Bool, false, ◌&&◌, ◌==◌, Option, Some, None, if◌then◌else◌}
+use Rattle.std.specs.Prelude.{ℕ, Bool, false, ◌&&◌, ◌==◌, List, [], ◌∷◌, Option, Some, None, if◌then◌else◌}
+use Rattle.sat_label.specs.declared.items.Items.{Items}
+use Rattle.sat_label.specs.declared.items.Items.TheVariants.{One}
 use Rattle.sat_label.specs.declared.label.Kind.TheVariants.{Close}
 use Rattle.sat_label.specs.declared.label.Label.{Label}
 use Rattle.sat_act.specs.declared.act.Act.{Act}
@@ -41,11 +43,24 @@ is_at a j = elim (at_site a) [ None ↦ false | Some i ↦ i == j ]
 -- the client of an act of a client
 abbrev pub of_client : Act → Option ℕ
 of_client (act.Write c x v) = Some c
+of_client (act.Writes c items values) = Some c
 of_client (act.Read c x) = Some c
 of_client (act.Move c j) = Some c
 of_client (act.Leave c) = Some c
 of_client (act.Attach c j) = Some c
 of_client _ = None
+
+-- what is written: by which client, which items, and a value for each of them
+pub record Written : Type 0 where
+  pub client : ℕ
+  pub items : Items
+  pub values : List (List ℕ)
+
+-- what an act writes: one item, or several under one label
+abbrev pub write_in : Act → Option Written
+write_in (act.Write c x v) = Some (record { client = c; items = One x; values = v ∷ [] })
+write_in (act.Writes c items values) = Some (record { client = c; items = items; values = values })
+write_in _ = None
 
 -- an act of client c
 abbrev pub is_of : Act → ℕ → Bool

@@ -3,9 +3,7 @@ use Rattle.std.specs.Prelude.{ℕ, ◌≡◌, ◌==◌, ◌&&◌, Bool, true, no
 use Rattle.std.specs.List.{list_any}
 use Rattle.std.specs.Option.{option_or, option_map}
 use Rattle.std.specs.Str.{bytes_eq}
-use Rattle.std.specs.BTreeSet.{BTreeSet, contains_by}
-use Rattle.std.specs.Cmp.Lexicographic.{slice_cmp}
-use Rattle.std.specs.Ordering.{nat_cmp}
+use Rattle.std.specs.HashSet.{HashSet, contains_by}
 use Rattle.std.specs.Borrow.{Bor}
 use Rattle.sat_label.specs.declared.limits.TheConstants.{MOST_CLIENTS, MOST_EPOCHS, MOST_GEARS}
 use Rattle.sat_label.specs.Formats.{is_format, limits_of}
@@ -19,8 +17,8 @@ use Rattle.sat_act.specs.declared.fault.DeploymentFault.TheVariants.{Size, BadIt
 use Rattle.sat_act.specs.Deployed.{Deployed}
 
 -- whether a set of names has this one
-abbrev pub has_name : BTreeSet (Bor (List ℕ)) → List ℕ → Bool
-has_name names name = contains_by (λ k. slice_cmp nat_cmp name k.now) names
+abbrev pub has_name : {S : Type 0} → HashSet (Bor (List ℕ)) S → List ℕ → Bool
+has_name names name = contains_by (λ k. bytes_eq name k.now) names
 
 -- a number from low to high
 abbrev pub is_within : ℕ → ℕ → ℕ → Bool
@@ -69,9 +67,9 @@ flaw d =
     (option_map BadPlan (first_failing (plan_fits d.sites d.plans) (length d.plans)))))
 
 -- a set has the names of some items, and no others
-abbrev pub HaveItemNames : BTreeSet (Bor (List ℕ)) → List Item → Type 0
+abbrev pub HaveItemNames : {S : Type 0} → HashSet (Bor (List ℕ)) S → List Item → Type 0
 HaveItemNames names items = (name : List ℕ) → has_name names name ≡ list_any (λ (item : Item). bytes_eq item.name name) items
 
 -- a set has the names of some clients, and no others
-abbrev pub HaveClientLineNames : BTreeSet (Bor (List ℕ)) → List ClientLine → Type 0
+abbrev pub HaveClientLineNames : {S : Type 0} → HashSet (Bor (List ℕ)) S → List ClientLine → Type 0
 HaveClientLineNames names clients = (name : List ℕ) → has_name names name ≡ list_any (λ (client : ClientLine). bytes_eq client.name name) clients

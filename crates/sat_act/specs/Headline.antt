@@ -9,7 +9,7 @@ use Rattle.sat_act.specs.Deployed.{Deployed}
 use Rattle.sat_act.specs.Parts.{tree_of, shown}
 use Rattle.sat_act.specs.Answers.{InRange}
 use Rattle.sat_act.specs.Causes.{Cause}
-use Rattle.sat_act.specs.Goals.{IsKeptAt, Causal, Once, Fresh, Settled}
+use Rattle.sat_act.specs.Goals.{IsKeptAt, Causal, Once, Fresh, Whole, Settled}
 
 -- the tree of each epoch that has one is a tree
 abbrev pub HasTrees : Deployed → Type 0
@@ -34,11 +34,12 @@ abbrev pub OnceAsListed : List Entry → Type 0
 OnceAsListed h = (k m n : ℕ) (b : Label) → slice_get (shown h k) m ≡ Some b → slice_get (shown h k) n ≡ Some b → m ≡ n
 
 -- the headline, which every run meets: sites show updates in causal order and each once, from writes of items that they keep;
--- no client reads what is older than its past; and once all has come and was shown, each site holds the greatest versions
+-- no client reads what is older than its past; what a site shows it shows whole; and once all has come and was shown, each site holds the greatest versions
 pub record IsGood (d : Deployed) (h : List Entry) : Type 0 where
   pub causal : Causal d h
   pub in_order : CausalAsListed d h
   pub no_repeat : OnceAsListed h
   pub once : Once d h
   pub fresh : Fresh h
+  pub whole : Whole d h
   pub settled : Settled d h

@@ -8,6 +8,7 @@ use Rattle.sat_label.specs.declared.label.Label.{Label}
 use Rattle.sat_label.specs.declared.node.NodeId.{NodeId}
 use Rattle.sat_label.specs.declared.node.NodeId.TheVariants.{Site, Serializer}
 use Rattle.sat_label.specs.Order.{point_at, mark, zero_point, point_lt, point_le, greater_point, label_lt, label_eq, node_eq}
+use Rattle.sat_label.specs.Grouped.{list_of}
 use Rattle.sat_label.specs.Words.{below, has, bit}
 use Rattle.sat_label.specs.Least.{least_label}
 use Rattle.sat_tree.specs.Shape.{TreeShape}
@@ -19,7 +20,7 @@ use Rattle.sat_act.specs.declared.deployment.Plan.{Plan}
 use Rattle.sat_act.specs.declared.deployment.Plan.TheVariants as plan
 use Rattle.sat_act.specs.Deployed.{Deployed}
 use Rattle.sat_act.specs.Histories.{listed, latest, up_to, highest}
-use Rattle.sat_act.specs.Done.{made_in, sent_in, is_at, is_of, is_tick, is_gather, is_beat, beat_in, is_kill}
+use Rattle.sat_act.specs.Done.{made_in, sent_in, is_at, is_of, is_tick, is_gather, is_beat, beat_in, is_kill, Written, write_in}
 
 -- ---- the deployment
 
@@ -27,13 +28,22 @@ use Rattle.sat_act.specs.Done.{made_in, sent_in, is_at, is_of, is_tick, is_gathe
 unfoldable pub replicates : Deployed → ℕ → ℕ → Bool
 replicates d x k = elim (slice_get d.items x) [ None ↦ false | Some item ↦ bit item.replicas.bits k ]
 
--- whether a site is a target of a label: of an Update the sites that keep its item but its own, of a Move the site that it
+-- site k keeps one of some items
+abbrev pub keeps_some : Deployed → List ℕ → ℕ → Bool
+keeps_some d xs k = list_any (λ x. replicates d x k) xs
+
+-- site k keeps all of some items, of which there is one at least
+abbrev pub keeps_all : Deployed → List ℕ → ℕ → Bool
+keeps_all d [] k = false
+keeps_all d (x ∷ xs) k = replicates d x k && list_all (λ y. replicates d y k) xs
+
+-- whether a site is a target of a label: of an Update the sites that keep one of its items but its own, of a Move the site that it
 -- names, of a Pulse or a Close all sites but its own
 unfoldable pub is_target : Deployed → Label → ℕ → Bool
 unfolding replicates
 is_target d l k =
     elim l.kind [
-      | kind.Update x ↦ replicates d x k && not (k == l.point.site)
+      | kind.Update items ↦ keeps_some d (list_of items) k && not (k == l.point.site)
       | kind.Move j ↦ k == j
       | kind.Pulse ↦ not (k == l.point.site)
       | kind.Close e ↦ not (k == l.point.site)
@@ -299,14 +309,18 @@ killed h epoch z =
 
 -- ---- stores
 
--- an Update of item x
-abbrev pub is_update_of : Kind → ℕ → Bool
-is_update_of (kind.Update y) x = y == x
-is_update_of _ x = false
+-- the items of an Update, none of another kind
+abbrev pub items_of : Kind → List ℕ
+items_of (kind.Update items) = list_of items
+items_of _ = []
 
--- an Update of some item
+-- an Update that has item x
+abbrev pub is_update_of : Kind → ℕ → Bool
+is_update_of k x = has ◌==◌ (items_of k) x
+
+-- an Update of some items
 abbrev pub is_update : Kind → Bool
-is_update (kind.Update y) = true
+is_update (kind.Update items) = true
 is_update _ = false
 
 -- the label that an entry showed at site j: its own write, or an update that came in
@@ -330,16 +344,36 @@ greatest_label p (l ∷ ls) =
     let rest = greatest_label p ls in
     if p l then elim rest [ None ↦ Some l | Some m ↦ if label_lt m l then Some l else Some m ] else rest
 
--- the version of item x at j: the greatest label of it that j showed
+-- the version of item x at j: the greatest label that has it of those that j showed
 unfoldable pub version : List Entry → ℕ → ℕ → Option Label
 unfolding shown greatest_label
 version h j x = greatest_label (λ l. is_update_of l.kind x) (shown h j)
 
--- the value of the write that made a label
-unfoldable pub value_of : List Entry → Label → List ℕ
+-- the values of a write, where the test holds
+abbrev pub values_if : Bool → Option Written → Option (List (List ℕ))
+values_if test None = None
+values_if true (Some w) = Some w.values
+values_if false (Some w) = None
+
+-- the values of the write that an entry is, if it made this label
+abbrev pub values_entry : Label → List Entry → Entry → Option (List (List ℕ))
+values_entry l before entry =
+    elim entry.answer [ ans.Wrote m ↦ values_if (label_eq m l) (write_in entry.act) | _ ↦ None ]
+
+-- the values of the write that made a label, one for each of its items
+unfoldable pub values_of : List Entry → Label → List (List ℕ)
 unfolding latest
-value_of h l =
-    latest {X = List ℕ} (λ before entry. elim entry.answer [ ans.Wrote m ↦ elim entry.act [ act.Write c x value ↦ if label_eq m l then Some value else None | _ ↦ None ] | _ ↦ None ]) [] h
+values_of h l = latest {X = List (List ℕ)} (values_entry l) [] h
+
+-- of values for some items, that of item x
+abbrev pub value_for : List ℕ → List (List ℕ) → ℕ → List ℕ
+value_for [] vs x = []
+value_for (y ∷ ys) [] x = []
+value_for (y ∷ ys) (v ∷ vs) x = if y == x then v else value_for ys vs x
+
+-- the value for item x of the write that made a label
+abbrev pub value_of : List Entry → Label → ℕ → List ℕ
+value_of h l x = value_for (items_of l.kind) (values_of h l) x
 
 -- ---- lanes
 
@@ -477,7 +511,7 @@ carried h c = highest (carried_entry c) zero_point h
 
 -- the point to which a label of i that was taken raises what is known of i
 abbrev pub known_at : Kind → Point → Point
-known_at (kind.Update x) p = p
+known_at (kind.Update items) p = p
 known_at (kind.Move k) p = p
 known_at kind.Pulse p = mark p.ts p.site
 known_at (kind.Close e) p = p

@@ -1,7 +1,7 @@
 //! Acts: the events of a script.
 ghost use Rattle.std.specs.Prelude.{◌≡◌, ◌<◌, ◌++◌, [], ◌∷◌, OnOk, OnErr, IfOk, vec_len, vec_capacity};
 
-use sat_label::{NodeId, Value};
+use sat_label::{Items, NodeId, Value, Values};
 use std::alloc::{AllocError, Global};
 use std::marker::Model;
 
@@ -22,6 +22,13 @@ pub enum Act {
         client: u16,
         item: u16,
         value: Value,
+    },
+    /// A client writes several items under one label at the site where it is seated.
+    Writes {
+        client: u16,
+        items: Items,
+        /// A value for each item.
+        values: Values,
     },
     /// A client reads an item at the site where it is seated.
     Read {
@@ -129,6 +136,18 @@ impl Act {
                     client: *client,
                     item: *item,
                     value,
+                })
+            }
+            Act::Writes {
+                client,
+                items,
+                values,
+            } => {
+                let values = values.copy()?;
+                Ok(Act::Writes {
+                    client: *client,
+                    items: *items,
+                    values,
                 })
             }
             Act::Tick { site, gear, ts } => Ok(Act::Tick {

@@ -15,10 +15,10 @@ ghost use Rattle.sat_act.specs.Limits.{HaveTrees};
 use crate::{ClientLine, DeploymentFault, Item, Plan};
 use sat_label::{MOST_CLIENTS, MOST_EPOCHS, MOST_GEARS, limits_of};
 use std::alloc::{AllocError, Global};
-use std::collections::BTreeSet;
+use std::collections::HashSet;
 
 // Adds a name to those that were seen, and answers whether it is new.
-fn add_name<'a>(names: &mut BTreeSet<&'a [u8]>, name: &'a [u8]) -> Result<bool, AllocError>
+fn add_name<'a>(names: &mut HashSet<&'a [u8]>, name: &'a [u8]) -> Result<bool, AllocError>
     ensures added { IfOk result (λ new. new ≡ not (has_name names.old name.now)) }
     ensures names { OnOk result ((other : List ℕ) → has_name names.new other ≡ (bytes_eq name.now other || has_name names.old other)) }
 {
@@ -99,7 +99,7 @@ fn scan_clients(sites: u16, clients: &[ClientLine]) -> Option<u16>
 // Whether the item at a place fits, once the earlier ones did, whose names are given. Its name is added to them.
 #[tactic(auto, unfolding(crate::specs::Flaw::item_fits))]
 fn take_item<'a>(
-    names: &mut BTreeSet<&'a [u8]>,
+    names: &mut HashSet<&'a [u8]>,
     sites: u16,
     items: &'a [Item],
     x: u16,
@@ -124,7 +124,7 @@ fn find_wrong_item(alloc: Global, sites: u16, items: &[Item]) -> Result<Option<u
     requires few_sites { sites ≤ MOST_SITES }
     ensures { IfOk result (λ place. place ≡ first_failing (item_fits sites items.now) (length items.now)) }
 {
-    let mut names: BTreeSet<&[u8]> = BTreeSet::new(alloc);
+    let mut names: HashSet<&[u8]> = HashSet::new(alloc);
     for x in 0..items.len() as u16 {
         if !take_item(&mut names, sites, items, x)? {
             return Ok(Some(x));
@@ -136,7 +136,7 @@ fn find_wrong_item(alloc: Global, sites: u16, items: &[Item]) -> Result<Option<u
 // Whether the client at a place fits, once the earlier ones did, whose names are given. Its name is added to them.
 #[tactic(auto, unfolding(crate::specs::Flaw::client_fits))]
 fn take_client<'a>(
-    names: &mut BTreeSet<&'a [u8]>,
+    names: &mut HashSet<&'a [u8]>,
     sites: u16,
     clients: &'a [ClientLine],
     c: u16,
@@ -163,7 +163,7 @@ fn find_wrong_client(
     requires few { length clients.now ≤ MOST_CLIENTS }
     ensures { IfOk result (λ place. place ≡ first_failing (client_fits sites clients.now) (length clients.now)) }
 {
-    let mut names: BTreeSet<&[u8]> = BTreeSet::new(alloc);
+    let mut names: HashSet<&[u8]> = HashSet::new(alloc);
     for c in 0..clients.len() as u16 {
         if !take_client(&mut names, sites, clients, c)? {
             return Ok(Some(c));

@@ -1,5 +1,5 @@
 -- Lists whose labels rise.
-use Rattle.std.proofs.Common.{◌⊎◌, ◌≡◌, List, [], ◌∷◌, ◌++◌, true, inl, inr, refl}
+use Rattle.std.proofs.Common.{◌≡◌, List, [], ◌∷◌, ◌++◌, true, inl, inr, refl}
 use Rattle.sat_label.specs.declared.label.Label.{Label}
 use Rattle.sat_label.specs.Order.{point_lt}
 use Rattle.sat_label.specs.Members.{In}

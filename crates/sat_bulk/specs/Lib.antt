@@ -1,2 +1,3 @@
 pub mod Drains
+pub mod Payloads
 pub mod Windows

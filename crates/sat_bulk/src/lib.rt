@@ -3,31 +3,13 @@
 
 ghost use Rattle.std.specs.Prelude.{◌≡◌, IfOk};
 
+mod payload;
 mod window;
 
-use sat_label::{Counts, Label, Labels, Value};
+pub use payload::{Parts, Payload};
+use sat_label::{Counts, Labels};
 use std::alloc::AllocError;
 pub use window::{Take, Window};
-
-/// The bulk part of an update: its label, and the value that travels apart from the label.
-#[derive(Drop)]
-pub struct Payload {
-    pub label: Label,
-    pub value: Value,
-}
-
-impl Payload {
-    /// The same payload again.
-    pub fn copy(&self) -> Result<Payload, AllocError>
-        ensures { IfOk result (λ payload. payload ≡ self.now) }
-    {
-        let value = self.value.copy()?;
-        Ok(Payload {
-            label: self.label,
-            value,
-        })
-    }
-}
 
 /// What a gather takes from a gear: its new labels, its promise, and for each site the number of payloads made for it so far.
 #[derive(Drop)]

@@ -1,6 +1,8 @@
 -- No node refuses for the seat.
 use Rattle.std.proofs.Common.{◌≡◌, ℕ, ◌+◌, ◌==◌, max, not, nat_le, Bool, true, false, List, [], ◌∷◌, ◌++◌, length, Option, Some, None, Result, Ok, Err, IfOk, refl, sym, ap, ◌∙◌, subst}
 use Rattle.sat_label.specs.declared.carried.Carried.{Carried}
+use Rattle.sat_label.specs.declared.items.Items.{Items}
+use Rattle.sat_label.specs.Grouped.{list_of}
 use Rattle.sat_label.specs.declared.label.Kind.TheVariants as kind
 use Rattle.sat_label.specs.declared.limits.TheConstants.{TS_END}
 use Rattle.sat_label.specs.declared.node.NodeName.{NodeName}
@@ -10,14 +12,13 @@ use Rattle.sat_act.specs.declared.answer.Answer.{Answer}
 use Rattle.sat_act.specs.declared.answer.Answer.TheVariants as ans
 use Rattle.sat_act.specs.declared.answer.Refusal.{Refusal}
 use Rattle.sat_act.specs.declared.answer.Refusal.TheVariants as why
-use Rattle.sat_act.specs.Answers.{refused_if, gear_of}
+use Rattle.sat_act.specs.Answers.{refused_if}
 use Rattle.sat_act.specs.Deployed.{Deployed}
-use Rattle.sat_act.specs.Parts.{replicates}
-use Rattle.sat_bulk.specs.declared.Payload.{Payload}
+use Rattle.sat_act.specs.Parts.{keeps_all, replicates}
 use Rattle.sat_machine.specs.Input as given
 use Rattle.sat_machine.specs.Look.{cut_of, mode_of}
-use Rattle.sat_machine.specs.Reply.{write_by, read_by, move_by, may_come, outlook_of, site_answer}
-use Rattle.sat_machine.specs.State.{SiteState}
+use Rattle.sat_machine.specs.Reply.{gear_for, write_by, read_by, move_by, may_come, outlook_of, site_answer}
+use Rattle.sat_machine.specs.State.{SiteState, Version}
 use Rattle.sat_site.specs.Inputs.{input_of}
 use Rattle.sat_node.specs.declared.kept.CallFault.{CallFault}
 use Rattle.sat_node.specs.declared.kept.Kept.{Kept}
@@ -40,12 +41,12 @@ refused-so : (b : Bool) (y : Refusal) (r : Answer) → is_of_seat (ans.Refused y
 refused-so true y r e f = e
 refused-so false y r e f = f
 
-write-so : (d : Deployed) (i x p t : ℕ) → is_of_seat (write_by d i x p t) ≡ false
-write-so d i x p t =
-    let r = ans.Wrote (record { point = point_at (max p t + 1) i (gear_of d x); kind = kind.Update x }) in
-    refused-so (not (replicates d x i)) why.NotHere (refused_if (nat_le TS_END (max p t)) why.Spent r) refl (refused-so (nat_le TS_END (max p t)) why.Spent r refl refl)
+write-so : (d : Deployed) (i : ℕ) (items : Items) (p t : ℕ) → is_of_seat (write_by d i items p t) ≡ false
+write-so d i items p t =
+    let r = ans.Wrote (record { point = point_at (max p t + 1) i (gear_for d items); kind = kind.Update items }) in
+    refused-so (not (keeps_all d (list_of items) i)) why.NotHere (refused_if (nat_le TS_END (max p t)) why.Spent r) refl (refused-so (nat_le TS_END (max p t)) why.Spent r refl refl)
 
-read-so : (d : Deployed) (i x : ℕ) (o : Option Payload) → is_of_seat (read_by d i x o) ≡ false
+read-so : (d : Deployed) (i x : ℕ) (o : Option Version) → is_of_seat (read_by d i x o) ≡ false
 read-so d i x None = refused-so (not (replicates d x i)) why.NotHere ans.ReadNone refl refl
 read-so d i x (Some p) = refused-so (not (replicates d x i)) why.NotHere (ans.ReadSome p.label p.value) refl refl
 
@@ -54,9 +55,9 @@ move-so i j p t =
     let r = ans.Moved (record { point = point_at (max p t + 1) i 0; kind = kind.Move j }) in
     refused-so (j == i) why.SameSite (refused_if (nat_le TS_END (max p t)) why.Spent r) refl (refused-so (nat_le TS_END (max p t)) why.Spent r refl refl)
 
-pub site-write : (d : Deployed) (i : ℕ) (s : SiteState) (seen : Carried) (x : ℕ) (value : List ℕ) → is_of_seat (site_answer d i s (given.Write seen x value)) ≡ false
+pub site-write : (d : Deployed) (i : ℕ) (s : SiteState) (seen : Carried) (items : Items) (values : List (List ℕ)) → is_of_seat (site_answer d i s (given.Write seen items values)) ≡ false
 unfolding site_answer
-site-write d i s seen x value = write-so d i x (s.gears (gear_of d x)).promise seen.point.ts
+site-write d i s seen items values = write-so d i items (s.gears (gear_for d items)).promise seen.point.ts
 
 pub site-read : (d : Deployed) (i : ℕ) (s : SiteState) (seen : Carried) (x : ℕ) → is_of_seat (site_answer d i s (given.Read seen x)) ≡ false
 unfolding site_answer

@@ -1,6 +1,7 @@
 -- What each call of a session comes to.
 use Rattle.std.proofs.Common.{◌≡◌, ◌<◌, ℕ, ◌+◌, max, true, false, List, [], ◌∷◌, ◌++◌, Option, Some, None, Result, Ok, Err, IfOk, IfErr, OnOk, refl, sym, ap, ◌∙◌, subst, arith, inl, inr}
 use Rattle.sat_label.specs.declared.carried.Carried.{Carried}
+use Rattle.sat_label.specs.declared.items.Items.{Items}
 use Rattle.sat_label.specs.declared.node.NodeName.{NodeName}
 use Rattle.sat_label.specs.declared.node.NodeName.TheVariants as named
 use Rattle.sat_act.specs.declared.act.Act.{Act}
@@ -61,6 +62,8 @@ above-both m n = omega arith
 pub alone_places : (a : Act) (c : ℕ) (seen : Carried) (seat : Option ℕ) → session_of a ≡ Some (Owner c) → node_of a seat ≡ None → places a (OfClient seen seat) ≡ InSession c ∷ []
 alone_places (act.Write b n value) c seen None own e = let is : b ≡ c = cc in ap (λ (x : ℕ). InSession x ∷ []) is
 alone_places (act.Write b n value) c seen (Some i) own e = absurd (cc)
+alone_places (act.Writes b items values) c seen None own e = let is : b ≡ c = cc in ap (λ (x : ℕ). InSession x ∷ []) is
+alone_places (act.Writes b items values) c seen (Some i) own e = absurd (cc)
 alone_places (act.Read b n) c seen None own e = let is : b ≡ c = cc in ap (λ (x : ℕ). InSession x ∷ []) is
 alone_places (act.Read b n) c seen (Some i) own e = absurd (cc)
 alone_places (act.Move b j) c seen None own e = let is : b ≡ c = cc in ap (λ (x : ℕ). InSession x ∷ []) is
@@ -148,12 +151,12 @@ site-is : (name : NodeName) (i : ℕ) (seat : Option ℕ) → seat ≡ Some i �
 site-is name i seat e f = ap site_named e ∙ ap (λ (n : NodeName). Some n) (sym f)
 
 -- at the client's site
-pub did_write : {M : Type 0} (d : Deployed) (item : ℕ) (value : List ℕ) (i : ℕ) (result : Result Answer CallFault) (old new : NodeSeen M ActSeen SiteAnswer) (before after : SessionSeen) → before.client.seat ≡ Some i → old.name ≡ named.Site i →
-    AtNode (act.Write before.number item value) (asked_by (Some before.number) (input.Write before.client.carried item value)) of_site result old new before after → Runs (site_meaning d) new.name new.entries → Did (act.Write before.number item value) result before after
-did_write d item value i result old new before after seat name at runs =
-    let asked = asked_by (Some before.number) (input.Write before.client.carried item value) in
-    did-at (act.Write before.number item value) asked of_site result old new before after (site-is old.name i before.client.seat seat name) at
-    (never_by_site d (act.Write before.number item value) asked result old new before after (λ k s. site-write d k s before.client.carried item value) at runs)
+pub did_write : {M : Type 0} (d : Deployed) (a : Act) (items : Items) (values : List (List ℕ)) (i : ℕ) (result : Result Answer CallFault) (old new : NodeSeen M ActSeen SiteAnswer) (before after : SessionSeen) → node_of a before.client.seat ≡ site_named before.client.seat →
+    before.client.seat ≡ Some i → old.name ≡ named.Site i → AtNode a (asked_by (Some before.number) (input.Write before.client.carried items values)) of_site result old new before after → Runs (site_meaning d) new.name new.entries → Did a result before after
+did_write d a items values i result old new before after where_is seat name at runs =
+    let asked = asked_by (Some before.number) (input.Write before.client.carried items values) in
+    did-at a asked of_site result old new before after (where_is ∙ site-is old.name i before.client.seat seat name) at
+    (never_by_site d a asked result old new before after (λ k s. site-write d k s before.client.carried items values) at runs)
 
 pub did_read : {M : Type 0} (d : Deployed) (item : ℕ) (i : ℕ) (result : Result Answer CallFault) (old new : NodeSeen M ActSeen SiteAnswer) (before after : SessionSeen) → before.client.seat ≡ Some i → old.name ≡ named.Site i →
     AtNode (act.Read before.number item) (asked_by (Some before.number) (input.Read before.client.carried item)) of_site result old new before after → Runs (site_meaning d) new.name new.entries → Did (act.Read before.number item) result before after
@@ -210,6 +213,9 @@ pass_fault h (Err y) f = fault-of h y f
 module _ (n c : ℕ) (result : Result Answer CallFault) (old new : SessionSeen) (same : n ≡ c) where
   pub as_write : (item : ℕ) (value : List ℕ) → Did (act.Write n item value) result old new → Did (act.Write c item value) result old new
   as_write item value = subst (λ (x : ℕ). Did (act.Write x item value) result old new) same
+
+  pub as_writes : (items : Items) (values : List (List ℕ)) → Did (act.Writes n items values) result old new → Did (act.Writes c items values) result old new
+  as_writes items values = subst (λ (x : ℕ). Did (act.Writes x items values) result old new) same
 
   pub as_read : (item : ℕ) → Did (act.Read n item) result old new → Did (act.Read c item) result old new
   as_read item = subst (λ (x : ℕ). Did (act.Read x item) result old new) same

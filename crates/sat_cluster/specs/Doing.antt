@@ -28,6 +28,7 @@ attach_node j (Some i) = None
 -- the node of an act of a client with this seat, or of the operator; none where the act touches no node
 abbrev pub node_of : Act → Option ℕ → Option NodeName
 node_of (act.Write c n value) seat = site_named seat
+node_of (act.Writes c items values) seat = site_named seat
 node_of (act.Read c n) seat = site_named seat
 node_of (act.Move c j) seat = site_named seat
 node_of (act.Attach c j) seat = attach_node j seat

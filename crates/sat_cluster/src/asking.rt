@@ -6,10 +6,11 @@ ghost use Rattle.sat_stitch.specs.Places.{Client as OfClient, session_of};
 ghost use Rattle.sat_node.specs.Meanings.{Runs};
 ghost use Rattle.sat_machines.specs.Sites.{site_meaning};
 ghost use Rattle.sat_machines.specs.Serials.{serial_meaning};
+ghost use Rattle.sat_session.specs.Calls.{IsGroup};
 ghost use Rattle.sat_cluster.specs.Doing.{Did, node_of};
 
 use sat_act::{Act, Answer};
-use sat_label::Value;
+use sat_label::{Items, Value, Values};
 use sat_machines::{Laid, SerialNode, SiteNode};
 use sat_node::{CallFault, Held, Names};
 use sat_pump::Watched;
@@ -57,6 +58,35 @@ pub(crate) fn write_alone<N: Laid>(
     )
 }
 
+/// A write of several items by a client without a seat. That the session has no number left comes before want of memory for the values.
+#[tactic(auto, using(crate::proofs::Doing::did_worn, crate::proofs::Doing::did_stop, crate::proofs::Doing::as_writes))]
+pub(crate) fn writes_alone<N: Laid>(
+    session: &mut Session<N>,
+    items: Items,
+    values: &Values,
+) -> Result<Answer, CallFault>
+    requires client { session.old.number < length N.deployment.clients }
+    requires group { IsGroup N.deployment items values.now }
+    requires seat { session.old.client.seat ≡ None }
+    ensures { Did (Act.Writes session.old.number items values.now) result session.old session.new }
+{
+    if session.lamport() == u64::MAX {
+        return Err(CallFault::Worn(u64::MAX));
+    }
+    let Ok(copy) = values.copy() else {
+        return Err(CallFault::Memory);
+    };
+    let client = session.number();
+    alone(
+        session,
+        Act::Writes {
+            client,
+            items,
+            values: copy,
+        },
+    )
+}
+
 // ---- at a node
 
 // What is known of a site's journal.
@@ -89,6 +119,26 @@ pub(crate) fn write_at<N: Laid + Names>(
 {
     let held = &mut watched.held;
     let result = session.write(held, item, value);
+    site_runs(held);
+    result
+}
+
+/// A write of several items at the client's site.
+pub(crate) fn writes_at<N: Laid + Names>(
+    session: &mut Session<N>,
+    watched: &mut Watched<N>,
+    site: u16,
+    items: Items,
+    values: &Values,
+) -> Result<Answer, CallFault>
+    requires client { session.old.number < length N.deployment.clients }
+    requires group { IsGroup N.deployment items values.now }
+    requires seat { session.old.client.seat ≡ Some site }
+    requires name { watched.old.node.name ≡ AtSite site }
+    ensures { Did (Act.Writes session.old.number items values.now) result session.old session.new }
+{
+    let held = &mut watched.held;
+    let result = session.writes(held, items, values);
     site_runs(held);
     result
 }

@@ -1,14 +1,16 @@
 //! What the sessions of a cluster do at its nodes, each under its lock.
 ghost use Rattle.std.specs.Prelude.{◌≡◌, ◌<◌, length, Some, None};
 ghost use Rattle.sat_act.specs.Ranges.{IsActOf};
+ghost use Rattle.sat_session.specs.Calls.{IsGroup};
 ghost use Rattle.sat_cluster.specs.Doing.{Did};
 
 use crate::Cluster;
 use crate::asking::{
     alone, attach_at, close_at, fall_at, kill_at, move_at, read_at, write_alone, write_at,
+    writes_alone, writes_at,
 };
 use sat_act::{Act, Answer};
-use sat_label::Value;
+use sat_label::{Items, Value, Values};
 use sat_machines::Laid;
 use sat_node::{CallFault, Names};
 use sat_session::Session;
@@ -36,6 +38,28 @@ impl<N: Laid + Names> Cluster<N> {
         };
         let watched = &mut *guard;
         write_at(session, watched, site, item, value)
+    }
+
+    // A write of several items by a client that has a seat.
+    #[tactic(auto, using(crate::proofs::Doing::did_not, crate::proofs::Doing::site_seat))]
+    fn writes_seated<R: Wait>(
+        &self,
+        rt: &R,
+        session: &mut Session<N>,
+        site: u16,
+        items: Items,
+        values: &Values,
+    ) -> Result<Answer, CallFault>
+        requires client { session.old.number < length N.deployment.clients }
+        requires group { IsGroup N.deployment items values.now }
+        requires seat { session.old.client.seat ≡ Some site }
+        ensures { Did (Act.Writes session.old.number items values.now) result session.old session.new }
+    {
+        let Some(mut guard) = self.site(rt, site) else {
+            return Err(CallFault::Memory);
+        };
+        let watched = &mut *guard;
+        writes_at(session, watched, site, items, values)
     }
 
     // A read of a client that has a seat.
@@ -117,6 +141,25 @@ impl<N: Laid + Names> Cluster<N> {
         match session.client().seat {
             Some(site) => self.write_seated(rt, session, site, item, value),
             None => write_alone(session, item, value),
+        }
+    }
+
+    /// A client writes several items under one label at the site where it is seated, in a deployment whose format allows it. Refusals and
+    /// errors come as in `write`.
+    pub fn writes<R: Wait>(
+        &self,
+        rt: &R,
+        session: &mut Session<N>,
+        items: Items,
+        values: &Values,
+    ) -> Result<Answer, CallFault>
+        requires client { session.old.number < length N.deployment.clients }
+        requires group { IsGroup N.deployment items values.now }
+        ensures { Did (Act.Writes session.old.number items values.now) result session.old session.new }
+    {
+        match session.client().seat {
+            Some(site) => self.writes_seated(rt, session, site, items, values),
+            None => writes_alone(session, items, values),
         }
     }
 

@@ -1,10 +1,13 @@
 -- Whose an act is.
-use Rattle.std.proofs.Common.{◌≡◌, ◌<◌, ◌≤◌, ℕ, ◌==◌, ◌&&◌, nat_le, nat_lt, not, Bool, true, false, length, if◌then◌else◌, refl, sym, ◌∙◌, subst, arith}
+use Rattle.std.proofs.Common.{◌≡◌, ◌<◌, ◌≤◌, ℕ, ◌==◌, ◌&&◌, nat_le, nat_lt, not, Bool, true, false, List, length, if◌then◌else◌, refl, sym, ◌∙◌, subst, arith}
 use Rattle.std.proofs.lemmas.Bool.Decides.{nat_tests}
 use Rattle.std.proofs.lemmas.Bool.{eqb-true}
+use Rattle.sat_label.specs.declared.items.Items.{Items}
 use Rattle.sat_act.specs.declared.act.Act.{Act}
 use Rattle.sat_act.specs.Deployed.{Deployed}
+use Rattle.sat_act.specs.Ranges.{IsGroupOf}
 use Rattle.sat_stitch.specs.Places.{Client, Operator, session_eq}
+use Rattle.sat_session.specs.Calls.{IsGroup}
 use Rattle.sat_session.specs.Notes.{SessionSeen, session_at}
 use Rattle.sat_session.specs.Sessions.{IsSession}
 use Rattle.sat_undone.specs.Undone.{is_of}
@@ -50,6 +53,10 @@ at_operator d x is own = outside-by x.number (length d.clients) (nat_lt x.number
 -- the client of its own act is the session's
 pub own_number : (d : Deployed) (n c : ℕ) → session_eq (Client c) (session_at d n) ≡ true → n ≡ c
 own_number d n c own = sym (same-client d n c own)
+
+-- a write of several items that has a line asks for no more than the cluster does
+pub is_group : (d : Deployed) (items : Items) (values : List (List ℕ)) → IsGroupOf d items values → IsGroup d items values
+is_group d items values is = record { some = is.some; few = is.few; order = is.order; known = is.known; each = is.values_all }
 
 -- the session is the same while its act is tried
 pub own_still : (d : Deployed) (n m : ℕ) (a : Act) → m ≡ n → is_of (session_at d n) a ≡ true → is_of (session_at d m) a ≡ true

@@ -39,6 +39,7 @@ pub(crate) fn is_own<N: Laid>(session: &Session<N>, d: &Deployment, act: &Act) -
     let number = session.number();
     match act {
         Act::Write { client, .. } => is_client(clients, number, *client),
+        Act::Writes { client, .. } => is_client(clients, number, *client),
         Act::Read { client, .. } => is_client(clients, number, *client),
         Act::Move { client, .. } => is_client(clients, number, *client),
         Act::Leave { client } => is_client(clients, number, *client),
@@ -53,7 +54,7 @@ pub(crate) fn is_own<N: Laid>(session: &Session<N>, d: &Deployment, act: &Act) -
 // ---- the call of an act
 
 /// The cluster's call of a session's act.
-#[tactic(auto, using(crate::proofs::Owning::inside, crate::proofs::Owning::at_operator, crate::proofs::Owning::own_number, sat_cluster::proofs::Doing::as_write, sat_cluster::proofs::Doing::as_read, sat_cluster::proofs::Doing::as_move, sat_cluster::proofs::Doing::as_leave, sat_cluster::proofs::Doing::as_attach))]
+#[tactic(auto, using(crate::proofs::Owning::inside, crate::proofs::Owning::at_operator, crate::proofs::Owning::own_number, crate::proofs::Owning::is_group, sat_cluster::proofs::Doing::as_write, sat_cluster::proofs::Doing::as_writes, sat_cluster::proofs::Doing::as_read, sat_cluster::proofs::Doing::as_move, sat_cluster::proofs::Doing::as_leave, sat_cluster::proofs::Doing::as_attach))]
 fn call<N: Laid + Names, R: Wait>(
     rt: &R,
     cluster: &Cluster<N>,
@@ -68,6 +69,7 @@ fn call<N: Laid + Names, R: Wait>(
     let _ = session.number();
     match act {
         Act::Write { item, value, .. } => cluster.write(rt, session, *item, value),
+        Act::Writes { items, values, .. } => cluster.writes(rt, session, *items, values),
         Act::Read { item, .. } => cluster.read(rt, session, *item),
         Act::Move { site, .. } => cluster.move_to(rt, session, *site),
         Act::Leave { .. } => cluster.leave(session),

@@ -45,7 +45,7 @@ known-above : (l : Label) → l.point.gear ≤ 65535 → point_le l.point (known
 known-above l g = go l.kind
   where
     go : (k : Kind) → point_le l.point (known_at k l.point) ≡ true
-    go (kind.Update x) = point_le-self l.point
+    go (kind.Update items) = point_le-self l.point
     go (kind.Move j) = point_le-self l.point
     go kind.Pulse = point_le-mark l.point l.point.ts g (le_refl l.point.ts)
     go (kind.Close e) = point_le-self l.point

@@ -2,6 +2,7 @@
 use Rattle.std.specs.Prelude.{◌≡◌, ◌<◌, ℕ, zero, suc, true, false, List, [], ◌∷◌, ◌++◌, map, Some, None, codes, refl, slice_get}
 use Rattle.std.proofs.Common.{subst, arith, lit≤, inl, inr}
 use Rattle.sat_label.specs.declared.point.Point.{Point}
+use Rattle.sat_label.specs.declared.items.Items.TheVariants.{One}
 use Rattle.sat_label.specs.declared.label.Kind.TheVariants as kind
 use Rattle.sat_label.specs.declared.label.Label.{Label}
 use Rattle.sat_label.specs.Order.{point_at, point_lt, point_le, label_lt, label_eq}
@@ -36,7 +37,7 @@ abbrev Plays : Deployed → ℕ → List Row → Type 0
 Plays d i rows = play d i [] (map (λ row. row.0) rows) ≡ map (λ row. row.1) rows
 
 abbrev update : ℕ → ℕ → ℕ → ℕ → Label
-update ts site gear x = record { point = point_at ts site gear; kind = kind.Update x }
+update ts site gear x = record { point = point_at ts site gear; kind = kind.Update (One x) }
 
 abbrev pulse : ℕ → ℕ → Label
 pulse ts site = record { point = point_at ts site 65534; kind = kind.Pulse }

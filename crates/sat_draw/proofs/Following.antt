@@ -31,6 +31,7 @@ column-same : (d : Deployed) (f g : ℕ → Option ℕ) → ((c : ℕ) → f c �
 column-same d f g e (act.Tick i k ts) = refl
 column-same d f g e act.Clock = refl
 column-same d f g e (act.Write c x v) = ap (seat_column d) (e c)
+column-same d f g e (act.Writes c items values) = ap (seat_column d) (e c)
 column-same d f g e (act.Read c x) = ap (seat_column d) (e c)
 column-same d f g e (act.Move c j) = ap (seat_column d) (e c)
 column-same d f g e (act.Leave c) = ap (seat_column d) (e c)
@@ -98,6 +99,7 @@ seat-attached d h c inner (act.Attach b j) = attached b c j (seat d h c)
 seat-attached d h c inner (act.Tick i k ts) = refl
 seat-attached d h c inner act.Clock = refl
 seat-attached d h c inner (act.Write b x v) = refl
+seat-attached d h c inner (act.Writes b items values) = refl
 seat-attached d h c inner (act.Read b x) = refl
 seat-attached d h c inner (act.Move b j) = refl
 seat-attached d h c inner (act.Leave b) = refl

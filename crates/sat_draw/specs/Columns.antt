@@ -55,6 +55,7 @@ abbrev pub act_column : Deployed → (ℕ → Option ℕ) → Act → ℕ
 act_column d seat (act.Tick i g ts) = site_column d i
 act_column d seat act.Clock = 0
 act_column d seat (act.Write c x v) = seat_column d (seat c)
+act_column d seat (act.Writes c items values) = seat_column d (seat c)
 act_column d seat (act.Read c x) = seat_column d (seat c)
 act_column d seat (act.Move c j) = seat_column d (seat c)
 act_column d seat (act.Leave c) = seat_column d (seat c)

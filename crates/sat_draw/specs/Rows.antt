@@ -78,7 +78,7 @@ abbrev pub mark_of : Spot → Entry → Element
 mark_of here entry = Dot (mark_ink entry.answer) here
 
 abbrev pub answer_of : Deployed → ℕ → Spot → Entry → Element
-answer_of d row here entry = Word (answer_ink entry.answer) (spot_at (here.x + 8) (here.y - 6)) (answer_line d (row + 1) entry.answer)
+answer_of d row here entry = Word (answer_ink entry.answer) (spot_at (here.x + 8) (here.y - 6)) (answer_line d (row + 1) entry.act entry.answer)
 
 abbrev pub act_of : Deployed → Spot → Entry → Element
 act_of d here entry = Word ink.Act (spot_at 8 (here.y + 4)) (act_text d entry.act)

@@ -3,10 +3,12 @@ use Rattle.std.specs.Prelude.{ℕ, Bool, ◌&&◌, ◌==◌, List, [], ◌∷◌
 use Rattle.std.specs.Ordering.{nat_cmp, ordering_then}
 use Rattle.std.specs.declared.cmp.Ordering.{Ordering}
 use Rattle.sat_label.specs.declared.label.Label.{Label}
-use Rattle.sat_label.specs.declared.label.Kind.TheVariants.{Close}
+use Rattle.sat_label.specs.declared.label.Kind.{Kind}
+use Rattle.sat_label.specs.declared.label.Kind.TheVariants.{Update, Move, Pulse, Close}
 use Rattle.sat_label.specs.declared.node.NodeId.{NodeId}
 use Rattle.sat_label.specs.declared.node.NodeId.TheVariants.{Site, Serializer}
-use Rattle.sat_label.specs.Order.{kind_rank, kind_number}
+use Rattle.sat_label.specs.Grouped.{least_item, list_of}
+use Rattle.sat_label.specs.Order.{kind_rank}
 use Rattle.sat_act.specs.declared.act.Act.{Act}
 use Rattle.sat_act.specs.declared.act.Act.TheVariants as act
 use Rattle.sat_act.specs.declared.answer.Answer.{Answer}
@@ -19,6 +21,13 @@ use Rattle.sat_draw.specs.declared.trail.Coming.{Coming}
 use Rattle.sat_draw.specs.declared.trail.TheConstants.{MADE, SENT, TO_SITE, TO_SERIALIZER, BROUGHT, BEAT}
 
 -- ---- trails
+
+-- a kind's number, of an update its first item: no two labels of a run have the same point, rank and number
+abbrev pub kind_number : Kind → ℕ
+kind_number (Update items) = least_item (list_of items)
+kind_number (Move j) = j
+kind_number Pulse = 0
+kind_number (Close e) = e
 
 -- a label at a stop of its way
 abbrev pub label_at : ℕ → ℕ → Label → Trail

@@ -16,7 +16,7 @@ use crate::spell::append_elements;
 use crate::tracks::{Tracks, seat_by, spot_by};
 use crate::trail::{Coming, Trail, comes_from};
 use sat_act::{Act, Answer, Deployment, Entry};
-use sat_report::write_line;
+use sat_report::write_answer;
 use sat_script::act_line;
 use std::alloc::{AllocError, Global};
 use std::collections::BTreeMap;
@@ -30,6 +30,7 @@ fn act_column(d: &Deployment, seats: &BTreeMap<u16, Option<u16>>, act: &Act) -> 
         Act::Tick { site, .. } => site_column(d, *site),
         Act::Clock => 0,
         Act::Write { client, .. } => seat_column(d, seat_by(d, seats, *client)),
+        Act::Writes { client, .. } => seat_column(d, seat_by(d, seats, *client)),
         Act::Read { client, .. } => seat_column(d, seat_by(d, seats, *client)),
         Act::Move { client, .. } => seat_column(d, seat_by(d, seats, *client)),
         Act::Leave { client } => seat_column(d, seat_by(d, seats, *client)),
@@ -172,17 +173,17 @@ fn answer_ink(answer: &Answer) -> Ink
     }
 }
 
-// The line of an answer, with its number.
+// The line of an entry's answer, with its number.
 fn answer_text(
     alloc: Global,
     d: &Deployment,
     number: u64,
-    answer: &Answer,
+    entry: &Entry,
 ) -> Result<Text, AllocError>
-    ensures { IfOk result (λ text. text ≡ answer_line d.now number answer.now) }
+    ensures { IfOk result (λ text. text ≡ answer_line d.now number entry.now.act entry.now.answer) }
 {
     let mut bytes = Vec::new(alloc);
-    write_line(d, number, answer, &mut bytes)?;
+    write_answer(d, number, entry, &mut bytes)?;
     Ok(Text::of(bytes))
 }
 
@@ -198,7 +199,7 @@ fn answer_of(
     requires below { 100 ≤ here.y }
     ensures { IfOk result (λ element. element ≡ answer_of d.now row here entry.now) }
 {
-    let text = answer_text(alloc, d, row + 1, &entry.answer)?;
+    let text = answer_text(alloc, d, row + 1, entry)?;
     Ok(Element::Word {
         ink: answer_ink(&entry.answer),
         at: Spot {

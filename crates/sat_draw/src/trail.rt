@@ -1,15 +1,16 @@
 //! What an entry leaves for later ones, and what it comes from.
 ghost use Rattle.std.specs.Prelude.{◌≡◌, IfOk, ◌∷◌, [], map};
-ghost use Rattle.sat_label.specs.Order.{kind_rank, kind_number};
+ghost use Rattle.sat_label.specs.Order.{kind_rank};
 ghost use Rattle.sat_label.specs.declared.label.Kind.TheVariants.{Close};
-ghost use Rattle.sat_act.specs.Done.{at_site, of_client};
+ghost use Rattle.sat_act.specs.Done.{of_client};
 ghost use Rattle.sat_label.specs.declared.node.NodeId.TheVariants.{Site};
 ghost use Rattle.sat_draw.specs.declared.element.Ink.TheVariants as ink;
-ghost use Rattle.sat_draw.specs.Trails.{label_at, made, sent, toward, brought, beat, site_in, beat_left, left_by, comes, hopped_from, shown_from, took_from, taken_from, comes_from, attached_by, freed_by, reseated};
+ghost use Rattle.sat_draw.specs.Trails.{kind_number, label_at, made, sent, toward, brought, beat, site_in, beat_left, left_by, comes, hopped_from, shown_from, took_from, taken_from, comes_from, attached_by, freed_by, reseated};
 
 use crate::element::Ink;
 use sat_act::{Act, Answer, Entry};
 use sat_label::{Kind, Label, NodeId, Point};
+use sat_report::at_site;
 use std::alloc::{AllocError, Global};
 
 /// A label that was made.
@@ -37,7 +38,7 @@ pub struct Trail {
     pub stop: u16,
     /// The number of the node that it is at or for, where there is one.
     pub at: u16,
-    /// The point and the kind of the label. Of a beat the number and the site that made it.
+    /// The point and the kind of the label, of an update its first item. Of a beat the number and the site that made it.
     pub ts: u64,
     pub site: u16,
     pub gear: u16,
@@ -67,7 +68,7 @@ fn kind_number(kind: Kind) -> u16
     ensures { result ≡ kind_number kind }
 {
     match kind {
-        Kind::Update(item) => item,
+        Kind::Update(items) => items.least(),
         Kind::Move(site) => site,
         Kind::Pulse => 0,
         Kind::Close(epoch) => epoch,
@@ -111,25 +112,7 @@ fn beat(from: u16, to: u16, number: u64) -> Trail
     }
 }
 
-// The site of an act of a site.
-fn at_site(act: &Act) -> Option<u16>
-    ensures { result ≡ at_site act.now }
-{
-    match act {
-        Act::Gather { site } => Some(*site),
-        Act::Emit { site } => Some(*site),
-        Act::Pulse { site } => Some(*site),
-        Act::Turn { site } => Some(*site),
-        Act::Stamp { site } => Some(*site),
-        Act::Close { site } => Some(*site),
-        Act::Fall { site } => Some(*site),
-        Act::Advance { site } => Some(*site),
-        Act::Bulk { to, .. } => Some(*to),
-        Act::BeatIn { to, .. } => Some(*to),
-        _ => None,
-    }
-}
-
+// The site of an act of a site, or 0.
 fn site_in(act: &Act) -> u16
     ensures { result ≡ site_in act.now }
 {
@@ -286,6 +269,7 @@ fn of_client(act: &Act) -> Option<u16>
 {
     match act {
         Act::Write { client, .. } => Some(*client),
+        Act::Writes { client, .. } => Some(*client),
         Act::Read { client, .. } => Some(*client),
         Act::Move { client, .. } => Some(*client),
         Act::Leave { client } => Some(*client),

@@ -6,4 +6,5 @@ pub mod Alone
 pub mod Sessions
 pub mod Whole
 pub mod Loops
+pub mod SameActs
 pub mod SameAnswers

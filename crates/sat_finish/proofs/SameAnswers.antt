@@ -1,8 +1,10 @@
 -- `==` of answers, as it is derived, is identity.
-use Rattle.std.proofs.Common.{rules, ◌≡◌, ℕ, Bool, true, false, ◌&&◌, List, refl, ap, subst}
+use Rattle.std.proofs.Common.{rules, ◌≡◌, ◌∙◌, ℕ, Bool, true, false, ◌&&◌, List, refl, sym, ap, subst}
 use Rattle.std.specs.Bool.{Decides}
 use Rattle.std.proofs.lemmas.Bool.Decides.{Decides-eqb, Decides-and}
 use lib.Pointwise.{pointwise, pointwise_decides, bytes_decides}
+use Rattle.sat_label.proofs.Derived.{labels-eq}
+use Rattle.sat_label.proofs.Orders.{label_eq-self, same-label}
 use Rattle.sat_label.specs.declared.label.Label.{Label}
 use Rattle.sat_label.specs.declared.point.Point.{Point}
 use Rattle.sat_label.specs.declared.node.NodeId.{NodeId}
@@ -16,22 +18,22 @@ use Rattle.sat_act.specs.declared.answer.Refusal.TheVariants as why
 use Rattle.sat_act.specs.contracts.answer.AnswerPartialEq.TheImpl as answer
 use Rattle.sat_act.specs.contracts.answer.RefusalPartialEq.TheImpl as refusal
 
-never : false ≡ true → ⊥
+pub never : false ≡ true → ⊥
 never e = cc
 
-both : {X A B : Type 0} (f : A → B → X) (x y : A) (v w : B) {p q : Bool} → Decides p (x ≡ y) → Decides q (v ≡ w) → (p && q) ≡ true → f x v ≡ f y w
+pub both : {X A B : Type 0} (f : A → B → X) (x y : A) (v w : B) {p q : Bool} → Decides p (x ≡ y) → Decides q (v ≡ w) → (p && q) ≡ true → f x v ≡ f y w
 both f x y v w {p} {q} d k e = (let h : (x ≡ y) × (v ≡ w) = (Decides-and p q d k).0 e in λ i. f (h.0 i) (h.1 i))
 
-both-self : {A B : Type 0} {x : A} {v : B} {p q : Bool} → Decides p (x ≡ x) → Decides q (v ≡ v) → (p && q) ≡ true
+pub both-self : {A B : Type 0} {x : A} {v : B} {p q : Bool} → Decides p (x ≡ x) → Decides q (v ≡ v) → (p && q) ≡ true
 both-self {A} {B} {x} {v} {p} {q} d k = (Decides-and p q d k).1 (refl, refl)
 
 label-decides : (x y : Label) → Decides (label.ghosts.eq x y) (x ≡ y)
-label-decides x y = search rules
+label-decides x y = (λ e. same-label x y (sym (labels-eq x y) ∙ e), λ e. subst (λ (z : Label). label.ghosts.eq x z ≡ true) e (labels-eq x x ∙ label_eq-self x))
 
 point-decides : (x y : Point) → Decides (point.ghosts.eq x y) (x ≡ y)
 point-decides x y = search rules
 
-node-decides : (x y : NodeId) → Decides (node.ghosts.eq x y) (x ≡ y)
+pub node-decides : (x y : NodeId) → Decides (node.ghosts.eq x y) (x ≡ y)
 node-decides x y = search rules
 
 nodes-decides : (x y : List NodeId) → Decides (pointwise node.ghosts.eq x y) (x ≡ y)

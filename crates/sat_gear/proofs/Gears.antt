@@ -1,23 +1,26 @@
 -- What stays true of a gear.
-use Rattle.std.specs.Prelude.{◌≡◌, ◌<◌, ◌≤◌, ◌+◌, ◌^◌, ◌%◌, ℕ, zero, suc, Bool, true, false, max, List, [], ◌∷◌, ◌++◌, length, replicate, get_or, slice_get, Option, Some, None, if◌then◌else◌, refl}
+use Rattle.std.specs.Prelude.{◌≡◌, ◌<◌, ◌≤◌, ◌+◌, ◌^◌, ◌%◌, ℕ, zero, suc, Bool, true, false, max, List, [], ◌∷◌, ◌++◌, length, map, replicate, get_or, slice_get, Option, Some, None, if◌then◌else◌, refl}
+use Rattle.std.specs.List.{list_all}
 use Rattle.std.proofs.Common.{arith, ap, subst, sym, ◌∙◌, inl, inr, zero-add}
 use Rattle.std.proofs.lemmas.Bool.Decides.{nat_tests}
 use Rattle.std.proofs.lemmas.List.{length-replicate, length-set}
+use Rattle.sat_label.specs.declared.items.Items.{Items}
 use Rattle.sat_label.specs.declared.label.Kind.{Kind}
 use Rattle.sat_label.specs.declared.label.Kind.TheVariants.{Update, Move, Pulse, Close}
 use Rattle.sat_label.specs.declared.label.Label.{Label}
 use Rattle.sat_label.specs.declared.point.Point.{Point}
-use Rattle.sat_label.specs.Order.{point_lt}
-use Rattle.sat_bulk.specs.declared.Payload.{Payload}
+use Rattle.sat_label.specs.Grouped.{least_item, list_of}
+use Rattle.sat_label.specs.Order.{kind_numbers, point_lt}
+use Rattle.sat_bulk.specs.Payloads.{Payload}
 use Rattle.sat_label.specs.Members.{In, is_made}
 use Rattle.sat_bulk.specs.Drains.{Rises}
 use Rattle.sat_label.proofs.Members.{In-parts}
 use Rattle.sat_bulk.proofs.Members.{rises-both}
-use Rattle.sat_sites.specs.Interested.{is_for, keeps}
+use Rattle.sat_sites.specs.Interested.{AreBelow, is_for, keeps}
 use Rattle.sat_sites.specs.declared.shape.Shape.{Shape}
-use Rattle.sat_store.specs.declared.store.Version.{Version}
+use Rattle.sat_label.specs.Versions.{Version}
 use Rattle.sat_gear.specs.Lanes.{lanes_where, numbers_where}
-use Rattle.sat_gear.specs.Gear.{GearSeen, IsGear, IsShape, IsUndrained, IsInLane, IsItemOf, IsKindHere, IsNextStamp, EachLane, after_drain, fresh_gear, lane_to, lanes_from, after_move, places, after_show, after_tick, after_write}
+use Rattle.sat_gear.specs.Gear.{GearSeen, IsGear, IsShape, IsUndrained, IsInLane, AreItemsOf, IsItemOf, IsKindHere, IsNextStamp, EachLane, after_drain, fresh_gear, lane_to, lanes_from, after_move, places, after_show, after_tick, after_write}
 use Rattle.sat_gear.proofs.Spreads.{less-or-not, lanes-get, lanes-length, slice-more}
 
 -- ---- labels
@@ -33,8 +36,15 @@ item-too s t x same i = record {
   kept = subst (λ (shape : Shape). keeps shape.interest x shape.site ≡ true) same.0 i.kept;
 }
 
+items-too : (s t : GearSeen) (xs : List ℕ) → SameGear s t → AreItemsOf s xs → AreItemsOf t xs
+items-too s t xs same i = record {
+  known = subst (λ (shape : Shape). AreBelow (length shape.interest.replicas) xs) same.0 i.known;
+  least = item-too s t (least_item xs) same i.least;
+  kept = subst (λ (shape : Shape). list_all (λ x. keeps shape.interest x shape.site) xs ≡ true) same.0 i.kept;
+}
+
 pub kind-too : (s t : GearSeen) (k : Kind) → SameGear s t → IsKindHere s k → IsKindHere t k
-kind-too s t (Update x) same here = item-too s t x same here
+kind-too s t (Update items) same here = items-too s t (list_of items) same here
 kind-too s t (Move j) same here = (subst (λ (shape : Shape). j < shape.sites) same.0 here.0, sym same.1 ∙ here.1)
 kind-too s t Pulse same here = absurd here
 kind-too s t (Close e) same here = absurd here
@@ -43,7 +53,8 @@ lane-too : (s t : GearSeen) (j : ℕ) (p : Payload) → SameGear s t → s.promi
 lane-too s t j p same up f = record {
   site = subst (λ (shape : Shape). p.label.point.site ≡ shape.site) same.0 f.site;
   gear = f.gear ∙ same.1;
-  kind = (f.kind.0, f.kind.1, item-too s t f.kind.0 same f.kind.2);
+  kind = (f.kind.0, f.kind.1, items-too s t (list_of f.kind.0) same f.kind.2);
+  values = f.values;
   target = subst (λ (shape : Shape). is_for shape.interest p.label j ≡ true) same.0 f.target;
   upto = let e : p.label.point.ts ≤ s.promise = f.upto in omega arith;
 }
@@ -64,7 +75,7 @@ later : (s : GearSeen) (t : ℕ) (l : Label) → s.promise ≤ t → IsUndrained
 later s t l up f = fresh-too s (record s { promise = t }) l (refl, refl) refl up f
 
 made-kind : (s : GearSeen) (k : Kind) → IsKindHere s k → is_made k ≡ true
-made-kind s (Update x) here = refl
+made-kind s (Update items) here = refl
 made-kind s (Move j) here = refl
 made-kind s Pulse here = absurd here
 made-kind s (Close e) here = absurd here
@@ -133,18 +144,32 @@ makes s l g next here =
       versions = g.versions;
     }
 
-in-lanes : (s : GearSeen) (x : ℕ) (p : Payload) → IsGear s → IsNextStamp s p.label → p.label.kind ≡ Update x → IsItemOf s x → (j n : ℕ) (q : Payload) →
+-- an update that the gear stamps next, with a value for each of its items
+pub record IsUpdateOf (s : GearSeen) (items : Items) (p : Payload) : Type 0 where
+  pub next : IsNextStamp s p.label
+  pub kind : p.label.kind ≡ Update items
+  pub here : AreItemsOf s (list_of items)
+  pub values : (values : List (List ℕ)) × (p.values ≡ map Some values) × (length values ≡ length (list_of items))
+
+in-lanes : (s : GearSeen) (items : Items) (p : Payload) → IsGear s → IsUpdateOf s items p → (j n : ℕ) (q : Payload) →
     slice_get (get_or (lanes_from s.shape.interest p 0 s.lanes) j []) n ≡ Some q → IsInLane (record s { promise = p.label.point.ts }) j q
-in-lanes s x p g next kind item j n q at = elim (less-or-not j (length s.lanes)) [
+in-lanes s items p g update j n q at = elim (less-or-not j (length s.lanes)) [
   | inl low ↦ go (is_for s.shape.interest p.label j) refl (lanes-get (is_for s.shape.interest p.label) p 0 s.lanes j low ∙ ap (λ (k : ℕ). if is_for s.shape.interest p.label k then lane_to s j ++ p ∷ [] else lane_to s j) (zero-add j))
   | inr high ↦ absurd (none-in n q (subst (λ (lane : List Payload). slice_get lane n ≡ Some q) (no-lane (lanes_from s.shape.interest p 0 s.lanes) j (λ h. high (subst (λ (k : ℕ). j < k) (lanes-length (is_for s.shape.interest p.label) p 0 s.lanes) h))) at))
 ]
   where
     up : s.promise ≤ p.label.point.ts
-    up = let a : s.promise < p.label.point.ts = next.above in omega arith
+    up = let a : s.promise < p.label.point.ts = update.next.above in omega arith
 
     new : is_for s.shape.interest p.label j ≡ true → IsInLane (record s { promise = p.label.point.ts }) j p
-    new target = record { site = next.site; gear = next.gear; kind = (x, kind, item-too s (record s { promise = p.label.point.ts }) x (refl, refl) item); target = target; upto = let e : p.label.point.ts ≤ p.label.point.ts = omega arith in e }
+    new target = record {
+      site = update.next.site;
+      gear = update.next.gear;
+      kind = (items, update.kind, items-too s (record s { promise = p.label.point.ts }) (list_of items) (refl, refl) update.here);
+      values = (update.values.0, update.values.1, update.values.2 ∙ ap (λ (k : Kind). length (kind_numbers k)) (sym update.kind));
+      target = target;
+      upto = let e : p.label.point.ts ≤ p.label.point.ts = omega arith in e;
+    }
 
     go : (b : Bool) → is_for s.shape.interest p.label j ≡ b → get_or (lanes_from s.shape.interest p 0 s.lanes) j [] ≡ (if is_for s.shape.interest p.label j then lane_to s j ++ p ∷ [] else lane_to s j) → IsInLane (record s { promise = p.label.point.ts }) j q
     go true target lane = elim (slice-more (lane_to s j) p q n (subst (λ (ls : List Payload). slice_get ls n ≡ Some q) (lane ∙ ap (λ (b : Bool). if b then lane_to s j ++ p ∷ [] else lane_to s j) target) at)) [
@@ -153,30 +178,30 @@ in-lanes s x p g next kind item j n q at = elim (less-or-not j (length s.lanes))
     ]
     go false target lane = still-in s p.label.point.ts j q up (g.payloads j n q (subst (λ (ls : List Payload). slice_get ls n ≡ Some q) (lane ∙ ap (λ (b : Bool). if b then lane_to s j ++ p ∷ [] else lane_to s j) target) at))
 
-pub writes : (s : GearSeen) (x : ℕ) (p : Payload) → IsGear s → IsNextStamp s p.label → p.label.kind ≡ Update x → IsItemOf s x → IsGear (after_write s x p)
-writes s x p g next kind item =
-    let up : s.promise < p.label.point.ts = next.above in record {
+pub writes : (s : GearSeen) (items : Items) (p : Payload) → IsGear s → IsUpdateOf s items p → IsGear (after_write s p)
+writes s items p g update =
+    let up : s.promise < p.label.point.ts = update.next.above in record {
       shape = g.shape;
       gear = g.gear;
-      promise = next.upto;
+      promise = update.next.upto;
       drained_promise = let p : s.drained_promise ≤ s.promise = g.drained_promise in omega arith;
-      rises = rises-more s p.label g next;
-      fresh = λ m i. fresh-too (record s { promise = p.label.point.ts }) (after_write s x p) m (refl, refl) refl (omega arith) (fresh-more s p.label g next (subst (λ (k : Kind). IsKindHere s k) (sym kind) item) m i);
+      rises = rises-more s p.label g update.next;
+      fresh = λ m i. fresh-too (record s { promise = p.label.point.ts }) (after_write s p) m (refl, refl) refl (omega arith) (fresh-more s p.label g update.next (subst (λ (k : Kind). IsKindHere s k) (sym update.kind) update.here) m i);
       lanes = lanes-length (is_for s.shape.interest p.label) p 0 s.lanes ∙ g.lanes;
-      payloads = λ j n q at. lane-too (record s { promise = p.label.point.ts }) (after_write s x p) j q (refl, refl) (omega arith) (in-lanes s x p g next kind item j n q at);
-      versions = length-set s.versions _ _ ∙ g.versions;
+      payloads = λ j n q at. lane-too (record s { promise = p.label.point.ts }) (after_write s p) j q (refl, refl) (omega arith) (in-lanes s items p g update j n q at);
+      versions = g.versions;
     }
 
-pub shows : (s : GearSeen) (x : ℕ) (p : Payload) → IsGear s → IsGear (after_show s x p)
-shows s x p g = record {
+pub shows : (s : GearSeen) (x : ℕ) (v : Version) → IsGear s → IsGear (after_show s x v)
+shows s x v g = record {
   shape = g.shape;
   gear = g.gear;
   promise = g.promise;
   drained_promise = g.drained_promise;
   rises = g.rises;
-  fresh = λ l i. fresh-too s (after_show s x p) l (refl, refl) refl (omega arith) (g.fresh l i);
+  fresh = λ l i. fresh-too s (after_show s x v) l (refl, refl) refl (omega arith) (g.fresh l i);
   lanes = g.lanes;
-  payloads = λ j n q at. lane-too s (after_show s x p) j q (refl, refl) (omega arith) (g.payloads j n q at);
+  payloads = λ j n q at. lane-too s (after_show s x v) j q (refl, refl) (omega arith) (g.payloads j n q at);
   versions = length-set s.versions _ _ ∙ g.versions;
 }
 
@@ -231,16 +256,15 @@ kept-by s labels g e = subst (λ (ls : List Label). IsGear (record s { fresh = l
 pub made-by : (s : GearSeen) (l : Label) (labels : List Label) → IsGear s → IsNextStamp s l → IsKindHere s l.kind → labels ≡ s.fresh ++ l ∷ [] → IsGear (record s { promise = l.point.ts; fresh = labels })
 made-by s l labels g next here e = subst (λ (ls : List Label). IsGear (record s { promise = l.point.ts; fresh = ls })) (sym e) (makes s l g next here)
 
-pub shown-by : (s : GearSeen) (x : ℕ) (p : Payload) (versions : List (Option Version)) → IsGear s → versions ≡ (after_show s x p).versions → IsGear (record s { versions = versions })
-shown-by s x p versions g e = subst (λ (vs : List (Option Version)). IsGear (record s { versions = vs })) (sym e) (shows s x p g)
+pub shown-by : (s : GearSeen) (x : ℕ) (v : Version) (versions : List (Option Version)) → IsGear s → versions ≡ (after_show s x v).versions → IsGear (record s { versions = versions })
+shown-by s x v versions g e = subst (λ (vs : List (Option Version)). IsGear (record s { versions = vs })) (sym e) (shows s x v g)
 
-pub written : (s : GearSeen) (x : ℕ) (p : Payload) (labels : List Label) (lanes : List (List Payload)) (versions : List (Option Version)) →
-    labels ≡ s.fresh ++ p.label ∷ [] → lanes ≡ lanes_from s.shape.interest p 0 s.lanes → versions ≡ (after_show s x p).versions →
-    record s { promise = p.label.point.ts; fresh = labels; lanes = lanes; versions = versions } ≡ after_write s x p
-written s x p labels lanes versions a b c =
-    ap (λ (ls : List Label). record s { promise = p.label.point.ts; fresh = ls; lanes = lanes; versions = versions }) a
-    ∙ (ap (λ (ps : List (List Payload)). record s { promise = p.label.point.ts; fresh = s.fresh ++ p.label ∷ []; lanes = ps; versions = versions }) b
-    ∙ ap (λ (vs : List (Option Version)). record s { promise = p.label.point.ts; fresh = s.fresh ++ p.label ∷ []; lanes = lanes_from s.shape.interest p 0 s.lanes; versions = vs }) c)
+pub written : (s : GearSeen) (p : Payload) (labels : List Label) (lanes : List (List Payload)) →
+    labels ≡ s.fresh ++ p.label ∷ [] → lanes ≡ lanes_from s.shape.interest p 0 s.lanes →
+    record s { promise = p.label.point.ts; fresh = labels; lanes = lanes } ≡ after_write s p
+written s p labels lanes a b =
+    ap (λ (ls : List Label). record s { promise = p.label.point.ts; fresh = ls; lanes = lanes }) a
+    ∙ ap (λ (ps : List (List Payload)). record s { promise = p.label.point.ts; fresh = s.fresh ++ p.label ∷ []; lanes = ps }) b
 
 -- the lanes and the numbers of a set of sites are those of a label's targets
 pub same-lanes : (test other : ℕ → Bool) (p : Payload) (k : ℕ) (lanes : List (List Payload)) → ((j : ℕ) → test j ≡ other j) → lanes_where test p k lanes ≡ lanes_where other p k lanes
@@ -256,20 +280,20 @@ same-numbers test other k (lane ∷ lanes) same =
     ∙ ap (λ (rest : List ℕ). if other k then length lane ∷ rest else rest) (same-numbers test other (k + 1) lanes same)
 
 -- what a write leaves, over what the fields became
-pub record Written (s : GearSeen) (x : ℕ) (p : Payload) (t : GearSeen) : Type 0 where
+pub record Written (s : GearSeen) (p : Payload) (t : GearSeen) : Type 0 where
   pub gear : IsGear t
-  pub is : t ≡ after_write s x p
+  pub is : t ≡ after_write s p
 
-pub written-by : (v s : GearSeen) (x : ℕ) (p : Payload) (test : ℕ → Bool) (labels : List Label) (lanes : List (List Payload)) (versions : List (Option Version)) →
-    v ≡ s → IsGear v → IsNextStamp s p.label → p.label.kind ≡ Update x → IsItemOf s x → ((k : ℕ) → test k ≡ is_for v.shape.interest p.label k) →
-    labels ≡ v.fresh ++ p.label ∷ [] → lanes ≡ lanes_where test p 0 v.lanes → versions ≡ (after_show v x p).versions →
-    Written s x p (record v { promise = p.label.point.ts; fresh = labels; lanes = lanes; versions = versions })
-written-by v s x p test labels lanes versions same g next kind item targets a b c =
-    let is : record v { promise = p.label.point.ts; fresh = labels; lanes = lanes; versions = versions } ≡ after_write v x p =
-    written v x p labels lanes versions a (b ∙ same-lanes test (is_for v.shape.interest p.label) p 0 v.lanes targets) c in
+pub written-by : (v s : GearSeen) (items : Items) (p : Payload) (test : ℕ → Bool) (labels : List Label) (lanes : List (List Payload)) →
+    v ≡ s → IsGear v → IsUpdateOf s items p → ((k : ℕ) → test k ≡ is_for v.shape.interest p.label k) →
+    labels ≡ v.fresh ++ p.label ∷ [] → lanes ≡ lanes_where test p 0 v.lanes →
+    Written s p (record v { promise = p.label.point.ts; fresh = labels; lanes = lanes })
+written-by v s items p test labels lanes same g update targets a b =
+    let is : record v { promise = p.label.point.ts; fresh = labels; lanes = lanes } ≡ after_write v p =
+    written v p labels lanes a (b ∙ same-lanes test (is_for v.shape.interest p.label) p 0 v.lanes targets) in
     record {
-      gear = subst (λ (t : GearSeen). IsGear t) (sym is) (writes v x p g (subst (λ (t : GearSeen). IsNextStamp t p.label) (sym same) next) kind (subst (λ (t : GearSeen). IsItemOf t x) (sym same) item));
-      is = is ∙ ap (λ (t : GearSeen). after_write t x p) same;
+      gear = subst (λ (t : GearSeen). IsGear t) (sym is) (writes v items p g (subst (λ (t : GearSeen). IsUpdateOf t items p) (sym same) update));
+      is = is ∙ ap (λ (t : GearSeen). after_write t p) same;
     }
 
 pub kept-lanes : (s : GearSeen) (labels : List Label) (lanes : List (List Payload)) → IsGear s → labels ≡ s.fresh → lanes ≡ s.lanes → IsGear (record s { fresh = labels; lanes = lanes })

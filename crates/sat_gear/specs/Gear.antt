@@ -1,18 +1,21 @@
 -- A gear: what it keeps, what is read off it, what its calls make of it, and what is true of each.
 use Rattle.std.specs.Prelude.{ℕ, ◌≡◌, ◌≤◌, ◌<◌, ◌+◌, ◌/◌, ◌%◌, ◌^◌, Bool, true, ◌||◌, nat_le, nat_lt, max, List, [], ◌∷◌, ◌++◌, length, map, replicate, get_or, slice_get, slice_set, Option, None, Some, if◌then◌else◌}
 use Rattle.std.specs.Int.{div_ceil}
+use Rattle.std.specs.List.{list_all}
 use Rattle.sat_label.specs.declared.point.Point.{Point}
 use Rattle.sat_label.specs.declared.label.Kind.{Kind}
+use Rattle.sat_label.specs.declared.items.Items.{Items}
 use Rattle.sat_label.specs.declared.label.Kind.TheVariants.{Update, Move}
 use Rattle.sat_label.specs.declared.label.Label.{Label}
-use Rattle.sat_label.specs.Order.{point_at}
+use Rattle.sat_label.specs.Grouped.{least_item, list_of}
+use Rattle.sat_label.specs.Order.{kind_numbers, point_at}
 use Rattle.sat_bulk.specs.declared.Drained.{Drained}
-use Rattle.sat_bulk.specs.declared.Payload.{Payload}
+use Rattle.sat_bulk.specs.Payloads.{Payload}
 use Rattle.sat_label.specs.Members.{In}
 use Rattle.sat_bulk.specs.Drains.{Rises, IsNew}
-use Rattle.sat_sites.specs.Interested.{Interested, IsInterest, is_for, keeps}
+use Rattle.sat_sites.specs.Interested.{AreBelow, Interested, IsInterest, is_for, keeps}
 use Rattle.sat_sites.specs.declared.shape.Shape.{Shape}
-use Rattle.sat_store.specs.declared.store.Version.{Version}
+use Rattle.sat_label.specs.Versions.{Version}
 use Rattle.sat_gear.specs.Lanes.{lanes_where, numbers_where, count_of}
 use Rattle.sat_store.specs.Stored.{version_at, newer}
 
@@ -88,16 +91,19 @@ abbrev pub after_move : GearSeen → Label → GearSeen
 after_move s l = record s { promise = l.point.ts; fresh = s.fresh ++ l ∷ [] }
 
 -- a version of item x: the greater one stays
-abbrev pub after_show : GearSeen → ℕ → Payload → GearSeen
-after_show s x p = record s { versions = slice_set s.versions (x / s.shape.gears) (newer (version_of s x) (record { label = p.label; value = p.value })) }
+abbrev pub after_show : GearSeen → ℕ → Version → GearSeen
+after_show s x v = record s { versions = slice_set s.versions (x / s.shape.gears) (newer (version_of s x) v) }
 
--- an update of item x: it is made, joins the lanes of its targets, and shows here
-abbrev pub after_write : GearSeen → ℕ → Payload → GearSeen
-after_write s x p = record s {
+-- an update with these values, one for each of its items
+abbrev pub payload_with : Label → List (List ℕ) → Payload
+payload_with l values = record { label = l; values = map Some values }
+
+-- an update: it is made, and joins the lanes of its targets. What it shows here, `after_show` says for each of its items
+abbrev pub after_write : GearSeen → Payload → GearSeen
+after_write s p = record s {
   promise = p.label.point.ts;
   fresh = s.fresh ++ p.label ∷ [];
   lanes = lanes_from s.shape.interest p 0 s.lanes;
-  versions = slice_set s.versions (x / s.shape.gears) (newer (version_of s x) (record { label = p.label; value = p.value }));
 }
 
 abbrev pub after_drain : GearSeen → GearSeen
@@ -124,6 +130,12 @@ pub record IsItemOf (s : GearSeen) (x : ℕ) : Type 0 where
   pub gear : x % s.shape.gears ≡ s.gear
   pub kept : keeps s.shape.interest x s.shape.site ≡ true
 
+-- items of an update that this gear stamps: the least is an item of the gear, and all are items that its site keeps
+pub record AreItemsOf (s : GearSeen) (xs : List ℕ) : Type 0 where
+  pub known : AreBelow (length s.shape.interest.replicas) xs
+  pub least : IsItemOf s (least_item xs)
+  pub kept : list_all (λ x. keeps s.shape.interest x s.shape.site) xs ≡ true
+
 -- the next label that the gear stamps for some client
 pub record IsNextStamp (s : GearSeen) (l : Label) : Type 0 where
   pub site : l.point.site ≡ s.shape.site
@@ -133,9 +145,9 @@ pub record IsNextStamp (s : GearSeen) (l : Label) : Type 0 where
 
 -- ---- what is true of each
 
--- an update of an item of this gear, or a move
+-- an update whose least item is one of this gear, or a move
 abbrev pub IsKindHere : GearSeen → Kind → Type 0
-IsKindHere s (Update x) = IsItemOf s x
+IsKindHere s (Update items) = AreItemsOf s (list_of items)
 IsKindHere s (Move j) = (j < s.shape.sites) × (s.gear ≡ 0)
 IsKindHere s _ = ⊥
 
@@ -144,11 +156,12 @@ pub record IsUndrained (s : GearSeen) (l : Label) : Type 0 where
   pub new : IsNew s.shape.site s.gear s.drained_promise s.promise l
   pub kind : IsKindHere s l.kind
 
--- a payload of the lane to site j: an update of the gear's, for that site
+-- a payload of the lane to site j: an update of the gear's, for that site, with a value for each of its items
 pub record IsInLane (s : GearSeen) (j : ℕ) (p : Payload) : Type 0 where
   pub site : p.label.point.site ≡ s.shape.site
   pub gear : p.label.point.gear ≡ s.gear
-  pub kind : (x : ℕ) × (p.label.kind ≡ Update x) × IsItemOf s x
+  pub kind : (items : Items) × (p.label.kind ≡ Update items) × AreItemsOf s (list_of items)
+  pub values : (values : List (List ℕ)) × (p.values ≡ map Some values) × (length values ≡ length (kind_numbers p.label.kind))
   pub target : is_for s.shape.interest p.label j ≡ true
   pub upto : p.label.point.ts ≤ s.promise
 

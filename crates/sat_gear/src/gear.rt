@@ -1,17 +1,18 @@
 //! Gears.
-ghost use Rattle.std.specs.Prelude.{ℕ, ◌≡◌, ◌≤◌, ◌<◌, ◌↔◌, ◌^◌, [], length, max, true, false, slice_get, Some, None, IfOk, IfSome, IsErrOf, IsOkUnless, OnErr, MatchOption, OnOk, ◌+◌, ◌/◌, if◌then◌else◌};
+ghost use Rattle.std.specs.Prelude.{ℕ, ◌≡◌, ◌≤◌, ◌<◌, ◌↔◌, ◌^◌, [], length, max, true, slice_get, Some, None, IfOk, IsErrOf, IsOkUnless, OnErr, MatchOption, OnOk, ◌+◌, ◌/◌, false, if◌then◌else◌};
 ghost use Rattle.sat_label.specs.declared.label.Kind.TheVariants.{Update, Move};
+ghost use Rattle.sat_label.specs.Grouped.{list_of};
 ghost use Rattle.sat_sites.specs.Interested.{IsLabelOf};
 ghost use Rattle.sat_store.specs.Stored.{is_kept};
 ghost use Rattle.sat_label.specs.Order.{point_at};
-ghost use Rattle.sat_gear.specs.Gear.{after_drain, stamp_base, drained_of, fresh_gear, is_spent, lane_to, after_move, lane_numbers, places, after_show, stamped, after_tick, version_of, after_write, IsGear, IsItemOf, IsKindHere, IsNextStamp, IsShape, is_due};
+ghost use Rattle.sat_gear.specs.Gear.{after_drain, stamp_base, drained_of, fresh_gear, is_spent, lane_to, after_move, lane_numbers, payload_with, places, after_show, stamped, after_tick, version_of, after_write, AreItemsOf, IsGear, IsItemOf, IsKindHere, IsNextStamp, IsShape, is_due};
 
 use crate::lanes::Lanes;
 use crate::{GearFault, Stamped};
 use sat_bulk::{Drained, Payload};
-use sat_label::{Counts, Kind, Label, Labels, Point, TS_END, Value};
+use sat_label::{Counts, Items, Kind, Label, Labels, Point, TS_END, Value, Version};
 use sat_sites::Shape;
-use sat_store::{Put, Store, Version};
+use sat_store::{Put, Store};
 use std::alloc::{AllocError, Global};
 use std::marker::Model;
 
@@ -112,43 +113,56 @@ impl Gear {
         Some(base + 1)
     }
 
-    /// Stamps an update of an item for a client that saw a point: its timestamp is the one above the gear's promise and the
-    /// client's point, and is the new promise. The update shows here, and joins the lanes of its targets. `Spent` says that no
-    /// timestamp is left; then, and for want of memory, all is as before.
-    pub fn write(&mut self, seen: Point, item: u16, value: Value) -> Result<Stamped, GearFault>
-        requires { IsItemOf self.old item }
+    /// Stamps an update of items for a client that saw a point: its timestamp is the one above the gear's promise and the client's
+    /// point, and is the new promise. The update joins the lanes of its targets, with a copy of each value; what it shows here,
+    /// `show` puts for each item. `Spent` says that no timestamp is left; then, and for want of memory, all is as before. It asks
+    /// that the least item is one of this gear, that the site keeps all of them, and that there is a value for each.
+    pub fn write(
+        &mut self,
+        seen: Point,
+        items: Items,
+        values: &[Value],
+    ) -> Result<Stamped, GearFault>
+        requires items { AreItemsOf self.old (list_of items) }
+        requires values { length values.now ≡ length (list_of items) }
         ensures spent { is_spent self.old seen ≡ true → IsErrOf result GearFault.Spent }
         ensures ok { is_spent self.old seen ≡ false → IsOkUnless result GearFault.Memory }
-        ensures label { IfOk result (λ s. s.label ≡ stamped self.old seen (Update item)) }
+        ensures label { IfOk result (λ s. s.label ≡ stamped self.old seen (Update items)) }
         ensures numbers { IfOk result (λ s. s.numbers ≡ lane_numbers self.old s.label) }
-        ensures new { IfOk result (λ s. self.new ≡ after_write self.old item (record { label = s.label; value = value })) }
+        ensures new { IfOk result (λ s. self.new ≡ after_write self.old (payload_with s.label values.now)) }
         ensures err { OnErr result (self.new ≡ self.old) }
     {
         let _ = &self.shape;
         let Some(ts) = self.next(seen) else {
             return Err(GearFault::Spent);
         };
-        let label = self.label(ts, Kind::Update(item));
+        let label = self.label(ts, Kind::Update(items));
         let numbers = self.numbers(&label)?;
-        self.take_update(label, item, value)?;
+        self.take_update(label, items, values)?;
         Ok(Stamped { label, numbers })
     }
 
-    /// Stamps an update as `write` does, and answers its label alone.
-    pub fn stamp_write(&mut self, seen: Point, item: u16, value: Value) -> Result<Label, GearFault>
-        requires { IsItemOf self.old item }
+    /// Stamps an update as `write` does, and answers its payload, which the lanes share.
+    pub fn stamp_write(
+        &mut self,
+        seen: Point,
+        items: Items,
+        values: &[Value],
+    ) -> Result<Payload, GearFault>
+        requires items { AreItemsOf self.old (list_of items) }
+        requires values { length values.now ≡ length (list_of items) }
         ensures spent { is_spent self.old seen ≡ true → IsErrOf result GearFault.Spent }
         ensures ok { is_spent self.old seen ≡ false → IsOkUnless result GearFault.Memory }
-        ensures label { IfOk result (λ l. l ≡ stamped self.old seen (Update item)) }
-        ensures new { IfOk result (λ l. self.new ≡ after_write self.old item (record { label = l; value = value })) }
+        ensures label { IfOk result (λ p. p ≡ payload_with (stamped self.old seen (Update items)) values.now) }
+        ensures new { IfOk result (λ p. self.new ≡ after_write self.old p) }
         ensures err { OnErr result (self.new ≡ self.old) }
     {
         let Some(ts) = self.next(seen) else {
             return Err(GearFault::Spent);
         };
-        let label = self.label(ts, Kind::Update(item));
-        self.take_update(label, item, value)?;
-        Ok(label)
+        let label = self.label(ts, Kind::Update(items));
+        let payload = self.take_update(label, items, values)?;
+        Ok(payload)
     }
 
     // The number that a label's payload gets in the lane of each target.
@@ -175,22 +189,28 @@ impl Gear {
         }
     }
 
-    // Takes in an update of an item that was just stamped.
-    fn take_update(&mut self, label: Label, item: u16, value: Value) -> Result<(), AllocError>
-        requires item { IsItemOf self.old item }
+    // Takes in an update of these items that was just stamped, and answers its payload.
+    fn take_update(
+        &mut self,
+        label: Label,
+        items: Items,
+        values: &[Value],
+    ) -> Result<Payload, AllocError>
+        requires items { AreItemsOf self.old (list_of items) }
         requires next { IsNextStamp self.old label }
-        requires kind { label.kind ≡ Update item }
-        ensures new { OnOk result (self.new ≡ after_write self.old item (record { label = label; value = value })) }
+        requires kind { label.kind ≡ Update items }
+        requires values { length values.now ≡ length (list_of items) }
+        ensures payload { IfOk result (λ p. p ≡ payload_with label values.now) }
+        ensures new { IfOk result (λ p. self.new ≡ after_write self.old p) }
         ensures err { OnErr result (self.new ≡ self.old) }
     {
-        let place = self.place(item);
         let targets = self.shape.interest.targets(&label);
+        let payload = Payload::new(self.alloc, label, values)?;
         self.fresh.reserve(1)?;
-        self.lanes.add(targets, label, &value)?;
+        self.lanes.add(targets, &payload)?;
         self.fresh.push_reserved(label);
-        self.store.put(place, label, value);
         self.promise = label.point.ts;
-        Ok(())
+        Ok(payload)
     }
 
     /// Stamps a move to a site for a client that saw a point, as `write` does. It asks for gear 0, which stamps the moves.
@@ -223,18 +243,15 @@ impl Gear {
         Ok(())
     }
 
-    /// Shows an update of another site: the version with the greater label stays. The promise stays. It takes no memory.
-    pub fn show(&mut self, payload: Payload) -> Put
-        requires { (x : ℕ) × (payload.label.kind ≡ Update x) × IsItemOf self.old x }
-        ensures new { (x : ℕ) → payload.label.kind ≡ Update x → self.new ≡ after_show self.old x payload }
-        ensures kept { (x : ℕ) → payload.label.kind ≡ Update x → result ≡ Put.Kept ↔ is_kept (version_of self.old x) payload.label }
+    /// Shows the version that an update makes of an item of this gear: the one with the greater label stays. The promise stays.
+    /// It takes no memory.
+    pub fn show(&mut self, item: u16, version: Version) -> Put
+        requires { IsItemOf self.old item }
+        ensures new { self.new ≡ after_show self.old item version }
+        ensures kept { result ≡ Put.Kept ↔ is_kept (version_of self.old item) version.label }
     {
-        let Payload { label, value } = payload;
-        let Kind::Update(item) = label.kind else {
-            unreachable!();
-        };
         let place = self.place(item);
-        self.store.put(place, label, value)
+        self.store.put(place, version)
     }
 
     /// The version of an item of this gear, None exactly where it shows none.

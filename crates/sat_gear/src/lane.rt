@@ -26,7 +26,7 @@ fn site_from(set: SiteSet, from: usize) -> usize
 }
 
 /// Makes room for one place more in the lane of each site of a set.
-pub fn reserve_where(lanes: &mut [Queue<usize>], targets: SiteSet) -> Result<(), AllocError>
+pub fn reserve_where(lanes: &mut [Queue<u32>], targets: SiteSet) -> Result<(), AllocError>
     requires few { length lanes.old ≤ 64 }
     ensures members { map members_of lanes.new ≡ map members_of lanes.old }
     ensures room { OnOk result (HaveRoomWhere (bit targets.bits) (length lanes.new) lanes.new) }
@@ -40,7 +40,7 @@ pub fn reserve_where(lanes: &mut [Queue<usize>], targets: SiteSet) -> Result<(),
 }
 
 /// Puts a place at the end of the lane of each site of a set, and counts it there. There is room.
-pub fn spread(lanes: &mut [Queue<usize>], counts: &mut [u64], targets: SiteSet, place: usize)
+pub fn spread(lanes: &mut [Queue<u32>], counts: &mut [u64], targets: SiteSet, place: u32)
     requires room { HaveRoomWhere (bit targets.bits) (length lanes.old) lanes.old }
     requires few { length lanes.old ≤ 64 }
     requires counted { counts.old ≡ map count_of (map members_of lanes.old) }
@@ -56,11 +56,7 @@ pub fn spread(lanes: &mut [Queue<usize>], counts: &mut [u64], targets: SiteSet, 
 }
 
 /// How many places each lane of a set of sites has.
-pub fn numbers(
-    alloc: Global,
-    lanes: &[Queue<usize>],
-    targets: SiteSet,
-) -> Result<Counts, AllocError>
+pub fn numbers(alloc: Global, lanes: &[Queue<u32>], targets: SiteSet) -> Result<Counts, AllocError>
     requires { length lanes.now ≤ 64 }
     ensures { IfOk result (λ counts. counts ≡ numbers_where (bit targets.bits) 0 (map members_of lanes.now)) }
 {

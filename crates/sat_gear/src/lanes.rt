@@ -6,7 +6,7 @@ ghost use Rattle.sat_gear.specs.Lanes.{count_of, lanes_where, numbers_where};
 
 use crate::lane::{numbers, reserve_where, spread};
 use sat_bulk::Payload;
-use sat_label::{Counts, Label, SiteSet, Value};
+use sat_label::{Counts, SiteSet};
 use sat_queue::{Queue, empty_queues};
 use std::alloc::{AllocError, Global};
 use std::marker::Model;
@@ -14,17 +14,17 @@ use std::marker::Model;
 // Contracts see for each site the payloads that were made for it.
 #[derive(Drop)]
 pub struct Lanes {
-    // The payloads that were made for some site.
+    // The payloads that were made for some site, no more than 32 bits number.
     made: Vec<Payload>,
     // For each site the places, among these, of those that were made for it.
-    lanes: Vec<Queue<usize>>,
+    lanes: Vec<Queue<u32>>,
     // For each site how many, side by side: a gather reads all of them.
     counts: Vec<u64>,
 }
 
 impl Model for Lanes {
     ghost use Rattle.std.specs.Prelude.{List, map, length};
-    ghost use Rattle.sat_bulk.specs.declared.Payload.{Payload};
+    ghost use Rattle.sat_bulk.specs.Payloads.{Payload};
     ghost use Rattle.sat_queue.specs.Queued.{members_of};
     ghost use Rattle.sat_gear.specs.Lanes.{picked, IsLaid};
 
@@ -33,6 +33,16 @@ impl Model for Lanes {
     ghost view = { λ a. map (picked a.made.items) (map members_of a.lanes.items) };
 
     ghost invariant = { λ a. IsLaid (length a.made.items) (map members_of a.lanes.items) a.counts.items };
+}
+
+// The place behind all payloads. From 2^32 on there is none, and so no memory.
+fn next_place(made: &[Payload]) -> Result<u32, AllocError>
+    ensures { IfOk result (λ place. place ≡ length made.now) }
+{
+    let Ok(place) = u32::try_from(made.len()) else {
+        return Err(AllocError);
+    };
+    Ok(place)
 }
 
 impl Lanes {
@@ -49,19 +59,18 @@ impl Lanes {
         })
     }
 
-    /// Puts the payload of a label and a value at the end of the lane of each site of a set. Where there is none, the value is
-    /// not copied. For want of memory the lanes are as before.
-    pub fn add(&mut self, targets: SiteSet, label: Label, value: &Value) -> Result<(), AllocError>
+    /// Puts a payload at the end of the lane of each site of a set; it is copied only where there is one. For want of memory the
+    /// lanes are as before.
+    pub fn add(&mut self, targets: SiteSet, payload: &Payload) -> Result<(), AllocError>
         requires { length self.old ≤ 64 }
-        ensures ok { OnOk result
-            (self.new ≡ lanes_where (bit targets.bits) (record { label = label; value = value.now }) 0 self.old) }
+        ensures ok { OnOk result (self.new ≡ lanes_where (bit targets.bits) payload.now 0 self.old) }
         ensures err { OnErr result (self.new ≡ self.old) }
     {
         if !targets.meets(&targets) {
             return Ok(());
         }
-        let value = value.copy()?;
-        self.push(targets, Payload { label, value })?;
+        let payload = payload.copy()?;
+        self.push(targets, payload)?;
         Ok(())
     }
 
@@ -80,9 +89,9 @@ impl Lanes {
         ensures ok { OnOk result (self.new ≡ lanes_where (bit targets.bits) payload 0 self.old) }
         ensures err { OnErr result (self.new ≡ self.old) }
     {
+        let place = next_place(&self.made)?;
         self.made.reserve(1)?;
         reserve_where(&mut self.lanes, targets)?;
-        let place = self.made.len();
         spread(&mut self.lanes, &mut self.counts, targets, place);
         self.made.push_reserved(payload);
         Ok(())
@@ -94,7 +103,7 @@ impl Lanes {
         ensures { MatchOption result (slice_get (get_or self.now site []) number ≡ None) (λ payload. slice_get (get_or self.now site []) number ≡ Some payload.now) }
     {
         let place = self.lanes[site as usize].get(number as usize)?;
-        Some(&self.made[place])
+        Some(&self.made[place as usize])
     }
 
     /// How many payloads the lane of a site holds. It takes no memory.

@@ -4,10 +4,10 @@ use Rattle.sat_label.specs.declared.limits.Limits.{Limits}
 use Rattle.sat_label.specs.Formats.{limits_of}
 
 abbrev one : Limits
-one = record { sites = 16; items = 4096; acts = 200000 }
+one = record { sites = 16; items = 4096; acts = 200000; written = 1 }
 
 abbrev other : Limits
-other = record { sites = 64; items = 65535; acts = 30000 }
+other = record { sites = 64; items = 65535; acts = 30000; written = 4 }
 
 -- the limits of each format are within those of all
 pub sites_within : (format n : ℕ) → n ≤ (limits_of format).sites → n ≤ 64

@@ -2,6 +2,8 @@ pub mod Bits
 pub mod First
 pub mod SameNodes
 pub mod Numbers
+pub mod Grouped
+pub mod Derived
 pub mod Names
 pub mod Truth
 pub mod Orders

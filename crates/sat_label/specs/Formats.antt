@@ -9,5 +9,5 @@ is_format format = (format == 1) || (format == 2)
 abbrev pub limits_of : ℕ → Limits
 limits_of format =
     if format == 1
-    then record { sites = 16; items = 4096; acts = 200000 }
-    else record { sites = 64; items = 65535; acts = 30000 }
+    then record { sites = 16; items = 4096; acts = 200000; written = 1 }
+    else record { sites = 64; items = 65535; acts = 30000; written = 4 }

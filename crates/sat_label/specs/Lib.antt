@@ -2,6 +2,8 @@ pub mod Order
 pub mod Words
 pub mod Text
 pub mod Kept
+pub mod Grouped
+pub mod Versions
 pub mod Members
 pub mod Least
 pub mod Formats

@@ -10,7 +10,7 @@ In (y ∷ ys) x = (y ≡ x) ⊎ In ys x
 
 -- an update or a move: what gears make; pulses and closes are the sink's
 abbrev pub is_made : Kind → Bool
-is_made (Update x) = true
+is_made (Update items) = true
 is_made (Move j) = true
 is_made Pulse = false
 is_made (Close e) = false

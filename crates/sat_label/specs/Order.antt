@@ -1,6 +1,7 @@
 -- The order of points and labels, and tests of equality.
-use Rattle.std.specs.Prelude.{ℕ, Bool, false, ◌&&◌, ◌||◌, ◌==◌, nat_lt, if◌then◌else◌}
+use Rattle.std.specs.Prelude.{ℕ, Bool, true, false, ◌&&◌, ◌||◌, ◌==◌, nat_lt, List, [], ◌∷◌, if◌then◌else◌}
 use Rattle.sat_label.specs.declared.point.Point.{Point}
+use Rattle.sat_label.specs.Grouped.{list_of}
 use Rattle.sat_label.specs.declared.label.Kind.{Kind}
 use Rattle.sat_label.specs.declared.label.Kind.TheVariants.{Update, Move, Pulse, Close}
 use Rattle.sat_label.specs.declared.label.Label.{Label}
@@ -33,25 +34,38 @@ point_le p q = point_lt p q || point_eq p q
 abbrev pub greater_point : Point → Point → Point
 greater_point p q = if point_lt p q then q else p
 
--- a kind's place in the order of kinds, and its number
+-- lists of numbers by the first that differs; the front of a list comes before it
+abbrev pub numbers_lt : List ℕ → List ℕ → Bool
+numbers_lt [] [] = false
+numbers_lt [] (y ∷ ys) = true
+numbers_lt (x ∷ xs) [] = false
+numbers_lt (x ∷ xs) (y ∷ ys) = nat_lt x y || ((x == y) && numbers_lt xs ys)
+
+abbrev pub numbers_eq : List ℕ → List ℕ → Bool
+numbers_eq [] [] = true
+numbers_eq [] (y ∷ ys) = false
+numbers_eq (x ∷ xs) [] = false
+numbers_eq (x ∷ xs) (y ∷ ys) = (x == y) && numbers_eq xs ys
+
+-- a kind's place in the order of kinds, and its numbers: the items of an update, or the number of another kind
 abbrev pub kind_rank : Kind → ℕ
-kind_rank (Update x) = 0
+kind_rank (Update items) = 0
 kind_rank (Move j) = 1
 kind_rank Pulse = 2
 kind_rank (Close e) = 3
 
-abbrev pub kind_number : Kind → ℕ
-kind_number (Update x) = x
-kind_number (Move j) = j
-kind_number Pulse = 0
-kind_number (Close e) = e
+abbrev pub kind_numbers : Kind → List ℕ
+kind_numbers (Update items) = list_of items
+kind_numbers (Move j) = j ∷ []
+kind_numbers Pulse = []
+kind_numbers (Close e) = e ∷ []
 
 abbrev pub kind_lt : Kind → Kind → Bool
 kind_lt a b =
-    nat_lt (kind_rank a) (kind_rank b) || ((kind_rank a == kind_rank b) && nat_lt (kind_number a) (kind_number b))
+    nat_lt (kind_rank a) (kind_rank b) || ((kind_rank a == kind_rank b) && numbers_lt (kind_numbers a) (kind_numbers b))
 
 abbrev pub kind_eq : Kind → Kind → Bool
-kind_eq a b = (kind_rank a == kind_rank b) && (kind_number a == kind_number b)
+kind_eq a b = (kind_rank a == kind_rank b) && numbers_eq (kind_numbers a) (kind_numbers b)
 
 -- by point, then kind
 abbrev pub label_lt : Label → Label → Bool

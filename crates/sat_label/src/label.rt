@@ -2,13 +2,13 @@
 ghost use Rattle.std.specs.Prelude.{◌≡◌};
 ghost use Rattle.sat_label.specs.Order.{label_eq, label_lt};
 
-use crate::Point;
+use crate::{Items, Point};
 
-/// What a label speaks of, ordered as the variants stand, then by number.
+/// What a label speaks of, ordered as the variants stand, then by number or list of items.
 #[derive(Clone, Copy, Debug, PartialEq, Eq, PartialOrd, Ord)]
 pub enum Kind {
-    /// An update of the item with this number.
-    Update(u16),
+    /// An update of the items with these numbers.
+    Update(Items),
     /// A client's move to this site.
     Move(u16),
     /// A promise of the site that nothing below it follows.

@@ -20,6 +20,9 @@ pub const MOST_GEARS: u16 = 8;
 /// The most items of a deployment of any format.
 pub const MOST_ITEMS: usize = 65_535;
 
+/// The most items of one update.
+pub const MOST_WRITTEN: usize = 4;
+
 /// The most clients of a deployment.
 pub const MOST_CLIENTS: usize = 1024;
 
@@ -50,6 +53,8 @@ pub struct Limits {
     pub items: usize,
     /// The most acts of a script, each `settle` among them.
     pub acts: u32,
+    /// The most items of one update.
+    pub written: usize,
 }
 
 /// The limits of format 1, and for another number those of format 2.
@@ -61,12 +66,14 @@ pub fn limits_of(format: u16) -> Limits
             sites: 16,
             items: 4096,
             acts: 200_000,
+            written: 1,
         }
     } else {
         Limits {
             sites: 64,
             items: 65_535,
             acts: 30_000,
+            written: MOST_WRITTEN,
         }
     }
 }

@@ -55,6 +55,15 @@ impl SiteSet {
         }
     }
 
+    /// The sites of this set and of another.
+    pub fn plus(&self, other: &SiteSet) -> SiteSet
+        ensures { (k : ℕ) → bit result.bits k ≡ (bit self.now.bits k || bit other.now.bits k) }
+    {
+        SiteSet {
+            bits: self.bits | other.bits,
+        }
+    }
+
     /// The set without the sites of another.
     pub fn minus(&self, other: &SiteSet) -> SiteSet
         ensures { (k : ℕ) → bit result.bits k ≡ (bit self.now.bits k && not (bit other.now.bits k)) }

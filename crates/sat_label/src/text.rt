@@ -32,10 +32,15 @@ pub fn spells_name(text: &[u8]) -> bool
     0 < text.len() && text.len() <= NAME_BYTES && all_fit_name(text)
 }
 
+// No branch asks for a byte, so that several are tested at once.
 fn all_visible(bytes: &[u8]) -> bool
     ensures { result ≡ list_all (is_between 33 126) bytes.now }
 {
-    bytes.iter().all(|&byte| 33 <= byte && byte <= 126)
+    let mut all = true;
+    for byte in bytes {
+        all &= (33 <= *byte) & (*byte <= 126);
+    }
+    all
 }
 
 /// Whether these bytes are a value.

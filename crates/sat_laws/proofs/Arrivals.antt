@@ -6,6 +6,7 @@ use Rattle.std.proofs.lemmas.Bool.Decides.{nat_tests}
 use Rattle.sat_label.specs.declared.label.Label.{Label}
 use Rattle.sat_label.specs.declared.node.NodeId.{NodeId}
 use Rattle.sat_label.specs.declared.node.NodeId.TheVariants.{Site, Serializer}
+use Rattle.sat_label.specs.Grouped.{list_of}
 use Rattle.sat_label.specs.Words.{below}
 use Rattle.sat_tree.specs.Shape.{TreeShape}
 use Rattle.sat_tree.specs.Cut.{is_edge, beyond}
@@ -19,6 +20,7 @@ use Rattle.sat_act.specs.Goals.{Gives, IsValid}
 use Rattle.sat_laws.proofs.Steps.{Step}
 use Rattle.sat_laws.proofs.Runs.{step_of, before_of, entry}
 use Rattle.sat_laws.proofs.Labels.{some_is}
+use Rattle.sat_laws.proofs.Written.{kept-some, item-update}
 use Rattle.sat_laws.proofs.Gears.{split_le}
 use Rattle.sat_laws.proofs.Cuts.{sent-site}
 use Rattle.sat_laws.proofs.Handlings.{handled_as}
@@ -29,7 +31,7 @@ use Rattle.sat_laws.proofs.Steps.{emitted, pulsed, closed}
 use Rattle.sat_tree.specs.Laws.{IsCuttable}
 use Rattle.sat_laws.proofs.Links.{AllCuttable, HandledFrom, Handled, SentIn, Ahead, handled-later, handled-now, ahead-later, entered-in, own-site, taking, own-sending, passing, view-of}
 use Rattle.sat_label.specs.declared.label.Kind.{Kind}
-use Rattle.sat_act.specs.Parts.{is_update, replicates, shown_entry, view, seat_in}
+use Rattle.sat_act.specs.Parts.{is_update, is_update_of, keeps_some, shown_entry, view, seat_in}
 use Rattle.sat_act.specs.Goals.{Shows, IsKeptAt}
 use Rattle.sat_laws.proofs.Steps.{hopped, showed_turn, took}
 use Rattle.sat_laws.proofs.Order.{sent-in}
@@ -174,7 +176,7 @@ one_of f (suc n) k b e =
 
 pub kept-target : (d : Deployed) (j : ℕ) (a : Label) → IsKeptAt d j a → (a.point.site ≡ j → ⊥) → is_target d a j ≡ true
 unfolding is_target
-kept-target d j a k n = subst (λ (y : Kind). elim y [ kind.Update x ↦ replicates d x j && not (j == a.point.site) | kind.Move y ↦ j == y | kind.Pulse ↦ not (j == a.point.site) | kind.Close e ↦ not (j == a.point.site) ] ≡ true) (sym k.1) (both (replicates d k.0 j) (not (j == a.point.site)) k.2 (other j a.point.site (λ e. n (sym e))))
+kept-target d j a k n = go a.kind k.1
   where
     both : (a b : Bool) → a ≡ true → b ≡ true → (a && b) ≡ true
     both true b e f = f
@@ -183,8 +185,14 @@ kept-target d j a k n = subst (λ (y : Kind). elim y [ kind.Update x ↦ replica
     other : (m n : ℕ) → (m ≡ n → ⊥) → not (m == n) ≡ true
     other m n e = grind (arith, nat_tests)
 
+    go : (y : Kind) → is_update_of y k.0 ≡ true → elim y [ kind.Update items ↦ keeps_some d (list_of items) j && not (j == a.point.site) | kind.Move z ↦ j == z | kind.Pulse ↦ not (j == a.point.site) | kind.Close e ↦ not (j == a.point.site) ] ≡ true
+    go (kind.Update items) u = both (keeps_some d (list_of items) j) (not (j == a.point.site)) (kept-some d (list_of items) k.0 j u k.2) (other j a.point.site (λ e. n (sym e)))
+    go (kind.Move z) u = absurd (cc)
+    go kind.Pulse u = absurd (cc)
+    go (kind.Close e) u = absurd (cc)
+
 pub kept-update : (d : Deployed) (j : ℕ) (a : Label) → IsKeptAt d j a → is_update a.kind ≡ true
-kept-update d j a k = subst (λ (y : Kind). is_update y ≡ true) (sym k.1) refl
+kept-update d j a k = item-update a.kind k.0 k.1
 
 pub goes-to : (d : Deployed) (t : TreeShape) (p q : NodeId) (a : Label) (j : ℕ) → j < d.sites → is_target d a j ≡ true → beyond t p q (Site j) ≡ true → goes_beyond d t p q a ≡ true
 unfolding goes_beyond

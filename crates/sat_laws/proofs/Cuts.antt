@@ -120,7 +120,7 @@ known-ts : (l : Label) → (known_by l).ts ≡ l.point.ts
 known-ts l = go l.kind
   where
     go : (k : Kind) → (known_at k l.point).ts ≡ l.point.ts
-    go (kind.Update x) = refl
+    go (kind.Update items) = refl
     go (kind.Move j) = refl
     go kind.Pulse = refl
     go (kind.Close e) = refl

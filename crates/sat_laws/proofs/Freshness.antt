@@ -1,7 +1,6 @@
 -- No client reads older than it saw.
-use Rattle.std.specs.Prelude.{◌≡◌, ◌⊎◌, ℕ, Bool, true, false, List, [], ◌∷◌, Option, Some, None, refl, ◌==◌, if◌then◌else◌}
-use Rattle.std.proofs.Common.{sym, subst, arith, inl, inr, ap}
-use Rattle.std.proofs.lemmas.Bool.Decides.{nat_tests}
+use Rattle.std.specs.Prelude.{◌≡◌, ◌⊎◌, ℕ, Bool, true, false, List, [], ◌∷◌, Option, Some, None, refl, if◌then◌else◌}
+use Rattle.std.proofs.Common.{subst, inl, inr, ap}
 use Rattle.std.proofs.lemmas.Bool.{false_from_ne_true}
 use Rattle.sat_label.specs.declared.label.Label.{Label}
 use Rattle.sat_act.specs.declared.act.Act.{Act}
@@ -15,13 +14,10 @@ use Rattle.sat_laws.proofs.Steps.{Step}
 use Rattle.sat_laws.proofs.Runs.{step_of, before_of}
 use Rattle.sat_laws.proofs.Labels.{some_is}
 use Rattle.sat_laws.proofs.Members.{gives-listed}
-use Rattle.sat_label.specs.declared.label.Kind.TheVariants as kind
 use Rattle.sat_laws.proofs.Links.{AllCuttable}
-use Rattle.sat_label.specs.declared.label.Kind.{Kind}
 use Rattle.sat_act.specs.declared.act.Act.TheVariants as act
 use Rattle.sat_act.specs.Parts.{replicates, shown_entry}
 use Rattle.sat_act.specs.Goals.{Shows}
-use Rattle.sat_label.specs.declared.label.Kind.TheVariants as kind
 use Rattle.sat_act.specs.Parts.{seat}
 use Rattle.sat_act.specs.Causes.{Past}
 use Rattle.sat_laws.proofs.Steps.{read_some}
@@ -73,28 +69,16 @@ unfolding greatest_label
 greatest-is p [] l e m i k = absurd i
 greatest-is p (x ∷ ls) l e m i k = greatest-step p x l ls (p x) refl (greatest_label p ls) (λ y. greatest-is p ls y) (λ o m k. no-greatest p ls m o k) e m i k
 
-pub version-above : (h : List Entry) (j x : ℕ) (l m : Label) → version h j x ≡ Some l → Shows h j m → m.kind ≡ kind.Update x → label_lt l m ≡ false
+pub version-above : (h : List Entry) (j x : ℕ) (l m : Label) → version h j x ≡ Some l → Shows h j m → is_update_of m.kind x ≡ true → label_lt l m ≡ false
 unfolding version shown
-version-above h j x l m e s k = greatest-is (λ m. is_update_of m.kind x) (listed (shown_entry j) h) l e m (gives-listed (shown_entry j) h m s) (of-item m x k)
-  where
-    same : (n : ℕ) → (n == n) ≡ true
-    same n = grind (arith, nat_tests)
+version-above h j x l m e s k = greatest-is (λ m. is_update_of m.kind x) (listed (shown_entry j) h) l e m (gives-listed (shown_entry j) h m s) k
 
-    of-item : (m : Label) (x : ℕ) → m.kind ≡ kind.Update x → is_update_of m.kind x ≡ true
-    of-item m x k = subst (λ (y : Kind). is_update_of y x ≡ true) (sym k) (same x)
-
-pub version-none : (h : List Entry) (j x : ℕ) (m : Label) → version h j x ≡ None → Shows h j m → m.kind ≡ kind.Update x → ⊥
+pub version-none : (h : List Entry) (j x : ℕ) (m : Label) → version h j x ≡ None → Shows h j m → is_update_of m.kind x ≡ true → ⊥
 unfolding version shown
-version-none h j x m e s k = no-greatest (λ m. is_update_of m.kind x) (listed (shown_entry j) h) m e (of-item m x k) (gives-listed (shown_entry j) h m s)
-  where
-    same : (n : ℕ) → (n == n) ≡ true
-    same n = grind (arith, nat_tests)
-
-    of-item : (m : Label) (x : ℕ) → m.kind ≡ kind.Update x → is_update_of m.kind x ≡ true
-    of-item m x k = subst (λ (y : Kind). is_update_of y x ≡ true) (sym k) (same x)
+version-none h j x m e s k = no-greatest (λ m. is_update_of m.kind x) (listed (shown_entry j) h) m e k (gives-listed (shown_entry j) h m s)
 
 -- what a client saw of an item was shown where it reads
-seen-shown : (d : Deployed) (h : List Entry) (c i x : ℕ) (a : Label) → IsValid d → IsRun d h → Main d h → seat d h c ≡ Some i → replicates d x i ≡ true → Past h c a → a.kind ≡ kind.Update x → Shows h i a
+seen-shown : (d : Deployed) (h : List Entry) (c i x : ℕ) (a : Label) → IsValid d → IsRun d h → Main d h → seat d h c ≡ Some i → replicates d x i ≡ true → Past h c a → is_update_of a.kind x ≡ true → Shows h i a
 seen-shown d h c i x a v run inv s r p k = (inv.safe i a (seat-range d h c i v run s) ((known d h i v run).clients c a s p)).shown (x, k, r)
 
 item_is : (b y c x : ℕ) → act.Read b y ≡ act.Read c x → (b ≡ c) × (y ≡ x)

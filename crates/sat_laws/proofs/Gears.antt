@@ -9,6 +9,7 @@ use Rattle.sat_act.specs.Deployed.{Deployed}
 use Rattle.sat_act.specs.Parts.{promise, carried}
 use Rattle.sat_act.specs.Answers.{greatest_promise, base}
 use Rattle.sat_act.specs.Runs.{IsRun}
+use Rattle.sat_label.specs.Grouped.{least_item, list_of}
 use Rattle.sat_laws.proofs.Steps.{Step, ticked, clocked, wrote, moved}
 use Rattle.sat_laws.proofs.Runs.{step_of, entry}
 
@@ -56,8 +57,8 @@ promise-step : (d : Deployed) (h : List Entry) (i g : ℕ) (a : Act) (r : Answer
 unfolding promise base
 promise-step d h i g a r n x y (ticked {i = s} {g = k} {t = t}) = rises _ _ _ (below_stamp (promise h) s k i g t)
 promise-step d h i g a r n x y clocked = greatest_promise-above h d.sites d.gears i g x y
-promise-step d h i g a r n x y (wrote {c = c} {x = it} {i = s} p q b) =
-    rises _ _ _ (λ e. le_one (below_stamp (promise h) s (it % d.gears) i g (carried h c).ts e))
+promise-step d h i g a r n x y (wrote {w = w} {i = s} z p q b) =
+    rises _ _ _ (λ e. le_one (below_stamp (promise h) s (least_item (list_of w.items) % d.gears) i g (carried h w.client).ts e))
 promise-step d h i g a r n x y (moved {c = c} {i = s} p q b) = rises _ _ _ (λ e. le_one (below_stamp (promise h) s 0 i g (carried h c).ts e))
 promise-step d h i g a r n x y _ = omega arith
 

@@ -18,6 +18,8 @@ use Rattle.sat_act.specs.Goals.{Gives, Made, IsValid}
 use Rattle.sat_laws.proofs.Steps.{Step, wrote, moved, attached, left}
 use Rattle.sat_laws.proofs.Runs.{step_of, before_of, range_of, entry}
 use Rattle.sat_laws.proofs.Gears.{promise-rises}
+use Rattle.sat_laws.proofs.Written.{write-client}
+use Rattle.sat_label.specs.Grouped.{least_item, list_of}
 
 -- where a test picks one of two values
 pub chosen : {X : Type 0} (P : X → Type 0) (b : Bool) (x y : X) → (b ≡ true → P x) → (b ≡ false → P y) → P (elim (if b then Some x else None) [ None ↦ y | Some z ↦ z ])
@@ -42,8 +44,8 @@ mod_below x n p = omega arith
 
 pub making : (d : Deployed) (h : List Entry) (a : Act) (r : Answer) (b : Label) → IsValid d → Step d h a r → made_in r ≡ Some b → Making d h a b
 unfolding base
-making d h a r b v (wrote {c = c} {x = x} p q w) e =
-    subst (Making d h a) (some_is _ b e) (record { client = c; is_client = refl; seated = p; stamp = refl; gear = mod_below x d.gears v.some_gear; known = refl; kind = refl })
+making d h a r b v (wrote {w = w} {i = i} z p q k) e =
+    subst (Making d h a) (some_is _ b e) (record { client = w.client; is_client = write-client a w z; seated = p; stamp = refl; gear = mod_below (least_item (list_of w.items)) d.gears v.some_gear; known = refl; kind = refl })
 making d h a r b v (moved {c = c} p q w) e =
     subst (Making d h a) (some_is _ b e) (record { client = c; is_client = refl; seated = p; stamp = refl; gear = v.some_gear; known = refl; kind = refl })
 making d h a r b v _ e = absurd (cc)

@@ -30,3 +30,5 @@ pub mod Steps
 pub mod Views
 pub mod Headlines
 pub mod Values
+pub mod Written
+pub mod Whole

@@ -24,7 +24,6 @@ use Rattle.sat_laws.proofs.Cuts.{sent-site}
 use Rattle.sat_laws.proofs.Handlings.{handled_as}
 use Rattle.sat_laws.proofs.Sinks.{Sent}
 use Rattle.sat_laws.proofs.Links.{AllCuttable, HandledFrom, SentIn, Behind, Ahead}
-use Rattle.sat_label.specs.declared.label.Kind.{Kind}
 use Rattle.sat_act.specs.declared.act.Act.TheVariants as act
 use Rattle.sat_act.specs.declared.answer.Answer.TheVariants as ans
 use Rattle.sat_act.specs.Parts.{shown_entry, view}
@@ -40,6 +39,7 @@ use Rattle.sat_laws.proofs.Sendings.{close-seq}
 use Rattle.sat_laws.proofs.Knowledge.{cause-made}
 use Rattle.sat_laws.proofs.Arrivals.{sent-epoch, epoch-bound, one-epoch}
 use Rattle.sat_act.specs.Parts.{in_stamp_mode}
+use Rattle.sat_laws.proofs.Written.{item-made}
 use Rattle.sat_laws.proofs.Views.{Turning, turning-of, stays, closes, falls, advances, view-rises, abreast}
 use Rattle.sat_laws.proofs.Arrivals.{handled-sent-in, self-ahead}
 use Rattle.sat_laws.proofs.Order.{behind-first}
@@ -238,7 +238,7 @@ module _ (d : Deployed) (h : List Entry) (x : Entry) (v : IsValid d) (cuts : All
       arrives-shown d h (view h j) c.tree j a cuts (before_of d h x run) t bj (inv.order.ahead (view h j) c.tree (Site j) c.label a t (Some c.from, hd) q) n k
     where
       kept-made : (a : Label) → IsKeptAt d j a → is_made a.kind ≡ true
-      kept-made a k = subst (λ (y : Kind). is_made y ≡ true) (sym k.1) refl
+      kept-made a k = item-made a.kind k.0 k.1
 
   below-now : StampRules d → (j i : ℕ) (a : Label) → j < d.sites → i < d.sites → may_advance d h j ≡ true → SentIn h i (view h j) a → IsKeptAt d j a → Shows h j a
   below-now rules j i a bj bi m s k =
@@ -248,7 +248,7 @@ module _ (d : Deployed) (h : List Entry) (x : Entry) (v : IsValid d) (cuts : All
       ]
     where
       kept-is-made : (a : Label) → IsKeptAt d j a → is_made a.kind ≡ true
-      kept-is-made a k = subst (λ (y : Kind). is_made y ≡ true) (sym k.1) refl
+      kept-is-made a k = item-made a.kind k.0 k.1
 
       sent_a : Sent h i a
       sent_a = sent-in h i (view h j) a s
@@ -263,7 +263,7 @@ module _ (d : Deployed) (h : List Entry) (x : Entry) (v : IsValid d) (cuts : All
   below-step : StampRules d → (j i e : ℕ) (a : Label) → j < d.sites → e < view (x ∷ h) j → SentIn (x ∷ h) i e a → IsKeptAt d j a → Shows (x ∷ h) j a
   unfolding SentIn Gives
   below-step rules j i e a bj lt (inr s) k =
-      let mk : is_made a.kind ≡ true = subst (λ (y : Kind). is_made y ≡ true) (sym k.1) refl in
+      let mk : is_made a.kind ≡ true = item-made a.kind k.0 k.1 in
       let m : Made h a = emitted-made i a s.0 mk in
       let pl : IsPlaced d h a = made-placed d h a v (before_of d h x run) m in
       let site : a.point.site ≡ i = sent-site d (x ∷ h) i a run (inr s.0) in
@@ -275,7 +275,7 @@ module _ (d : Deployed) (h : List Entry) (x : Entry) (v : IsValid d) (cuts : All
   below-step rules j i e a bj lt (inl s) k = go (turning-of d h x j run)
     where
       mk : is_made a.kind ≡ true
-      mk = subst (λ (y : Kind). is_made y ≡ true) (sym k.1) refl
+      mk = item-made a.kind k.0 k.1
 
       bi : i < d.sites
       bi = let pl : IsPlaced d h a = made-placed d h a v (before_of d h x run) (sent-made d h i a (before_of d h x run) (sent-in h i e a s) mk) in subst (λ (n : ℕ). n < d.sites) (sent-site d h i a (before_of d h x run) (sent-in h i e a s)) pl.site

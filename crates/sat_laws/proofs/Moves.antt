@@ -11,19 +11,20 @@ use Rattle.sat_act.specs.declared.answer.Answer.{Answer}
 use Rattle.sat_act.specs.declared.answer.Answer.TheVariants as ans
 use Rattle.sat_act.specs.declared.entry.Entry.{Entry}
 use Rattle.sat_act.specs.Deployed.{Deployed}
-use Rattle.sat_act.specs.Done.{made_in}
+use Rattle.sat_act.specs.Done.{made_in, is_of}
 use Rattle.sat_act.specs.Parts.{seat, value_of}
 use Rattle.sat_act.specs.Runs.{IsRun}
 use Rattle.sat_act.specs.Causes.{Knows, Past, Cause}
 use Rattle.sat_act.specs.Goals.{Gives, Made}
-use Rattle.sat_laws.proofs.Steps.{Step, wrote, moved, left, attached, read_some}
+use Rattle.sat_laws.proofs.Written.{write-client, write-of_client}
+use Rattle.sat_laws.proofs.Steps.{Step, write_label, wrote, moved, left, attached, read_some}
 use Rattle.sat_laws.proofs.Runs.{step_of, before_of, entry}
 use Rattle.sat_laws.proofs.Labels.{some_is}
 use Rattle.sat_label.specs.declared.point.Point.{Point}
 use Rattle.sat_label.specs.Order.{point_at, point_lt, greater_point}
 use Rattle.sat_act.specs.Histories.{highest}
 use Rattle.sat_act.specs.Parts.{carried, moving}
-use Rattle.sat_act.specs.Answers.{base, gear_of}
+use Rattle.sat_act.specs.Answers.{base}
 
 pub record IsMoving (d : Deployed) (h : List Entry) (c k : ℕ) : Type 0 where
   pub label : Label
@@ -112,14 +113,14 @@ new-moving d h b c i j k n e f = record {
 
 moving-step : (d : Deployed) (h : List Entry) (c k : ℕ) (a : Act) (r : Answer) (n : Bool) → Step d h a r → moving (entry a r n ∷ h) c ≡ Some k → (moving h c ≡ Some k → IsMoving d h c k) → IsMoving d (entry a r n ∷ h) c k
 unfolding moving carried seat Knows Gives highest
-moving-step d h c k a r n (wrote {c = b} {x = x} {i = i} {value = value} p q w) m old =
+moving-step d h c k a r n (wrote {w = w} {i = i} z p q b) m old =
     let o : IsMoving d h c k = old m in
-    by_client b c (λ e. absurd (clash d h b c i e p o.unseated))
-    (λ e. quiet-moving d h (entry (act.Write b x value) (ans.Wrote (record { point = point_at (base h b i (gear_of d x) + 1) i (gear_of d x); kind = kind.Update x })) n) c k (record { carries = test_off (b == c) _ _ e; past = λ l z. elim z [ inl y ↦ y | inr y ↦ absurd (other_client b c e y.0) ]; seat = refl }) o)
+    by_client w.client c (λ e. absurd (clash d h w.client c i e p o.unseated))
+    (λ e. quiet-moving d h (entry a (ans.Wrote (write_label d h w i)) n) c k (record { carries = test_off (is_of a c) _ _ (write-of_client a w c z ∙ e); past = λ l y. elim y [ inl t ↦ t | inr t ↦ absurd (other_client w.client c e (sym (write-client a w z) ∙ t.0)) ]; seat = refl }) o)
 moving-step d h c k a r n (read_some {c = b} {x = x} {i = i} {l = l} p q w) m old =
     let o : IsMoving d h c k = old m in
     by_client b c (λ e. absurd (clash d h b c i e p o.unseated))
-    (λ e. quiet-moving d h (entry (act.Read b x) (ans.ReadSome l (value_of h l)) n) c k (record { carries = test_off (b == c) _ _ e; past = λ l z. elim z [ inl y ↦ y | inr y ↦ absurd (other_client b c e y.0) ]; seat = refl }) o)
+    (λ e. quiet-moving d h (entry (act.Read b x) (ans.ReadSome l (value_of h l x)) n) c k (record { carries = test_off (b == c) _ _ e; past = λ l z. elim z [ inl y ↦ y | inr y ↦ absurd (other_client b c e y.0) ]; seat = refl }) o)
 moving-step d h c k a r n (left {c = b} p) m old =
     let o : ((b == c) ≡ false) × (moving h c ≡ Some k) = moving_off (b == c) (moving h c) k m in
     quiet-moving d h (entry (act.Leave b) (ans.Left (carried h b)) n) c k (record { carries = refl; past = λ l z. elim z [ inl y ↦ y | inr y ↦ absurd y.1 ]; seat = seat_off (b == c) (seat d h c) o.0 }) (old o.1)
@@ -155,7 +156,7 @@ move-now d h a r l j (moved {j = k} {i = i} p q w) m e s =
 
     differ : (m n : ℕ) → (m == n) ≡ false → m ≡ n → ⊥
     differ m n e k = grind (arith, nat_tests)
-move-now d h a r l j (wrote {c = c} {x = x} {i = i} p q w) m e s = absurd (let z : kind.Update x ≡ kind.Move j = ap (λ (y : Label). y.kind) (some_is _ l m) ∙ e in cc)
+move-now d h a r l j (wrote {w = w} {i = i} t p q b) m e s = absurd (let z : kind.Update w.items ≡ kind.Move j = ap (λ (y : Label). y.kind) (some_is (write_label d h w i) l m) ∙ e in cc)
 move-now d h a r l j _ m e s = absurd (cc)
 
 pub move-away : (d : Deployed) (h : List Entry) (l : Label) (j : ℕ) → IsRun d h → Made h l → l.kind ≡ kind.Move j → l.point.site ≡ j → ⊥

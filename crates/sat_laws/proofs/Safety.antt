@@ -24,9 +24,10 @@ use Rattle.sat_laws.proofs.Sendings.{sent-once}
 use Rattle.sat_label.specs.declared.label.Kind.TheVariants as kind
 use Rattle.sat_laws.proofs.Links.{AllCuttable, HandledFrom, SentIn, Behind, Ahead, ahead-later, entered-in}
 use Rattle.sat_label.specs.declared.label.Kind.{Kind}
-use Rattle.sat_act.specs.Parts.{replicates, view}
+use Rattle.sat_act.specs.Parts.{keeps_some, view}
 use Rattle.sat_act.specs.Goals.{Shows, IsKeptAt}
 use Rattle.sat_laws.proofs.Order.{sent-in, InOrder}
+use Rattle.sat_label.specs.Grouped.{list_of}
 use Rattle.sat_label.specs.Order.{point_le, mark}
 use Rattle.sat_label.specs.declared.label.Kind.TheVariants as kind
 use Rattle.sat_act.specs.Causes.{Client, Maker, Past}
@@ -80,7 +81,7 @@ pub record StampRules (d : Deployed) : Type 0 where
 
 move-target : (d : Deployed) (j : ℕ) (m : Label) → m.kind ≡ kind.Move j → is_target d m j ≡ true
 unfolding is_target
-move-target d j m k = subst (λ (y : Kind). elim y [ kind.Update x ↦ replicates d x j && not (j == m.point.site) | kind.Move y ↦ j == y | kind.Pulse ↦ not (j == m.point.site) | kind.Close e ↦ not (j == m.point.site) ] ≡ true) (sym k) (same j)
+move-target d j m k = subst (λ (y : Kind). elim y [ kind.Update items ↦ keeps_some d (list_of items) j && not (j == m.point.site) | kind.Move y ↦ j == y | kind.Pulse ↦ not (j == m.point.site) | kind.Close e ↦ not (j == m.point.site) ] ≡ true) (sym k) (same j)
   where
     same : (n : ℕ) → (n == n) ≡ true
     same n = grind (arith, nat_tests)

@@ -168,7 +168,7 @@ pub sent-once : (d : Deployed) (h : List Entry) (x : Entry) (i : ℕ) (l : Label
 sent-once d h x i l v run m old = go l.kind refl
   where
     go : (k : Kind) → l.kind ≡ k → ⊥
-    go (kind.Update y) e = made-sent-once d h i l (sending d h i l x.act x.answer x.inner (step_of d h x run) m) (ap is_made e) old
+    go (kind.Update items) e = made-sent-once d h i l (sending d h i l x.act x.answer x.inner (step_of d h x run) m) (ap is_made e) old
     go (kind.Move y) e = made-sent-once d h i l (sending d h i l x.act x.answer x.inner (step_of d h x run) m) (ap is_made e) old
     go kind.Pulse e =
         let a : l.point.ts ≤ last_pulse h i = pulse-seq d h i l v (before_of d h x run) old e in

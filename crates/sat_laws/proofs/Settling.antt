@@ -8,11 +8,9 @@ use Rattle.sat_act.specs.Deployed.{Deployed}
 use Rattle.sat_act.specs.Histories.{listed}
 use Rattle.sat_act.specs.Runs.{IsRun}
 use Rattle.sat_laws.proofs.Members.{listed-gives}
-use Rattle.sat_label.specs.declared.label.Kind.TheVariants as kind
 use Rattle.sat_laws.proofs.Links.{In-place}
-use Rattle.sat_act.specs.Parts.{replicates}
+use Rattle.sat_act.specs.Parts.{replicates, is_update_of}
 use Rattle.sat_act.specs.Goals.{Shows, IsKeptAt}
-use Rattle.sat_label.specs.declared.label.Kind.TheVariants as kind
 use Rattle.sat_act.specs.Goals.{Made, IsValid}
 use Rattle.sat_laws.proofs.Values.{write-of}
 use Rattle.sat_laws.proofs.Shows.{shows-is}
@@ -39,7 +37,7 @@ has-brought : (h : List Entry) (j : ℕ) (l : Label) → has label_eq (brought h
 unfolding brought
 has-brought h j l e = listed-gives (brought_entry j) h l (has-in (listed (brought_entry j) h) l e)
 
-made-shown : (d : Deployed) (h : List Entry) (k x : ℕ) (m : Label) → IsRun d h → ((i g n : ℕ) (l : Label) → slice_get (lane d h i g k) n ≡ Some l → has label_eq (brought h k) l ≡ true) → waiting h k ≡ [] → replicates d x k ≡ true → Made h m → m.kind ≡ kind.Update x → Shows h k m
+made-shown : (d : Deployed) (h : List Entry) (k x : ℕ) (m : Label) → IsRun d h → ((i g n : ℕ) (l : Label) → slice_get (lane d h i g k) n ≡ Some l → has label_eq (brought h k) l ≡ true) → waiting h k ≡ [] → replicates d x k ≡ true → Made h m → is_update_of m.kind x ≡ true → Shows h k m
 made-shown d h k x m run all none r made_m u = elim (cases_eq m.point.site k) [ inl e ↦ subst (λ (i : ℕ). Shows h i m) e (own-shown d h m run made_m (kept-update d k m kept)) | inr n ↦ other n ]
   where
     kept : IsKeptAt d k m

@@ -1,5 +1,5 @@
 -- What is brought and shown was made, and is shown once.
-use Rattle.std.specs.Prelude.{◌≡◌, ℕ, ◌+◌, Bool, true, false, ◌&&◌, not, List, [], ◌∷◌, Option, Some, None, refl, ◌==◌, if◌then◌else◌}
+use Rattle.std.specs.Prelude.{◌≡◌, ℕ, Bool, true, false, ◌&&◌, not, List, [], ◌∷◌, Option, Some, None, refl, ◌==◌, if◌then◌else◌}
 use Rattle.std.proofs.Common.{sym, subst, arith, inl, inr, ap, ◌∙◌}
 use Rattle.std.proofs.lemmas.Bool.Decides.{nat_tests}
 use Rattle.std.proofs.lemmas.Bool.{and_parts, eq-eqb, eqb-true}
@@ -7,7 +7,8 @@ use Rattle.sat_label.proofs.Truth.{some_if}
 use Rattle.sat_label.specs.declared.label.Kind.{Kind}
 use Rattle.sat_label.specs.declared.label.Kind.TheVariants as kind
 use Rattle.sat_label.specs.declared.label.Label.{Label}
-use Rattle.sat_label.specs.Order.{label_eq, point_at}
+use Rattle.sat_label.specs.Order.{label_eq}
+use Rattle.sat_label.specs.Grouped.{list_of}
 use Rattle.sat_label.specs.Words.{has}
 use Rattle.sat_act.specs.declared.act.Act.{Act}
 use Rattle.sat_act.specs.declared.act.Act.TheVariants as act
@@ -17,17 +18,17 @@ use Rattle.sat_act.specs.declared.entry.Entry.{Entry}
 use Rattle.sat_act.specs.Deployed.{Deployed}
 use Rattle.sat_act.specs.Histories.{listed}
 use Rattle.sat_act.specs.Done.{made_in}
-use Rattle.sat_act.specs.Parts.{replicates, is_target, is_update, lane, lane_entry, made_entry, brought, brought_entry, shown, shown_entry, waiting, candidate, next_stamp, is_past, every_site_passed, own_site_passed}
-use Rattle.sat_act.specs.Answers.{gear_of, base}
+use Rattle.sat_act.specs.Parts.{replicates, keeps_some, is_target, is_update, is_update_of, lane, lane_entry, made_entry, brought, brought_entry, shown, shown_entry, waiting, candidate, next_stamp, is_past, every_site_passed, own_site_passed}
 use Rattle.sat_act.specs.Runs.{IsRun}
 use Rattle.sat_act.specs.Goals.{Gives, Made, Shows, IsValid, IsKeptAt, Once}
-use Rattle.sat_laws.proofs.Steps.{Step, wrote, moved, brought_now, showed_turn, showed_stamp}
+use Rattle.sat_laws.proofs.Steps.{Step, write_label, wrote, moved, brought_now, showed_turn, showed_stamp}
 use Rattle.sat_laws.proofs.Runs.{step_of, before_of, entry}
 use Rattle.sat_laws.proofs.Labels.{some_is, made-new}
 use Rattle.sat_laws.proofs.Members.{listed-gives, gives-listed}
 use Rattle.sat_laws.proofs.Sinks.{kept}
 use Rattle.sat_laws.proofs.Sendings.{picked_if}
 use Rattle.sat_laws.proofs.Values.{write-of}
+use Rattle.sat_laws.proofs.Written.{first-kept, some-kept}
 use Rattle.sat_label.specs.Members.{In}
 use Rattle.sat_label.proofs.Members.{In-get, In-filter, has-in, in-has}
 use Rattle.sat_label.proofs.Least.{IsLeast, least-is}
@@ -102,14 +103,15 @@ candidate-least d h j l e = least-is (λ m. not (is_past d h j m)) (waiting h j)
 
 -- how a site comes to show a label: its own client's write, or one that waits
 pub data Showing (d : Deployed) (h : List Entry) (j : ℕ) (l : Label) (a : Act) (r : Answer) : Type 0 where
-  by_write : (x : ℕ) → made_in r ≡ Some l → r ≡ ans.Wrote l → l.point.site ≡ j → l.kind ≡ kind.Update x → replicates d x j ≡ true → Showing d h j l a r
+  by_write : (x : ℕ) → made_in r ≡ Some l → r ≡ ans.Wrote l → l.point.site ≡ j → is_update_of l.kind x ≡ true → replicates d x j ≡ true → Showing d h j l a r
   by_turn : a ≡ act.Turn j → r ≡ ans.Shown l → In (waiting h j) l → Showing d h j l a r
   by_stamp : a ≡ act.Stamp j → r ≡ ans.Shown l → next_stamp d h j ≡ Some l → In (waiting h j) l → Showing d h j l a r
 
 pub showing : (d : Deployed) (h : List Entry) (j : ℕ) (l : Label) (a : Act) (r : Answer) (n : Bool) → Step d h a r → shown_entry j h (entry a r n) ≡ Some l → Showing d h j l a r
-showing d h j l a r n (wrote {c = c} {x = x} {i = i} p q w) e =
-    let z : ((i == j) ≡ true) × (record { point = point_at (base h c i (gear_of d x) + 1) i (gear_of d x); kind = kind.Update x } ≡ l) = picked_if (i == j) (record { point = point_at (base h c i (gear_of d x) + 1) i (gear_of d x); kind = kind.Update x }) l e in
-    by_write x (ap (λ (m : Label). Some m) z.1) (ap (λ (m : Label). ans.Wrote m) z.1) (ap (λ (m : Label). m.point.site) (sym z.1) ∙ eqb-true i j z.0) (ap (λ (m : Label). m.kind) (sym z.1)) (subst (λ (k : ℕ). replicates d x k ≡ true) (eqb-true i j z.0) q)
+showing d h j l a r n (wrote {w = w} {i = i} t p q b) e =
+    let z : ((i == j) ≡ true) × (write_label d h w i ≡ l) = picked_if (i == j) (write_label d h w i) l e in
+    let k : (x : ℕ) × (has ◌==◌ (list_of w.items) x ≡ true) × (replicates d x i ≡ true) = first-kept d (list_of w.items) i q in
+    by_write k.0 (ap (λ (m : Label). Some m) z.1) (ap (λ (m : Label). ans.Wrote m) z.1) (ap (λ (m : Label). m.point.site) (sym z.1) ∙ eqb-true i j z.0) (subst (λ (m : Label). is_update_of m.kind k.0 ≡ true) z.1 k.1) (subst (λ (n : ℕ). replicates d k.0 n ≡ true) (eqb-true i j z.0) k.2)
 showing d h j l a r n (showed_turn {j = k} {l = m} p q s w u y) e =
     let z : ((k == j) ≡ true) × (m ≡ l) = picked_if (k == j) m l e in
     by_turn (ap (λ (x : ℕ). act.Turn x) (eqb-true k j z.0)) (ap (λ (x : Label). ans.Shown x) z.1) (subst (λ (x : ℕ). In (waiting h x) l) (eqb-true k j z.0) (subst (λ (x : Label). In (waiting h k) x) z.1 (has-in (waiting h k) m y)))
@@ -130,8 +132,10 @@ target-kept d l j u t = go l.kind refl u t
         differs : (m n : ℕ) → not (m == n) ≡ true → m ≡ n → ⊥
         differs m n e k = grind (arith, nat_tests)
 
-    go : (k : Kind) → l.kind ≡ k → is_update k ≡ true → elim k [ kind.Update x ↦ replicates d x j && not (j == l.point.site) | kind.Move y ↦ j == y | kind.Pulse ↦ not (j == l.point.site) | kind.Close e ↦ not (j == l.point.site) ] ≡ true → IsKeptAt d j l × (l.point.site ≡ j → ⊥)
-    go (kind.Update x) k u t = ((x, k, (and_parts (replicates d x j) (not (j == l.point.site)) t).0), other (replicates d x j) l.point.site t)
+    go : (k : Kind) → l.kind ≡ k → is_update k ≡ true → elim k [ kind.Update items ↦ keeps_some d (list_of items) j && not (j == l.point.site) | kind.Move y ↦ j == y | kind.Pulse ↦ not (j == l.point.site) | kind.Close e ↦ not (j == l.point.site) ] ≡ true → IsKeptAt d j l × (l.point.site ≡ j → ⊥)
+    go (kind.Update items) k u t =
+        let w : (x : ℕ) × (has ◌==◌ (list_of items) x ≡ true) × (replicates d x j ≡ true) = some-kept d (list_of items) j (and_parts (keeps_some d (list_of items) j) (not (j == l.point.site)) t).0 in
+        ((w.0, subst (λ (y : Kind). is_update_of y w.0 ≡ true) (sym k) w.1, w.2), other (keeps_some d (list_of items) j) l.point.site t)
     go (kind.Move x) k u t = absurd (cc)
     go kind.Pulse k u t = absurd (cc)
     go (kind.Close f) k u t = absurd (cc)
@@ -175,9 +179,9 @@ not_move : (l : Label) (j : ℕ) → l.kind ≡ kind.Move j → is_update l.kind
 not_move l j k u = let w : is_update (kind.Move j) ≡ true = subst (λ (x : Kind). is_update x ≡ true) k u in cc
 
 written : (d : Deployed) (h : List Entry) (a : Act) (r : Answer) (n : Bool) (l : Label) → Step d h a r → made_in r ≡ Some l → is_update l.kind ≡ true → shown_entry l.point.site h (entry a r n) ≡ Some l
-written d h a r n l (wrote {c = c} {x = x} {i = i} p q w) m u =
-    let z : record { point = point_at (base h c i (gear_of d x) + 1) i (gear_of d x); kind = kind.Update x } ≡ l = some_is _ l m in
-    some_if (i == l.point.site) (record { point = point_at (base h c i (gear_of d x) + 1) i (gear_of d x); kind = kind.Update x }) (eq-eqb i l.point.site (ap (λ (y : Label). y.point.site) z)) ∙ m
+written d h a r n l (wrote {w = w} {i = i} t p q b) m u =
+    let z : write_label d h w i ≡ l = some_is _ l m in
+    some_if (i == l.point.site) (write_label d h w i) (eq-eqb i l.point.site (ap (λ (y : Label). y.point.site) z)) ∙ m
 written d h a r n l (moved {c = c} {j = j} {i = i} p q w) m u = absurd (not_move l j (sym (ap (λ (y : Label). y.kind) (some_is _ l m))) u)
 written d h a r n l _ m u = absurd (cc)
 

@@ -1,11 +1,8 @@
 -- What clients at a site know, and the causes of what the site made and showed, is known at the site.
 use Rattle.std.specs.Prelude.{◌≡◌, ◌⊎◌, ℕ, Bool, true, false, List, [], ◌∷◌, Option, Some, None, refl, ◌==◌, if◌then◌else◌}
-use Rattle.std.proofs.Common.{sym, subst, arith, inl, inr, ap, ◌∙◌}
-use Rattle.std.proofs.lemmas.Bool.Decides.{nat_tests}
+use Rattle.std.proofs.Common.{sym, subst, inl, inr, ap, ◌∙◌}
 use Rattle.std.proofs.lemmas.Bool.{eqb-true}
 use Rattle.sat_label.proofs.Truth.{same-number}
-use Rattle.sat_label.specs.declared.label.Kind.{Kind}
-use Rattle.sat_label.specs.declared.label.Kind.TheVariants as kind
 use Rattle.sat_label.specs.declared.label.Label.{Label}
 use Rattle.sat_act.specs.declared.act.Act.{Act}
 use Rattle.sat_act.specs.declared.act.Act.TheVariants as act
@@ -63,19 +60,10 @@ greatest-passes p (m ∷ ls) l e = go (λ k v. greatest-passes p ls k v) (p m) r
     go old true u (Some k) v e = better (label_lt k m) k u (old k v) e
     go old false u o v e = old l (v ∙ e)
 
--- a version is an update of its item
-pub version-kind : (h : List Entry) (j x : ℕ) (l : Label) → version h j x ≡ Some l → l.kind ≡ kind.Update x
+-- a version is an update that has its item
+pub version-kind : (h : List Entry) (j x : ℕ) (l : Label) → version h j x ≡ Some l → is_update_of l.kind x ≡ true
 unfolding version shown
-version-kind h j x l e = go l.kind refl (greatest-passes (λ m. is_update_of m.kind x) (listed (shown_entry j) h) l e)
-  where
-    num : (a b : ℕ) → (a == b) ≡ true → a ≡ b
-    num a b e = grind (arith, nat_tests)
-
-    go : (k : Kind) → l.kind ≡ k → is_update_of l.kind x ≡ true → l.kind ≡ kind.Update x
-    go (kind.Update y) k u = k ∙ ap (λ (z : ℕ). kind.Update z) (num y x (subst (λ (q : Kind). is_update_of q x ≡ true) k u))
-    go (kind.Move y) k u = absurd (let w : is_update_of (kind.Move y) x ≡ true = subst (λ (q : Kind). is_update_of q x ≡ true) k u in cc)
-    go kind.Pulse k u = absurd (let w : is_update_of kind.Pulse x ≡ true = subst (λ (q : Kind). is_update_of q x ≡ true) k u in cc)
-    go (kind.Close y) k u = absurd (let w : is_update_of (kind.Close y) x ≡ true = subst (λ (q : Kind). is_update_of q x ≡ true) k u in cc)
+version-kind h j x l e = greatest-passes (λ m. is_update_of m.kind x) (listed (shown_entry j) h) l e
 
 -- what is known of a site's clients and labels
 pub record IsKnown (d : Deployed) (h : List Entry) (j : ℕ) : Type 0 where

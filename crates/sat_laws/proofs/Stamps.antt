@@ -26,7 +26,6 @@ use Rattle.sat_act.specs.Parts.{stable, cut}
 use Rattle.sat_label.specs.declared.label.Kind.TheVariants as kind
 use Rattle.sat_laws.proofs.Steps.{closed}
 use Rattle.sat_laws.proofs.Links.{SentIn}
-use Rattle.sat_label.specs.declared.label.Kind.{Kind}
 use Rattle.sat_act.specs.declared.act.Act.TheVariants as act
 use Rattle.sat_act.specs.declared.answer.Answer.TheVariants as ans
 use Rattle.sat_act.specs.Parts.{shown_entry, view}
@@ -71,6 +70,7 @@ use Rattle.sat_act.specs.Parts.{candidate, is_past, every_site_passed, own_site_
 use Rattle.sat_laws.proofs.Views.{count-none, count-if, add_if}
 use Rattle.sat_laws.proofs.Shows.{next-stamp-waits, candidate-least}
 use Rattle.sat_laws.proofs.Origins.{closed-sent}
+use Rattle.sat_laws.proofs.Written.{item-made}
 use Rattle.sat_laws.proofs.Safety.{Main, StampRules, others-pass}
 use Rattle.sat_laws.proofs.BeatTimes.{later-run, later-sent-in, later-emission, later-cut, later-made, Best, best-is, beat-brought}
 use Rattle.sat_label.specs.Members.{In, is_made}
@@ -389,7 +389,7 @@ module _ (d : Deployed) (h : List Entry) (j : ℕ) (v : IsValid d) (run : IsRun 
       shown-at : (i : ℕ) (note : BeatNote) (bt : Best d h j i note) (p : Point) → note.closes (view h j) ≡ Some p → list_any (λ l. (l.point.site == i) && point_le l.point p) (waiting h j) ≡ false → i < d.sites → (i ≡ j → ⊥) → (a : Label) (e : ℕ) → e ≤ view h j → SentIn h i e a → IsKeptAt d j a → Shows h j a
       shown-at i note bt p c n bi other a e le s k =
           let site : a.point.site ≡ i = sent-site d h i a run (sent-in h i e a s) in
-          let mk : is_made a.kind ≡ true = subst (λ (y : Kind). is_made y ≡ true) (sym k.1) refl in
+          let mk : is_made a.kind ≡ true = item-made a.kind k.0 k.1 in
           let m : Made h a = sent-made d h i a run (sent-in h i e a s) mk in
           let bt' : Best d h j a.point.site note = subst (λ (x : ℕ). Best d h j x note) (sym site) bt in
           let s' : SentIn h a.point.site e a = subst (λ (x : ℕ). SentIn h x e a) (sym site) s in

@@ -1,12 +1,15 @@
 -- What an act may come to, with what that tells of the history before it.
-use Rattle.std.specs.Prelude.{◌≡◌, ℕ, ◌+◌, ◌^◌, Bool, true, false, ◌&&◌, ◌||◌, not, ◌==◌, nat_le, max, List, length, filter, Option, Some, None, is_some, slice_get, if◌then◌else◌, refl}
+use Rattle.std.specs.Prelude.{◌≡◌, ℕ, ◌+◌, ◌^◌, Bool, true, false, ◌&&◌, ◌||◌, not, ◌==◌, nat_le, max, List, length, [], ◌∷◌, filter, Option, Some, None, is_some, slice_get, if◌then◌else◌, refl}
 use Rattle.std.proofs.Common.{sym}
+use Rattle.sat_label.specs.declared.items.Items.TheVariants.{One}
 use Rattle.sat_label.specs.declared.label.Kind.TheVariants as kind
 use Rattle.sat_label.specs.declared.label.Label.{Label}
 use Rattle.sat_label.specs.declared.node.NodeId.{NodeId}
 use Rattle.sat_label.specs.declared.node.NodeId.TheVariants.{Site, Serializer}
 use Rattle.sat_label.specs.Order.{point_at, label_eq, node_eq}
 use Rattle.sat_label.specs.Words.{has}
+use Rattle.sat_label.specs.Grouped.{least_item, list_of}
+use Rattle.sat_act.specs.Done.{Written, write_in}
 use Rattle.sat_tree.specs.Shape.{TreeShape}
 use Rattle.sat_tree.specs.Cut.{neighbours}
 use Rattle.sat_act.specs.declared.act.Act.{Act}
@@ -17,16 +20,20 @@ use Rattle.sat_act.specs.declared.answer.Refusal.{Refusal}
 use Rattle.sat_act.specs.declared.answer.Refusal.TheVariants as why
 use Rattle.sat_act.specs.declared.entry.Entry.{Entry}
 use Rattle.sat_act.specs.Deployed.{Deployed}
-use Rattle.sat_act.specs.Parts.{BeatNote, lane_front, replicates, tree_of, promise, least_promise, stable, ready, cut, last_pulse, emission, view, in_stamp_mode, seat_in, goes_beyond, link_front, killed, is_update, version, value_of, lane, brought, waiting, beats, beats_taken, best, seat, carried, may_attach, next_stamp}
+use Rattle.sat_act.specs.Parts.{BeatNote, lane_front, replicates, keeps_all, tree_of, promise, least_promise, stable, ready, cut, last_pulse, emission, view, in_stamp_mode, seat_in, goes_beyond, link_front, killed, is_update, version, value_of, lane, brought, waiting, beats, beats_taken, best, seat, carried, may_attach, next_stamp}
 use Rattle.sat_act.specs.Answers.{answer, refused_if, at_seat, gear_of, base, turned, bulk_to, may_advance, greatest_promise}
+
+-- the label that a write at site i makes
+abbrev pub write_label : Deployed → List Entry → Written → ℕ → Label
+write_label d h w i = record { point = point_at (base h w.client i (gear_of d (least_item (list_of w.items))) + 1) i (gear_of d (least_item (list_of w.items))); kind = kind.Update w.items }
 
 pub data Step (d : Deployed) (h : List Entry) : Act → Answer → Type 0 where
   ticked : {i g t : ℕ} → Step d h (act.Tick i g t) (ans.Ticked (max (promise h i g) t))
   clocked : Step d h act.Clock (ans.Clocked (greatest_promise h d.sites d.gears))
-  wrote : {c x i : ℕ} {value : List ℕ} → seat d h c ≡ Some i → replicates d x i ≡ true → nat_le (2 ^ 62) (base h c i (gear_of d x)) ≡ false →
-      Step d h (act.Write c x value) (ans.Wrote (record { point = point_at (base h c i (gear_of d x) + 1) i (gear_of d x); kind = kind.Update x }))
+  wrote : {a : Act} {w : Written} {i : ℕ} → write_in a ≡ Some w → seat d h w.client ≡ Some i → keeps_all d (list_of w.items) i ≡ true → nat_le (2 ^ 62) (base h w.client i (gear_of d (least_item (list_of w.items)))) ≡ false →
+      Step d h a (ans.Wrote (write_label d h w i))
   read_none : {c x i : ℕ} → seat d h c ≡ Some i → replicates d x i ≡ true → version h i x ≡ None → Step d h (act.Read c x) ans.ReadNone
-  read_some : {c x i : ℕ} {l : Label} → seat d h c ≡ Some i → replicates d x i ≡ true → version h i x ≡ Some l → Step d h (act.Read c x) (ans.ReadSome l (value_of h l))
+  read_some : {c x i : ℕ} {l : Label} → seat d h c ≡ Some i → replicates d x i ≡ true → version h i x ≡ Some l → Step d h (act.Read c x) (ans.ReadSome l (value_of h l x))
   moved : {c j i : ℕ} → seat d h c ≡ Some i → (j == i) ≡ false → nat_le (2 ^ 62) (base h c i 0) ≡ false →
       Step d h (act.Move c j) (ans.Moved (record { point = point_at (base h c i 0 + 1) i 0; kind = kind.Move j }))
   left : {c i : ℕ} → seat d h c ≡ Some i → Step d h (act.Leave c) (ans.Left (carried h c))
@@ -67,7 +74,7 @@ module _ (d : Deployed) (h : List Entry) where
   not_false true e = refl
   not_false false e = sym e
 
-  read_cases : (c x i : ℕ) → seat d h c ≡ Some i → replicates d x i ≡ true → (o : Option Label) → version h i x ≡ o → Step d h (act.Read c x) (elim o [ None ↦ ans.ReadNone | Some l ↦ ans.ReadSome l (value_of h l) ])
+  read_cases : (c x i : ℕ) → seat d h c ≡ Some i → replicates d x i ≡ true → (o : Option Label) → version h i x ≡ o → Step d h (act.Read c x) (elim o [ None ↦ ans.ReadNone | Some l ↦ ans.ReadSome l (value_of h l x) ])
   read_cases c x i s r None e = read_none s r e
   read_cases c x i s r (Some l) e = read_some s r e
 
@@ -169,7 +176,9 @@ module _ (d : Deployed) (h : List Entry) where
   outcome (act.Tick i g t) = ticked
   outcome act.Clock = clocked
   outcome (act.Write c x value) =
-      seated (act.Write c x value) (seat d h c) _ (λ i s. tested _ _ _ _ (λ r. tested _ _ _ _ (λ b. wrote s (not_false _ r) b)))
+      seated (act.Write c x value) (seat d h c) _ (λ i s. tested _ _ _ _ (λ r. tested _ _ _ _ (λ b. wrote {w = record { client = c; items = One x; values = value ∷ [] }} refl s (not_false _ r) b)))
+  outcome (act.Writes c items values) =
+      seated (act.Writes c items values) (seat d h c) _ (λ i s. tested _ _ _ _ (λ r. tested _ _ _ _ (λ b. wrote {w = record { client = c; items = items; values = values }} refl s (not_false _ r) b)))
   outcome (act.Read c x) = seated (act.Read c x) (seat d h c) _ (λ i s. tested _ _ _ _ (λ r. read_cases c x i s (not_false _ r) (version h i x) refl))
   outcome (act.Move c j) = seated (act.Move c j) (seat d h c) _ (λ i s. tested _ _ _ _ (λ r. tested _ _ _ _ (λ b. moved s r b)))
   outcome (act.Leave c) = seated (act.Leave c) (seat d h c) _ (λ i s. left s)

@@ -1,10 +1,11 @@
 -- Worked scripts: the answer of each act, computed.
 use Rattle.std.specs.Prelude.{◌≡◌, false, ℕ, List, [], ◌∷◌, map, Some, None, codes, refl}
+use Rattle.sat_label.specs.declared.items.Items.TheVariants.{One, Two}
 use Rattle.sat_label.specs.declared.label.Kind.TheVariants as kind
 use Rattle.sat_label.specs.declared.node.NodeId.TheVariants.{Site, Serializer}
 use Rattle.sat_label.specs.Order.{point_at}
 use Rattle.sat_act.specs.declared.act.Act.{Act}
-use Rattle.sat_act.specs.declared.act.Act.TheVariants.{Tick, Clock, Write, Read, Move, Leave, Attach, Gather, Emit, Pulse, Hop, Turn, Bulk, Beat, BeatIn, Stamp, Close, Fall, Advance, Kill}
+use Rattle.sat_act.specs.declared.act.Act.TheVariants.{Tick, Clock, Write, Writes, Read, Move, Leave, Attach, Gather, Emit, Pulse, Hop, Turn, Bulk, Beat, BeatIn, Stamp, Close, Fall, Advance, Kill}
 use Rattle.sat_act.specs.declared.answer.Answer.{Answer}
 use Rattle.sat_act.specs.declared.answer.Answer.TheVariants.{Ticked, Clocked, Wrote, ReadNone, ReadSome, Moved, Left, Attached, Gathered, Emitted, Pulsed, Hopped, Shown, Took, Brought, Again, Taken, Old, Closed, Fallen, View, Killed, Refused}
 use Rattle.sat_act.specs.declared.answer.Answer.TheVariants as ans
@@ -29,7 +30,7 @@ abbrev Plays : Deployed → List (Act × Answer) → Type 0
 Plays d rows = play d [] (map (λ row. row.0) rows) ≡ map (λ row. row.1) rows
 
 abbrev update : ℕ → ℕ → ℕ → ℕ → Label
-update ts site gear x = record { point = point_at ts site gear; kind = kind.Update x }
+update ts site gear x = record { point = point_at ts site gear; kind = kind.Update (One x) }
 
 abbrev move : ℕ → ℕ → ℕ → ℕ → Label
 move ts site gear j = record { point = point_at ts site gear; kind = kind.Move j }
@@ -548,3 +549,54 @@ one_clock : Plays two_clocks (
     [])
 unfolding play
 one_clock = refl
+
+-- ---- several items under one label
+
+-- three sites of two gears; x at the first two, y at the first and the last, z at the last two; a client at the first and one at the last
+abbrev three_shared : Deployed
+three_shared = record { format = 2; sites = 3; gears = 2; items = item (codes "x") 3 ∷ item (codes "y") 5 ∷ item (codes "z") 6 ∷ []; clients = client (codes "a") 0 ∷ client (codes "c") 2 ∷ []; plans = star (0 ∷ 0 ∷ 0 ∷ []) ∷ [] }
+
+-- the label of x and y
+abbrev both : Label
+both = record { point = point_at 1 0 0; kind = kind.Update (Two 0 1) }
+
+-- each site shows its part: the one that keeps x, and the one that keeps y. The other gear's lanes have nothing
+shown_in_parts : Plays three_shared (
+    (Writes 0 (Two 0 1) (codes "X" ∷ codes "Y" ∷ []), Wrote both) ∷
+    (Writes 0 (Two 0 2) (codes "X" ∷ codes "Z" ∷ []), Refused why.NotHere) ∷
+    (Tick 0 1 1, Ticked 1) ∷
+    (Gather 0, Gathered 1 1) ∷
+    (Emit 0, Emitted both) ∷
+    (Hop 1 (Site 0) 0, Hopped both ((Site 1) ∷ (Site 2) ∷ [])) ∷
+    (Bulk 0 0 1 None, Brought both) ∷
+    (Bulk 0 0 2 None, Brought both) ∷
+    (Bulk 0 1 2 None, Refused why.NoSuch) ∷
+    (Turn 1, Shown both) ∷
+    (Turn 2, Shown both) ∷
+    (Read 1 1, ReadSome both (codes "Y")) ∷
+    (Read 1 2, ReadNone) ∷
+    (Read 0 0, ReadSome both (codes "X")) ∷
+    (Read 0 1, ReadSome both (codes "Y")) ∷
+    [])
+unfolding play
+shown_in_parts = refl
+
+-- items of two gears under one label, of which the least one's gear stamps, and the other gear's promise stays
+abbrev two_parts : Deployed
+two_parts = record { format = 2; sites = 2; gears = 2; items = item (codes "x") 3 ∷ item (codes "y") 3 ∷ []; clients = client (codes "a") 0 ∷ client (codes "b") 0 ∷ client (codes "c") 1 ∷ []; plans = star (0 ∷ 0 ∷ []) ∷ [] }
+
+shown_at_once : Plays two_parts (
+    (Writes 0 (Two 0 1) (codes "1" ∷ codes "2" ∷ []), Wrote both) ∷
+    (Tick 0 1 1, Ticked 1) ∷
+    (Gather 0, Gathered 1 1) ∷
+    (Emit 0, Emitted both) ∷
+    (Hop 1 (Site 0) 0, Hopped both ((Site 1) ∷ [])) ∷
+    (Bulk 0 0 1 None, Brought both) ∷
+    (Turn 1, Shown both) ∷
+    (Read 2 1, ReadSome both (codes "2")) ∷
+    (Write 2 1 (codes "3"), Wrote (update 2 1 1 1)) ∷
+    (Read 2 1, ReadSome (update 2 1 1 1) (codes "3")) ∷
+    (Read 2 0, ReadSome both (codes "1")) ∷
+    [])
+unfolding play
+shown_at_once = refl

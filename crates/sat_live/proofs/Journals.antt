@@ -54,6 +54,7 @@ journal_is d journal one = ap (λ (h : List Entry). reverse h) (rerun d journal 
 
 known_act : (d : Deployed) (a : Act) → IsActOf d a → IsKnown (length d.clients) a
 known_act d (act.Write c n value) is b e = let same : c ≡ b = cc in subst (λ (k : ℕ). k < length d.clients) same is.0
+known_act d (act.Writes c items values) is b e = let same : c ≡ b = cc in subst (λ (k : ℕ). k < length d.clients) same is.0
 known_act d (act.Read c n) is b e = let same : c ≡ b = cc in subst (λ (k : ℕ). k < length d.clients) same is.0
 known_act d (act.Move c j) is b e = let same : c ≡ b = cc in subst (λ (k : ℕ). k < length d.clients) same is.0
 known_act d (act.Leave c) is b e = let same : c ≡ b = cc in subst (λ (k : ℕ). k < length d.clients) same is

@@ -4,3 +4,4 @@ pub mod Coming
 pub mod Journals
 pub mod Reruns
 pub mod Outcomes
+pub mod Grouping

@@ -6,6 +6,7 @@ ghost use Rattle.sat_act.specs.Ranges.{ArePair, IsActOf};
 ghost use Rattle.sat_script.specs.Spelled.{AreActsOf};
 ghost use Rattle.sat_stitch.specs.Kept.{acts_of};
 
+use crate::groups::is_group;
 use sat_act::{Act, Deployment, Entry, Plan};
 use sat_label::{NodeId, TS_END};
 use sat_tree::Tree;
@@ -117,6 +118,11 @@ fn has_line(d: &Deployment, act: &Act) -> bool
             let _ = value.bytes();
             is_client(d, *client) && is_item(d, *item)
         }
+        Act::Writes {
+            client,
+            items,
+            values,
+        } => is_client(d, *client) && is_group(d, items, values),
         Act::Read { client, item } => is_client(d, *client) && is_item(d, *item),
         Act::Move { client, site } => is_client(d, *client) && is_site(d, *site),
         Act::Leave { client } => is_client(d, *client),

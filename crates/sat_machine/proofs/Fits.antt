@@ -1,9 +1,11 @@
 -- What the history hands to a site fits.
-use Rattle.std.specs.Prelude.{◌≡◌, ◌<◌, ◌≤◌, ℕ, ◌+◌, Bool, true, false, ◌&&◌, ◌||◌, not, ◌==◌, nat_lt, List, [], ◌∷◌, length, Option, Some, None, slice_get, if◌then◌else◌, refl}
+use Rattle.std.specs.Prelude.{◌≡◌, ◌<◌, ◌≤◌, ℕ, ◌+◌, Bool, true, false, ◌&&◌, ◌||◌, not, ◌==◌, List, [], ◌∷◌, length, Option, Some, None, slice_get, if◌then◌else◌, refl}
 use Rattle.std.specs.List.{list_all, list_any}
 use Rattle.std.proofs.Common.{sym, subst, ap, arith, inl, inr, ◌∙◌}
 use Rattle.std.proofs.lemmas.Bool.{and_from, and_parts, not_from_false, eqb-true, eqb-false, eq-eqb, lt-ltb, le-leb, ne_eqb, or_from, or_cases}
 use Rattle.std.proofs.lemmas.Bool.Decides.{nat_tests}
+use Rattle.sat_label.specs.declared.items.Items.{Items}
+use Rattle.sat_label.specs.declared.items.Items.TheVariants.{One}
 use Rattle.sat_label.specs.declared.label.Kind.{Kind}
 use Rattle.sat_label.specs.declared.label.Kind.TheVariants as kind
 use Rattle.sat_label.specs.declared.label.Label.{Label}
@@ -11,19 +13,21 @@ use Rattle.sat_label.specs.declared.limits.TheConstants.{TS_END}
 use Rattle.sat_label.specs.declared.node.NodeId.{NodeId}
 use Rattle.sat_label.specs.declared.node.NodeId.TheVariants.{Site, Serializer}
 use Rattle.sat_label.specs.declared.point.Point.{Point}
+use Rattle.sat_label.specs.Grouped.{are_items, list_of}
 use Rattle.sat_label.specs.Members.{In, is_made}
 use Rattle.sat_label.specs.Order.{point_eq, label_eq}
 use Rattle.sat_label.specs.Words.{below, has}
 use Rattle.sat_label.proofs.Members.{In-get, In-filter, in-has}
 use Rattle.sat_label.proofs.Orders.{same-point}
 use Rattle.sat_label.proofs.Truth.{same-number}
+use Rattle.sat_sites.specs.Interested.{AreBelow}
 use Rattle.sat_tree.specs.Shape.{TreeShape}
 use Rattle.sat_tree.specs.Cut.{beyond, seat_of, hangs_on, over, under}
 use Rattle.sat_act.specs.declared.act.Act.{Act}
 use Rattle.sat_act.specs.declared.act.Act.TheVariants as act
 use Rattle.sat_act.specs.declared.entry.Entry.{Entry}
 use Rattle.sat_act.specs.Deployed.{Deployed}
-use Rattle.sat_act.specs.Parts.{BeatNote, replicates, is_target, cut, close_cut, seat, moving, carried, beats, beat_entry, shown, lane, brought, waiting, tree_of, view, seat_in, link_front, entered, taken, goes_beyond}
+use Rattle.sat_act.specs.Parts.{BeatNote, keeps_some, items_of, values_of, is_update_of, is_target, cut, close_cut, seat, moving, carried, beats, beat_entry, shown, lane, brought, waiting, tree_of, view, seat_in, link_front, entered, taken, goes_beyond}
 use Rattle.sat_act.specs.Ranges.{IsActOf}
 use Rattle.sat_act.specs.Runs.{IsRun}
 use Rattle.sat_act.specs.Goals.{Made, IsKeptAt, IsValid}
@@ -32,6 +36,7 @@ use Rattle.sat_laws.proofs.Labels.{some_is, made-point, made-placed, seat-range}
 use Rattle.sat_laws.proofs.Sinks.{Sent}
 use Rattle.sat_laws.proofs.Cuts.{sent-site}
 use Rattle.sat_laws.proofs.Shows.{IsFor, in-lane, for-kept}
+use Rattle.sat_laws.proofs.Written.{kept-some}
 use Rattle.sat_laws.proofs.Links.{SentIn}
 use Rattle.sat_laws.proofs.Handlings.{seat-is}
 use Rattle.sat_laws.proofs.Order.{sent-in}
@@ -43,13 +48,14 @@ use Rattle.sat_machine.specs.Input.{SiteInput}
 use Rattle.sat_machine.specs.Input as given
 use Rattle.sat_machine.specs.Look.{waiting_of}
 use Rattle.sat_machine.specs.Replay.{handed, site_state, turn_front, carrying, given_at, given_seat, given_number}
-use Rattle.sat_machine.specs.Fits.{is_site, is_time, is_point, is_goal, is_other, is_carried, is_kind, is_front, is_kept_kind, is_new_point, is_bulk, is_close_cut, is_note, fits}
+use Rattle.sat_machine.specs.Fits.{is_site, is_item, are_known, is_group, is_time, is_point, is_goal, is_other, is_carried, is_kind, is_front, is_kept_kind, is_new_point, is_bulk, is_close_cut, is_note, fits}
 use Rattle.sat_machine.specs.OnLinks.{HasKind, IsOnLink}
 use Rattle.sat_machine.specs.Parts.{valued}
 use Rattle.sat_machine.proofs.Windows.{Window, window-agrees, lane-of, brought-made}
 use Rattle.sat_machine.proofs.Pools.{waiting-agrees}
 use Rattle.sat_machine.proofs.Simple.{view-agrees}
-use Rattle.sat_machine.proofs.Ranges.{item-of, made-has-kind}
+use Rattle.sat_machine.proofs.Ranges.{made-has-kind}
+use Rattle.sat_machine.proofs.Writing.{parts-all, values-many}
 use Rattle.sat_machine.proofs.Times.{made-ends, sent-ends, cut-ends, cut-site, carried-all, carried-ends, greatest-ends}
 use Rattle.sat_machine.proofs.OnLinks.{entered-leads}
 
@@ -104,10 +110,21 @@ waits-brought : (h : List Entry) (j : ℕ) (q : Label) → In (waiting h j) q �
 unfolding waiting
 waits-brought h j q m = (In-filter (λ l. not (has label_eq (shown h j) l)) (brought h j) q m).0
 
-kept-kind : (d : Deployed) (j : ℕ) (l : Label) → IsKeptAt d j l → is_kept_kind d j l.kind ≡ true
-kept-kind d j l k =
-    subst (λ (y : Kind). is_kept_kind d j y ≡ true) (sym k.1)
-    (and_from (nat_lt k.0 (length d.items)) (replicates d k.0 j) (lt-ltb k.0 (length d.items) (item-of d k.0 j k.2)) k.2)
+all-known : (d : Deployed) (xs : List ℕ) → AreBelow (length d.items) xs → are_known d xs ≡ true
+all-known d [] b = refl
+all-known d (x ∷ xs) b = and_from (is_item d x) (are_known d xs) (lt-ltb x (length d.items) b.0) (all-known d xs b.1)
+
+group-fits : (d : Deployed) (items : Items) → HasKind d (kind.Update items) → is_group d items ≡ true
+group-fits d items b = and_from (are_items (list_of items)) (are_known d (list_of items)) b.1 (all-known d (list_of items) b.0)
+
+kept-kind : (d : Deployed) (j : ℕ) (l : Label) → HasKind d l.kind → IsKeptAt d j l → is_kept_kind d j l.kind ≡ true
+kept-kind d j l b k = go l.kind b k.1
+  where
+    go : (y : Kind) → HasKind d y → is_update_of y k.0 ≡ true → is_kept_kind d j y ≡ true
+    go (kind.Update items) b e = and_from (is_group d items) (keeps_some d (list_of items) j) (group-fits d items b) (kept-some d (list_of items) k.0 j e k.2)
+    go (kind.Move y) b e = absurd (cc)
+    go kind.Pulse b e = absurd (cc)
+    go (kind.Close f) b e = absurd (cc)
 
 -- where the number of a payload is new, no waiting label has its point: that label would be the payload's own, and brought
 new-point : (d : Deployed) (h : List Entry) (j : ℕ) (l : Label) → IsValid d → IsRun d h → Made h l → has label_eq (brought h j) l ≡ false → is_new_point (waiting h j) l.point ≡ true
@@ -136,7 +153,8 @@ bulk-fits d h i g j n l v run bi bg ne e =
     let s : l.point.site ≡ i = (lane-of d h i g j l m).0 in
     and_from _ _ (and_from _ _ (other-site d j i bi (eqb-false i j ne)) (lt-ltb g d.gears bg))
     (and_from _ _
-    (and_from _ _ (and_from _ _ (le-leb l.point.ts TS_END (made-ends d h l run f.made)) (eq-eqb l.point.site i s)) (kept-kind d j l (for-kept d h j l f).0))
+    (and_from _ _ (and_from _ _ (and_from _ _ (le-leb l.point.ts TS_END (made-ends d h l run f.made)) (eq-eqb l.point.site i s)) (kept-kind d j l (made-has-kind d h l run f.made) (for-kept d h j l f).0))
+    (parts-all d j (items_of l.kind) (values_of h l) (values-many d h l v run f.made f.update)))
     (go (has ◌==◌ ((site_state d h j).proxy.taken i g) n) (w.known n l e) f.made))
   where
     go : (b : Bool) → b ≡ has label_eq (brought h j) l → Made h l → (b || is_new_point (waiting_of (site_state d h j)) l.point) ≡ true
@@ -167,8 +185,8 @@ target-other : (d : Deployed) (h : List Entry) (j : ℕ) (l : Label) → IsRun d
 unfolding is_target
 target-other d h j l run s e = go l.kind refl e
   where
-    go : (k : Kind) → l.kind ≡ k → elim k [ kind.Update x ↦ replicates d x j && not (j == l.point.site) | kind.Move y ↦ j == y | kind.Pulse ↦ not (j == l.point.site) | kind.Close f ↦ not (j == l.point.site) ] ≡ true → l.point.site ≡ j → ⊥
-    go (kind.Update x) w e q = distinct j l.point.site (and_parts (replicates d x j) _ e).1 (sym q)
+    go : (k : Kind) → l.kind ≡ k → elim k [ kind.Update items ↦ keeps_some d (list_of items) j && not (j == l.point.site) | kind.Move y ↦ j == y | kind.Pulse ↦ not (j == l.point.site) | kind.Close f ↦ not (j == l.point.site) ] ≡ true → l.point.site ≡ j → ⊥
+    go (kind.Update items) w e q = distinct j l.point.site (and_parts (keeps_some d (list_of items) j) _ e).1 (sym q)
     go (kind.Move y) w e q =
         let m : Made h l = sent-made d h l.point.site l run s (subst (λ (k : Kind). is_made k ≡ true) (sym w) refl) in
         move-away d h l j run m (w ∙ ap (λ (n : ℕ). kind.Move n) (sym (eqb-true j y e))) q
@@ -179,7 +197,7 @@ kind-fits : (d : Deployed) (h : List Entry) (j : ℕ) (l : Label) → IsValid d 
 kind-fits d h j l v run has s = go l.kind refl has
   where
     go : (k : Kind) → l.kind ≡ k → HasKind d k → is_kind d (site_state d h j).views.view k ≡ true
-    go (kind.Update x) w b = lt-ltb x (length d.items) b
+    go (kind.Update items) w b = group-fits d items b
     go (kind.Move y) w b = lt-ltb y d.sites b
     go kind.Pulse w b = refl
     go (kind.Close f) w b = eq-eqb f (site_state d h j).views.view (sym (close-epoch d h l.point.site (view h j) f l v run s w) ∙ sym (view-agrees d h j run))
@@ -247,13 +265,20 @@ fits-seat d h c i x input v run e k = go (seat d h c) refl e
     go None w e = absurd (cc)
     go (Some t) w e = fits-here d h t i x input e (k t (inside t d.sites (seat-range d h c t v run w)))
 
+-- one item, which is known, and its value
+one-fits : (d : Deployed) (x : ℕ) (value : List ℕ) → x < length d.items → (is_group d (One x) && (length (value ∷ []) == length (list_of (One x)))) ≡ true
+one-fits d x value b = and_from (is_group d (One x)) true (and_from (is_item d x) true (lt-ltb x (length d.items) b) refl) refl
+
 -- all that an act hands fits
 pub given-fits : (d : Deployed) (h : List Entry) (a : Act) (i : ℕ) (input : SiteInput) → IsValid d → IsRun d h → IsActOf d a → handed d h a i ≡ Some input → fits d i (site_state d h i) input ≡ true
 unfolding handed fits
 given-fits d h (act.Tick t g u) i input v run ok e = fits-here d h t i (given.Tick g u) input e (and_from _ _ (lt-ltb g d.gears ok.1) (le-leb u TS_END ok.2))
 given-fits d h act.Clock i input v run ok e = subst (λ (y : SiteInput). fits d i (site_state d h i) y ≡ true) (some_is _ input e) (le-leb _ TS_END (greatest-ends d h d.sites d.gears run))
 given-fits d h (act.Write c x value) i input v run ok e =
-    fits-seat d h c i (given.Write (carrying h c) x value) input v run e (λ t some. and_from _ _ (carried-fits d h c some v run) (lt-ltb x (length d.items) ok.1))
+    fits-seat d h c i (given.Write (carrying h c) (One x) (value ∷ [])) input v run e (λ t some. and_from (is_carried d (carrying h c)) _ (carried-fits d h c some v run) (one-fits d x value ok.1))
+given-fits d h (act.Writes c items values) i input v run ok e =
+    fits-seat d h c i (given.Write (carrying h c) items values) input v run e (λ t some. and_from _ _ (carried-fits d h c some v run)
+    (and_from (is_group d items) (length values == length (list_of items)) (and_from (are_items (list_of items)) (are_known d (list_of items)) ok.1.order ok.1.known) (eq-eqb (length values) (length (list_of items)) ok.1.values_all)))
 given-fits d h (act.Read c x) i input v run ok e =
     fits-seat d h c i (given.Read (carrying h c) x) input v run e (λ t some. and_from _ _ (carried-fits d h c some v run) (lt-ltb x (length d.items) ok.1))
 given-fits d h (act.Move c j) i input v run ok e =

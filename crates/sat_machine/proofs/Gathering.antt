@@ -6,6 +6,7 @@ use Rattle.sat_label.proofs.Truth.{same-number}
 use Rattle.sat_label.specs.declared.label.Label.{Label}
 use Rattle.sat_label.specs.declared.point.Point.{Point}
 use Rattle.sat_label.specs.declared.label.Kind.TheVariants as kind
+use Rattle.sat_label.specs.Grouped.{least_item, list_of}
 use Rattle.sat_label.specs.Order.{label_eq, point_at, mark, greater_point}
 use Rattle.sat_label.specs.Words.{has}
 use Rattle.sat_act.specs.declared.act.Act.{Act}
@@ -20,13 +21,13 @@ use Rattle.sat_act.specs.Parts.{emission, is_update, is_target, promise, made, m
 use Rattle.sat_act.specs.Answers.{answer, gather_of, gear_of, base}
 use Rattle.sat_act.specs.Runs.{IsRun, IsAnswer}
 use Rattle.sat_act.specs.Goals.{Made, IsValid}
-use Rattle.sat_laws.proofs.Steps.{Step, wrote, moved, gathered_now, emitted, pulsed, closed}
+use Rattle.sat_laws.proofs.Steps.{Step, write_label, wrote, moved, gathered_now, emitted, pulsed, closed}
 use Rattle.sat_laws.proofs.Runs.{step_of, before_of, entry}
 use Rattle.sat_laws.proofs.Labels.{made-new, made-kind}
 use Rattle.sat_laws.proofs.Members.{listed-gives}
 use Rattle.sat_laws.proofs.Sinks.{from-made, gathered-made, kept as kept_label}
 use Rattle.sat_laws.proofs.Stamps.{sent-gathered}
-use Rattle.sat_bulk.specs.declared.Payload.{Payload}
+use Rattle.sat_bulk.specs.Payloads.{Payload}
 use Rattle.sat_machine.specs.State.{SiteState}
 use Rattle.sat_machine.specs.Input.{SiteInput}
 use Rattle.sat_machine.specs.Input as given
@@ -35,6 +36,7 @@ use Rattle.sat_machine.specs.Next.{site_next}
 use Rattle.sat_machine.specs.Replay.{after, handed, site_state, carrying}
 use Rattle.sat_machine.proofs.Kept.{kept, at-seat}
 use Rattle.sat_machine.proofs.Lists.{plain, joined, map-length, filter-join, filter-all, without, without-more}
+use Rattle.sat_machine.proofs.Writing.{at-write, write_input}
 use Rattle.sat_machine.proofs.Lanes.{lanes-agree}
 use Rattle.sat_machine.proofs.Simple.{promise-agrees, sent-agrees}
 use Rattle.sat_label.specs.Least.{least_label}
@@ -172,9 +174,9 @@ listed-and G input false c l q u v = u ∙ sym (plain q)
 fresh-step : (d : Deployed) (h : List Entry) (i g : ℕ) (s : SiteState) (a : Act) (r : Answer) (n : Bool) → is_gather a i ≡ false → Step d h a r →
     ((after d i s (handed d h a i) r).gears g).fresh ≡ (s.gears g).fresh ++ added (made_entry i g h (entry a r n))
 unfolding after handed site_next
-fresh-step d h i g s a r n z (wrote {c = c} {x = x} {i = t} {value = v} p q w) =
-    at-seat (λ o. ((after d i s o r).gears g).fresh) _ i t (given.Write (carrying h c) x v) _ p
-    (listed-and (λ o. ((after d i s o r).gears g).fresh) (given.Write (carrying h c) x v) (t == i) (gear_of d x == g) (record { point = point_at (base h c t (gear_of d x) + 1) t (gear_of d x); kind = kind.Update x }) (s.gears g).fresh refl refl)
+fresh-step d h i g s a r n z (wrote {w = w} {i = t} y p q b) =
+    at-write (λ o. ((after d i s o r).gears g).fresh) _ d h a w i t y p
+    (listed-and (λ o. ((after d i s o r).gears g).fresh) (write_input h w) (t == i) (gear_of d (least_item (list_of w.items)) == g) (write_label d h w t) (s.gears g).fresh refl refl)
 fresh-step d h i g s a r n z (moved {c = c} {j = j} {i = t} p q w) =
     at-seat (λ o. ((after d i s o r).gears g).fresh) _ i t (given.Move (carrying h c) j) _ p
     (listed-and (λ o. ((after d i s o r).gears g).fresh) (given.Move (carrying h c) j) (t == i) (0 == g) (record { point = point_at (base h c t 0 + 1) t 0; kind = kind.Move j }) (s.gears g).fresh refl refl)

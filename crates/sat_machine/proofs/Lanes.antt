@@ -3,6 +3,7 @@ use Rattle.std.specs.Prelude.{◌≡◌, ℕ, ◌+◌, Bool, true, false, ◌&&�
 use Rattle.std.proofs.Common.{sym, ap, ◌∙◌}
 use Rattle.sat_label.specs.declared.label.Label.{Label}
 use Rattle.sat_label.specs.declared.label.Kind.TheVariants as kind
+use Rattle.sat_label.specs.Grouped.{least_item, list_of}
 use Rattle.sat_label.specs.Order.{point_at}
 use Rattle.sat_act.specs.declared.act.Act.{Act}
 use Rattle.sat_act.specs.declared.answer.Answer.{Answer}
@@ -13,23 +14,23 @@ use Rattle.sat_act.specs.Parts.{lane, lane_entry, is_target, is_update}
 use Rattle.sat_act.specs.Answers.{gear_of, base}
 use Rattle.sat_act.specs.Runs.{IsRun}
 use Rattle.sat_act.specs.Goals.{Made, IsValid}
-use Rattle.sat_laws.proofs.Steps.{Step, wrote, moved}
+use Rattle.sat_laws.proofs.Steps.{Step, write_label, wrote, moved}
 use Rattle.sat_laws.proofs.Runs.{step_of, before_of, entry}
 use Rattle.sat_laws.proofs.Shows.{in-lane}
-use Rattle.sat_laws.proofs.Values.{value-stays, value-new}
-use Rattle.sat_bulk.specs.declared.Payload.{Payload}
+use Rattle.sat_laws.proofs.Values.{values-stay, values-new}
+use Rattle.sat_bulk.specs.Payloads.{Payload}
 use Rattle.sat_machine.specs.State.{SiteState}
 use Rattle.sat_machine.specs.Input.{SiteInput}
-use Rattle.sat_machine.specs.Input as given
 use Rattle.sat_machine.specs.Next.{site_next, payload_at}
 use Rattle.sat_machine.specs.Parts.{valued}
-use Rattle.sat_machine.specs.Replay.{after, handed, site_state, carrying}
-use Rattle.sat_machine.proofs.Kept.{kept, at-seat}
+use Rattle.sat_machine.specs.Replay.{after, handed, site_state}
+use Rattle.sat_machine.proofs.Kept.{kept}
 use Rattle.sat_machine.proofs.Lists.{plain, map-join, map-same}
+use Rattle.sat_machine.proofs.Writing.{at-write, write_input}
 use Rattle.sat_label.specs.Members.{In}
 
 pub payloads-stay : (d : Deployed) (h : List Entry) (e : Entry) (ls : List Label) → IsValid d → IsRun d (e ∷ h) → ((l : Label) → In ls l → Made h l) → map (valued h) ls ≡ map (valued (e ∷ h)) ls
-payloads-stay d h e ls v run k = map-same (valued h) (valued (e ∷ h)) ls (λ l i. ap (λ (w : List ℕ). payload_at l w) (sym (value-stays d h e l v run (k l i))))
+payloads-stay d h e ls v run k = map-same (valued h) (valued (e ∷ h)) ls (λ l i. ap (λ (w : List (List ℕ)). payload_at l w) (sym (values-stay d h e l v run (k l i))))
 
 abbrev if_test : (Label → Bool) → Option Label → Option Label
 if_test p o = elim o [ None ↦ None | Some l ↦ if p l then Some l else None ]
@@ -56,13 +57,14 @@ lanes-step : (d : Deployed) (h : List Entry) (i g j : ℕ) (s : SiteState) (a : 
     (s.gears g).lanes j ≡ map (valued (entry a r n ∷ h)) (lane d h i g j) → Step d h a r →
     ((after d i s (handed d h a i) r).gears g).lanes j ≡ map (valued (entry a r n ∷ h)) (lane d (entry a r n ∷ h) i g j)
 unfolding after handed site_next lane
-lanes-step d h i g j s a r n k (wrote {c = c} {x = x} {i = t} {value = v} p q w) =
-    let l : Label = record { point = point_at (base h c t (gear_of d x) + 1) t (gear_of d x); kind = kind.Update x } in
-    at-seat (λ o. ((after d i s o r).gears g).lanes j) _ i t (given.Write (carrying h c) x v) _ p
-    (lane-more (valued (entry a r n ∷ h)) (λ o. ((after d i s o r).gears g).lanes j) (given.Write (carrying h c) x v) (t == i) (gear_of d x == g) (is_target d l j)
+lanes-step d h i g j s a r n k (wrote {w = w} {i = t} z p q b) =
+    let l : Label = write_label d h w t in
+    let here : Bool = gear_of d (least_item (list_of w.items)) == g in
+    at-write (λ o. ((after d i s o r).gears g).lanes j) _ d h a w i t z p
+    (lane-more (valued (entry a r n ∷ h)) (λ o. ((after d i s o r).gears g).lanes j) (write_input h w) (t == i) here (is_target d l j)
     (λ m. is_update m.kind && is_target d m j) l (listed (lane_entry d i g j) h) refl k
-    (ap (λ (ps : List Payload). if (gear_of d x == g) && is_target d l j then ps ++ payload_at l v ∷ [] else ps) k ∙
-    ap (λ (y : List ℕ). if (gear_of d x == g) && is_target d l j then map (valued (entry a r n ∷ h)) (listed (lane_entry d i g j) h) ++ payload_at l y ∷ [] else map (valued (entry a r n ∷ h)) (listed (lane_entry d i g j) h)) (sym (value-new h l n c x v))))
+    (ap (λ (ps : List Payload). if here && is_target d l j then ps ++ payload_at l w.values ∷ [] else ps) k ∙
+    ap (λ (y : List (List ℕ)). if here && is_target d l j then map (valued (entry a r n ∷ h)) (listed (lane_entry d i g j) h) ++ payload_at l y ∷ [] else map (valued (entry a r n ∷ h)) (listed (lane_entry d i g j) h)) (sym (values-new h l n a w z))))
 lanes-step d h i g j s a r n k (moved {c = c} {j = u} {i = t} p q w) =
     let l : Label = record { point = point_at (base h c t 0 + 1) t 0; kind = kind.Move u } in
     kept (λ s. (s.gears g).lanes j) d i s (handed d h a i) r (λ input. refl) ∙

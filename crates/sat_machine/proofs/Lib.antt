@@ -1,4 +1,5 @@
 pub mod Kept
+pub mod Writing
 pub mod Simple
 pub mod Lists
 pub mod Lanes

@@ -1,9 +1,8 @@
 -- What waits at a site, with its values.
-use Rattle.std.specs.Prelude.{◌≡◌, ℕ, ◌+◌, Bool, true, false, not, List, [], ◌∷◌, ◌++◌, map, filter, Option, Some, None, slice_get, ◌==◌, if◌then◌else◌, cond, refl}
+use Rattle.std.specs.Prelude.{◌≡◌, ℕ, Bool, true, false, not, List, [], ◌∷◌, ◌++◌, map, filter, Option, Some, None, slice_get, ◌==◌, if◌then◌else◌, cond, refl}
 use Rattle.std.proofs.Common.{sym, subst, ap, ◌∙◌, inl, inr}
 use Rattle.sat_label.specs.declared.label.Label.{Label}
-use Rattle.sat_label.specs.declared.label.Kind.TheVariants as kind
-use Rattle.sat_label.specs.Order.{label_eq, point_at}
+use Rattle.sat_label.specs.Order.{label_eq}
 use Rattle.sat_label.specs.Words.{has}
 use Rattle.sat_act.specs.declared.act.Act.{Act}
 use Rattle.sat_act.specs.declared.answer.Answer.{Answer}
@@ -12,16 +11,15 @@ use Rattle.sat_act.specs.declared.entry.Entry.{Entry}
 use Rattle.sat_act.specs.Deployed.{Deployed}
 use Rattle.sat_act.specs.Done.{made_in}
 use Rattle.sat_act.specs.Histories.{listed}
-use Rattle.sat_act.specs.Parts.{value_of, lane, brought, brought_entry, shown, shown_entry, waiting}
-use Rattle.sat_act.specs.Answers.{gear_of, base}
+use Rattle.sat_act.specs.Parts.{lane, brought, brought_entry, shown, shown_entry, waiting}
 use Rattle.sat_act.specs.Runs.{IsRun}
 use Rattle.sat_act.specs.Goals.{Gives, Made, Shows, IsValid}
-use Rattle.sat_laws.proofs.Steps.{Step, wrote, brought_now, showed_turn, showed_stamp}
+use Rattle.sat_laws.proofs.Steps.{Step, write_label, wrote, brought_now, showed_turn, showed_stamp}
 use Rattle.sat_laws.proofs.Runs.{step_of, before_of, entry}
 use Rattle.sat_laws.proofs.Members.{listed-gives, gives-listed}
 use Rattle.sat_laws.proofs.Shows.{IsFor, in-lane, Brings, for-kept, Showing, showing, by_write, by_turn, by_stamp, waits}
 use Rattle.sat_laws.proofs.Links.{tail_of}
-use Rattle.sat_bulk.specs.declared.Payload.{Payload}
+use Rattle.sat_bulk.specs.Payloads.{Payload}
 use Rattle.sat_machine.specs.State.{SiteState}
 use Rattle.sat_machine.specs.Input.{SiteInput}
 use Rattle.sat_machine.specs.Input as given
@@ -87,8 +85,8 @@ pool-step : (d : Deployed) (h : List Entry) (j : ℕ) (s : SiteState) (a : Act) 
     ((l : Label) → r ≡ ans.Brought l → handed d h a j ≡ None) →
     Pool h (without (shown (entry a r n ∷ h) j) (brought h j)) (after d j s (handed d h a j) r).proxy.pool
 unfolding after handed site_next shown
-pool-step d h j s a r n k (wrote {c = c} {x = x} {i = t} p q w) new u =
-    let l : Label = record { point = point_at (base h c t (gear_of d x) + 1) t (gear_of d x); kind = kind.Update x } in
+pool-step d h j s a r n k (wrote {w = w} {i = t} z p q b) new u =
+    let l : Label = write_label d h w t in
     kept (λ s. s.proxy.pool) d j s (handed d h a j) r (λ input. refl) ∙ (k ∙ ap (map (valued h)) (sym (not-there (listed (shown_entry j) h) (brought h j) (if t == j then Some l else None) (λ m e. new m (go (t == j) e)))))
   where
     go : (b : Bool) {l m : Label} → (if b then Some l else None) ≡ Some m → Some l ≡ Some m
@@ -162,20 +160,24 @@ map-labels h (l ∷ ls) = ap (λ (ms : List Label). l ∷ ms) (map-labels h ls)
 pub waiting-agrees : (d : Deployed) (h : List Entry) (j : ℕ) → IsValid d → IsRun d h → waiting_of (site_state d h j) ≡ waiting h j
 waiting-agrees d h j v run = ap (map label_of) (pool-agrees d h j v run) ∙ map-labels h (waiting h j)
 
--- the value of what waits
-value-here : (h : List Entry) (ls : List Label) (l : Label) → In ls l → payload_in (map (valued h) ls) l ≡ value_of h l
+-- the parts of a label that is made in a history
+abbrev pub parts_of : List Entry → Label → List (Option (List ℕ))
+parts_of h l = (valued h l).values
+
+-- the parts of what waits
+parts-here : (h : List Entry) (ls : List Label) (l : Label) → In ls l → payload_in (map (valued h) ls) l ≡ parts_of h l
 unfolding payload_in
-value-here h [] l m = absurd m
-value-here h (k ∷ ls) l (inl e) = go (label_eq k l) (subst (λ (z : Label). label_eq k z ≡ true) e (label_eq-self k))
+parts-here h [] l m = absurd m
+parts-here h (k ∷ ls) l (inl e) = go (label_eq k l) (subst (λ (z : Label). label_eq k z ≡ true) e (label_eq-self k))
   where
-    go : (b : Bool) → b ≡ true → (if b then value_of h k else payload_in (map (valued h) ls) l) ≡ value_of h l
-    go true w = ap (value_of h) e
+    go : (b : Bool) → b ≡ true → (if b then parts_of h k else payload_in (map (valued h) ls) l) ≡ parts_of h l
+    go true w = ap (parts_of h) e
     go false w = absurd (cc)
-value-here h (k ∷ ls) l (inr m) = go (label_eq k l) refl (value-here h ls l m)
+parts-here h (k ∷ ls) l (inr m) = go (label_eq k l) refl (parts-here h ls l m)
   where
-    go : (b : Bool) → label_eq k l ≡ b → payload_in (map (valued h) ls) l ≡ value_of h l → (if b then value_of h k else payload_in (map (valued h) ls) l) ≡ value_of h l
-    go true w e = ap (value_of h) (same-label k l w)
+    go : (b : Bool) → label_eq k l ≡ b → payload_in (map (valued h) ls) l ≡ parts_of h l → (if b then parts_of h k else payload_in (map (valued h) ls) l) ≡ parts_of h l
+    go true w e = ap (parts_of h) (same-label k l w)
     go false w e = e
 
-pub waiting-value : (d : Deployed) (h : List Entry) (j : ℕ) (l : Label) → IsValid d → IsRun d h → In (waiting h j) l → payload_in (site_state d h j).proxy.pool l ≡ value_of h l
-waiting-value d h j l v run m = ap (λ (ps : List Payload). payload_in ps l) (pool-agrees d h j v run) ∙ value-here h (waiting h j) l m
+pub waiting-parts : (d : Deployed) (h : List Entry) (j : ℕ) (l : Label) → IsValid d → IsRun d h → In (waiting h j) l → payload_in (site_state d h j).proxy.pool l ≡ parts_of h l
+waiting-parts d h j l v run m = ap (λ (ps : List Payload). payload_in ps l) (pool-agrees d h j v run) ∙ parts-here h (waiting h j) l m

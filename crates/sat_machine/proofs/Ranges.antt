@@ -1,22 +1,25 @@
--- What is made and sent is a site's, and names an item or a site of the deployment.
+-- What is made and sent is a site's, and names items, which ascend, or a site of the deployment.
 use Rattle.std.specs.Prelude.{◌≡◌, ◌<◌, ℕ, Bool, true, false, List, [], ◌∷◌, length, Option, Some, None, slice_get, ◌==◌, refl}
 use Rattle.std.proofs.Common.{subst, inl, inr}
-use Rattle.std.proofs.lemmas.Bool.{eqb-true}
+use Rattle.std.specs.List.{list_all}
+use Rattle.std.proofs.lemmas.Bool.{eqb-true, and_parts}
 use Rattle.sat_label.specs.declared.label.Kind.TheVariants as kind
 use Rattle.sat_label.specs.declared.label.Label.{Label}
+use Rattle.sat_label.specs.Grouped.{list_of}
 use Rattle.sat_label.specs.Order.{point_at}
 use Rattle.sat_label.specs.Words.{bit}
+use Rattle.sat_sites.specs.Interested.{AreBelow}
 use Rattle.sat_act.specs.declared.act.Act.{Act}
 use Rattle.sat_act.specs.declared.answer.Answer.{Answer}
 use Rattle.sat_act.specs.declared.deployment.Item.{Item}
 use Rattle.sat_act.specs.declared.entry.Entry.{Entry}
 use Rattle.sat_act.specs.Deployed.{Deployed}
 use Rattle.sat_act.specs.Done.{made_in}
-use Rattle.sat_act.specs.Parts.{replicates, sent_entry, stable, cut, emission}
+use Rattle.sat_act.specs.Parts.{replicates, keeps_all, sent_entry, stable, cut, emission}
 use Rattle.sat_act.specs.Answers.{InRange}
 use Rattle.sat_act.specs.Runs.{IsRun}
 use Rattle.sat_act.specs.Goals.{Gives, Made}
-use Rattle.sat_laws.proofs.Steps.{Step, wrote, moved, emitted, pulsed, closed}
+use Rattle.sat_laws.proofs.Steps.{Step, write_label, wrote, moved, emitted, pulsed, closed}
 use Rattle.sat_laws.proofs.Runs.{step_of, before_of, range_of, entry}
 use Rattle.sat_laws.proofs.Labels.{some_is}
 use Rattle.sat_laws.proofs.Links.{get-below}
@@ -25,6 +28,7 @@ use Rattle.sat_laws.proofs.Cuts.{Sending, by_emit, by_pulse, by_close, sending}
 use Rattle.sat_laws.proofs.Sinks.{Sent}
 use Rattle.sat_laws.proofs.Origins.{ready-made}
 use Rattle.sat_machine.specs.OnLinks.{HasKind}
+use Rattle.sat_machine.proofs.Writing.{write-ascends}
 
 -- an item that a site keeps is one of the items
 pub item-of : (d : Deployed) (x k : ℕ) → replicates d x k ≡ true → x < length d.items
@@ -35,12 +39,23 @@ item-of d x k e = go (slice_get d.items x) refl e
     go None w e = absurd (cc)
     go (Some item) w e = get-below d.items x item w
 
+-- so are all that it keeps
+each-below : (d : Deployed) (xs : List ℕ) (k : ℕ) → list_all (λ x. replicates d x k) xs ≡ true → AreBelow (length d.items) xs
+each-below d [] k e = tt
+each-below d (x ∷ xs) k e =
+    let w : (replicates d x k ≡ true) × (list_all (λ x. replicates d x k) xs ≡ true) = and_parts (replicates d x k) _ e in
+    (item-of d x k w.0, each-below d xs k w.1)
+
+all-below : (d : Deployed) (xs : List ℕ) (k : ℕ) → keeps_all d xs k ≡ true → AreBelow (length d.items) xs
+all-below d [] k e = tt
+all-below d (x ∷ xs) k e = each-below d (x ∷ xs) k e
+
 made-now : (d : Deployed) (h : List Entry) (a : Act) (r : Answer) (l : Label) → InRange d a → Step d h a r → made_in r ≡ Some l → HasKind d l.kind
-made-now d h a r l range (wrote {x = x} {i = i} p q w) e = subst (λ (y : Label). HasKind d y.kind) (some_is _ l e) (item-of d x i q)
+made-now d h a r l range (wrote {w = w} {i = i} z p q b) e = subst (λ (y : Label). HasKind d y.kind) (some_is (write_label d h w i) l e) (all-below d (list_of w.items) i q, write-ascends d a w range z)
 made-now d h a r l range (moved p q w) e = subst (λ (y : Label). HasKind d y.kind) (some_is _ l e) range
 made-now d h a r l range _ e = absurd (cc)
 
--- what is made names an item or a site
+-- what is made names items or a site
 pub made-has-kind : (d : Deployed) (h : List Entry) (l : Label) → IsRun d h → Made h l → HasKind d l.kind
 unfolding Gives
 made-has-kind d [] l run m = absurd m
@@ -67,7 +82,7 @@ sending-kind d h i l run (by_emit q) = made-has-kind d h l run (ready-made d h i
 sending-kind d h i l run (by_pulse q p w) = subst (λ (y : Label). HasKind d y.kind) w tt
 sending-kind d h i l run (by_close w) = subst (λ (y : Label). HasKind d y.kind) w tt
 
--- what is sent names an item or a site, where it is an update or a move
+-- what is sent names items or a site, where it is an update or a move
 pub sent-has-kind : (d : Deployed) (h : List Entry) (i : ℕ) (l : Label) → IsRun d h → Sent h i l → HasKind d l.kind
 unfolding Gives
 sent-has-kind d [] i l run m = absurd m

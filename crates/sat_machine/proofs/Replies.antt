@@ -2,6 +2,8 @@
 use Rattle.std.specs.Prelude.{◌≡◌, ◌⊎◌, ◌<◌, ◌≤◌, ℕ, zero, suc, ◌+◌, ◌-◌, ◌^◌, Bool, false, ◌&&◌, ◌||◌, not, nat_le, max, List, [], ◌∷◌, ◌++◌, length, Option, Some, None, is_some, slice_get, ◌==◌, if◌then◌else◌, refl}
 use Rattle.std.proofs.Common.{sym, ap, ◌∙◌, arith}
 use Rattle.std.proofs.lemmas.Bool.Decides.{nat_tests}
+use Rattle.sat_label.specs.declared.items.Items.{Items}
+use Rattle.sat_label.specs.declared.items.Items.TheVariants.{One}
 use Rattle.sat_label.specs.declared.label.Label.{Label}
 use Rattle.sat_label.specs.declared.point.Point.{Point}
 use Rattle.sat_label.specs.declared.label.Kind.TheVariants as kind
@@ -17,14 +19,14 @@ use Rattle.sat_act.specs.declared.answer.Refusal.TheVariants as why
 use Rattle.sat_act.specs.declared.entry.Entry.{Entry}
 use Rattle.sat_act.specs.Deployed.{Deployed}
 use Rattle.sat_act.specs.Parts.{BeatNote, tree_of, promise, made, made_to, gathered, least_promise, stable, ready, emission, view, in_stamp_mode, seat_in, link_front, version, value_of, lane, brought, waiting, last, beats, beats_taken, best, seat, carried, may_attach, next_stamp, candidate, is_past, replicates}
-use Rattle.sat_act.specs.Answers.{answer, refused_if, at_seat, gear_of, base, write_at, read_at, move_from, attach_to, gather_of, emit_of, pulse_of, turned, turn_of, bulk_to, bring, beat_to, beat_in_to, stamp_of, close_of, fall_of, took_close, may_advance, advance_of}
+use Rattle.sat_act.specs.Answers.{answer, refused_if, at_seat, base, write_at, read_at, move_from, attach_to, gather_of, emit_of, pulse_of, turned, turn_of, bulk_to, bring, beat_to, beat_in_to, stamp_of, close_of, fall_of, took_close, may_advance, advance_of}
 use Rattle.sat_act.specs.Runs.{IsRun}
 use Rattle.sat_act.specs.Goals.{IsValid}
 use Rattle.sat_laws.proofs.Links.{get-below}
 use Rattle.sat_machine.specs.State.{SiteState}
 use Rattle.sat_machine.specs.Input as given
 use Rattle.sat_machine.specs.Look.{rows, least_row, stable_of, cut_of, waiting_of, numbers_of}
-use Rattle.sat_machine.specs.Reply.{Outlook, outlook_of, site_answer, write_by, read_by, move_by, may_come, stamp_next, may_pass}
+use Rattle.sat_machine.specs.Reply.{Outlook, outlook_of, gear_for, site_answer, write_by, read_by, move_by, may_come, stamp_next, may_pass}
 use Rattle.sat_machine.specs.Replay.{site_state, carrying, given_number, turn_front}
 use Rattle.sat_machine.proofs.Simple.{promise-agrees, pulse-agrees, emission-agrees, view-agrees, heard-agrees}
 use Rattle.sat_machine.proofs.Gathering.{fresh-agrees, stable-agrees, ready-agrees, cut-agrees}
@@ -57,15 +59,23 @@ tick-reply d h i g t run = ap (λ (p : ℕ). ans.Ticked (max p t)) (promise-agre
 seated-answer : (o : Option ℕ) (i : ℕ) (f : ℕ → Answer) → o ≡ Some i → at_seat o f ≡ f i
 seated-answer o i f e = ap (λ (o : Option ℕ). at_seat o f) e
 
-pub write-reply : (d : Deployed) (h : List Entry) (c x i : ℕ) (value : List ℕ) → IsRun d h → seat d h c ≡ Some i → site_answer d i (site_state d h i) (given.Write (carrying h c) x value) ≡ answer d h (act.Write c x value)
-unfolding site_answer answer write_at base
-write-reply d h c x i value run e = ap (λ (p : ℕ). write_by d i x p (carried h c).ts) (promise-agrees d h i (gear_of d x) run) ∙ sym (seated-answer (seat d h c) i (λ i. write_at d h c x i) e)
+some-reply : (d : Deployed) (h : List Entry) (c : ℕ) (items : Items) (i : ℕ) (values : List (List ℕ)) → IsRun d h → seat d h c ≡ Some i → site_answer d i (site_state d h i) (given.Write (carrying h c) items values) ≡ at_seat (seat d h c) (λ i. write_at d h c items i)
+unfolding site_answer write_at base
+some-reply d h c items i values run e = ap (λ (p : ℕ). write_by d i items p (carried h c).ts) (promise-agrees d h i (gear_for d items) run) ∙ sym (seated-answer (seat d h c) i (λ i. write_at d h c items i) e)
+
+pub write-reply : (d : Deployed) (h : List Entry) (c x i : ℕ) (value : List ℕ) → IsRun d h → seat d h c ≡ Some i → site_answer d i (site_state d h i) (given.Write (carrying h c) (One x) (value ∷ [])) ≡ answer d h (act.Write c x value)
+unfolding answer
+write-reply d h c x i value run e = some-reply d h c (One x) i (value ∷ []) run e
+
+pub writes-reply : (d : Deployed) (h : List Entry) (c : ℕ) (items : Items) (i : ℕ) (values : List (List ℕ)) → IsRun d h → seat d h c ≡ Some i → site_answer d i (site_state d h i) (given.Write (carrying h c) items values) ≡ answer d h (act.Writes c items values)
+unfolding answer
+writes-reply d h c items i values run e = some-reply d h c items i values run e
 
 pub read-reply : (d : Deployed) (h : List Entry) (c x i : ℕ) → IsValid d → IsRun d h → seat d h c ≡ Some i → site_answer d i (site_state d h i) (given.Read (carrying h c) x) ≡ answer d h (act.Read c x)
 unfolding site_answer answer read_at
 read-reply d h c x i v run e = ap (read_by d i x) (store-agrees d h i x v run) ∙ (go (version h i x) ∙ sym (seated-answer (seat d h c) i (λ i. read_at d h x i) e))
   where
-    go : (o : Option Label) → read_by d i x (valued_version h o) ≡ refused_if (not (replicates d x i)) why.NotHere (elim o [ None ↦ ans.ReadNone | Some l ↦ ans.ReadSome l (value_of h l) ])
+    go : (o : Option Label) → read_by d i x (valued_version h x o) ≡ refused_if (not (replicates d x i)) why.NotHere (elim o [ None ↦ ans.ReadNone | Some l ↦ ans.ReadSome l (value_of h l x) ])
     go None = refl
     go (Some l) = refl
 

@@ -4,6 +4,7 @@ use Rattle.std.proofs.Common.{sym, ap, ◌∙◌, arith}
 use Rattle.sat_label.specs.declared.point.Point.{Point}
 use Rattle.sat_label.specs.declared.label.Label.{Label}
 use Rattle.sat_label.specs.declared.label.Kind.TheVariants as kind
+use Rattle.sat_label.specs.Grouped.{least_item, list_of}
 use Rattle.sat_act.specs.declared.act.Act.{Act}
 use Rattle.sat_act.specs.declared.answer.Answer.{Answer}
 use Rattle.sat_act.specs.declared.answer.Answer.TheVariants as ans
@@ -22,6 +23,7 @@ use Rattle.sat_machine.specs.Input as given
 use Rattle.sat_machine.specs.Next.{site_next}
 use Rattle.sat_machine.specs.Replay.{after, handed, site_state, carrying, turn_front}
 use Rattle.sat_machine.proofs.Kept.{kept, at-seat, latest-if, latest-and}
+use Rattle.sat_machine.proofs.Writing.{at-write, write_input}
 
 -- ---- promises
 
@@ -32,10 +34,11 @@ promise-step d h i g s a r n k (ticked {i = t} {g = f} {t = u}) =
     latest-and (λ o. ((after d i s o (ans.Ticked (max (promise h t f) u))).gears g).promise) (given.Tick f u) (t == i) (f == g) (max (promise h t f) u) (promise h i g) k
     (ap (λ (p : ℕ). if f == g then max (promise h t f) u else p) k)
 promise-step d h i g s a r n k clocked = refl
-promise-step d h i g s a r n k (wrote {c = c} {x = x} {i = t} {value = v} p q w) =
-    at-seat (λ o. ((after d i s o r).gears g).promise) _ i t (given.Write (carrying h c) x v) _ p
-    (latest-and (λ o. ((after d i s o r).gears g).promise) (given.Write (carrying h c) x v) (t == i) (gear_of d x == g) (base h c t (gear_of d x) + 1) (promise h i g) k
-    (ap (λ (p : ℕ). if gear_of d x == g then base h c t (gear_of d x) + 1 else p) k))
+promise-step d h i g s a r n k (wrote {w = w} {i = t} z p q b) =
+    let f : ℕ = gear_of d (least_item (list_of w.items)) in
+    at-write (λ o. ((after d i s o r).gears g).promise) _ d h a w i t z p
+    (latest-and (λ o. ((after d i s o r).gears g).promise) (write_input h w) (t == i) (f == g) (base h w.client t f + 1) (promise h i g) k
+    (ap (λ (p : ℕ). if f == g then base h w.client t f + 1 else p) k))
 promise-step d h i g s a r n k (moved {c = c} {j = j} {i = t} p q w) =
     at-seat (λ o. ((after d i s o r).gears g).promise) _ i t (given.Move (carrying h c) j) _ p
     (latest-and (λ o. ((after d i s o r).gears g).promise) (given.Move (carrying h c) j) (t == i) (0 == g) (base h c t 0 + 1) (promise h i g) k

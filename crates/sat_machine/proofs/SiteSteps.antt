@@ -2,6 +2,7 @@
 use Rattle.std.specs.Prelude.{◌≡◌, ℕ, Bool, true, false, List, [], ◌∷◌, ◌++◌, Option, Some, None, slice_get, ◌==◌, if◌then◌else◌, refl}
 use Rattle.std.proofs.Common.{sym, subst, ap, ◌∙◌, inl, inr}
 use Rattle.std.proofs.lemmas.Bool.{eqb-true}
+use Rattle.sat_label.specs.declared.items.Items.TheVariants.{One}
 use Rattle.sat_act.specs.declared.act.Act.{Act}
 use Rattle.sat_act.specs.declared.act.Act.TheVariants as act
 use Rattle.sat_act.specs.declared.answer.Answer.{Answer}
@@ -20,7 +21,7 @@ use Rattle.sat_machine.specs.Next.{site_next}
 use Rattle.sat_machine.specs.Reply.{site_answer, site_step}
 use Rattle.sat_machine.specs.Replay.{after, handed, site_state, carrying, given_at, given_seat, given_number, turn_front}
 use Rattle.sat_machine.specs.Journal.{Noted, noted, journal, replay, IsJournal}
-use Rattle.sat_machine.proofs.Replies.{tick-reply, write-reply, read-reply, move-reply, attach-reply, gather-reply, emit-reply, pulse-reply, turn-reply, bulk-reply, beat-reply, beat-in-reply, stamp-reply, close-reply, fall-reply, advance-reply}
+use Rattle.sat_machine.proofs.Replies.{tick-reply, write-reply, writes-reply, read-reply, move-reply, attach-reply, gather-reply, emit-reply, pulse-reply, turn-reply, bulk-reply, beat-reply, beat-in-reply, stamp-reply, close-reply, fall-reply, advance-reply}
 use Rattle.sat_machine.specs.Parts.{valued}
 
 given-is : (t i : ℕ) (x input : SiteInput) → given_at t i x ≡ Some input → (t ≡ i) × (x ≡ input)
@@ -56,7 +57,8 @@ site-replies d h act.Clock i input v run e = subst (λ (y : SiteInput). site_ans
   where
     clocks : site_answer d i (site_state d h i) (given.Clock (greatest_promise h d.sites d.gears)) ≡ answer d h act.Clock
     clocks = unfold site_answer in unfold answer in refl
-site-replies d h (act.Write c x value) i input v run e = sits d h _ (seat d h c) i (given.Write (carrying h c) x value) input e (λ t w. write-reply d h c x t value run w)
+site-replies d h (act.Write c x value) i input v run e = sits d h _ (seat d h c) i (given.Write (carrying h c) (One x) (value ∷ [])) input e (λ t w. write-reply d h c x t value run w)
+site-replies d h (act.Writes c items values) i input v run e = sits d h _ (seat d h c) i (given.Write (carrying h c) items values) input e (λ t w. writes-reply d h c items t values run w)
 site-replies d h (act.Read c x) i input v run e = sits d h _ (seat d h c) i (given.Read (carrying h c) x) input e (λ t w. read-reply d h c x t v run w)
 site-replies d h (act.Move c j) i input v run e = sits d h _ (seat d h c) i (given.Move (carrying h c) j) input e (λ t w. move-reply d h c j t run w)
 site-replies d h (act.Attach c j) i input v run e = comes d h _ (seat d h c) i j (given.Attach (carrying h c)) input e (λ w. attach-reply d h c j v run w)

@@ -6,6 +6,7 @@ use Rattle.sat_label.specs.declared.label.Kind.TheVariants as kind
 use Rattle.sat_label.specs.declared.label.Label.{Label}
 use Rattle.sat_label.specs.declared.limits.TheConstants.{TS_END}
 use Rattle.sat_label.specs.declared.point.Point.{Point}
+use Rattle.sat_label.specs.Grouped.{least_item, list_of}
 use Rattle.sat_label.specs.Members.{In}
 use Rattle.sat_label.specs.Order.{point_at, mark, zero_point, greater_point}
 use Rattle.sat_label.proofs.Orders.{of-greater}
@@ -13,12 +14,12 @@ use Rattle.sat_act.specs.declared.act.Act.{Act}
 use Rattle.sat_act.specs.declared.answer.Answer.{Answer}
 use Rattle.sat_act.specs.declared.entry.Entry.{Entry}
 use Rattle.sat_act.specs.Deployed.{Deployed}
-use Rattle.sat_act.specs.Done.{made_in}
+use Rattle.sat_act.specs.Done.{made_in, is_of, Written}
 use Rattle.sat_act.specs.Parts.{promise, gathered, least_promise, stable, sent, sent_entry, last_sent, ready, cut, carried, carried_entry}
 use Rattle.sat_act.specs.Answers.{InRange, base, gear_of, greatest_promise}
 use Rattle.sat_act.specs.Runs.{IsRun}
 use Rattle.sat_act.specs.Goals.{Gives, Made, IsValid}
-use Rattle.sat_laws.proofs.Steps.{Step, ticked, clocked, wrote, moved, read_some}
+use Rattle.sat_laws.proofs.Steps.{Step, write_label, ticked, clocked, wrote, moved, read_some}
 use Rattle.sat_laws.proofs.Runs.{step_of, before_of, range_of, entry}
 use Rattle.sat_laws.proofs.Labels.{chosen, some_is}
 use Rattle.sat_laws.proofs.Members.{listed-gives}
@@ -50,6 +51,10 @@ none-within t = omega arith
 
 -- ---- promises
 
+-- above this is the timestamp that a write at site i gets
+abbrev write_base : Deployed → List Entry → Written → ℕ → ℕ
+write_base d h w i = base h w.client i (gear_of d (least_item (list_of w.items)))
+
 greatest-within : (h : List Entry) (t m n : ℕ) → ((i g : ℕ) → promise h i g ≤ t) → greatest_promise h m n ≤ t
 unfolding greatest_promise
 greatest-within h t m zero each = none-within t
@@ -69,8 +74,8 @@ unfolding promise
 promise-now d h i g a r n range old (ticked {i = s} {g = k} {t = t}) =
     chosen (λ (y : ℕ). y ≤ TS_END) ((s == i) && (k == g)) (max (promise h s k) t) (promise h i g) (λ _. max-within (promise h s k) t TS_END (old s k) range.2) (λ _. old i g)
 promise-now d h i g a r n range old clocked = greatest-within h TS_END d.sites d.gears old
-promise-now d h i g a r n range old (wrote {c = c} {x = x} {i = s} p q b) =
-    chosen (λ (y : ℕ). y ≤ TS_END) ((s == i) && (gear_of d x == g)) (base h c s (gear_of d x) + 1) (promise h i g) (λ _. above TS_END (base h c s (gear_of d x)) b) (λ _. old i g)
+promise-now d h i g a r n range old (wrote {w = w} {i = s} z p q b) =
+    chosen (λ (y : ℕ). y ≤ TS_END) ((s == i) && (gear_of d (least_item (list_of w.items)) == g)) (write_base d h w s + 1) (promise h i g) (λ _. above TS_END (write_base d h w s) b) (λ _. old i g)
 promise-now d h i g a r n range old (moved {c = c} {i = s} p q b) =
     chosen (λ (y : ℕ). y ≤ TS_END) ((s == i) && (0 == g)) (base h c s 0 + 1) (promise h i g) (λ _. above TS_END (base h c s 0) b) (λ _. old i g)
 promise-now d h i g a r n range old _ = old i g
@@ -85,7 +90,7 @@ greatest-ends d h m n run = greatest-within h TS_END m n (λ i g. promise-ends d
 -- ---- labels
 
 made-now : (d : Deployed) (h : List Entry) (a : Act) (r : Answer) (l : Label) → Step d h a r → made_in r ≡ Some l → l.point.ts ≤ TS_END
-made-now d h a r l (wrote {c = c} {x = x} {i = s} p q b) e = subst (λ (y : Label). y.point.ts ≤ TS_END) (some_is _ l e) (above TS_END (base h c s (gear_of d x)) b)
+made-now d h a r l (wrote {w = w} {i = s} z p q b) e = subst (λ (y : Label). y.point.ts ≤ TS_END) (some_is (write_label d h w s) l e) (above TS_END (write_base d h w s) b)
 made-now d h a r l (moved {c = c} {i = s} p q b) e = subst (λ (y : Label). y.point.ts ≤ TS_END) (some_is _ l e) (above TS_END (base h c s 0) b)
 made-now d h a r l _ e = absurd (cc)
 
@@ -132,9 +137,9 @@ cut-site d h i run = cut-all (λ p. p.site ≡ i) d h i (λ s. sent-site d h i s
 
 -- the point that an entry put before a client is that of a made label
 carried-now : (d : Deployed) (h : List Entry) (c : ℕ) (a : Act) (r : Answer) (n : Bool) (q : Point) → IsRun d h → Step d h a r → carried_entry c h (entry a r n) ≡ Some q → (l : Label) × (Made h l ⊎ (made_in r ≡ Some l)) × (l.point ≡ q)
-carried-now d h c a r n q run (wrote {c = b} {x = x} {i = s} {value = v} p w k) e =
-    let l : Label = record { point = point_at (base h b s (gear_of d x) + 1) s (gear_of d x); kind = kind.Update x } in
-    (l, inr refl, (picked_if (b == c) l.point q e).1)
+carried-now d h c a r n q run (wrote {w = w} {i = s} z p k b) e =
+    let l : Label = write_label d h w s in
+    (l, inr refl, (picked_if (is_of a c) l.point q e).1)
 carried-now d h c a r n q run (moved {c = b} {j = j} {i = s} p w k) e =
     let l : Label = record { point = point_at (base h b s 0 + 1) s 0; kind = kind.Move j } in
     (l, inr refl, (picked_if (b == c) l.point q e).1)

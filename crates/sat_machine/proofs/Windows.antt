@@ -28,7 +28,7 @@ use Rattle.sat_laws.proofs.Members.{listed-gives}
 use Rattle.sat_laws.proofs.Sinks.{kept as kept_label}
 use Rattle.sat_laws.proofs.Shows.{in-lane, brings-for}
 use Rattle.sat_laws.proofs.Links.{get-cases, tail_of}
-use Rattle.sat_bulk.specs.declared.Payload.{Payload}
+use Rattle.sat_bulk.specs.Payloads.{Payload}
 use Rattle.sat_machine.specs.State.{SiteState}
 use Rattle.sat_machine.specs.Input.{SiteInput}
 use Rattle.sat_machine.specs.Input as given

@@ -3,6 +3,7 @@ use Rattle.std.specs.Prelude.{◌≡◌, ◌<◌, ◌≤◌, ℕ, zero, suc, ◌
 use Rattle.std.proofs.Common.{sym, subst, ap, ◌∙◌, arith}
 use Rattle.std.proofs.lemmas.Bool.Decides.{nat_tests}
 use Rattle.std.proofs.lemmas.List.{drop-append-le}
+use Rattle.sat_label.specs.declared.items.Items.TheVariants.{One}
 use Rattle.sat_label.specs.declared.label.Label.{Label}
 use Rattle.sat_label.specs.declared.point.Point.{Point}
 use Rattle.sat_label.specs.declared.label.Kind.{Kind}
@@ -28,7 +29,7 @@ use Rattle.sat_act.specs.Runs.{IsRun}
 use Rattle.sat_act.specs.Goals.{IsValid}
 use Rattle.sat_laws.proofs.Runs.{before_of, entry}
 use Rattle.sat_laws.proofs.Links.{taken-if, tail_of, get-below, taken-below, taking}
-use Rattle.sat_bulk.specs.declared.Payload.{Payload}
+use Rattle.sat_bulk.specs.Payloads.{Payload}
 use Rattle.sat_machine.specs.Input.{SiteInput}
 use Rattle.sat_machine.specs.Input as given
 use Rattle.sat_machine.specs.Reply.{site_answer}
@@ -39,7 +40,7 @@ use Rattle.sat_machine.proofs.Lists.{plain}
 use Rattle.sat_machine.proofs.Simple.{promise-agrees, emission-agrees, view-agrees}
 use Rattle.sat_machine.proofs.Windows.{front-agrees}
 use Rattle.sat_machine.proofs.Beating.{made-agrees}
-use Rattle.sat_machine.proofs.Replies.{tick-reply, write-reply, read-reply, move-reply, attach-reply, gather-reply, emit-reply, pulse-reply, turn-reply, bulk-reply, beat-reply, beat-in-reply, stamp-reply, close-reply, fall-reply, advance-reply}
+use Rattle.sat_machine.proofs.Replies.{tick-reply, write-reply, writes-reply, read-reply, move-reply, attach-reply, gather-reply, emit-reply, pulse-reply, turn-reply, bulk-reply, beat-reply, beat-in-reply, stamp-reply, close-reply, fall-reply, advance-reply}
 use Rattle.sat_machine.specs.Parts.{valued}
 
 -- ---- what is handed
@@ -227,7 +228,8 @@ pub world-answers : (d : Deployed) (h : List Entry) (a : Act) → IsValid d → 
 unfolding world_answer world_state answer
 world-answers d h (act.Tick i g t) v run = tick-reply d h i g t run
 world-answers d h act.Clock v run = ap (λ (p : ℕ). ans.Clocked p) (clock-agrees d h run)
-world-answers d h (act.Write c x value) v run = client-agrees d h c (act.Write c x value) (λ i. site_answer d i (site_state d h i) (given.Write (carrying h c) x value)) (λ i. write_at d h c x i) refl (λ t w. write-reply d h c x t value run w)
+world-answers d h (act.Write c x value) v run = client-agrees d h c (act.Write c x value) (λ i. site_answer d i (site_state d h i) (given.Write (carrying h c) (One x) (value ∷ []))) (λ i. write_at d h c (One x) i) refl (λ t w. write-reply d h c x t value run w)
+world-answers d h (act.Writes c items values) v run = client-agrees d h c (act.Writes c items values) (λ i. site_answer d i (site_state d h i) (given.Write (carrying h c) items values)) (λ i. write_at d h c items i) refl (λ t w. writes-reply d h c items t values run w)
 world-answers d h (act.Read c x) v run = client-agrees d h c (act.Read c x) (λ i. site_answer d i (site_state d h i) (given.Read (carrying h c) x)) (λ i. read_at d h x i) refl (λ t w. read-reply d h c x t v run w)
 world-answers d h (act.Move c j) v run = client-agrees d h c (act.Move c j) (λ i. site_answer d i (site_state d h i) (given.Move (carrying h c) j)) (λ i. move_from h c j i) refl (λ t w. move-reply d h c j t run w)
 world-answers d h (act.Leave c) v run = refl

@@ -37,7 +37,8 @@ abbrev pub OthersStay : Type 0
 OthersStay =
     (d : Deployed) (h : List Entry) (e : Entry) (i : ℕ) → handed d h e.act i ≡ None → site_state d (e ∷ h) i ≡ site_state d h i
 
--- what is handed by an act whose numbers name what they should fits: a run alone asks nothing of the items of writes and reads
+-- what is handed by an act whose numbers name what they should fits: a run alone doesn't ask that the items of writes and reads are
+-- the deployment's
 abbrev pub InputsFit : Type 0
 InputsFit =
     (d : Deployed) (h : List Entry) (a : Act) (i : ℕ) (input : SiteInput) →

@@ -7,7 +7,7 @@ use Rattle.sat_label.specs.Order.{mark, greater_point, label_eq}
 use Rattle.sat_label.specs.Words.{below, has}
 use Rattle.sat_act.specs.Deployed.{Deployed}
 use Rattle.sat_act.specs.Parts.{BeatNote, tree_of}
-use Rattle.sat_bulk.specs.declared.Payload.{Payload}
+use Rattle.sat_bulk.specs.Payloads.{Payload}
 use Rattle.sat_machine.specs.State.{SiteState}
 use Rattle.sat_label.specs.Least.{least_label}
 
@@ -56,10 +56,10 @@ label_of p = p.label
 abbrev pub waiting_of : SiteState → List Label
 waiting_of s = map label_of s.proxy.pool
 
--- the payload of a label
-unfoldable pub payload_in : List Payload → Label → List ℕ
+-- the parts of a label's payload
+unfoldable pub payload_in : List Payload → Label → List (Option (List ℕ))
 payload_in [] l = []
-payload_in (p ∷ ps) l = if label_eq p.label l then p.value else payload_in ps l
+payload_in (p ∷ ps) l = if label_eq p.label l then p.values else payload_in ps l
 
 -- above all numbers of a list
 unfoldable pub top : List ℕ → ℕ

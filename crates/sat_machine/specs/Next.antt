@@ -1,5 +1,5 @@
 -- What an answer makes of a site's state, part by part. A refusal, `Again` and `Old` change nothing.
-use Rattle.std.specs.Prelude.{ℕ, ◌+◌, Bool, true, false, ◌&&◌, ◌||◌, not, ◌==◌, List, [], ◌∷◌, ◌++◌, length, filter, Option, Some, None, if◌then◌else◌}
+use Rattle.std.specs.Prelude.{ℕ, ◌+◌, Bool, true, false, ◌&&◌, ◌||◌, not, ◌==◌, List, [], ◌∷◌, ◌++◌, length, filter, map, Option, Some, None, unwrap_or, if◌then◌else◌}
 use Rattle.sat_label.specs.declared.point.Point.{Point}
 use Rattle.sat_label.specs.declared.label.Label.{Label}
 use Rattle.sat_label.specs.Order.{greater_point, label_eq, label_lt}
@@ -7,9 +7,9 @@ use Rattle.sat_act.specs.declared.answer.Answer.{Answer}
 use Rattle.sat_act.specs.declared.answer.Answer.TheVariants as ans
 use Rattle.sat_act.specs.Deployed.{Deployed}
 use Rattle.sat_act.specs.Answers.{is_close_of}
-use Rattle.sat_act.specs.Parts.{BeatNote, is_target, is_update_of, known_by}
-use Rattle.sat_bulk.specs.declared.Payload.{Payload}
-use Rattle.sat_machine.specs.State.{GearState, SinkState, ViewState, ProxyState, SiteState}
+use Rattle.sat_act.specs.Parts.{BeatNote, is_target, is_update_of, items_of, value_for, known_by}
+use Rattle.sat_bulk.specs.Payloads.{Payload}
+use Rattle.sat_machine.specs.State.{GearState, SinkState, ViewState, ProxyState, Version, SiteState}
 use Rattle.sat_machine.specs.Input.{SiteInput}
 use Rattle.sat_machine.specs.Input as given
 use Rattle.sat_machine.specs.Look.{cut_of, mode_of, payload_in, best_of}
@@ -37,19 +37,19 @@ fresh_next g ls answer =
       | _ ↦ ls
     ]
 
--- the value of a write
-abbrev pub value_given : SiteInput → List ℕ
-value_given input = elim input [ given.Write seen x value ↦ value | _ ↦ [] ]
+-- the values of a write
+abbrev pub values_given : SiteInput → List (List ℕ)
+values_given input = elim input [ given.Write seen items values ↦ values | _ ↦ [] ]
 
--- a label and its value
-abbrev pub payload_at : Label → List ℕ → Payload
-payload_at l value = record { label = l; value = value }
+-- a label and all its values
+abbrev pub payload_at : Label → List (List ℕ) → Payload
+payload_at l values = record { label = l; values = map (λ v. Some v) values }
 
 -- what it makes of the lane of gear g to site j
 abbrev pub lane_next : Deployed → ℕ → ℕ → List Payload → SiteInput → Answer → List Payload
 lane_next d g j ps input answer =
     elim answer [
-      | ans.Wrote l ↦ if (l.point.gear == g) && is_target d l j then ps ++ payload_at l (value_given input) ∷ [] else ps
+      | ans.Wrote l ↦ if (l.point.gear == g) && is_target d l j then ps ++ payload_at l (values_given input) ∷ [] else ps
       | _ ↦ ps
     ]
 
@@ -186,15 +186,25 @@ proxy_next d j s input answer = record {
 -- ---- the store: a lower label changes nothing
 
 -- a version put before an old one: the greater stays
-abbrev pub put : Option Payload → Payload → Option Payload
+abbrev pub put : Option Version → Version → Option Version
 put old p = elim old [ None ↦ Some p | Some q ↦ if label_lt q.label p.label then Some p else Some q ]
 
+-- a label and its value for an item
+abbrev pub version_at : Label → List ℕ → Version
+version_at l value = record { label = l; value = value }
+
+-- of the parts for some items, the value of that for item x
+abbrev pub part_for : List ℕ → List (Option (List ℕ)) → ℕ → List ℕ
+part_for [] ps x = []
+part_for (y ∷ ys) [] x = []
+part_for (y ∷ ys) (p ∷ ps) x = if y == x then unwrap_or p [] else part_for ys ps x
+
 -- what it makes of the version of item x
-abbrev pub store_next : ℕ → Option Payload → List Payload → SiteInput → Answer → Option Payload
+abbrev pub store_next : ℕ → Option Version → List Payload → SiteInput → Answer → Option Version
 store_next x old pool input answer =
     elim answer [
-      | ans.Wrote l ↦ if is_update_of l.kind x then put old (payload_at l (value_given input)) else old
-      | ans.Shown l ↦ if is_update_of l.kind x then put old (payload_at l (payload_in pool l)) else old
+      | ans.Wrote l ↦ if is_update_of l.kind x then put old (version_at l (value_for (items_of l.kind) (values_given input) x)) else old
+      | ans.Shown l ↦ if is_update_of l.kind x then put old (version_at l (part_for (items_of l.kind) (payload_in pool l) x)) else old
       | _ ↦ old
     ]
 

@@ -3,22 +3,23 @@ use Rattle.std.specs.Prelude.{◌≡◌, ℕ, List, length, map, drop, ◌++◌,
 use Rattle.sat_label.specs.declared.label.Label.{Label}
 use Rattle.sat_label.specs.declared.node.NodeId.{NodeId}
 use Rattle.sat_tree.specs.Shape.{TreeShape}
-use Rattle.sat_bulk.specs.declared.Payload.{Payload}
+use Rattle.sat_bulk.specs.Payloads.{Payload}
 use Rattle.sat_act.specs.declared.entry.Entry.{Entry}
 use Rattle.sat_act.specs.Deployed.{Deployed}
-use Rattle.sat_act.specs.Parts.{tree_of, promise, made, gathered, stable, ready, cut, last_sent, last_pulse, pending, emission, close_cut, view, fallen, in_stamp_mode, entered, taken, killed, version, value_of, lane, lane_front, waiting, beats, best, seat, moving, carried, last}
+use Rattle.sat_act.specs.Parts.{tree_of, promise, made, gathered, stable, ready, cut, last_sent, last_pulse, pending, emission, close_cut, view, fallen, in_stamp_mode, entered, taken, killed, version, values_of, value_of, lane, lane_front, waiting, beats, best, seat, moving, carried, last}
 use Rattle.sat_act.specs.Answers.{took_close}
-use Rattle.sat_machine.specs.State.{SiteState}
+use Rattle.sat_machine.specs.State.{SiteState, Version}
 use Rattle.sat_machine.specs.Look.{rows, stable_of, ready_of, cut_of, mode_of, waiting_of, front_of, best_of}
+use Rattle.sat_machine.specs.Next.{payload_at, version_at}
 use Rattle.sat_machine.specs.World.{WorldState}
 
--- a label with the value of its write
+-- a label with the values of its write
 abbrev pub valued : List Entry → Label → Payload
-valued h l = record { label = l; value = value_of h l }
+valued h l = payload_at l (values_of h l)
 
--- a version with the value of its write
-abbrev pub valued_version : List Entry → Option Label → Option Payload
-valued_version h o = elim o [ None ↦ None | Some l ↦ Some (valued h l) ]
+-- a version of item x with the value of its write for it
+abbrev pub valued_version : List Entry → ℕ → Option Label → Option Version
+valued_version h x o = elim o [ None ↦ None | Some l ↦ Some (version_at l (value_of h l x)) ]
 
 -- the gears and the sink of site i
 pub record SinkAgrees (d : Deployed) (h : List Entry) (i : ℕ) (s : SiteState) : Type 0 where
@@ -47,7 +48,7 @@ pub record ViewAgrees (d : Deployed) (h : List Entry) (j : ℕ) (s : SiteState) 
   pub waiting : waiting_of s ≡ waiting h j
   pub best : (i : ℕ) → best_of d s i ≡ best d h j i
   pub last : (i : ℕ) → s.proxy.last i ≡ last d h j i
-  pub versions : (x : ℕ) → s.store x ≡ valued_version h (version h j x)
+  pub versions : (x : ℕ) → s.store x ≡ valued_version h x (version h j x)
   pub beats : (k : ℕ) → s.made_beats k ≡ beats d h j k
 
 -- a client

@@ -1,5 +1,6 @@
 -- What each site is handed in a history, and its state: the replay of that.
 use Rattle.std.specs.Prelude.{ℕ, ◌==◌, List, [], ◌∷◌, Option, Some, None, slice_get, if◌then◌else◌}
+use Rattle.sat_label.specs.declared.items.Items.TheVariants.{One}
 use Rattle.sat_label.specs.declared.label.Label.{Label}
 use Rattle.sat_label.specs.declared.node.NodeId.TheVariants.{Site}
 use Rattle.sat_act.specs.declared.act.Act.{Act}
@@ -7,13 +8,13 @@ use Rattle.sat_act.specs.declared.act.Act.TheVariants as act
 use Rattle.sat_act.specs.declared.answer.Answer.{Answer}
 use Rattle.sat_act.specs.declared.entry.Entry.{Entry}
 use Rattle.sat_act.specs.Deployed.{Deployed}
-use Rattle.sat_act.specs.Parts.{tree_of, view, seat_in, link_front, value_of, lane, lane_front, beats, seat, moving, carried}
+use Rattle.sat_act.specs.Parts.{tree_of, view, seat_in, link_front, values_of, lane, lane_front, beats, seat, moving, carried}
 use Rattle.sat_act.specs.Answers.{greatest_promise}
 use Rattle.sat_label.specs.declared.carried.Carried.{Carried}
 use Rattle.sat_machine.specs.State.{SiteState, fresh_site}
 use Rattle.sat_machine.specs.Input.{SiteInput}
 use Rattle.sat_machine.specs.Input as given
-use Rattle.sat_machine.specs.Next.{site_next}
+use Rattle.sat_machine.specs.Next.{site_next, payload_at}
 
 -- what a client carries after a history
 abbrev pub carrying : List Entry → ℕ → Carried
@@ -39,7 +40,7 @@ given_seat o i input = elim o [ None ↦ None | Some k ↦ given_at k i input ]
 -- what site k is handed of the payload of this number of the lane of gear g of i to j
 abbrev pub given_bulk : Deployed → List Entry → ℕ → ℕ → ℕ → ℕ → ℕ → Option SiteInput
 given_bulk d h i g j n k =
-    elim (slice_get (lane d h i g j) n) [ None ↦ None | Some l ↦ given_at j k (given.Bulk i g n (record { label = l; value = value_of h l })) ]
+    elim (slice_get (lane d h i g j) n) [ None ↦ None | Some l ↦ given_at j k (given.Bulk i g n (payload_at l (values_of h l))) ]
 
 -- the number of a bulk: the one that it names, or the front of the lane
 abbrev pub given_number : Deployed → List Entry → ℕ → ℕ → ℕ → Option ℕ → ℕ
@@ -47,10 +48,11 @@ given_number d h i g j o = elim o [ None ↦ lane_front d h i g j | Some n ↦ n
 
 -- what an act hands to site k, None where it is not an act at k, or finds nothing to hand
 unfoldable pub handed : Deployed → List Entry → Act → ℕ → Option SiteInput
-unfolding turn_front lane value_of lane_front beats seat carried moving greatest_promise
+unfolding turn_front lane values_of lane_front beats seat carried moving greatest_promise
 handed d h (act.Tick i g ts) k = given_at i k (given.Tick g ts)
 handed d h act.Clock k = Some (given.Clock (greatest_promise h d.sites d.gears))
-handed d h (act.Write c x value) k = given_seat (seat d h c) k (given.Write (carrying h c) x value)
+handed d h (act.Write c x value) k = given_seat (seat d h c) k (given.Write (carrying h c) (One x) (value ∷ []))
+handed d h (act.Writes c items values) k = given_seat (seat d h c) k (given.Write (carrying h c) items values)
 handed d h (act.Read c x) k = given_seat (seat d h c) k (given.Read (carrying h c) x)
 handed d h (act.Move c j) k = given_seat (seat d h c) k (given.Move (carrying h c) j)
 handed d h (act.Attach c j) k = elim (seat d h c) [ None ↦ given_at j k (given.Attach (carrying h c)) | Some i ↦ None ]

@@ -3,19 +3,20 @@ use Rattle.std.specs.Prelude.{ℕ, ◌+◌, Bool, false, ◌&&◌, ◌||◌, not
 use Rattle.std.specs.List.{list_any}
 use Rattle.sat_label.specs.declared.point.Point.{Point}
 use Rattle.sat_label.specs.declared.limits.TheConstants.{PULSE_GEAR, TS_END}
+use Rattle.sat_label.specs.declared.items.Items.{Items}
 use Rattle.sat_label.specs.declared.label.Kind.TheVariants as kind
 use Rattle.sat_label.specs.declared.label.Label.{Label}
+use Rattle.sat_label.specs.Grouped.{least_item, list_of}
 use Rattle.sat_label.specs.Order.{point_at, mark, zero_point, point_le}
 use Rattle.sat_label.specs.Words.{has}
 use Rattle.sat_act.specs.declared.answer.Answer.{Answer}
 use Rattle.sat_act.specs.declared.answer.Answer.TheVariants as ans
 use Rattle.sat_act.specs.declared.answer.Refusal.TheVariants as why
 use Rattle.sat_act.specs.Deployed.{Deployed}
-use Rattle.sat_act.specs.Parts.{BeatNote, replicates, best_passes, all_others, reaches, closed_below, passed_ts, passed_label}
+use Rattle.sat_act.specs.Parts.{BeatNote, replicates, keeps_all, best_passes, all_others, reaches, closed_below, passed_ts, passed_label}
 use Rattle.sat_act.specs.Answers.{refused_if, gear_of, turned, is_drained}
 use Rattle.sat_label.specs.declared.carried.Carried.{Carried}
-use Rattle.sat_bulk.specs.declared.Payload.{Payload}
-use Rattle.sat_machine.specs.State.{SiteState}
+use Rattle.sat_machine.specs.State.{SiteState, Version}
 use Rattle.sat_machine.specs.Input.{SiteInput}
 use Rattle.sat_machine.specs.Input as given
 use Rattle.sat_machine.specs.Look.{rows, least_row, stable_of, ready_of, cut_of, mode_of, waiting_of, best_of, numbers_of}
@@ -24,16 +25,20 @@ use Rattle.sat_label.specs.Least.{least_label}
 
 -- ---- clients' acts
 
--- a write of item x at site i, by its gear's promise and the client's timestamp
-abbrev pub write_by : Deployed → ℕ → ℕ → ℕ → ℕ → Answer
-write_by d i x promise seen =
-    refused_if (not (replicates d x i)) why.NotHere (
+-- the gear that stamps an update of some items: that of the least
+abbrev pub gear_for : Deployed → Items → ℕ
+gear_for d items = gear_of d (least_item (list_of items))
+
+-- a write of some items at site i, by the promise of the gear that stamps it and the client's timestamp
+abbrev pub write_by : Deployed → ℕ → Items → ℕ → ℕ → Answer
+write_by d i items promise seen =
+    refused_if (not (keeps_all d (list_of items) i)) why.NotHere (
     let ts = max promise seen in
     refused_if (nat_le TS_END ts) why.Spent (
-    ans.Wrote (record { point = point_at (ts + 1) i (gear_of d x); kind = kind.Update x })))
+    ans.Wrote (record { point = point_at (ts + 1) i (gear_for d items); kind = kind.Update items })))
 
 -- a read of item x at site i, whose version is given
-abbrev pub read_by : Deployed → ℕ → ℕ → Option Payload → Answer
+abbrev pub read_by : Deployed → ℕ → ℕ → Option Version → Answer
 read_by d i x version =
     refused_if (not (replicates d x i)) why.NotHere (
     elim version [ None ↦ ans.ReadNone | Some p ↦ ans.ReadSome p.label p.value ])
@@ -112,7 +117,7 @@ may_pass d o heard j =
 unfoldable pub site_answer : Deployed → ℕ → SiteState → SiteInput → Answer
 site_answer d i s (given.Tick g ts) = ans.Ticked (max (s.gears g).promise ts)
 site_answer d i s (given.Clock p) = ans.Clocked p
-site_answer d i s (given.Write seen x value) = write_by d i x (s.gears (gear_of d x)).promise seen.point.ts
+site_answer d i s (given.Write seen items values) = write_by d i items (s.gears (gear_for d items)).promise seen.point.ts
 site_answer d i s (given.Read seen x) = read_by d i x (s.store x)
 site_answer d i s (given.Move seen j) = move_by i j (s.gears 0).promise seen.point.ts
 site_answer d i s (given.Attach seen) = refused_if (not (may_come d (outlook_of d s) seen i)) why.NotYet ans.Attached

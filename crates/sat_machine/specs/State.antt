@@ -3,7 +3,7 @@ use Rattle.std.specs.Prelude.{ℕ, Bool, false, List, [], Option, None}
 use Rattle.sat_label.specs.declared.point.Point.{Point}
 use Rattle.sat_label.specs.declared.label.Label.{Label}
 use Rattle.sat_label.specs.Order.{point_at}
-use Rattle.sat_bulk.specs.declared.Payload.{Payload}
+use Rattle.sat_bulk.specs.Payloads.{Payload}
 use Rattle.sat_act.specs.Parts.{BeatNote}
 
 -- a gear: its promise, the labels that were not gathered, and by site the payloads of its lane to it
@@ -37,13 +37,18 @@ pub record ProxyState : Type 0 where
   pub beats : ℕ → List (ℕ × BeatNote)
   pub last : ℕ → Point
 
+-- a version of an item: the label of the update, and its value for the item
+pub record Version : Type 0 where
+  pub label : Label
+  pub value : List ℕ
+
 -- a site: its gears, its sink, its views, what it has of other sites, its version of each item, and by site the beats that it made
 pub record SiteState : Type 0 where
   pub gears : ℕ → GearState
   pub sink : SinkState
   pub views : ViewState
   pub proxy : ProxyState
-  pub store : ℕ → Option Payload
+  pub store : ℕ → Option Version
   pub made_beats : ℕ → List BeatNote
 
 -- a site in the beginning

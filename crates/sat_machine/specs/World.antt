@@ -1,6 +1,7 @@
 -- A world of sites, links, killed serializers and clients, without the past, and its step.
 use Rattle.std.specs.Prelude.{ℕ, zero, suc, Bool, true, false, ◌&&◌, not, ◌==◌, max, List, [], ◌∷◌, ◌++◌, filter, drop, Option, Some, None, slice_get, if◌then◌else◌}
 use Rattle.sat_label.specs.declared.point.Point.{Point}
+use Rattle.sat_label.specs.declared.items.Items.TheVariants.{One}
 use Rattle.sat_label.specs.declared.label.Kind.TheVariants as kind
 use Rattle.sat_label.specs.declared.label.Label.{Label}
 use Rattle.sat_label.specs.declared.node.NodeId.{NodeId}
@@ -19,7 +20,7 @@ use Rattle.sat_act.specs.Done.{is_of, is_kill}
 use Rattle.sat_act.specs.Parts.{BeatNote, Handling, tree_of, seat_in, goes_beyond, entered, taken, killed, carried, moving, seat, home, is_put, is_taken}
 use Rattle.sat_act.specs.Answers.{refused_if, at_seat}
 use Rattle.sat_label.specs.declared.carried.Carried.{Carried}
-use Rattle.sat_bulk.specs.declared.Payload.{Payload}
+use Rattle.sat_bulk.specs.Payloads.{Payload}
 use Rattle.sat_machine.specs.State.{SiteState, fresh_site}
 use Rattle.sat_machine.specs.Input.{SiteInput}
 use Rattle.sat_machine.specs.Input as given
@@ -85,7 +86,8 @@ beat_from w i j n = slice_get ((w.sites i).made_beats j) n
 unfoldable pub world_given : Deployed → WorldState → Act → ℕ → Option SiteInput
 world_given d w (act.Tick i g ts) k = given_at i k (given.Tick g ts)
 world_given d w act.Clock k = Some (given.Clock (clock_of d w))
-world_given d w (act.Write c x value) k = given_seat (w.clients c).seat k (given.Write (w.clients c).carried x value)
+world_given d w (act.Write c x value) k = given_seat (w.clients c).seat k (given.Write (w.clients c).carried (One x) (value ∷ []))
+world_given d w (act.Writes c items values) k = given_seat (w.clients c).seat k (given.Write (w.clients c).carried items values)
 world_given d w (act.Read c x) k = given_seat (w.clients c).seat k (given.Read (w.clients c).carried x)
 world_given d w (act.Move c j) k = given_seat (w.clients c).seat k (given.Move (w.clients c).carried j)
 world_given d w (act.Attach c j) k = elim (w.clients c).seat [ None ↦ given_at j k (given.Attach (w.clients c).carried) | Some i ↦ None ]
@@ -117,7 +119,8 @@ unfoldable pub world_answer : Deployed → WorldState → Act → Answer
 unfolding site_answer
 world_answer d w (act.Tick i g ts) = site_answer d i (w.sites i) (given.Tick g ts)
 world_answer d w act.Clock = ans.Clocked (clock_of d w)
-world_answer d w (act.Write c x value) = at_seat (w.clients c).seat (λ i. site_answer d i (w.sites i) (given.Write (w.clients c).carried x value))
+world_answer d w (act.Write c x value) = at_seat (w.clients c).seat (λ i. site_answer d i (w.sites i) (given.Write (w.clients c).carried (One x) (value ∷ [])))
+world_answer d w (act.Writes c items values) = at_seat (w.clients c).seat (λ i. site_answer d i (w.sites i) (given.Write (w.clients c).carried items values))
 world_answer d w (act.Read c x) = at_seat (w.clients c).seat (λ i. site_answer d i (w.sites i) (given.Read (w.clients c).carried x))
 world_answer d w (act.Move c j) = at_seat (w.clients c).seat (λ i. site_answer d i (w.sites i) (given.Move (w.clients c).carried j))
 world_answer d w (act.Leave c) = at_seat (w.clients c).seat (λ i. ans.Left (w.clients c).carried.point)

@@ -1,3 +1,4 @@
+pub mod Keepers
 pub mod Plain
 pub mod Peers
 pub mod Replies

@@ -2,6 +2,9 @@
 use Rattle.std.proofs.Common.{◌≡◌, ℕ, Bool, true, false, refl, Option, Some, None}
 use Rattle.sat_label.specs.declared.label.Label.{Label}
 use Rattle.sat_label.specs.declared.label.Kind.{Kind}
+use Rattle.sat_label.specs.declared.items.Items.{Items}
+use Rattle.sat_label.specs.declared.point.Point.{Point}
+use Rattle.sat_label.specs.Grouped.{list_of}
 use Rattle.sat_label.specs.declared.label.Kind.TheVariants as kind
 use Rattle.sat_label.specs.declared.carried.Carried.{Carried}
 use Rattle.sat_beat.specs.declared.beats.BeatTake.{BeatTake}
@@ -28,12 +31,12 @@ use Rattle.sat_proxy.specs.Steps.{beat_take, turn_fault, stamp_fault, stamp_labe
 use Rattle.sat_proxy.specs.Proxy.{window_of, outlook_here}
 use Rattle.sat_proxy.specs.Asks.{may_come_at}
 use Rattle.sat_bulk.specs.Windows.{has_number}
-use Rattle.sat_site.specs.Changes.{gear_at}
+use Rattle.sat_site.specs.Changes.{gear_for}
 use Rattle.sat_machines.specs.Plain.{is_plain, is_spare}
 use Rattle.std.proofs.Common.{if◌then◌else◌, slice_get, ◌==◌, ◌<◌, not}
 use Rattle.sat_act.specs.declared.answer.Answer.TheVariants as ans
 use Rattle.sat_act.specs.declared.answer.Refusal.TheVariants as why
-use Rattle.sat_site.specs.SiteSteps.{keeps_item, site_after}
+use Rattle.sat_site.specs.SiteSteps.{keeps_each, site_after}
 use Rattle.sat_site.specs.Changes.{beat_for}
 use Rattle.sat_site.specs.Inputs.{fits_in, fits_here, is_other_here, is_site_here}
 use Rattle.std.proofs.lemmas.Bool.{and_parts, ltb-true}
@@ -46,10 +49,10 @@ stamp-plain : (b : Bool) (l : Label) → is_plain (stamp_answer_of b l) ≡ true
 stamp-plain true l = refl
 stamp-plain false l = refl
 
-write-plain : (b : Bool) (o : Option GearSeen) (seen : Carried) (n : ℕ) → is_plain (write_answer b o seen n) ≡ true
-write-plain false o seen n = refl
-write-plain true None seen n = refl
-write-plain true (Some gear) seen n = stamp-plain (is_spent gear seen.point) (stamped gear seen.point (kind.Update n))
+write-plain : (b : Bool) (o : Option GearSeen) (seen : Point) (items : Items) → is_plain (write_answer b o seen items) ≡ true
+write-plain false o seen items = refl
+write-plain true None seen items = refl
+write-plain true (Some gear) seen items = stamp-plain (is_spent gear seen) (stamped gear seen (kind.Update items))
 
 moved-plain : (b : Bool) (l : Label) → is_plain (moved_answer b l) ≡ true
 moved-plain true l = refl
@@ -73,7 +76,7 @@ pulse-plain None = refl
 pulse-plain (Some l) = refl
 
 done-plain : (l : Label) (k : Kind) → is_plain (done_answer l k) ≡ true
-done-plain l (kind.Update x) = refl
+done-plain l (kind.Update items) = refl
 done-plain l (kind.Move j) = refl
 done-plain l kind.Pulse = refl
 done-plain l (kind.Close e) = refl
@@ -118,7 +121,7 @@ view-plain None v = refl
 pub plain_answer : (x : SiteSeen) (given : SiteInput) → is_spare given ≡ true → is_plain (site_answers x given) ≡ true
 unfolding site_answers
 plain_answer x (input.Tick g t) e = tick-plain (slice_get x.gears g) t
-plain_answer x (input.Write seen n value) e = write-plain (keeps_item x n) (slice_get x.gears (gear_at x n)) seen n
+plain_answer x (input.Write seen items values) e = write-plain (keeps_each x (list_of items)) (slice_get x.gears (gear_for x items)) seen.point items
 plain_answer x (input.Read seen n) e = absurd (cc)
 plain_answer x (input.Move seen j) e = move-plain (j == x.shape.site) (slice_get x.gears 0) seen j
 plain_answer x (input.Attach seen) e = attach-plain (may_come_at x.proxy.sites (outlook_here x.views x.proxy) seen x.proxy.site)
@@ -137,7 +140,7 @@ plain_answer x input.Advance e = view-plain (advance_fault x.views (has_come x.v
 pub spare_beat : (x : SiteSeen) (given : SiteInput) → is_spare given ≡ true → None ≡ site_beat x given
 unfolding site_beat
 spare_beat x (input.Tick g t) e = refl
-spare_beat x (input.Write seen n value) e = refl
+spare_beat x (input.Write seen items values) e = refl
 spare_beat x (input.Read seen n) e = refl
 spare_beat x (input.Move seen j) e = refl
 spare_beat x (input.Attach seen) e = refl

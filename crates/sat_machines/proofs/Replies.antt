@@ -3,6 +3,7 @@ use Rattle.std.proofs.Common.{◌≡◌, ◌∙◌, ℕ, ◌≤◌, ◌<◌, tru
 use Rattle.std.proofs.lemmas.Bool.{and_parts}
 use Rattle.sat_machines.proofs.Plain.{beat_fits}
 use Rattle.sat_label.specs.declared.label.Label.{Label}
+use Rattle.sat_label.specs.Words.{bit}
 use Rattle.sat_sites.specs.declared.shape.Shape.{Shape}
 use Rattle.sat_epoch.specs.Epochs.{close_fault, is_stamp}
 use Rattle.sat_epoch.specs.declared.views.CloseFault.{CloseFault}
@@ -30,7 +31,7 @@ use Rattle.sat_machines.specs.Acts.{ActSeen, IsBy}
 use Rattle.sat_machines.specs.Layout.{label_link}
 use Rattle.sat_label.specs.declared.node.NodeName.{NodeName}
 use Rattle.sat_label.specs.declared.node.NodeName.TheVariants as named
-use Rattle.sat_machines.specs.Sites.{number_of, Stands, AnswersAt, FitsAt, BeatBy, leaves, sent_by, epoch_by, keepers_of}
+use Rattle.sat_machines.specs.Sites.{number_of, Stands, AnswersAt, FitsAt, BeatBy, leaves, sent_by, epoch_by, is_keeper}
 
 -- ---- what is sent
 
@@ -69,7 +70,7 @@ sent-is d i x s input.Emit site st = leaves-is d i x s (ready_of x.sink) (emit_a
 sent-is d i x s input.Pulse site st = leaves-is d i x s (next_pulse x.sink) (pulse_answer (next_pulse x.sink)) site st (sent-of-pulse (next_pulse x.sink))
 sent-is d i x s input.Close site st = leaves-is d i x s (next_close (close_fault x.views) x) (close_answer (close_fault x.views) x) site st (sent-of-close (close_fault x.views) x)
 sent-is d i x s (input.Tick g t) site st = refl
-sent-is d i x s (input.Write seen n value) site st = refl
+sent-is d i x s (input.Write seen items values) site st = refl
 sent-is d i x s (input.Read seen n) site st = refl
 sent-is d i x s (input.Move seen j) site st = refl
 sent-is d i x s (input.Attach seen) site st = refl
@@ -88,7 +89,7 @@ epoch-is : (d : Deployed) (i : ℕ) (x : SiteSeen) (s : SiteState) (given : Site
 unfolding site_epoch epoch_by
 epoch-is d i x s (input.Turn front) st = st.views.view
 epoch-is d i x s (input.Tick g t) st = ap (sent_epoch (site_sends x (input.Tick g t))) st.views.emission
-epoch-is d i x s (input.Write seen n value) st = ap (sent_epoch (site_sends x (input.Write seen n value))) st.views.emission
+epoch-is d i x s (input.Write seen items values) st = ap (sent_epoch (site_sends x (input.Write seen items values))) st.views.emission
 epoch-is d i x s (input.Read seen n) st = ap (sent_epoch (site_sends x (input.Read seen n))) st.views.emission
 epoch-is d i x s (input.Move seen j) st = ap (sent_epoch (site_sends x (input.Move seen j))) st.views.emission
 epoch-is d i x s (input.Attach seen) st = ap (sent_epoch (site_sends x (input.Attach seen))) st.views.emission
@@ -124,7 +125,7 @@ beat-is : (d : Deployed) (i : ℕ) (x : SiteSeen) (s : SiteState) (given : SiteI
 unfolding site_beat
 beat-is d i x s (input.Beat j) site st e = note-is d i x s j (beat-site d i x s j st e) site st
 beat-is d i x s (input.Tick g t) site st e = refl
-beat-is d i x s (input.Write seen n value) site st e = refl
+beat-is d i x s (input.Write seen items values) site st e = refl
 beat-is d i x s (input.Read seen n) site st e = refl
 beat-is d i x s (input.Move seen j) site st e = refl
 beat-is d i x s (input.Attach seen) site st e = refl
@@ -146,7 +147,7 @@ pub record Gave (d : Deployed) (x : SiteSeen) (given : SiteInput) (a : SiteAnswe
   pub answer : a.answer ≡ site_answers x given
   pub sent : a.sent ≡ site_sends x given
   pub link : a.link ≡ label_link d (site_epoch x given)
-  pub keepers : a.keepers ≡ keepers_of d given
+  pub keepers : (k : ℕ) → bit a.keepers.bits k ≡ is_keeper d given k
   pub beat : a.beat ≡ site_beat x given
 
 pub answers-at : EachStep → (d : Deployed) (i : ℕ) (x : SiteSeen) (s : SiteState) (act : ActSeen) (a : SiteAnswer) → IsDeployment d → IsSite x → StandsSite d i x s → fits_in x act.input ≡ true →

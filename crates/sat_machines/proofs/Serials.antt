@@ -6,7 +6,9 @@ use Rattle.sat_label.specs.declared.label.Kind.{Kind}
 use Rattle.sat_label.specs.declared.label.Kind.TheVariants as kind
 use Rattle.sat_label.specs.declared.node.NodeId.{NodeId}
 use Rattle.sat_label.specs.declared.node.NodeId.TheVariants.{Site, Serializer}
+use Rattle.sat_label.specs.Grouped.{list_of}
 use Rattle.sat_sites.specs.Interested.{Interested, IsLabelOf, IsKindOf}
+use Rattle.sat_sites.proofs.Below.{below_is}
 use Rattle.sat_tree.specs.Shape.{TreeShape}
 use Rattle.sat_tree.specs.Cut.{is_edge, hangs_on, neighbours, IsNode}
 use Rattle.sat_serial.specs.Routes.{leads, Arrives}
@@ -42,7 +44,7 @@ node_is t (Site i) e = ltb-true _ _ e
 node_is t (Serializer z) e = ltb-true _ _ e
 
 kind-is : (a : Interested) (k : Kind) → is_kind_of a k ≡ true → IsKindOf a k
-kind-is a (kind.Update n) e = ltb-true _ _ e
+kind-is a (kind.Update items) e = below_is (length a.replicas) (list_of items) e
 kind-is a (kind.Move j) e = ltb-true _ _ e
 kind-is a kind.Pulse e = tt
 kind-is a (kind.Close f) e = tt

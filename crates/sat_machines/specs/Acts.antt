@@ -10,7 +10,7 @@ pub record ActSeen : Type 0 where
 
 -- whether it is an act of a client
 abbrev pub is_clients : SiteInput → Bool
-is_clients (input.Write seen n value) = true
+is_clients (input.Write seen items values) = true
 is_clients (input.Read seen n) = true
 is_clients (input.Move seen j) = true
 is_clients (input.Attach seen) = true

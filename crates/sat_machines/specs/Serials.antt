@@ -7,9 +7,10 @@ use Rattle.sat_label.specs.declared.node.NodeId.{NodeId}
 use Rattle.sat_label.specs.declared.node.NodeId.TheVariants.{Site, Serializer}
 use Rattle.sat_label.specs.declared.node.NodeName.{NodeName}
 use Rattle.sat_label.specs.declared.node.NodeName.TheVariants as named
+use Rattle.sat_label.specs.Grouped.{list_of}
 use Rattle.sat_label.specs.Order.{node_eq}
 use Rattle.sat_label.specs.Words.{has}
-use Rattle.sat_sites.specs.Interested.{Interested}
+use Rattle.sat_sites.specs.Interested.{Interested, are_below}
 use Rattle.sat_tree.specs.Shape.{TreeShape}
 use Rattle.sat_tree.specs.Cut.{is_edge, neighbours}
 use Rattle.sat_act.specs.declared.answer.Answer.{Answer}
@@ -65,7 +66,7 @@ is_node t (Site i) = nat_lt i (length t.seats)
 is_node t (Serializer z) = nat_lt z (length t.parents)
 
 abbrev pub is_kind_of : Interested → Kind → Bool
-is_kind_of a (kind.Update n) = nat_lt n (length a.replicas)
+is_kind_of a (kind.Update items) = are_below (length a.replicas) (list_of items)
 is_kind_of a (kind.Move j) = nat_lt j a.sites
 is_kind_of a _ = true
 

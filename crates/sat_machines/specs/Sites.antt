@@ -1,20 +1,19 @@
 -- What a site means as a machine: its state, its answers, and what its entries put on links and take from them.
-use Rattle.std.specs.Prelude.{ℕ, ◌≡◌, ◌==◌, ◌&&◌, Bool, true, false, List, slice_get, Option, Some, None, is_none}
+use Rattle.std.specs.Prelude.{ℕ, ◌≡◌, ◌==◌, ◌&&◌, Bool, true, false, List, Option, Some, None, is_none}
 use Rattle.sat_label.specs.declared.label.Label.{Label}
 use Rattle.sat_label.specs.declared.node.NodeName.{NodeName}
 use Rattle.sat_label.specs.declared.node.NodeName.TheVariants as named
-use Rattle.sat_label.specs.declared.site_set.SiteSet.{SiteSet}
+use Rattle.sat_label.specs.Grouped.{list_of}
 use Rattle.sat_label.specs.Words.{bit}
 use Rattle.sat_beat.specs.declared.Beat.{Beat}
 use Rattle.sat_act.specs.declared.answer.Answer.{Answer}
 use Rattle.sat_act.specs.declared.answer.Answer.TheVariants as ans
 use Rattle.sat_act.specs.declared.answer.Refusal.TheVariants as why
-use Rattle.sat_act.specs.declared.deployment.Item.{Item}
 use Rattle.sat_act.specs.Deployed.{Deployed}
-use Rattle.sat_act.specs.Parts.{tree_of}
+use Rattle.sat_act.specs.Parts.{keeps_some, tree_of}
 use Rattle.sat_machine.specs.Fits.{fits}
 use Rattle.sat_machine.specs.State.{SiteState, fresh_site}
-use Rattle.sat_machine.specs.Next.{site_next, note_of as machine_note}
+use Rattle.sat_machine.specs.Next.{site_next, payload_at, note_of as machine_note}
 use Rattle.sat_machine.specs.Reply.{site_answer}
 use Rattle.sat_proxy.specs.Proxy.{note_of}
 use Rattle.sat_site.specs.declared.input.SiteInput.{SiteInput}
@@ -61,14 +60,10 @@ unfoldable pub epoch_by : SiteState → SiteInput → Option Label → ℕ
 epoch_by s (input.Turn front) o = s.views.view
 epoch_by s given o = sent_epoch o s.views.emission
 
--- the sites that keep the item of a write
-abbrev pub keepers_at : Option Item → SiteSet
-keepers_at None = record { bits = 0 }
-keepers_at (Some item) = item.replicas
-
-abbrev pub keepers_of : Deployed → SiteInput → SiteSet
-keepers_of d (input.Write seen n value) = keepers_at (slice_get d.items n)
-keepers_of d _ = record { bits = 0 }
+-- whether site k keeps one of the items of a write
+abbrev pub is_keeper : Deployed → SiteInput → ℕ → Bool
+is_keeper d (input.Write seen items values) k = keeps_some d (list_of items) k
+is_keeper d _ k = false
 
 -- the beat that is made
 abbrev pub IsBeat : Deployed → ℕ → SiteState → ℕ → Option Beat → Type 0
@@ -84,7 +79,7 @@ pub record AnswersAt (d : Deployed) (i : ℕ) (s : SiteState) (act : ActSeen) (a
   pub answer : a.answer ≡ site_answer d i s (input_of act.input)
   pub sent : a.sent ≡ sent_by d i s act.input a.answer
   pub link : a.link ≡ label_link d (epoch_by s act.input a.sent)
-  pub keepers : a.keepers ≡ keepers_of d act.input
+  pub keepers : (k : ℕ) → bit a.keepers.bits k ≡ is_keeper d act.input k
   pub beat : BeatBy d i s act.input a.beat
 
 -- it fits the model's machine, and is a client's where it has to be
@@ -98,10 +93,10 @@ abbrev pub some_if : {X : Type 0} → Bool → X → Option X
 some_if true x = Some x
 some_if false x = None
 
--- the payload of a write, if it is for the site
-abbrev pub payload_in : Bool → List ℕ → Answer → Option Made
-payload_in here value (ans.Wrote l) = some_if here (made.Payload l.point.gear (record { label = l; value = value }))
-payload_in here value _ = None
+-- the payload of a write, with all its values, if it is for the site
+abbrev pub payload_in : Bool → List (List ℕ) → Answer → Option Made
+payload_in here values (ans.Wrote l) = some_if here (made.Payload l.point.gear (payload_at l values))
+payload_in here values _ = None
 
 -- a beat, if it is for the site
 abbrev pub beat_in : Bool → Option Beat → Option Made
@@ -110,7 +105,7 @@ beat_in here (Some b) = some_if here (made.Beat b)
 
 -- what is made for site j
 abbrev pub bulk_to : ℕ → SiteInput → SiteAnswer → Option Made
-bulk_to j (input.Write seen n value) a = payload_in (bit a.keepers.bits j) value a.answer
+bulk_to j (input.Write seen items values) a = payload_in (bit a.keepers.bits j) values a.answer
 bulk_to j (input.Beat to) a = beat_in (to == j) a.beat
 bulk_to j _ a = None
 

@@ -64,7 +64,7 @@ fn is_label(interest: &Interest, sites: u16, label: &Label) -> bool
         return false;
     }
     match label.kind {
-        Kind::Update(item) => (item as usize) < interest.items(),
+        Kind::Update(items) => interest.knows(&items),
         Kind::Move(site) => site < sites,
         Kind::Pulse => true,
         Kind::Close(_) => true,
@@ -272,6 +272,7 @@ impl<N: Laid> Machine for SerialNode<N> {
     }
 
     fn put(
+        _alloc: Global,
         _name: NodeName,
         link: usize,
         _input: &SerialAct,

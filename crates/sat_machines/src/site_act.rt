@@ -5,7 +5,6 @@ ghost use Rattle.sat_machines.specs.Acts.{is_clients, IsBy};
 use crate::Laid;
 use sat_beat::Beat;
 use sat_bulk::Payload;
-use sat_label::Value;
 use sat_site::SiteInput;
 use std::alloc::AllocError;
 use std::marker::{Model, PhantomData};
@@ -94,14 +93,14 @@ pub fn copy_input(input: &SiteInput) -> Result<SiteInput, AllocError>
         }),
         SiteInput::Write {
             carried,
-            item,
-            value,
+            items,
+            values,
         } => {
-            let value = value.copy()?;
+            let values = values.copy()?;
             Ok(SiteInput::Write {
                 carried: *carried,
-                item: *item,
-                value,
+                items: *items,
+                values,
             })
         }
         SiteInput::Read { carried, item } => Ok(SiteInput::Read {

@@ -1,24 +1,27 @@
 //! A site as a machine of a node.
-ghost use Rattle.std.specs.Prelude.{◌≡◌, ◌<◌, ◌-◌, ◌+◌, ◌==◌, true, false, IfOk, OnErr, Some, None, get_or, length};
+ghost use Rattle.std.specs.Prelude.{ℕ, ◌≡◌, ◌<◌, ◌-◌, ◌+◌, ◌==◌, true, false, IfOk, OnErr, Some, None, get_or, length};
 ghost use Rattle.sat_label.specs.declared.node.NodeName.{NodeName as Name};
 ghost use Rattle.sat_label.specs.declared.node.NodeName.TheVariants.{Site as AtSite};
+ghost use Rattle.sat_label.specs.Grouped.{list_of};
 ghost use Rattle.sat_label.specs.Words.{bit};
 ghost use Rattle.sat_act.specs.Limits.{IsDeployment};
+ghost use Rattle.sat_machine.specs.Interests.{interest_of};
 ghost use Rattle.sat_machine.specs.State.{SiteState, fresh_site};
+ghost use Rattle.sat_sites.specs.Interested.{keeps, keeps_one};
 ghost use Rattle.sat_site.specs.declared.input.SiteInput.TheVariants as given;
 ghost use Rattle.sat_site.specs.Inputs.{fits_in};
 ghost use Rattle.sat_site.specs.Seen.{IsSite};
 ghost use Rattle.sat_site.specs.SiteSteps.{site_answers, site_after, site_beat, site_epoch, site_sends};
 ghost use Rattle.sat_machines.specs.Layout.{label_link, peer};
 ghost use Rattle.sat_machines.specs.Plain.{is_plain, is_spare, IsTwice};
-ghost use Rattle.sat_machines.specs.Sites.{Stands, beat_in, bulk_to, keepers_of, payload_in, site_puts};
+ghost use Rattle.sat_machines.specs.Sites.{Stands, beat_in, bulk_to, is_keeper, payload_in, site_puts};
 
 use crate::parts::links;
 use crate::{Laid, SiteAct, SiteAnswer};
 use sat_act::{Answer, Deployment};
 use sat_beat::Beat;
 use sat_bulk::Payload;
-use sat_label::{Carried, Counts, NodeName, SiteSet, Value};
+use sat_label::{Carried, Counts, Items, NodeName, SiteSet, Values};
 use sat_node::{Machine, Made};
 use sat_site::{Site, SiteInput, SiteOutput, interest, site_laws};
 use sat_sites::Interest;
@@ -97,15 +100,45 @@ impl<N: Laid> SiteNode<N> {
         }
     }
 
-    // The sites that keep the item of a write.
+    // The sites that keep an item, none where there is no such item.
+    #[tactic(auto, using(crate::proofs::Keepers::kept_here, crate::proofs::Keepers::kept_nowhere))]
+    fn kept_by(&self, item: u16) -> SiteSet
+        ensures { (k : ℕ) → bit result.bits k ≡ keeps (interest_of N.deployment) item k }
+    {
+        if usize::from(item) < self.interest.items() {
+            self.interest.replicas(item)
+        } else {
+            SiteSet::none()
+        }
+    }
+
+    // The sites that keep one of some items.
+    fn kept_by_one(&self, items: &Items) -> SiteSet
+        ensures { (k : ℕ) → bit result.bits k ≡ keeps_one (interest_of N.deployment) (list_of items.now) k }
+    {
+        match *items {
+            Items::One(a) => self.kept_by(a),
+            Items::Two(a, b) => self.kept_by(a).plus(&self.kept_by(b)),
+            Items::Three(a, b, c) => self
+                .kept_by(a)
+                .plus(&self.kept_by(b))
+                .plus(&self.kept_by(c)),
+            Items::Four(a, b, c, d) => self
+                .kept_by(a)
+                .plus(&self.kept_by(b))
+                .plus(&self.kept_by(c))
+                .plus(&self.kept_by(d)),
+        }
+    }
+
+    // The sites that keep one of the items of a write.
+    #[tactic(auto, using(crate::proofs::Keepers::keeps_one_is))]
     fn keepers(&self, input: &SiteInput) -> SiteSet
-        ensures { result ≡ keepers_of N.deployment input.now }
+        ensures { (k : ℕ) → bit result.bits k ≡ is_keeper N.deployment input.now k }
     {
         match input {
-            SiteInput::Write { item, .. } if usize::from(*item) < self.interest.items() => {
-                self.interest.replicas(*item)
-            }
-            _ => SiteSet { bits: 0 },
+            SiteInput::Write { items, .. } => self.kept_by_one(items),
+            _ => SiteSet::none(),
         }
     }
 }
@@ -301,6 +334,7 @@ impl<N: Laid> Machine for SiteNode<N> {
     }
 
     fn put(
+        alloc: Global,
         name: NodeName,
         link: usize,
         input: &SiteAct<N>,
@@ -312,7 +346,7 @@ impl<N: Laid> Machine for SiteNode<N> {
         match given.sent {
             Some(label) if given.link == link as u64 => Ok(Some(Made::Label(label))),
             Some(_) => Ok(None),
-            None => made_for(site, link, &input.input, given),
+            None => made_for(alloc, site, link, &input.input, given),
         }
     }
 }
@@ -349,18 +383,20 @@ fn is_peer(to: u16, site: u16, link: usize) -> bool
 }
 
 // The payload of a write, if it is for another site.
-fn payload_for(here: bool, value: &Value, answer: &Answer) -> Result<Option<Made>, AllocError>
-    ensures { IfOk result (λ made. made ≡ payload_in here value.now answer.now) }
+fn payload_for(
+    alloc: Global,
+    here: bool,
+    values: &Values,
+    answer: &Answer,
+) -> Result<Option<Made>, AllocError>
+    ensures { IfOk result (λ made. made ≡ payload_in here values.now answer.now) }
 {
     match answer {
         Answer::Wrote(label) if here => {
-            let value = value.copy()?;
+            let payload = Payload::new(alloc, *label, values.as_slice())?;
             Ok(Some(Made::Payload {
                 gear: label.point.gear,
-                payload: Payload {
-                    label: *label,
-                    value,
-                },
+                payload,
             }))
         }
         _ => Ok(None),
@@ -379,6 +415,7 @@ fn beat_for(here: bool, beat: &Option<Beat>) -> Result<Option<Made>, AllocError>
 
 // What an entry makes for another site.
 fn made_for(
+    alloc: Global,
     site: u16,
     link: usize,
     input: &SiteInput,
@@ -387,9 +424,9 @@ fn made_for(
     ensures { IfOk result (λ made. made ≡ bulk_to (peer site link) input.now given.now) }
 {
     match input {
-        SiteInput::Write { value, .. } => {
+        SiteInput::Write { values, .. } => {
             let here = has_peer(given.keepers.bits, site, link);
-            payload_for(here, value, &given.answer)
+            payload_for(alloc, here, values, &given.answer)
         }
         SiteInput::Beat { to } => {
             let here = is_peer(*to, site, link);

@@ -9,14 +9,15 @@ use Rattle.sat_label.specs.declared.label.Kind.TheVariants as kind
 use Rattle.sat_label.specs.declared.label.Label.{Label}
 use Rattle.sat_label.specs.declared.node.NodeId.{NodeId}
 use Rattle.sat_label.specs.declared.node.NodeId.TheVariants.{Site, Serializer}
+use Rattle.sat_label.specs.Grouped.{list_of}
 use Rattle.sat_label.specs.Order.{node_eq}
 use Rattle.sat_label.specs.Words.{below, bit}
-use Rattle.sat_sites.specs.Interested.{is_for, keeps}
+use Rattle.sat_sites.specs.Interested.{is_for, keeps, keeps_one}
 use Rattle.sat_tree.specs.Shape.{TreeShape}
 use Rattle.sat_tree.specs.Cut.{beyond, neighbours}
 use Rattle.sat_act.specs.declared.deployment.Item.{Item}
 use Rattle.sat_act.specs.Deployed.{Deployed}
-use Rattle.sat_act.specs.Parts.{replicates, is_target, goes_beyond}
+use Rattle.sat_act.specs.Parts.{replicates, keeps_some, is_target, goes_beyond}
 use Rattle.sat_machine.specs.World.{nodes_for}
 use Rattle.sat_serial.specs.Routes.{leads, goes, routes}
 use Rattle.sat_machine.specs.Interests.{replicas_of, interest_of}
@@ -30,15 +31,19 @@ keeps-is : (d : Deployed) (x k : ℕ) → keeps (interest_of d) x k ≡ replicat
 unfolding replicates
 keeps-is d x k = keeps-in d.items x k
 
+keeps-one-is : (d : Deployed) (xs : List ℕ) (k : ℕ) → keeps_one (interest_of d) xs k ≡ keeps_some d xs k
+keeps-one-is d [] k = refl
+keeps-one-is d (x ∷ xs) k = λ i. keeps-is d x k i || keeps-one-is d xs k i
+
 -- the label is for the sites that are its targets
 is-for-target : (d : Deployed) (l : Label) (k : ℕ) → k < d.sites → is_for (interest_of d) l k ≡ is_target d l k
 unfolding is_for is_target
 is-for-target d l k lt = go l.kind
   where
     go : (j : Kind) → ◌≡◌ {A = Bool}
-        (elim j [ kind.Update x ↦ keeps (interest_of d) x k && not (k == l.point.site) | kind.Move j ↦ k == j | kind.Pulse ↦ nat_lt k d.sites && not (k == l.point.site) | kind.Close e ↦ nat_lt k d.sites && not (k == l.point.site) ])
-        (elim j [ kind.Update x ↦ replicates d x k && not (k == l.point.site) | kind.Move j ↦ k == j | kind.Pulse ↦ not (k == l.point.site) | kind.Close e ↦ not (k == l.point.site) ])
-    go (kind.Update x) = ap (λ (b : Bool). b && not (k == l.point.site)) (keeps-is d x k)
+        (elim j [ kind.Update items ↦ keeps_one (interest_of d) (list_of items) k && not (k == l.point.site) | kind.Move j ↦ k == j | kind.Pulse ↦ nat_lt k d.sites && not (k == l.point.site) | kind.Close e ↦ nat_lt k d.sites && not (k == l.point.site) ])
+        (elim j [ kind.Update items ↦ keeps_some d (list_of items) k && not (k == l.point.site) | kind.Move j ↦ k == j | kind.Pulse ↦ not (k == l.point.site) | kind.Close e ↦ not (k == l.point.site) ])
+    go (kind.Update items) = ap (λ (b : Bool). b && not (k == l.point.site)) (keeps-one-is d (list_of items) k)
     go (kind.Move j) = refl
     go kind.Pulse = ap (λ (b : Bool). b && not (k == l.point.site)) (lt-ltb k d.sites lt)
     go (kind.Close e) = ap (λ (b : Bool). b && not (k == l.point.site)) (lt-ltb k d.sites lt)

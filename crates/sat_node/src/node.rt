@@ -50,6 +50,7 @@ pub trait Machine {
 
     /// What an entry puts on the outgoing link of this number.
     fn put(
+        alloc: Global,
         name: NodeName,
         link: usize,
         input: &Self::Input,

@@ -160,7 +160,8 @@ impl<N: Names> Out<N> {
         let Some(kept) = journal.get(self.next) else {
             return Ok(false);
         };
-        let made = M::put(name, link, &kept.input, &kept.answer)?;
+        let alloc = *self.payloads.allocator();
+        let made = M::put(alloc, name, link, &kept.input, &kept.answer)?;
         let sent = self.send(rt, kept.lamport, made)?;
         if !sent {
             return Ok(false);

@@ -105,6 +105,7 @@ impl Machine for Depot {
     }
 
     fn put(
+        _alloc: Global,
         _name: NodeName,
         link: usize,
         input: &Errand,
@@ -316,10 +317,8 @@ fn payload(alloc: Global) -> Result<Made, AllocError> {
         return Err(AllocError);
     };
     let label = pulse(1);
-    Ok(Made::Payload {
-        gear: 0,
-        payload: Payload { label, value },
-    })
+    let payload = Payload::new(alloc, label, &[value])?;
+    Ok(Made::Payload { gear: 0, payload })
 }
 
 fn beat(alloc: Global) -> Made {

@@ -4,7 +4,7 @@ use Rattle.std.proofs.lemmas.List.{map-append}
 use Rattle.sat_label.specs.Members.{In}
 use Rattle.sat_label.specs.declared.label.Label.{Label}
 use Rattle.sat_label.proofs.Numbers.{get-map}
-use Rattle.sat_bulk.specs.declared.Payload.{Payload}
+use Rattle.sat_bulk.specs.Payloads.{Payload}
 use Rattle.sat_beat.specs.declared.Beat.{Beat}
 use Rattle.sat_act.specs.Parts.{BeatNote}
 use Rattle.sat_proxy.specs.Proxy.{note_of}

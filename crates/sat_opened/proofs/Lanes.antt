@@ -1,17 +1,18 @@
 -- What a site's entries put on its link to another site, of payloads and beats, is what the kept list makes for that site.
-use Rattle.std.proofs.Common.{◌≡◌, ℕ, Bool, true, false, ◌==◌, ◌&&◌, not, List, Option, Some, None, slice_get, if◌then◌else◌, refl, sym, ap, ◌∙◌}
+use Rattle.std.proofs.Common.{◌≡◌, ℕ, Bool, true, false, ◌==◌, ◌&&◌, not, List, Option, Some, None, if◌then◌else◌, refl, sym, ap, ◌∙◌}
 use Rattle.sat_label.specs.Words.{bit}
 use Rattle.sat_label.specs.declared.label.Kind.{Kind}
+use Rattle.sat_label.specs.declared.items.Items.{Items}
+use Rattle.sat_label.specs.Grouped.{list_of}
 use Rattle.sat_label.specs.declared.label.Kind.TheVariants as kind
 use Rattle.sat_label.specs.declared.label.Label.{Label}
 use Rattle.sat_label.specs.declared.node.NodeName.TheVariants as named
 use Rattle.sat_beat.specs.declared.Beat.{Beat}
-use Rattle.sat_bulk.specs.declared.Payload.{Payload}
+use Rattle.sat_bulk.specs.Payloads.{Payload}
 use Rattle.sat_act.specs.declared.answer.Answer.{Answer}
 use Rattle.sat_act.specs.declared.answer.Answer.TheVariants as ans
-use Rattle.sat_act.specs.declared.deployment.Item.{Item}
 use Rattle.sat_act.specs.Deployed.{Deployed}
-use Rattle.sat_act.specs.Parts.{BeatNote, is_target, replicates}
+use Rattle.sat_act.specs.Parts.{BeatNote, is_target, keeps_some}
 use Rattle.sat_machine.specs.State.{SiteState}
 use Rattle.sat_machine.specs.Input.{SiteInput as Handed}
 use Rattle.sat_machine.specs.Input as given
@@ -27,7 +28,7 @@ use Rattle.sat_node.specs.declared.kept.Made.TheVariants as made
 use Rattle.sat_machines.specs.Acts.{ActSeen}
 use Rattle.sat_machines.specs.Layout.{peer}
 use Rattle.sat_machines.specs.declared.site_answer.SiteAnswer.{SiteAnswer}
-use Rattle.sat_machines.specs.Sites.{sent_by, keepers_at, keepers_of, BeatBy, payload_in, beat_in, bulk_to, some_if, label_or, site_puts}
+use Rattle.sat_machines.specs.Sites.{sent_by, is_keeper, BeatBy, payload_in, beat_in, bulk_to, some_if, label_or, site_puts}
 use Rattle.sat_stitch.specs.Kept.{Kept}
 use Rattle.sat_stitch.specs.Nodes.{site_after, payload_made, beat_made, with_input, makes_payload, makes_beat}
 use Rattle.sat_opened.specs.Keeping.{client_in, site_kept}
@@ -35,7 +36,6 @@ use Rattle.sat_opened.proofs.Numbers.{same-is, and-yes}
 use Rattle.sat_opened.proofs.Handings.{sort_of, payload_sort, beat_sort}
 use Rattle.sat_opened.proofs.Says.{Says, quiet, wrote, moved, gathered, emitted, pulsed, closed, shown, took, stamped, beaten, passed, is_quiet, IsOwn}
 use Rattle.sat_opened.proofs.SiteKept.{SiteStep, input-kept}
-use Rattle.sat_opened.proofs.SiteLinks.{bit-none}
 
 -- ---- what is of a sort
 
@@ -50,14 +50,14 @@ beat-no-payload g b None = refl
 beat-no-payload g true (Some x) = refl
 beat-no-payload g false (Some x) = refl
 
-payload-no-beat : (b : Bool) (value : List ℕ) (r : Answer) → sort_of beat_sort (payload_in b value r) ≡ None
-payload-no-beat true value (ans.Wrote l) = refl
-payload-no-beat false value (ans.Wrote l) = refl
-payload-no-beat b value _ = refl
+payload-no-beat : (b : Bool) (values : List (List ℕ)) (r : Answer) → sort_of beat_sort (payload_in b values r) ≡ None
+payload-no-beat true values (ans.Wrote l) = refl
+payload-no-beat false values (ans.Wrote l) = refl
+payload-no-beat b values _ = refl
 
-quiet-payload : (g : ℕ) (b : Bool) (value : List ℕ) (r : Answer) → is_quiet r ≡ true → sort_of (payload_sort g) (payload_in b value r) ≡ None
-quiet-payload g b value (ans.Wrote l) q = absurd (cc)
-quiet-payload g b value _ q = refl
+quiet-payload : (g : ℕ) (b : Bool) (values : List (List ℕ)) (r : Answer) → is_quiet r ≡ true → sort_of (payload_sort g) (payload_in b values r) ≡ None
+quiet-payload g b values (ans.Wrote l) q = absurd (cc)
+quiet-payload g b values _ q = refl
 
 quiet-made : (d : Deployed) (g j : ℕ) (x : Handed) (r : Answer) → is_quiet r ≡ true → None ≡ payload_made d g j x r
 quiet-made d g j x (ans.Wrote l) q = absurd (cc)
@@ -69,27 +69,19 @@ quiet-beats d i j s x _ q = refl
 
 -- ---- the payload of a write
 
-keepers-are : (n j : ℕ) (o : Option Item) → ◌≡◌ {A = Bool} (elim o [ None ↦ false | Some item ↦ bit item.replicas.bits j ]) (bit (keepers_at o).bits j)
-keepers-are n j None = sym (bit-none j)
-keepers-are n j (Some item) = refl
-
-replicas-are : (d : Deployed) (n j : ℕ) → replicates d n j ≡ bit (keepers_at (slice_get d.items n)).bits j
-unfolding replicates
-replicas-are d n j = keepers-are n j (slice_get d.items n)
-
 not-other : (b c : Bool) → c ≡ false → (b && not c) ≡ b
 not-other b true e = absurd (cc)
 not-other b false e = and-yes b
 
-target-at : (d : Deployed) (n i j m : ℕ) (k : Kind) → k ≡ kind.Update n → m ≡ i → (j == i) ≡ false →
-    ◌≡◌ {A = Bool} (elim k [ kind.Update x ↦ replicates d x j && not (j == m) | kind.Move h ↦ j == h | kind.Pulse ↦ not (j == m) | kind.Close e ↦ not (j == m) ]) (replicates d n j)
-target-at d n i j m k e w ne =
-    ap (λ (k : Kind). elim k [ kind.Update x ↦ replicates d x j && not (j == m) | kind.Move h ↦ j == h | kind.Pulse ↦ not (j == m) | kind.Close e ↦ not (j == m) ]) e ∙
-    not-other (replicates d n j) (j == m) (ap (λ (x : ℕ). j == x) w ∙ ne)
+target-at : (d : Deployed) (items : Items) (i j m : ℕ) (k : Kind) → k ≡ kind.Update items → m ≡ i → (j == i) ≡ false →
+    ◌≡◌ {A = Bool} (elim k [ kind.Update items ↦ keeps_some d (list_of items) j && not (j == m) | kind.Move h ↦ j == h | kind.Pulse ↦ not (j == m) | kind.Close e ↦ not (j == m) ]) (keeps_some d (list_of items) j)
+target-at d items i j m k e w ne =
+    ap (λ (k : Kind). elim k [ kind.Update items ↦ keeps_some d (list_of items) j && not (j == m) | kind.Move h ↦ j == h | kind.Pulse ↦ not (j == m) | kind.Close e ↦ not (j == m) ]) e ∙
+    not-other (keeps_some d (list_of items) j) (j == m) (ap (λ (x : ℕ). j == x) w ∙ ne)
 
-target-is : (d : Deployed) (i j n : ℕ) (l : Label) → l.kind ≡ kind.Update n → l.point.site ≡ i → (j == i) ≡ false → is_target d l j ≡ replicates d n j
+target-is : (d : Deployed) (i j : ℕ) (items : Items) (l : Label) → l.kind ≡ kind.Update items → l.point.site ≡ i → (j == i) ≡ false → is_target d l j ≡ keeps_some d (list_of items) j
 unfolding is_target
-target-is d i j n l e w ne = target-at d n i j l.point.site l.kind e w ne
+target-is d i j items l e w ne = target-at d items i j l.point.site l.kind e w ne
 
 sorted-payload : (g gear : ℕ) (here t : Bool) (p : Payload) → here ≡ t → sort_of (payload_sort g) (some_if here (made.Payload gear p)) ≡ (if (gear == g) && t then Some p else None)
 sorted-payload g gear true true p e = go (gear == g)
@@ -107,21 +99,21 @@ sorted-payload g gear false true p e = absurd (cc)
 
 module _ (d : Deployed) (i j : ℕ) (ne : (j == i) ≡ false) where
   module _ (g : ℕ) (a : SiteAnswer) (k : ℕ) (at : peer i k ≡ j) where
-    wrote-payload : (n : ℕ) (value : List ℕ) (l : Label) → l.kind ≡ kind.Update n → IsOwn i l → a.keepers ≡ keepers_at (slice_get d.items n) → a.answer ≡ ans.Wrote l →
-        sort_of (payload_sort g) (payload_in (bit a.keepers.bits (peer i k)) value a.answer) ≡ (if (l.point.gear == g) && is_target d l j then Some (payload_at l value) else None)
-    wrote-payload n value l e o keepers w =
-        ap (λ (r : Answer). sort_of (payload_sort g) (payload_in (bit a.keepers.bits (peer i k)) value r)) w ∙
-        sorted-payload g l.point.gear (bit a.keepers.bits (peer i k)) (is_target d l j) (payload_at l value)
-        ((λ n. bit (keepers n).bits (at n)) ∙ (sym (replicas-are d n j) ∙ sym (target-is d i j n l e o.site ne)))
+    wrote-payload : (items : Items) (values : List (List ℕ)) (l : Label) → l.kind ≡ kind.Update items → IsOwn i l → ((m : ℕ) → bit a.keepers.bits m ≡ keeps_some d (list_of items) m) → a.answer ≡ ans.Wrote l →
+        sort_of (payload_sort g) (payload_in (bit a.keepers.bits (peer i k)) values a.answer) ≡ (if (l.point.gear == g) && is_target d l j then Some (payload_at l values) else None)
+    wrote-payload items values l e o keepers w =
+        ap (λ (r : Answer). sort_of (payload_sort g) (payload_in (bit a.keepers.bits (peer i k)) values r)) w ∙
+        sorted-payload g l.point.gear (bit a.keepers.bits (peer i k)) (is_target d l j) (payload_at l values)
+        (ap (bit a.keepers.bits) at ∙ (keepers j ∙ sym (target-is d i j items l e o.site ne)))
 
     -- an input that is no write and no beat
     other-payload : (given : SiteInput) → bulk_to (peer i k) given a ≡ None → sort_of (payload_sort g) (label_or a.sent (a.link == k) (bulk_to (peer i k) given a)) ≡ None
     other-payload given e = no-labels (payload_sort g) (λ l. refl) a.sent (a.link == k) (bulk_to (peer i k) given a) (ap (sort_of (payload_sort g)) e)
 
     quiet-put : (given : SiteInput) (r : Answer) → is_quiet r ≡ true → a.answer ≡ r → sort_of (payload_sort g) (label_or a.sent (a.link == k) (bulk_to (peer i k) given a)) ≡ None
-    quiet-put (input.Write seen n value) r q w =
-        no-labels (payload_sort g) (λ l. refl) a.sent (a.link == k) (bulk_to (peer i k) (input.Write seen n value) a)
-        (ap (λ (r : Answer). sort_of (payload_sort g) (payload_in (bit a.keepers.bits (peer i k)) value r)) w ∙ quiet-payload g (bit a.keepers.bits (peer i k)) value r q)
+    quiet-put (input.Write seen items values) r q w =
+        no-labels (payload_sort g) (λ l. refl) a.sent (a.link == k) (bulk_to (peer i k) (input.Write seen items values) a)
+        (ap (λ (r : Answer). sort_of (payload_sort g) (payload_in (bit a.keepers.bits (peer i k)) values r)) w ∙ quiet-payload g (bit a.keepers.bits (peer i k)) values r q)
     quiet-put (input.Beat to) r q w = no-labels (payload_sort g) (λ l. refl) a.sent (a.link == k) (bulk_to (peer i k) (input.Beat to) a) (beat-no-payload g (to == peer i k) a.beat)
     quiet-put (input.Tick x u) r q w = other-payload (input.Tick x u) refl
     quiet-put (input.Read seen n) r q w = other-payload (input.Read seen n) refl
@@ -138,12 +130,12 @@ module _ (d : Deployed) (i j : ℕ) (ne : (j == i) ≡ false) where
     quiet-put input.Fall r q w = other-payload input.Fall refl
     quiet-put input.Advance r q w = other-payload input.Advance refl
 
-    payload-is : (s : SiteState) (given : SiteInput) (r : Answer) → Says d i s given r → a.answer ≡ r → a.sent ≡ sent_by d i s given r → a.keepers ≡ keepers_of d given →
+    payload-is : (s : SiteState) (given : SiteInput) (r : Answer) → Says d i s given r → a.answer ≡ r → a.sent ≡ sent_by d i s given r → ((m : ℕ) → bit a.keepers.bits m ≡ is_keeper d given m) →
         sort_of (payload_sort g) (label_or a.sent (a.link == k) (bulk_to (peer i k) given a)) ≡ payload_made d g j (input_of given) r
     unfolding sent_by
     payload-is s given r (quiet x y q) w sent keepers = quiet-put x y q w ∙ quiet-made d g j (input_of x) y q
-    payload-is s given r (wrote seen n value l o e) w sent keepers =
-        ap (λ (o : Option Label). sort_of (payload_sort g) (label_or o (a.link == k) (bulk_to (peer i k) (input.Write seen n value) a))) sent ∙ wrote-payload n value l e o keepers w
+    payload-is s given r (wrote seen items values l o e) w sent keepers =
+        ap (λ (o : Option Label). sort_of (payload_sort g) (label_or o (a.link == k) (bulk_to (peer i k) (input.Write seen items values) a))) sent ∙ wrote-payload items values l e o keepers w
     payload-is s given r (moved seen m l o) w sent keepers = other-payload (input.Move seen m) refl
     payload-is s given r (gathered n u) w sent keepers = other-payload input.Gather refl
     payload-is s given r (emitted l o) w sent keepers = other-payload input.Emit refl
@@ -167,8 +159,8 @@ module _ (d : Deployed) (i j : ℕ) (ne : (j == i) ≡ false) where
     other-beat : (given : SiteInput) → bulk_to (peer i k) given a ≡ None → sort_of beat_sort (label_or a.sent (a.link == k) (bulk_to (peer i k) given a)) ≡ None
     other-beat given e = no-labels beat_sort (λ l. refl) a.sent (a.link == k) (bulk_to (peer i k) given a) (ap (sort_of beat_sort) e)
 
-    write-beat : (seen : _) (n : ℕ) (value : List ℕ) → sort_of beat_sort (label_or a.sent (a.link == k) (bulk_to (peer i k) (input.Write seen n value) a)) ≡ None
-    write-beat seen n value = no-labels beat_sort (λ l. refl) a.sent (a.link == k) (bulk_to (peer i k) (input.Write seen n value) a) (payload-no-beat (bit a.keepers.bits (peer i k)) value a.answer)
+    write-beat : (seen : _) (items : Items) (values : List (List ℕ)) → sort_of beat_sort (label_or a.sent (a.link == k) (bulk_to (peer i k) (input.Write seen items values) a)) ≡ None
+    write-beat seen items values = no-labels beat_sort (λ l. refl) a.sent (a.link == k) (bulk_to (peer i k) (input.Write seen items values) a) (payload-no-beat (bit a.keepers.bits (peer i k)) values a.answer)
 
     never-quiet : (s : SiteState) (to : ℕ) (r : Answer) → r ≡ site_answer d i s (given.Beat to) → is_quiet r ≡ true → ⊥
     unfolding site_answer
@@ -176,7 +168,7 @@ module _ (d : Deployed) (i j : ℕ) (ne : (j == i) ≡ false) where
 
     quiet-beat : (s : SiteState) (given : SiteInput) (r : Answer) → is_quiet r ≡ true → r ≡ site_answer d i s (input_of given) → sort_of beat_sort (label_or a.sent (a.link == k) (bulk_to (peer i k) given a)) ≡ None
     quiet-beat s (input.Beat to) r q e = absurd (never-quiet s to r e q)
-    quiet-beat s (input.Write seen n value) r q e = write-beat seen n value
+    quiet-beat s (input.Write seen items values) r q e = write-beat seen items values
     quiet-beat s (input.Tick x u) r q e = other-beat (input.Tick x u) refl
     quiet-beat s (input.Read seen n) r q e = other-beat (input.Read seen n) refl
     quiet-beat s (input.Move seen m) r q e = other-beat (input.Move seen m) refl
@@ -207,7 +199,7 @@ module _ (d : Deployed) (i j : ℕ) (ne : (j == i) ≡ false) where
     beat-is s given r (beaten to n) e sent made =
         ap (λ (o : Option Label). sort_of beat_sort (label_or o (a.link == k) (beat_in (to == peer i k) a.beat))) sent ∙
         (ap (λ (m : ℕ). sort_of beat_sort (beat_in (to == m) a.beat)) at ∙ beat-some s to a.beat made)
-    beat-is s given r (wrote seen n value l o k) e sent made = write-beat seen n value
+    beat-is s given r (wrote seen items values l o k) e sent made = write-beat seen items values
     beat-is s given r (moved seen m l o) e sent made = other-beat (input.Move seen m) refl
     beat-is s given r (gathered n u) e sent made = other-beat input.Gather refl
     beat-is s given r (emitted l o) e sent made = other-beat input.Emit refl

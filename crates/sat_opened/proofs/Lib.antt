@@ -1,5 +1,6 @@
 pub mod Numbers
 pub mod Walks
+pub mod Written
 pub mod Says
 pub mod SiteKept
 pub mod SerialKept

@@ -12,19 +12,20 @@ use Rattle.sat_machines.specs.declared.serial_act.SerialAct.{SerialAct}
 use Rattle.sat_machines.specs.declared.serial_act.SerialAct.TheVariants as serial
 use Rattle.sat_machines.specs.Sites.{site_meaning}
 use Rattle.sat_stitch.specs.Kept.{Kept}
-use Rattle.sat_stitch.specs.Places.{session_of}
+use Rattle.sat_stitch.specs.Places.{Client, session_of}
 use Rattle.sat_opened.specs.Keeping.{client_in, site_act, site_kept, serial_act, owner_of, serial_owner}
 use Rattle.sat_opened.specs.Laws.{SitesHaveOwners, SerialsHaveOwners}
 use Rattle.sat_opened.proofs.Walks.{Along}
 use Rattle.sat_opened.proofs.SiteKept.{SiteStep, site-steps}
+use Rattle.sat_opened.proofs.Written.{write-cases}
 
 owned : (d : Deployed) (i : ℕ) (by : Option ℕ) (given : SiteInput) → IsBy d by given → session_of (site_act i (client_in by) given) ≡ owner_of by given
-owned d i (Some c) (input.Write seen n value) e = refl
+owned d i (Some c) (input.Write seen items values) e = write-cases (λ items values a. session_of a ≡ Some (Client c)) c (λ x value. refl) (λ items values. refl) items values
 owned d i (Some c) (input.Read seen n) e = refl
 owned d i (Some c) (input.Move seen j) e = refl
 owned d i (Some c) (input.Attach seen) e = refl
 owned d i (Some c) _ e = absurd (let w : false ≡ true = e.0 in cc)
-owned d i None (input.Write seen n value) e = absurd (cc)
+owned d i None (input.Write seen items values) e = absurd (cc)
 owned d i None (input.Read seen n) e = absurd (cc)
 owned d i None (input.Move seen j) e = absurd (cc)
 owned d i None (input.Attach seen) e = absurd (cc)

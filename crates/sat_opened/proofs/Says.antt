@@ -9,20 +9,22 @@ use Rattle.sat_label.specs.declared.carried.Carried.{Carried}
 use Rattle.sat_label.specs.declared.limits.TheConstants.{PULSE_GEAR, TS_END}
 use Rattle.sat_label.specs.declared.point.Point.{Point}
 use Rattle.sat_label.specs.declared.label.Kind.{Kind}
+use Rattle.sat_label.specs.declared.items.Items.{Items}
+use Rattle.sat_label.specs.Grouped.{list_of}
 use Rattle.sat_label.specs.declared.label.Kind.TheVariants as kind
 use Rattle.sat_label.specs.declared.label.Label.{Label}
-use Rattle.sat_bulk.specs.declared.Payload.{Payload}
+use Rattle.sat_bulk.specs.Payloads.{Payload}
 use Rattle.sat_beat.specs.declared.Beat.{Beat}
 use Rattle.sat_act.specs.declared.answer.Answer.{Answer}
 use Rattle.sat_act.specs.declared.answer.Answer.TheVariants as ans
 use Rattle.sat_act.specs.declared.answer.Refusal.{Refusal}
 use Rattle.sat_act.specs.declared.answer.Refusal.TheVariants as why
 use Rattle.sat_act.specs.Deployed.{Deployed}
-use Rattle.sat_act.specs.Parts.{BeatNote, is_update, replicates}
-use Rattle.sat_act.specs.Answers.{refused_if, gear_of, turned}
-use Rattle.sat_machine.specs.State.{SiteState, fresh_site}
+use Rattle.sat_act.specs.Parts.{BeatNote, is_update, keeps_all, replicates}
+use Rattle.sat_act.specs.Answers.{refused_if, turned}
+use Rattle.sat_machine.specs.State.{SiteState, Version, fresh_site}
 use Rattle.sat_machine.specs.Look.{rows, ready_of, stable_of, cut_of, mode_of, waiting_of, best_of, numbers_of}
-use Rattle.sat_machine.specs.Reply.{site_answer, outlook_of, stamp_next, may_come, may_pass, write_by, move_by}
+use Rattle.sat_machine.specs.Reply.{site_answer, outlook_of, stamp_next, may_come, may_pass, gear_for, write_by, move_by}
 use Rattle.sat_machine.specs.Next.{site_next}
 use Rattle.sat_machine.specs.Input.{SiteInput as Handed}
 use Rattle.sat_machine.specs.Input as given
@@ -71,7 +73,7 @@ is_quiet _ = true
 
 pub data Says (d : Deployed) (i : ℕ) (s : SiteState) : SiteInput → Answer → Type 0 where
   quiet : (given : SiteInput) (r : Answer) → is_quiet r ≡ true → Says d i s given r
-  wrote : (seen : Carried) (n : ℕ) (value : List ℕ) (l : Label) → IsOwn i l → l.kind ≡ kind.Update n → Says d i s (input.Write seen n value) (ans.Wrote l)
+  wrote : (seen : Carried) (items : Items) (values : List (List ℕ)) (l : Label) → IsOwn i l → l.kind ≡ kind.Update items → Says d i s (input.Write seen items values) (ans.Wrote l)
   moved : (seen : Carried) (j : ℕ) (l : Label) → IsOwn i l → Says d i s (input.Move seen j) (ans.Moved l)
   gathered : (n t : ℕ) → Says d i s input.Gather (ans.Gathered n t)
   emitted : (l : Label) → IsOwn i l → Says d i s input.Emit (ans.Emitted l)
@@ -89,13 +91,13 @@ module _ (d : Deployed) (i : ℕ) (s : SiteState) where
   refuse given true y r f = quiet given (ans.Refused y) refl
   refuse given false y r f = f refl
 
-  write-says : (seen : Carried) (n : ℕ) (value : List ℕ) (promise : ℕ) → Says d i s (input.Write seen n value) (write_by d i n promise seen.point.ts)
-  write-says seen n value promise =
-      refuse (input.Write seen n value) (not (replicates d n i)) why.NotHere _
-      (λ _. refuse (input.Write seen n value) (nat_le TS_END (max promise seen.point.ts)) why.Spent _
-      (λ _. wrote seen n value (record { point = point_at (max promise seen.point.ts + 1) i (gear_of d n); kind = kind.Update n }) (record { site = refl; kind = tt }) refl))
+  write-says : (seen : Carried) (items : Items) (values : List (List ℕ)) (promise : ℕ) → Says d i s (input.Write seen items values) (write_by d i items promise seen.point.ts)
+  write-says seen items values promise =
+      refuse (input.Write seen items values) (not (keeps_all d (list_of items) i)) why.NotHere _
+      (λ _. refuse (input.Write seen items values) (nat_le TS_END (max promise seen.point.ts)) why.Spent _
+      (λ _. wrote seen items values (record { point = point_at (max promise seen.point.ts + 1) i (gear_for d items); kind = kind.Update items }) (record { site = refl; kind = tt }) refl))
 
-  read-version : (seen : Carried) (n : ℕ) (o : Option Payload) → Says d i s (input.Read seen n) (elim o [ None ↦ ans.ReadNone | Some p ↦ ans.ReadSome p.label p.value ])
+  read-version : (seen : Carried) (n : ℕ) (o : Option Version) → Says d i s (input.Read seen n) (elim o [ None ↦ ans.ReadNone | Some p ↦ ans.ReadSome p.label p.value ])
   read-version seen n None = quiet (input.Read seen n) ans.ReadNone refl
   read-version seen n (Some p) = quiet (input.Read seen n) (ans.ReadSome p.label p.value) refl
 
@@ -175,7 +177,7 @@ module _ (d : Deployed) (i : ℕ) (s : SiteState) where
   says-answer : Owns i s → (given : SiteInput) → Says d i s given (site_answer d i s (input_of given))
   unfolding site_answer
   says-answer own (input.Tick g t) = quiet (input.Tick g t) (ans.Ticked (max (s.gears g).promise t)) refl
-  says-answer own (input.Write seen n value) = write-says seen n value (s.gears (gear_of d n)).promise
+  says-answer own (input.Write seen items values) = write-says seen items values (s.gears (gear_for d items)).promise
   says-answer own (input.Read seen n) = refuse (input.Read seen n) (not (replicates d n i)) why.NotHere _ (λ _. read-version seen n (s.store n))
   says-answer own (input.Move seen j) = move-says seen j (s.gears 0).promise
   says-answer own (input.Attach seen) = refuse (input.Attach seen) (not (may_come d (outlook_of d s) seen i)) why.NotYet ans.Attached (λ _. quiet (input.Attach seen) ans.Attached refl)
@@ -228,7 +230,7 @@ module _ (d : Deployed) (i : ℕ) (s : SiteState) where
   pub owns-next : (given : SiteInput) (r : Answer) → Says d i s given r → Owns i s → Owns i (site_next d i s (input_of given) r)
   unfolding site_next
   owns-next given r (quiet g y e) own = quiet-owns (input_of given) r e own
-  owns-next given r (wrote seen n value l o k) own = record { fresh = λ g m j. fresh-more (l.point.gear == g) (s.gears g).fresh l m o (own.fresh g) j; pending = own.pending; last = own.last }
+  owns-next given r (wrote seen items values l o k) own = record { fresh = λ g m j. fresh-more (l.point.gear == g) (s.gears g).fresh l m o (own.fresh g) j; pending = own.pending; last = own.last }
   owns-next given r (moved seen j l o) own = record { fresh = λ g m j. fresh-more (l.point.gear == g) (s.gears g).fresh l m o (own.fresh g) j; pending = own.pending; last = own.last }
   owns-next given r (gathered n t) own = record { fresh = λ g m j. absurd j; pending = λ g m j. both-own (s.sink.pending g) (s.gears g).fresh m (own.pending g) (own.fresh g) j; last = own.last }
   owns-next given r (emitted l o) own = record { fresh = own.fresh; pending = λ g m j. own.pending g m (In-filter (λ m. not (label_eq l m)) (s.sink.pending g) m j).0; last = o.site }

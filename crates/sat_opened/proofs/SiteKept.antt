@@ -3,11 +3,13 @@ use Rattle.std.proofs.Common.{◌≡◌, ◌⊎◌, ◌<◌, ℕ, ◌+◌, Bool,
 use Rattle.std.proofs.lemmas.Bool.{and_parts}
 use Rattle.std.proofs.lemmas.List.{append-nil, length-append}
 use Rattle.sat_label.proofs.Truth.{same-number}
+use Rattle.sat_label.specs.Grouped.{are_items, list_of}
 use Rattle.sat_label.specs.Members.{In}
+use Rattle.sat_label.specs.declared.items.Items.{Items}
 use Rattle.sat_label.specs.declared.limits.TheConstants.{TS_END}
 use Rattle.sat_label.specs.declared.node.NodeName.TheVariants as named
 use Rattle.sat_beat.specs.declared.Beat.{Beat}
-use Rattle.sat_bulk.specs.declared.Payload.{Payload}
+use Rattle.sat_bulk.specs.Payloads.{Payload}
 use Rattle.sat_act.specs.declared.answer.Answer.{Answer}
 use Rattle.sat_act.specs.declared.answer.Answer.TheVariants as ans
 use Rattle.sat_act.specs.declared.answer.Refusal.TheVariants as why
@@ -20,7 +22,7 @@ use Rattle.sat_laws.proofs.Links.{tail_of, In-place}
 use Rattle.sat_laws.proofs.Runs.{entry}
 use Rattle.sat_machine.specs.State.{SiteState}
 use Rattle.sat_machine.specs.Input.{SiteInput as Handed}
-use Rattle.sat_machine.specs.Fits.{fits, is_gear, is_time, is_carried, is_site, is_other, is_note}
+use Rattle.sat_machine.specs.Fits.{fits, is_gear, is_group, is_time, is_carried, is_site, is_other, is_note}
 use Rattle.sat_machine.specs.Next.{site_next, emission_next, view_next}
 use Rattle.sat_machine.specs.Replay.{after}
 use Rattle.sat_site.specs.declared.input.SiteInput.{SiteInput}
@@ -33,20 +35,22 @@ use Rattle.sat_node.specs.Links.{Each as Every}
 use Rattle.sat_machines.specs.Acts.{ActSeen}
 use Rattle.sat_machines.specs.declared.site_answer.SiteAnswer.{SiteAnswer}
 use Rattle.sat_machines.specs.Sites.{FitsAt, AnswersAt, site_meaning, is_standing}
-use Rattle.sat_stitch.specs.Kept.{Kept, history}
+use Rattle.sat_stitch.specs.Kept.{OfClient, Kept, history}
 use Rattle.sat_stitch.specs.Places.{AtSite, places}
 use Rattle.sat_stitch.specs.Nodes.{input_of as stitched_input, site_after, IsAnswerAt, stands}
-use Rattle.sat_opened.specs.Keeping.{client_in, site_act, site_given, site_kept, newest}
+use Rattle.sat_opened.specs.Keeping.{client_in, write_act, site_act, site_given, site_kept, newest}
 use Rattle.sat_opened.specs.Fits.{FitsPlace}
-use Rattle.sat_opened.proofs.Numbers.{less-is, at-most, not-is, same-turned}
+use Rattle.sat_opened.proofs.Numbers.{less-is, at-most, not-is, same-is, same-turned}
 use Rattle.sat_opened.proofs.Walks.{Along, each-behind, Comes, in-newest, rising-newest}
+use Rattle.sat_opened.proofs.Written.{write-cases}
 use Rattle.sat_opened.proofs.Says.{Says, quiet, wrote, moved, gathered, emitted, pulsed, closed, shown, took, stamped, beaten, passed, is_quiet, Owns, owns-fresh, owns-next, says}
 
 -- ---- what was handed is the input
 
 pub input-kept : (i c : ℕ) (given : SiteInput) → stitched_input (site_act i c given) (site_given i given) ≡ Some (input_of given)
 input-kept i c (input.Tick g t) = refl
-input-kept i c (input.Write seen n value) = refl
+input-kept i c (input.Write seen items values) =
+    write-cases (λ items values a. stitched_input a (OfClient seen (Some i)) ≡ Some (input_of (input.Write seen items values))) c (λ x value. refl) (λ items values. refl) items values
 input-kept i c (input.Read seen n) = refl
 input-kept i c (input.Move seen j) = refl
 input-kept i c (input.Attach seen) = refl
@@ -85,7 +89,7 @@ module _ (d : Deployed) (i c : ℕ) (s : SiteState) (h : List Entry) where
   unfolding emission listed
   emission-more given r (quiet g y q) e = quiet-emission g y q e
   emission-more given r (closed p o) e = one-more (i == i) (listed (closed_epoch_of_entry i) h) s.views.emission s.views.emission (same-number i) e
-  emission-more given r (wrote seen n value l o k) e = none-more (listed (closed_epoch_of_entry i) h) s.views.emission e
+  emission-more given r (wrote seen items values l o k) e = none-more (listed (closed_epoch_of_entry i) h) s.views.emission e
   emission-more given r (moved seen j l o) e = none-more (listed (closed_epoch_of_entry i) h) s.views.emission e
   emission-more given r (gathered n t) e = none-more (listed (closed_epoch_of_entry i) h) s.views.emission e
   emission-more given r (emitted l o) e = none-more (listed (closed_epoch_of_entry i) h) s.views.emission e
@@ -106,7 +110,7 @@ module _ (d : Deployed) (i c : ℕ) (s : SiteState) (h : List Entry) where
   view-more given r (quiet g y q) e = quiet-view g y q e
   view-more given r passed e = one-more (i == i) (listed (view_entry i) h) (s.views.view + 1) s.views.view (same-number i) e
   view-more given r (closed p o) e = none-more (listed (view_entry i) h) s.views.view e
-  view-more given r (wrote seen n value l o k) e = none-more (listed (view_entry i) h) s.views.view e
+  view-more given r (wrote seen items values l o k) e = none-more (listed (view_entry i) h) s.views.view e
   view-more given r (moved seen j l o) e = none-more (listed (view_entry i) h) s.views.view e
   view-more given r (gathered n t) e = none-more (listed (view_entry i) h) s.views.view e
   view-more given r (emitted l o) e = none-more (listed (view_entry i) h) s.views.view e
@@ -156,7 +160,7 @@ site-steps d i es runs = site-along d i [] es runs (owns-fresh i) refl refl
 
 placed-at : (i c : ℕ) (given : SiteInput) → places (site_act i c given) (site_given i given) ≡ AtSite i ∷ []
 placed-at i c (input.Tick g t) = refl
-placed-at i c (input.Write seen n value) = refl
+placed-at i c (input.Write seen items values) = write-cases (λ items values a. places a (OfClient seen (Some i)) ≡ AtSite i ∷ []) c (λ x value. refl) (λ items values. refl) items values
 placed-at i c (input.Read seen n) = refl
 placed-at i c (input.Move seen j) = refl
 placed-at i c (input.Attach seen) = refl
@@ -182,10 +186,17 @@ other-is d i j e =
     let w = and_parts (is_site d j) (not (j == i)) e in
     record { within = less-is j d.sites w.0; apart = not-is (j == i) w.1 }
 
+write-range : (d : Deployed) (c : ℕ) (items : Items) (values : List (List ℕ)) → length values ≡ length (list_of items) → are_items (list_of items) ≡ true → InRange d (write_act c items values)
+write-range d c items values =
+    write-cases (λ items values a. length values ≡ length (list_of items) → are_items (list_of items) ≡ true → InRange d a) c (λ x value e a. tt) (λ items values e a. (e, a)) items values
+
 in-range : (d : Deployed) (i c : ℕ) (s : SiteState) (given : SiteInput) → i < d.sites → fits d i s (input_of given) ≡ true → InRange d (site_act i c given)
 unfolding fits
 in-range d i c s (input.Tick g t) lt e = (let w = and_parts (is_gear d g) (is_time t) e in (lt, less-is g d.gears w.0, at-most t TS_END w.1))
-in-range d i c s (input.Write seen n value) lt e = tt
+in-range d i c s (input.Write seen items values) lt e =
+    let w = and_parts (is_carried d seen) _ e in
+    let v = and_parts (is_group d items) (length values == length (list_of items)) w.1 in
+    write-range d c items values (same-is _ _ v.1) (and_parts (are_items (list_of items)) _ v.0).0
 in-range d i c s (input.Read seen n) lt e = tt
 in-range d i c s (input.Move seen j) lt e = less-is j d.sites (and_parts (is_carried d seen) (is_site d j) e).1
 in-range d i c s (input.Attach seen) lt e = lt

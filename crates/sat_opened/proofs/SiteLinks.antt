@@ -1,14 +1,13 @@
 -- What a site's entries put on its link into a tree and take from there is what the history says.
-use Rattle.std.proofs.Common.{◌≡◌, ◌<◌, ◌≤◌, ℕ, ◌+◌, ◌-◌, ◌^◌, Bool, true, false, ◌==◌, ◌&&◌, not, nat_lt, List, Option, Some, None, is_none, slice_get, if◌then◌else◌, refl, sym, ap, ◌∙◌, arith}
+use Rattle.std.proofs.Common.{◌≡◌, ◌<◌, ◌≤◌, ℕ, ◌+◌, ◌-◌, Bool, true, false, ◌==◌, ◌&&◌, ◌||◌, not, nat_lt, List, [], ◌∷◌, Option, Some, None, is_none, slice_get, if◌then◌else◌, refl, sym, ap, ◌∙◌, arith}
 use Rattle.std.proofs.lemmas.Bool.{and_parts}
-use Rattle.sat_label.proofs.Bits.{bit-within}
 use Rattle.sat_label.proofs.SameNodes.{node-self}
 use Rattle.sat_label.proofs.Truth.{same-number, same-test}
 use Rattle.sat_label.specs.Order.{node_eq}
 use Rattle.sat_label.specs.Words.{bit}
-use Rattle.sat_label.specs.declared.site_set.SiteSet.{SiteSet}
 use Rattle.sat_label.specs.declared.label.Kind.{Kind}
 use Rattle.sat_label.specs.declared.label.Kind.TheVariants as kind
+use Rattle.sat_label.specs.Grouped.{list_of}
 use Rattle.sat_label.specs.declared.label.Label.{Label}
 use Rattle.sat_label.specs.declared.node.NodeId.{NodeId}
 use Rattle.sat_label.specs.declared.node.NodeId.TheVariants.{Site, Serializer}
@@ -23,14 +22,14 @@ use Rattle.sat_act.specs.declared.deployment.Item.{Item}
 use Rattle.sat_act.specs.declared.entry.Entry.{Entry}
 use Rattle.sat_act.specs.Deployed.{Deployed}
 use Rattle.sat_act.specs.Limits.{IsDeployment}
-use Rattle.sat_act.specs.Parts.{Handling, handling, emission, view, seat_in, tree_of, goes_beyond, came_from, entered_entry, taken_entry}
+use Rattle.sat_act.specs.Parts.{Handling, handling, emission, view, seat_in, tree_of, keeps_some, replicates, goes_beyond, came_from, entered_entry, taken_entry}
 use Rattle.sat_laws.proofs.Runs.{entry}
 use Rattle.sat_machine.specs.State.{SiteState}
 use Rattle.sat_machine.specs.Fits.{fits, is_other, is_gear, is_note}
 use Rattle.sat_machine.specs.Interests.{interest_of}
 use Rattle.sat_net.proofs.Edges.{leaves as goes-out, stays}
 use Rattle.sat_net.proofs.Targets.{leads-is}
-use Rattle.sat_sites.specs.Interested.{is_for, keeps}
+use Rattle.sat_sites.specs.Interested.{is_for, keeps_one}
 use Rattle.sat_proxy.specs.Proxy.{note_of}
 use Rattle.sat_site.specs.declared.input.SiteInput.{SiteInput}
 use Rattle.sat_site.specs.declared.input.SiteInput.TheVariants as input
@@ -45,7 +44,7 @@ use Rattle.sat_node.specs.declared.kept.Made.TheVariants as made
 use Rattle.sat_machines.specs.Acts.{ActSeen}
 use Rattle.sat_machines.specs.Layout.{peer, label_link}
 use Rattle.sat_machines.specs.declared.site_answer.SiteAnswer.{SiteAnswer}
-use Rattle.sat_machines.specs.Sites.{sent_by, epoch_by, keepers_at, keepers_of, payload_in, beat_in, bulk_to, some_if, label_or, site_puts, site_takes, is_turned, label_taken, taken_on}
+use Rattle.sat_machines.specs.Sites.{sent_by, epoch_by, is_keeper, payload_in, beat_in, bulk_to, some_if, label_or, site_puts, site_takes, is_turned, label_taken, taken_on}
 use Rattle.sat_stitch.specs.Kept.{Kept, history}
 use Rattle.sat_stitch.specs.Nodes.{site_after, put_on, took_from}
 use Rattle.sat_opened.specs.Keeping.{client_in, site_act, site_kept}
@@ -61,8 +60,8 @@ self-no : (b : Bool) (i j : ℕ) → j ≡ i → (b && not (i == j)) ≡ false
 self-no b i j e = ap (λ (k : ℕ). b && not (i == k)) e ∙ (ap (λ (c : Bool). b && not c) (same-number i) ∙ and-no b)
 
 own-kind : (d : Deployed) (i j : ℕ) (k : Kind) → j ≡ i → IsOwnKind i k →
-    ◌≡◌ {A = Bool} (elim k [ kind.Update x ↦ keeps (interest_of d) x i && not (i == j) | kind.Move m ↦ i == m | kind.Pulse ↦ nat_lt i d.sites && not (i == j) | kind.Close e ↦ nat_lt i d.sites && not (i == j) ]) false
-own-kind d i j (kind.Update x) e o = self-no (keeps (interest_of d) x i) i j e
+    ◌≡◌ {A = Bool} (elim k [ kind.Update items ↦ keeps_one (interest_of d) (list_of items) i && not (i == j) | kind.Move m ↦ i == m | kind.Pulse ↦ nat_lt i d.sites && not (i == j) | kind.Close e ↦ nat_lt i d.sites && not (i == j) ]) false
+own-kind d i j (kind.Update items) e o = self-no (keeps_one (interest_of d) (list_of items) i) i j e
 own-kind d i j (kind.Move m) e o = o
 own-kind d i j kind.Pulse e o = self-no (nat_lt i d.sites) i j e
 own-kind d i j (kind.Close f) e o = self-no (nat_lt i d.sites) i j e
@@ -160,7 +159,7 @@ quiet-sent d i s input.Emit r q = no-label (is_none (tree_of d s.views.emission)
 quiet-sent d i s input.Pulse r q = no-label (is_none (tree_of d s.views.emission)) d i (label_sent r) (quiet-label r q)
 quiet-sent d i s input.Close r q = no-label (is_none (tree_of d s.views.emission)) d i (label_sent r) (quiet-label r q)
 quiet-sent d i s (input.Tick g t) r q = refl
-quiet-sent d i s (input.Write seen n value) r q = refl
+quiet-sent d i s (input.Write seen items values) r q = refl
 quiet-sent d i s (input.Read seen n) r q = refl
 quiet-sent d i s (input.Move seen j) r q = refl
 quiet-sent d i s (input.Attach seen) r q = refl
@@ -236,7 +235,7 @@ module _ (d : Deployed) (i e : ℕ) (t : TreeShape) (tree : tree_of d e ≡ Some
     enters : (given : SiteInput) (r : Answer) → Says d i s given r → entered_entry d e t (Site i) up h (entry (site_act i c given) r false) ≡ when (s.views.emission == e) (sent_by d i s given r)
     unfolding handling sent_by
     enters given r (quiet g y q) = ap (enters_by d e t (Site i) up) (quiet-handling d h (site_act i c g) y q) ∙ ap (when (s.views.emission == e)) (sym (quiet-sent d i s g y q))
-    enters given r (wrote seen n value l o k) = refl
+    enters given r (wrote seen items values l o k) = refl
     enters given r (moved seen j l o) = refl
     enters given r (gathered n u) = refl
     enters given r (emitted l o) = sends-out (emission h i) l sends_in o
@@ -254,7 +253,7 @@ module _ (d : Deployed) (i e : ℕ) (t : TreeShape) (tree : tree_of d e ≡ Some
     taken : (given : SiteInput) (r : Answer) → Says d i s given r → taken_entry d e up (Site i) h (entry (site_act i c given) r false) ≡ turn_takes e s given r
     unfolding handling
     taken given r (quiet g y q) = ap (takes_by e up (Site i)) (quiet-handling d h (site_act i c g) y q) ∙ quiet-turn e s g y q
-    taken given r (wrote seen n value l o k) = refl
+    taken given r (wrote seen items values l o k) = refl
     taken given r (moved seen j l o) = refl
     taken given r (gathered n u) = refl
     taken given r (emitted l o) = not-core (emission h i == e) (i == i) l
@@ -268,34 +267,30 @@ module _ (d : Deployed) (i e : ℕ) (t : TreeShape) (tree : tree_of d e ≡ Some
 
 -- ---- the end into a tree is no lane
 
-pub bit-none : (k : ℕ) → bit 0 k ≡ false
-bit-none k = go (bit 0 k) refl
-  where
-    low : (k : ℕ) → k < 0 → ⊥
-    low k lt = omega arith
-
-    small : 0 < 2 ^ 0
-    small = omega arith
-
-    go : (b : Bool) → bit 0 k ≡ b → b ≡ false
-    go true e = absurd (low k (bit-within 0 0 k small e))
-    go false e = refl
-
 above-all : (k n : ℕ) → n ≤ k → k < n → ⊥
 above-all k n a b = omega arith
 
-none-keep : (d : Deployed) (dep : IsDeployment d) (n j : ℕ) (o : Option Item) → slice_get d.items n ≡ o → d.sites ≤ j → bit (keepers_at o).bits j ≡ false
-none-keep d dep n j None e le = bit-none j
-none-keep d dep n j (Some item) e le = go (bit item.replicas.bits j) refl
+none-at : (d : Deployed) (dep : IsDeployment d) (n j : ℕ) (o : Option Item) → slice_get d.items n ≡ o → d.sites ≤ j → ◌≡◌ {A = Bool} (elim o [ None ↦ false | Some item ↦ bit item.replicas.bits j ]) false
+none-at d dep n j None e le = refl
+none-at d dep n j (Some item) e le = go (bit item.replicas.bits j) refl
   where
     go : (b : Bool) → bit item.replicas.bits j ≡ b → b ≡ false
     go true w = absurd (above-all j d.sites le (dep.replicas n j item e w))
     go false w = refl
 
-none-payload : (b : Bool) (value : List ℕ) (r : Answer) → b ≡ false → payload_in b value r ≡ None
-none-payload true value r e = absurd (cc)
-none-payload false value (ans.Wrote l) e = refl
-none-payload false value _ e = refl
+none-keeps : (d : Deployed) (dep : IsDeployment d) (n j : ℕ) → d.sites ≤ j → replicates d n j ≡ false
+unfolding replicates
+none-keeps d dep n j le = none-at d dep n j (slice_get d.items n) refl le
+
+-- no site that there is not keeps one of some items
+none-keep : (d : Deployed) (dep : IsDeployment d) (xs : List ℕ) (j : ℕ) → d.sites ≤ j → keeps_some d xs j ≡ false
+none-keep d dep [] j le = refl
+none-keep d dep (x ∷ xs) j le = λ n. none-keeps d dep x j le n || none-keep d dep xs j le n
+
+none-payload : (b : Bool) (values : List (List ℕ)) (r : Answer) → b ≡ false → payload_in b values r ≡ None
+none-payload true values r e = absurd (cc)
+none-payload false values (ans.Wrote l) e = refl
+none-payload false values _ e = refl
 
 none-beat : (b : Bool) (o : Option Beat) → b ≡ false → beat_in b o ≡ None
 none-beat true o e = absurd (cc)
@@ -332,10 +327,10 @@ module _ (d : Deployed) (dep : IsDeployment d) (i : ℕ) (lt : i < d.sites) (e :
       go true w = absurd (let clash : true ≡ false = sym w ∙ not-less end_in i here in cc)
       go false w = out d.sites i (tree-at d e t tree).index end_in lt (tree-at d e t tree).end
 
-  bulk-none : (s : SiteState) (given : SiteInput) (a : SiteAnswer) → fits d i s (input_of given) ≡ true → a.keepers ≡ keepers_of d given → bulk_to (peer i end_in) given a ≡ None
+  bulk-none : (s : SiteState) (given : SiteInput) (a : SiteAnswer) → fits d i s (input_of given) ≡ true → ((k : ℕ) → bit a.keepers.bits k ≡ is_keeper d given k) → bulk_to (peer i end_in) given a ≡ None
   unfolding fits
-  bulk-none s (input.Write seen n value) a f k =
-      none-payload (bit a.keepers.bits (peer i end_in)) value a.answer (ap (λ (set : SiteSet). bit set.bits (peer i end_in)) k ∙ none-keep d dep n (peer i end_in) (slice_get d.items n) refl peer-far)
+  bulk-none s (input.Write seen items values) a f k =
+      none-payload (bit a.keepers.bits (peer i end_in)) values a.answer (k (peer i end_in) ∙ none-keep d dep (list_of items) (peer i end_in) peer-far)
   bulk-none s (input.Beat j) a f k = none-beat (j == peer i end_in) a.beat (far j d.sites (peer i end_in) peer-far (other-is d i j f).within)
   bulk-none s (input.Tick g u) a f k = refl
   bulk-none s (input.Read seen n) a f k = refl
@@ -385,7 +380,7 @@ module _ (d : Deployed) (dep : IsDeployment d) (i : ℕ) (lt : i < d.sites) (e :
   turned-tree s given r (quiet g (ans.Shown l) f) front w q = absurd (cc)
   turned-tree s given r (quiet g (ans.Took l) f) front w q = absurd (cc)
   turned-tree s given r (quiet g _ f) front w q = absurd (cc)
-  turned-tree s given r (wrote seen n value l o k) front w q = absurd (cc)
+  turned-tree s given r (wrote seen items values l o k) front w q = absurd (cc)
   turned-tree s given r (moved seen j l o) front w q = absurd (cc)
   turned-tree s given r (gathered n u) front w q = absurd (cc)
   turned-tree s given r (emitted l o) front w q = absurd (cc)
@@ -417,7 +412,7 @@ module _ (d : Deployed) (dep : IsDeployment d) (i : ℕ) (lt : i < d.sites) (e :
   taken-is s (input.BeatIn from number b) a say f w =
       none-if (from == peer i end_in) (body.Beat number b) (far from d.sites (peer i end_in) peer-far (other-is d i from (and_parts (is_other d i from) (is_note d (note_of b)) f).0).within)
   taken-is s (input.Tick g u) a say f w = refl
-  taken-is s (input.Write seen n value) a say f w = refl
+  taken-is s (input.Write seen items values) a say f w = refl
   taken-is s (input.Read seen n) a say f w = refl
   taken-is s (input.Move seen j) a say f w = refl
   taken-is s (input.Attach seen) a say f w = refl

@@ -1,5 +1,7 @@
 -- Journals of nodes as kept lists: of each entry its number, its act by name, what was handed to it, and its answer.
 use Rattle.std.specs.Prelude.{ℕ, List, [], ◌∷◌, Option, Some, None}
+use Rattle.sat_label.specs.declared.items.Items.{Items}
+use Rattle.sat_label.specs.declared.items.Items.TheVariants.{One}
 use Rattle.sat_act.specs.declared.act.Act.{Act}
 use Rattle.sat_act.specs.declared.act.Act.TheVariants as act
 use Rattle.sat_act.specs.declared.entry.Entry.{Entry}
@@ -22,10 +24,15 @@ abbrev pub client_in : Option ℕ → ℕ
 client_in None = 0
 client_in (Some c) = c
 
+-- a write as an act of client c: of one item alone, or of several under one label
+abbrev pub write_act : ℕ → Items → List (List ℕ) → Act
+write_act c (One x) (value ∷ []) = act.Write c x value
+write_act c items values = act.Writes c items values
+
 -- what an input is as an act at site i, by client c where it is a client's. A payload has its number
 abbrev pub site_act : ℕ → ℕ → SiteInput → Act
 site_act i c (input.Tick g t) = act.Tick i g t
-site_act i c (input.Write seen n value) = act.Write c n value
+site_act i c (input.Write seen items values) = write_act c items values
 site_act i c (input.Read seen n) = act.Read c n
 site_act i c (input.Move seen j) = act.Move c j
 site_act i c (input.Attach seen) = act.Attach c i
@@ -43,7 +50,7 @@ site_act i c input.Advance = act.Advance i
 
 -- what site i was handed with it. A client that attaches has no seat; one that writes, reads or moves has its seat here
 abbrev pub site_given : ℕ → SiteInput → Given
-site_given i (input.Write seen n value) = OfClient seen (Some i)
+site_given i (input.Write seen items values) = OfClient seen (Some i)
 site_given i (input.Read seen n) = OfClient seen (Some i)
 site_given i (input.Move seen j) = OfClient seen (Some i)
 site_given i (input.Attach seen) = OfClient seen None

@@ -1,12 +1,14 @@
 //! Journals of nodes, as the merge of journals takes them.
 ghost use Rattle.std.specs.Prelude.{◌≡◌, ◌++◌, map, IfOk, OnOk};
+ghost use Rattle.sat_label.specs.declared.items.Items.TheVariants.{One};
+ghost use Rattle.sat_act.specs.declared.act.Act.TheVariants.{Writes};
 ghost use Rattle.sat_machines.specs.Serials.{epoch_in, serial_in};
 ghost use Rattle.sat_machines.specs.Sites.{number_of};
-ghost use Rattle.sat_opened.specs.Keeping.{client_in, site_act, site_kept, serial_act, serial_kept, kept_under};
+ghost use Rattle.sat_opened.specs.Keeping.{client_in, write_act, site_act, site_kept, serial_act, serial_kept, kept_under};
 ghost use Rattle.sat_stitch.specs.Kept.{entry_of};
 
 use sat_act::{Act, Entry};
-use sat_label::NodeName;
+use sat_label::{Items, NodeName, Values};
 use sat_machines::{Laid, SerialAct, SerialAnswer, SerialNode, SiteAct, SiteAnswer, SiteNode};
 use sat_node::{Held, Kept, Names};
 use sat_site::SiteInput;
@@ -153,6 +155,47 @@ fn act_of(epoch: u16, number: u16, input: &SerialAct) -> Act
     }
 }
 
+// A write of several items, as an act.
+fn writes_of(client: u16, items: Items, values: &Values) -> Result<Act, AllocError>
+    ensures { IfOk result (λ act. act ≡ Writes client items values.now) }
+{
+    let values = values.copy()?;
+    Ok(Act::Writes {
+        client,
+        items,
+        values,
+    })
+}
+
+// A write of one item, as an act. A site is handed one value with it.
+#[tactic(auto, using(crate::proofs::Written::write_one, crate::proofs::Written::write_more))]
+fn write_of(client: u16, item: u16, values: &Values) -> Result<Act, AllocError>
+    ensures { IfOk result (λ act. act ≡ write_act client (One item) values.now) }
+{
+    let list = values.as_slice();
+    if list.len() != 1 {
+        return writes_of(client, Items::One(item), values);
+    }
+    let value = list[0].copy()?;
+    Ok(Act::Write {
+        client,
+        item,
+        value,
+    })
+}
+
+// The act of a client that a write is.
+fn written(client: u16, items: Items, values: &Values) -> Result<Act, AllocError>
+    ensures { IfOk result (λ act. act ≡ write_act client items values.now) }
+{
+    match items {
+        Items::One(item) => write_of(client, item, values),
+        Items::Two(..) => writes_of(client, items, values),
+        Items::Three(..) => writes_of(client, items, values),
+        Items::Four(..) => writes_of(client, items, values),
+    }
+}
+
 // The act of a site that an input is.
 fn act_at(site: u16, client: u16, input: &SiteInput) -> Result<Act, AllocError>
     ensures { IfOk result (λ act. act ≡ site_act site client input.now) }
@@ -165,16 +208,9 @@ fn act_at(site: u16, client: u16, input: &SiteInput) -> Result<Act, AllocError>
         }),
         SiteInput::Write {
             carried: _,
-            item,
-            value,
-        } => {
-            let value = value.copy()?;
-            Ok(Act::Write {
-                client,
-                item: *item,
-                value,
-            })
-        }
+            items,
+            values,
+        } => written(client, *items, values),
         SiteInput::Read { carried: _, item } => Ok(Act::Read {
             client,
             item: *item,

@@ -63,11 +63,11 @@ fn append_act(d: &Deployment, act: &Act, out: &mut Vec<u8>) -> Result<(), AllocE
 
 // An act's line, and its answer.
 fn append_entry(d: &Deployment, entry: &Entry, out: &mut Vec<u8>) -> Result<(), AllocError>
-    ensures { OnOk result (out.new.items ≡ out.old.items ++ (act_text d.now entry.now.act ++ codes " -> " ++ answer_text d.now entry.now.answer)) }
+    ensures { OnOk result (out.new.items ≡ out.old.items ++ (act_text d.now entry.now.act ++ codes " -> " ++ answer_text d.now entry.now.act entry.now.answer)) }
 {
     append_act(d, &entry.act, out)?;
     out.extend_from_slice(b" -> ")?;
-    append_answer(d, &entry.answer, out)
+    append_answer(d, &entry.act, &entry.answer, out)
 }
 
 // What stands behind a note's number.

@@ -45,7 +45,7 @@ sized-by : (d : Deployed) (i : ℕ) (x : SiteSeen) (s : SiteState) (given : Site
 sized-by d i x s (input.Bulk from gear number p) st = refl
 sized-by d i x s (input.BeatIn from number beat) st = λ n. nat_lt number (2 ^ 63) && ((length beat.counts == (st.shape n).gears) && nat_le (length beat.closes) (st.views.count n))
 sized-by d i x s (input.Tick g t) st = refl
-sized-by d i x s (input.Write seen n value) st = refl
+sized-by d i x s (input.Write seen items values) st = refl
 sized-by d i x s (input.Read seen n) st = refl
 sized-by d i x s (input.Move seen j) st = refl
 sized-by d i x s (input.Attach seen) st = refl

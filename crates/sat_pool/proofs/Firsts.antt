@@ -10,7 +10,7 @@ use Rattle.sat_label.specs.Members.{In}
 use Rattle.sat_label.specs.Least.{least_label, lesser}
 use Rattle.sat_label.proofs.Orders.{point_lt-le, point_le-trans, lt-ts, labels-lt}
 use Rattle.sat_label.proofs.Least.{least-nil, least-none, least-is}
-use Rattle.sat_bulk.specs.declared.Payload.{Payload}
+use Rattle.sat_bulk.specs.Payloads.{Payload}
 use Rattle.sat_pool.specs.Pool.{is_before, labelled, IsRow}
 use Rattle.sat_pool.specs.Rows.{first_label, Ascends, OfOneSite}
 

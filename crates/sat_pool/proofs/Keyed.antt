@@ -11,7 +11,7 @@ use Rattle.sat_label.specs.Order.{point_lt, point_eq}
 use Rattle.sat_label.specs.Members.{In}
 use Rattle.sat_label.proofs.Members.{In-filter}
 use Rattle.sat_label.proofs.Orders.{point_lt-trans, same-point}
-use Rattle.sat_bulk.specs.declared.Payload.{Payload}
+use Rattle.sat_bulk.specs.Payloads.{Payload}
 use Rattle.sat_pool.specs.Pool.{at_point, placed, without}
 use Rattle.sat_pool.specs.Rows.{keyed, point_cmp, Ascends, IsKeptRow}
 

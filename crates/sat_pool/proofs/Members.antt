@@ -9,7 +9,7 @@ use Rattle.sat_label.specs.Order.{point_lt, point_eq}
 use Rattle.sat_label.specs.Members.{In}
 use Rattle.sat_label.proofs.Members.{In-left, In-right, In-parts, In-filter, into-filter}
 use Rattle.sat_label.proofs.Orders.{lt-not_eq, same-point}
-use Rattle.sat_bulk.specs.declared.Payload.{Payload}
+use Rattle.sat_bulk.specs.Payloads.{Payload}
 use Rattle.sat_pool.specs.Pool.{Waiting, none_waiting, row_of, all_waiting, at_point, waiting_at, placed, without, after_add, after_take, IsRow, IsPool}
 use Rattle.sat_pool.specs.Rows.{Ascends}
 use Rattle.sat_pool.proofs.Keyed.{placed-in, placed-ascends, without-ascends, without-none, without-others}

@@ -14,7 +14,7 @@ use Rattle.sat_label.specs.Members.{In}
 use Rattle.sat_label.proofs.Least.{least-append, least-is, least-nil, least-none, none-passes}
 use Rattle.sat_label.proofs.Members.{In-left, In-right, In-parts}
 use Rattle.sat_label.proofs.Orders.{gears-not_eq, labels-lt, lt-not_eq, point_lt-trans, same-point}
-use Rattle.sat_bulk.specs.declared.Payload.{Payload}
+use Rattle.sat_bulk.specs.Payloads.{Payload}
 use Rattle.sat_pool.specs.declared.rising.Slot.{Slot}
 use Rattle.sat_pool.specs.declared.rising.Slot.TheVariants.{Waits}
 use Rattle.sat_pool.specs.Pool.{at_point, labelled, placed, without}

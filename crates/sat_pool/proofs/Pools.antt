@@ -11,7 +11,7 @@ use Rattle.sat_label.specs.Order.{point_le}
 use Rattle.sat_label.specs.Members.{In}
 use Rattle.sat_label.specs.Least.{least_label, lesser}
 use Rattle.sat_label.proofs.Least.{least-append}
-use Rattle.sat_bulk.specs.declared.Payload.{Payload}
+use Rattle.sat_bulk.specs.Payloads.{Payload}
 use Rattle.sat_pool.specs.Pool.{Waiting, row_of, all_waiting, labelled, labels_waiting, at_point, waiting_at, is_before, least_before, has_ts_to, has_up_to, placed, without, after_add, after_take, IsRow, IsPool}
 use Rattle.sat_pool.specs.Rows.{IsKeptPool, OfOneSite}
 use Rattle.sat_pool.proofs.Firsts.{row-site}

@@ -9,7 +9,7 @@ use Rattle.sat_label.specs.Order.{point_lt, point_eq}
 use Rattle.sat_label.specs.Members.{In}
 use Rattle.sat_label.proofs.Members.{In-get, In-parts}
 use Rattle.sat_label.proofs.Orders.{lt-not_eq, point_lt-trans, same-point}
-use Rattle.sat_bulk.specs.declared.Payload.{Payload}
+use Rattle.sat_bulk.specs.Payloads.{Payload}
 use Rattle.sat_pool.specs.declared.rising.Slot.{Slot}
 use Rattle.sat_pool.specs.declared.rising.Slot.TheVariants.{Waits, Gone}
 use Rattle.sat_pool.specs.Pool.{at_point, without}

@@ -6,7 +6,7 @@ use Rattle.sat_label.specs.declared.label.Label.{Label}
 use Rattle.sat_label.specs.Order.{label_eq, point_lt, point_le, point_eq}
 use Rattle.sat_label.specs.Least.{least_label}
 use Rattle.sat_label.specs.Members.{In}
-use Rattle.sat_bulk.specs.declared.Payload.{Payload}
+use Rattle.sat_bulk.specs.Payloads.{Payload}
 
 -- for each site the payloads of its updates that wait, ascending by their points
 pub record Waiting : Type 0 where

@@ -9,7 +9,7 @@ use Rattle.sat_label.specs.declared.point.Point.{Point}
 use Rattle.sat_label.specs.declared.label.Label.{Label}
 use Rattle.sat_label.specs.Order.{point_eq, point_lt}
 use Rattle.sat_label.specs.Members.{In}
-use Rattle.sat_bulk.specs.declared.Payload.{Payload}
+use Rattle.sat_bulk.specs.Payloads.{Payload}
 use Rattle.sat_pool.specs.declared.rising.Slot.{Slot}
 use Rattle.sat_pool.specs.Pool.{Waiting, all_waiting, at_point, placed, IsPool, IsRow}
 use Rattle.sat_pool.specs.Slots.{AreBelow}

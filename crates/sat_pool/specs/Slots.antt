@@ -4,7 +4,7 @@ use Rattle.std.specs.Prelude.{ℕ, zero, suc, ◌≡◌, Bool, true, false, List
 use Rattle.sat_label.specs.declared.point.Point.{Point}
 use Rattle.sat_label.specs.Order.{point_lt, point_eq}
 use Rattle.sat_label.specs.Members.{In}
-use Rattle.sat_bulk.specs.declared.Payload.{Payload}
+use Rattle.sat_bulk.specs.Payloads.{Payload}
 use Rattle.sat_pool.specs.Pool.{without}
 use Rattle.sat_pool.specs.declared.rising.Slot.{Slot}
 use Rattle.sat_pool.specs.declared.rising.Slot.TheVariants.{Waits, Gone}

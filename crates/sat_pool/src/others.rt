@@ -20,7 +20,7 @@ pub struct Others {
 impl Model for Others {
     ghost use Rattle.std.specs.Prelude.{List};
     ghost use Rattle.std.specs.Map.{values_of};
-    ghost use Rattle.sat_bulk.specs.declared.Payload as bulk;
+    ghost use Rattle.sat_bulk.specs.Payloads as bulk;
     ghost use Rattle.sat_pool.specs.Rows.{IsKeptRow};
 
     ghost Value = { List bulk.Payload };
@@ -38,7 +38,8 @@ fn put(waiting: &mut BTreeMap<Point, Payload>, payload: Payload) -> Result<Optio
     ensures back { IfErr result (λ back. back ≡ payload) }
     ensures err { OnErr result (waiting.new.entries ≡ waiting.old.entries) }
 {
-    match waiting.insert(payload.label.point, payload) {
+    let point = payload.label().point;
+    match waiting.insert(point, payload) {
         Ok(before) => Ok(before),
         Err(failed) => Err(failed.value.1),
     }
@@ -89,7 +90,7 @@ impl Others {
     {
         match self.waiting.first_key_value() {
             None => None,
-            Some((_, payload)) => Some(payload.label),
+            Some((_, payload)) => Some(payload.label()),
         }
     }
 }

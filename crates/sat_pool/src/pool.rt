@@ -110,7 +110,7 @@ impl Pool {
         if self.count == usize::MAX {
             return Err(payload);
         }
-        let row = &mut self.rows[payload.label.point.site as usize];
+        let row = &mut self.rows[payload.label().point.site as usize];
         let before = row.insert(payload)?;
         if before.is_none() {
             self.count += 1;
@@ -159,7 +159,7 @@ impl Pool {
         ensures new { self.new ≡ waits.after_take_of self.old label.now (waits.waiting_of self.old label.now) }
     {
         let waiting = self.get(&label.point)?;
-        if !waiting.label.is_same(label) {
+        if !waiting.label().is_same(label) {
             return None;
         }
         self.take(&label.point)

@@ -48,7 +48,7 @@ fn is_below(slot: &Slot, point: &Point) -> bool
     ensures { result ≡ point_lt (point_in slot.now) point.now }
 {
     match slot {
-        Slot::Waits(payload) => payload.label.point.is_below(point),
+        Slot::Waits(payload) => payload.label().point.is_below(point),
         Slot::Gone(gone) => gone.is_below(point),
     }
 }
@@ -59,7 +59,7 @@ fn payload_at<'a>(slot: &'a Slot, point: &Point) -> Option<&'a Payload>
 {
     match slot {
         Slot::Waits(payload) => {
-            if payload.label.point.is_same(point) {
+            if payload.label().point.is_same(point) {
                 Some(payload)
             } else {
                 None
@@ -270,7 +270,7 @@ impl Rising {
         match self.slots.front() {
             None => None,
             Some(Slot::Gone(_)) => None,
-            Some(Slot::Waits(payload)) => Some(payload.label),
+            Some(Slot::Waits(payload)) => Some(payload.label()),
         }
     }
 }

@@ -26,7 +26,7 @@ pub struct Row {
 
 impl Model for Row {
     ghost use Rattle.std.specs.Prelude.{List, map};
-    ghost use Rattle.sat_bulk.specs.declared.Payload as bulk;
+    ghost use Rattle.sat_bulk.specs.Payloads as bulk;
     ghost use Rattle.sat_pool.specs.Rows.{row_view, IsKept};
     ghost use Rattle.sat_pool.specs.Slots.{waiting_in};
 
@@ -140,7 +140,7 @@ fn push(rising: &mut Vec<Rising>, others: &Others, payload: Payload) -> Result<(
     ensures back { IfErr result (λ back. back ≡ payload) }
     ensures err { OnErr result (row_view (map waiting_in rising.new.items) others.now ≡ row_view (map waiting_in rising.old.items) others.now) }
 {
-    let queue = &mut rising[payload.label.point.gear as usize];
+    let queue = &mut rising[payload.label().point.gear as usize];
     queue.push(payload)
 }
 
@@ -157,7 +157,7 @@ fn put_aside(
     ensures back { IfErr result (λ back. back ≡ payload) }
     ensures err { OnErr result (row_view (map waiting_in rising.new.items) others.new ≡ row_view (map waiting_in rising.old.items) others.old) }
 {
-    let point = payload.label.point;
+    let point = payload.label().point;
     let aside = others.insert(payload)?;
     let queued = take_rising(rising, &point);
     Ok(queued.or(aside))
@@ -176,7 +176,7 @@ fn store(
     ensures back { IfErr result (λ back. back ≡ payload) }
     ensures err { OnErr result (row_view (map waiting_in rising.new.items) others.new ≡ row_view (map waiting_in rising.old.items) others.old) }
 {
-    if goes_on(rising, others, &payload.label.point) {
+    if goes_on(rising, others, &payload.label().point) {
         push(rising, others, payload)?;
         return Ok(None);
     }
@@ -196,7 +196,7 @@ fn put(
     ensures back { IfErr result (λ back. back ≡ payload) }
     ensures err { OnErr result (row_view (map waiting_in rising.new.items) others.new ≡ row_view (map waiting_in rising.old.items) others.old) }
 {
-    if make_queues(rising, payload.label.point.gear).is_err() {
+    if make_queues(rising, payload.label().point.gear).is_err() {
         return Err(payload);
     }
     store(rising, others, payload)
@@ -265,7 +265,7 @@ impl Row {
         ensures back { IfErr result (λ back. back ≡ payload) }
         ensures err { OnErr result (self.new ≡ self.old) }
     {
-        let label = payload.label;
+        let label = payload.label();
         let before = put(&mut self.rising, &mut self.others, payload)?;
         self.first = first_with(self.first, label);
         Ok(before)

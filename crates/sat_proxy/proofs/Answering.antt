@@ -5,13 +5,14 @@ use Rattle.std.proofs.lemmas.Bool.{or_left, or_right}
 use Rattle.std.proofs.lemmas.Bool.Decides.{nat_tests}
 use Rattle.sat_label.specs.declared.label.Label.{Label}
 use Rattle.sat_label.specs.declared.label.Kind.{Kind}
+use Rattle.sat_label.specs.declared.items.Items.{Items}
 use Rattle.sat_label.specs.declared.label.Kind.TheVariants.{Update, Move, Pulse, Close}
 use Rattle.sat_label.specs.declared.carried.Carried.{Carried}
 use Rattle.sat_label.specs.Order.{label_eq}
 use Rattle.sat_label.specs.Members.{In}
 use Rattle.sat_label.specs.Words.{has}
 use Rattle.sat_label.proofs.Truth.{same-test}
-use Rattle.sat_bulk.specs.declared.Payload.{Payload}
+use Rattle.sat_bulk.specs.Payloads.{Payload}
 use Rattle.sat_pool.specs.Pool.{labels_waiting}
 use Rattle.sat_beat.specs.declared.Beat.{Beat}
 use Rattle.sat_beat.specs.declared.beats.BeatTake.TheVariants as came
@@ -121,11 +122,11 @@ link_by waiting (Some l) = turned waiting l
 abbrev turned_by : List Label → Label → Kind → Answer
 turned_by waiting l k = if is_update k then (if has label_eq waiting l then ans.Shown l else ans.Refused (why.NoPayload l)) else ans.Took l
 
-update-is : (l : Label) (x : ℕ) (o : Option Payload) (b : Bool) → l.kind ≡ Update x → is_some o ≡ b → front_answer (missing l o) (Some l) ≡ (if b then ans.Shown l else ans.Refused (why.NoPayload l))
-update-is l x None false e w = refl
-update-is l x (Some q) true e w = ap (done_answer l) e
-update-is l x None true e w = absurd (cc)
-update-is l x (Some q) false e w = absurd (cc)
+update-is : (l : Label) (items : Items) (o : Option Payload) (b : Bool) → l.kind ≡ Update items → is_some o ≡ b → front_answer (missing l o) (Some l) ≡ (if b then ans.Shown l else ans.Refused (why.NoPayload l))
+update-is l items None false e w = refl
+update-is l items (Some q) true e w = ap (done_answer l) e
+update-is l items None true e w = absurd (cc)
+update-is l items (Some q) false e w = absurd (cc)
 
 turn-is : {d : Deployed} {j : ℕ} {views : Epochs} {p : ProxySeen} {s : SiteState} (sees : Sees d j views p s) (front : Option Label) → turn_answer views p front ≡ site_answer d j s (given.Turn front)
 unfolding site_answer
@@ -135,7 +136,7 @@ turn-is {d = d} {views = views} {p = p} {s = s} sees front = go (in_stamp views)
     waits l = has-waiting p.pool l sees.sound.pool ∙ has-same (labels_waiting p.pool) (look.waiting_of s) l (label-there sees) (label-back sees)
 
     fault : (l : Label) (k : Kind) → l.kind ≡ k → front_answer (front_fault p.pool l k) (Some l) ≡ turned_by (look.waiting_of s) l k
-    fault l (Update x) e = update-is l x (waiting_of p.pool l) (has label_eq (look.waiting_of s) l) e (waits l)
+    fault l (Update items) e = update-is l items (waiting_of p.pool l) (has label_eq (look.waiting_of s) l) e (waits l)
     fault l (Move k) e = ap (done_answer l) e
     fault l Pulse e = ap (done_answer l) e
     fault l (Close n) e = ap (done_answer l) e

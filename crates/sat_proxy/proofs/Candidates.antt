@@ -10,7 +10,7 @@ use Rattle.sat_label.specs.Order.{label_lt, point_lt}
 use Rattle.sat_label.specs.Members.{In}
 use Rattle.sat_label.proofs.Least.{least-append, least-is, least-nil, least-none}
 use Rattle.sat_label.proofs.Orders.{point_lt-trans}
-use Rattle.sat_bulk.specs.declared.Payload.{Payload}
+use Rattle.sat_bulk.specs.Payloads.{Payload}
 use Rattle.sat_pool.specs.Pool.{Waiting, all_waiting, labelled, labels_waiting, row_of, IsPool, IsRow}
 use Rattle.sat_pool.specs.Rows.{first_label}
 use Rattle.sat_beat.specs.Beats.{BeatsSeen}

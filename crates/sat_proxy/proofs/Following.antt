@@ -7,12 +7,13 @@ use Rattle.std.proofs.lemmas.List.{get_or-set_same, get_or-set_other}
 use Rattle.sat_label.specs.declared.point.Point.{Point}
 use Rattle.sat_label.specs.declared.label.Label.{Label}
 use Rattle.sat_label.specs.declared.label.Kind.{Kind}
+use Rattle.sat_label.specs.declared.items.Items.{Items}
 use Rattle.sat_label.specs.declared.label.Kind.TheVariants.{Update, Move, Pulse, Close}
 use Rattle.sat_label.specs.Order.{greater_point, label_eq}
 use Rattle.sat_label.specs.Members.{In}
 use Rattle.sat_label.specs.Words.{below, has}
 use Rattle.sat_label.proofs.Least.{least-is}
-use Rattle.sat_bulk.specs.declared.Payload.{Payload}
+use Rattle.sat_bulk.specs.Payloads.{Payload}
 use Rattle.sat_bulk.specs.Windows.{has_number}
 use Rattle.sat_pool.specs.Pool.{all_waiting, labelled, labels_waiting, waiting_at}
 use Rattle.sat_pool.specs.Pool as pool
@@ -200,12 +201,12 @@ turn-follows {d = d} {j = j} {views = views} {p = p} {s = s} sees front within =
           last = known sees l lt;
         }
 
-    update : (l : Label) (x : ℕ) → l.kind ≡ Update x → l.point.site < d.sites → (o : Option Payload) → waiting_of p.pool l ≡ o → StandsProxy (shown_after p l o) (proxy_next d j s (given.Turn (Some l)) (front_answer (missing l o) (Some l)))
-    update l x e lt None f = sees.stands
-    update l x e lt (Some q) f = subst (λ (k : Kind). StandsProxy (showing p l) (proxy_next d j s (given.Turn (Some l)) (done_answer l k))) (sym e) (shown l q lt f)
+    update : (l : Label) (items : Items) → l.kind ≡ Update items → l.point.site < d.sites → (o : Option Payload) → waiting_of p.pool l ≡ o → StandsProxy (shown_after p l o) (proxy_next d j s (given.Turn (Some l)) (front_answer (missing l o) (Some l)))
+    update l items e lt None f = sees.stands
+    update l items e lt (Some q) f = subst (λ (k : Kind). StandsProxy (showing p l) (proxy_next d j s (given.Turn (Some l)) (done_answer l k))) (sym e) (shown l q lt f)
 
     label : (l : Label) → l.point.site < d.sites → (k : Kind) → l.kind ≡ k → StandsProxy (front_after p l k) (proxy_next d j s (given.Turn (Some l)) (front_answer (front_fault p.pool l k) (Some l)))
-    label l lt (Update x) e = update l x e lt (waiting_of p.pool l) refl
+    label l lt (Update items) e = update l items e lt (waiting_of p.pool l) refl
     label l lt (Move i) e = subst (λ (k : Kind). StandsProxy (knowing p l) (proxy_next d j s (given.Turn (Some l)) (done_answer l k))) (sym e) (took l lt)
     label l lt Pulse e = subst (λ (k : Kind). StandsProxy (knowing p l) (proxy_next d j s (given.Turn (Some l)) (done_answer l k))) (sym e) (took l lt)
     label l lt (Close n) e = subst (λ (k : Kind). StandsProxy (knowing p l) (proxy_next d j s (given.Turn (Some l)) (done_answer l k))) (sym e) (took l lt)

@@ -9,7 +9,7 @@ use Rattle.sat_label.specs.declared.label.Label.{Label}
 use Rattle.sat_label.specs.Order.{point_lt, point_eq}
 use Rattle.sat_label.specs.Least.{least_label}
 use Rattle.sat_label.specs.Members.{In}
-use Rattle.sat_bulk.specs.declared.Payload.{Payload}
+use Rattle.sat_bulk.specs.Payloads.{Payload}
 use Rattle.sat_pool.specs.Pool.{Waiting, after_add, after_take, at_point, labels_waiting, placed, row_of, waiting_at, without, IsPool, IsRow}
 use Rattle.sat_proxy.proofs.Candidates.{Candidate, candidate-is}
 

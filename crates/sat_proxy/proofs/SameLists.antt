@@ -1,18 +1,18 @@
 -- Tests of lists that have the same members.
-use Rattle.std.specs.Prelude.{◌≡◌, ◌≢◌, ◌<◌, ℕ, zero, suc, Bool, true, false, ◌||◌, ◌&&◌, List, [], ◌∷◌, ◌++◌, map, get_or, ◌==◌, nat_lt, Option, Some, None, refl}
+use Rattle.std.specs.Prelude.{◌≡◌, ◌≢◌, ◌<◌, ℕ, zero, suc, Bool, true, false, ◌||◌, ◌&&◌, List, [], ◌∷◌, ◌++◌, map, get_or, ◌==◌, Option, Some, None, refl}
 use Rattle.std.specs.List.{list_all, list_any}
 use Rattle.std.proofs.Common.{arith, sym, ◌∙◌, ap, inl, inr}
 use Rattle.std.proofs.lemmas.Bool.{and_from, and_parts, eqb-false, or_cases, or_left, or_parts, or_right}
 use Rattle.std.proofs.lemmas.Option.{get_or_from_slice_get}
 use Rattle.sat_label.specs.declared.label.Label.{Label}
-use Rattle.sat_label.specs.Order.{label_eq, label_lt, point_lt, point_eq, kind_rank, kind_number}
+use Rattle.sat_label.specs.Order.{label_eq, label_lt, point_lt, point_eq}
 use Rattle.sat_label.specs.Least.{least_label}
 use Rattle.sat_label.specs.Members.{In}
 use Rattle.sat_label.specs.Words.{below, has}
 use Rattle.sat_label.proofs.Least.{IsLeast, least-is, none-passes}
 use Rattle.sat_label.proofs.Members.{has-in, in-has}
 use Rattle.sat_label.proofs.Numbers.{below-get, get-map}
-use Rattle.sat_label.proofs.Orders.{same-label}
+use Rattle.sat_label.proofs.Orders.{kinds-connex, same-label}
 use Rattle.sat_label.proofs.Truth.{same-test}
 use Rattle.std.proofs.lemmas.Bool.Decides.{nat_tests}
 use Rattle.sat_proxy.specs.Asks.{others}
@@ -82,11 +82,8 @@ map-in f (y ∷ xs) x (inr m) = inr (map-in f xs x m)
 points-none : (a b : Label) → point_lt a.point b.point ≡ false → point_lt b.point a.point ≡ false → point_eq a.point b.point ≡ true
 points-none a b e f = grind (arith, nat_tests)
 
-pairs-none : (a b x y : ℕ) → (nat_lt a b || ((a == b) && nat_lt x y)) ≡ false → (nat_lt b a || ((b == a) && nat_lt y x)) ≡ false → ((a == b) && (x == y)) ≡ true
-pairs-none a b x y e f = grind (arith, nat_tests)
-
 pub labels-none : (a b : Label) → label_lt a b ≡ false → label_lt b a ≡ false → a ≡ b
-labels-none a b e f = same-label a b (and_from _ _ same (pairs-none (kind_rank a.kind) (kind_rank b.kind) (kind_number a.kind) (kind_number b.kind) (second _ _ same (or_parts _ _ e).1) (second _ _ back (or_parts _ _ f).1)))
+labels-none a b e f = same-label a b (and_from _ _ same (kinds-connex a.kind b.kind (second _ _ same (or_parts _ _ e).1) (second _ _ back (or_parts _ _ f).1)))
   where
     second : (a b : Bool) → a ≡ true → (a && b) ≡ false → b ≡ false
     second true b e f = f

@@ -8,7 +8,7 @@ use Rattle.sat_label.specs.declared.carried.Carried.{Carried}
 use Rattle.sat_label.specs.Order.{mark, point_le, zero_point}
 use Rattle.sat_label.specs.Members.{In}
 use Rattle.sat_label.proofs.Least.{IsLeast, least-is}
-use Rattle.sat_bulk.specs.declared.Payload.{Payload}
+use Rattle.sat_bulk.specs.Payloads.{Payload}
 use Rattle.sat_pool.specs.Pool.{all_waiting, labelled, labels_waiting}
 use Rattle.sat_epoch.specs.Epochs.{Epochs}
 use Rattle.sat_act.specs.Deployed.{Deployed}

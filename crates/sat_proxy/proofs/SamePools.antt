@@ -12,7 +12,7 @@ use Rattle.sat_label.specs.Members.{In}
 use Rattle.sat_label.specs.Words.{has}
 use Rattle.sat_label.proofs.Members.{In-left, In-right, In-parts, In-filter, into-filter, has-in, in-has}
 use Rattle.sat_label.proofs.Orders.{lt-not_eq, same-point, same-label, label_eq-self, labels-differ}
-use Rattle.sat_bulk.specs.declared.Payload.{Payload}
+use Rattle.sat_bulk.specs.Payloads.{Payload}
 use Rattle.sat_pool.specs.Pool.{Waiting, row_of, all_waiting, labelled, labels_waiting, at_point, waiting_at, placed, without, after_add, after_take, IsRow, IsPool}
 use Rattle.sat_proxy.specs.Steps.{waiting_of}
 use Rattle.sat_proxy.specs.Stands.{SamePayloads}

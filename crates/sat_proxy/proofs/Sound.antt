@@ -6,7 +6,7 @@ use Rattle.std.proofs.lemmas.Bool.{cases_eq}
 use Rattle.sat_label.specs.declared.point.Point.{Point}
 use Rattle.sat_label.specs.Members.{In}
 use Rattle.sat_label.specs.Words.{below}
-use Rattle.sat_bulk.specs.declared.Payload.{Payload}
+use Rattle.sat_bulk.specs.Payloads.{Payload}
 use Rattle.sat_bulk.specs.Windows.{Numbers, IsWindow}
 use Rattle.sat_bulk.specs.Windows as windows
 use Rattle.sat_pool.specs.Pool.{Waiting, IsPool, none_waiting}

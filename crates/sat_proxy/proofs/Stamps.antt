@@ -6,7 +6,7 @@ use Rattle.sat_label.specs.declared.point.Point.{Point}
 use Rattle.sat_label.specs.declared.label.Label.{Label}
 use Rattle.sat_label.specs.Least.{least_label}
 use Rattle.sat_label.specs.Words.{below}
-use Rattle.sat_bulk.specs.declared.Payload.{Payload}
+use Rattle.sat_bulk.specs.Payloads.{Payload}
 use Rattle.sat_pool.specs.Pool.{Waiting, labels_waiting, after_take, row_of, waiting_at, IsPool}
 use Rattle.sat_epoch.specs.Epochs.{Epochs, all_heard, in_stamp}
 use Rattle.sat_act.specs.Parts.{best_passes, passed_label, passed_ts}

@@ -2,7 +2,7 @@
 use Rattle.std.specs.Prelude.{◌≡◌, ◌*◌, ◌||◌, ℕ, zero, suc, Bool, false, nat_lt, List, [], replicate, get_or, refl}
 use Rattle.std.proofs.Common.{ap, sym, subst, ◌∙◌, arith}
 use Rattle.std.proofs.lemmas.Bool.Decides.{nat_tests}
-use Rattle.sat_bulk.specs.declared.Payload.{Payload}
+use Rattle.sat_bulk.specs.Payloads.{Payload}
 use Rattle.sat_bulk.specs.Windows.{Numbers, has_number}
 use Rattle.sat_pool.specs.Pool.{none_waiting, all_waiting}
 use Rattle.sat_beat.specs.Beats.{TakenBeats, none_taken}

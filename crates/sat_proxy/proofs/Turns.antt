@@ -5,7 +5,7 @@ use Rattle.std.proofs.lemmas.List.{length-set}
 use Rattle.sat_label.specs.declared.label.Kind.{Kind}
 use Rattle.sat_label.specs.declared.label.Kind.TheVariants.{Update, Move, Pulse, Close}
 use Rattle.sat_label.specs.declared.label.Label.{Label}
-use Rattle.sat_bulk.specs.declared.Payload.{Payload}
+use Rattle.sat_bulk.specs.Payloads.{Payload}
 use Rattle.sat_pool.specs.Pool as pool
 use Rattle.sat_epoch.specs.Epochs.{Epochs}
 use Rattle.sat_proxy.specs.declared.proxy.TurnFault.{TurnFault}
@@ -22,7 +22,7 @@ knowing-stays : (views : Epochs) (p : ProxySeen) (l : Label) → AreViewsOf p vi
 knowing-stays views p l are = record { sites = refl; gears = refl; site = refl; views = record { own = are.own; heard = are.heard } }
 
 kind-stays : (views : Epochs) (p : ProxySeen) (l : Label) (k : Kind) → AreViewsOf p views → StaysHere p (front_after p l k) (front_views views l k)
-kind-stays views p l (Update x) are = shown-stays views p l (waiting_of p.pool l) are
+kind-stays views p l (Update items) are = shown-stays views p l (waiting_of p.pool l) are
 kind-stays views p l (Move j) are = knowing-stays views p l are
 kind-stays views p l Pulse are = knowing-stays views p l are
 kind-stays views p l (Close e) are = record { sites = refl; gears = refl; site = refl; views = record { own = are.own; heard = length-set views.heard l.point.site true ∙ are.heard } }

@@ -40,7 +40,7 @@ beat_answer p from number = came_answer (beat_take p from number)
 
 -- a label that is shown or taken
 abbrev pub done_answer : Label → Kind → Answer
-done_answer l (Update x) = ans.Shown l
+done_answer l (Update items) = ans.Shown l
 done_answer l _ = ans.Took l
 
 -- the front of the link, by why it stays there

@@ -2,7 +2,7 @@
 use Rattle.std.specs.Prelude.{ℕ, zero, suc, ◌*◌, ◌≡◌, ◌==◌, ◌&&◌, Bool, false, not, nat_lt, List, [], ◌++◌, get_or, take, drop, Option, Some, None, option_map, if◌then◌else◌}
 use Rattle.sat_label.specs.declared.point.Point.{Point}
 use Rattle.sat_label.specs.declared.label.Label.{Label}
-use Rattle.sat_bulk.specs.declared.Payload.{Payload}
+use Rattle.sat_bulk.specs.Payloads.{Payload}
 use Rattle.sat_label.specs.declared.carried.Carried.{Carried}
 use Rattle.sat_label.specs.Order.{mark, point_le}
 use Rattle.sat_pool.specs.Pool.{Waiting, row_of, has_ts_to}

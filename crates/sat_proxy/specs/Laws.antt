@@ -3,7 +3,7 @@
 use Rattle.std.specs.Prelude.{ℕ, ◌≡◌, ◌≢◌, ◌<◌, false, true, length, Option, Some, None}
 use Rattle.sat_label.specs.declared.carried.Carried.{Carried}
 use Rattle.sat_label.specs.declared.label.Label.{Label}
-use Rattle.sat_bulk.specs.declared.Payload.{Payload}
+use Rattle.sat_bulk.specs.Payloads.{Payload}
 use Rattle.sat_bulk.specs.Windows.{has_number}
 use Rattle.sat_pool.specs.Pool.{all_waiting, waiting_at}
 use Rattle.sat_beat.specs.declared.Beat.{Beat}

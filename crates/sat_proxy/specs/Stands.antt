@@ -3,7 +3,7 @@ use Rattle.std.specs.Prelude.{ℕ, ◌≡◌, ◌≤◌, ◌<◌, ◌==◌, Bool
 use Rattle.std.specs.List.{list_all}
 use Rattle.sat_label.specs.Members.{In}
 use Rattle.sat_label.specs.Words.{below, has}
-use Rattle.sat_bulk.specs.declared.Payload.{Payload}
+use Rattle.sat_bulk.specs.Payloads.{Payload}
 use Rattle.sat_bulk.specs.Windows.{has_number}
 use Rattle.sat_pool.specs.Pool.{all_waiting}
 use Rattle.sat_beat.specs.declared.Beat.{Beat}

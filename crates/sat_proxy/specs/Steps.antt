@@ -6,7 +6,7 @@ use Rattle.sat_label.specs.declared.label.Kind.{Kind}
 use Rattle.sat_label.specs.declared.label.Kind.TheVariants.{Update, Close}
 use Rattle.sat_label.specs.Order.{greater_point}
 use Rattle.sat_label.specs.Words.{below}
-use Rattle.sat_bulk.specs.declared.Payload.{Payload}
+use Rattle.sat_bulk.specs.Payloads.{Payload}
 use Rattle.sat_bulk.specs.declared.window.Take.{Take}
 use Rattle.sat_bulk.specs.declared.window.Take.TheVariants as take
 use Rattle.sat_bulk.specs.Windows.{has_number}
@@ -83,7 +83,7 @@ missing l (Some p) = None
 
 -- an update wants its payload
 abbrev pub front_fault : Waiting → Label → Kind → Option TurnFault
-front_fault w l (Update x) = missing l (waiting_of w l)
+front_fault w l (Update items) = missing l (waiting_of w l)
 front_fault w l _ = None
 
 abbrev pub link_fault : Waiting → Option Label → Option TurnFault
@@ -96,7 +96,7 @@ turn_fault views p front = if in_stamp views then Some turn.StampOrder else link
 
 -- what a turn shows, or takes
 abbrev pub front_gives : Waiting → Label → Kind → Option Turned
-front_gives w l (Update x) = option_map turned.Show (waiting_of w l)
+front_gives w l (Update items) = option_map turned.Show (waiting_of w l)
 front_gives w l _ = Some (turned.Took l)
 
 abbrev pub link_gives : Waiting → Option Label → Option Turned
@@ -108,7 +108,7 @@ turn_gives views p front = if in_stamp views then None else link_gives p.pool fr
 
 -- the payload that a turn shows
 abbrev pub front_shows : Waiting → Label → Kind → Option Payload
-front_shows w l (Update x) = waiting_of w l
+front_shows w l (Update items) = waiting_of w l
 front_shows w l _ = None
 
 abbrev pub link_shows : Waiting → Option Label → Option Payload
@@ -131,7 +131,7 @@ shown_after p l None = p
 shown_after p l (Some q) = showing p l
 
 abbrev pub front_after : ProxySeen → Label → Kind → ProxySeen
-front_after p l (Update x) = shown_after p l (waiting_of p.pool l)
+front_after p l (Update items) = shown_after p l (waiting_of p.pool l)
 front_after p l _ = knowing p l
 
 abbrev pub link_after : ProxySeen → Option Label → ProxySeen

@@ -126,7 +126,7 @@ fn take_both(
     ensures pool { OnErr result (pool.new ≡ pool.old) }
     ensures window { OnErr result (window.new ≡ window.old) }
 {
-    let point = payload.label.point;
+    let point = payload.label().point;
     pool.add(payload)?;
     if window.take_new(number).is_ok() {
         return Ok(());
@@ -152,7 +152,7 @@ fn waiting_of<'a>(pool: &'a Pool, label: &Label) -> Option<&'a Payload>
     ensures { option_copied result ≡ waiting_of pool.now label.now }
 {
     let payload = pool.get(&label.point)?;
-    if payload.label.is_same(label) {
+    if payload.label().is_same(label) {
         Some(payload)
     } else {
         None

@@ -29,7 +29,7 @@ use Rattle.sat_pump.specs.Adds.{Adds, AreDone, is_own}
 -- ---- what a site would do
 
 pub own_is_site : (given : SiteInput) → is_own given ≡ true → is_clients given ≡ false
-own_is_site (input.Write seen n value) e = absurd (cc (e))
+own_is_site (input.Write seen items values) e = absurd (cc (e))
 own_is_site (input.Read seen n) e = absurd (cc (e))
 own_is_site (input.Move seen j) e = absurd (cc (e))
 own_is_site (input.Attach seen) e = absurd (cc (e))
@@ -54,7 +54,7 @@ own-takes i k input.Advance a e = refl
 own-takes i k input.Emit a e = refl
 own-takes i k input.Pulse a e = refl
 own-takes i k (input.Beat j) a e = refl
-own-takes i k (input.Write seen n value) a e = refl
+own-takes i k (input.Write seen items values) a e = refl
 own-takes i k (input.Read seen n) a e = refl
 own-takes i k (input.Move seen j) a e = refl
 own-takes i k (input.Attach seen) a e = refl

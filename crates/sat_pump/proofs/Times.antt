@@ -1,17 +1,16 @@
 -- The timestamp to which a site's gears are raised.
 use Rattle.std.proofs.Common.{◌≡◌, ℕ, zero, suc, ◌+◌, ◌<◌, ◌≤◌, ◌&&◌, max, true, List, [], ◌∷◌, length, drop, Option, Some, None, slice_get, refl, sym, ap, ◌∙◌, subst, arith}
-use Rattle.std.specs.Prelude.{◌==◌, ◌||◌, nat_le}
+use Rattle.std.specs.Prelude.{◌==◌, nat_le}
 use Rattle.std.proofs.lemmas.Bool.{and_parts, le-leb, lt-ltb}
 use Rattle.std.proofs.lemmas.Bool.Decides.{nat_tests}
 use Rattle.sat_label.specs.declared.limits.TheConstants.{TS_END}
 use Rattle.sat_label.specs.declared.node.NodeName.{NodeName}
 use Rattle.sat_label.specs.declared.node.NodeName.TheVariants as named
-use Rattle.sat_label.specs.Words.{has}
 use Rattle.sat_act.specs.Deployed.{Deployed}
+use Rattle.sat_act.specs.Parts.{items_of}
 use Rattle.sat_act.specs.Settling.{is_done}
 use Rattle.sat_gear.specs.Gear.{GearSeen}
-use Rattle.sat_machine.specs.Fits.{fits, is_gear, is_kept_kind, is_kind, is_new_point, is_note, is_other, is_point, is_site, is_time}
-use Rattle.sat_machine.specs.Look.{waiting_of}
+use Rattle.sat_machine.specs.Fits.{fits, has_parts, is_gear, is_kept_kind, is_kind, is_note, is_other, is_point, is_site, is_time}
 use Rattle.sat_machine.specs.State.{SiteState}
 use Rattle.sat_proxy.specs.Proxy.{note_of}
 use Rattle.sat_site.specs.declared.input.SiteInput.{SiteInput}
@@ -104,10 +103,11 @@ fits-small d i s (input.Turn None) e = omega arith
 fits-small d i s (input.Turn (Some l)) e =
     time-is l.point.ts TS_END (and_parts (is_time l.point.ts) (is_other d i l.point.site && is_kind d s.views.view l.kind) e).0
 fits-small d i s (input.Bulk from gear number p) e =
-    let a = and_parts (is_other d i from && is_gear d gear) (((is_time p.label.point.ts && (p.label.point.site == from)) && is_kept_kind d i p.label.kind) && (has ◌==◌ (s.proxy.taken from gear) number || is_new_point (waiting_of s) p.label.point)) e in
-    let b = and_parts ((is_time p.label.point.ts && (p.label.point.site == from)) && is_kept_kind d i p.label.kind) (has ◌==◌ (s.proxy.taken from gear) number || is_new_point (waiting_of s) p.label.point) a.1 in
-    let c = and_parts (is_time p.label.point.ts && (p.label.point.site == from)) (is_kept_kind d i p.label.kind) b.0 in
-    time-is p.label.point.ts TS_END (and_parts (is_time p.label.point.ts) (p.label.point.site == from) c.0).0
+    let a = and_parts (is_other d i from && is_gear d gear) _ e in
+    let b = and_parts (((is_time p.label.point.ts && (p.label.point.site == from)) && is_kept_kind d i p.label.kind) && has_parts d i (items_of p.label.kind) p.values) _ a.1 in
+    let c = and_parts ((is_time p.label.point.ts && (p.label.point.site == from)) && is_kept_kind d i p.label.kind) (has_parts d i (items_of p.label.kind) p.values) b.0 in
+    let f = and_parts (is_time p.label.point.ts && (p.label.point.site == from)) (is_kept_kind d i p.label.kind) c.0 in
+    time-is p.label.point.ts TS_END (and_parts (is_time p.label.point.ts) (p.label.point.site == from) f.0).0
 fits-small d i s (input.BeatIn from number beat) e =
     let a = and_parts (is_other d i from) (is_note d (note_of beat)) e in
     let b = and_parts (is_point d beat.cut) _ a.1 in

@@ -30,7 +30,7 @@ fn ts_in(input: &SiteInput) -> u64
             gear: _,
             number: _,
             payload,
-        } => payload.label.point.ts,
+        } => payload.label().point.ts,
         SiteInput::BeatIn {
             from: _,
             number: _,

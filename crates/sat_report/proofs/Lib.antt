@@ -4,5 +4,6 @@ pub mod Frames
 pub mod Names
 pub mod Digits
 pub mod Commas
+pub mod KeptNames
 pub mod Lines
 pub mod Counts

@@ -1,8 +1,10 @@
--- What stands around an answer, and further nodes.
-use Rattle.std.specs.Prelude.{ℕ, ◌+◌, ◌-◌, ◌^◌, min, List, [], ◌∷◌, ◌++◌, Option, None, Some}
+-- What stands around an answer, and further nodes and items.
+use Rattle.std.specs.Prelude.{ℕ, ◌+◌, ◌-◌, ◌^◌, min, List, [], ◌∷◌, ◌++◌, Option, None, Some, if◌then◌else◌}
 use Rattle.std.specs.Fmt.{decimal}
 use Rattle.sat_label.specs.declared.node.NodeId.{NodeId}
 use Rattle.sat_label.specs.Text.{node_text}
+use Rattle.sat_act.specs.Deployed.{Deployed}
+use Rattle.sat_report.specs.Texts.{item_name, is_kept}
 
 -- the digits of a line's number, where it has one
 unfoldable pub digits_of : Option ℕ → List ℕ
@@ -31,3 +33,12 @@ framed number text = front_text number ++ (text ++ end_text number)
 abbrev pub commas : List NodeId → List ℕ
 commas [] = []
 commas (n ∷ ns) = 44 ∷ (node_text n ++ commas ns)
+
+-- a comma and an item's name, if site j keeps it
+abbrev pub next_name : Deployed → ℕ → ℕ → List ℕ
+next_name d j x = if is_kept d j x then 44 ∷ item_name d x else []
+
+-- each of some items so, before a text
+abbrev pub next_names : Deployed → ℕ → List ℕ → List ℕ → List ℕ
+next_names d j [] text = text
+next_names d j (x ∷ xs) text = next_name d j x ++ next_names d j xs text

@@ -3,7 +3,7 @@ use Rattle.std.specs.Prelude.{ℕ, zero, suc, Bool, List, [], ◌∷◌, ◌++�
 use Rattle.std.specs.Fmt.{decimal}
 use Rattle.sat_act.specs.declared.entry.Entry.{Entry}
 use Rattle.sat_act.specs.Deployed.{Deployed}
-use Rattle.sat_act.specs.Parts.{view, emission, in_stamp_mode, waiting, version, value_of, replicates}
+use Rattle.sat_act.specs.Parts.{view, emission, in_stamp_mode, waiting, version, values_of, value_of, replicates}
 use Rattle.sat_report.specs.Texts.{label_text, item_name}
 use Rattle.sat_report.specs.Answers.{answers}
 
@@ -21,10 +21,10 @@ unfoldable pub site_line : Deployed → List Entry → ℕ → List ℕ
 unfolding view emission in_stamp_mode waiting
 site_line d h i = site_text i (view h i) (emission h i) (in_stamp_mode d h i) (length (waiting h i))
 
--- a version and its value, or `none`
+-- a version of an item and its value for it, or `none`
 unfoldable pub held_text : List Entry → ℕ → ℕ → List ℕ
-unfolding version value_of
-held_text h i x = elim (version h i x) [ None ↦ codes "none" | Some l ↦ label_text l ++ 32 ∷ value_of h l ]
+unfolding version values_of
+held_text h i x = elim (version h i x) [ None ↦ codes "none" | Some l ↦ label_text l ++ 32 ∷ value_of h l x ]
 
 -- the line of an item at a site that keeps it
 unfoldable pub item_line : Deployed → List Entry → ℕ → ℕ → List ℕ

@@ -1,20 +1,22 @@
 //! Lines of answers.
-ghost use Rattle.std.specs.Prelude.{◌≡◌, ◌≤◌, ◌++◌, ◌∷◌, [], OnOk, OnErr, codes, Some, None};
+ghost use Rattle.std.specs.Prelude.{◌≡◌, ◌≤◌, ◌++◌, ◌∷◌, [], OnOk, OnErr, IfSome, codes, Some, None, length};
 ghost use Rattle.std.specs.Fmt.{decimal};
 ghost use Rattle.sat_label.specs.Text.{node_text, point_text};
-ghost use Rattle.sat_report.specs.Texts.{kind_word, label_text, name_of_item, nodes_text};
+ghost use Rattle.sat_act.specs.Done.{at_site};
+ghost use Rattle.sat_report.specs.Texts.{kind_word, label_text, names_at, nodes_text};
 ghost use Rattle.sat_report.specs.Fronts.{Keeps};
 ghost use Rattle.sat_report.specs.Frames.{commas, end_text, framed, front_text};
-ghost use Rattle.sat_report.specs.Answers.{refusal_text, with_item, with_kind, with_label, answer_text, answer_line};
+ghost use Rattle.sat_report.specs.Answers.{refusal_text, with_items, with_kind, with_label, answer_text, answer_line};
 
 use crate::front::LineFront;
+use crate::items::{at_site, brought_at, kept_name, shown_at, write_names};
 use crate::line::{
-    LINE_BYTES, write_byte, write_end, write_front, write_kind, write_node, write_number,
-    write_point, write_slice, write_word,
+    LINE_BYTES, LONG_LINE_BYTES, write_byte, write_end, write_front, write_kind, write_node,
+    write_number, write_point, write_slice, write_word,
 };
-use crate::text::{append_next_nodes, name_of_item};
-use sat_act::{Answer, Deployment, Entry, Refusal};
-use sat_label::{Label, NodeId, Point, Value};
+use crate::text::append_next_nodes;
+use sat_act::{Act, Answer, Deployment, Entry, Refusal};
+use sat_label::{Items, Kind, Label, NodeId, Point, Value};
 use std::alloc::AllocError;
 
 // In this file each word that something follows ends with its space. `number` is that of the line; an answer that stands by itself has none.
@@ -118,25 +120,75 @@ fn append_with_kind<const N: usize>(
 }
 
 #[inline(always)]
-fn append_with_item<const N: usize>(
-    d: &Deployment,
+fn append_with_name<const N: usize>(
     number: &LineFront,
     word: &[u8; N],
-    label: &Label,
+    name: &[u8],
+    point: &Point,
     out: &mut Vec<u8>,
 ) -> Result<(), AllocError>
-    requires { N ≤ 24 }
-    ensures ok { OnOk result (out.new.items ≡ out.old.items ++ framed number.now (word.now ++ (name_of_item d.now label.now.kind ++ 32 ∷ label_text label.now))) }
+    requires { (N ≤ 24) × (length name.now ≤ 32) }
+    ensures ok { OnOk result (out.new.items ≡ out.old.items ++ framed number.now (word.now ++ (name.now ++ 32 ∷ point_text point.now))) }
     ensures err { OnErr result (Keeps out.old.items out.new.items) }
 {
     let mut text = [0; LINE_BYTES];
     let end = write_end(number, &mut text);
-    let at = write_point(&label.point, &mut text, end);
+    let at = write_point(point, &mut text, end);
     let at = write_byte(b' ', &mut text, at);
-    let at = write_slice(name_of_item(d, label.kind), &mut text, at);
+    let at = write_slice(name, &mut text, at);
     let at = write_word(word, &mut text, at);
     let at = write_front(number, &mut text, at);
     out.extend_from_slice(&text[at..])
+}
+
+// Of any label and any act. The longer array is no part of what other answers cost.
+#[cold]
+#[inline(never)]
+fn append_with_names(
+    d: &Deployment,
+    number: &LineFront,
+    word: &[u8],
+    act: &Act,
+    label: &Label,
+    out: &mut Vec<u8>,
+) -> Result<(), AllocError>
+    requires { length word.now ≤ 24 }
+    ensures ok { OnOk result (out.new.items ≡ out.old.items ++ framed number.now (word.now ++ (names_at d.now (at_site act.now) label.now.kind ++ 32 ∷ label_text label.now))) }
+    ensures err { OnErr result (Keeps out.old.items out.new.items) }
+{
+    let mut text = [0; LONG_LINE_BYTES];
+    let end = write_end(number, &mut text);
+    let at = write_point(&label.point, &mut text, end);
+    let at = write_byte(b' ', &mut text, at);
+    let at = write_names(d, at_site(act), label.kind, &mut text, at);
+    let at = write_slice(word, &mut text, at);
+    let at = write_front(number, &mut text, at);
+    out.extend_from_slice(&text[at..])
+}
+
+// Most labels that are brought and shown are of one item, by the acts that are known to bring and to show: their site is handed in.
+#[inline(always)]
+fn append_with_items<const N: usize>(
+    d: &Deployment,
+    number: &LineFront,
+    word: &[u8; N],
+    site: Option<u16>,
+    act: &Act,
+    label: &Label,
+    out: &mut Vec<u8>,
+) -> Result<(), AllocError>
+    requires short { N ≤ 24 }
+    requires site { IfSome site (λ site. at_site act.now ≡ Some site) }
+    ensures ok { OnOk result (out.new.items ≡ out.old.items ++ framed number.now (word.now ++ (names_at d.now (at_site act.now) label.now.kind ++ 32 ∷ label_text label.now))) }
+    ensures err { OnErr result (Keeps out.old.items out.new.items) }
+{
+    if let Some(site) = site {
+        if let Kind::Update(Items::One(item)) = label.kind {
+            let name = kept_name(d, site, item);
+            return append_with_name(number, word, name, &label.point, out);
+        }
+    }
+    append_with_names(d, number, word, act, label, out)
 }
 
 #[inline(always)]
@@ -310,10 +362,11 @@ fn append_refused(n: &LineFront, refusal: &Refusal, out: &mut Vec<u8>) -> Result
 fn append_framed(
     d: &Deployment,
     n: &LineFront,
+    act: &Act,
     answer: &Answer,
     out: &mut Vec<u8>,
 ) -> Result<(), AllocError>
-    ensures ok { OnOk result (out.new.items ≡ out.old.items ++ framed n.now (answer_text d.now answer.now)) }
+    ensures ok { OnOk result (out.new.items ≡ out.old.items ++ framed n.now (answer_text d.now act.now answer.now)) }
     ensures err { OnErr result (Keeps out.old.items out.new.items) }
 {
     match answer {
@@ -331,9 +384,17 @@ fn append_framed(
         Answer::Emitted(label) => append_with_kind(n, b"emitted ", label, out),
         Answer::Pulsed(label) => append_with_point(n, b"pulsed ", &label.point, out),
         Answer::Hopped { label, to } => append_hopped(n, label, to.as_slice(), out),
-        Answer::Shown(label) => append_with_item(d, n, b"shown ", label, out),
+        Answer::Shown(label) => append_with_items(d, n, b"shown ", shown_at(act), act, label, out),
         Answer::Took(label) => append_with_kind(n, b"took ", label, out),
-        Answer::Brought(label) => append_with_item(d, n, b"brought ", label, out),
+        Answer::Brought(label) => append_with_items(
+            d,
+            n,
+            b"brought ",
+            brought_at(act),
+            act,
+            label,
+            out,
+        ),
         Answer::Again => append_word(n, b"again", out),
         Answer::Beat(number) => append_with_number(n, b"beat ", *number, out),
         Answer::Taken => append_word(n, b"taken", out),
@@ -349,47 +410,54 @@ fn append_framed(
     }
 }
 
-/// Appends the text of an answer. For want of memory a front of it may stand there.
+/// Appends the text of an act's answer. For want of memory a front of it may stand there.
 #[tactic(auto, using(crate::proofs::Frames::by_itself))]
-pub fn append_answer(d: &Deployment, answer: &Answer, out: &mut Vec<u8>) -> Result<(), AllocError>
-    ensures ok { OnOk result (out.new.items ≡ out.old.items ++ answer_text d.now answer.now) }
+pub fn append_answer(
+    d: &Deployment,
+    act: &Act,
+    answer: &Answer,
+    out: &mut Vec<u8>,
+) -> Result<(), AllocError>
+    ensures ok { OnOk result (out.new.items ≡ out.old.items ++ answer_text d.now act.now answer.now) }
     ensures err { OnErr result (Keeps out.old.items out.new.items) }
 {
-    append_framed(d, &LineFront::nothing(), answer, out)
+    append_framed(d, &LineFront::nothing(), act, answer, out)
 }
 
-/// Appends the line of an answer: its number and a space, if it has one, the answer's text and then a newline.
+/// Appends the line of an act's answer: its number and a space, if it has one, the answer's text and then a newline.
 /// No memory is taken but what `out` grows by. For want of memory `out` is as before.
 pub fn write_numbered(
     d: &Deployment,
     number: &LineFront,
+    act: &Act,
     answer: &Answer,
     out: &mut Vec<u8>,
 ) -> Result<(), AllocError>
-    ensures ok { OnOk result (out.new.items ≡ out.old.items ++ framed number.now (answer_text d.now answer.now)) }
+    ensures ok { OnOk result (out.new.items ≡ out.old.items ++ framed number.now (answer_text d.now act.now answer.now)) }
     ensures err { OnErr result (out.new.items ≡ out.old.items) }
 {
     let length = out.len();
-    let written = append_framed(d, number, answer, out);
+    let written = append_framed(d, number, act, answer, out);
     if written.is_err() {
         out.truncate(length);
     }
     written
 }
 
-/// Appends the line of an answer: its number, from 1, a space, and the answer's text.
+/// Appends the line of an act's answer: its number, from 1, a space, and the answer's text.
 /// No memory is taken but what `out` grows by. For want of memory `out` is as before.
 #[tactic(auto, unfolding(crate::specs::Answers::answer_line), using(crate::proofs::Frames::as_line))]
 pub fn write_line(
     d: &Deployment,
     number: u64,
+    act: &Act,
     answer: &Answer,
     out: &mut Vec<u8>,
 ) -> Result<(), AllocError>
-    ensures ok { OnOk result (out.new.items ≡ out.old.items ++ answer_line d.now number answer.now) }
+    ensures ok { OnOk result (out.new.items ≡ out.old.items ++ answer_line d.now number act.now answer.now) }
     ensures err { OnErr result (out.new.items ≡ out.old.items) }
 {
-    write_numbered(d, &LineFront::of(number), answer, out)
+    write_numbered(d, &LineFront::of(number), act, answer, out)
 }
 
 /// Appends the line of an entry's answer, as [`write_line`] does.
@@ -400,8 +468,8 @@ pub fn write_answer(
     entry: &Entry,
     out: &mut Vec<u8>,
 ) -> Result<(), AllocError>
-    ensures ok { OnOk result (out.new.items ≡ out.old.items ++ answer_line d.now number entry.now.answer) }
+    ensures ok { OnOk result (out.new.items ≡ out.old.items ++ answer_line d.now number entry.now.act entry.now.answer) }
     ensures err { OnErr result (out.new.items ≡ out.old.items) }
 {
-    write_line(d, number, &entry.answer, out)
+    write_line(d, number, &entry.act, &entry.answer, out)
 }

@@ -23,6 +23,7 @@ fn cause_name(cause: Cause) -> &'static str
         Cause::OutOfRange => "OutOfRange",
         Cause::BadTree => "BadTree",
         Cause::NoEdge => "NoEdge",
+        Cause::BadGroup => "BadGroup",
         Cause::Memory => "Memory",
     }
 }

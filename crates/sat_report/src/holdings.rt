@@ -2,7 +2,7 @@
 ghost use Rattle.std.specs.Prelude.{◌≡◌, ◌++◌, [], ◌∷◌, ◌<◌, ℕ, List, OnOk, OnErr, length, codes, None, Some, MatchOption};
 ghost use Rattle.std.specs.Fmt.{decimal};
 ghost use Rattle.sat_act.specs.declared.entry.Entry.{Entry};
-ghost use Rattle.sat_act.specs.Parts.{replicates, version};
+ghost use Rattle.sat_act.specs.Parts.{version};
 ghost use Rattle.sat_act.specs.Runs.{IsRun};
 ghost use Rattle.sat_world.specs.Stands.{StandsFor};
 ghost use Rattle.sat_world.specs.Shows.{IsVersion};
@@ -10,6 +10,7 @@ ghost use Rattle.sat_report.specs.Fronts.{Keeps};
 ghost use Rattle.sat_report.specs.Texts.{item_name, label_text};
 ghost use Rattle.sat_report.specs.Holdings.{mode_word, site_text, site_line, held_text, item_line, item_lines, site_lines, holdings};
 
+use crate::items::replicates;
 use crate::text::{append_point, append_with_number, item_name};
 use sat_act::Deployment;
 use sat_world::{SiteView, Version, World};
@@ -65,9 +66,9 @@ fn append_version(version: &Version, out: &mut Vec<u8>) -> Result<(), AllocError
     ensures ok { OnOk result (out.new.items ≡ out.old.items ++ (label_text version.now.label ++ 32 ∷ version.now.value)) }
     ensures err { OnErr result (Keeps out.old.items out.new.items) }
 {
-    append_point(&version.label.point, out)?;
+    append_point(&version.label().point, out)?;
     out.push(b' ')?;
-    out.extend_from_slice(version.value.bytes())
+    out.extend_from_slice(version.value().bytes())
 }
 
 // A version and its value, or `none`.
@@ -85,16 +86,6 @@ fn append_held(
     match found {
         None => out.extend_from_slice(b"none"),
         Some(version) => append_version(version, out),
-    }
-}
-
-#[tactic(auto, unfolding(sat_act::specs::Parts::replicates))]
-fn replicates(d: &Deployment, item: u16, site: u16) -> bool
-    ensures { result ≡ replicates d.now item site }
-{
-    match d.items().get(item as usize) {
-        Some(item) => item.replicas.has(site),
-        None => false,
     }
 }
 

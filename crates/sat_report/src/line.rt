@@ -9,12 +9,15 @@ use crate::front::LineFront;
 use itoa::write_digits;
 use sat_label::{Kind, NodeId, Point};
 
-/// The most bytes of a line without a value, and without nodes behind the first.
+/// The most bytes of a line without a value, without nodes behind the first and without items behind it.
 pub(crate) const LINE_BYTES: usize = 112;
 
+/// The most bytes of a line with the names of an update's items, each with a comma.
+pub(crate) const LONG_LINE_BYTES: usize = 224;
+
 #[inline(always)]
-pub(crate) fn write_byte(byte: u8, text: &mut [u8; LINE_BYTES], end: usize) -> usize
-    requires { (1 ≤ end) × (end ≤ 112) }
+pub(crate) fn write_byte<const L: usize>(byte: u8, text: &mut [u8; L], end: usize) -> usize
+    requires { (1 ≤ end) × (end ≤ L) }
     ensures start { result + 1 ≡ end }
     ensures written { drop result text.new ≡ byte ∷ drop end text.old }
 {
@@ -23,24 +26,25 @@ pub(crate) fn write_byte(byte: u8, text: &mut [u8; LINE_BYTES], end: usize) -> u
 }
 
 #[inline(always)]
-pub(crate) fn write_slice(word: &[u8], text: &mut [u8; LINE_BYTES], end: usize) -> usize
-    requires { (length word.now ≤ end) × (end ≤ 112) }
+pub(crate) fn write_slice<const L: usize>(word: &[u8], text: &mut [u8; L], end: usize) -> usize
+    requires { (length word.now ≤ end) × (end ≤ L) }
     ensures start { result + length word.now ≡ end }
     ensures written { drop result text.new ≡ word.now ++ drop end text.old }
 {
     let start = end - word.len();
-    text[start..end].copy_from_slice(word);
+    let whole = &mut text[..];
+    whole[start..end].copy_from_slice(word);
     start
 }
 
 // Of a word whose length is known the copy takes an instruction or two.
 #[inline(always)]
-pub(crate) fn write_word<const N: usize>(
+pub(crate) fn write_word<const N: usize, const L: usize>(
     word: &[u8; N],
-    text: &mut [u8; LINE_BYTES],
+    text: &mut [u8; L],
     end: usize,
 ) -> usize
-    requires { (N ≤ end) × (end ≤ 112) }
+    requires { (N ≤ end) × (end ≤ L) }
     ensures start { result + N ≡ end }
     ensures written { drop result text.new ≡ word.now ++ drop end text.old }
 {
@@ -49,8 +53,8 @@ pub(crate) fn write_word<const N: usize>(
 
 /// Most sites and gears have one digit.
 #[inline(always)]
-fn write_small(number: u16, text: &mut [u8; LINE_BYTES], end: usize) -> usize
-    requires { (5 ≤ end) × (end ≤ 112) }
+fn write_small<const L: usize>(number: u16, text: &mut [u8; L], end: usize) -> usize
+    requires { (5 ≤ end) × (end ≤ L) }
     ensures near { end ≤ result + 5 }
     ensures start { result + 1 ≤ end }
     ensures written { drop result text.new ≡ decimal number ++ drop end text.old }
@@ -62,8 +66,8 @@ fn write_small(number: u16, text: &mut [u8; LINE_BYTES], end: usize) -> usize
 }
 
 #[inline(always)]
-pub(crate) fn write_number(number: u64, text: &mut [u8; LINE_BYTES], end: usize) -> usize
-    requires { (20 ≤ end) × (end ≤ 112) }
+pub(crate) fn write_number<const L: usize>(number: u64, text: &mut [u8; L], end: usize) -> usize
+    requires { (20 ≤ end) × (end ≤ L) }
     ensures near { end ≤ result + 20 }
     ensures start { result ≤ end }
     ensures written { drop result text.new ≡ decimal number ++ drop end text.old }
@@ -72,8 +76,8 @@ pub(crate) fn write_number(number: u64, text: &mut [u8; LINE_BYTES], end: usize)
 }
 
 #[inline(always)]
-fn write_part(number: u16, text: &mut [u8; LINE_BYTES], end: usize) -> usize
-    requires { (6 ≤ end) × (end ≤ 112) }
+fn write_part<const L: usize>(number: u16, text: &mut [u8; L], end: usize) -> usize
+    requires { (6 ≤ end) × (end ≤ L) }
     ensures near { end ≤ result + 6 }
     ensures start { result ≤ end }
     ensures written { drop result text.new ≡ 46 ∷ (decimal number ++ drop end text.old) }
@@ -84,8 +88,8 @@ fn write_part(number: u16, text: &mut [u8; LINE_BYTES], end: usize) -> usize
 
 /// A point is written as `ts.site.gear`.
 #[inline(always)]
-pub(crate) fn write_point(point: &Point, text: &mut [u8; LINE_BYTES], end: usize) -> usize
-    requires { (32 ≤ end) × (end ≤ 112) }
+pub(crate) fn write_point<const L: usize>(point: &Point, text: &mut [u8; L], end: usize) -> usize
+    requires { (32 ≤ end) × (end ≤ L) }
     ensures near { end ≤ result + 32 }
     ensures start { result ≤ end }
     ensures written { drop result text.new ≡ point_text point.now ++ drop end text.old }
@@ -155,22 +159,27 @@ pub(crate) fn write_node(node: NodeId, text: &mut [u8; LINE_BYTES], end: usize) 
 
 /// The end of a line with a number, at the array's end.
 #[inline(always)]
-pub(crate) fn write_end(number: &LineFront, text: &mut [u8; LINE_BYTES]) -> usize
-    ensures near { 111 ≤ result }
-    ensures start { result ≤ 112 }
+pub(crate) fn write_end<const L: usize>(number: &LineFront, text: &mut [u8; L]) -> usize
+    requires { 1 ≤ L }
+    ensures near { L ≤ result + 1 }
+    ensures start { result ≤ L }
     ensures written { drop result text.new ≡ end_text number.now }
 {
     if number.is_number() {
-        write_byte(b'\n', text, LINE_BYTES)
+        write_byte(b'\n', text, L)
     } else {
-        LINE_BYTES
+        L
     }
 }
 
 /// The number of a line, and a space.
 #[inline(always)]
-pub(crate) fn write_front(number: &LineFront, text: &mut [u8; LINE_BYTES], end: usize) -> usize
-    requires { (21 ≤ end) × (end ≤ 112) }
+pub(crate) fn write_front<const L: usize>(
+    number: &LineFront,
+    text: &mut [u8; L],
+    end: usize,
+) -> usize
+    requires { (21 ≤ end) × (end ≤ L) }
     ensures start { result ≤ end }
     ensures written { drop result text.new ≡ front_text number.now ++ drop end text.old }
 {

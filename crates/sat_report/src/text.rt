@@ -2,13 +2,13 @@
 ghost use Rattle.std.specs.Prelude.{◌≡◌, ◌++◌, ◌∷◌, ◌≤◌, OnOk, OnErr, length};
 ghost use Rattle.std.specs.Fmt.{decimal};
 ghost use Rattle.sat_label.specs.Text.{node_text, point_text};
-ghost use Rattle.sat_report.specs.Texts.{item_name, name_of_item};
+ghost use Rattle.sat_report.specs.Texts.{item_name};
 ghost use Rattle.sat_report.specs.Fronts.{Keeps};
 ghost use Rattle.sat_report.specs.Frames.{commas};
 
 use crate::line::{LINE_BYTES, write_byte, write_node, write_number, write_point};
 use sat_act::Deployment;
-use sat_label::{Kind, Name, NodeId, Point};
+use sat_label::{Name, NodeId, Point};
 use std::alloc::AllocError;
 
 /// Appends the digits of a number.
@@ -68,7 +68,7 @@ pub(crate) fn append_next_nodes(nodes: &[NodeId], out: &mut Vec<u8>) -> Result<(
 }
 
 #[tactic(auto, using(crate::proofs::Names::short_of))]
-fn short_name(name: &Name) -> &[u8]
+pub(crate) fn short_name(name: &Name) -> &[u8]
     ensures name { result.now ≡ name.now }
     ensures short { length result.now ≤ 32 }
 {
@@ -84,17 +84,5 @@ pub(crate) fn item_name(d: &Deployment, item: u16) -> &[u8]
     match d.items().get(item as usize) {
         Some(item) => short_name(&item.name),
         None => &[],
-    }
-}
-
-/// The name of the item that an update is of.
-#[tactic(auto, unfolding(crate::specs::Texts::name_of_item))]
-pub(crate) fn name_of_item(d: &Deployment, kind: Kind) -> &[u8]
-    ensures name { result.now ≡ name_of_item d.now kind }
-    ensures short { length result.now ≤ 32 }
-{
-    match kind {
-        Kind::Update(item) => item_name(d, item),
-        _ => &[],
     }
 }

@@ -7,27 +7,28 @@ use Rattle.std.proofs.Math.Nat.{mul_comm, add-mul, mul-add, mul-le-mul_left}
 use Rattle.std.proofs.lemmas.Bool.{not_from_true}
 use Rattle.sat_label.proofs.Numbers.{length-below}
 use Rattle.sat_label.specs.declared.label.Label.{Label}
+use Rattle.sat_label.specs.declared.items.Items.{Items}
 use Rattle.sat_label.specs.declared.label.Kind.{Kind}
 use Rattle.sat_label.specs.declared.label.Kind.TheVariants as kind
 use Rattle.sat_label.specs.declared.node.NodeId.{NodeId}
 use Rattle.sat_label.specs.declared.node.NodeId.TheVariants.{Site, Serializer}
 use Rattle.sat_label.specs.Order.{label_eq, point_at}
+use Rattle.sat_label.specs.Grouped.{least_item, list_of}
 use Rattle.sat_label.specs.Words.{below, has}
 use Rattle.sat_tree.specs.Shape.{TreeShape}
 use Rattle.sat_act.specs.declared.act.Act.{Act}
-use Rattle.sat_act.specs.declared.act.Act.TheVariants as act
 use Rattle.sat_act.specs.declared.answer.Answer.{Answer}
 use Rattle.sat_act.specs.declared.answer.Answer.TheVariants as ans
 use Rattle.sat_act.specs.declared.entry.Entry.{Entry}
 use Rattle.sat_act.specs.Deployed.{Deployed}
 use Rattle.sat_act.specs.Histories.{listed}
-use Rattle.sat_act.specs.Parts.{Handling, handling, replicates, is_target, is_update, tree_of, emission, brought, shown, sent_entry}
+use Rattle.sat_act.specs.Parts.{Handling, handling, keeps_some, is_target, is_update, tree_of, emission, brought, shown, sent_entry}
 use Rattle.sat_act.specs.Answers.{base, gear_of}
 use Rattle.sat_act.specs.Runs.{IsRun}
 use Rattle.sat_act.specs.Goals.{Gives}
 use Rattle.sat_act.specs.Settling.{total, payload_entry, payloads, payload_left, payloads_left, handlings, sending_entry, sendings, nodes_of, was_handled, sending_left, epochs_left, left}
 use Rattle.sat_rest.specs.Ends.{IsWithin, most_rounds, any_sent_entry, sent_count, wrote_entry, wrote_count}
-use Rattle.sat_laws.proofs.Steps.{Step, wrote}
+use Rattle.sat_laws.proofs.Steps.{Step, write_label, wrote}
 use Rattle.sat_laws.proofs.Runs.{step_of, before_of, entry}
 use Rattle.sat_act.specs.Done.{sent_in, is_at}
 use Rattle.sat_laws.proofs.Sinks.{kept}
@@ -82,9 +83,9 @@ targets-few d l i b e =
     none true e = absurd (cc)
     none false e = omega arith
 
-own-not : (d : Deployed) (p i g x : ℕ) → is_target d (record { point = point_at p i g; kind = kind.Update x }) i ≡ false
+own-not : (d : Deployed) (p i g : ℕ) (items : Items) → is_target d (record { point = point_at p i g; kind = kind.Update items }) i ≡ false
 unfolding is_target
-own-not d p i g x = go (replicates d x i) (i == i) (self i)
+own-not d p i g items = go (keeps_some d (list_of items) i) (i == i) (self i)
   where
     self : (i : ℕ) → (i == i) ≡ true
     self i = grind (arith, nat_tests)
@@ -98,9 +99,9 @@ length-if : (ls : List Label) (l : Label) (b : Bool) → length (ls ++ tail_of (
 length-if ls l true = length-append ls (l ∷ [])
 length-if ls l false = omega (arith, length-append ls [])
 
-wrote-payload : (d : Deployed) (h : List Entry) (a : Act) (l : Label) (x j : ℕ) (n : Bool) → l.kind ≡ kind.Update x → payload_count d (entry a (ans.Wrote l) n ∷ h) j ≡ payload_count d h j + aim d l j
+wrote-payload : (d : Deployed) (h : List Entry) (a : Act) (l : Label) (items : Items) (j : ℕ) (n : Bool) → l.kind ≡ kind.Update items → payload_count d (entry a (ans.Wrote l) n ∷ h) j ≡ payload_count d h j + aim d l j
 unfolding payloads
-wrote-payload d h a l x j n e =
+wrote-payload d h a l items j n e =
     length-if (listed (payload_entry d j) h) l (is_update l.kind && is_target d l j)
     ∙ ap (λ (k : Kind). length (listed (payload_entry d j) h) + one_if (is_update k && is_target d l j)) e
 
@@ -112,10 +113,10 @@ wrote-grows : (h : List Entry) (x : Entry) → wrote_count h ≤ wrote_count (x 
 unfolding wrote_count
 wrote-grows h x = omega (arith, length-append (listed wrote_entry h) (tail_of (wrote_entry h x)))
 
-wrote-sum : (d : Deployed) (h : List Entry) (a : Act) (l : Label) (x i m : ℕ) (n : Bool) → d.sites ≤ m + 1 → l.kind ≡ kind.Update x → i < d.sites → is_target d l i ≡ false → payloads_made d (entry a (ans.Wrote l) n ∷ h) ≤ payloads_made d h + m
-wrote-sum d h a l x i m n few k b e =
+wrote-sum : (d : Deployed) (h : List Entry) (a : Act) (l : Label) (items : Items) (i m : ℕ) (n : Bool) → d.sites ≤ m + 1 → l.kind ≡ kind.Update items → i < d.sites → is_target d l i ≡ false → payloads_made d (entry a (ans.Wrote l) n ∷ h) ≤ payloads_made d h + m
+wrote-sum d h a l items i m n few k b e =
     let p : total (payload_count d (entry a (ans.Wrote l) n ∷ h)) (below d.sites) ≡ total (payload_count d h) (below d.sites) + total (aim d l) (below d.sites) =
-    total-plus (payload_count d h) (aim d l) (payload_count d (entry a (ans.Wrote l) n ∷ h)) (below d.sites) (λ j. wrote-payload d h a l x j n k) in
+    total-plus (payload_count d h) (aim d l) (payload_count d (entry a (ans.Wrote l) n ∷ h)) (below d.sites) (λ j. wrote-payload d h a l items j n k) in
     let q : total (aim d l) (below d.sites) < d.sites = targets-few d l i b e in
     omega arith
 
@@ -125,9 +126,9 @@ same-sum d h x w =
 
 payloads-step : (d : Deployed) (h : List Entry) (a : Act) (r : Answer) (m : ℕ) (n : Bool) → d.sites ≤ m + 1 → IsWithin d → IsRun d h → Step d h a r →
     ((j : ℕ) → payloads d (entry a r n ∷ h) j ≡ payloads d h j) ⊎ ((wrote_count (entry a r n ∷ h) ≡ wrote_count h + 1) × (payloads_made d (entry a r n ∷ h) ≤ payloads_made d h + m))
-payloads-step d h a r m n few w run (wrote {c = c} {x = x} {i = i} {value = value} p q s) =
-    let l : Label = record { point = point_at (base h c i (gear_of d x) + 1) i (gear_of d x); kind = kind.Update x } in
-    inr (wrote-more h (act.Write c x value) l n, wrote-sum d h (act.Write c x value) l x i m n few refl (seat-range d h c i w.valid run p) (own-not d (base h c i (gear_of d x) + 1) i (gear_of d x) x))
+payloads-step d h a r m n few w run (wrote {w = v} {i = i} z p q s) =
+    let g : ℕ = gear_of d (least_item (list_of v.items)) in
+    inr (wrote-more h a (write_label d h v i) n, wrote-sum d h a (write_label d h v i) v.items i m n few refl (seat-range d h v.client i w.valid run p) (own-not d (base h v.client i g + 1) i g v.items))
 payloads-step d h a r m n few w run _ = inl (λ j. unfold payloads in append-nil (listed (payload_entry d j) h))
 
 up : (a b c e : ℕ) → a ≤ b → b ≤ c → c ≤ e → a ≤ e

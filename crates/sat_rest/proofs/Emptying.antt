@@ -34,6 +34,7 @@ use Rattle.sat_rest.proofs.Settles.{emptied-is, opening-after, settle-ends}
 use Rattle.sat_rest.proofs.Totals.{In-below, below-In, into-joined}
 use Rattle.sat_label.specs.Members.{In}
 use Rattle.sat_label.proofs.Members.{In-get, In-left, In-right}
+use Rattle.sat_laws.proofs.Written.{write-client}
 
 -- ---- the acts that a round tries
 
@@ -57,15 +58,15 @@ turn-tried d j a b i =
 
 -- ---- lanes
 
-abbrev pick_bring : (Label → Bool) → Option Label → Answer
+abbrev pub pick_bring : (Label → Bool) → Option Label → Answer
 pick_bring p o = elim o [ None ↦ ans.Refused why.NoSuch | Some l ↦ if p l then ans.Again else ans.Brought l ]
 
-answer-bulk : (d : Deployed) (h : List Entry) (i g j : ℕ) →
+pub answer-bulk : (d : Deployed) (h : List Entry) (i g j : ℕ) →
     answer d h (act.Bulk i g j None) ≡ pick_bring (λ l. has label_eq (brought h j) l) (slice_get (lane d h i g j) (prefix_len (λ l. has label_eq (brought h j) l) (lane d h i g j)))
 unfolding answer
 answer-bulk d h i g j = refl
 
-all-pass : (p : Label → Bool) (xs : List Label) → is_done (pick_bring p (slice_get xs (prefix_len p xs))) ≡ false → (n : ℕ) (l : Label) → slice_get xs n ≡ Some l → p l ≡ true
+pub all-pass : (p : Label → Bool) (xs : List Label) → is_done (pick_bring p (slice_get xs (prefix_len p xs))) ≡ false → (n : ℕ) (l : Label) → slice_get xs n ≡ Some l → p l ≡ true
 all-pass p [] e n l k = absurd (cc)
 all-pass p (x ∷ xs) e n l k = go (p x) refl e n k (λ w m q. all-pass p xs w m l q)
   where
@@ -101,8 +102,8 @@ lanes-whole d h v run quiet i g j n l b k = for-brought d h j l v run quiet b (i
 
 -- ---- labels that were made
 
-unmade : (d : Deployed) (h : List Entry) (a : Act) (r : Answer) → Step d h a r → of_client a ≡ None → made_in r ≡ None
-unmade d h a r (wrote p q w) o = absurd (cc)
+pub unmade : (d : Deployed) (h : List Entry) (a : Act) (r : Answer) → Step d h a r → of_client a ≡ None → made_in r ≡ None
+unmade d h a r (wrote {w = w} z p q b) o = absurd (let e : of_client a ≡ Some w.client = write-client a w z in cc)
 unmade d h a r (moved p q w) o = absurd (cc)
 unmade d h a r _ o = refl
 

@@ -3,6 +3,8 @@ use Rattle.std.specs.Prelude.{◌≡◌, ℕ, zero, suc, ◌+◌, ◌-◌, Bool,
 use Rattle.std.specs.List.{list_all, list_any, prefix_len}
 use Rattle.std.proofs.Common.{ap, ◌∙◌}
 use Rattle.sat_label.specs.declared.point.Point.{Point}
+use Rattle.sat_label.specs.declared.items.Items.{Items}
+use Rattle.sat_label.specs.declared.items.Items.TheVariants.{One}
 use Rattle.sat_label.specs.declared.label.Kind.TheVariants as kind
 use Rattle.sat_label.specs.declared.label.Label.{Label}
 use Rattle.sat_label.specs.declared.limits.TheConstants.{PULSE_GEAR, TS_END}
@@ -22,7 +24,8 @@ use Rattle.sat_act.specs.declared.entry.Entry.{Entry}
 use Rattle.sat_act.specs.Deployed.{Deployed}
 use Rattle.sat_act.specs.Histories.{listed, latest, up_to, highest}
 use Rattle.sat_act.specs.Done.{is_at, is_gather, is_beat, beat_in, is_kill}
-use Rattle.sat_act.specs.Parts.{BeatNote, Handling, replicates, tree_of, made, made_entry, promise, promise_entry, gathered, least_promise, stable, made_to, sent, sent_entry, pending, is_stable, ready, sent_point, last_sent, cut, pulse_entry, last_pulse, close_cut_of_entry, closed_epoch_of_entry, emission, close_cut, view_entry, view, fallen_entry, fallen, in_stamp_mode, seat_in, handling, goes_beyond, is_put, is_taken, entered, entered_entry, taken, taken_entry, link_front, killed, shown_entry, shown, greatest_label, is_update_of, version, value_of, lane_entry, lane, brought_entry, brought, lane_front, waiting, note_for, beat_entry, beats, beats_taken, is_complete, best_below, best, home, seat_entry, seat, moving_entry, moving, carried_entry, carried, known_by, last_entry, last, all_others, best_passes, reaches, may_attach, closed_below, is_past, candidate, passed_ts, passed_label, next_stamp}
+use Rattle.sat_label.specs.Grouped.{least_item, list_of}
+use Rattle.sat_act.specs.Parts.{BeatNote, Handling, replicates, keeps_all, items_of, values_entry, value_for, tree_of, made, made_entry, promise, promise_entry, gathered, least_promise, stable, made_to, sent, sent_entry, pending, is_stable, ready, sent_point, last_sent, cut, pulse_entry, last_pulse, close_cut_of_entry, closed_epoch_of_entry, emission, close_cut, view_entry, view, fallen_entry, fallen, in_stamp_mode, seat_in, handling, goes_beyond, is_put, is_taken, entered, entered_entry, taken, taken_entry, link_front, killed, shown_entry, shown, greatest_label, is_update_of, version, values_of, lane_entry, lane, brought_entry, brought, lane_front, waiting, note_for, beat_entry, beats, beats_taken, is_complete, best_below, best, home, seat_entry, seat, moving_entry, moving, carried_entry, carried, known_by, last_entry, last, all_others, best_passes, reaches, may_attach, closed_below, is_past, candidate, passed_ts, passed_label, next_stamp}
 use Rattle.sat_act.specs.Answers.{answer, refused_if, gear_of, base, write_at, read_at, move_from, at_seat, attach_to, gather_of, emit_of, pulse_of, hop_to, turned, turn_of, bring, bulk_to, beat_to, beat_in_to, stamp_of, close_of, fall_of, takes_close, took_close, is_drained, may_advance, advance_of, greatest_promise}
 use Rattle.sat_rest.specs.Flags.{unflagged, without_flags}
 
@@ -175,10 +178,9 @@ version-free : (h : List Entry) (j x : ℕ) → version (without_flags h) j x �
 unfolding version
 version-free h j x = ap (greatest_label (λ l. is_update_of l.kind x)) (shown-free h j)
 
-value-free : (h : List Entry) (l : Label) → value_of (without_flags h) l ≡ value_of h l
-unfolding value_of
-value-free h l =
-    latest-free {X = List ℕ} (λ before e. elim e.answer [ ans.Wrote m ↦ elim e.act [ act.Write c x value ↦ if label_eq m l then Some value else None | _ ↦ None ] | _ ↦ None ]) [] (λ h e. refl) h
+values-free : (h : List Entry) (l : Label) → values_of (without_flags h) l ≡ values_of h l
+unfolding values_of
+values-free h l = latest-free {X = List (List ℕ)} (values_entry l) [] (λ h e. refl) h
 
 lane-free : (d : Deployed) (h : List Entry) (i g j : ℕ) → lane d (without_flags h) i g j ≡ lane d h i g j
 unfolding lane
@@ -307,13 +309,15 @@ base-free : (h : List Entry) (c i g : ℕ) → base (without_flags h) c i g ≡ 
 unfolding base
 base-free h c i g = λ p. max (promise-free h i g p) (carried-free h c p).ts
 
-write-free : (d : Deployed) (h : List Entry) (c x i : ℕ) → write_at d (without_flags h) c x i ≡ write_at d h c x i
+write-free : (d : Deployed) (h : List Entry) (c : ℕ) (items : Items) (i : ℕ) → write_at d (without_flags h) c items i ≡ write_at d h c items i
 unfolding write_at
-write-free d h c x i = ap (λ (ts : ℕ). refused_if (not (replicates d x i)) why.NotHere (refused_if (nat_le TS_END ts) why.Spent (ans.Wrote (record { point = point_at (ts + 1) i (gear_of d x); kind = kind.Update x })))) (base-free h c i (gear_of d x))
+write-free d h c items i =
+    let g : ℕ = gear_of d (least_item (list_of items)) in
+    ap (λ (ts : ℕ). refused_if (not (keeps_all d (list_of items) i)) why.NotHere (refused_if (nat_le TS_END ts) why.Spent (ans.Wrote (record { point = point_at (ts + 1) i g; kind = kind.Update items })))) (base-free h c i g)
 
 read-free : (d : Deployed) (h : List Entry) (x i : ℕ) → read_at d (without_flags h) x i ≡ read_at d h x i
 unfolding read_at
-read-free d h x i = λ p. refused_if (not (replicates d x i)) why.NotHere (elim (version-free h i x p) [ None ↦ ans.ReadNone | Some l ↦ ans.ReadSome l (value-free h l p) ])
+read-free d h x i = λ p. refused_if (not (replicates d x i)) why.NotHere (elim (version-free h i x p) [ None ↦ ans.ReadNone | Some l ↦ ans.ReadSome l (value_for (items_of l.kind) (values-free h l p) x) ])
 
 move-free : (h : List Entry) (c j i : ℕ) → move_from (without_flags h) c j i ≡ move_from h c j i
 unfolding move_from
@@ -392,7 +396,8 @@ pub answer-free : (d : Deployed) (h : List Entry) (a : Act) → answer d (withou
 unfolding answer attach_to gather_of emit_of pulse_of beat_to stamp_of close_of fall_of advance_of
 answer-free d h (act.Tick i g ts) = λ p. ans.Ticked (max (promise-free h i g p) ts)
 answer-free d h act.Clock = ap ans.Clocked (greatest-free h d.sites d.gears)
-answer-free d h (act.Write c x value) = λ p. at_seat (seat-free d h c p) (λ i. write-free d h c x i p)
+answer-free d h (act.Write c x value) = λ p. at_seat (seat-free d h c p) (λ i. write-free d h c (One x) i p)
+answer-free d h (act.Writes c items values) = λ p. at_seat (seat-free d h c p) (λ i. write-free d h c items i p)
 answer-free d h (act.Read c x) = λ p. at_seat (seat-free d h c p) (λ i. read-free d h x i p)
 answer-free d h (act.Move c j) = λ p. at_seat (seat-free d h c p) (λ i. move-free h c j i p)
 answer-free d h (act.Leave c) = λ p. at_seat (seat-free d h c p) (λ i. ans.Left (carried-free h c p))

@@ -26,7 +26,7 @@ use Rattle.sat_act.specs.Runs.{IsRun}
 use Rattle.sat_act.specs.Goals.{Gives, IsValid}
 use Rattle.sat_act.specs.Headline.{HasTrees}
 use Rattle.sat_act.specs.Settling.{is_done, total, payload_entry, payloads, payload_left, payloads_left, handlings, sending_entry, sendings, nodes_of, was_handled, sending_left, epochs_left, left}
-use Rattle.sat_laws.proofs.Steps.{Step, hopped, showed_turn, took, brought_now, showed_stamp, advanced, closed}
+use Rattle.sat_laws.proofs.Steps.{Step, hopped, showed_turn, took, brought_now, showed_stamp, advanced, closed, wrote}
 use Rattle.sat_laws.proofs.Runs.{step_of, before_of, range_of, entry}
 use Rattle.sat_laws.proofs.Labels.{some_is}
 use Rattle.sat_laws.proofs.Members.{listed-gives, gives-listed}
@@ -44,6 +44,7 @@ use Rattle.sat_rest.proofs.Totals.{total-le, total-lt, filter-le, filter-lt, In-
 use Rattle.sat_label.specs.Members.{In}
 use Rattle.sat_label.proofs.Orders.{same-label, label_eq-self}
 use Rattle.sat_label.proofs.Members.{In-get, In-left, In-right, In-filter, has-in, in-has}
+use Rattle.sat_laws.proofs.Written.{by-write}
 
 -- the acts of rounds
 abbrev pub is_round_act : Act → Bool
@@ -71,7 +72,7 @@ pub payloads_left-is : (d : Deployed) (h : List Entry) (j : ℕ) → payloads_le
 unfolding payloads_left
 payloads_left-is d h j = refl
 
-brought-grows : (h : List Entry) (x : Entry) (j : ℕ) (l : Label) → has label_eq (brought h j) l ≡ true → has label_eq (brought (x ∷ h) j) l ≡ true
+pub brought-grows : (h : List Entry) (x : Entry) (j : ℕ) (l : Label) → has label_eq (brought h j) l ≡ true → has label_eq (brought (x ∷ h) j) l ≡ true
 unfolding brought
 brought-grows h x j l e =
     in-has (listed (brought_entry j) h ++ tail_of (brought_entry j h x)) l (In-left (listed (brought_entry j) h) (tail_of (brought_entry j h x)) l (has-in (listed (brought_entry j) h) l e))
@@ -440,4 +441,5 @@ left-falls d h a r n valid trees some run (advanced {j = j} c m) ra dn =
         let hi : emission h j ≤ length d.plans = emission-most d h j some (before_of d h x run) in
         let b : view h j < length d.plans = grind arith in
         epochs_all-lt d h x j run (range_of d h x run) (advance-view h j j (view h j + 1) n (same-number j)) b
+left-falls d h a r n valid trees some run (wrote {w = w} z p q b) ra dn = absurd (by-write (λ (a : Act). is_round_act a ≡ true → ⊥) a w z (λ c x v e. cc) (λ c items values e. cc) ra)
 left-falls d h a r n valid trees some run _ ra dn = absurd (cc)

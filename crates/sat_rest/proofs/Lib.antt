@@ -6,6 +6,7 @@ pub mod Settles
 pub mod Bounds
 pub mod SettleEnds
 pub mod Emptying
+pub mod Bulked
 pub mod QuietLinks
 pub mod QuietEnd
 pub mod FreshBeats

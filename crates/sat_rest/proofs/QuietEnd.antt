@@ -9,12 +9,13 @@ use Rattle.sat_label.specs.declared.label.Label.{Label}
 use Rattle.sat_label.specs.declared.node.NodeId.{NodeId}
 use Rattle.sat_label.specs.declared.node.NodeId.TheVariants.{Site, Serializer}
 use Rattle.sat_label.specs.Order.{label_eq, node_eq}
+use Rattle.sat_label.specs.Grouped.{list_of}
 use Rattle.sat_label.specs.Words.{below}
 use Rattle.sat_tree.specs.Shape.{TreeShape}
 use Rattle.sat_tree.specs.Cut.{is_edge, beyond}
 use Rattle.sat_act.specs.declared.entry.Entry.{Entry}
 use Rattle.sat_act.specs.Deployed.{Deployed}
-use Rattle.sat_act.specs.Parts.{replicates, is_target, tree_of, emission, view, in_stamp_mode, goes_beyond, entered, taken, came_from, waiting, all_others}
+use Rattle.sat_act.specs.Parts.{keeps_some, is_target, tree_of, emission, view, in_stamp_mode, goes_beyond, entered, taken, came_from, waiting, all_others}
 use Rattle.sat_act.specs.Answers.{may_advance, took_close}
 use Rattle.sat_laws.proofs.Origins.{close-behind}
 use Rattle.sat_act.specs.Runs.{IsRun}
@@ -245,7 +246,7 @@ module _ (d : Deployed) (h : List Entry) (w : IsWithin d) (run : IsRun d h) (e :
 
   close-target : (c : Label) (j : ℕ) (f : ℕ) → c.kind ≡ kind.Close f → (c.point.site ≡ j → ⊥) → is_target d c j ≡ true
   unfolding is_target
-  close-target c j f q n = subst (λ (y : Kind). elim y [ kind.Update x ↦ replicates d x j && not (j == c.point.site) | kind.Move y ↦ j == y | kind.Pulse ↦ not (j == c.point.site) | kind.Close e ↦ not (j == c.point.site) ] ≡ true) (sym q) (differ j c.point.site (λ s. n (sym s)))
+  close-target c j f q n = subst (λ (y : Kind). elim y [ kind.Update items ↦ keeps_some d (list_of items) j && not (j == c.point.site) | kind.Move y ↦ j == y | kind.Pulse ↦ not (j == c.point.site) | kind.Close e ↦ not (j == c.point.site) ] ≡ true) (sym q) (differ j c.point.site (λ s. n (sym s)))
     where
       differ : (m n : ℕ) → (m ≡ n → ⊥) → not (m == n) ≡ true
       differ m n e = grind (arith, nat_tests)

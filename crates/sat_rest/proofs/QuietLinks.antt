@@ -168,7 +168,7 @@ pub made-update : (l : Label) → is_update l.kind ≡ true → is_made l.kind �
 made-update l e = go l.kind e
   where
     go : (k : Kind) → is_update k ≡ true → is_made k ≡ true
-    go (kind.Update x) e = refl
+    go (kind.Update items) e = refl
     go (kind.Move x) e = absurd (cc)
     go kind.Pulse e = absurd (cc)
     go (kind.Close x) e = absurd (cc)

@@ -23,7 +23,7 @@ use Rattle.sat_act.specs.Runs.{IsRun, is_settle}
 use Rattle.sat_act.specs.Goals.{Gives}
 use Rattle.sat_act.specs.Settling.{is_done, inner_entry, tried, repeated, for_each, joined, emit_all, left, bulks, hops, hops_of, turns, round_acts, until_refused}
 use Rattle.sat_rest.specs.Ends.{IsWithin, UntilRefused, ends, goes_on, IsAmong}
-use Rattle.sat_laws.proofs.Steps.{Step, outcome, emitted}
+use Rattle.sat_laws.proofs.Steps.{Step, outcome, emitted, wrote}
 use Rattle.sat_laws.proofs.Runs.{entry, run-on}
 use Rattle.sat_laws.proofs.Members.{gives-listed}
 use Rattle.sat_laws.proofs.Cuts.{ready-is}
@@ -32,6 +32,7 @@ use Rattle.sat_rest.proofs.Lefts.{is_round_act, left-falls}
 use Rattle.sat_rest.proofs.Totals.{In-joined, below-In, filter-lt}
 use Rattle.sat_label.specs.Members.{In}
 use Rattle.sat_label.proofs.Members.{In-parts, In-filter, In-left, has-in, in-has}
+use Rattle.sat_laws.proofs.Written.{by-write}
 
 -- ---- an act, and an act until it is refused
 
@@ -155,6 +156,7 @@ emit-falls d h i a r n same (emitted {i = k} {l = l} e) dn =
 
     in_sent : (x : Entry) (l : Label) → sent_entry i h x ≡ Some l → In (sent (x ∷ h) i) l
     in_sent x l e = in-sent h x i l e
+emit-falls d h i a r n same (wrote {w = w} z p q b) dn = absurd (by-write (λ (a : Act). a ≡ act.Emit i → ⊥) a w z (λ c x v e. cc) (λ c items values e. cc) same)
 emit-falls d h i a r n same _ dn = absurd (cc)
 
 pub emits-end : (d : Deployed) (i : ℕ) (h : List Entry) → i < d.sites → IsRun d h → UntilRefused d (act.Emit i) h (emit_all d i h)
@@ -188,7 +190,7 @@ map-In f [] y i = absurd i
 map-In f (x ∷ xs) y (inl e) = (x, inl refl, e)
 map-In f (x ∷ xs) y (inr i) = let r : (x : _) × In xs x × (f x ≡ y) = map-In f xs y i in (r.0, inr r.1, r.2)
 
-bulk-of : (d : Deployed) (a : Act) → In (bulks d) a → IsRoundAct d a
+pub bulk-of : (d : Deployed) (a : Act) → In (bulks d) a → IsRoundAct d a
 bulk-of d a m =
     let p : (i : ℕ) × In (below d.sites) i × In (joined (λ g. joined (λ j. if i == j then [] else act.Bulk i g j None ∷ []) (below d.sites)) (below d.gears)) a =
     In-joined (λ (i : ℕ). joined (λ (g : ℕ). joined (λ (j : ℕ). if i == j then [] else act.Bulk i g j None ∷ []) (below d.sites)) (below d.gears)) (below d.sites) a m in
@@ -248,7 +250,7 @@ in-among (b ∷ acts) a (inr i) = inr (in-among acts a i)
 pub falls : (d : Deployed) (h : List Entry) (a : Act) → IsWithin d → IsRun d h → IsRoundAct d a → is_done (answer d h a) ≡ true → left d (inner_entry d h a ∷ h) < left d h
 falls d h a w run m e = left-falls d h a (answer d h a) true w.valid w.trees w.some_plan (inner-run d h a run m.inner) (outcome d h a) m.round e
 
-is-until : (d : Deployed) (a : Act) (h : List Entry) → until_refused d a h ≡ repeated d a (left d h) h
+pub is-until : (d : Deployed) (a : Act) (h : List Entry) → until_refused d a h ≡ repeated d a (left d h) h
 unfolding until_refused
 is-until d a h = refl
 

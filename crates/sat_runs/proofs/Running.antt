@@ -49,7 +49,7 @@ history-next : (d : Deployed) (a : Act) (acts : List Act) → history d (acts ++
 unfolding history run
 history-next d a acts = ap (run d) (reverse-append acts (a ∷ []))
 
-answers-on : (d : Deployed) (h : List Entry) (a : Act) (r : Answer) → answers d (entry a r ∷ h) ≡ answers d h ++ answer_line d (printed_count h + 1) r
+answers-on : (d : Deployed) (h : List Entry) (a : Act) (r : Answer) → answers d (entry a r ∷ h) ≡ answers d h ++ answer_line d (printed_count h + 1) a r
 unfolding answers
 answers-on d h a r = refl
 
@@ -74,9 +74,9 @@ on old new acts a r range does now =
     }
 
 -- a line with its number
-pub line_of : (d : Deployed) (number : Option ℕ) (n : ℕ) (r : Answer) → number ≡ Some n → framed number (answer_text d r) ≡ answer_line d n r
+pub line_of : (d : Deployed) (number : Option ℕ) (n : ℕ) (a : Act) (r : Answer) → number ≡ Some n → framed number (answer_text d a r) ≡ answer_line d n a r
 unfolding answer_line
-line_of d number n r is = ap (λ (k : Option ℕ). framed k (answer_text d r)) is ∙ as_line n (answer_text d r)
+line_of d number n a r is = ap (λ (k : Option ℕ). framed k (answer_text d a r)) is ∙ as_line n (answer_text d a r)
 
 -- a clause of a call that is handed on as it is
 pub when_ok : {T E P Q : Type 0} (x : Result T E) → OnOk x P → (P → Q) → OnOk x Q
@@ -85,7 +85,7 @@ when_ok (Err e) p gives = tt
 
 -- with the line of its answer
 pub answers_more : (old new : WorldSeen) (text more : List ℕ) (number : ℕ) (acts : List Act) (a : Act) (r : Answer) → IsActOf old.deployment a → Does old a r new
-    → more ≡ text ++ answer_line old.deployment number r → number ≡ length acts + 1
+    → more ≡ text ++ answer_line old.deployment number a r → number ≡ length acts + 1
     → IsAnswering old.deployment old text acts → IsAnswering old.deployment new more (acts ++ a ∷ [])
 answers_more old new text more number acts a r range does written counted now =
     let d = old.deployment in
@@ -101,13 +101,13 @@ answers_more old new text more number acts a r range does written counted now =
 
 -- the line of an act's answer, once it is written
 pub has_line : {T E F : Type 0} (x : Result T F) (done : Result Answer E) (d : Deployed) (old new : WorldSeen) (number : Option ℕ) (text more : List ℕ) (a : Act) → IsActOf old.deployment a → d ≡ old.deployment
-    → OnOk x (IsWritten d number done text more) → IfOk done (λ r. Does old a r new) → OnOk x (HasLine old number a text new more)
+    → OnOk x (IsWritten d number a done text more) → IfOk done (λ r. Does old a r new) → OnOk x (HasLine old number a text new more)
 has_line x (Err e) d old new number text more a range same written does = when_ok x written (λ never. absurd never)
 has_line x (Ok r) d old new number text more a range same written does = when_ok x written (λ wrote. record {
-  line = framed number (answer_text old.deployment r);
-  longer_by = wrote ∙ ap (λ (e : Deployed). text ++ framed number (answer_text e r)) same;
-  answers = λ front acts numbered now. answers_more old new front (front ++ framed number (answer_text old.deployment r)) (length acts + 1) acts a r range does
-      (ap (λ (bytes : List ℕ). front ++ bytes) (line_of old.deployment number (length acts + 1) r numbered)) refl now;
+  line = framed number (answer_text old.deployment a r);
+  longer_by = wrote ∙ ap (λ (e : Deployed). text ++ framed number (answer_text e a r)) same;
+  answers = λ front acts numbered now. answers_more old new front (front ++ framed number (answer_text old.deployment a r)) (length acts + 1) acts a r range does
+      (ap (λ (bytes : List ℕ). front ++ bytes) (line_of old.deployment number (length acts + 1) a r numbered)) refl now;
 })
 
 -- ---- memory runs out
@@ -214,7 +214,7 @@ line_next : (d : Deployed) (acts : List Act) (a : Act) → IsRun d (history d ac
 line_next d acts a run =
     let h = history d acts in
     let r = answer_of d h a in
-    let line = answer_line d (printed_count (with_inner d h a) + 1) r in
+    let line = answer_line d (printed_count (with_inner d h a) + 1) a r in
     let same : answers d (with_inner d h a) ≡ answers d h = kept d (answers d) (λ k b e. answers-in d k b) h a run in
     (line, ap (answers d) (history-next d a acts) ∙ answers-on d (with_inner d h a) a r ∙ ap (λ bytes. bytes ++ line) same)
 

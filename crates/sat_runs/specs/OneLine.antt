@@ -10,10 +10,10 @@ use Rattle.sat_settle.specs.Going.{StopsBefore}
 use Rattle.sat_runs.specs.Runs.{history}
 use Rattle.sat_runs.specs.Running.{IsAnswering, IsRunning}
 
--- there was an answer, and a text is longer by its line
-abbrev pub IsWritten : {E : Type 0} → Deployed → Option ℕ → Result Answer E → List ℕ → List ℕ → Type 0
-IsWritten d number (Ok r) old new = new ≡ old ++ framed number (answer_text d r)
-IsWritten d number (Err e) old new = ⊥
+-- an act had an answer, and a text is longer by its line
+abbrev pub IsWritten : {E : Type 0} → Deployed → Option ℕ → Act → Result Answer E → List ℕ → List ℕ → Type 0
+IsWritten d number a (Ok r) old new = new ≡ old ++ framed number (answer_text d a r)
+IsWritten d number a (Err e) old new = ⊥
 
 -- an act was done, and a text is longer by its line
 pub record HasLine (old : WorldSeen) (number : Option ℕ) (a : Act) (text : List ℕ) (new : WorldSeen) (longer : List ℕ) : Type 0 where

@@ -26,19 +26,20 @@ pub fn do_act(world: &mut World, act: &Act) -> Result<Answer, AllocError>
     }
 }
 
-// Appends the line of an answer, where there is one. It is read where it lies. For want of memory the text is as before.
+// Appends the line of an act's answer, where there is one. It is read where it lies. For want of memory the text is as before.
 #[inline(always)]
 fn write_done(
     d: &Deployment,
     line: &LineFront,
+    act: &Act,
     done: &Result<Answer, AllocError>,
     text: &mut Vec<u8>,
 ) -> Result<(), AllocError>
-    ensures written { OnOk result (IsWritten d.now line.now done.now text.old.items text.new.items) }
+    ensures written { OnOk result (IsWritten d.now line.now act.now done.now text.old.items text.new.items) }
     ensures err { OnErr result (text.new.items ≡ text.old.items) }
 {
     match done {
-        Ok(answer) => write_numbered(d, line, answer, text),
+        Ok(answer) => write_numbered(d, line, act, answer, text),
         Err(_) => Err(AllocError),
     }
 }
@@ -60,10 +61,10 @@ fn answer_numbered(
 {
     if let Act::Settle = act {
         let done = settle(world);
-        return write_done(world.deployment(), line, &done, text);
+        return write_done(world.deployment(), line, act, &done, text);
     }
     let done = world.step(act);
-    write_done(world.deployment(), line, &done, text)
+    write_done(world.deployment(), line, act, &done, text)
 }
 
 /// Does the acts one after another, behind so many acts, and appends the lines of their answers. For want of memory the first ones of

@@ -2,9 +2,13 @@
 use Rattle.std.proofs.Common.{◌≡◌, ℕ, ◌<◌, ◌≤◌, ◌^◌, ◌-◌, Bool, true, false, ◌&&◌, ◌||◌, cond, eqb, ltb, List, [], ◌∷◌, length, Option, Some, None, Result, Ok, Err, sym, ap, ◌∙◌, refl, subst, arith}
 use Rattle.std.specs.Str.{bytes_eq}
 use Rattle.std.specs.Option.{option_map}
+use Rattle.std.specs.List.{list_all}
 use Rattle.std.proofs.lemmas.Bool.{and_from, and_parts, eqb-true, false_from_ne_true, lt-ltb, ltb-true}
 use Rattle.std.proofs.lemmas.Bool.Decides.{nat_tests}
 use Rattle.sat_label.specs.Text.{is_value, node_text}
+use Rattle.sat_label.specs.Grouped.{are_items, list_of}
+use Rattle.sat_label.specs.declared.items.Items.{Items}
+use Rattle.sat_label.specs.declared.items.Items.TheVariants.{One, Two, Three, Four}
 use Rattle.sat_label.specs.declared.node.NodeId.{NodeId}
 use Rattle.sat_label.specs.declared.node.NodeId.TheVariants.{Site, Serializer}
 use Rattle.sat_tree.specs.Shape.{TreeShape}
@@ -12,14 +16,15 @@ use Rattle.sat_tree.specs.Cut.{is_edge, IsNode}
 use Rattle.sat_act.specs.Deployed.{Deployed}
 use Rattle.sat_act.specs.Limits.{IsDeployment}
 use Rattle.sat_act.specs.Parts.{tree_of}
-use Rattle.sat_act.specs.Ranges.{IsActOf}
+use Rattle.sat_act.specs.Ranges.{IsActOf, IsGroupOf}
 use Rattle.sat_act.specs.declared.act.Act.{Act}
 use Rattle.sat_act.specs.declared.act.Act.TheVariants as act
 use Rattle.sat_script.specs.Causes.{bar, has_room, client_of, item_of, given, barred}
+use Rattle.sat_script.specs.Dialect.{allows}
 use Rattle.sat_script.specs.Grammar.{with_settle}
 use Rattle.sat_script.specs.Laws.{ActsAreSpelled}
 use Rattle.sat_script.specs.State.{State, limits_at}
-use Rattle.sat_script.specs.Table.{Said, place, num, bytes, at, word_of, kinds_of, act_forms, act_of, form_of, args_of, shape, says, text, shapes, all_known, onto, in_tree, all_say, no_tree, has_node, joins, edge_cause, unfit, said_act, found_form, form_line, act_line, texts, act_words}
+use Rattle.sat_script.specs.Table.{Said, place, num, bytes, at, word_of, kinds_of, act_forms, act_of, form_of, args_of, shape, says, text, shapes, all_known, onto, in_tree, all_say, no_tree, has_node, joins, edge_cause, unfit, said_act, found_form, form_line, act_line, texts, act_words, group_form, pairs}
 use Rattle.sat_script.specs.Words.{number_below, number_to, number_up_to, node_in, serializer_in, is_node, is_serializer, is_number}
 use Rattle.sat_script.specs.declared.fault.Cause.{Cause}
 use Rattle.sat_script.specs.declared.fault.Cause.TheVariants.{BadAct, OutOfRange, NoEdge}
@@ -32,6 +37,7 @@ use Rattle.sat_script.specs.declared.line.Parsed.TheVariants as parsed
 use Rattle.sat_script.proofs.Bars.{free, bars_nothing}
 use Rattle.sat_script.proofs.Choices.{passed, unbarred, found, same_ok, word_is}
 use Rattle.sat_script.proofs.Digits.{below_is, to_is, up_to_is}
+use Rattle.sat_script.proofs.Groups.{IsSaid, group_said, group_few, fit_order, known_two, known_three, known_four}
 use Rattle.sat_script.proofs.Lookup.{client_is, item_is}
 use Rattle.sat_script.proofs.Stands.{ActStands}
 
@@ -224,6 +230,10 @@ pub act_is : (f : Form) (xs : List Said) (a : Act) → are_kinds (kinds_of f) xs
 act_is form.Tick (place i ∷ place g ∷ num t ∷ []) a k h = row (act.Tick i g t) a h
 act_is form.Clock [] a k h = row act.Clock a h
 act_is form.Write (place c ∷ place x ∷ bytes v ∷ []) a k h = tested (is_value v) (act.Write c x v) a h
+act_is form.WritesTwo (place c ∷ place x ∷ bytes v ∷ place y ∷ bytes w ∷ []) a k h = tested (list_all is_value (v ∷ w ∷ [])) (act.Writes c (Two x y) (v ∷ w ∷ [])) a h
+act_is form.WritesThree (place c ∷ place x ∷ bytes v ∷ place y ∷ bytes w ∷ place z ∷ bytes p ∷ []) a k h = tested (list_all is_value (v ∷ w ∷ p ∷ [])) (act.Writes c (Three x y z) (v ∷ w ∷ p ∷ [])) a h
+act_is form.WritesFour (place c ∷ place x ∷ bytes v ∷ place y ∷ bytes w ∷ place z ∷ bytes p ∷ place t ∷ bytes q ∷ []) a k h =
+    tested (list_all is_value (v ∷ w ∷ p ∷ q ∷ [])) (act.Writes c (Four x y z t) (v ∷ w ∷ p ∷ q ∷ [])) a h
 act_is form.Read (place c ∷ place x ∷ []) a k h = row (act.Read c x) a h
 act_is form.Move (place c ∷ place j ∷ []) a k h = row (act.Move c j) a h
 act_is form.Leave (place c ∷ []) a k h = row (act.Leave c) a h
@@ -259,24 +269,40 @@ edge_is (Some u) t v z e h =
     go true h = refl
     go false h = absurd (cc)
 
--- what such words say is an act of the deployment
-pub act_fits : (d : Deployed) (a : Act) → AllFit d no_tree (kinds_of (form_of a)) (args_of a) → unfit d a ≡ None → IsActOf d a
-act_fits d (act.Tick i g t) h u = (h.0, h.1.0, h.1.1.0)
-act_fits d act.Clock h u = tt
-act_fits d (act.Write c x v) h u = (h.0, h.1.0, h.1.1.0)
-act_fits d (act.Read c x) h u = (h.0, h.1.0)
-act_fits d (act.Move c j) h u = (h.0, h.1.0)
-act_fits d (act.Attach c j) h u = (h.0, h.1.0)
-act_fits d (act.Hop e v z) h u = (h.0, h.2, h.1, h.3.0, edge_is (tree_of d e) h.0 v z h.1 u)
-act_fits d (act.Bulk i g j None) h u = ((h.0, h.1.1.0, eq_test i j OutOfRange u), h.1.0, tt)
-act_fits d (act.Bulk i g j (Some n)) h u = ((h.0, h.1.1.0, eq_test i j OutOfRange u), h.1.0, h.1.1.1.0)
-act_fits d (act.Beat i j) h u = (h.0, h.1.0, eq_test i j OutOfRange u)
-act_fits d (act.BeatIn i j n) h u = ((h.0, h.1.0, eq_test i j OutOfRange u), h.1.1.0)
-act_fits d (act.Kill e z) h u = (h.0, h.2, h.1, h.3.0)
-act_fits d act.Settle h u = tt
-act_fits d _ h u = h.0
+-- as many values as items, each item one of the deployment's
+group_known : (d : Deployed) (c : ℕ) (items : Items) (values : List (List ℕ)) → IsSaid items values → AllFit d no_tree (kinds_of (group_form items)) (place c ∷ pairs (list_of items) values)
+    → (c < length d.clients) × (list_all (λ x. ltb x (length d.items)) (list_of items) ≡ true)
+group_known d c (Two x y) (v ∷ w ∷ []) said h = (h.0, known_two (length d.items) x y h.1.0 h.1.1.1.0)
+group_known d c (Three x y z) (v ∷ w ∷ p ∷ []) said h = (h.0, known_three (length d.items) x y z h.1.0 h.1.1.1.0 h.1.1.1.1.1.0)
+group_known d c (Four x y z t) (v ∷ w ∷ p ∷ q ∷ []) said h = (h.0, known_four (length d.items) x y z t h.1.0 h.1.1.1.0 h.1.1.1.1.1.0 h.1.1.1.1.1.1.1.0)
+group_known d c _ _ said h = absurd (let some = said.some in let same = said.same in omega arith)
 
-form_is : (word : List ℕ) (n : ℕ) (fs : List Form) (f : Form) → found_form word n fs ≡ Some f → word ≡ word_of f
+-- what the words of a group say is one of the deployment
+group_fits : (d : Deployed) (c : ℕ) (items : Items) (values : List (List ℕ)) → IsSaid items values → AllFit d no_tree (kinds_of (group_form items)) (place c ∷ pairs (list_of items) values)
+    → are_items (list_of items) ≡ true → allows d.format (group_form items) ≡ true → (c < length d.clients) × IsGroupOf d items values
+group_fits d c items values said h order allowed =
+    let known = group_known d c items values said h in
+    (known.0, record { some = said.some; few = group_few d items said.some allowed; order = order; known = known.1; values_all = said.same; spelled = said.spelled })
+
+-- what such words say is an act of the deployment
+pub act_fits : (d : Deployed) (a : Act) → AllFit d no_tree (kinds_of (form_of a)) (args_of a) → unfit d a ≡ None → act_of (form_of a) (args_of a) ≡ Some a → allows d.format (form_of a) ≡ true → IsActOf d a
+act_fits d (act.Tick i g t) h u says allowed = (h.0, h.1.0, h.1.1.0)
+act_fits d act.Clock h u says allowed = tt
+act_fits d (act.Write c x v) h u says allowed = (h.0, h.1.0, h.1.1.0)
+act_fits d (act.Writes c items values) h u says allowed = group_fits d c items values (group_said c items values (args_of (act.Writes c items values)) says) h (fit_order d c items values u) allowed
+act_fits d (act.Read c x) h u says allowed = (h.0, h.1.0)
+act_fits d (act.Move c j) h u says allowed = (h.0, h.1.0)
+act_fits d (act.Attach c j) h u says allowed = (h.0, h.1.0)
+act_fits d (act.Hop e v z) h u says allowed = (h.0, h.2, h.1, h.3.0, edge_is (tree_of d e) h.0 v z h.1 u)
+act_fits d (act.Bulk i g j None) h u says allowed = ((h.0, h.1.1.0, eq_test i j OutOfRange u), h.1.0, tt)
+act_fits d (act.Bulk i g j (Some n)) h u says allowed = ((h.0, h.1.1.0, eq_test i j OutOfRange u), h.1.0, h.1.1.1.0)
+act_fits d (act.Beat i j) h u says allowed = (h.0, h.1.0, eq_test i j OutOfRange u)
+act_fits d (act.BeatIn i j n) h u says allowed = ((h.0, h.1.0, eq_test i j OutOfRange u), h.1.1.0)
+act_fits d (act.Kill e z) h u says allowed = (h.0, h.2, h.1, h.3.0)
+act_fits d act.Settle h u says allowed = tt
+act_fits d _ h u says allowed = h.0
+
+pub form_is : (word : List ℕ) (n : ℕ) (fs : List Form) (f : Form) → found_form word n fs ≡ Some f → word ≡ word_of f
 form_is word n [] f h = absurd (cc)
 form_is word n (g ∷ fs) f h = go (eqb (length (kinds_of g)) n && bytes_eq word (word_of g)) refl h (form_is word n fs f)
   where
@@ -299,14 +325,17 @@ line_says : (bars : Form → Option Cause) (d : Deployed) (f : Form) (words : Li
     → (f ≡ form_of a) × (words ≡ texts d (kinds_of (form_of a)) (args_of a)) × IsActOf d a × (bars (form_of a) ≡ None)
 unfolding form_line
 line_says bars d f words a is h =
-    let shaped = passed (shapes (kinds_of f) words) _ _ _ h in
+    let allowed = passed (allows d.format f) _ _ _ h in
+    let shaped = passed (shapes (kinds_of f) words) _ _ _ allowed.1 in
     let free = unbarred (bars f) _ a shaped.1 in
     let named = passed (all_known d (kinds_of f) words) _ _ _ free.1 in
     let c = chosen d f (all_say d no_tree (kinds_of f) words) a named.1 in
     let said = say_is d no_tree (kinds_of f) words c.0 is (no_small d no_tree is (omega arith) (omega arith)) shaped.0 c.1 in
     let t = act_is f c.0 a (fit_kinds d no_tree (kinds_of f) c.0 said.1) c.2 in
     let fits = subst (λ xs. AllFit d no_tree (kinds_of (form_of a)) xs) t.1 (subst (λ f. AllFit d no_tree (kinds_of f) c.0) t.0 said.1) in
-    (t.0, said.0 ∙ ap (λ f. texts d (kinds_of f) c.0) t.0 ∙ ap (texts d (kinds_of (form_of a))) t.1, act_fits d a fits c.3, ap bars (sym t.0) ∙ free.0)
+    let again = ap (λ f. act_of f (args_of a)) (sym t.0) ∙ ap (act_of f) (sym t.1) ∙ c.2 in
+    let has = ap (allows d.format) (sym t.0) ∙ allowed.0 in
+    (t.0, said.0 ∙ ap (λ f. texts d (kinds_of f) c.0) t.0 ∙ ap (texts d (kinds_of (form_of a))) t.1, act_fits d a fits c.3 again has, ap bars (sym t.0) ∙ free.0)
 
 pub acts_spelled : ActsAreSpelled
 unfolding act_line act_words
@@ -325,10 +354,19 @@ form_stands s a fits none = let is = free s (form_of a) none in record { fits = 
 pub stands_free : (s : State) (a : Act) → ActStands s a → bar s (form_of a) ≡ None
 stands_free s a st = bars_nothing s (form_of a) st.has st.room
 
+-- a group has the room of any act
+group_room : (s : State) (items : Items) → has_room s (group_form items) ≡ ltb s.acts (limits_at s).acts
+unfolding has_room
+group_room s (One x) = refl
+group_room s (Two x y) = refl
+group_room s (Three x y z) = refl
+group_room s (Four x y z w) = refl
+
 -- the room for one more act, and for a settle
 pub act_room : (s : State) (a : Act) → has_room s (form_of a) ≡ true → s.acts < (limits_at s).acts
 unfolding has_room
 act_room s act.Settle h = ltb-true s.acts (limits_at s).acts (and_parts (ltb s.acts (limits_at s).acts) (ltb s.settles (limits_at s).settles) h).0
+act_room s (act.Writes c items values) h = ltb-true s.acts (limits_at s).acts (sym (group_room s items) ∙ h)
 act_room s (act.Bulk i g j None) h = ltb-true s.acts (limits_at s).acts h
 act_room s (act.Bulk i g j (Some n)) h = ltb-true s.acts (limits_at s).acts h
 act_room s _ h = ltb-true s.acts (limits_at s).acts h
@@ -345,6 +383,7 @@ pub has_both : (s : State) (a : Act) → s.acts < (limits_at s).acts → with_se
 unfolding has_room
 has_both s act.Settle acts settles =
     and_from (ltb s.acts (limits_at s).acts) (ltb s.settles (limits_at s).settles) (lt-ltb s.acts (limits_at s).acts acts) (lt-ltb s.settles (limits_at s).settles (omega (arith, settles)))
+has_both s (act.Writes c items values) acts settles = group_room s items ∙ lt-ltb s.acts (limits_at s).acts acts
 has_both s (act.Bulk i g j None) acts settles = lt-ltb s.acts (limits_at s).acts acts
 has_both s (act.Bulk i g j (Some n)) acts settles = lt-ltb s.acts (limits_at s).acts acts
 has_both s _ acts settles = lt-ltb s.acts (limits_at s).acts acts

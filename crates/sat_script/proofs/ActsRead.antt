@@ -5,6 +5,9 @@ use Rattle.std.specs.List.{list_all}
 use Rattle.std.proofs.lemmas.Bool.{and_from, and_parts, lt-ltb}
 use Rattle.std.proofs.lemmas.Option.{slice_get_within, slice_get-get_or}
 use Rattle.sat_label.specs.Text.{is_name, is_value, is_between, node_text}
+use Rattle.sat_label.specs.Grouped.{list_of}
+use Rattle.sat_label.specs.declared.items.Items.{Items}
+use Rattle.sat_label.specs.declared.items.Items.TheVariants.{One, Two, Three, Four}
 use Rattle.sat_label.specs.declared.node.NodeId.{NodeId}
 use Rattle.sat_label.specs.declared.node.NodeId.TheVariants.{Site, Serializer}
 use Rattle.sat_tree.specs.Shape.{TreeShape}
@@ -14,7 +17,7 @@ use Rattle.sat_act.specs.Deployed.{Deployed}
 use Rattle.sat_act.specs.Limits.{IsDeployment}
 use Rattle.sat_act.specs.Parts.{tree_of}
 use Rattle.sat_act.proofs.Plans.{tree_in_plans}
-use Rattle.sat_act.specs.Ranges.{IsActOf}
+use Rattle.sat_act.specs.Ranges.{IsActOf, IsGroupOf}
 use Rattle.sat_act.specs.declared.act.Act.{Act}
 use Rattle.sat_act.specs.declared.act.Act.TheVariants as act
 use Rattle.sat_act.specs.declared.deployment.Item.{Item}
@@ -24,7 +27,7 @@ use Rattle.sat_script.specs.Grammar.{is_end}
 use Rattle.sat_script.specs.Laws.{ActsAreRead}
 use Rattle.sat_script.specs.Spelled.{HaveNames}
 use Rattle.sat_script.specs.State.{State}
-use Rattle.sat_script.specs.Table.{Said, place, num, bytes, at, word_of, kinds_of, act_forms, act_of, form_of, args_of, shape, known, says, text, shapes, all_known, onto, in_tree, all_say, no_tree, has_node, edge_cause, unfit, found_form, form_line, act_line, texts, act_words, client_name, item_name}
+use Rattle.sat_script.specs.Table.{Said, place, num, bytes, at, word_of, kinds_of, act_forms, act_of, form_of, args_of, shape, known, says, text, shapes, all_known, onto, in_tree, all_say, no_tree, has_node, edge_cause, unfit, found_form, form_line, act_line, texts, act_words, client_name, item_name, group_form, pairs}
 use Rattle.sat_script.specs.Words.{is_token, is_node, is_serializer, node_in, serializer_in}
 use Rattle.sat_script.specs.declared.fault.Cause.{Cause}
 use Rattle.sat_script.specs.declared.fault.Cause.TheVariants.{BadAct, OutOfRange, NoEdge}
@@ -33,6 +36,7 @@ use Rattle.sat_script.specs.declared.form.Kind.{Kind}
 use Rattle.sat_script.specs.declared.form.Kind.TheVariants as kind
 use Rattle.sat_script.specs.declared.limits.TheConstants.{MOST_SITES}
 use Rattle.sat_script.proofs.Acts.{Fits, AllFit, IsSmall, no_small, shape_small, stands_free}
+use Rattle.sat_script.proofs.Groups.{act_allowed, order_fit, known_parts, value_parts}
 use Rattle.sat_script.proofs.Digits.{decimal_number, below_reads, to_reads, up_to_reads}
 use Rattle.sat_script.proofs.Lists.{all_at}
 use Rattle.sat_script.proofs.Lookup.{client_at, client_reads, item_at, item_reads, no_client, no_item}
@@ -114,16 +118,59 @@ are_words d t (k ∷ ks) (a ∷ xs) is names small h = more_words d t t k a ks x
 
 -- ---- the table
 
+-- a group's words say it
+group_again : (d : Deployed) (c : ℕ) (items : Items) (values : List (List ℕ)) → IsGroupOf d items values → act_of (group_form items) (place c ∷ pairs (list_of items) values) ≡ Some (act.Writes c items values)
+group_again d c (Two x y) (v ∷ w ∷ []) h = ap (λ b. cond b (Some (act.Writes c (Two x y) (v ∷ w ∷ []))) None) h.spelled
+group_again d c (Three x y z) (v ∷ w ∷ p ∷ []) h = ap (λ b. cond b (Some (act.Writes c (Three x y z) (v ∷ w ∷ p ∷ []))) None) h.spelled
+group_again d c (Four x y z t) (v ∷ w ∷ p ∷ q ∷ []) h = ap (λ b. cond b (Some (act.Writes c (Four x y z t) (v ∷ w ∷ p ∷ q ∷ []))) None) h.spelled
+group_again d c _ _ h = absurd (let some = h.some in let same = h.values_all in omega arith)
+
+group_found : (d : Deployed) (c : ℕ) (items : Items) (values : List (List ℕ)) → IsGroupOf d items values
+    → found_form (word_of (group_form items)) (length (texts d (kinds_of (group_form items)) (place c ∷ pairs (list_of items) values))) act_forms ≡ Some (group_form items)
+group_found d c (Two x y) (v ∷ w ∷ []) h = refl
+group_found d c (Three x y z) (v ∷ w ∷ p ∷ []) h = refl
+group_found d c (Four x y z t) (v ∷ w ∷ p ∷ q ∷ []) h = refl
+group_found d c _ _ h = absurd (let some = h.some in let same = h.values_all in omega arith)
+
+group_args : (d : Deployed) (c : ℕ) (items : Items) (values : List (List ℕ)) → c < length d.clients → IsGroupOf d items values → AllFit d no_tree (kinds_of (group_form items)) (place c ∷ pairs (list_of items) values)
+group_args d c (Two x y) (v ∷ w ∷ []) has h =
+    let a = known_parts (length d.items) x (y ∷ []) h.known in
+    let b = known_parts (length d.items) y [] a.1 in
+    let e = value_parts v (w ∷ []) h.spelled in
+    let f = value_parts w [] e.1 in
+    (has, (a.0, (e.0, (b.0, (f.0, tt)))))
+group_args d c (Three x y z) (v ∷ w ∷ p ∷ []) has h =
+    let a = known_parts (length d.items) x (y ∷ z ∷ []) h.known in
+    let b = known_parts (length d.items) y (z ∷ []) a.1 in
+    let g = known_parts (length d.items) z [] b.1 in
+    let e = value_parts v (w ∷ p ∷ []) h.spelled in
+    let f = value_parts w (p ∷ []) e.1 in
+    let i = value_parts p [] f.1 in
+    (has, (a.0, (e.0, (b.0, (f.0, (g.0, (i.0, tt)))))))
+group_args d c (Four x y z t) (v ∷ w ∷ p ∷ q ∷ []) has h =
+    let a = known_parts (length d.items) x (y ∷ z ∷ t ∷ []) h.known in
+    let b = known_parts (length d.items) y (z ∷ t ∷ []) a.1 in
+    let g = known_parts (length d.items) z (t ∷ []) b.1 in
+    let j = known_parts (length d.items) t [] g.1 in
+    let e = value_parts v (w ∷ p ∷ q ∷ []) h.spelled in
+    let f = value_parts w (p ∷ q ∷ []) e.1 in
+    let i = value_parts p (q ∷ []) f.1 in
+    let k = value_parts q [] i.1 in
+    (has, (a.0, (e.0, (b.0, (f.0, (g.0, (i.0, (j.0, (k.0, tt)))))))))
+group_args d c _ _ has h = absurd (let some = h.some in let same = h.values_all in omega arith)
+
 act_again : (d : Deployed) (a : Act) → IsActOf d a → act_of (form_of a) (args_of a) ≡ Some a
 act_again d (act.Write c x v) h = ap (λ b. cond b (Some (act.Write c x v)) None) h.2
+act_again d (act.Writes c items values) h = group_again d c items values h.1
 act_again d (act.Bulk i g j None) h = refl
 act_again d (act.Bulk i g j (Some n)) h = refl
 act_again d _ h = refl
 
-form_again : (d : Deployed) (a : Act) → found_form (word_of (form_of a)) (length (texts d (kinds_of (form_of a)) (args_of a))) act_forms ≡ Some (form_of a)
-form_again d (act.Bulk i g j None) = refl
-form_again d (act.Bulk i g j (Some n)) = refl
-form_again d _ = refl
+form_again : (d : Deployed) (a : Act) → IsActOf d a → found_form (word_of (form_of a)) (length (texts d (kinds_of (form_of a)) (args_of a))) act_forms ≡ Some (form_of a)
+form_again d (act.Writes c items values) h = group_found d c items values h.1
+form_again d (act.Bulk i g j None) h = refl
+form_again d (act.Bulk i g j (Some n)) h = refl
+form_again d _ h = refl
 
 apart : (i j : ℕ) (c : Cause) → eqb i j ≡ false → cond (eqb i j) (Some c) None ≡ None
 apart i j c e = rw e refl
@@ -141,6 +188,7 @@ pub args_fit : (d : Deployed) (a : Act) → IsDeployment d → IsActOf d a → A
 args_fit d (act.Tick i g t) is h = ((h.0, (h.1, (h.2, tt))), refl)
 args_fit d act.Clock is h = (tt, refl)
 args_fit d (act.Write c x v) is h = ((h.0, (h.1, (h.2, tt))), refl)
+args_fit d (act.Writes c items values) is h = (group_args d c items values h.0 h.1, order_fit d c items values h.1.order)
 args_fit d (act.Read c x) is h = ((h.0, (h.1, tt)), refl)
 args_fit d (act.Move c j) is h = ((h.0, (h.1, tt)), refl)
 args_fit d (act.Attach c j) is h = ((h.0, (h.1, tt)), refl)
@@ -160,8 +208,8 @@ unfolding act_line act_words form_line
 acts_read bars d a is names h free =
     let f = args_fit d a is h in
     let w = are_words d no_tree (kinds_of (form_of a)) (args_of a) is names (no_small d no_tree is (omega arith) (omega arith)) f.0 in
-    let line : form_line bars d (form_of a) (texts d (kinds_of (form_of a)) (args_of a)) ≡ Ok a = rw (w.shaped, free, w.named, w.said, act_again d a h, f.1) refl in
-    ap (λ (o : Option Form). given BadAct o (λ f. form_line bars d f (texts d (kinds_of (form_of a)) (args_of a)))) (form_again d a) ∙ line
+    let line : form_line bars d (form_of a) (texts d (kinds_of (form_of a)) (args_of a)) ≡ Ok a = rw (act_allowed d a h, w.shaped, free, w.named, w.said, act_again d a h, f.1) refl in
+    ap (λ (o : Option Form). given BadAct o (λ f. form_line bars d f (texts d (kinds_of (form_of a)) (args_of a)))) (form_again d a h) ∙ line
 
 -- what stands may be said
 pub act_reads : (s : State) (a : Act) → IsDeployment s.header → HaveNames s.header → ActStands s a → act_line (bar s) s.header (act_words s.header a) ≡ Ok a
@@ -170,6 +218,10 @@ act_reads s a is names st = acts_read (bar s) s.header a is names st.fits (stand
 -- no act is the line `end`
 pub not_end : (d : Deployed) (a : Act) → is_end (act_words d a) ≡ false
 unfolding act_words
+not_end d (act.Writes c (One x) values) = refl
+not_end d (act.Writes c (Two x y) values) = refl
+not_end d (act.Writes c (Three x y z) values) = refl
+not_end d (act.Writes c (Four x y z w) values) = refl
 not_end d (act.Bulk i g j None) = refl
 not_end d (act.Bulk i g j (Some n)) = refl
 not_end d _ = refl

@@ -1,26 +1,23 @@
 -- The blanks of a line, by one walk over its bytes, and the words between them.
-use Rattle.std.proofs.Common.{◌≡◌, ℕ, suc, ◌+◌, ◌-◌, ◌<◌, ◌≤◌, Bool, true, false, ◌&&◌, cond, eqb, List, [], ◌∷◌, ◌++◌, length, take, drop, get_or, set, sym, ap, ◌∙◌, refl, arith, length-take, length-drop}
+use Rattle.std.proofs.Common.{◌≡◌, ℕ, suc, ◌+◌, ◌-◌, ◌<◌, ◌≤◌, Bool, true, false, cond, eqb, List, [], ◌∷◌, ◌++◌, length, take, drop, get_or, set, sym, ap, ◌∙◌, refl, arith, length-take, length-drop}
 use mir.Val.{bool_byte}
 use Rattle.std.proofs.lemmas.Bool.{eqb-true}
 use Rattle.std.proofs.lemmas.List.{append-nil, take_more, take-set, take_more_set}
 use Rattle.std.proofs.lemmas.List.Elements.{All-nil, All-cons}
-use Rattle.std.proofs.lemmas.List.Folds.{list_all-append}
-use Rattle.sat_label.specs.Text.{is_between}
-use Rattle.sat_script.specs.Words.{HasNo, IsCut, is_text, words_of, blanks_from}
+use Rattle.sat_script.specs.Words.{HasNo, IsCut, words_of, blanks_from}
 use Rattle.sat_script.proofs.Cuts.{rest_is, split_cut, split_uncut}
 use Rattle.sat_script.proofs.FirstWords.{drop_twice}
 
 -- ---- the walk
 
 -- so many bytes were seen, and so many of them were blanks
-pub record AreSeen (line places : List ℕ) (count place : ℕ) (so_far : Bool) : Type 0 where
+pub record AreSeen (line places : List ℕ) (count place : ℕ) : Type 0 where
   pub within : count ≤ place
   pub found : take count places ≡ blanks_from 0 (take place line)
-  pub text : so_far ≡ is_text (take place line)
 
-pub seen_start : (line places : List ℕ) → AreSeen line places 0 0 true
+pub seen_start : (line places : List ℕ) → AreSeen line places 0 0
 unfolding blanks_from
-seen_start line places = record { within = omega arith; found = refl; text = refl }
+seen_start line places = record { within = omega arith; found = refl }
 
 abbrev pub here : ℕ → ℕ → List ℕ
 here byte place = cond (eqb byte 32) (place ∷ []) []
@@ -50,9 +47,9 @@ bit_is : (b : Bool) → bool_byte b ≡ cond b 1 0
 bit_is true = refl
 bit_is false = refl
 
-pub seen_on : (line places now : List ℕ) (count more place byte : ℕ) (text seen : Bool) → AreSeen line places count place text → place < length line → place < length places → byte ≡ get_or line place 0
-    → now ≡ set places count place → more ≡ count + bool_byte (eqb byte 32) → seen ≡ (is_between 32 126 byte && text) → AreSeen line now more (place + 1) seen
-seen_on line places now count more place byte text seen is inside room at kept bit still =
+pub seen_on : (line places now : List ℕ) (count more place byte : ℕ) → AreSeen line places count place → place < length line → place < length places → byte ≡ get_or line place 0
+    → now ≡ set places count place → more ≡ count + bool_byte (eqb byte 32) → AreSeen line now more (place + 1)
+seen_on line places now count more place byte is inside room at kept bit =
     let counted : more ≡ count + cond (eqb byte 32) 1 0 = bit ∙ ap (λ (n : ℕ). count + n) (bit_is (eqb byte 32)) in
     let size = length-take place line in
     let within = is.within in
@@ -61,18 +58,11 @@ seen_on line places now count more place byte text seen is inside room at kept b
       within = go (eqb byte 32) counted;
       found = ap (λ (ns : List ℕ). take more ns) kept ∙ ap (λ (n : ℕ). take n (set places count place)) counted ∙ stored places count place byte (omega (arith, within)) ∙ ap (λ (ns : List ℕ). ns ++ here byte place) is.found
           ∙ sym (ap (blanks_from 0) grown ∙ blanks_more (take place line) 0 place byte (omega (arith, size)));
-      text = still ∙ ap (λ (b : Bool). is_between 32 126 byte && b) is.text ∙ turned (is_between 32 126 byte) (is_text (take place line)) ∙ sym (ap is_text grown ∙ list_all-append (is_between 32 126) (take place line) (byte ∷ []));
     }
   where
     go : (b : Bool) → more ≡ count + cond b 1 0 → more ≤ place + 1
     go true e = let within = is.within in omega (arith, within, e)
     go false e = let within = is.within in omega (arith, within, e)
-
-    turned : (a b : Bool) → a && b ≡ (b && (a && true))
-    turned true true = refl
-    turned true false = refl
-    turned false true = refl
-    turned false false = refl
 
 -- ---- the words between the blanks
 
@@ -150,7 +140,7 @@ next_blank line start a later h =
 pub last_word : (line : List ℕ) (start : ℕ) → blanks_from start (drop start line) ≡ [] → words_of (drop start line) ≡ drop start line ∷ []
 last_word line start h = split_uncut 32 (drop start line) (no_blank (drop start line) start h)
 
--- the places of one, two and three blanks
+-- the places of one, two, three and four blanks
 one_next : (line places : List ℕ) → 1 ≤ length places → take 1 places ≡ blanks_from 0 line → IsNext line 0 (get_or places 0 0) []
 one_next line [] size h = absurd (omega (arith, size))
 one_next line (a ∷ places) size h = next_blank line 0 a [] (sym h)
@@ -170,6 +160,19 @@ three_next line (a ∷ b ∷ c ∷ places) size h =
     let second = next_blank line (a + 1) b (c ∷ []) first.rest in
     (first, second, next_blank line (b + 1) c [] second.rest)
 
+four_next : (line places : List ℕ) → 4 ≤ length places → take 4 places ≡ blanks_from 0 line
+    → IsNext line 0 (get_or places 0 0) (get_or places 1 0 ∷ get_or places 2 0 ∷ get_or places 3 0 ∷ []) × IsNext line (get_or places 0 0 + 1) (get_or places 1 0) (get_or places 2 0 ∷ get_or places 3 0 ∷ [])
+    × IsNext line (get_or places 1 0 + 1) (get_or places 2 0) (get_or places 3 0 ∷ []) × IsNext line (get_or places 2 0 + 1) (get_or places 3 0) []
+four_next line [] size h = absurd (omega (arith, size))
+four_next line (a ∷ []) size h = absurd (omega (arith, size))
+four_next line (a ∷ b ∷ []) size h = absurd (omega (arith, size))
+four_next line (a ∷ b ∷ c ∷ []) size h = absurd (omega (arith, size))
+four_next line (a ∷ b ∷ c ∷ d ∷ places) size h =
+    let first = next_blank line 0 a (b ∷ c ∷ d ∷ []) (sym h) in
+    let second = next_blank line (a + 1) b (c ∷ d ∷ []) first.rest in
+    let third = next_blank line (b + 1) c (d ∷ []) second.rest in
+    (first, second, third, next_blank line (c + 1) d [] third.rest)
+
 pub one_at : (line places : List ℕ) (a : ℕ) → 1 ≤ length places → take 1 places ≡ blanks_from 0 line → a ≡ get_or places 0 0 → IsNext line 0 a []
 one_at line places a size h is = rw is (one_next line places size h)
 
@@ -179,6 +182,10 @@ two_at line places a b size h is more = rw (is, more) (two_next line places size
 pub three_at : (line places : List ℕ) (a b c : ℕ) → 3 ≤ length places → take 3 places ≡ blanks_from 0 line → a ≡ get_or places 0 0 → b ≡ get_or places 1 0 → c ≡ get_or places 2 0
     → IsNext line 0 a (b ∷ c ∷ []) × IsNext line (a + 1) b (c ∷ []) × IsNext line (b + 1) c []
 three_at line places a b c size h is more most = rw (is, more, most) (three_next line places size h)
+
+pub four_at : (line places : List ℕ) (a b c d : ℕ) → 4 ≤ length places → take 4 places ≡ blanks_from 0 line → a ≡ get_or places 0 0 → b ≡ get_or places 1 0 → c ≡ get_or places 2 0 → d ≡ get_or places 3 0
+    → IsNext line 0 a (b ∷ c ∷ d ∷ []) × IsNext line (a + 1) b (c ∷ d ∷ []) × IsNext line (b + 1) c (d ∷ []) × IsNext line (c + 1) d []
+four_at line places a b c d size h is more most all = rw (is, more, most, all) (four_next line places size h)
 
 -- the words that are cut there
 end_word : (line : List ℕ) (start a : ℕ) → IsNext line start a [] → words_of (drop (a + 1) line) ≡ take (length line - (a + 1)) (drop (a + 1) line) ∷ []
@@ -198,3 +205,13 @@ words_four line w x y z a b c is on more first second third fourth =
     rw (first, second, third, fourth)
     (is.words ∙ ap (λ (ws : List (List ℕ)). take (a - 0) line ∷ ws)
     (on.words ∙ ap (λ (ws : List (List ℕ)). take (b - (a + 1)) (drop (a + 1) line) ∷ ws) (more.words ∙ ap (λ (ws : List (List ℕ)). take (c - (b + 1)) (drop (b + 1) line) ∷ ws) (end_word line (b + 1) c more))))
+
+pub words_five : (line v w x y z : List ℕ) (a b c d : ℕ) → IsNext line 0 a (b ∷ c ∷ d ∷ []) → IsNext line (a + 1) b (c ∷ d ∷ []) → IsNext line (b + 1) c (d ∷ []) → IsNext line (c + 1) d []
+    → v ≡ take (a - 0) (drop 0 line) → w ≡ take (b - (a + 1)) (drop (a + 1) line) → x ≡ take (c - (b + 1)) (drop (b + 1) line) → y ≡ take (d - (c + 1)) (drop (c + 1) line) → z ≡ take (length line - (d + 1)) (drop (d + 1) line)
+    → words_of line ≡ v ∷ w ∷ x ∷ y ∷ z ∷ []
+words_five line v w x y z a b c d is on more most first second third fourth fifth =
+    rw (first, second, third, fourth, fifth)
+    (is.words ∙ ap (λ (ws : List (List ℕ)). take (a - 0) line ∷ ws)
+    (on.words ∙ ap (λ (ws : List (List ℕ)). take (b - (a + 1)) (drop (a + 1) line) ∷ ws)
+    (more.words ∙ ap (λ (ws : List (List ℕ)). take (c - (b + 1)) (drop (b + 1) line) ∷ ws)
+    (most.words ∙ ap (λ (ws : List (List ℕ)). take (d - (c + 1)) (drop (c + 1) line) ∷ ws) (end_word line (c + 1) d most)))))

@@ -65,8 +65,8 @@ found_word line words now word start place is less blank grown cut =
     }
 
 -- the end of the line
-pub found_end : (line : List ℕ) (words now : List (Bor (List ℕ))) (word : Bor (List ℕ)) (start place : ℕ) → AreFound line words start place → length line ≤ place → start ≤ length line → length words < 6
-    → now ≡ words ++ word ∷ [] → word.now ≡ take (length line - start) (drop start line) → (is_text line ≡ true) × (texts now ≡ take 6 (words_of line))
+pub found_end : (line : List ℕ) (words now : List (Bor (List ℕ))) (word : Bor (List ℕ)) (start place : ℕ) → AreFound line words start place → length line ≤ place → start ≤ length line → length words < 11
+    → now ≡ words ++ word ∷ [] → word.now ≡ take (length line - start) (drop start line) → (is_text line ≡ true) × (texts now ≡ take 11 (words_of line))
 found_end line words now word start place is all inside few grown cut =
     let size = length-drop start line in
     let rest : word.now ≡ drop start line = cut ∙ take_all (length line - start) (drop start line) (omega (arith, size)) in
@@ -76,13 +76,13 @@ found_end line words now word start place is all inside few grown cut =
     )
 
 -- as many words as are looked for
-pub found_full : (line rest : List ℕ) (words : List (Bor (List ℕ))) (start : ℕ) → AreFound line words start start → rest ≡ take (length line - start) (drop start line) → start ≤ length line → length words ≡ 6
-    → (is_text line ≡ is_text rest) × (texts words ≡ take 6 (words_of line))
-found_full line rest words start is cut inside six =
+pub found_full : (line rest : List ℕ) (words : List (Bor (List ℕ))) (start : ℕ) → AreFound line words start start → rest ≡ take (length line - start) (drop start line) → start ≤ length line → length words ≡ 11
+    → (is_text line ≡ is_text rest) × (texts words ≡ take 11 (words_of line))
+found_full line rest words start is cut inside eleven =
     let size = length-drop start line in
     let same : rest ≡ drop start line = cut ∙ take_all (length line - start) (drop start line) (omega (arith, size)) in
-    (is.text ∙ ap is_text (sym same), words_full words line (drop start line) is.whole six)
+    (is.text ∙ ap is_text (sym same), words_full words line (drop start line) is.whole eleven)
 
-pub as_first : (b : Bool) (line : List ℕ) (ws : List (List ℕ)) → is_text line ≡ b → ws ≡ take 6 (words_of line) → AreFirst b line ws
+pub as_first : (b : Bool) (line : List ℕ) (ws : List (List ℕ)) → is_text line ≡ b → ws ≡ take 11 (words_of line) → AreFirst b line ws
 as_first true line ws h first = (h, first)
 as_first false line ws h first = h

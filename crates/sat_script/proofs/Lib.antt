@@ -10,6 +10,7 @@ pub mod Steps
 pub mod Trees
 pub mod Forms
 pub mod Bars
+pub mod Groups
 pub mod ActsRead
 pub mod Written
 pub mod Fits
@@ -22,4 +23,5 @@ pub mod NoTree
 pub mod Once
 pub mod FirstWords
 pub mod Blanks
+pub mod AreText
 pub mod Quick

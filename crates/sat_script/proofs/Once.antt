@@ -11,6 +11,7 @@ use Rattle.sat_act.specs.Deployed.{Deployed}
 use Rattle.sat_act.specs.Parts.{tree_of}
 use Rattle.sat_act.specs.declared.act.Act.{Act}
 use Rattle.sat_script.specs.Causes.{bar, given, client_of, item_of}
+use Rattle.sat_script.specs.Dialect.{allows}
 use Rattle.sat_script.specs.Grammar.{is_end, of_act, body_line}
 use Rattle.sat_script.specs.Said.{begins, IsReadWord, AreRead}
 use Rattle.sat_script.specs.Table.{Said, place, num, bytes, at, shape, known, says, shapes, all_known, all_say, in_tree, onto, no_tree, kinds_of, act_forms, found_form, said_act, form_line, act_line}
@@ -117,15 +118,15 @@ goes_end d all words xs t g = record {
 
 -- ---- a line
 
-pub read_line : (bars : Form → Option Cause) (d : Deployed) (f : Form) (words : List (List ℕ)) (xs : List Said) → bars f ≡ None → AreRead d (kinds_of f) words xs → form_line bars d f words ≡ said_act d f (Ok xs)
+pub read_line : (bars : Form → Option Cause) (d : Deployed) (f : Form) (words : List (List ℕ)) (xs : List Said) → allows d.format f ≡ true → bars f ≡ None → AreRead d (kinds_of f) words xs → form_line bars d f words ≡ said_act d f (Ok xs)
 unfolding form_line
-read_line bars d f words xs free r = rw (r.shaped, free, r.named, r.said) refl
+read_line bars d f words xs allowed free r = rw (allowed, r.shaped, free, r.named, r.said) refl
 
 -- a line whose word has a form, which may stand, and whose words are read
-pub good_line : (s : State) (f : Form) (word : List ℕ) (words : List (List ℕ)) (xs : List Said) (a : Act) → is_end (word ∷ words) ≡ false → found_form word (length words) act_forms ≡ Some f → bar s f ≡ None
+pub good_line : (s : State) (f : Form) (word : List ℕ) (words : List (List ℕ)) (xs : List Said) (a : Act) → is_end (word ∷ words) ≡ false → found_form word (length words) act_forms ≡ Some f → allows s.header.format f ≡ true → bar s f ≡ None
     → AreRead s.header (kinds_of f) words xs → said_act s.header f (Ok xs) ≡ Ok a → body_line s (word ∷ words) ≡ Ok (parsed.Act a)
 unfolding body_line act_line
-good_line s f word words xs a going found free read said = rw (going, found) (ap of_act (read_line (bar s) s.header f words xs free read ∙ said))
+good_line s f word words xs a going found allowed free read said = rw (going, found) (ap of_act (read_line (bar s) s.header f words xs allowed free read ∙ said))
 
 -- ---- a line whose act is made as its words are read
 
@@ -167,3 +168,13 @@ three_read d t u v k l m w x y a b c first second third =
     goes_end d ks ws (a ∷ b ∷ c ∷ []) v
     (goes_more d ks ws (a ∷ b ∷ []) u v m [] y [] c
     (goes_more d ks ws (a ∷ []) t u l (m ∷ []) x (y ∷ []) b (goes_more d ks ws [] no_tree t k (l ∷ m ∷ []) w (x ∷ y ∷ []) a (goes_start d ks ws) first) second) third)
+
+pub four_read : (d : Deployed) (t u v o : TreeShape) (k l m n : Kind) (w x y z : List ℕ) (a b c e : Said) → IsReadWord d no_tree k w a t → IsReadWord d t l x b u → IsReadWord d u m y c v → IsReadWord d v n z e o
+    → AreRead d (k ∷ l ∷ m ∷ n ∷ []) (w ∷ x ∷ y ∷ z ∷ []) (a ∷ b ∷ c ∷ e ∷ [])
+four_read d t u v o k l m n w x y z a b c e first second third fourth =
+    let ks = k ∷ l ∷ m ∷ n ∷ [] in
+    let ws = w ∷ x ∷ y ∷ z ∷ [] in
+    goes_end d ks ws (a ∷ b ∷ c ∷ e ∷ []) o
+    (goes_more d ks ws (a ∷ b ∷ c ∷ []) v o n [] z [] e
+    (goes_more d ks ws (a ∷ b ∷ []) u v m (n ∷ []) y (z ∷ []) c
+    (goes_more d ks ws (a ∷ []) t u l (m ∷ n ∷ []) x (y ∷ z ∷ []) b (goes_more d ks ws [] no_tree t k (l ∷ m ∷ n ∷ []) w (x ∷ y ∷ z ∷ []) a (goes_start d ks ws) first) second) third) fourth)

@@ -1,10 +1,12 @@
 -- Acts that are made as their words are read.
 use Rattle.std.proofs.Common.{◌≡◌, ℕ, ◌^◌, ◌-◌, ◌<◌, ◌≤◌, Bool, true, false, cond, eqb, ltb, List, [], ◌∷◌, length, Option, Some, None, Ok, sym, ap, ◌∙◌, refl, arith}
+use lib.Pointwise.{pointwise, bytes_decides}
 use Rattle.std.specs.Option.{option_map}
-use Rattle.std.specs.Prelude.{IfSome}
-use Rattle.std.proofs.lemmas.Bool.{false_from_ne_true, eqb-true, lt-ltb}
+use Rattle.std.specs.Prelude.{IfSome, not}
+use Rattle.std.specs.List.{list_all}
+use Rattle.std.proofs.lemmas.Bool.{and_parts, false_from_ne_true, eqb-true, lt-ltb}
 use Rattle.std.proofs.lemmas.Bool.Decides.{nat_tests}
-use Rattle.sat_label.specs.Text.{is_value}
+use Rattle.sat_label.specs.Text.{is_value, is_between}
 use Rattle.sat_label.specs.declared.node.NodeId.{NodeId}
 use Rattle.sat_label.specs.declared.node.NodeId.TheVariants.{Site, Serializer}
 use Rattle.sat_tree.specs.Shape.{TreeShape}
@@ -27,7 +29,11 @@ use Rattle.sat_script.specs.declared.form.Kind.{Kind}
 use Rattle.sat_script.specs.declared.form.Kind.TheVariants as kind
 use Rattle.sat_script.specs.declared.limits.TheConstants.{LONGEST_LINE}
 use Rattle.sat_script.specs.declared.line.Parsed.TheVariants as parsed
-use Rattle.sat_script.proofs.Once.{site_read, gear_read, word_read, one_read, two_read, three_read, good_line}
+use Rattle.sat_script.proofs.ActsRead.{token}
+use Rattle.sat_script.proofs.AreText.{said_text}
+use Rattle.sat_script.proofs.Cuts.{split_uncut, seen_none}
+use Rattle.sat_script.proofs.Groups.{counted_allowed}
+use Rattle.sat_script.proofs.Once.{site_read, gear_read, word_read, one_read, two_read, three_read, four_read, good_line}
 
 -- ---- a word
 
@@ -88,6 +94,16 @@ three_say d t u v word w x z f k l m a b c y found counted kinds args says fits 
   fits = fits;
 }
 
+pub four_say : (d : Deployed) (t u v o : TreeShape) (word w x z q : List ℕ) (f : Form) (k l m n : Kind) (a b c e : Said) (y : Act) → found_form word 4 act_forms ≡ Some f → is_counted f ≡ true → kinds_of f ≡ k ∷ l ∷ m ∷ n ∷ [] → args_of y ≡ a ∷ b ∷ c ∷ e ∷ []
+    → act_of f (args_of y) ≡ Some y → unfit d y ≡ None → IsReadWord d no_tree k w a t → IsReadWord d t l x b u → IsReadWord d u m z c v → IsReadWord d v n q e o → SaysAct d word (w ∷ x ∷ z ∷ q ∷ []) y
+four_say d t u v o word w x z q f k l m n a b c e y found counted kinds args says fits first second third fourth = record {
+  form = f;
+  found = found;
+  counted = counted;
+  reads = record { read = rw (kinds, args) (four_read d t u v o k l m n w x z q a b c e first second third fourth); act = says };
+  fits = fits;
+}
+
 -- two sites that are apart
 pub apart : (i j : ℕ) → (i ≡ j → ⊥) → cond (eqb i j) (Some OutOfRange) None ≡ None
 apart i j other = ap (λ (b : Bool). cond b (Some OutOfRange) None) (false_from_ne_true (eqb i j) (λ t. other (eqb-true i j t)))
@@ -108,10 +124,31 @@ site_say d word w f site (Some a) found r h = one_say d no_tree word w f kind.Si
 
 -- ---- a line
 
-pub line_said : (s : State) (line word w : List ℕ) (ws : List (List ℕ)) (o : Option Act) → TakesActs s → length line ≤ 64 → is_text line ≡ true → words_of line ≡ word ∷ w ∷ ws → IfSome o (λ a. SaysAct s.header word (w ∷ ws) a)
+pub line_said : (s : State) (line word w : List ℕ) (ws : List (List ℕ)) (o : Option Act) → TakesActs s → length line ≤ LONGEST_LINE → words_of line ≡ word ∷ w ∷ ws → IfSome o (λ a. SaysAct s.header word (w ∷ ws) a)
     → IfSome o (λ a. line_at s line ≡ Ok (parsed.Act a))
 unfolding line_at words_line
-line_said s line word w ws None takes short text words h = tt
-line_said s line word w ws (Some a) takes short text words h =
+line_said s line word w ws None takes short words h = tt
+line_said s line word w ws (Some a) takes short words h =
+    let text : is_text line ≡ true = said_text line word (w ∷ ws) (length (w ∷ ws)) h.form words h.found h.reads.read.shaped in
     let fits : ltb LONGEST_LINE (length line) ≡ false = grind (arith, nat_tests) in
-    rw (takes.body, fits, text, words) (good_line s h.form word (w ∷ ws) (args_of a) a refl h.found (takes.free h.form h.counted) h.reads.read (rw (h.reads.act, h.fits) refl))
+    rw (takes.body, fits, text, words) (good_line s h.form word (w ∷ ws) (args_of a) a refl h.found (counted_allowed s.header.format h.form h.counted) (takes.free h.form h.counted) h.reads.read (rw (h.reads.act, h.fits) refl))
+
+-- ---- a line whose last word may be long
+
+-- a word that is another
+pub same_word : (w x : List ℕ) (other : Bool) → other ≡ not (pointwise eqb w x) → other ≡ false → w ≡ x
+same_word w x other is h = (bytes_decides w x).0 (turned (pointwise eqb w x) (sym is ∙ h))
+  where
+    turned : (b : Bool) → not b ≡ false → b ≡ true
+    turned true h = refl
+    turned false h = absurd (cc)
+
+-- a value has no blank
+pub value_whole : (value : List ℕ) → is_value value ≡ true → words_of value ≡ value ∷ []
+value_whole value h = split_uncut 32 value (seen_none value (and_parts (ltb 0 (length value)) (list_all (is_between 33 126) value) (token value h)).1)
+
+pub long_said : (s : State) (line word one two last : List ℕ) (o : Option Act) → TakesActs s → length line ≤ LONGEST_LINE → words_of line ≡ word ∷ one ∷ two ∷ words_of last
+    → IfSome o (λ a. SaysAct s.header word (one ∷ two ∷ last ∷ []) a × (words_of last ≡ last ∷ [])) → IfSome o (λ a. line_at s line ≡ Ok (parsed.Act a))
+long_said s line word one two last None takes short words h = tt
+long_said s line word one two last (Some a) takes short words h =
+    line_said s line word one (two ∷ last ∷ []) (Some a) takes short (words ∙ ap (λ (ws : List (List ℕ)). word ∷ one ∷ two ∷ ws) h.1) h.0

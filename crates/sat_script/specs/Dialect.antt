@@ -1,6 +1,5 @@
--- What a script may have: what it is read for, its dialect, and its format choose the limits, and the dialect alone the forms. A further
--- dialect is a row more.
-use Rattle.std.specs.Prelude.{ℕ, Bool, true, false}
+-- What a script may have: what it is read for, its dialect, and its format choose the limits and the forms. A further dialect is a row more.
+use Rattle.std.specs.Prelude.{ℕ, Bool, true, false, nat_le}
 use Rattle.sat_label.specs.Formats.{limits_of as format_limits}
 use Rattle.sat_script.specs.declared.dialect.Dialect.{Dialect}
 use Rattle.sat_script.specs.declared.dialect.Dialect.TheVariants as dialect
@@ -21,6 +20,9 @@ is_live form.Client = true
 is_live form.PlanStamp = true
 is_live form.PlanTree = true
 is_live form.Write = true
+is_live form.WritesTwo = true
+is_live form.WritesThree = true
+is_live form.WritesFour = true
 is_live form.Read = true
 is_live form.Move = true
 is_live form.Leave = true
@@ -34,6 +36,17 @@ is_live _ = false
 abbrev pub has_form : Dialect → Form → Bool
 has_form dialect.Run f = true
 has_form dialect.Live f = is_live f
+
+-- how many items an act of the form writes under one label, where that may be more than one
+abbrev pub written_by : Form → ℕ
+written_by form.WritesTwo = 2
+written_by form.WritesThree = 3
+written_by form.WritesFour = 4
+written_by _ = 1
+
+-- the forms of each format: none that writes more items under one label than the format allows
+unfoldable pub allows : ℕ → Form → Bool
+allows format f = nat_le (written_by f) (format_limits format).written
 
 -- the dialect of scripts for nodes on threads, or of the others
 abbrev pub dialect_of : Bool → Dialect

@@ -61,13 +61,16 @@ pub record Reads (d : Deployed) (f : Form) (words : List (List ℕ)) (a : Act) :
   pub read : AreRead d (kinds_of f) words (args_of a)
   pub act : act_of f (args_of a) ≡ Some a
 
--- a form that only the number of acts limits
+-- a form that every format has, and that only the number of acts limits
 abbrev pub is_counted : Form → Bool
 is_counted form.Item = false
 is_counted form.Client = false
 is_counted form.PlanStamp = false
 is_counted form.PlanTree = false
 is_counted form.Settle = false
+is_counted form.WritesTwo = false
+is_counted form.WritesThree = false
+is_counted form.WritesFour = false
 is_counted f = true
 
 -- a word and those behind it say this act, whose parts go together

@@ -3,8 +3,12 @@
 use Rattle.std.specs.Prelude.{ℕ, ◌^◌, ◌-◌, List, [], ◌∷◌, Bool, true, false, ◌&&◌, ◌==◌, nat_lt, length, Option, Some, None, Result, Ok, Err, is_some, codes, slice_get, if◌then◌else◌}
 use Rattle.std.specs.Option.{option_map}
 use Rattle.std.specs.Fmt.{decimal}
+use Rattle.std.specs.List.{list_all}
 use Rattle.std.specs.Str.{bytes_eq}
 use Rattle.sat_label.specs.Text.{is_name, is_value, node_text}
+use Rattle.sat_label.specs.Grouped.{are_items, list_of}
+use Rattle.sat_label.specs.declared.items.Items.{Items}
+use Rattle.sat_label.specs.declared.items.Items.TheVariants.{One, Two, Three, Four}
 use Rattle.sat_label.specs.declared.node.NodeId.{NodeId}
 use Rattle.sat_label.specs.declared.node.NodeId.TheVariants.{Site, Serializer}
 use Rattle.sat_tree.specs.Shape.{TreeShape}
@@ -14,9 +18,10 @@ use Rattle.sat_act.specs.Parts.{tree_of}
 use Rattle.sat_act.specs.declared.act.Act.{Act}
 use Rattle.sat_act.specs.declared.act.Act.TheVariants as act
 use Rattle.sat_script.specs.Causes.{needs, barred, given, client_of, item_of}
+use Rattle.sat_script.specs.Dialect.{allows}
 use Rattle.sat_script.specs.Words.{is_token, is_number, is_node, is_serializer, number_below, number_to, number_up_to, node_in, serializer_in}
 use Rattle.sat_script.specs.declared.fault.Cause.{Cause}
-use Rattle.sat_script.specs.declared.fault.Cause.TheVariants.{BadAct, UnknownName, OutOfRange, NoEdge}
+use Rattle.sat_script.specs.declared.fault.Cause.TheVariants.{BadAct, UnknownName, OutOfRange, NoEdge, BadGroup}
 use Rattle.sat_script.specs.declared.form.Form.{Form}
 use Rattle.sat_script.specs.declared.form.Kind.{Kind}
 use Rattle.sat_script.specs.declared.form.Kind.TheVariants as kind
@@ -36,6 +41,9 @@ abbrev pub word_of : Form → List ℕ
 word_of form.Tick = codes "tick"
 word_of form.Clock = codes "clock"
 word_of form.Write = codes "write"
+word_of form.WritesTwo = codes "writes"
+word_of form.WritesThree = codes "writes"
+word_of form.WritesFour = codes "writes"
 word_of form.Read = codes "read"
 word_of form.Move = codes "move"
 word_of form.Leave = codes "leave"
@@ -61,6 +69,9 @@ word_of _ = []
 abbrev pub kinds_of : Form → List Kind
 kinds_of form.Tick = kind.Site ∷ kind.Gear ∷ kind.Ts ∷ []
 kinds_of form.Write = kind.Client ∷ kind.Item ∷ kind.Value ∷ []
+kinds_of form.WritesTwo = kind.Client ∷ kind.Item ∷ kind.Value ∷ kind.Item ∷ kind.Value ∷ []
+kinds_of form.WritesThree = kind.Client ∷ kind.Item ∷ kind.Value ∷ kind.Item ∷ kind.Value ∷ kind.Item ∷ kind.Value ∷ []
+kinds_of form.WritesFour = kind.Client ∷ kind.Item ∷ kind.Value ∷ kind.Item ∷ kind.Value ∷ kind.Item ∷ kind.Value ∷ kind.Item ∷ kind.Value ∷ []
 kinds_of form.Read = kind.Client ∷ kind.Item ∷ []
 kinds_of form.Move = kind.Client ∷ kind.Site ∷ []
 kinds_of form.Leave = kind.Client ∷ []
@@ -83,7 +94,7 @@ kinds_of _ = []
 
 -- the forms of acts, in the order in which they are tried
 abbrev pub act_forms : List Form
-act_forms = form.Hop ∷ form.Bulk ∷ form.Turn ∷ form.Tick ∷ form.Write ∷ form.Read ∷ form.Emit ∷ form.Gather ∷ form.NumberedBulk ∷ form.Pulse ∷ form.Beat ∷ form.BeatIn ∷ form.Stamp ∷ form.Move ∷ form.Leave ∷ form.Attach ∷ form.Clock ∷ form.Close ∷ form.Fall ∷ form.Advance ∷ form.Kill ∷ form.Settle ∷ []
+act_forms = form.Hop ∷ form.Bulk ∷ form.Turn ∷ form.Tick ∷ form.Write ∷ form.Read ∷ form.Emit ∷ form.Gather ∷ form.NumberedBulk ∷ form.Pulse ∷ form.Beat ∷ form.BeatIn ∷ form.Stamp ∷ form.Move ∷ form.Leave ∷ form.Attach ∷ form.Clock ∷ form.Close ∷ form.Fall ∷ form.Advance ∷ form.Kill ∷ form.Settle ∷ form.WritesTwo ∷ form.WritesThree ∷ form.WritesFour ∷ []
 
 -- the words at their places; 0 or nothing where there is no such word
 abbrev pub place_in : Option Said → ℕ
@@ -118,11 +129,19 @@ bytes_at xs k = bytes_in (slice_get xs k)
 abbrev pub node_at : List Said → ℕ → NodeId
 node_at xs k = node_in_said (slice_get xs k)
 
+-- the act that writes some items under one label, where each value is one
+abbrev pub group_of : ℕ → Items → List (List ℕ) → Option Act
+group_of c items values = if list_all is_value values then Some (act.Writes c items values) else None
+
 -- the act that words of these kinds say
 abbrev pub act_of : Form → List Said → Option Act
 act_of form.Tick xs = Some (act.Tick (place_at xs 0) (place_at xs 1) (num_at xs 2))
 act_of form.Clock xs = Some act.Clock
 act_of form.Write xs = if is_value (bytes_at xs 2) then Some (act.Write (place_at xs 0) (place_at xs 1) (bytes_at xs 2)) else None
+act_of form.WritesTwo xs = group_of (place_at xs 0) (Two (place_at xs 1) (place_at xs 3)) (bytes_at xs 2 ∷ bytes_at xs 4 ∷ [])
+act_of form.WritesThree xs = group_of (place_at xs 0) (Three (place_at xs 1) (place_at xs 3) (place_at xs 5)) (bytes_at xs 2 ∷ bytes_at xs 4 ∷ bytes_at xs 6 ∷ [])
+act_of form.WritesFour xs =
+    group_of (place_at xs 0) (Four (place_at xs 1) (place_at xs 3) (place_at xs 5) (place_at xs 7)) (bytes_at xs 2 ∷ bytes_at xs 4 ∷ bytes_at xs 6 ∷ bytes_at xs 8 ∷ [])
 act_of form.Read xs = Some (act.Read (place_at xs 0) (place_at xs 1))
 act_of form.Move xs = Some (act.Move (place_at xs 0) (place_at xs 1))
 act_of form.Leave xs = Some (act.Leave (place_at xs 0))
@@ -144,11 +163,19 @@ act_of form.Kill xs = Some (act.Kill (place_at xs 0) (place_at xs 1))
 act_of form.Settle xs = Some act.Settle
 act_of _ xs = None
 
+-- the form of an act that writes a group. A group of one has none: its words are too few for this one
+abbrev pub group_form : Items → Form
+group_form (One x) = form.WritesTwo
+group_form (Two x y) = form.WritesTwo
+group_form (Three x y z) = form.WritesThree
+group_form (Four x y z w) = form.WritesFour
+
 -- the form of an act
 abbrev pub form_of : Act → Form
 form_of (act.Tick i g t) = form.Tick
 form_of act.Clock = form.Clock
 form_of (act.Write c x v) = form.Write
+form_of (act.Writes c items values) = group_form items
 form_of (act.Read c x) = form.Read
 form_of (act.Move c j) = form.Move
 form_of (act.Leave c) = form.Leave
@@ -169,11 +196,17 @@ form_of (act.Advance i) = form.Advance
 form_of (act.Kill e z) = form.Kill
 form_of act.Settle = form.Settle
 
+-- what the words of items and values say, by turns, as far as there are both
+abbrev pub pairs : List ℕ → List (List ℕ) → List Said
+pairs (x ∷ xs) (v ∷ vs) = place x ∷ bytes v ∷ pairs xs vs
+pairs _ _ = []
+
 -- what the words of an act say
 abbrev pub args_of : Act → List Said
 args_of (act.Tick i g t) = place i ∷ place g ∷ num t ∷ []
 args_of act.Clock = []
 args_of (act.Write c x v) = place c ∷ place x ∷ bytes v ∷ []
+args_of (act.Writes c items values) = place c ∷ pairs (list_of items) values
 args_of (act.Read c x) = place c ∷ place x ∷ []
 args_of (act.Move c j) = place c ∷ place j ∷ []
 args_of (act.Leave c) = place c ∷ []
@@ -291,12 +324,13 @@ abbrev pub edge_cause : Option TreeShape → NodeId → ℕ → Option Cause
 edge_cause None u z = Some NoEdge
 edge_cause (Some t) u z = if joins t u z then None else Some NoEdge
 
--- two sites that are one, and two nodes that are no edge
+-- two sites that are one, two nodes that are no edge, and items that don't ascend
 abbrev pub unfit : Deployed → Act → Option Cause
 unfit d (act.Bulk i g j n) = if i == j then Some OutOfRange else None
 unfit d (act.Beat i j) = if i == j then Some OutOfRange else None
 unfit d (act.BeatIn i j n) = if i == j then Some OutOfRange else None
 unfit d (act.Hop e u z) = edge_cause (tree_of d e) u z
+unfit d (act.Writes c items values) = if are_items (list_of items) then None else Some BadGroup
 unfit d _ = None
 
 -- the first form with this word and so many more
@@ -310,12 +344,14 @@ said_act d f (Err cause) = Err cause
 said_act d f (Ok xs) = given OutOfRange (act_of f xs) (λ a. barred (unfit d a) (Ok a))
 
 -- the causes in their order, where the first argument says why a line of a form may not stand here: no form; that cause; a name that
--- the header lacks, over all words; a number or a node out of range, in turn; two sites that are one, and two nodes that are no edge
+-- the header lacks, over all words; a number or a node out of range, in turn; two sites that are one, two nodes that are no edge, and items
+-- that don't ascend
 unfoldable pub form_line : (Form → Option Cause) → Deployed → Form → List (List ℕ) → Result Act Cause
 form_line bars d f words =
-    needs BadAct (shapes (kinds_of f) words)
+    needs BadAct (allows d.format f)
+    (needs BadAct (shapes (kinds_of f) words)
     (barred (bars f)
-    (needs UnknownName (all_known d (kinds_of f) words) (said_act d f (all_say d no_tree (kinds_of f) words))))
+    (needs UnknownName (all_known d (kinds_of f) words) (said_act d f (all_say d no_tree (kinds_of f) words)))))
 
 -- what the words of a line say, by the first of them and how many follow
 unfoldable pub act_line : (Form → Option Cause) → Deployed → List (List ℕ) → Result Act Cause

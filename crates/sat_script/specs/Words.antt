@@ -37,20 +37,15 @@ pub record IsCut (byte : ℕ) (text front rest : List ℕ) : Type 0 where
   pub none : HasNo byte front
   pub whole : text ≡ front ++ byte ∷ rest
 
--- whether a line is text, and if so its first six words
+-- whether a line is text, and if so its first eleven words
 abbrev pub AreFirst : Bool → List ℕ → List (List ℕ) → Type 0
-AreFirst true line words = (is_text line ≡ true) × (words ≡ take 6 (words_of line))
+AreFirst true line words = (is_text line ≡ true) × (words ≡ take 11 (words_of line))
 AreFirst false line words = is_text line ≡ false
 
 -- the places of a text's blanks, counted from a number
 unfoldable pub blanks_from : ℕ → List ℕ → List ℕ
 blanks_from n [] = []
 blanks_from n (byte ∷ bytes) = if byte == 32 then n ∷ blanks_from (n + 1) bytes else blanks_from (n + 1) bytes
-
--- whether a line is text, and if so the places of its blanks, which are the first so many of these
-abbrev pub AreBlanks : Option ℕ → List ℕ → List ℕ → Type 0
-AreBlanks None line places = is_text line ≡ false
-AreBlanks (Some count) line places = (is_text line ≡ true) × (take count places ≡ blanks_from 0 line)
 
 -- a word of bytes that can be seen
 abbrev pub is_token : List ℕ → Bool

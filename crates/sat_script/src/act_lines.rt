@@ -9,17 +9,18 @@ ghost use Rattle.sat_script.specs.Grammar.{is_end, body_line};
 ghost use Rattle.sat_script.specs.Lines.{Gives};
 ghost use Rattle.sat_script.specs.Said.{said_of, shape_of, SaysOn, begins, IsReadWord, SaysAct, is_counted};
 ghost use Rattle.sat_act.specs.Deployed.{Deployed};
+ghost use Rattle.sat_label.specs.Grouped.{are_items, list_of};
 ghost use Rattle.sat_label.specs.Text.{is_value};
 ghost use Rattle.sat_script.specs.Spelled.{HaveNames};
 ghost use Rattle.sat_script.specs.Table.{shape, shapes, known, all_known, says, all_say, has_node, joins, edge_cause, unfit, said_act, form_line, act_line, kinds_of, act_of, args_of};
 ghost use Rattle.sat_script.specs.Table.{place, num, at};
-ghost use Rattle.sat_script.specs.Words.{node_in, serializer_in};
+ghost use Rattle.sat_script.specs.Words.{node_in, serializer_in, words_of};
 ghost use Rattle.sat_script.specs.declared.form.Form.TheVariants as form;
 ghost use Rattle.sat_script.specs.declared.form.Kind.TheVariants as kind;
 ghost use Rattle.sat_script.specs.declared.line.Parsed.TheVariants as parsed;
 
 use crate::Cause;
-use crate::form::{Form, Kind, act_forms, form_of_one, found_form, kinds_of};
+use crate::form::{Form, Kind, act_forms, allows, form_of_one, found_form, kinds_of};
 use crate::header::Header;
 use crate::line::Parsed;
 use crate::nodes::{node_in, serializer_in};
@@ -29,7 +30,7 @@ use crate::said::{Args, Said, act_of};
 use crate::words::{is_node, is_serializer, is_token};
 use arrayvec::ArrayVec;
 use sat_act::Act;
-use sat_label::{NodeId, TS_END, Value, spells_name, spells_value};
+use sat_label::{Items, NodeId, TS_END, Value, are_items, spells_name, spells_value};
 use sat_tree::Tree;
 use std::alloc::Global;
 
@@ -148,7 +149,7 @@ fn all_say<'a>(
     words: &[&'a [u8]],
     said: &mut Args<'a>,
 ) -> Result<(), Cause>
-    requires { length said.old.items + length kinds.now ≤ 4 }
+    requires { length said.old.items + length kinds.now ≤ 9 }
     ensures { SaysOn result said.old.items said.new.items (all_say header.now.said (shape_of (option_copied tree.entry)) kinds.now (map (λ word. word.now) words.now)) }
 {
     let Some((kind, kinds)) = kinds.split_first() else {
@@ -245,7 +246,20 @@ fn pair_cause(from: u16, to: u16) -> Option<Cause>
     }
 }
 
-// Two sites that are one, or two nodes that are no edge.
+// Items that don't ascend.
+fn group_cause(items: &Items) -> Option<Cause>
+    ensures { result ≡ (if are_items (list_of items.now) then None else Some Cause.BadGroup) }
+{
+    let ascend = match *items {
+        Items::One(a) => are_items(&[a]),
+        Items::Two(a, b) => are_items(&[a, b]),
+        Items::Three(a, b, c) => are_items(&[a, b, c]),
+        Items::Four(a, b, c, d) => are_items(&[a, b, c, d]),
+    };
+    if ascend { None } else { Some(Cause::BadGroup) }
+}
+
+// Two sites that are one, two nodes that are no edge, or items that don't ascend.
 #[inline(always)]
 fn unfit(header: &Header, act: &Act) -> Option<Cause>
     ensures { result ≡ unfit header.now.said act.now }
@@ -255,6 +269,7 @@ fn unfit(header: &Header, act: &Act) -> Option<Cause>
         Act::Beat { from, to } => pair_cause(*from, *to),
         Act::BeatIn { from, to, .. } => pair_cause(*from, *to),
         Act::Hop { epoch, from, to } => edge_cause(header.tree(*epoch), *from, *to),
+        Act::Writes { items, .. } => group_cause(items),
         _ => None,
     }
 }
@@ -278,6 +293,9 @@ fn said_act(alloc: Global, header: &Header, form: Form, said: &[Said]) -> Result
 fn form_line(alloc: Global, place: &Place, form: Form, words: &[&[u8]]) -> Result<Act, Cause>
     ensures { Gives result (form_line (bar place.now) place.now.header form (map (λ word. word.now) words.now)) }
 {
+    if !allows(place.header().format(), form) {
+        return Err(Cause::BadAct);
+    }
     let kinds = kinds_of(form);
     if !shapes(kinds, words) {
         return Err(Cause::BadAct);
@@ -372,6 +390,32 @@ fn bulk_of(header: &Header, from: &[u8], gear: &[u8], to: &[u8]) -> Option<Act>
         gear,
         to,
         number: None,
+    })
+}
+
+#[inline(always)]
+fn numbered_bulk_of(
+    header: &Header,
+    from: &[u8],
+    gear: &[u8],
+    to: &[u8],
+    number: &[u8],
+) -> Option<Act>
+    requires { HaveNames header.now.said }
+    ensures { IfSome result (λ act. SaysAct header.now.said (codes "bulk") (from.now ∷ gear.now ∷ to.now ∷ number.now ∷ []) act) }
+{
+    let from = read_site(header, from)?;
+    let gear = read_gear(header, gear)?;
+    let to = read_site(header, to)?;
+    let number = number_up_to(u64::MAX, number)?;
+    if from == to {
+        return None;
+    }
+    Some(Act::Bulk {
+        from,
+        gear,
+        to,
+        number: Some(number),
     })
 }
 
@@ -568,6 +612,47 @@ pub fn act_of_four(
             }
         }
     }
+}
+
+/// The act that a word and four behind it say, as above.
+#[inline(always)]
+pub fn act_of_five(
+    header: &Header,
+    word: &[u8],
+    one: &[u8],
+    two: &[u8],
+    three: &[u8],
+    four: &[u8],
+) -> Option<Act>
+    requires { HaveNames header.now.said }
+    ensures { IfSome result (λ act. SaysAct header.now.said word.now (one.now ∷ two.now ∷ three.now ∷ four.now ∷ []) act) }
+{
+    match word {
+        [b'b', b'u', b'l', b'k'] => numbered_bulk_of(header, one, two, three, four),
+        _ => None,
+    }
+}
+
+/// The act of a write whose line may be long, cut at its first three blanks. Its value has no more of them. Short lines have a call of
+/// their own, so that it has one caller, into which it goes whole.
+pub fn long_write_of(
+    alloc: Global,
+    header: &Header,
+    client: &[u8],
+    item: &[u8],
+    value: &[u8],
+) -> Option<Act>
+    requires { HaveNames header.now.said }
+    ensures { IfSome result (λ act. SaysAct header.now.said (codes "write") (client.now ∷ item.now ∷ value.now ∷ []) act × (words_of value.now ≡ value.now ∷ [])) }
+{
+    let client = read_client(header, client)?;
+    let item = read_item(header, item)?;
+    let value = read_value(alloc, value)?;
+    Some(Act::Write {
+        client,
+        item,
+        value,
+    })
 }
 
 /// An act, or `end`.

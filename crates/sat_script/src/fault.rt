@@ -16,6 +16,7 @@ pub enum Cause {
     OutOfRange,
     BadTree,
     NoEdge,
+    BadGroup,
     /// Want of memory.
     Memory,
 }

@@ -1,7 +1,9 @@
 //! The forms of lines, and the table of the acts: the word that an act begins with, and the kinds of the words after it.
 ghost use Rattle.std.specs.Prelude.{◌≡◌, ◌≤◌, length, Some, IfSome};
-ghost use Rattle.sat_script.specs.Dialect.{is_live};
+ghost use Rattle.sat_script.specs.Dialect.{allows, is_live, written_by};
 ghost use Rattle.sat_script.specs.Table.{word_of, kinds_of, act_forms, found_form};
+
+use sat_label::limits_of;
 
 /// The form of a line whose number is limited: of the header's lines those that come any number of times, and each act.
 #[derive(Clone, Copy, Debug, PartialEq, Eq)]
@@ -17,6 +19,12 @@ pub enum Form {
     Tick,
     Clock,
     Write,
+    /// `writes` with two items
+    WritesTwo,
+    /// `writes` with three items
+    WritesThree,
+    /// `writes` with four items
+    WritesFour,
     Read,
     Move,
     Leave,
@@ -63,6 +71,9 @@ pub fn word_of(form: Form) -> &'static [u8]
         Form::Tick => b"tick".as_slice(),
         Form::Clock => b"clock".as_slice(),
         Form::Write => b"write".as_slice(),
+        Form::WritesTwo => b"writes".as_slice(),
+        Form::WritesThree => b"writes".as_slice(),
+        Form::WritesFour => b"writes".as_slice(),
         Form::Read => b"read".as_slice(),
         Form::Move => b"move".as_slice(),
         Form::Leave => b"leave".as_slice(),
@@ -89,11 +100,38 @@ pub fn word_of(form: Form) -> &'static [u8]
 /// The kinds of the words after it.
 pub fn kinds_of(form: Form) -> &'static [Kind]
     ensures kinds { result.now ≡ kinds_of form }
-    ensures few { length result.now ≤ 4 }
+    ensures few { length result.now ≤ 9 }
 {
     match form {
         Form::Tick => &[Kind::Site, Kind::Gear, Kind::Ts],
         Form::Write => &[Kind::Client, Kind::Item, Kind::Value],
+        Form::WritesTwo => &[
+            Kind::Client,
+            Kind::Item,
+            Kind::Value,
+            Kind::Item,
+            Kind::Value,
+        ],
+        Form::WritesThree => &[
+            Kind::Client,
+            Kind::Item,
+            Kind::Value,
+            Kind::Item,
+            Kind::Value,
+            Kind::Item,
+            Kind::Value,
+        ],
+        Form::WritesFour => &[
+            Kind::Client,
+            Kind::Item,
+            Kind::Value,
+            Kind::Item,
+            Kind::Value,
+            Kind::Item,
+            Kind::Value,
+            Kind::Item,
+            Kind::Value,
+        ],
         Form::Read => &[Kind::Client, Kind::Item],
         Form::Move => &[Kind::Client, Kind::Site],
         Form::Leave => &[Kind::Client],
@@ -143,6 +181,9 @@ pub fn act_forms() -> &'static [Form]
         Form::Advance,
         Form::Kill,
         Form::Settle,
+        Form::WritesTwo,
+        Form::WritesThree,
+        Form::WritesFour,
     ]
 }
 
@@ -186,6 +227,26 @@ pub fn form_of_one(word: &[u8]) -> Option<Form>
     }
 }
 
+// How many items an act of a form writes under one label, where that may be more than one.
+fn written_by(form: Form) -> usize
+    ensures { result ≡ written_by form }
+{
+    match form {
+        Form::WritesTwo => 2,
+        Form::WritesThree => 3,
+        Form::WritesFour => 4,
+        _ => 1,
+    }
+}
+
+/// Whether a script of a format may have lines of a form.
+#[tactic(auto, unfolding(crate::specs::Dialect::allows))]
+pub fn allows(format: u16, form: Form) -> bool
+    ensures { result ≡ allows format form }
+{
+    written_by(form) <= limits_of(format).written
+}
+
 /// Whether a script for nodes on threads may have lines of a form.
 #[tactic(auto, unfolding(crate::specs::Dialect::is_live))]
 pub fn is_live(form: Form) -> bool
@@ -197,6 +258,9 @@ pub fn is_live(form: Form) -> bool
         Form::PlanStamp => true,
         Form::PlanTree => true,
         Form::Write => true,
+        Form::WritesTwo => true,
+        Form::WritesThree => true,
+        Form::WritesFour => true,
         Form::Read => true,
         Form::Move => true,
         Form::Leave => true,

@@ -384,7 +384,7 @@ pub fn header_line(
     line: &[u8],
     words: &[&[u8]],
 ) -> Result<Parsed, Cause>
-    requires { map (λ word. word.now) words.now ≡ take 6 (words_of line.now) }
+    requires { map (λ word. word.now) words.now ≡ take 11 (words_of line.now) }
     ensures { Gives result (header_line place.now (words_of line.now)) }
 {
     let Some((word, more)) = words.split_first() else {

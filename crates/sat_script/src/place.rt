@@ -116,7 +116,7 @@ impl Place {
         first + self.header.lines() + u64::from(self.acts)
     }
 
-    /// Whether the next line may be an act of any form but `settle`. Where it says no, it still may be.
+    /// Whether the next line may be an act of any form but `settle` and `writes`. Where it says no, it still may be.
     #[inline(always)]
     pub fn takes_acts(&self) -> bool
         ensures { IsTrue result → TakesActs self.now }

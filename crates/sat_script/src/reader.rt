@@ -8,12 +8,16 @@ ghost use Rattle.sat_script.specs.Lines.{Gives, Takes, Closes, running, failed, 
 ghost use Rattle.sat_script.specs.Words.{words_of};
 ghost use Rattle.sat_script.specs.declared.line.Parsed.TheVariants as parsed;
 
-use crate::act_lines::{act_of_four, act_of_three, act_of_two, body_line};
+use crate::act_lines::{
+    act_of_five, act_of_four, act_of_three, act_of_two, body_line, long_write_of,
+};
 use crate::header_lines::{format_line, gears_line, header_line, sites_line};
 use crate::limits::LONGEST_LINE;
 use crate::line::{Line, Parsed, Stage};
 use crate::place::Place;
-use crate::words::{SHORT_LINE, blanks, first_words, four_words, three_words, two_words};
+use crate::words::{
+    SHORT_LINE, blanks, cut_line, first_words, five_words, four_words, three_words, two_words,
+};
 use crate::{Cause, Dialect, ScriptFault};
 use arrayvec::ArrayVec;
 use sat_act::{Act, Acts, Deployment};
@@ -23,7 +27,7 @@ use std::marker::Model;
 // What the words of a line say, by the stage in which it stands.
 #[tactic(auto, using(crate::proofs::First::format_first, crate::proofs::First::sites_first, crate::proofs::First::gears_first, crate::proofs::First::body_first), unfolding(crate::specs::Grammar::words_line))]
 fn words_line(alloc: Global, place: &Place, line: &[u8], words: &[&[u8]]) -> Result<Parsed, Cause>
-    requires { map (λ word. word.now) words.now ≡ take 6 (words_of line.now) }
+    requires { map (λ word. word.now) words.now ≡ take 11 (words_of line.now) }
     ensures { Gives result (words_line place.now.stage place.now (words_of line.now)) }
 {
     match place.stage() {
@@ -36,11 +40,31 @@ fn words_line(alloc: Global, place: &Place, line: &[u8], words: &[&[u8]]) -> Res
     }
 }
 
+// The act that a long line says, where it is a good one: of such acts few are no writes.
+#[inline(never)]
+fn long_act(alloc: Global, place: &Place, line: &[u8]) -> Option<Act>
+    ensures { IfSome result (λ act. line_at place.now line.now ≡ Ok (parsed.Act act)) }
+{
+    if !place.takes_acts() || line.len() > LONGEST_LINE {
+        return None;
+    }
+    let (word, client, item, value) = cut_line(line)?;
+    if word != b"write".as_slice() {
+        return None;
+    }
+    long_write_of(alloc, place.header(), client, item, value)
+}
+
 // What a line says.
 #[tactic(auto, unfolding(crate::specs::Grammar::line_at))]
 fn line_at(alloc: Global, place: &Place, line: &[u8]) -> Result<Parsed, Cause>
     ensures { Gives result (line_at place.now line.now) }
 {
+    if line.len() > SHORT_LINE
+        && let Some(act) = long_act(alloc, place, line)
+    {
+        return Ok(Parsed::Act(act));
+    }
     if place.stage() == Stage::Ended {
         return Err(Cause::AfterEnd);
     }
@@ -161,7 +185,8 @@ impl Reader {
         line_at(self.alloc, &self.place, bytes)
     }
 
-    /// The act that the next line says, where it is found quickly: a line without an answer may be good too.
+    /// The act that the next line says, where it is found quickly: a line without an answer may be good too. Words that say an act are
+    /// text, so no byte is asked for that before.
     #[inline(always)]
     pub fn good_act(&self, line: &[u8]) -> Option<Act>
         ensures { IfSome result (λ act. line_at self.now.state line.now ≡ Ok (parsed.Act act)) }
@@ -172,17 +197,21 @@ impl Reader {
         let mut places = [0u8; 64];
         let header = self.place.header();
         match blanks(line, &mut places) {
-            Some(1) => {
+            1 => {
                 let (word, one) = two_words(line, &places);
                 act_of_two(header, word, one)
             }
-            Some(2) => {
+            2 => {
                 let (word, one, two) = three_words(line, &places);
                 act_of_three(header, word, one, two)
             }
-            Some(3) => {
+            3 => {
                 let (word, one, two, three) = four_words(line, &places);
                 act_of_four(self.alloc, header, word, one, two, three)
+            }
+            4 => {
+                let (word, one, two, three, four) = five_words(line, &places);
+                act_of_five(header, word, one, two, three, four)
             }
             _ => None,
         }

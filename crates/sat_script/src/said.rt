@@ -1,18 +1,21 @@
 //! What the words of an act's line say, and the act that they make.
-ghost use Rattle.std.specs.Prelude.{◌≡◌, ◌≤◌, Ok, length, map};
+ghost use Rattle.std.specs.Prelude.{◌≡◌, ◌≤◌, ◌+◌, ◌*◌, ◌++◌, ◌∷◌, Ok, IfOk, IsTrue, length, map};
+ghost use Rattle.std.specs.List.{list_all};
+ghost use Rattle.sat_label.specs.Grouped.{list_of};
+ghost use Rattle.sat_label.specs.Text.{is_value};
 ghost use Rattle.sat_script.specs.Causes.{given};
 ghost use Rattle.sat_script.specs.Lines.{Gives};
 ghost use Rattle.sat_script.specs.Said.{said_of};
 ghost use Rattle.sat_script.specs.declared.fault.Cause.TheVariants.{OutOfRange};
 ghost use Rattle.sat_script.specs.declared.form.Form.TheVariants as form;
-ghost use Rattle.sat_script.specs.Table.{place_at, num_at, bytes_at, node_at, act_of, form_of, args_of};
+ghost use Rattle.sat_script.specs.Table.{place, place_at, num_at, bytes_at, node_at, act_of, form_of, args_of, group_form, group_of, pairs};
 
 use crate::Cause;
 use crate::form::Form;
 use arrayvec::ArrayVec;
 use sat_act::Act;
-use sat_label::{NodeId, Value};
-use std::alloc::Global;
+use sat_label::{Items, NodeId, Value, Values};
+use std::alloc::{AllocError, Global};
 
 /// What a word says.
 #[derive(Clone, Copy, Drop)]
@@ -31,7 +34,7 @@ impl Default for Said<'_> {
 }
 
 /// What the words after the first say.
-pub type Args<'a> = ArrayVec<Said<'a>, 4>;
+pub type Args<'a> = ArrayVec<Said<'a>, 9>;
 
 #[inline(always)]
 fn place_at(said: &[Said], k: usize) -> u16
@@ -88,6 +91,78 @@ fn write_of(alloc: Global, said: &[Said]) -> Result<Act, Cause>
     }
 }
 
+// Adds the values that words are, as long as they are values. Whether each is one.
+#[tactic(auto, using(std::proofs::lemmas::List::append_assoc))]
+fn add_values(alloc: Global, values: &mut Vec<Value>, texts: &[&[u8]]) -> Result<bool, AllocError>
+    ensures test { IfOk result (λ each. each ≡ list_all is_value (map (λ text. text.now) texts.now)) }
+    ensures values { IfOk result (λ each. IsTrue each → values.new.items ≡ values.old.items ++ map (λ text. text.now) texts.now) }
+{
+    let Some((text, texts)) = texts.split_first() else {
+        return Ok(true);
+    };
+    let Some(value) = Value::of(alloc, text)? else {
+        return Ok(false);
+    };
+    values.push(value)?;
+    add_values(alloc, values, texts)
+}
+
+// The act that writes some items under one label. Its values take memory.
+fn group_of(alloc: Global, client: u16, items: Items, texts: &[&[u8]]) -> Result<Act, Cause>
+    ensures { Gives result (given OutOfRange (group_of client items (map (λ text. text.now) texts.now)) Ok) }
+{
+    let mut values = Vec::new(alloc);
+    match add_values(alloc, &mut values, texts) {
+        Ok(true) => Ok(Act::Writes {
+            client,
+            items,
+            values: Values::many(values),
+        }),
+        Ok(false) => Err(Cause::OutOfRange),
+        Err(_) => Err(Cause::Memory),
+    }
+}
+
+// The same of words that say the client and two items with their values. Kept out of its caller, as lines of groups are rare.
+#[inline(never)]
+fn writes_two(alloc: Global, said: &[Said]) -> Result<Act, Cause>
+    ensures { Gives result (given OutOfRange (act_of form.WritesTwo (map said_of said.now)) Ok) }
+{
+    let items = Items::Two(place_at(said, 1), place_at(said, 3));
+    let texts = [bytes_at(said, 2), bytes_at(said, 4)];
+    group_of(alloc, place_at(said, 0), items, &texts)
+}
+
+// Three items.
+#[inline(never)]
+fn writes_three(alloc: Global, said: &[Said]) -> Result<Act, Cause>
+    ensures { Gives result (given OutOfRange (act_of form.WritesThree (map said_of said.now)) Ok) }
+{
+    let items = Items::Three(place_at(said, 1), place_at(said, 3), place_at(said, 5));
+    let texts = [bytes_at(said, 2), bytes_at(said, 4), bytes_at(said, 6)];
+    group_of(alloc, place_at(said, 0), items, &texts)
+}
+
+// Four items.
+#[inline(never)]
+fn writes_four(alloc: Global, said: &[Said]) -> Result<Act, Cause>
+    ensures { Gives result (given OutOfRange (act_of form.WritesFour (map said_of said.now)) Ok) }
+{
+    let items = Items::Four(
+        place_at(said, 1),
+        place_at(said, 3),
+        place_at(said, 5),
+        place_at(said, 7),
+    );
+    let texts = [
+        bytes_at(said, 2),
+        bytes_at(said, 4),
+        bytes_at(said, 6),
+        bytes_at(said, 8),
+    ];
+    group_of(alloc, place_at(said, 0), items, &texts)
+}
+
 /// The act of a form that such words say.
 #[inline(always)]
 pub fn act_of(alloc: Global, form: Form, said: &[Said]) -> Result<Act, Cause>
@@ -102,6 +177,9 @@ pub fn act_of(alloc: Global, form: Form, said: &[Said]) -> Result<Act, Cause>
         },
         Form::Clock => Act::Clock,
         Form::Write => return write_of(alloc, said),
+        Form::WritesTwo => return writes_two(alloc, said),
+        Form::WritesThree => return writes_three(alloc, said),
+        Form::WritesFour => return writes_four(alloc, said),
         Form::Read => Act::Read {
             client: first,
             item: place_at(said, 1),
@@ -161,13 +239,53 @@ pub fn act_of(alloc: Global, form: Form, said: &[Said]) -> Result<Act, Cause>
 
 // What words say, as a list.
 fn args<'a>(said: &[Said<'a>]) -> Args<'a>
-    requires { length said.now ≤ 4 }
+    requires { length said.now ≤ 9 }
     ensures { result.items ≡ said.now }
 {
     let mut args = ArrayVec::new();
     match args.try_extend_from_slice(said) {
         Ok(()) => args,
         Err(_) => unreachable!(),
+    }
+}
+
+// Adds what the words of items and values say, by turns, as far as there are both.
+fn add_pairs<'a>(args: &mut Args<'a>, items: &[u16], values: &'a [Value])
+    requires { length args.old.items + 2 * length items.now ≤ 9 }
+    ensures { map said_of args.new.items ≡ map said_of args.old.items ++ pairs items.now values.now }
+{
+    let Some((item, items)) = items.split_first() else {
+        return;
+    };
+    let Some((value, values)) = values.split_first() else {
+        return;
+    };
+    args.push(Said::Place(*item));
+    args.push(Said::Bytes(value.bytes()));
+    add_pairs(args, items, values);
+}
+
+// What the words of an act say that writes some items under one label.
+fn group_args<'a>(client: u16, items: &[u16], values: &'a [Value]) -> Args<'a>
+    requires { length items.now ≤ 4 }
+    ensures { map said_of result.items ≡ place client ∷ pairs items.now values.now }
+{
+    let mut args = args(&[Said::Place(client)]);
+    add_pairs(&mut args, items, values);
+    args
+}
+
+// The form of such an act, and what its words say.
+#[inline(never)]
+fn group_parts<'a>(client: u16, items: &Items, values: &'a [Value]) -> (Form, Args<'a>)
+    ensures form { result.0 ≡ group_form items.now }
+    ensures args { map said_of result.1.items ≡ place client ∷ pairs (list_of items.now) values.now }
+{
+    match *items {
+        Items::One(a) => (Form::WritesTwo, group_args(client, &[a], values)),
+        Items::Two(a, b) => (Form::WritesTwo, group_args(client, &[a, b], values)),
+        Items::Three(a, b, c) => (Form::WritesThree, group_args(client, &[a, b, c], values)),
+        Items::Four(a, b, c, d) => (Form::WritesFour, group_args(client, &[a, b, c, d], values)),
     }
 }
 
@@ -194,6 +312,11 @@ pub fn parts_of(act: &Act) -> (Form, Args)
                 Said::Bytes(value.bytes()),
             ]),
         ),
+        Act::Writes {
+            client,
+            items,
+            values,
+        } => group_parts(*client, items, values.as_slice()),
         Act::Read { client, item } => (
             Form::Read,
             args(&[Said::Place(*client), Said::Place(*item)]),

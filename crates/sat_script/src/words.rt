@@ -1,8 +1,8 @@
 //! The words of a line.
-ghost use Rattle.std.specs.Prelude.{◌≡◌, [], false, IfOk, map, ◌∷◌, length, take, drop, ◌≤◌, ◌-◌, ◌&&◌};
+ghost use Rattle.std.specs.Prelude.{◌≡◌, [], false, IfOk, IfSome, map, ◌∷◌, length, take, drop, ◌≤◌, ◌-◌};
 ghost use Rattle.sat_label.specs.Text.{is_between};
 ghost use Rattle.std.specs.List.{list_all};
-ghost use Rattle.sat_script.specs.Words.{is_text, is_token, is_number, is_node, is_serializer, words_of, AreFirst, AreBlanks, blanks_from};
+ghost use Rattle.sat_script.specs.Words.{is_text, is_token, is_number, is_node, is_serializer, words_of, AreFirst, IsCut, blanks_from};
 
 use crate::number::is_number;
 use arrayvec::ArrayVec;
@@ -16,7 +16,7 @@ pub fn words_of(alloc: Global, line: &[u8]) -> Result<Vec<&[u8]>, AllocError>
 }
 
 /// The first words of a line.
-pub type FirstWords<'a> = ArrayVec<&'a [u8], 6>;
+pub type FirstWords<'a> = ArrayVec<&'a [u8], 11>;
 
 #[inline(always)]
 fn is_visible(byte: u8) -> bool
@@ -25,7 +25,7 @@ fn is_visible(byte: u8) -> bool
     33 <= byte && byte <= 126
 }
 
-/// Finds the first six parts of a line between its blanks, or all where there are fewer. Whether the line is text.
+/// Finds the first eleven parts of a line between its blanks, or all where there are fewer. Whether the line is text.
 /// No act has as many.
 #[inline(never)]
 pub fn first_words<'a>(line: &'a [u8], words: &mut FirstWords<'a>) -> bool
@@ -43,7 +43,7 @@ pub fn first_words<'a>(line: &'a [u8], words: &mut FirstWords<'a>) -> bool
         }
         words.push(&line[start..place]);
         start = place + 1;
-        if words.len() == 6 {
+        if words.len() == 11 {
             return is_text(&line[start..]);
         }
     }
@@ -54,30 +54,19 @@ pub fn first_words<'a>(line: &'a [u8], words: &mut FirstWords<'a>) -> bool
 /// The most bytes of a short line.
 pub const SHORT_LINE: usize = 64;
 
-// Whether the bytes so far and one more are text.
-#[inline(always)]
-fn is_text_with(text: bool, byte: u8) -> bool
-    ensures { result ≡ (is_between 32 126 byte && text) }
-{
-    32 <= byte && byte <= 126 && text
-}
-
-/// Finds the places of a short line's blanks. How many there are, where the line is text. No branch asks for a byte, since words
-/// begin and end where none can foretell it.
+/// Finds the places of a short line's blanks. How many there are. No branch asks for a byte, since words begin and end where none can
+/// foretell it.
 #[inline(never)]
-pub fn blanks(line: &[u8], places: &mut [u8; 64]) -> Option<usize>
+pub fn blanks(line: &[u8], places: &mut [u8; 64]) -> usize
     requires short { length line.now ≤ 64 }
-    ensures { AreBlanks result line.now places.new }
+    ensures { take result places.new ≡ blanks_from 0 line.now }
 {
     let mut count = 0usize;
-    let mut text = true;
     for place in 0..line.len() {
-        let byte = line[place];
-        text = is_text_with(text, byte);
         places[count] = place as u8;
-        count += usize::from(byte == b' ');
+        count += usize::from(line[place] == b' ');
     }
-    if text { Some(count) } else { None }
+    count
 }
 
 // The part of a line from a place up to another.
@@ -130,6 +119,51 @@ pub fn four_words<'a>(line: &'a [u8], places: &[u8; 64]) -> (&'a [u8], &'a [u8],
     let three = part(line, b + 1, c);
     let four = part(line, c + 1, line.len());
     (one, two, three, four)
+}
+
+/// The five words of a line with four.
+#[inline(always)]
+pub fn five_words<'a>(
+    line: &'a [u8],
+    places: &[u8; 64],
+) -> (&'a [u8], &'a [u8], &'a [u8], &'a [u8], &'a [u8])
+    requires { take 4 places.now ≡ blanks_from 0 line.now }
+    ensures { words_of line.now ≡ result.0.now ∷ result.1.now ∷ result.2.now ∷ result.3.now ∷ result.4.now ∷ [] }
+{
+    let a = usize::from(places[0]);
+    let b = usize::from(places[1]);
+    let c = usize::from(places[2]);
+    let d = usize::from(places[3]);
+    let one = part(line, 0, a);
+    let two = part(line, a + 1, b);
+    let three = part(line, b + 1, c);
+    let four = part(line, c + 1, d);
+    let five = part(line, d + 1, line.len());
+    (one, two, three, four, five)
+}
+
+// A text before and behind its first blank.
+#[inline(always)]
+fn cut_word(text: &[u8]) -> Option<(&[u8], &[u8])>
+    ensures { IfSome result (λ parts. IsCut 32 text.now parts.0.now parts.1.now) }
+{
+    for place in 0..text.len() {
+        if text[place] == b' ' {
+            return Some((&text[..place], &text[place + 1..]));
+        }
+    }
+    None
+}
+
+/// The first three words of a line, and what stands behind the third blank.
+#[inline(always)]
+pub fn cut_line(line: &[u8]) -> Option<(&[u8], &[u8], &[u8], &[u8])>
+    ensures { IfSome result (λ parts. words_of line.now ≡ parts.0.now ∷ parts.1.now ∷ parts.2.now ∷ words_of parts.3.now) }
+{
+    let (word, rest) = cut_word(line)?;
+    let (one, rest) = cut_word(rest)?;
+    let (two, rest) = cut_word(rest)?;
+    Some((word, one, two, rest))
 }
 
 /// Whether a line has bytes from 32 to 126 only.

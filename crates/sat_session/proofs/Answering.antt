@@ -4,6 +4,7 @@ use Rattle.std.proofs.lemmas.Bool.{and_from, and_parts}
 use Rattle.std.proofs.lemmas.Bool.Decides.{nat_tests}
 use Rattle.sat_label.proofs.Orders.{ts-lt}
 use Rattle.sat_label.specs.declared.carried.Carried.{Carried}
+use Rattle.sat_label.specs.Grouped.{list_of}
 use Rattle.sat_label.specs.declared.label.Kind.TheVariants as kind
 use Rattle.sat_label.specs.declared.label.Label.{Label}
 use Rattle.sat_label.specs.declared.limits.TheConstants.{TS_END}
@@ -16,14 +17,14 @@ use Rattle.sat_act.specs.declared.answer.Answer.TheVariants as ans
 use Rattle.sat_act.specs.declared.answer.Refusal.{Refusal}
 use Rattle.sat_act.specs.declared.answer.Refusal.TheVariants as why
 use Rattle.sat_act.specs.Deployed.{Deployed}
-use Rattle.sat_act.specs.Answers.{refused_if, gear_of}
-use Rattle.sat_act.specs.Parts.{replicates}
-use Rattle.sat_bulk.specs.declared.Payload.{Payload}
+use Rattle.sat_act.specs.Answers.{refused_if}
+use Rattle.sat_act.specs.Done.{Written, write_in}
+use Rattle.sat_act.specs.Parts.{keeps_all, replicates}
 use Rattle.sat_machine.specs.Fits.{is_point, is_site}
 use Rattle.sat_machine.specs.Input as given
 use Rattle.sat_machine.specs.Look.{mode_of, cut_of}
-use Rattle.sat_machine.specs.Reply.{site_answer, write_by, read_by, move_by, may_come, outlook_of}
-use Rattle.sat_machine.specs.State.{SiteState}
+use Rattle.sat_machine.specs.Reply.{site_answer, gear_for, write_by, read_by, move_by, may_come, outlook_of}
+use Rattle.sat_machine.specs.State.{SiteState, Version}
 use Rattle.sat_machines.specs.Plain.{is_plain}
 use Rattle.sat_machines.specs.Sites.{is_standing}
 use Rattle.sat_session.specs.Replies.{IsReply, refuses, wrote, read_none, read_some, moved, left, attached, closed, fallen, killed, HasSpare}
@@ -31,6 +32,11 @@ use Rattle.sat_session.specs.Replies.{IsReply, refuses, wrote, read_none, read_s
 -- the timestamp after one that is not the last
 next-time : (t n : ℕ) → nat_le t n ≡ false → nat_le (n + 1) t ≡ true
 next-time t n e = grind (arith, nat_tests)
+
+-- where no refusal is, the site keeps the item
+kept : (b : Bool) → not b ≡ false → b ≡ true
+kept true e = refl
+kept false e = absurd (cc)
 
 past-max : (a b : ℕ) → b < max a b + 1
 past-max a b = omega arith
@@ -41,19 +47,19 @@ module _ (d : Deployed) (seen : Carried) where
   refused a true y r t f = refuses a y t
   refused a false y r t f = f refl
 
-  write-reply : (i c n : ℕ) (value : List ℕ) (promise : ℕ) → is_site d i ≡ true → IsReply d seen (act.Write c n value) (write_by d i n promise seen.point.ts)
-  write-reply i c n value promise here =
-      refused (act.Write c n value) (not (replicates d n i)) why.NotHere _ refl (λ _.
-      refused (act.Write c n value) (nat_le TS_END (max promise seen.point.ts)) why.Spent _ refl (λ e.
-      wrote c n value (record { point = point_at (max promise seen.point.ts + 1) i (gear_of d n); kind = kind.Update n })
+  write-reply : (i : ℕ) (a : Act) (w : Written) (promise : ℕ) → write_in a ≡ Some w → is_site d i ≡ true → IsReply d seen a (write_by d i w.items promise seen.point.ts)
+  write-reply i a w promise is here =
+      refused a (not (keeps_all d (list_of w.items) i)) why.NotHere _ refl (λ _.
+      refused a (nat_le TS_END (max promise seen.point.ts)) why.Spent _ refl (λ e.
+      wrote a w (record { point = point_at (max promise seen.point.ts + 1) i (gear_for d w.items); kind = kind.Update w.items }) is
       (and_from (nat_le (max promise seen.point.ts + 1) TS_END) (is_site d i) (next-time TS_END (max promise seen.point.ts) e) here)))
 
-  version-reply : (c n : ℕ) (o : Option Payload) → ((p : Payload) → o ≡ Some p → is_point d p.label.point ≡ true) → IsReply d seen (act.Read c n) (elim o [ None ↦ ans.ReadNone | Some p ↦ ans.ReadSome p.label p.value ])
+  version-reply : (c n : ℕ) (o : Option Version) → ((p : Version) → o ≡ Some p → is_point d p.label.point ≡ true) → IsReply d seen (act.Read c n) (elim o [ None ↦ ans.ReadNone | Some p ↦ ans.ReadSome p.label p.value ])
   version-reply c n None f = read_none c n
   version-reply c n (Some p) f = read_some c n p.label p.value (f p refl)
 
-  read-reply : (i c n : ℕ) (o : Option Payload) → ((p : Payload) → o ≡ Some p → is_point d p.label.point ≡ true) → IsReply d seen (act.Read c n) (read_by d i n o)
-  read-reply i c n o f = refused (act.Read c n) (not (replicates d n i)) why.NotHere _ refl (λ _. version-reply c n o f)
+  read-reply : (i c n : ℕ) (o : Option Version) → (replicates d n i ≡ true → (p : Version) → o ≡ Some p → is_point d p.label.point ≡ true) → IsReply d seen (act.Read c n) (read_by d i n o)
+  read-reply i c n o f = refused (act.Read c n) (not (replicates d n i)) why.NotHere _ refl (λ e. version-reply c n o (f (kept (replicates d n i) e)))
 
   move-reply : (i c j : ℕ) (promise : ℕ) → is_site d i ≡ true → is_site d j ≡ true → IsReply d seen (act.Move c j) (move_by i j promise seen.point.ts)
   move-reply i c j promise here there =
@@ -66,11 +72,11 @@ module _ (d : Deployed) (seen : Carried) where
   -- ---- by the site's answer
 
   module _ (i : ℕ) (s : SiteState) (r : Answer) where
-    pub wrote-so : (c n : ℕ) (value handed : List ℕ) → is_site d i ≡ true → r ≡ site_answer d i s (given.Write seen n handed) → IsReply d seen (act.Write c n value) r
+    pub wrote-so : (a : Act) (w : Written) → write_in a ≡ Some w → is_site d i ≡ true → r ≡ site_answer d i s (given.Write seen w.items w.values) → IsReply d seen a r
     unfolding site_answer
-    wrote-so c n value handed here e = subst (IsReply d seen (act.Write c n value)) (sym e) (write-reply i c n value (s.gears (gear_of d n)).promise here)
+    wrote-so a w is here e = subst (IsReply d seen a) (sym e) (write-reply i a w (s.gears (gear_for d w.items)).promise is here)
 
-    pub read-so : (c n : ℕ) → ((p : Payload) → s.store n ≡ Some p → is_point d p.label.point ≡ true) → r ≡ site_answer d i s (given.Read seen n) → IsReply d seen (act.Read c n) r
+    pub read-so : (c n : ℕ) → (replicates d n i ≡ true → (p : Version) → s.store n ≡ Some p → is_point d p.label.point ≡ true) → r ≡ site_answer d i s (given.Read seen n) → IsReply d seen (act.Read c n) r
     unfolding site_answer
     read-so c n f e = subst (IsReply d seen (act.Read c n)) (sym e) (read-reply i c n (s.store n) f)
 
@@ -106,7 +112,7 @@ is_read _ = false
 
 pub plain-reply : (d : Deployed) (seen : Carried) (a : Act) (r : Answer) → IsReply d seen a r → is_read a ≡ false → is_plain r ≡ true
 plain-reply d seen a r (refuses b y p) e = refl
-plain-reply d seen a r (wrote c n value l p) e = refl
+plain-reply d seen a r (wrote b w l i p) e = refl
 plain-reply d seen a r (read_none c n) e = refl
 plain-reply d seen a r (read_some c n l value p) e = absurd (cc)
 plain-reply d seen a r (moved c j l p q k u) e = refl
@@ -119,7 +125,7 @@ plain-reply d seen a r (killed f z) e = refl
 -- every reply stands
 pub reply-stands : (d : Deployed) (seen : Carried) (a : Act) (r : Answer) → IsReply d seen a r → is_standing r ≡ true
 reply-stands d seen a r (refuses b y p) = p
-reply-stands d seen a r (wrote c n value l p) = refl
+reply-stands d seen a r (wrote b w l i p) = refl
 reply-stands d seen a r (read_none c n) = refl
 reply-stands d seen a r (read_some c n l value p) = refl
 reply-stands d seen a r (moved c j l p q k u) = refl

@@ -12,6 +12,7 @@ use Rattle.sat_act.specs.declared.answer.Answer.TheVariants as ans
 use Rattle.sat_act.specs.declared.answer.Refusal.TheVariants as why
 use Rattle.sat_act.specs.Answers.{refused_if}
 use Rattle.sat_act.specs.Deployed.{Deployed}
+use Rattle.sat_act.specs.Done.{Written, write_in}
 use Rattle.sat_machine.specs.Fits.{is_site, is_goal}
 use Rattle.sat_machine.specs.State.{SiteState}
 use Rattle.sat_site.specs.declared.input.SiteInput.{SiteInput}
@@ -26,6 +27,7 @@ use Rattle.sat_machines.specs.declared.site_answer.SiteAnswer.{SiteAnswer}
 use Rattle.sat_machines.specs.declared.serial_act.SerialAct.{SerialAct}
 use Rattle.sat_machines.specs.declared.serial_act.SerialAct.TheVariants as serial
 use Rattle.sat_machines.specs.declared.serial_act.SerialAnswer.{SerialAnswer}
+use Rattle.sat_stitch.specs.Kept.{OfClient}
 use Rattle.sat_stitch.specs.Places.{Place, AtSite, places, seat_places, attach_places, Session, Client as Owner, Operator, session_of}
 use Rattle.sat_opened.specs.Opened.{place_at}
 use Rattle.sat_session.specs.Notes.{SessionSeen, session_at}
@@ -34,6 +36,7 @@ use Rattle.sat_session.specs.Calls.{of_site, of_serial, asked_by}
 use Rattle.sat_session.specs.Replies.{IsReply, refuses, killed, HasSpare, given_of, Looked, Asks}
 use Rattle.sat_session.proofs.Answering.{wrote-so, read-so, moved-so, attached-so, closed-so, fallen-so, is_read, plain-spare, plain-reply, reply-stands}
 use Rattle.sat_session.proofs.Begins.{of-client, of-operator}
+use Rattle.sat_session.proofs.Written.{write-read, write-session, write-places}
 
 -- ---- inputs that take nothing from a link
 
@@ -87,11 +90,11 @@ module _ {M : Type 0} (d : Deployed) (x : SessionSeen) (node : NodeSeen M ActSee
         here : is_site d (number_of node.name) ≡ true
         here = ap (is_site d) number-is ∙ subst (λ (o : Option ℕ). is_goal d o ≡ true) seated is.sits
 
-        pub asks-write : (n : ℕ) (value handed : List ℕ) → Asks d (site_meaning d) of_site x node (asked_by (Some x.number) (input.Write x.client.carried n handed)) (act.Write x.number n value) None
-        asks-write n value handed =
-            asks (Some x.number) (input.Write x.client.carried n handed) (act.Write x.number n value) refl refl (own-client (act.Write x.number n value) refl)
-            (placed-here (act.Write x.number n value) (ap (seat_places x.number) seated))
-            (λ r w. wrote-so d x.client.carried (number_of node.name) state r.answer x.number n value handed here w.answer)
+        pub asks-write : (a : Act) (w : Written) → write_in a ≡ Some w → w.client ≡ x.number → Asks d (site_meaning d) of_site x node (asked_by (Some x.number) (input.Write x.client.carried w.items w.values)) a None
+        asks-write a w e own =
+            asks (Some x.number) (input.Write x.client.carried w.items w.values) a refl (write-read a w e) (own-client a (write-session a w x.number e own))
+            (placed-here a (ap (λ (o : Option ℕ). places a (OfClient x.client.carried o)) seated ∙ write-places a w x.client.carried i e))
+            (λ r v. wrote-so d x.client.carried (number_of node.name) state r.answer a w e here v.answer)
 
         pub asks-move : (j : ℕ) → is_site d j ≡ true → Asks d (site_meaning d) of_site x node (asked_by (Some x.number) (input.Move x.client.carried j)) (act.Move x.number j) None
         asks-move j there =

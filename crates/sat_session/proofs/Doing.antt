@@ -103,6 +103,8 @@ no-place c i e = cc
 own-is : (seen : Carried) (seat : Option ℕ) (a : Act) (c : ℕ) → session_of a ≡ Some (Owner c) → places a (OfClient seen seat) ≡ InSession c ∷ [] → IsSessionAnswer a (OfClient seen seat) (own_answer (record { carried = seen; seat = seat }) a)
 own-is seen None (act.Write b n value) c e w = refl
 own-is seen (Some i) (act.Write b n value) c e w = absurd (no-place c i w)
+own-is seen None (act.Writes b items values) c e w = refl
+own-is seen (Some i) (act.Writes b items values) c e w = absurd (no-place c i w)
 own-is seen None (act.Read b n) c e w = refl
 own-is seen (Some i) (act.Read b n) c e w = absurd (no-place c i w)
 own-is seen None (act.Move b j) c e w = refl

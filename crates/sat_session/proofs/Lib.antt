@@ -3,6 +3,7 @@ pub mod Owned
 pub mod Matches
 pub mod Whole
 pub mod Answering
+pub mod Written
 pub mod More
 pub mod Begins
 pub mod Asking

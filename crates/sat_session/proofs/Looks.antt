@@ -14,14 +14,13 @@ use Rattle.sat_act.specs.declared.answer.Refusal.TheVariants as why
 use Rattle.sat_act.specs.Answers.{refused_if}
 use Rattle.sat_act.specs.Deployed.{Deployed}
 use Rattle.sat_act.specs.Parts.{replicates}
-use Rattle.sat_bulk.specs.declared.Payload.{Payload}
 use Rattle.sat_machine.specs.Fits.{is_point}
 use Rattle.sat_machine.specs.Input as given
 use Rattle.sat_machine.specs.Reply.{site_answer, read_by}
-use Rattle.sat_machine.specs.State.{SiteState}
-use Rattle.sat_store.specs.declared.store.Version.{Version}
+use Rattle.sat_machine.specs.State.{SiteState, Version}
+use Rattle.sat_label.specs.Versions.{Version as Held}
 use Rattle.sat_site.specs.Seen.{SiteSeen}
-use Rattle.sat_site.specs.Stands.{StandsSite, payload_of}
+use Rattle.sat_site.specs.Stands.{StandsSite, version_seen}
 use Rattle.sat_machines.specs.Plain.{is_plain}
 use Rattle.sat_machines.specs.Sites.{Stands, number_of}
 use Rattle.sat_session.specs.Replies.{HasSpare, Looked}
@@ -30,13 +29,17 @@ read-is : (d : Deployed) (i : ℕ) (s : SiteState) (n : ℕ) (seen : Carried) (r
 unfolding site_answer
 read-is d i s n seen r e = e
 
-none-plain : (b : Bool) (r : Answer) → r ≡ refused_if b why.NotHere ans.ReadNone → is_plain r ≡ true
-none-plain true r e = ap is_plain e
-none-plain false r e = ap is_plain e
+-- what is read where this version is shown
+abbrev version_by : Option Version → Answer
+version_by o = elim o [ None ↦ ans.ReadNone | Some p ↦ ans.ReadSome p.label p.value ]
 
-some-spare : (b : Bool) (l : Label) (value : List ℕ) (r : Answer) → r ≡ refused_if b why.NotHere (ans.ReadSome l value) → is_plain r ≡ false → Some (ans.ReadSome l value) ≡ Some r
-some-spare true l value r e f = absurd (let w : is_plain r ≡ true = ap is_plain e in cc)
-some-spare false l value r e f = ap (λ (y : Answer). Some y) (sym e)
+none-plain : (b : Bool) (o : Option Version) (r : Answer) → (b ≡ true → o ≡ None) → r ≡ refused_if (not b) why.NotHere (version_by o) → is_plain r ≡ true
+none-plain true o r none e = ap is_plain e ∙ ap (λ (p : Option Version). is_plain (version_by p)) (none refl)
+none-plain false o r none e = ap is_plain e
+
+some-spare : (b : Bool) (o : Option Version) (l : Label) (value : List ℕ) (r : Answer) → (b ≡ true → o ≡ Some (record { label = l; value = value })) → r ≡ refused_if (not b) why.NotHere (version_by o) → is_plain r ≡ false → Some (ans.ReadSome l value) ≡ Some r
+some-spare true o l value r at e f = ap (λ (y : Answer). Some y) (sym (e ∙ ap version_by (at refl)))
+some-spare false o l value r at e f = absurd (let w : is_plain r ≡ true = ap is_plain e in cc)
 
 time-is : (a b : ℕ) → a ≤ b → nat_le a b ≡ true
 time-is a b le = grind (arith, nat_tests)
@@ -45,26 +48,26 @@ site-is : (a b : ℕ) → a < b → nat_lt a b ≡ true
 site-is a b lt = grind (arith, nat_tests)
 
 -- there is no version
-none-looked : (d : Deployed) (i : ℕ) (s : SiteState) (n : ℕ) → s.store n ≡ None → Looked d i s n None
+none-looked : (d : Deployed) (i : ℕ) (s : SiteState) (n : ℕ) → (replicates d n i ≡ true → s.store n ≡ None) → Looked d i s n None
 none-looked d i s n none = record {
-  points = λ p e. absurd (let w : None ≡ Some p = sym none ∙ e in cc);
-  spares = λ seen r e f. absurd (let w : is_plain r ≡ true = none-plain (not (replicates d n i)) r (read-is d i s n seen r e ∙ ap (read_by d i n) none) in cc);
+  points = λ kept p e. absurd (let w : None ≡ Some p = sym (none kept) ∙ e in cc);
+  spares = λ seen r e f. absurd (let w : is_plain r ≡ true = none-plain (replicates d n i) (s.store n) r none (read-is d i s n seen r e) in cc);
 }
 
-pub looked_none : (d : Deployed) (name : NodeName) (x : SiteSeen) (s : SiteState) (n : ℕ) → Stands d name x s → ((e : Deployed) (i : ℕ) (t : SiteState) → StandsSite e i x t → t.store n ≡ None) → Looked d (number_of name) s n None
+pub looked_none : (d : Deployed) (name : NodeName) (x : SiteSeen) (s : SiteState) (n : ℕ) → Stands d name x s → ((e : Deployed) (i : ℕ) (t : SiteState) → StandsSite e i x t → replicates e n i ≡ true → t.store n ≡ None) → Looked d (number_of name) s n None
 looked_none d (named.Site i) x s n st f = none-looked d i s n (f d i s st)
 looked_none d (named.Serializer e z) x s n st f = absurd st
 
 -- there is this one
-some-looked : (d : Deployed) (i : ℕ) (s : SiteState) (n : ℕ) (l : Label) (value : List ℕ) → s.store n ≡ Some (record { label = l; value = value }) → l.point.ts ≤ TS_END → l.point.site < d.sites → Looked d i s n (Some (ans.ReadSome l value))
+some-looked : (d : Deployed) (i : ℕ) (s : SiteState) (n : ℕ) (l : Label) (value : List ℕ) → (replicates d n i ≡ true → s.store n ≡ Some (record { label = l; value = value })) → l.point.ts ≤ TS_END → l.point.site < d.sites → Looked d i s n (Some (ans.ReadSome l value))
 some-looked d i s n l value at le lt = record {
-  points = λ p e. subst (λ (q : Payload). is_point d q.label.point ≡ true) (some_is (record { label = l; value = value }) p (sym at ∙ e))
+  points = λ kept p e. subst (λ (q : Version). is_point d q.label.point ≡ true) (some_is (record { label = l; value = value }) p (sym (at kept) ∙ e))
       (and_from (nat_le l.point.ts TS_END) (nat_lt l.point.site d.sites) (time-is l.point.ts TS_END le) (site-is l.point.site d.sites lt));
-  spares = λ seen r e f. some-spare (not (replicates d n i)) l value r (read-is d i s n seen r e ∙ ap (read_by d i n) at) f;
+  spares = λ seen r e f. some-spare (replicates d n i) (s.store n) l value r at (read-is d i s n seen r e) f;
 }
 
-pub looked_some : (d : Deployed) (name : NodeName) (x : SiteSeen) (s : SiteState) (n : ℕ) (version : Version) (value : List ℕ) (sites : ℕ) → Stands d name x s → ((e : Deployed) (i : ℕ) (t : SiteState) → StandsSite e i x t → t.store n ≡ payload_of (Some version)) →
-    value ≡ version.value → version.label.point.ts ≤ TS_END → version.label.point.site < sites → sites ≡ d.sites → Looked d (number_of name) s n (Some (ans.ReadSome version.label value))
-looked_some d (named.Site i) x s n version value sites st f same le lt here =
-    subst (λ (v : List ℕ). Looked d i s n (Some (ans.ReadSome version.label v))) (sym same) (some-looked d i s n version.label version.value (f d i s st) le (subst (λ (m : ℕ). version.label.point.site < m) here lt))
-looked_some d (named.Serializer e z) x s n version value sites st f same le lt here = absurd st
+pub looked_some : (d : Deployed) (name : NodeName) (x : SiteSeen) (s : SiteState) (n : ℕ) (version : Held) (l : Label) (value : List ℕ) (sites : ℕ) → Stands d name x s → ((e : Deployed) (i : ℕ) (t : SiteState) → StandsSite e i x t → replicates e n i ≡ true → t.store n ≡ version_seen (Some version)) →
+    l ≡ version.label → value ≡ version.value → l.point.ts ≤ TS_END → l.point.site < sites → sites ≡ d.sites → Looked d (number_of name) s n (Some (ans.ReadSome l value))
+looked_some d (named.Site i) x s n version l value sites st f label same le lt here =
+    some-looked d i s n l value (λ kept. f d i s st kept ∙ (λ j. Some (record { label = sym label j; value = sym same j }))) le (subst (λ (m : ℕ). l.point.site < m) here lt)
+looked_some d (named.Serializer e z) x s n version l value sites st f label same le lt here = absurd st

@@ -1,6 +1,7 @@
 -- A note of a node's entry, kept by its session, is what the node kept.
 use Rattle.std.proofs.Common.{◌≡◌, ℕ, Bool, true, false, List, [], ◌∷◌, Option, Some, None, refl, sym, ap, ◌∙◌, subst, inl, inr}
 use Rattle.sat_label.specs.declared.carried.Carried.{Carried}
+use Rattle.sat_label.specs.declared.items.Items.{Items}
 use Rattle.sat_label.specs.declared.node.NodeName.{NodeName}
 use Rattle.sat_label.specs.declared.node.NodeName.TheVariants as named
 use Rattle.sat_label.specs.Members.{In}
@@ -22,8 +23,9 @@ use Rattle.sat_machines.specs.declared.serial_act.SerialAct.{SerialAct}
 use Rattle.sat_machines.specs.declared.serial_act.SerialAct.TheVariants as serial
 use Rattle.sat_machines.specs.declared.serial_act.SerialAnswer.{SerialAnswer}
 use Rattle.sat_stitch.specs.Kept.{Given, Nothing, OfClient, Kept, history}
-use Rattle.sat_stitch.specs.Places.{Place, AtSite, InSession, places, Session, Client as Owner, Operator}
-use Rattle.sat_opened.specs.Keeping.{client_in, site_act, site_given, site_kept, owner_of, serial_act, serial_given, serial_kept, serial_owner}
+use Rattle.sat_stitch.specs.Places.{Place, AtSite, InSession, seat_places, places, Session, Client as Owner, Operator}
+use Rattle.sat_opened.proofs.Written.{write-cases}
+use Rattle.sat_opened.specs.Keeping.{client_in, write_act, site_act, site_given, site_kept, owner_of, serial_act, serial_given, serial_kept, serial_owner}
 use Rattle.sat_session.specs.declared.noted.Noted.{Noted}
 use Rattle.sat_session.specs.Notes.{carried_with, site_note, serial_note}
 use Rattle.sat_session.specs.Sessions.{note_given, note_kept, note_places, IsNote}
@@ -41,9 +43,13 @@ seat-is i j e = cc
 no-seat : (c i : ℕ) → InSession c ∷ [] ≡ AtSite i ∷ [] → ⊥
 no-seat c i e = cc
 
+-- a write, of one item or of several, stands where its client sits
+written-at : (seen : Carried) (o : Option ℕ) (c : ℕ) (items : Items) (values : List (List ℕ)) → places (write_act c items values) (OfClient seen o) ≡ seat_places c o
+written-at seen o c items values = write-cases (λ items values a. places a (OfClient seen o) ≡ seat_places c o) c (λ x value. refl) (λ items values. refl) items values
+
 given-here : (i c : ℕ) (given : SiteInput) (o : Option ℕ) → is_clients given ≡ true → places (site_act i c given) (OfClient (carried_with given) o) ≡ AtSite i ∷ [] → OfClient (carried_with given) o ≡ site_given i given
-given-here i c (input.Write seen n value) None e w = absurd (no-seat c i w)
-given-here i c (input.Write seen n value) (Some j) e w = ap (λ (k : ℕ). OfClient seen (Some k)) (seat-is i j w)
+given-here i c (input.Write seen items values) None e w = absurd (no-seat c i (sym (written-at seen None c items values) ∙ w))
+given-here i c (input.Write seen items values) (Some j) e w = ap (λ (k : ℕ). OfClient seen (Some k)) (seat-is i j (sym (written-at seen (Some j) c items values) ∙ w))
 given-here i c (input.Read seen n) None e w = absurd (no-seat c i w)
 given-here i c (input.Read seen n) (Some j) e w = ap (λ (k : ℕ). OfClient seen (Some k)) (seat-is i j w)
 given-here i c (input.Move seen to) None e w = absurd (no-seat c i w)

@@ -34,6 +34,7 @@ use Rattle.sat_session.specs.declared.noted.Noted.{Noted}
 use Rattle.sat_session.specs.Notes.{SessionSeen, session_at, nothing_carried}
 use Rattle.sat_session.specs.Sessions.{note_given, note_kept, kept_behind, kept_notes, client_after, note_places, IsNote, NotesFrom, NotesRise, last_note, IsSession}
 use Rattle.sat_session.specs.Calls.{note, told}
+use Rattle.sat_session.proofs.Written.{write-operator}
 use Rattle.sat_session.specs.Replies.{IsReply, refuses, wrote, read_none, read_some, moved, left, attached, closed, fallen, killed, MayMove, given_of}
 
 -- ---- lists of notes with one more
@@ -123,9 +124,9 @@ of-self a c e = ap (λ (o : Option ℕ). elim o [ None ↦ false | Some b ↦ b 
 
 told-then : (d : Deployed) (c : ℕ) (x : Client) (a : Act) (r : Answer) → IsReply d x.carried a r → of_client a ≡ Some c → told a r x ≡ client_then c x a r
 told-then d c x a r (refuses b y p) e = refl
-told-then d c x a r (wrote b n value l p) e =
-    let w : is_of (act.Write b n value) c ≡ true = of-self (act.Write b n value) c e in
-    λ i. record { carried = record { point = sym (if-so (is_of (act.Write b n value) c) (greater_point l.point x.carried.point) x.carried.point w) i; moving = x.carried.moving }; seat = x.seat }
+told-then d c x a r (wrote b v l is p) e =
+    let w : is_of b c ≡ true = of-self b c e in
+    λ i. record { carried = record { point = sym (if-so (is_of b c) (greater_point l.point x.carried.point) x.carried.point w) i; moving = x.carried.moving }; seat = x.seat }
 told-then d c x a r (read_none b n) e = refl
 told-then d c x a r (read_some b n l value p) e =
     let w : is_of (act.Read b n) c ≡ true = of-self (act.Read b n) c e in
@@ -150,7 +151,7 @@ told-then d c x a r (killed f z) e = absurd (cc)
 -- an act of the operator changes no client
 told-operator : (d : Deployed) (x : Client) (a : Act) (r : Answer) → IsReply d x.carried a r → session_of a ≡ Some Operator → told a r x ≡ x
 told-operator d x a r (refuses b y p) e = refl
-told-operator d x a r (wrote b n value l p) e = absurd (cc)
+told-operator d x a r (wrote b v l is p) e = absurd (write-operator b v is e)
 told-operator d x a r (read_none b n) e = absurd (cc)
 told-operator d x a r (read_some b n l value p) e = absurd (cc)
 told-operator d x a r (moved b j l p q k u) e = absurd (cc)
@@ -191,7 +192,7 @@ module _ (d : Deployed) where
 
   reply-carries : (x : Client) (a : Act) (r : Answer) → IsReply d x.carried a r → is_carried d x.carried ≡ true → is_carried d (told a r x).carried ≡ true
   reply-carries x a r (refuses b y p) e = e
-  reply-carries x a r (wrote b n value l p) e = seen-more l x.carried p e
+  reply-carries x a r (wrote b v l is p) e = seen-more l x.carried p e
   reply-carries x a r (read_none b n) e = e
   reply-carries x a r (read_some b n l value p) e = seen-more l x.carried p e
   reply-carries x a r (moved b j l p q k u) e = and_from (is_point d l.point) (is_goal d (destination l.kind)) p (ap (λ (k : Kind). is_goal d (destination k)) k ∙ q)
@@ -203,7 +204,7 @@ module _ (d : Deployed) where
 
   reply-sits : (x : Client) (a : Act) (r : Answer) → IsReply d x.carried a r → is_goal d x.seat ≡ true → is_goal d (told a r x).seat ≡ true
   reply-sits x a r (refuses b y p) e = e
-  reply-sits x a r (wrote b n value l p) e = e
+  reply-sits x a r (wrote b v l is p) e = e
   reply-sits x a r (read_none b n) e = e
   reply-sits x a r (read_some b n l value p) e = e
   reply-sits x a r (moved b j l p q k u) e = refl
@@ -215,7 +216,7 @@ module _ (d : Deployed) where
 
   pub may-move : (x : Client) (a : Act) (r : Answer) → IsReply d x.carried a r → MayMove r x
   may-move x a r (refuses b y p) = λ l e. absurd (cc)
-  may-move x a r (wrote b n value l p) = λ m e. absurd (cc)
+  may-move x a r (wrote b v l is p) = λ m e. absurd (cc)
   may-move x a r (read_none b n) = λ l e. absurd (cc)
   may-move x a r (read_some b n l value p) = λ m e. absurd (cc)
   may-move x a r (moved b j m p q kind_is above) = λ l e.

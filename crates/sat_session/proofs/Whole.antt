@@ -50,6 +50,7 @@ use Rattle.sat_session.proofs.Matches.{by-client, site-matches, serial-matches}
 -- a session's own answers stand
 stands-alone : (a : Act) (x : Given) (r : Answer) → IsSessionAnswer a x r → stands r ≡ true
 stands-alone (act.Write c n value) (OfClient seen None) r e = ap stands e
+stands-alone (act.Writes c items values) (OfClient seen None) r e = ap stands e
 stands-alone (act.Read c n) (OfClient seen None) r e = ap stands e
 stands-alone (act.Move c j) (OfClient seen None) r e = ap stands e
 stands-alone (act.Leave c) (OfClient seen None) r e = ap stands e

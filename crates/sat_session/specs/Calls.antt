@@ -1,13 +1,18 @@
 -- What the calls of a session do: what they note, and what they make of its client.
-use Rattle.std.specs.Prelude.{◌≡◌, ℕ, ◌+◌, max, false, List, [], ◌∷◌, ◌++◌, ◌⊎◌, ◌↔◌, Option, Some, None, Result, IfOk, IfErr, OnOk, OnErr, IsErrOf}
+use Rattle.std.specs.Prelude.{◌≡◌, ◌≤◌, ℕ, ◌+◌, max, true, false, List, [], ◌∷◌, ◌++◌, length, ◌⊎◌, ◌↔◌, Option, Some, None, Result, IfOk, IfErr, OnOk, OnErr, IsErrOf}
 use Rattle.sat_label.specs.declared.carried.Carried.{Carried}
+use Rattle.sat_label.specs.declared.items.Items.{Items}
+use Rattle.sat_label.specs.Formats.{limits_of}
+use Rattle.sat_label.specs.Grouped.{are_items, list_of}
 use Rattle.sat_label.specs.declared.node.NodeName.{NodeName}
 use Rattle.sat_act.specs.declared.act.Act.{Act}
 use Rattle.sat_act.specs.declared.act.Act.TheVariants as act
 use Rattle.sat_act.specs.declared.answer.Answer.{Answer}
 use Rattle.sat_act.specs.declared.answer.Answer.TheVariants as ans
+use Rattle.sat_act.specs.Deployed.{Deployed}
 use Rattle.sat_client.specs.declared.client.Client.{Client}
 use Rattle.sat_client.specs.Clients.{after_observe, after_move, after_leave, after_join}
+use Rattle.sat_machine.specs.Fits.{are_known}
 use Rattle.sat_node.specs.declared.kept.CallFault.{CallFault}
 use Rattle.sat_node.specs.declared.kept.CallFault.TheVariants as fault
 use Rattle.sat_node.specs.Seen.{NodeSeen, SameNode, last_number, entry}
@@ -17,6 +22,15 @@ use Rattle.sat_machines.specs.declared.site_answer.SiteAnswer.{SiteAnswer}
 use Rattle.sat_machines.specs.declared.serial_act.SerialAnswer.{SerialAnswer}
 use Rattle.sat_session.specs.declared.noted.Noted.{Noted}
 use Rattle.sat_session.specs.Notes.{SessionSeen}
+
+-- what a write of several items asks for: two items at least and as many as the format allows, which in format 1 are none, strictly
+-- ascending, each one of the deployment's, and a value for each
+pub record IsGroup (d : Deployed) (items : Items) (values : List (List ℕ)) : Type 0 where
+  pub some : 2 ≤ length (list_of items)
+  pub few : length (list_of items) ≤ (limits_of d.format).written
+  pub order : are_items (list_of items) ≡ true
+  pub known : are_known d (list_of items) ≡ true
+  pub each : length values ≡ length (list_of items)
 
 -- a note of an act and its answer under this number, at this node, by a client that carried this
 abbrev pub note : ℕ → Option NodeName → Carried → Act → Answer → Noted

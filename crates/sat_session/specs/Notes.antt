@@ -45,7 +45,7 @@ nothing_carried = record { point = zero_point; moving = None }
 
 -- what a client carried with an input; nothing where it is no client's
 abbrev pub carried_with : SiteInput → Carried
-carried_with (input.Write seen n value) = seen
+carried_with (input.Write seen items values) = seen
 carried_with (input.Read seen n) = seen
 carried_with (input.Move seen j) = seen
 carried_with (input.Attach seen) = seen

@@ -14,13 +14,14 @@ use Rattle.sat_act.specs.declared.answer.Answer.TheVariants as ans
 use Rattle.sat_act.specs.declared.answer.Refusal.{Refusal}
 use Rattle.sat_act.specs.declared.answer.Refusal.TheVariants as why
 use Rattle.sat_act.specs.Deployed.{Deployed}
+use Rattle.sat_act.specs.Done.{Written, write_in}
+use Rattle.sat_act.specs.Parts.{replicates}
 use Rattle.sat_client.specs.declared.client.Client.{Client}
 use Rattle.sat_client.specs.Clients.{is_move}
-use Rattle.sat_bulk.specs.declared.Payload.{Payload}
 use Rattle.sat_machine.specs.Fits.{is_point, is_site}
 use Rattle.sat_machine.specs.Input as given
 use Rattle.sat_machine.specs.Reply.{site_answer}
-use Rattle.sat_machine.specs.State.{SiteState}
+use Rattle.sat_machine.specs.State.{SiteState, Version}
 use Rattle.sat_node.specs.Links.{IsLocal}
 use Rattle.sat_node.specs.Meanings.{Meaning, replay}
 use Rattle.sat_node.specs.Seen.{NodeSeen}
@@ -34,7 +35,7 @@ use Rattle.sat_session.specs.Notes.{SessionSeen, session_at}
 -- a refusal, or what the act does. A label's point is one of the deployment, and that of a move is above all that the client saw
 pub data IsReply (d : Deployed) (seen : Carried) : Act → Answer → Type 0 where
   refuses : (a : Act) (y : Refusal) → is_standing (ans.Refused y) ≡ true → IsReply d seen a (ans.Refused y)
-  wrote : (c n : ℕ) (value : List ℕ) (l : Label) → is_point d l.point ≡ true → IsReply d seen (act.Write c n value) (ans.Wrote l)
+  wrote : (a : Act) (w : Written) (l : Label) → write_in a ≡ Some w → is_point d l.point ≡ true → IsReply d seen a (ans.Wrote l)
   read_none : (c n : ℕ) → IsReply d seen (act.Read c n) ans.ReadNone
   read_some : (c n : ℕ) (l : Label) (value : List ℕ) → is_point d l.point ≡ true → IsReply d seen (act.Read c n) (ans.ReadSome l value)
   moved : (c j : ℕ) (l : Label) → is_point d l.point ≡ true → is_site d j ≡ true → l.kind ≡ kind.Move j → point_lt seen.point l.point ≡ true → IsReply d seen (act.Move c j) (ans.Moved l)
@@ -67,9 +68,10 @@ own_answer x (act.Leave c) = leave_answer x.carried.point x.seat
 own_answer x (act.Attach c j) = ans.Refused why.Joined
 own_answer x _ = ans.Refused why.NoSession
 
--- what was looked up before a read: each version is one of the deployment, and there is a copy of the answer where that holds a list
+-- what was looked up before a read: where the site keeps the item, its version is one of the deployment, and there is a copy of the
+-- answer where that holds a list
 pub record Looked (d : Deployed) (i : ℕ) (s : SiteState) (n : ℕ) (spare : Option Answer) : Type 0 where
-  pub points : (p : Payload) → s.store n ≡ Some p → is_point d p.label.point ≡ true
+  pub points : replicates d n i ≡ true → (v : Version) → s.store n ≡ Some v → is_point d v.label.point ≡ true
   pub spares : (seen : Carried) (r : Answer) → r ≡ site_answer d i s (given.Read seen n) → HasSpare r spare
 
 -- what is asked of an act that a session takes to a node: it is the session's, it stands at the node, what the node's machine answers to its

@@ -1,21 +1,23 @@
 //! What sessions do at sites.
-ghost use Rattle.std.specs.Prelude.{◌≡◌, ◌<◌, length, Some, None, IfOk};
+ghost use Rattle.std.specs.Prelude.{◌≡◌, ◌<◌, [], ◌∷◌, length, Some, None, IfOk};
+ghost use Rattle.sat_label.specs.declared.items.Items.TheVariants.{One};
 ghost use Rattle.sat_label.specs.Order.{name_eq};
 ghost use Rattle.sat_label.specs.declared.node.NodeName.{NodeName as Name};
+ghost use Rattle.sat_act.specs.Done.{write_in};
 ghost use Rattle.sat_site.specs.declared.input.SiteInput.TheVariants as given;
 ghost use Rattle.sat_node.specs.Meanings.{replay};
 ghost use Rattle.sat_machines.specs.Sites.{number_of, site_meaning};
-ghost use Rattle.sat_session.specs.Calls.{AtNode, of_site, asked_by};
+ghost use Rattle.sat_session.specs.Calls.{AtNode, IsGroup, of_site, asked_by};
 ghost use Rattle.sat_session.specs.Replies.{Asks, Looked};
 
 use crate::Session;
 use crate::answers::keep;
 use sat_act::{Act, Answer};
-use sat_label::{NodeName, TS_END, Value};
+use sat_label::{Items, NodeName, TS_END, Value, Values};
 use sat_machines::{Laid, SiteAct, SiteAnswer, SiteNode};
 use sat_node::{CallFault, Held, Machine, Names};
 use sat_site::SiteInput;
-use std::alloc::AllocError;
+use std::alloc::{AllocError, Global};
 
 /// Whether it is the node of this name.
 pub(crate) fn is_at<M: Machine, W: Names>(held: &Held<M, W>, place: NodeName) -> bool
@@ -37,17 +39,23 @@ fn look<N: Laid, W: Names>(
     let Some(version) = machine.site().version(item) else {
         return Ok(None);
     };
-    if version.label.point.ts > TS_END {
+    let label = version.label();
+    if label.point.ts > TS_END {
         return Err(AllocError);
     }
-    if version.label.point.site >= sites {
+    if label.point.site >= sites {
         return Err(AllocError);
     }
-    let value = version.value.copy()?;
-    Ok(Some(Answer::ReadSome {
-        label: version.label,
-        value,
-    }))
+    let value = version.value().copy()?;
+    Ok(Some(Answer::ReadSome { label, value }))
+}
+
+// The values of a write of one item: a copy of this one.
+fn one_value(alloc: Global, value: &Value) -> Result<Values, AllocError>
+    ensures { IfOk result (λ values. values ≡ value.now ∷ []) }
+{
+    let value = value.copy()?;
+    Values::one(alloc, value)
 }
 
 impl<N: Laid> Session<N> {
@@ -100,6 +108,37 @@ impl<N: Laid> Session<N> {
         }
     }
 
+    // Takes a write to the site where the client is seated, with the act that it is.
+    fn take_write<W: Names>(
+        &mut self,
+        held: &mut Held<SiteNode<N>, W>,
+        items: Items,
+        values: Values,
+        act: Act,
+    ) -> Result<Answer, CallFault>
+        requires client { self.old.number < length N.deployment.clients }
+        requires act { write_in act ≡ Some (record { client = self.old.number; items = items; values = values }) }
+        ensures done { AtNode act (asked_by (Some self.old.number) (given.Write self.old.client.carried items values)) of_site result held.old.node held.new.node self.old self.new }
+        ensures outs { held.new.outs ≡ held.old.outs }
+        ensures ins { held.new.ins ≡ held.old.ins }
+    {
+        let Some(seat) = self.client.seat else {
+            return Err(CallFault::Memory);
+        };
+        if !is_at(held, NodeName::Site(seat)) {
+            return Err(CallFault::Memory);
+        }
+        let input = SiteAct::of_client(
+            self.number,
+            SiteInput::Write {
+                carried: self.client.carried,
+                items,
+                values,
+            },
+        );
+        self.at_site(held, input, act, None)
+    }
+
     /// Writes an item at the site where the client is seated. Where that is another site, the answer is `Memory`, as for want of memory;
     /// `Worn`, with the greatest u64, comes only where the session's number or the node's is that. After an error all is as before.
     pub fn write<W: Names>(
@@ -110,36 +149,49 @@ impl<N: Laid> Session<N> {
     ) -> Result<Answer, CallFault>
         requires client { self.old.number < length N.deployment.clients }
         requires item { item < length N.deployment.items }
-        ensures done { AtNode (Act.Write self.old.number item value.now) (asked_by (Some self.old.number) (given.Write self.old.client.carried item value.now)) of_site result held.old.node held.new.node self.old self.new }
+        ensures done { AtNode (Act.Write self.old.number item value.now) (asked_by (Some self.old.number) (given.Write self.old.client.carried (One item) (value.now ∷ []))) of_site result held.old.node held.new.node self.old self.new }
         ensures outs { held.new.outs ≡ held.old.outs }
         ensures ins { held.new.ins ≡ held.old.ins }
     {
-        let Some(seat) = self.client.seat else {
+        let Ok(values) = one_value(*self.noted.allocator(), value) else {
             return Err(CallFault::Memory);
         };
-        if !is_at(held, NodeName::Site(seat)) {
-            return Err(CallFault::Memory);
-        }
-        let Ok(first) = value.copy() else {
+        let Ok(value) = value.copy() else {
             return Err(CallFault::Memory);
         };
-        let Ok(second) = value.copy() else {
-            return Err(CallFault::Memory);
-        };
-        let input = SiteAct::of_client(
-            self.number,
-            SiteInput::Write {
-                carried: self.client.carried,
-                item,
-                value: first,
-            },
-        );
         let act = Act::Write {
             client: self.number,
             item,
-            value: second,
+            value,
         };
-        self.at_site(held, input, act, None)
+        self.take_write(held, Items::One(item), values, act)
+    }
+
+    /// Writes several items under one label at the site where the client is seated. Errors come as in `write`.
+    pub fn writes<W: Names>(
+        &mut self,
+        held: &mut Held<SiteNode<N>, W>,
+        items: Items,
+        values: &Values,
+    ) -> Result<Answer, CallFault>
+        requires client { self.old.number < length N.deployment.clients }
+        requires group { IsGroup N.deployment items values.now }
+        ensures done { AtNode (Act.Writes self.old.number items values.now) (asked_by (Some self.old.number) (given.Write self.old.client.carried items values.now)) of_site result held.old.node held.new.node self.old self.new }
+        ensures outs { held.new.outs ≡ held.old.outs }
+        ensures ins { held.new.ins ≡ held.old.ins }
+    {
+        let Ok(first) = values.copy() else {
+            return Err(CallFault::Memory);
+        };
+        let Ok(second) = values.copy() else {
+            return Err(CallFault::Memory);
+        };
+        let act = Act::Writes {
+            client: self.number,
+            items,
+            values: second,
+        };
+        self.take_write(held, items, first, act)
     }
 
     /// Reads an item at the site where the client is seated. Errors come as in `write`.

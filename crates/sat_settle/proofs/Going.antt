@@ -11,6 +11,7 @@ use Rattle.sat_act.specs.Ranges.{IsActOf}
 use Rattle.sat_act.specs.Runs.{IsRun, is_settle}
 use Rattle.sat_act.specs.Settling.{capped, is_done, inner_entry, tried}
 use Rattle.sat_machine.specs.Laws.{leaves_all}
+use Rattle.sat_world.specs.Applies.{Applies}
 use Rattle.sat_world.specs.Seen.{WorldSeen}
 use Rattle.sat_world.specs.Stands.{StandsFor}
 use Rattle.sat_world.proofs.Counting.{flags-stay-free, undone-keeps}
@@ -92,6 +93,10 @@ tried-makes v w a r n k p t e h run st = record {
   from = tried-extends v.deployment a h;
   count = e ∙ (ap done_by (t h run st).answer ∙ tried-count v.deployment h a);
 }
+
+-- the same by what the world's call of the act says
+pub applies-makes : (v w : WorldSeen) (a : Act) (r : Answer) (n : ℕ) → IsActOf v.deployment a → is_settle a ≡ false → Applies v a r w → n ≡ done_by r → Makes v (tried v.deployment a) n w
+applies-makes v w a r n k p t e = tried-makes v w a r n k p (tries-by v w a r t.answer t.stands) e
 
 -- where it counts nothing the act was refused, else it left an entry
 pub none-done : (d : Deployed) (h : List Entry) (a : Act) (n : ℕ) → n ≡ capped (length (tried d a h) - length h) → n ≡ 0 → is_done (answer d h a) ≡ false

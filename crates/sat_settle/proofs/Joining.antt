@@ -9,9 +9,9 @@ use Rattle.sat_act.specs.declared.deployment.Plan.{Plan}
 use Rattle.sat_act.specs.declared.deployment.Plan.TheVariants as plan
 use Rattle.sat_act.specs.Deployed.{Deployed}
 use Rattle.sat_act.specs.Parts.{tree_of, planned_tree}
-use Rattle.sat_act.specs.Settling.{joined, bulks, hops, turns, hops_of, round_acts}
+use Rattle.sat_act.specs.Settling.{joined, hops, turns, hops_of}
 use Rattle.sat_act.proofs.Plans.{tree_from_plans}
-use Rattle.sat_settle.specs.RoundActs.{hops_by, turns_to}
+use Rattle.sat_settle.specs.RoundActs.{hops_by, later_acts, turns_to}
 use Rattle.sat_settle.proofs.Loops.{below-more}
 
 nothing : {X : Type 0} (xs : List X) → xs ≡ xs ++ []
@@ -41,9 +41,7 @@ plan-hops d plans n p same at =
     sym (ap (hops_of (n + 1)) (tree_from_plans d (n + 1) (let low : 1 ≤ n + 1 = omega arith in low) ∙ (ap (planned_tree d.plans) (let e : (n + 1) - 1 ≡ n = omega arith in e)
     ∙ ap (λ (o : Option Plan). planned_by o) (ap (λ (ps : List Plan). slice_get ps n) (sym same) ∙ at))) ∙ by-plan (n + 1) p)
 
--- a round's acts, part by part
-pub round-is : (d : Deployed) (n : ℕ) (xs ys zs ws : List Act) → n ≡ d.sites → xs ≡ [] → ys ≡ xs ++ bulks d → zs ≡ ys ++ hops d → ws ≡ zs ++ turns_to n → ws ≡ round_acts d
-unfolding round_acts
-round-is d n xs ys zs ws e f p q r =
-    let bulked : ys ≡ bulks d = p ∙ ap (λ (v : List Act). v ++ bulks d) f in
-    r ∙ (ap (λ (m : ℕ). zs ++ turns_to m) e ∙ (ap (λ (v : List Act). v ++ turns d) (q ∙ ap (λ (v : List Act). v ++ hops d) bulked) ∙ append_assoc (bulks d) (hops d) (turns d)))
+-- the acts of a round behind its bulks, part by part
+pub later-acts : (d : Deployed) (n : ℕ) (xs ys zs : List Act) → n ≡ d.sites → xs ≡ [] → ys ≡ xs ++ hops d → zs ≡ ys ++ turns_to n → zs ≡ later_acts d
+later-acts d n xs ys zs e f p q =
+    q ∙ (ap (λ (m : ℕ). ys ++ turns_to m) e ∙ ap (λ (v : List Act). v ++ turns d) (p ∙ ap (λ (v : List Act). v ++ hops d) f))

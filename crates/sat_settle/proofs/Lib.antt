@@ -13,7 +13,8 @@ pub mod Going
 pub mod Until
 pub mod Loops
 pub mod Ranges
-pub mod Turning
 pub mod Opened
+pub mod Bulking
+pub mod Turning
 pub mod Joining
 pub mod Settled

@@ -82,14 +82,24 @@ pub sites-more : (F : Deployed → ℕ → List Entry → List Entry) (v w u : W
     k ≡ min (n + m) (2 ^ 64 - 1) → Steps F v (below (i + 1)) k u
 sites-more F v w u i n m k s same p e = steps-more F v w u (below i) (below (i + 1)) i n m k s same p e (below-more i)
 
+-- that stops at one of the first so many
+pub count-stop : (size : Deployed → ℕ) (F : Deployed → ℕ → List Entry → List Entry) (v w u : WorldSeen) (i c n : ℕ) → ((d : Deployed) (x : ℕ) (h : List Entry) → Extends h (F d x h)) → c ≡ size v.deployment → i < c →
+    Steps F v (below i) n w → Stops w (F w.deployment i) u → Stops v (λ h. for_each (F v.deployment) (below (size v.deployment)) h) u
+count-stop size F v w u i c n ext e l s p =
+    let q : (ys : List ℕ) × (below c ≡ below i ++ i ∷ ys) = below-rest c i l in
+    steps-stop F v w u (below i) q.0 (below (size v.deployment)) i n ext s p (ap below (sym e) ∙ q.1)
+
+-- or comes to its end
+pub count-end : (size : Deployed → ℕ) (F : Deployed → ℕ → List Entry → List Entry) (v w : WorldSeen) (i c n : ℕ) → c ≡ size v.deployment → i ≡ c → Steps F v (below i) n w →
+    Makes v (λ h. for_each (F v.deployment) (below (size v.deployment)) h) n w
+count-end size F v w i c n e f s = subst (λ (m : ℕ). Makes v (λ h. for_each (F v.deployment) (below m) h) n w) (f ∙ e) s.makes
+
 pub sites-stop : (F : Deployed → ℕ → List Entry → List Entry) (v w u : WorldSeen) (i c n : ℕ) → ((d : Deployed) (x : ℕ) (h : List Entry) → Extends h (F d x h)) → c ≡ v.deployment.sites → i < c →
     Steps F v (below i) n w → Stops w (F w.deployment i) u → Stops v (λ h. for_each (F v.deployment) (below v.deployment.sites) h) u
-sites-stop F v w u i c n ext e l s p =
-    let q : (ys : List ℕ) × (below c ≡ below i ++ i ∷ ys) = below-rest c i l in
-    steps-stop F v w u (below i) q.0 (below v.deployment.sites) i n ext s p (ap below (sym e) ∙ q.1)
+sites-stop F v w u i c n ext e l s p = count-stop (λ d. d.sites) F v w u i c n ext e l s p
 
 pub sites-end : (F : Deployed → ℕ → List Entry → List Entry) (v w : WorldSeen) (i c n : ℕ) → c ≡ v.deployment.sites → i ≡ c → Steps F v (below i) n w → Makes v (λ h. for_each (F v.deployment) (below v.deployment.sites) h) n w
-sites-end F v w i c n e f s = subst (λ (m : ℕ). Makes v (λ h. for_each (F v.deployment) (below m) h) n w) (f ∙ e) s.makes
+sites-end F v w i c n e f s = count-end (λ d. d.sites) F v w i c n e f s
 
 -- ---- loops over a list of acts
 

@@ -95,12 +95,12 @@ pub all-beats-extend : (d : Deployed) (h : List Entry) → Extends h (beats_all 
 all-beats-extend d h = for_each-extends (beats_from d) (below d.sites) h (from-extends d)
 
 -- the same beats one after another
-flat : {X Y : Type 0} (f : Y → List Entry → List Entry) (g : X → List Y) (xs : List X) (h : List Entry) → for_each f (joined g xs) h ≡ for_each (λ x k. for_each f (g x) k) xs h
+pub flat : {X Y : Type 0} (f : Y → List Entry → List Entry) (g : X → List Y) (xs : List X) (h : List Entry) → for_each f (joined g xs) h ≡ for_each (λ x k. for_each f (g x) k) xs h
 unfolding for_each
 flat f g [] h = refl
 flat f g (x ∷ xs) h = for_each-more f (g x) (joined g xs) h ∙ flat f g xs (for_each f (g x) h)
 
-each-same : {X : Type 0} (f g : X → List Entry → List Entry) (xs : List X) (h : List Entry) → ((x : X) (k : List Entry) → f x k ≡ g x k) → for_each f xs h ≡ for_each g xs h
+pub each-same : {X : Type 0} (f g : X → List Entry → List Entry) (xs : List X) (h : List Entry) → ((x : X) (k : List Entry) → f x k ≡ g x k) → for_each f xs h ≡ for_each g xs h
 unfolding for_each
 each-same f g [] h w = refl
 each-same f g (x ∷ xs) h w = ap (λ (k : List Entry). for_each f xs k) (w x h) ∙ each-same f g xs (g x h) w

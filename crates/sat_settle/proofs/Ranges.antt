@@ -2,7 +2,7 @@
 use Rattle.std.specs.Prelude.{◌≡◌, ◌⊎◌, ◌<◌, ◌+◌, ◌==◌, ℕ, Bool, true, false, List, [], ◌∷◌, ◌++◌, length, map, get_or, Option, Some, None, if◌then◌else◌, refl}
 use Rattle.std.proofs.Common.{sym, subst, inl, inr}
 use Rattle.sat_label.specs.Members.{In}
-use Rattle.sat_label.proofs.Members.{In-get, In-parts, In-filter}
+use Rattle.sat_label.proofs.Members.{In-get, In-right, In-parts, In-filter}
 use Rattle.sat_label.specs.Words.{below}
 use Rattle.sat_label.specs.declared.node.NodeId.{NodeId}
 use Rattle.sat_label.specs.declared.node.NodeId.TheVariants.{Site, Serializer}
@@ -20,6 +20,7 @@ use Rattle.sat_act.proofs.Plans.{tree_in_plans}
 use Rattle.sat_act.proofs.Valid.{is_valid, has_trees}
 use Rattle.sat_world.proofs.Lists.{index-at}
 use Rattle.sat_rest.specs.Ends.{IsWithin}
+use Rattle.sat_settle.specs.RoundActs.{later_acts}
 use Rattle.sat_rest.proofs.Totals.{In-joined, below-In}
 use Rattle.sat_rest.proofs.Rounds.{edge-turned}
 
@@ -107,11 +108,16 @@ may-try d a m =
 pub in-at : {X : Type 0} (xs : List X) (i : ℕ) (x : X) → i < length xs → x ≡ get_or xs i x → In xs x
 in-at xs i x l at = In-get xs i x (index-at xs i x l at)
 
-acts-in : (d : Deployed) (acts : List Act) (i : ℕ) (a : Act) → acts ≡ round_acts d → i < length acts → a ≡ get_or acts i a → MayTry d a
-acts-in d acts i a e l at = may-try d a (subst (λ (xs : List Act). In xs a) e (in-at acts i a l at))
+-- an act of the list is one of a round
+pub later-in : (d : Deployed) (acts : List Act) (i : ℕ) (a : Act) → acts ≡ later_acts d → i < length acts → a ≡ get_or acts i a → In (round_acts d) a
+unfolding round_acts
+later-in d acts i a e l at = In-right (bulks d) (later_acts d) a (subst (λ (xs : List Act). In xs a) e (in-at acts i a l at))
 
-pub act-of : (d x : Deployed) (acts : List Act) (i : ℕ) (a : Act) → acts ≡ round_acts d → i < length acts → a ≡ get_or acts i a → x ≡ d → IsActOf x a
+acts-in : (d : Deployed) (acts : List Act) (i : ℕ) (a : Act) → acts ≡ later_acts d → i < length acts → a ≡ get_or acts i a → MayTry d a
+acts-in d acts i a e l at = may-try d a (later-in d acts i a e l at)
+
+pub act-of : (d x : Deployed) (acts : List Act) (i : ℕ) (a : Act) → acts ≡ later_acts d → i < length acts → a ≡ get_or acts i a → x ≡ d → IsActOf x a
 act-of d x acts i a e l at same = subst (λ (y : Deployed). IsActOf y a) (sym same) (acts-in d acts i a e l at).range
 
-pub act-plain : (d : Deployed) (acts : List Act) (i : ℕ) (a : Act) → acts ≡ round_acts d → i < length acts → a ≡ get_or acts i a → is_settle a ≡ false
+pub act-plain : (d : Deployed) (acts : List Act) (i : ℕ) (a : Act) → acts ≡ later_acts d → i < length acts → a ≡ get_or acts i a → is_settle a ≡ false
 act-plain d acts i a e l at = (acts-in d acts i a e l at).plain

@@ -1,5 +1,5 @@
 -- Rounds, until a quiet one.
-use Rattle.std.specs.Prelude.{◌≡◌, ◌≤◌, ◌<◌, ◌+◌, ◌-◌, ◌^◌, ◌==◌, ℕ, zero, suc, min, Bool, true, false, List, length, take, get_or, refl}
+use Rattle.std.specs.Prelude.{◌≡◌, ◌≤◌, ◌<◌, ◌+◌, ◌-◌, ◌^◌, ◌==◌, ℕ, zero, suc, min, Bool, true, false, List, length, take, refl}
 use Rattle.std.proofs.Common.{sym, subst, ap, ◌∙◌, arith}
 use Rattle.std.proofs.lemmas.Bool.Decides.{nat_tests}
 use Rattle.std.proofs.lemmas.List.{take_all}
@@ -8,18 +8,22 @@ use Rattle.sat_act.specs.declared.entry.Entry.{Entry}
 use Rattle.sat_act.specs.Deployed.{Deployed}
 use Rattle.sat_act.specs.Limits.{IsDeployment}
 use Rattle.sat_act.specs.Runs.{IsRun}
-use Rattle.sat_act.specs.Settling.{capped, for_each, left, round, round_acts, rounds, until_refused}
+use Rattle.sat_act.specs.Settling.{bulks, capped, for_each, left, round, round_acts, rounds, until_refused}
 use Rattle.sat_label.specs.Members.{In}
 use Rattle.sat_rest.specs.Ends.{IsWithin}
+use Rattle.sat_rest.proofs.Bulked.{AreRefused}
 use Rattle.sat_rest.proofs.Rounds.{round-act, until-ends}
 use Rattle.sat_rest.proofs.Settles.{Progress, round-progress}
 use Rattle.sat_world.specs.Seen.{WorldSeen}
 use Rattle.sat_world.specs.Stands.{StandsFor}
+use Rattle.sat_settle.specs.RoundActs.{later_acts}
+use Rattle.sat_settle.specs.Rounds.{later_round}
 use Rattle.sat_settle.specs.Going.{Extends, Reaches, StopsBefore, Makes, Stops, MakesUntil, StopsUntil, MakesRounds, StopsInRounds, EndsRounds, rounds_from}
+use Rattle.sat_settle.proofs.Bulking.{later-is-round, round-refused}
 use Rattle.sat_settle.proofs.Extending.{extends-self, extends-trans, longer, same-length, round-extends, rounds-extends, capped-none}
 use Rattle.sat_settle.proofs.Going.{reaches-on}
 use Rattle.sat_settle.proofs.Loops.{Steps}
-use Rattle.sat_settle.proofs.Ranges.{in-at, within}
+use Rattle.sat_settle.proofs.Ranges.{within}
 
 -- ---- rounds with enough fuel
 
@@ -62,6 +66,7 @@ pub record Turns (d : Deployed) (h : List Entry) (n done : ℕ) (w : WorldSeen) 
   pub all : left d h ≡ n + fuel
   pub enough : left d now ≤ fuel
   pub rest : rounds d (left d h) h ≡ (n + (rounds d fuel now).0, (rounds d fuel now).1)
+  pub bulked : 1 ≤ n → AreRefused d (bulks d) now
 
 pub record Rounds (v : WorldSeen) (n done : ℕ) (w : WorldSeen) : Type 0 where
   pub deployment : w.deployment ≡ v.deployment
@@ -77,12 +82,30 @@ rounds-none v = record {
     all = omega arith;
     enough = omega arith;
     rest = ap (λ (n : ℕ). (n, (rounds v.deployment (left v.deployment h) h).1)) (let e : (rounds v.deployment (left v.deployment h) h).0 ≡ 0 + (rounds v.deployment (left v.deployment h) h).0 = omega arith in e);
+    bulked = λ l. absurd (omega arith);
   };
 }
 
+-- what is done in a round behind n others: all of it, or what is left of it once the bulks are refused
+abbrev IsRound : (Deployed → List Entry → List Entry) → ℕ → Type 0
+IsRound F n = (d : Deployed) (h : List Entry) → (1 ≤ n → AreRefused d (bulks d) h) → F d h ≡ round d h
+
+pub whole-round : (n : ℕ) → IsRound round n
+whole-round n d h w = refl
+
+pub rest-of-round : (n : ℕ) → 1 ≤ n → IsRound later_round n
+rest-of-round n l d h w = later-is-round d h (w l)
+
 -- what a round made in the world's deployment, in the first one
-told : (v w u : WorldSeen) (m : ℕ) (h : List Entry) → w.deployment ≡ v.deployment → Makes w (round w.deployment) m u → IsRun v.deployment h → StandsFor w h → Reaches v.deployment h (round v.deployment h) m u
-told v w u m h same p run st = subst (λ (d : Deployed). Reaches d h (round d h) m u) same (p h (subst (λ (d : Deployed). IsRun d h) (sym same) run) st)
+told : (F : Deployed → List Entry → List Entry) (v w u : WorldSeen) (m : ℕ) (h : List Entry) → F v.deployment h ≡ round v.deployment h → w.deployment ≡ v.deployment → Makes w (F w.deployment) m u → IsRun v.deployment h → StandsFor w h →
+    Reaches v.deployment h (round v.deployment h) m u
+told F v w u m h is same p run st =
+    subst (λ (k : List Entry). Reaches v.deployment h k m u) is (subst (λ (d : Deployed). Reaches d h (F d h) m u) same (p h (subst (λ (d : Deployed). IsRun d h) (sym same) run) st))
+
+told-stop : (F : Deployed → List Entry → List Entry) (v w u : WorldSeen) (h : List Entry) → F v.deployment h ≡ round v.deployment h → w.deployment ≡ v.deployment → Stops w (F w.deployment) u → IsRun v.deployment h → StandsFor w h →
+    StopsBefore v.deployment h (round v.deployment h) u
+told-stop F v w u h is same p run st =
+    subst (λ (k : List Entry). StopsBefore v.deployment h k u) is (subst (λ (d : Deployed). StopsBefore d h (F d h) u) same (p h (subst (λ (d : Deployed). IsRun d h) (sym same) run) st))
 
 fuel-more : (a b c e f : ℕ) → a + c ≤ b + e → b < a → e ≤ f → (g : ℕ) × (f ≡ suc g) × (c ≤ g)
 fuel-more a b c e zero p q r = absurd (omega arith)
@@ -104,17 +127,18 @@ turn-more d h n done m k w u within t q some e =
       enough = f.2;
       rest = t.rest ∙ (ap (λ (x : ℕ). (n + (rounds d x t.now).0, (rounds d x t.now).1)) f.1 ∙ (ap (λ (x : ℕ × List Entry). (n + x.0, x.1)) (rounds-more d f.0 t.now l)
           ∙ ap (λ (x : ℕ). (x, (rounds d f.0 (round d t.now)).1)) (regroup n (rounds d f.0 (round d t.now)).0)));
+      bulked = λ l. round-refused d t.now within t.reaches.run;
     }
   where
     regroup : (n x : ℕ) → n + (x + 1) ≡ (n + 1) + x
     regroup n x = omega arith
 
-pub rounds-next : (v w u : WorldSeen) (n done m k : ℕ) → IsWithin v.deployment → Rounds v n done w → u.deployment ≡ w.deployment → Makes w (round w.deployment) m u → (m ≡ 0 → ⊥) → k ≡ min (done + m) (2 ^ 64 - 1) → Rounds v (n + 1) k u
-rounds-next v w u n done m k within r same p some e = record {
+pub rounds-next : (F : Deployed → List Entry → List Entry) (v w u : WorldSeen) (n done m k : ℕ) → IsRound F n → IsWithin v.deployment → Rounds v n done w → u.deployment ≡ w.deployment → Makes w (F w.deployment) m u → (m ≡ 0 → ⊥) → k ≡ min (done + m) (2 ^ 64 - 1) → Rounds v (n + 1) k u
+rounds-next F v w u n done m k is within r same p some e = record {
   deployment = same ∙ r.deployment;
   each = λ h run st.
       let t : Turns v.deployment h n done w = r.each h run st in
-      turn-more v.deployment h n done m k w u within t (told v w u m t.now r.deployment p t.reaches.run t.reaches.stands) some e;
+      turn-more v.deployment h n done m k w u within t (told F v w u m t.now (is v.deployment t.now t.bulked) r.deployment p t.reaches.run t.reaches.stands) some e;
 }
 
 capped-small : (n : ℕ) → n < 2 ^ 64 → n ≡ min n (2 ^ 64 - 1)
@@ -130,10 +154,10 @@ turn-end d h n done m w u t q none few =
       rounds = capped-small n few ∙ ap capped (sym (ap (λ (x : ℕ × List Entry). x.0) f ∙ let z : n + 0 ≡ n = omega arith in z));
     }
 
-pub rounds-done : (v w u : WorldSeen) (n done m : ℕ) → Rounds v n done w → Makes w (round w.deployment) m u → m ≡ 0 → n < 2 ^ 64 → MakesRounds v n done u
-rounds-done v w u n done m r p none few h run st =
+pub rounds-done : (F : Deployed → List Entry → List Entry) (v w u : WorldSeen) (n done m : ℕ) → IsRound F n → Rounds v n done w → Makes w (F w.deployment) m u → m ≡ 0 → n < 2 ^ 64 → MakesRounds v n done u
+rounds-done F v w u n done m is r p none few h run st =
     let t : Turns v.deployment h n done w = r.each h run st in
-    turn-end v.deployment h n done m w u t (told v w u m t.now r.deployment p t.reaches.run t.reaches.stands) none few
+    turn-end v.deployment h n done m w u t (told F v w u m t.now (is v.deployment t.now t.bulked) r.deployment p t.reaches.run t.reaches.stands) none few
 
 -- a round's end stands before the end of all rounds
 round-before : (d : Deployed) (h : List Entry) (n : ℕ) → IsWithin d → IsRun d h → left d h ≤ n → Extends (round d h) (rounds d n h).1
@@ -160,11 +184,10 @@ round-before d h n within run enough = go (length (round d h) == length h) refl 
     go true e n le = still n (equal (length (round d h)) (length h) e)
     go false e n le = more n (unequal (length (round d h)) (length h) e p.longer) le
 
-pub rounds-stop : (v w u : WorldSeen) (n done : ℕ) → IsWithin v.deployment → Rounds v n done w → Stops w (round w.deployment) u → StopsInRounds v u
-rounds-stop v w u n done within r p h run st =
+pub rounds-stop : (F : Deployed → List Entry → List Entry) (v w u : WorldSeen) (n done : ℕ) → IsRound F n → IsWithin v.deployment → Rounds v n done w → Stops w (F w.deployment) u → StopsInRounds v u
+rounds-stop F v w u n done is within r p h run st =
     let t : Turns v.deployment h n done w = r.each h run st in
-    let s : StopsBefore v.deployment t.now (round v.deployment t.now) u =
-    subst (λ (d : Deployed). StopsBefore d t.now (round d t.now) u) r.deployment (p t.now (subst (λ (d : Deployed). IsRun d t.now) (sym r.deployment) t.reaches.run) t.reaches.stands) in
+    let s : StopsBefore v.deployment t.now (round v.deployment t.now) u = told-stop F v w u t.now (is v.deployment t.now t.bulked) r.deployment p t.reaches.run t.reaches.stands in
     let e : Extends (round v.deployment t.now) (rounds_from v.deployment h).1 =
     subst (λ (x : ℕ × List Entry). Extends (round v.deployment t.now) x.1) (sym t.rest) (round-before v.deployment t.now t.fuel within t.reaches.run t.enough) in
     record { now = s.now; stands = s.stands; run = s.run; from = extends-trans h t.now s.now t.reaches.from s.from; to = extends-trans s.now (round v.deployment t.now) (rounds_from v.deployment h).1 s.to e }
@@ -180,11 +203,18 @@ rounds-give-up v w n done r h run st =
       to = subst (λ (x : ℕ × List Entry). Extends t.now x.1) (sym t.rest) (rounds-extends v.deployment t.fuel t.now);
     }
 
--- ---- one act of a round
+-- ---- the first round
 
--- it is one of the acts of a round
-pub until-in : (d : Deployed) (acts : List Act) (i : ℕ) (a : Act) → acts ≡ round_acts d → i < length acts → a ≡ get_or acts i a → In (round_acts d) a
-until-in d acts i a e l at = subst (λ (xs : List Act). In xs a) e (in-at acts i a l at)
+pub first-quiet : (v u : WorldSeen) (m : ℕ) → Makes v (round v.deployment) m u → m ≡ 0 → MakesRounds v 0 0 u
+first-quiet v u m p none = rounds-done round v v u 0 0 m (whole-round 0) (rounds-none v) p none (omega arith)
+
+pub first-next : (v u : WorldSeen) (m : ℕ) → IsWithin v.deployment → u.deployment ≡ v.deployment → Makes v (round v.deployment) m u → (m ≡ 0 → ⊥) → m < 2 ^ 64 → Rounds v 1 m u
+first-next v u m within same p some few = rounds-next round v v u 0 0 m m (whole-round 0) within (rounds-none v) same p some (omega arith)
+
+pub first-stop : (v u : WorldSeen) → IsWithin v.deployment → Stops v (round v.deployment) u → StopsInRounds v u
+first-stop v u within p = rounds-stop round v v u 0 0 (whole-round 0) within (rounds-none v) p
+
+-- ---- one act of a round, as the loop has it
 
 along : (d e : Deployed) (a : Act) → e ≡ d → In (round_acts d) a → In (round_acts e) a
 along d e a same m = subst (λ (x : Deployed). In (round_acts x) a) (sym same) m
@@ -198,13 +228,10 @@ until-makes d v w a n k same m p h run st = p h (until_refused v.deployment a h)
 pub until-stops : (d : Deployed) (v w : WorldSeen) (a : Act) → IsDeployment d → v.deployment ≡ d → In (round_acts d) a → StopsUntil v a w → Stops v (until_refused v.deployment a) w
 until-stops d v w a k same m p h run st = p h (until_refused v.deployment a h) run st (until-ends v.deployment a h (within-along d v.deployment same k) run (round-act v.deployment a (along d v.deployment a same m)))
 
-round-acts : (d : Deployed) (acts : List Act) (h : List Entry) → acts ≡ round_acts d → for_each (until_refused d) acts h ≡ round d h
-unfolding round
-round-acts d acts h e = ap (λ (xs : List Act). for_each (until_refused d) xs h) e
+-- the acts of the list, one after another
+pub later-makes : (v w : WorldSeen) (acts : List Act) (i n : ℕ) → acts ≡ later_acts v.deployment → length acts ≤ i → Steps (λ (d : Deployed) (a : Act). until_refused d a) v (take i acts) n w → Makes v (later_round v.deployment) n w
+later-makes v w acts i n e l s h run st =
+    subst (λ (xs : List Act). Reaches v.deployment h (for_each (until_refused v.deployment) xs h) n w) (take_all i acts l ∙ e) (s.makes h run st)
 
-pub round-makes : (v w : WorldSeen) (acts : List Act) (i n : ℕ) → acts ≡ round_acts v.deployment → length acts ≤ i → Steps (λ (d : Deployed) (a : Act). until_refused d a) v (take i acts) n w → Makes v (round v.deployment) n w
-round-makes v w acts i n e l s h run st =
-    subst (λ (k : List Entry). Reaches v.deployment h k n w) (ap (λ (xs : List Act). for_each (until_refused v.deployment) xs h) (take_all i acts l) ∙ round-acts v.deployment acts h e) (s.makes h run st)
-
-pub round-stops : (v w : WorldSeen) (acts : List Act) → acts ≡ round_acts v.deployment → Stops v (for_each (until_refused v.deployment) acts) w → Stops v (round v.deployment) w
-round-stops v w acts e p h run st = subst (λ (k : List Entry). StopsBefore v.deployment h k w) (round-acts v.deployment acts h e) (p h run st)
+pub later-stops : (v w : WorldSeen) (acts : List Act) → acts ≡ later_acts v.deployment → Stops v (for_each (until_refused v.deployment) acts) w → Stops v (later_round v.deployment) w
+later-stops v w acts e p h run st = subst (λ (xs : List Act). StopsBefore v.deployment h (for_each (until_refused v.deployment) xs h) w) e (p h run st)

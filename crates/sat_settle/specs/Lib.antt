@@ -6,4 +6,5 @@ pub mod LoadLeft
 pub mod Going
 pub mod Openings
 pub mod RoundActs
+pub mod Rounds
 pub mod Bounds

@@ -1,5 +1,5 @@
 -- The parts of the list of a round's acts, as the calls make them.
-use Rattle.std.specs.Prelude.{ℕ, ◌==◌, List, [], ◌∷◌, length, map, None, if◌then◌else◌}
+use Rattle.std.specs.Prelude.{ℕ, ◌==◌, List, [], ◌∷◌, ◌++◌, length, map, None, if◌then◌else◌}
 use Rattle.sat_label.specs.Words.{below}
 use Rattle.sat_tree.specs.Shape.{TreeShape}
 use Rattle.sat_tree.specs.Cut.{neighbours}
@@ -7,19 +7,12 @@ use Rattle.sat_act.specs.declared.act.Act.{Act}
 use Rattle.sat_act.specs.declared.act.Act.TheVariants as act
 use Rattle.sat_act.specs.declared.deployment.Plan.{Plan}
 use Rattle.sat_act.specs.declared.deployment.Plan.TheVariants as plan
-use Rattle.sat_act.specs.Settling.{joined}
+use Rattle.sat_act.specs.Deployed.{Deployed}
+use Rattle.sat_act.specs.Settling.{joined, hops, turns}
 
 -- the bulk of the next payload of a lane, none of a site's to itself
 abbrev pub bulk_to : ℕ → ℕ → ℕ → List Act
 bulk_to i g j = if i == j then [] else act.Bulk i g j None ∷ []
-
--- those of gear g of site i to the first n sites
-abbrev pub bulks_of : ℕ → ℕ → ℕ → List Act
-bulks_of i n g = joined (λ j. bulk_to i g j) (below n)
-
--- those of the first m gears of site i
-abbrev pub bulks_from : ℕ → ℕ → ℕ → List Act
-bulks_from n m i = joined (λ g. bulks_of i n g) (below m)
 
 -- a hop from each neighbour of serializer z
 abbrev pub hops_to : ℕ → TreeShape → ℕ → List Act
@@ -41,3 +34,7 @@ turns_of j = act.Turn j ∷ act.Stamp j ∷ act.Advance j ∷ []
 -- those of the first n sites
 abbrev pub turns_to : ℕ → List Act
 turns_to n = joined turns_of (below n)
+
+-- the acts of a round behind its bulks
+abbrev pub later_acts : Deployed → List Act
+later_acts d = hops d ++ turns d

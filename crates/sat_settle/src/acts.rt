@@ -1,60 +1,12 @@
-//! The acts of a round, in order.
+//! The acts of a round behind its bulks, in order.
 ghost use Rattle.std.specs.Prelude.{◌≡◌, ◌<◌, ◌+◌, ◌++◌, ℕ, length, OnOk, IfOk};
 ghost use Rattle.sat_act.specs.Limits.{IsDeployment};
-ghost use Rattle.sat_act.specs.Settling.{hops, bulks, round_acts};
-ghost use Rattle.sat_settle.specs.RoundActs.{bulk_to, bulks_of, bulks_from, hops_to, hops_in, hops_by, turns_to};
+ghost use Rattle.sat_act.specs.Settling.{hops};
+ghost use Rattle.sat_settle.specs.RoundActs.{hops_to, hops_in, hops_by, later_acts, turns_to};
 
 use sat_act::{Act, Acts, Deployment, Plan};
 use sat_tree::Tree;
 use std::alloc::{AllocError, Global};
-
-// The next payload of a lane, none of a site's to itself.
-fn add_bulk(acts: &mut Acts, from: u16, gear: u16, to: u16) -> Result<(), AllocError>
-    ensures { OnOk result (acts.new ≡ acts.old ++ bulk_to from gear to) }
-{
-    if from == to {
-        return Ok(());
-    }
-    acts.push(Act::Bulk {
-        from,
-        gear,
-        to,
-        number: None,
-    })?;
-    Ok(())
-}
-
-// Those of a gear.
-fn add_gear(acts: &mut Acts, from: u16, gear: u16, sites: u16) -> Result<(), AllocError>
-    ensures { OnOk result (acts.new ≡ acts.old ++ bulks_of from sites gear) }
-{
-    for to in 0..sites {
-        add_bulk(acts, from, gear, to)?;
-    }
-    Ok(())
-}
-
-// Those of a site.
-fn add_site(acts: &mut Acts, from: u16, gears: u16, sites: u16) -> Result<(), AllocError>
-    ensures { OnOk result (acts.new ≡ acts.old ++ bulks_from sites gears from) }
-{
-    for gear in 0..gears {
-        add_gear(acts, from, gear, sites)?;
-    }
-    Ok(())
-}
-
-// Those of all sites.
-fn add_bulks(acts: &mut Acts, d: &Deployment) -> Result<(), AllocError>
-    ensures { OnOk result (acts.new ≡ acts.old ++ bulks d.now) }
-{
-    let sites = d.sites();
-    let gears = d.gears();
-    for from in 0..sites {
-        add_site(acts, from, gears, sites)?;
-    }
-    Ok(())
-}
 
 // A hop of a serializer from each of its neighbours.
 fn add_serializer(acts: &mut Acts, epoch: u16, tree: &Tree, to: u16) -> Result<(), AllocError>
@@ -116,14 +68,13 @@ fn add_turns(acts: &mut Acts, sites: u16) -> Result<(), AllocError>
     Ok(())
 }
 
-/// The acts of a round of a deployment, in order.
-pub fn list_round(alloc: Global, d: &Deployment) -> Result<Acts, AllocError>
-    ensures acts { IfOk result (λ acts. acts ≡ round_acts d.now) }
+/// The acts of a round of a deployment behind its bulks, in order.
+pub fn list_later(alloc: Global, d: &Deployment) -> Result<Acts, AllocError>
+    ensures acts { IfOk result (λ acts. acts ≡ later_acts d.now) }
     ensures limits { IsDeployment d.now }
 {
     let sites = d.sites();
     let mut acts = Acts::new(alloc);
-    add_bulks(&mut acts, d)?;
     add_hops(&mut acts, d)?;
     add_turns(&mut acts, sites)?;
     Ok(acts)

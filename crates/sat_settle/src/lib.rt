@@ -2,6 +2,7 @@
 #![tactic(auto)]
 
 mod acts;
+mod bulks;
 mod load_acts;
 mod load_draft;
 mod load_draws;

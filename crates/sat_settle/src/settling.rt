@@ -4,26 +4,29 @@ ghost use Rattle.sat_act.specs.declared.entry.Entry.{Entry};
 ghost use Rattle.sat_act.specs.Limits.{IsDeployment};
 ghost use Rattle.sat_act.specs.Runs.{IsRun};
 ghost use Rattle.sat_act.specs.Headline.{IsGood};
-ghost use Rattle.sat_act.specs.Settling.{answer_of, round, round_acts, settle as settled};
+ghost use Rattle.sat_act.specs.Settling.{answer_of, round, settle as settled};
 ghost use Rattle.sat_rest.specs.Rest.{CanEnd, IsAtRest};
 ghost use Rattle.sat_world.specs.Stands.{StandsFor};
 ghost use Rattle.sat_settle.specs.Going.{Makes, Stops, MakesRounds, StopsInRounds, StopsBefore};
+ghost use Rattle.sat_settle.specs.RoundActs.{later_acts};
+ghost use Rattle.sat_settle.specs.Rounds.{later_round};
 ghost use Rattle.sat_settle.specs.Bounds.{IsWithinBound};
 
-use crate::acts::list_round;
+use crate::acts::list_later;
+use crate::bulks::bulk_all;
 use crate::opening::open;
 use crate::trying::until_refused;
 use sat_act::{Act, Answer};
 use sat_world::World;
 use std::alloc::AllocError;
 
-// A round: each of its acts until it is refused. It answers how many acts were done.
-fn do_round(world: &mut World, acts: &[Act]) -> Result<u64, AllocError>
+// The acts of a round behind its bulks, each until it is refused. It answers how many acts were done.
+fn later_round(world: &mut World, acts: &[Act]) -> Result<u64, AllocError>
     requires limits { IsDeployment world.old.deployment }
-    requires acts { acts.now ≡ round_acts world.old.deployment }
+    requires acts { acts.now ≡ later_acts world.old.deployment }
     ensures deployment { world.new.deployment ≡ world.old.deployment }
-    ensures ok { IfOk result (λ done. Makes world.old (round world.old.deployment) done world.new) }
-    ensures err { OnErr result (Stops world.old (round world.old.deployment) world.new) }
+    ensures ok { IfOk result (λ done. Makes world.old (later_round world.old.deployment) done world.new) }
+    ensures err { OnErr result (Stops world.old (later_round world.old.deployment) world.new) }
 {
     let mut done: u64 = 0;
     for act in acts {
@@ -33,18 +36,35 @@ fn do_round(world: &mut World, acts: &[Act]) -> Result<u64, AllocError>
     Ok(done)
 }
 
-// Rounds, until one in which no act is done: how many had one, and how many acts were done. No memory holds the entries of 2^64 - 1
-// rounds.
+// A whole round.
+fn first_round(world: &mut World, acts: &[Act]) -> Result<u64, AllocError>
+    requires limits { IsDeployment world.old.deployment }
+    requires acts { acts.now ≡ later_acts world.old.deployment }
+    ensures deployment { world.new.deployment ≡ world.old.deployment }
+    ensures ok { IfOk result (λ done. Makes world.old (round world.old.deployment) done world.new) }
+    ensures err { OnErr result (Stops world.old (round world.old.deployment) world.new) }
+{
+    let first = bulk_all(world)?;
+    let then = later_round(world, acts)?;
+    Ok(first.saturating_add(then))
+}
+
+// Rounds, until one in which no act is done: how many had one, and how many acts were done. Behind the bulks of the first round all
+// payloads of all lanes are taken, and no act of a round makes one: the later rounds leave the bulks out, which would be refused. No
+// memory holds the entries of 2^64 - 1 rounds.
 fn do_rounds(world: &mut World, acts: &[Act]) -> Result<(u64, u64), AllocError>
     requires limits { IsDeployment world.old.deployment }
-    requires acts { acts.now ≡ round_acts world.old.deployment }
+    requires acts { acts.now ≡ later_acts world.old.deployment }
     ensures deployment { world.new.deployment ≡ world.old.deployment }
     ensures ok { IfOk result (λ counts. MakesRounds world.old counts.0 counts.1 world.new) }
     ensures err { OnErr result (StopsInRounds world.old world.new) }
 {
-    let mut done: u64 = 0;
-    for rounds in 0..u64::MAX {
-        let more = do_round(world, acts)?;
+    let mut done = first_round(world, acts)?;
+    if done == 0 {
+        return Ok((0, 0));
+    }
+    for rounds in 1..u64::MAX {
+        let more = later_round(world, acts)?;
         if more == 0 {
             return Ok((rounds, done));
         }
@@ -68,7 +88,7 @@ pub fn settle(world: &mut World) -> Result<Answer, AllocError>
     ensures rests { IfOk result (λ r. (h : List Entry) → IsRun world.old.deployment h → StandsFor world.old h → (end : CanEnd world.old.deployment (settled world.old.deployment h).1) → IsAtRest world.old.deployment (settled world.old.deployment h).1 end.epoch) }
     ensures err { OnErr result ((h : List Entry) → IsRun world.old.deployment h → StandsFor world.old h → StopsBefore world.old.deployment h (settled world.old.deployment h).1 world.new) }
 {
-    let acts = list_round(world.allocator(), world.deployment())?;
+    let acts = list_later(world.allocator(), world.deployment())?;
     let opened = open(world)?;
     let (rounds, done) = do_rounds(world, acts.as_slice())?;
     Ok(Answer::Settled {

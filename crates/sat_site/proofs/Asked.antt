@@ -43,7 +43,7 @@ turn-none views p = go (in_stamp views)
     go false = refl
 
 kind-done : (l : Label) (kind : Kind) → true ≡ is_done (done_answer l kind)
-kind-done l (Update x) = refl
+kind-done l (Update items) = refl
 kind-done l (Move j) = refl
 kind-done l Pulse = refl
 kind-done l (Close e) = refl

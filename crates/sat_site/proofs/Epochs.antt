@@ -89,7 +89,7 @@ close-now a e view epoch b now past old = ap (λ (c : Bool). (a && c) || b) (ne_
 
 pub took-views : (d : Deployed) (i : ℕ) (views : Epochs) (s : ViewState) (l : Label) (kind : Kind) → l.kind ≡ kind → l.point.site < length views.heard → ((e : ℕ) → kind ≡ Close e → e ≡ views.view) → StandsViews d i views s →
     StandsViews d i (front_views views l kind) (views_next s (done_answer l kind))
-took-views d i views s l (Update n) e lt now st = st
+took-views d i views s l (Update items) e lt now st = st
 took-views d i views s l (Move n) e lt now st = record {
   view = st.view;
   emission = st.emission;

@@ -1,9 +1,10 @@
 -- What fits: what the code uses of it, and that it is what the machine asks.
-use Rattle.std.specs.Prelude.{◌≡◌, ◌<◌, ◌≤◌, ◌+◌, ◌-◌, ◌^◌, ℕ, Bool, true, false, ◌&&◌, ◌||◌, not, ◌==◌, nat_le, nat_lt, List, [], ◌∷◌, length, map, slice_get, Option, Some, None, is_none, if◌then◌else◌, refl}
-use Rattle.std.specs.List.{list_all, list_any}
+use Rattle.std.specs.Prelude.{◌≡◌, ◌<◌, ◌≤◌, ◌+◌, ◌-◌, ◌^◌, ℕ, Bool, true, false, ◌&&◌, ◌||◌, not, ◌==◌, nat_le, nat_lt, List, [], ◌∷◌, length, map, slice_get, Option, Some, None, is_none, is_some, if◌then◌else◌, refl}
+use Rattle.std.specs.List.{list_any}
 use Rattle.std.proofs.Common.{subst, ap, sym, ◌∙◌, arith, inl, inr}
 use Rattle.std.proofs.lemmas.Bool.{and_parts, or_left, or_right, or_cases, not-true, ltb-true, leb-true, eqb-true, ne_eqb}
 use Rattle.sat_label.specs.Members.{In}
+use Rattle.sat_label.specs.Grouped.{are_items, list_of}
 use Rattle.sat_label.specs.Words.{below}
 use Rattle.sat_label.proofs.Orders.{same-point}
 use Rattle.sat_beat.specs.declared.Beat.{Beat}
@@ -13,27 +14,31 @@ use Rattle.sat_proxy.specs.Proxy.{close_in, note_of, window_of}
 use Rattle.sat_site.proofs.Equals.{point_eq-self}
 use Rattle.sat_site.proofs.Parts.{count-is, sites-are}
 use Rattle.sat_label.specs.declared.carried.Carried.{Carried}
+use Rattle.sat_label.specs.declared.items.Items.{Items}
 use Rattle.sat_label.specs.declared.label.Kind.{Kind}
 use Rattle.sat_label.specs.declared.label.Kind.TheVariants.{Update, Move, Pulse, Close}
 use Rattle.sat_label.specs.declared.label.Label.{Label}
 use Rattle.sat_label.specs.declared.point.Point.{Point}
 use Rattle.sat_label.specs.Order.{point_eq}
-use Rattle.sat_bulk.specs.declared.Payload.{Payload}
+use Rattle.sat_bulk.specs.Payloads.{Payload}
 use Rattle.sat_bulk.specs.Windows.{has_number}
-use Rattle.sat_sites.specs.Interested.{keeps}
+use Rattle.sat_sites.specs.Interested.{are_below, keeps_one, AreBelow}
+use Rattle.sat_sites.proofs.Below.{below_is}
+use Rattle.sat_machine.specs.Interests.{interest_of}
 use Rattle.sat_sites.specs.declared.shape.Shape.{Shape}
 use Rattle.sat_act.specs.Deployed.{Deployed}
-use Rattle.sat_machine.specs.Fits.{fits, is_time, is_site, is_gear, is_item, is_other, is_carried, is_kind, is_kept_kind, is_new_point, is_bulk, is_note, is_point}
+use Rattle.sat_act.specs.Parts.{items_of}
+use Rattle.sat_machine.specs.Fits.{fits, has_parts, is_time, is_site, is_gear, is_group, is_item, is_other, is_carried, are_known, is_kind, is_kept_kind, is_new_point, is_bulk, is_note, is_point}
 use Rattle.sat_machine.specs.Look.{label_of, waiting_of}
 use Rattle.sat_machine.specs.State.{SiteState}
 use Rattle.sat_site.specs.declared.input.SiteInput as code
 use Rattle.sat_site.specs.declared.input.SiteInput.TheVariants as input
 use Rattle.sat_site.specs.Changes.{shape_for}
-use Rattle.sat_site.specs.Inputs.{fits_here, fits_in, input_of, is_beat_here, is_counted, is_cut_here, is_goal_here, is_point_here, is_site_here, is_sized, is_gear_here, is_item_here, is_other_here, is_carried_here, is_kind_here, is_front_here, is_kept_here, is_guest_here, is_bulk_here, BulkFits, IsFront}
+use Rattle.sat_site.specs.Inputs.{fits_here, fits_in, input_of, is_beat_here, is_counted, is_cut_here, is_goal_here, is_point_here, is_site_here, is_sized, is_gear_here, is_item_here, is_other_here, is_carried_here, is_kind_here, is_front_here, is_group_here, is_kept_here, is_guest_here, is_bulk_here, BulkFits, IsFront}
 use Rattle.sat_site.specs.Laws.{EachFits}
-use Rattle.sat_site.specs.Seen.{SiteSeen, IsSite}
+use Rattle.sat_site.specs.Seen.{SiteSeen, IsSite, has_parts_here}
 use Rattle.sat_site.specs.Stands.{StandsSite}
-use Rattle.sat_site.proofs.Interests.{keeps-is, items-are}
+use Rattle.sat_site.proofs.Interests.{all-by, keeps-is, keeps-one-is, items-are}
 
 -- ---- what the code uses
 
@@ -43,10 +48,12 @@ fits-tick x g t e =
     let w = and_parts (is_gear_here x.shape g) (is_time t) (and_parts (fits_here x (input.Tick g t)) true e).0 in
     (ltb-true g x.shape.gears w.0, leb-true t (2 ^ 62) w.1)
 
-pub fits-write : (x : SiteSeen) (seen : Carried) (n : ℕ) (value : List ℕ) → fits_in x (input.Write seen n value) ≡ true → n < length x.shape.interest.replicas
+pub fits-write : (x : SiteSeen) (seen : Carried) (items : Items) (values : List (List ℕ)) → fits_in x (input.Write seen items values) ≡ true → AreBelow (length x.shape.interest.replicas) (list_of items) × (length values ≡ length (list_of items))
 unfolding fits_here
-fits-write x seen n value e =
-    ltb-true n (length x.shape.interest.replicas) (and_parts (is_carried_here x.shape seen) (is_item_here x.shape n) (and_parts (fits_here x (input.Write seen n value)) true e).0).1
+fits-write x seen items values e =
+    let w = and_parts (is_carried_here x.shape seen) (is_group_here x.shape items && (length values == length (list_of items))) (and_parts (fits_here x (input.Write seen items values)) true e).0 in
+    let v = and_parts (is_group_here x.shape items) (length values == length (list_of items)) w.1 in
+    (below_is (length x.shape.interest.replicas) (list_of items) (and_parts (are_items (list_of items)) _ v.0).1, eqb-true (length values) (length (list_of items)) v.1)
 
 pub fits-read : (x : SiteSeen) (seen : Carried) (n : ℕ) → fits_in x (input.Read seen n) ≡ true → n < length x.shape.interest.replicas
 unfolding fits_here
@@ -68,8 +75,11 @@ unfolding fits_here
 fits-turn x None e l same = absurd (cc)
 fits-turn x (Some m) e l same = let q : m ≡ l = cc in subst (IsFront x) q (front-fits x m (and_parts (is_front_here x.shape x.views.view m) true e).0)
 
-kept-kind : (shape : Shape) (kind : Kind) → is_kept_here shape kind ≡ true → (n : ℕ) × (kind ≡ Update n) × (n < length shape.interest.replicas) × (keeps shape.interest n shape.site ≡ true)
-kept-kind shape (Update n) e = let w = and_parts (is_item_here shape n) (keeps shape.interest n shape.site) e in (n, refl, ltb-true n (length shape.interest.replicas) w.0, w.1)
+kept-kind : (shape : Shape) (kind : Kind) → is_kept_here shape kind ≡ true →
+    (items : Items) × (kind ≡ Update items) × AreBelow (length shape.interest.replicas) (list_of items) × (keeps_one shape.interest (list_of items) shape.site ≡ true)
+kept-kind shape (Update items) e =
+    let w = and_parts (is_group_here shape items) (keeps_one shape.interest (list_of items) shape.site) e in
+    (items, refl, below_is (length shape.interest.replicas) (list_of items) (and_parts (are_items (list_of items)) _ w.0).1, w.1)
 kept-kind shape (Move j) e = absurd (cc)
 kept-kind shape Pulse e = absurd (cc)
 kept-kind shape (Close n) e = absurd (cc)
@@ -82,10 +92,11 @@ pub fits-bulk : (x : SiteSeen) (from gear number : ℕ) (p : Payload) → fits_i
 unfolding fits_here
 fits-bulk x from gear number p e =
     let w = and_parts (is_bulk_here x.shape x.proxy from gear number p) (nat_lt number (2 ^ 63)) e in
-    let v = and_parts (is_other_here x.shape from && is_gear_here x.shape gear) (is_guest_here x.shape from p.label && (has_number (window_of x.proxy from gear) number || is_none (waiting_at x.proxy.pool p.label.point))) w.0 in
+    let v = and_parts (is_other_here x.shape from && is_gear_here x.shape gear) ((is_guest_here x.shape from p.label && has_parts_here x.shape (items_of p.label.kind) p.values) && (has_number (window_of x.proxy from gear) number || is_none (waiting_at x.proxy.pool p.label.point))) w.0 in
     let u = and_parts (is_other_here x.shape from) (is_gear_here x.shape gear) v.0 in
-    let t = and_parts (is_guest_here x.shape from p.label) (has_number (window_of x.proxy from gear) number || is_none (waiting_at x.proxy.pool p.label.point)) v.1 in
-    let g = and_parts (is_time p.label.point.ts && (p.label.point.site == from)) (is_kept_here x.shape p.label.kind) t.0 in
+    let t = and_parts (is_guest_here x.shape from p.label && has_parts_here x.shape (items_of p.label.kind) p.values) (has_number (window_of x.proxy from gear) number || is_none (waiting_at x.proxy.pool p.label.point)) v.1 in
+    let q = and_parts (is_guest_here x.shape from p.label) (has_parts_here x.shape (items_of p.label.kind) p.values) t.0 in
+    let g = and_parts (is_time p.label.point.ts && (p.label.point.site == from)) (is_kept_here x.shape p.label.kind) q.0 in
     let lt : from < x.shape.sites = ltb-true from x.shape.sites (and_parts (nat_lt from x.shape.sites) (not (from == x.shape.site)) u.0).0 in
     let own : p.label.point.site ≡ from = eqb-true p.label.point.site from (and_parts (is_time p.label.point.ts) (p.label.point.site == from) g.0).1 in
     record {
@@ -93,7 +104,7 @@ fits-bulk x from gear number p e =
       number = ltb-true gear x.shape.gears u.1;
       small = ltb-true number (2 ^ 63) w.1;
       made = own;
-      guest = record { item = kept-kind x.shape p.label.kind g.1; from = subst (λ (k : ℕ). k < x.shape.sites) (sym own) lt };
+      guest = record { items = kept-kind x.shape p.label.kind g.1; parts = q.1; from = subst (λ (k : ℕ). k < x.shape.sites) (sym own) lt };
       alone = λ new. none-there (waiting_at x.proxy.pool p.label.point) (subst (λ (b : Bool). (b || is_none (waiting_at x.proxy.pool p.label.point)) ≡ true) new t.1);
     }
 
@@ -130,14 +141,27 @@ fits-beat-in x from n beat e =
 item-is : (d : Deployed) (i n : ℕ) → is_item_here (shape_for d i) n ≡ is_item d n
 item-is d i n = ap (nat_lt n) (items-are d)
 
+known-is : (d : Deployed) (xs : List ℕ) → are_below (length (interest_of d).replicas) xs ≡ are_known d xs
+known-is d [] = refl
+known-is d (x ∷ xs) = λ j. nat_lt x (items-are d j) && known-is d xs j
+
+group-is : (d : Deployed) (i : ℕ) (items : Items) → is_group_here (shape_for d i) items ≡ is_group d items
+group-is d i items = ap (λ (b : Bool). are_items (list_of items) && b) (known-is d (list_of items))
+
+parts-is : (d : Deployed) (i : ℕ) (xs : List ℕ) (ps : List (Option (List ℕ))) → has_parts_here (shape_for d i) xs ps ≡ has_parts d i xs ps
+parts-is d i [] [] = refl
+parts-is d i [] (p ∷ ps) = refl
+parts-is d i (x ∷ xs) [] = refl
+parts-is d i (x ∷ xs) (p ∷ ps) = λ j. (not (keeps-is d x i j) || is_some p) && parts-is d i xs ps j
+
 kind-is : (d : Deployed) (i view : ℕ) (kind : Kind) → is_kind_here (shape_for d i) view kind ≡ is_kind d view kind
-kind-is d i view (Update n) = item-is d i n
+kind-is d i view (Update items) = group-is d i items
 kind-is d i view (Move j) = refl
 kind-is d i view Pulse = refl
 kind-is d i view (Close e) = refl
 
 kept-is : (d : Deployed) (i : ℕ) (kind : Kind) → is_kept_here (shape_for d i) kind ≡ is_kept_kind d i kind
-kept-is d i (Update n) = (λ j. item-is d i n j && keeps-is d n i j)
+kept-is d i (Update items) = (λ j. group-is d i items j && keeps-one-is d (list_of items) i j)
 kept-is d i (Move j) = refl
 kept-is d i Pulse = refl
 kept-is d i (Close e) = refl
@@ -178,18 +202,14 @@ same-new d i x s q k st = go (waiting_at x.proxy.pool q) refl (list_any (λ l. p
 
 bulk-is : (d : Deployed) (i : ℕ) (x : SiteSeen) (s : SiteState) (from gear n : ℕ) (p : Payload) → IsSite x → StandsSite d i x s → is_bulk_here x.shape x.proxy from gear n p ≡ is_bulk d i s from gear n p
 bulk-is d i x s from gear n p k st =
-    ap (λ (shape : Shape). (is_other_here shape from && is_gear_here shape gear) && (is_guest_here shape from p.label && (has_number (window_of x.proxy from gear) n || is_none (waiting_at x.proxy.pool p.label.point)))) st.shape ∙
+    ap (λ (shape : Shape). (is_other_here shape from && is_gear_here shape gear) && ((is_guest_here shape from p.label && has_parts_here shape (items_of p.label.kind) p.values) && (has_number (window_of x.proxy from gear) n || is_none (waiting_at x.proxy.pool p.label.point)))) st.shape ∙
     and-then (is_other d i from && is_gear d gear) _ _ (λ e.
     let w = and_parts (is_other d i from) (is_gear d gear) e in
     let lf : from < x.proxy.sites = subst (λ (m : ℕ). from < m) (sym (k.proxy.sites ∙ sites-are d i x s st)) (ltb-true from d.sites (and_parts (is_site d from) (not (from == i)) w.0).0) in
     let lg : gear < x.proxy.gears = subst (λ (m : ℕ). gear < m) (sym (k.proxy.gears ∙ count-is d i x s st)) (ltb-true gear d.gears w.1) in
-    λ j. ((is_time p.label.point.ts && (p.label.point.site == from)) && kept-is d i p.label.kind j) && (sym (st.proxy.taken from gear n lf lg) j || same-new d i x s p.label.point k st j))
+    λ j. (((is_time p.label.point.ts && (p.label.point.site == from)) && kept-is d i p.label.kind j) && parts-is d i (items_of p.label.kind) p.values j) && (sym (st.proxy.taken from gear n lf lg) j || same-new d i x s p.label.point k st j))
 
 -- ---- beats
-
-all-by : (f g : ℕ → Bool) (ns : List ℕ) → ((n : ℕ) → f n ≡ g n) → list_all f ns ≡ list_all g ns
-all-by f g [] e = refl
-all-by f g (n ∷ ns) e = (λ j. e n j && all-by f g ns e j)
 
 -- the close cut of the epoch behind n others
 close-at : (beat : Beat) (n : ℕ) → slice_get beat.closes n ≡ close_in beat (n + 1)
@@ -203,7 +223,9 @@ beat-is d i x s from beat st =
 fits-is : (x : SiteSeen) (given : code.SiteInput) (d : Deployed) (i : ℕ) (s : SiteState) → IsSite x → StandsSite d i x s → fits_here x given ≡ fits d i s (input_of given)
 unfolding fits_here fits
 fits-is x (input.Tick g t) d i s k st = ap (λ (shape : Shape). is_gear_here shape g && is_time t) st.shape
-fits-is x (input.Write seen n value) d i s k st = ap (λ (shape : Shape). is_carried_here shape seen && is_item_here shape n) st.shape ∙ ap (λ (b : Bool). is_carried d seen && b) (item-is d i n)
+fits-is x (input.Write seen items values) d i s k st =
+    ap (λ (shape : Shape). is_carried_here shape seen && (is_group_here shape items && (length values == length (list_of items)))) st.shape ∙
+    ap (λ (b : Bool). is_carried d seen && (b && (length values == length (list_of items)))) (group-is d i items)
 fits-is x (input.Read seen n) d i s k st = ap (λ (shape : Shape). is_carried_here shape seen && is_item_here shape n) st.shape ∙ ap (λ (b : Bool). is_carried d seen && b) (item-is d i n)
 fits-is x (input.Move seen j) d i s k st = ap (λ (shape : Shape). is_carried_here shape seen && is_site_here shape j) st.shape
 fits-is x (input.Attach seen) d i s k st = ap (λ (shape : Shape). is_carried_here shape seen) st.shape

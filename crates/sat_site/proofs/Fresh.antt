@@ -5,7 +5,7 @@ use Rattle.std.proofs.lemmas.List.{length-map, length-replicate}
 use Rattle.sat_label.proofs.Numbers.{length-below}
 use Rattle.sat_label.specs.declared.label.Label.{Label}
 use Rattle.sat_label.specs.Words.{below}
-use Rattle.sat_bulk.specs.declared.Payload.{Payload}
+use Rattle.sat_bulk.specs.Payloads.{Payload}
 use Rattle.sat_label.specs.Members.{In}
 use Rattle.sat_sites.specs.Interested.{IsInterest}
 use Rattle.sat_sites.specs.declared.shape.Shape.{Shape}
@@ -30,7 +30,7 @@ use Rattle.sat_epoch.specs.Epochs.{Epochs, IsEpochs, first_epochs}
 use Rattle.sat_machine.specs.Interests.{replicas_of}
 use Rattle.sat_site.specs.Seen.{SiteSeen, AreGears, IsSite, IsGearAt}
 use Rattle.sat_site.specs.Changes.{fresh_seen, is_stamp_plan, shape_for}
-use Rattle.sat_site.specs.Stands.{StandsSite, StandsGear, payload_of}
+use Rattle.sat_site.specs.Stands.{StandsSite, StandsGear, version_seen}
 use Rattle.sat_site.proofs.Lists.{map-cases, Mapped}
 
 always : {X : Type 0} (n i : ℕ) (x : X) → get_or (replicate n x) i x ≡ x
@@ -67,7 +67,6 @@ fresh-gear-site shape g gear e = subst (IsGearAt shape (fresh_sink shape.site sh
   gathered = always shape.gears g 0;
   fresh = λ l i. absurd i;
   pending = λ l i. absurd (none-pending shape.gears g l i);
-  absent = λ n f there. no-version shape g n;
 })
 
 no-beat : (n j m : ℕ) (beat : Beat) → slice_get (get_or (replicate n []) j []) m ≡ Some beat → ⊥
@@ -146,7 +145,7 @@ fresh-stands d i shape starts e = record {
     count = length-map d.plans is_stamp_plan;
   };
   proxy = subst (λ (s : Shape). StandsProxy (fresh_proxy s.sites s.gears s.site) (fresh_site i).proxy) (sym e) (starts d i);
-  store = record { each = λ n gear lt at. subst (λ (y : GearSeen). payload_of (version_of y n) ≡ None) (fresh-at shape (gear_of d n) gear at) (ap payload_of (no-version shape (gear_of d n) n)) };
+  store = record { each = λ n gear lt kept at. subst (λ (y : GearSeen). version_seen (version_of y n) ≡ None) (fresh-at shape (gear_of d n) gear at) (ap version_seen (no-version shape (gear_of d n) n)) };
   made = λ j lt. ap (map note_of) (always shape.sites j []);
 }
 

@@ -10,7 +10,7 @@ use Rattle.sat_label.specs.declared.label.Kind.TheVariants as kind
 use Rattle.sat_label.specs.declared.limits.TheConstants.{PULSE_GEAR}
 use Rattle.sat_label.specs.Order.{point_at}
 use Rattle.sat_bulk.specs.declared.Drained.{Drained}
-use Rattle.sat_bulk.specs.declared.Payload.{Payload}
+use Rattle.sat_bulk.specs.Payloads.{Payload}
 use Rattle.sat_gear.specs.Lanes.{count_of}
 use Rattle.sat_act.specs.Answers.{refused_if}
 use Rattle.sat_site.specs.SiteSteps.{next_pulse, pulse_answer}
@@ -121,7 +121,7 @@ gathers-stand d i x s n t k st = record {
   };
   views = st.views;
   proxy = st.proxy;
-  store = store-map d after_drain x.gears s.store st.store (λ gear n. refl);
+  store = store-map d i after_drain x.gears s.store st.store (λ gear n. refl);
   made = st.made;
 }
 

@@ -1,18 +1,21 @@
 -- What a turn and a stamp give, and what they are given.
-use Rattle.std.specs.Prelude.{◌≡◌, ◌<◌, ℕ, Bool, true, false, Option, Some, None, option_map, if◌then◌else◌, refl}
-use Rattle.std.proofs.Common.{subst, ap, sym, ◌∙◌}
+use Rattle.std.specs.Prelude.{◌≡◌, ◌<◌, ℕ, Bool, true, false, Option, Some, None, option_map, MatchResult, OnErr, if◌then◌else◌, refl}
+use Rattle.std.proofs.Common.{Result, Ok, Err, subst, ap, sym, ◌∙◌}
 use Rattle.std.proofs.lemmas.Bool.{eqb-false}
 use Rattle.sat_label.specs.declared.label.Label.{Label}
+use Rattle.sat_label.specs.declared.items.Items.{Items}
 use Rattle.sat_label.specs.declared.label.Kind.{Kind}
 use Rattle.sat_label.specs.declared.label.Kind.TheVariants.{Update, Move, Pulse, Close}
 use Rattle.sat_label.specs.Members.{In}
-use Rattle.sat_bulk.specs.declared.Payload.{Payload}
+use Rattle.sat_bulk.specs.Payloads.{Payload}
 use Rattle.sat_pool.specs.Pool.{all_waiting}
 use Rattle.sat_epoch.specs.Epochs.{Epochs, in_stamp}
 use Rattle.sat_act.specs.declared.answer.Answer.{Answer}
 use Rattle.sat_act.specs.declared.answer.Answer.TheVariants as ans
+use Rattle.sat_act.specs.Settling.{is_done}
 use Rattle.sat_proxy.specs.declared.proxy.Turned.{Turned}
 use Rattle.sat_proxy.specs.declared.proxy.Turned.TheVariants as turned
+use Rattle.sat_proxy.specs.declared.proxy.TurnFault.{TurnFault}
 use Rattle.sat_proxy.specs.declared.proxy.TurnFault.TheVariants as turn
 use Rattle.sat_proxy.specs.declared.proxy.StampFault.TheVariants as stamp
 use Rattle.sat_proxy.specs.Proxy.{ProxySeen}
@@ -20,7 +23,8 @@ use Rattle.sat_proxy.specs.Steps as made
 use Rattle.sat_proxy.specs.Answers.{done_answer, front_answer, next_answer, stamp_answer, turn_answer}
 use Rattle.sat_site.specs.Seen.{SiteSeen, IsGuest, IsSite}
 use Rattle.sat_site.specs.Inputs.{IsFront}
-use Rattle.sat_site.proofs.Turns.{Found, found, Next, next-payload}
+use Rattle.sat_site.specs.SiteSteps.{shown_of, show_some, turned as turned_seen, turned_after}
+use Rattle.sat_site.proofs.Turns.{Found, found, Next, next-payload, turn-refused}
 
 -- ---- the front that a turn is given
 
@@ -52,9 +56,9 @@ gave views p front t e = go (in_stamp views) refl front e
     here : (l : Label) (r : Answer) → (b : Bool) → in_stamp views ≡ b → b ≡ false → front_answer (made.link_fault p.pool (Some l)) (Some l) ≡ r → turn_answer views p (Some l) ≡ r
     here l r b m f e = ap (λ (c : Bool). front_answer (if c then Some turn.StampOrder else made.link_fault p.pool (Some l)) (Some l)) (m ∙ f) ∙ e
 
-    update : (l : Label) (n : ℕ) (o : Option Payload) → l.kind ≡ Update n → made.waiting_of p.pool l ≡ o → option_map turned.Show o ≡ Some t → in_stamp views ≡ false → Gave views p (Some l) t
-    update l n None kind at e m = absurd (cc)
-    update l n (Some q) kind at e m =
+    update : (l : Label) (items : Items) (o : Option Payload) → l.kind ≡ Update items → made.waiting_of p.pool l ≡ o → option_map turned.Show o ≡ Some t → in_stamp views ≡ false → Gave views p (Some l) t
+    update l items None kind at e m = absurd (cc)
+    update l items (Some q) kind at e m =
         let w : Found p.pool l q = found p.pool l q at in
         let same : turned.Show q ≡ t = cc in
         let fault : made.link_fault p.pool (Some l) ≡ None = (λ j. made.front_fault p.pool l (kind j)) ∙ ap (made.missing l) at in
@@ -72,7 +76,7 @@ gave views p front t e = go (in_stamp views) refl front e
         subst (λ (t : Turned). Gave views p (Some l) t) same (record { answer = sym (here l (ans.Took l) false m refl done); waits = λ x same. absurd (cc) })
 
     kinds : (l : Label) (kind : Kind) → l.kind ≡ kind → made.front_gives p.pool l kind ≡ Some t → in_stamp views ≡ false → Gave views p (Some l) t
-    kinds l (Update n) kind e m = update l n (made.waiting_of p.pool l) kind refl e m
+    kinds l (Update items) kind e m = update l items (made.waiting_of p.pool l) kind refl e m
     kinds l (Move j) kind e m = takes l (Move j) kind refl refl e m
     kinds l Pulse kind e m = takes l Pulse kind refl refl e m
     kinds l (Close n) kind e m = takes l (Close n) kind refl refl e m
@@ -90,6 +94,71 @@ turn-shown w x front t q r same e is f = f ∙ (ap told (sym is) ∙ ((gave w.vi
 
 pub turn-took : (w x : SiteSeen) (front : Option Label) (t : Turned) (l : Label) → w ≡ x → made.turn_gives w.views w.proxy front ≡ Some t → t ≡ turned.Took l → ans.Took l ≡ turn_answer x.views x.proxy front
 turn-took w x front t l same e is = ap told (sym is) ∙ ((gave w.views w.proxy front t e).answer ∙ ap (λ (y : SiteSeen). turn_answer y.views y.proxy front) same)
+
+-- ---- what a turn leaves
+
+-- a payload that a turn gives is shown
+gives-shows : (views : Epochs) (p : ProxySeen) (front : Option Label) (q : Payload) → made.turn_gives views p front ≡ Some (turned.Show q) → made.turn_shows views p front ≡ Some q
+gives-shows views p front q e = go (in_stamp views) front e
+  where
+    waits : (o : Option Payload) → option_map turned.Show o ≡ Some (turned.Show q) → o ≡ Some q
+    waits None e = absurd (cc)
+    waits (Some r) e = let is : r ≡ q = cc in ap Some is
+
+    kinds : (l : Label) (kind : Kind) → made.front_gives p.pool l kind ≡ Some (turned.Show q) → made.front_shows p.pool l kind ≡ Some q
+    kinds l (Update items) e = waits (made.waiting_of p.pool l) e
+    kinds l (Move j) e = absurd (cc)
+    kinds l Pulse e = absurd (cc)
+    kinds l (Close n) e = absurd (cc)
+
+    go : (b : Bool) (front : Option Label) → (if b then None else made.link_gives p.pool front) ≡ Some (turned.Show q) → (if b then None else made.link_shows p.pool front) ≡ Some q
+    go true front e = absurd (cc)
+    go false None e = absurd (cc)
+    go false (Some l) e = kinds l l.kind e
+
+-- a label that a turn takes shows nothing
+takes-nothing : (views : Epochs) (p : ProxySeen) (front : Option Label) (m : Label) → made.turn_gives views p front ≡ Some (turned.Took m) → made.turn_shows views p front ≡ None
+takes-nothing views p front m e = go (in_stamp views) front e
+  where
+    waits : (o : Option Payload) → option_map turned.Show o ≡ Some (turned.Took m) → o ≡ None
+    waits None e = refl
+    waits (Some r) e = absurd (cc)
+
+    kinds : (l : Label) (kind : Kind) → made.front_gives p.pool l kind ≡ Some (turned.Took m) → made.front_shows p.pool l kind ≡ None
+    kinds l (Update items) e = waits (made.waiting_of p.pool l) e
+    kinds l (Move j) e = refl
+    kinds l Pulse e = refl
+    kinds l (Close n) e = refl
+
+    go : (b : Bool) (front : Option Label) → (if b then None else made.link_gives p.pool front) ≡ Some (turned.Took m) → (if b then None else made.link_shows p.pool front) ≡ None
+    go true front e = refl
+    go false None e = refl
+    go false (Some l) e = kinds l l.kind e
+
+pub turn-shows : (w x : SiteSeen) (front : Option Label) (t : Turned) (q : Payload) (views : Epochs) (proxy : ProxySeen) (y : SiteSeen) → w ≡ x → made.turn_gives w.views w.proxy front ≡ Some t → t ≡ turned.Show q → proxy ≡ made.turn_after w.views w.proxy front → views ≡ made.turn_views w.views front →
+    y ≡ shown_of (record w { views = views; proxy = proxy }) q q.label.kind → y ≡ turned_after x front
+turn-shows w x front t q views proxy y same e is after heard shown =
+    let gives : made.turn_gives w.views w.proxy front ≡ Some (turned.Show q) = e ∙ ap Some is in
+    shown ∙ ((λ j. shown_of (record w { views = heard j; proxy = after j }) q q.label.kind) ∙ (ap (show_some (turned_seen w front)) (sym (gives-shows w.views w.proxy front q gives)) ∙ ap (λ (y : SiteSeen). turned_after y front) same))
+
+pub turn-takes : (w x : SiteSeen) (front : Option Label) (t : Turned) (l : Label) (views : Epochs) (proxy : ProxySeen) → w ≡ x → made.turn_gives w.views w.proxy front ≡ Some t → t ≡ turned.Took l → proxy ≡ made.turn_after w.views w.proxy front → views ≡ made.turn_views w.views front →
+    record w { views = views; proxy = proxy } ≡ turned_after x front
+turn-takes w x front t l views proxy same e is after heard =
+    let gives : made.turn_gives w.views w.proxy front ≡ Some (turned.Took l) = e ∙ ap Some is in
+    (λ j. record w { views = heard j; proxy = after j }) ∙ (ap (show_some (turned_seen w front)) (sym (takes-nothing w.views w.proxy front l gives)) ∙ ap (λ (y : SiteSeen). turned_after y front) same)
+
+faulty : (f : TurnFault) (front : Option Label) → is_done (front_answer (Some f) front) ≡ false
+faulty turn.StampOrder front = refl
+faulty turn.Empty front = refl
+faulty (turn.NoPayload l) front = refl
+
+-- a turn that is refused leaves all
+pub turn-leaves : (w x : SiteSeen) (front : Option Label) (r : Result Turned TurnFault) (f : TurnFault) (views : Epochs) (proxy : ProxySeen) → r ≡ Err f → w ≡ x → MatchResult r (λ t. made.turn_fault w.views w.proxy front ≡ None) (λ f. made.turn_fault w.views w.proxy front ≡ Some f) →
+    OnErr r (proxy ≡ w.proxy) → OnErr r (views ≡ w.views) → record w { views = views; proxy = proxy } ≡ turned_after x front
+turn-leaves w x front (Ok t) f views proxy is same fault err unheard = absurd (cc)
+turn-leaves w x front (Err g) f views proxy is same fault err unheard =
+    (λ j. record w { views = unheard j; proxy = err j }) ∙
+    (sym (turn-refused w front (ap (λ (o : Option TurnFault). is_done (front_answer o front)) fault ∙ faulty g front)) ∙ ap (λ (y : SiteSeen). turned_after y front) same)
 
 -- ---- what a stamp gives
 

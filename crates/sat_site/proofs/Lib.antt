@@ -31,3 +31,4 @@ pub mod Given
 pub mod Acted
 pub mod Asked
 pub mod Made
+pub mod Taken

@@ -1,7 +1,7 @@
 -- How many payloads a site made for the others.
 use Rattle.std.specs.Prelude.{◌≡◌, ◌<◌, ℕ, List, [], length, Option, Some, None}
 use Rattle.std.proofs.Common.{ap, subst, sym, ◌∙◌}
-use Rattle.sat_bulk.specs.declared.Payload.{Payload}
+use Rattle.sat_bulk.specs.Payloads.{Payload}
 use Rattle.sat_gear.specs.Gear.{GearSeen, lane_to}
 use Rattle.sat_act.specs.Deployed.{Deployed}
 use Rattle.sat_machine.specs.State.{SiteState}

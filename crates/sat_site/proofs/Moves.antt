@@ -84,7 +84,7 @@ moved-stand d i x s seen j gear l at number st = record {
   sink = st.sink;
   views = st.views;
   proxy = st.proxy;
-  store = store-set d x.gears 0 gear (after_move gear l) s.store s.store at st.store (λ n e old. old) (λ n e. refl);
+  store = store-set d i x.gears 0 gear (after_move gear l) s.store s.store at st.store (λ n e old. old) (λ n e. refl);
   made = st.made;
 }
 

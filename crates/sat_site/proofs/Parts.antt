@@ -1,16 +1,15 @@
 -- The parts of a state, where one gear or all gears change.
 use Rattle.std.specs.Prelude.{◌≡◌, ◌≢◌, ◌≤◌, ◌<◌, ◌%◌, ℕ, List, length, map, set, Option, Some, slice_get}
 use Rattle.std.proofs.Common.{subst, ap, sym, ◌∙◌, inl, inr}
-use Rattle.sat_bulk.specs.declared.Payload.{Payload}
 use Rattle.sat_sites.specs.Interested.{Interested}
 use Rattle.sat_gear.specs.Gear.{GearSeen, version_of}
 use Rattle.sat_act.specs.Answers.{gear_of}
 use Rattle.sat_act.specs.Deployed.{Deployed}
 use Rattle.sat_machine.specs.Interests.{interest_of}
-use Rattle.sat_machine.specs.State.{SiteState, GearState}
+use Rattle.sat_machine.specs.State.{SiteState, GearState, Version as VersionSeen}
 use Rattle.sat_site.specs.Changes.{gear_at}
 use Rattle.sat_site.specs.Seen.{SiteSeen}
-use Rattle.sat_site.specs.Stands.{StandsSite, StandsGear, StandsGears, StandsStore, payload_of}
+use Rattle.sat_site.specs.Stands.{StandsSite, StandsGear, StandsGears, StandsStore, version_seen}
 use Rattle.sat_site.proofs.Interests.{items-are}
 use Rattle.sat_site.proofs.Lists.{set-cases, map-cases, Mapped}
 
@@ -46,12 +45,12 @@ gears-set d gears g new s t st here there rest = record {
   ];
 }
 
-pub store-set : (d : Deployed) (gears : List GearSeen) (g : ℕ) (gear new : GearSeen) (s t : ℕ → Option Payload) → slice_get gears g ≡ Some gear → StandsStore d gears s →
-    ((n : ℕ) → gear_of d n ≡ g → payload_of (version_of gear n) ≡ s n → payload_of (version_of new n) ≡ t n) → ((n : ℕ) → gear_of d n ≢ g → s n ≡ t n) → StandsStore d (set gears g new) t
-store-set d gears g gear new s t at st here there = record {
-  each = λ n y lt f. elim (set-cases gears g (gear_of d n) new y f) [
-    | inl w ↦ subst (λ (y : GearSeen). payload_of (version_of y n) ≡ t n) w.0 (here n w.1 (st.each n gear lt (subst (λ (k : ℕ). slice_get gears k ≡ Some gear) (sym w.1) at)))
-    | inr w ↦ st.each n y lt w.0 ∙ there n w.1
+pub store-set : (d : Deployed) (i : ℕ) (gears : List GearSeen) (g : ℕ) (gear new : GearSeen) (s t : ℕ → Option VersionSeen) → slice_get gears g ≡ Some gear → StandsStore d i gears s →
+    ((n : ℕ) → gear_of d n ≡ g → version_seen (version_of gear n) ≡ s n → version_seen (version_of new n) ≡ t n) → ((n : ℕ) → gear_of d n ≢ g → s n ≡ t n) → StandsStore d i (set gears g new) t
+store-set d i gears g gear new s t at st here there = record {
+  each = λ n y lt kept f. elim (set-cases gears g (gear_of d n) new y f) [
+    | inl w ↦ subst (λ (y : GearSeen). version_seen (version_of y n) ≡ t n) w.0 (here n w.1 (st.each n gear lt kept (subst (λ (k : ℕ). slice_get gears k ≡ Some gear) (sym w.1) at)))
+    | inr w ↦ st.each n y lt kept w.0 ∙ there n w.1
   ];
 }
 
@@ -66,9 +65,9 @@ gears-map d f gears s t st each rest = record {
       subst (λ (y : GearSeen). StandsGear d y (t g)) w.is (each g w.old w.at (st.each g w.old w.at));
 }
 
-pub store-map : (d : Deployed) (f : GearSeen → GearSeen) (gears : List GearSeen) (s : ℕ → Option Payload) → StandsStore d gears s → ((gear : GearSeen) (n : ℕ) → version_of (f gear) n ≡ version_of gear n) → StandsStore d (map f gears) s
-store-map d f gears s st same = record {
-  each = λ n new lt at.
+pub store-map : (d : Deployed) (i : ℕ) (f : GearSeen → GearSeen) (gears : List GearSeen) (s : ℕ → Option VersionSeen) → StandsStore d i gears s → ((gear : GearSeen) (n : ℕ) → version_of (f gear) n ≡ version_of gear n) → StandsStore d i (map f gears) s
+store-map d i f gears s st same = record {
+  each = λ n new lt kept at.
       let w : Mapped f gears (gear_of d n) new = map-cases f gears (gear_of d n) new at in
-      subst (λ (y : GearSeen). payload_of (version_of y n) ≡ s n) w.is (ap payload_of (same w.old n) ∙ st.each n w.old lt w.at);
+      subst (λ (y : GearSeen). version_seen (version_of y n) ≡ s n) w.is (ap version_seen (same w.old n) ∙ st.each n w.old lt kept w.at);
 }

@@ -8,7 +8,7 @@ use Rattle.sat_label.specs.declared.label.Kind.TheVariants.{Update, Move, Pulse,
 use Rattle.sat_label.specs.declared.point.Point.{Point}
 use Rattle.sat_label.specs.Members.{In}
 use Rattle.sat_label.specs.Words.{below}
-use Rattle.sat_bulk.specs.declared.Payload.{Payload}
+use Rattle.sat_bulk.specs.Payloads.{Payload}
 use Rattle.sat_bulk.specs.declared.window.Take.{Take}
 use Rattle.sat_bulk.specs.Windows.{has_number}
 use Rattle.sat_beat.specs.declared.Beat.{Beat}
@@ -84,7 +84,7 @@ turn-peers shape views p front has sound = go (in_stamp views) front sound
     shown l (Some x) sound = taken-still shape p (made.knowing p l).last l.point has sound
 
     kinds : (l : Label) (kind : Kind) → IsProxy (made.front_after p l kind) → HasPeers shape (made.front_after p l kind)
-    kinds l (Update n) sound = shown l (made.waiting_of p.pool l) sound
+    kinds l (Update items) sound = shown l (made.waiting_of p.pool l) sound
     kinds l (Move j) sound = still shape p (made.knowing p l) has sound refl refl refl (λ x i. i)
     kinds l Pulse sound = still shape p (made.knowing p l) has sound refl refl refl (λ x i. i)
     kinds l (Close e) sound = still shape p (made.knowing p l) has sound refl refl refl (λ x i. i)
@@ -104,7 +104,7 @@ turn-epochs : (views : Epochs) (front : Option Label) → SameEpochs views (made
 turn-epochs views front = go (in_stamp views) front
   where
     kinds : (l : Label) (kind : Kind) → SameEpochs views (made.front_views views l kind)
-    kinds l (Update n) = record { own = refl; heard = refl; stamp = refl }
+    kinds l (Update items) = record { own = refl; heard = refl; stamp = refl }
     kinds l (Move j) = record { own = refl; heard = refl; stamp = refl }
     kinds l Pulse = record { own = refl; heard = refl; stamp = refl }
     kinds l (Close e) = record { own = refl; heard = length-set views.heard l.point.site true; stamp = refl }

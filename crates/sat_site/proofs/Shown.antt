@@ -1,35 +1,35 @@
 -- What a site shows is what the machine keeps.
-use Rattle.std.specs.Prelude.{◌≡◌, ◌<◌, ◌%◌, ℕ, true, false, List, length, Option, Some, None, slice_get, IfSome, MatchOption, refl}
+use Rattle.std.specs.Prelude.{◌≡◌, ◌<◌, ◌%◌, ℕ, true, false, List, length, Option, Some, None, slice_get, IfSome, IsNone, MatchOption}
 use Rattle.std.proofs.Common.{Bor, subst, ap, sym, ◌∙◌}
-use Rattle.sat_bulk.specs.declared.Payload.{Payload}
+use Rattle.sat_bulk.specs.Payloads.{Payload}
+use Rattle.sat_label.specs.declared.label.Kind.{Kind}
+use Rattle.sat_label.specs.Order.{kind_numbers}
 use Rattle.sat_sites.specs.declared.shape.Shape.{Shape}
-use Rattle.sat_sites.specs.Interested.{is_for}
-use Rattle.sat_store.specs.declared.store.Version.{Version}
+use Rattle.sat_label.specs.Grouped.{list_of}
+use Rattle.sat_sites.specs.Interested.{is_for, AreBelow}
+use Rattle.sat_label.specs.Versions.{Version}
 use Rattle.sat_gear.specs.Gear.{GearSeen, IsGear, IsInLane, lane_to, version_of}
 use Rattle.sat_act.specs.Deployed.{Deployed}
+use Rattle.sat_act.specs.Parts.{items_of, replicates}
 use Rattle.sat_machine.specs.State.{SiteState}
 use Rattle.sat_machine.specs.Look.{front_of}
 use Rattle.sat_proxy.specs.Proxy.{front_at}
 use Rattle.sat_proxy.proofs.SameLanes.{front-same}
 use Rattle.sat_site.specs.Seen.{SiteSeen, IsSite, IsGearAt}
-use Rattle.sat_site.specs.Stands.{StandsSite, payload_of}
-use Rattle.sat_site.specs.Changes.{HasGear, gear_at}
+use Rattle.sat_site.specs.Stands.{StandsSite, version_seen}
+use Rattle.sat_site.specs.Changes.{HasGear}
 use Rattle.sat_site.specs.SiteSteps.{keeps_item}
 use Rattle.sat_site.specs.Gives.{IsOfLane}
+use Rattle.sat_site.proofs.Interests.{keeps-here}
 use Rattle.sat_site.proofs.Parts.{sites-are}
 use Rattle.sat_site.proofs.Lists.{same-get}
 use Rattle.sat_site.proofs.Writes.{shows-none, shows-some}
 
-pub absent-version : (d : Deployed) (i : ℕ) (x : SiteSeen) (s : SiteState) (g n : ℕ) (gear : GearSeen) → IsSite x → HasGear x g gear → g ≡ n % x.shape.gears → n < length x.shape.interest.replicas → keeps_item x n ≡ false → StandsSite d i x s → s.store n ≡ None
-absent-version d i x s g n gear k at e item unkept st =
-    let here : HasGear x (gear_at x n) gear = subst (λ (g : ℕ). HasGear x g gear) e at in
-    shows-none d i x s n gear item here ((k.gears.each (gear_at x n) gear here).absent n refl unkept) st
+pub no-version : (d : Deployed) (i : ℕ) (x : SiteSeen) (s : SiteState) (g n : ℕ) (gear : GearSeen) → HasGear x g gear → g ≡ n % x.shape.gears → n < length x.shape.interest.replicas → keeps_item x n ≡ true → StandsSite d i x s → version_of gear n ≡ None → s.store n ≡ None
+no-version d i x s g n gear at e item kept st none = shows-none d i x s n gear item kept (subst (λ (g : ℕ). HasGear x g gear) e at) none st
 
-pub no-version : (d : Deployed) (i : ℕ) (x : SiteSeen) (s : SiteState) (g n : ℕ) (gear : GearSeen) → HasGear x g gear → g ≡ n % x.shape.gears → n < length x.shape.interest.replicas → StandsSite d i x s → version_of gear n ≡ None → s.store n ≡ None
-no-version d i x s g n gear at e item st none = shows-none d i x s n gear item (subst (λ (g : ℕ). HasGear x g gear) e at) none st
-
-pub some-version : (d : Deployed) (i : ℕ) (x : SiteSeen) (s : SiteState) (g n : ℕ) (gear : GearSeen) (v : Version) → HasGear x g gear → g ≡ n % x.shape.gears → n < length x.shape.interest.replicas → StandsSite d i x s → version_of gear n ≡ Some v → s.store n ≡ payload_of (Some v)
-some-version d i x s g n gear v at e item st some = shows-some d i x s n gear v item (subst (λ (g : ℕ). HasGear x g gear) e at) some st
+pub some-version : (d : Deployed) (i : ℕ) (x : SiteSeen) (s : SiteState) (g n : ℕ) (gear : GearSeen) (v : Version) → HasGear x g gear → g ≡ n % x.shape.gears → n < length x.shape.interest.replicas → keeps_item x n ≡ true → StandsSite d i x s → version_of gear n ≡ Some v → s.store n ≡ version_seen (Some v)
+some-version d i x s g n gear v at e item kept st some = shows-some d i x s n gear v item kept (subst (λ (g : ℕ). HasGear x g gear) e at) some st
 
 -- the lane of a gear is the machine's
 pub lane-same : (d : Deployed) (i : ℕ) (x : SiteSeen) (s : SiteState) (g to n : ℕ) (gear : GearSeen) (o : Option Payload) → HasGear x g gear → to < x.shape.sites → StandsSite d i x s → slice_get (lane_to gear to) n ≡ o → slice_get ((s.gears g).lanes to) n ≡ o
@@ -42,14 +42,22 @@ of-lane x g to n gear p k at good e =
     record {
       made_at = q.site ∙ (λ j. (a.shape j).site);
       made_by = q.gear ∙ a.number;
-      item = (q.kind.0, q.kind.1, subst (λ (s : Shape). q.kind.0 < length s.interest.replicas) a.shape q.kind.2.item);
+      items = (q.kind.0, q.kind.1, subst (λ (s : Shape). AreBelow (length s.interest.replicas) (list_of q.kind.0)) a.shape q.kind.2.known);
+      values = (q.values.0, q.values.1, q.values.2 ∙ (ap (λ (kind : Kind). length (kind_numbers kind)) q.kind.1 ∙ ap (λ (kind : Kind). length (items_of kind)) (sym q.kind.1)));
       target = subst (λ (s : Shape). is_for s.interest p.label to ≡ true) a.shape q.target;
     }
 
-pub version-shown : (d : Deployed) (i : ℕ) (x : SiteSeen) (s : SiteState) (g n : ℕ) (gear : GearSeen) (o : Option (Bor Version)) → HasGear x g gear → g ≡ n % x.shape.gears → n < length x.shape.interest.replicas → StandsSite d i x s → MatchOption o (version_of gear n ≡ None) (λ v. version_of gear n ≡ Some v.now) →
-    MatchOption o (s.store n ≡ None) (λ v. s.store n ≡ payload_of (Some v.now))
-version-shown d i x s g n gear None at e item st h = no-version d i x s g n gear at e item st h
-version-shown d i x s g n gear (Some v) at e item st h = some-version d i x s g n gear v.now at e item st h
+pub version-shown : (d : Deployed) (i : ℕ) (x : SiteSeen) (s : SiteState) (g n : ℕ) (gear : GearSeen) (o : Option (Bor Version)) → HasGear x g gear → g ≡ n % x.shape.gears → n < length x.shape.interest.replicas → keeps_item x n ≡ true → StandsSite d i x s → MatchOption o (version_of gear n ≡ None) (λ v. version_of gear n ≡ Some v.now) →
+    MatchOption o (s.store n ≡ None) (λ v. s.store n ≡ version_seen (Some v.now))
+version-shown d i x s g n gear None at e item kept st h = no-version d i x s g n gear at e item kept st h
+version-shown d i x s g n gear (Some v) at e item kept st h = some-version d i x s g n gear v.now at e item kept st h
+
+-- an item that is not kept here is none of those that the site keeps
+pub away-version : (d : Deployed) (i : ℕ) (x : SiteSeen) (s : SiteState) (n : ℕ) → keeps_item x n ≡ false → StandsSite d i x s → replicates d n i ≡ true → s.store n ≡ None
+away-version d i x s n away st kept = absurd (let clash : false ≡ true = sym away ∙ (keeps-here d i x s n st ∙ kept) in cc)
+
+pub kept-away : (x : SiteSeen) (n : ℕ) → keeps_item x n ≡ true → keeps_item x n ≡ false → (o : Option (Bor Version)) → IsNone o
+kept-away x n kept away o = absurd (let clash : true ≡ false = sym kept ∙ away in cc)
 
 pub payload-shown : (d : Deployed) (i : ℕ) (x : SiteSeen) (s : SiteState) (g to n : ℕ) (gear : GearSeen) (o : Option (Bor Payload)) → HasGear x g gear → to < x.shape.sites → StandsSite d i x s → MatchOption o (slice_get (lane_to gear to) n ≡ None) (λ p. slice_get (lane_to gear to) n ≡ Some p.now) →
     MatchOption o (slice_get ((s.gears g).lanes to) n ≡ None) (λ p. slice_get ((s.gears g).lanes to) n ≡ Some p.now)

@@ -1,24 +1,23 @@
 -- What is true of each site stays so.
-use Rattle.std.specs.Prelude.{◌≡◌, ◌<◌, ◌≤◌, ◌-◌, ◌/◌, ◌%◌, ℕ, zero, suc, Bool, true, false, ◌==◌, ◌&&◌, not, List, [], ◌∷◌, length, map, set, get_or, filter, Option, Some, None, slice_get, if◌then◌else◌, refl}
+use Rattle.std.specs.Prelude.{◌≡◌, ◌<◌, ◌≤◌, ◌-◌, ℕ, zero, suc, Bool, true, false, ◌==◌, ◌&&◌, not, List, [], ◌∷◌, length, map, set, get_or, filter, Option, Some, None, slice_get, if◌then◌else◌, refl}
 use Rattle.std.proofs.Common.{subst, ap, sym, ◌∙◌, inl, inr}
 use Rattle.std.proofs.lemmas.List.{length-map, length-set}
-use Rattle.std.proofs.lemmas.Bool.{eqb-true}
 use Rattle.sat_site.proofs.Equals.{eqb-self, eqb-comm}
 use Rattle.sat_label.specs.declared.label.Label.{Label}
+use Rattle.sat_label.specs.declared.items.Items.{Items}
 use Rattle.sat_label.specs.declared.label.Kind.{Kind}
 use Rattle.sat_label.specs.declared.label.Kind.TheVariants.{Update, Move}
 use Rattle.sat_label.specs.declared.point.Point.{Point}
+use Rattle.sat_label.specs.Grouped.{list_of}
 use Rattle.sat_label.specs.Order.{greater_point, label_eq, mark, point_lt}
 use Rattle.sat_bulk.specs.declared.Drained.{Drained}
-use Rattle.sat_bulk.specs.declared.Payload.{Payload}
 use Rattle.sat_label.specs.Members.{In}
 use Rattle.sat_bulk.specs.Drains.{IsNew}
 use Rattle.sat_label.proofs.Members.{In-parts, In-filter}
 use Rattle.sat_sites.specs.declared.shape.Shape.{Shape}
-use Rattle.sat_sites.specs.Interested.{Interested, IsLabelOf, is_for, keeps}
-use Rattle.sat_store.specs.declared.store.Version.{Version}
-use Rattle.sat_store.specs.Stored.{newer, version_at}
-use Rattle.sat_gear.specs.Gear.{GearSeen, IsGear, after_tick, after_move, after_write, after_show, stamped, after_drain, drained_of, version_of}
+use Rattle.sat_sites.specs.Interested.{Interested, IsLabelOf, is_for, keeps_one, AreBelow}
+use Rattle.sat_label.specs.Versions.{Version}
+use Rattle.sat_gear.specs.Gear.{GearSeen, IsGear, after_tick, after_move, after_write, after_show, payload_with, stamped, after_drain, drained_of}
 use Rattle.sat_sink.specs.Pending.{labels_of, promise_of, is_up_to, all_of}
 use Rattle.sat_sink.specs.Sink.{Sink, IsDrain, IsDrainOf, after_emit_of, after_gather, after_pulse, cut_of, pulse_of, ready_of, stable_of}
 use Rattle.sat_epoch.specs.Epochs.{Epochs}
@@ -29,8 +28,6 @@ use Rattle.sat_site.specs.Seen.{SiteSeen, AreGears, HasEpochs, HasPeers, HasSink
 use Rattle.sat_site.specs.SiteSteps.{close_label}
 use Rattle.sat_site.specs.Changes.{with_gear, gathered_all, sent, pulsed, counts_of, clocked, ticked_to, HasGear}
 use Rattle.sat_site.proofs.Lists.{set-cases, map-cases, Mapped, get-within}
-use Rattle.sat_site.proofs.Stores.{version-set, version_with}
-use Rattle.sat_gear.proofs.Places.{within_places}
 use Rattle.sat_site.proofs.Gathers.{promise-at, labels-at, each-gear, length-drained}
 
 -- ---- one gear
@@ -57,61 +54,35 @@ with-gear-site x g new k a good = record {
 }
 
 pub ticked-gear : (shape : Shape) (sink : Sink) (g t : ℕ) (gear : GearSeen) → IsGearAt shape sink g gear → IsGearAt shape sink g (after_tick gear t)
-ticked-gear shape sink g t gear a = record { shape = a.shape; number = a.number; gathered = a.gathered; fresh = a.fresh; pending = a.pending; absent = a.absent }
+ticked-gear shape sink g t gear a = record { shape = a.shape; number = a.number; gathered = a.gathered; fresh = a.fresh; pending = a.pending }
 
--- a newer version of an item that the site keeps leaves those of the others
-absent-newer : (vs : List (Option Version)) (n m w : ℕ) (v : Option Version) (f : ℕ → Bool) → n / w < length vs → m % w ≡ n % w → f n ≡ true → f m ≡ false → version_at vs (m / w) ≡ None → version_at (set vs (n / w) v) (m / w) ≡ None
-absent-newer vs n m w v f lt e here there old = version-set vs n m w v lt e ∙ go (n == m) refl
-  where
-    go : (b : Bool) → (n == m) ≡ b → (if b then v else version_at vs (m / w)) ≡ None
-    go true q = absurd (let k : f n ≡ f m = ap f (eqb-true n m q) in cc)
-    go false q = old
-
-pub place-of : (shape : Shape) (sink : Sink) (g n : ℕ) (gear : GearSeen) → IsGear gear → IsGearAt shape sink g gear → n < length shape.interest.replicas → n / gear.shape.gears < length gear.versions
-place-of shape sink g n gear good a item =
-    subst (λ (m : ℕ). n / gear.shape.gears < m) (sym good.versions) (within_places n (length gear.shape.interest.replicas) gear.shape.gears good.shape.gears (subst (λ (s : Shape). n < length s.interest.replicas) (sym a.shape) item))
-
-newer-absent : (shape : Shape) (sink : Sink) (g n : ℕ) (gear : GearSeen) (v : Option Version) → IsGear gear → IsGearAt shape sink g gear → n < length shape.interest.replicas → n % shape.gears ≡ g → keeps shape.interest n shape.site ≡ true → (m : ℕ) → m % shape.gears ≡ g → keeps shape.interest m shape.site ≡ false →
-    version_at (set gear.versions (n / gear.shape.gears) v) (m / gear.shape.gears) ≡ None
-newer-absent shape sink g n gear v good a item e here m f there =
-    absent-newer gear.versions n m gear.shape.gears v (λ n. keeps shape.interest n shape.site) (place-of shape sink g n gear good a item)
-    (subst (λ (s : Shape). m % s.gears ≡ n % s.gears) (sym a.shape) (f ∙ sym e)) here there (a.absent m f there)
-
-pub shown-gear : (shape : Shape) (sink : Sink) (g n : ℕ) (gear : GearSeen) (p : Payload) → IsGear gear → IsGearAt shape sink g gear → n < length shape.interest.replicas → n % shape.gears ≡ g → keeps shape.interest n shape.site ≡ true → IsGearAt shape sink g (after_show gear n p)
-shown-gear shape sink g n gear p good a item e here = record {
-  shape = a.shape;
-  number = a.number;
-  gathered = a.gathered;
-  fresh = a.fresh;
-  pending = a.pending;
-  absent = λ m f there. newer-absent shape sink g n gear (newer (version_of gear n) (version_with p)) good a item e here m f there;
-}
+pub shown-gear : (shape : Shape) (sink : Sink) (g k : ℕ) (gear : GearSeen) (v : Version) → IsGearAt shape sink g gear → IsGearAt shape sink g (after_show gear k v)
+shown-gear shape sink g k gear v a = record { shape = a.shape; number = a.number; gathered = a.gathered; fresh = a.fresh; pending = a.pending }
 
 -- an update is not for its own site
-away-from : (a : Interested) (l : Label) (n k : ℕ) → l.kind ≡ Update n → l.point.site ≡ k → is_for a l k ≡ false
+away-from : (a : Interested) (l : Label) (items : Items) (k : ℕ) → l.kind ≡ Update items → l.point.site ≡ k → is_for a l k ≡ false
 unfolding is_for
-away-from a l n k kind own =
-    ap (λ (kind : Kind). is_for a (record { point = l.point; kind = kind }) k) kind ∙ go (keeps a n k) (k == l.point.site) (ap (λ (m : ℕ). k == m) own ∙ eqb-self k)
+away-from a l items k kind own =
+    ap (λ (kind : Kind). is_for a (record { point = l.point; kind = kind }) k) kind ∙ go (keeps_one a (list_of items) k) (k == l.point.site) (ap (λ (m : ℕ). k == m) own ∙ eqb-self k)
   where
     go : (b c : Bool) → c ≡ true → (b && not c) ≡ false
     go true c e = ap not e
     go false c e = refl
 
-pub wrote-gear : (shape : Shape) (sink : Sink) (g n : ℕ) (gear : GearSeen) (seen : Point) (value : List ℕ) → IsGear gear → IsGearAt shape sink g gear → n < length shape.interest.replicas → n % shape.gears ≡ g → keeps shape.interest n shape.site ≡ true →
-    IsGearAt shape sink g (after_write gear n (record { label = stamped gear seen (Update n); value = value }))
-wrote-gear shape sink g n gear seen value good a item e here = record {
+pub wrote-gear : (shape : Shape) (sink : Sink) (g : ℕ) (gear : GearSeen) (seen : Point) (items : Items) (values : List (List ℕ)) → IsGearAt shape sink g gear → AreBelow (length shape.interest.replicas) (list_of items) →
+    IsGearAt shape sink g (after_write gear (payload_with (stamped gear seen (Update items)) values))
+wrote-gear shape sink g gear seen items values a known = record {
   shape = a.shape;
   number = a.number;
   gathered = a.gathered;
-  fresh = λ l i. elim (In-parts gear.fresh (stamped gear seen (Update n) ∷ []) l i) [
+  fresh = λ l i. elim (In-parts gear.fresh (stamped gear seen (Update items) ∷ []) l i) [
     | inl old ↦ a.fresh l old
     | inr new ↦ elim new [
-      | inl w ↦ subst (IsMadeHere shape) w (record { site = (λ j. (a.shape j).site); kind = item; made = refl; away = away-from shape.interest (stamped gear seen (Update n)) n shape.site refl (λ j. (a.shape j).site) })
+      | inl w ↦ subst (IsMadeHere shape) w (record { site = (λ j. (a.shape j).site); kind = known; made = refl; away = away-from shape.interest (stamped gear seen (Update items)) items shape.site refl (λ j. (a.shape j).site) })
       | inr w ↦ absurd w
     ]
   ];
   pending = a.pending;
-  absent = λ m f there. newer-absent shape sink g n gear (newer (version_of gear n) (version_with (record { label = stamped gear seen (Update n); value = value }))) good a item e here m f there;
 }
 
 -- a move is not for its own site
@@ -132,7 +103,6 @@ moved-gear shape sink g j gear seen a lt other = record {
     ]
   ];
   pending = a.pending;
-  absent = a.absent;
 }
 
 -- ---- all gears
@@ -206,7 +176,6 @@ gathered-site x k good = record {
             | inl old ↦ a.pending l old
             | inr new ↦ a.fresh l (subst (λ (ls : List Label). In ls l) (labels-at x.gears g w.old w.at) new)
           ];
-          absent = a.absent;
         });
     are = good;
   };
@@ -232,7 +201,7 @@ sink-site x s k has same some = record {
     count = k.gears.count;
     each = λ g gear at.
         let a : IsGearAt x.shape x.sink g gear = k.gears.each g gear at in
-        record { shape = a.shape; number = a.number; gathered = same g ∙ a.gathered; fresh = a.fresh; pending = λ m i. a.pending m (some g m i); absent = a.absent };
+        record { shape = a.shape; number = a.number; gathered = same g ∙ a.gathered; fresh = a.fresh; pending = λ m i. a.pending m (some g m i) };
     are = k.gears.are;
   };
   sink = has;

@@ -7,15 +7,17 @@ use Rattle.std.proofs.lemmas.Bool.{cases_eq, ne_eqb}
 use Rattle.sat_site.proofs.Equals.{eqb-self}
 use Rattle.sat_label.specs.declared.carried.Carried.{Carried}
 use Rattle.sat_label.specs.declared.label.Label.{Label}
+use Rattle.sat_label.specs.declared.items.Items.{Items}
+use Rattle.sat_label.specs.Grouped.{least_item, list_of}
 use Rattle.sat_label.specs.declared.label.Kind.{Kind}
 use Rattle.sat_label.specs.declared.label.Kind.TheVariants.{Update, Move, Pulse, Close}
-use Rattle.sat_bulk.specs.declared.Payload.{Payload}
+use Rattle.sat_bulk.specs.Payloads.{Payload}
 use Rattle.sat_bulk.specs.Windows.{has_number}
 use Rattle.sat_beat.specs.declared.Beat.{Beat}
 use Rattle.sat_beat.specs.declared.beats.BeatTake.TheVariants as came
 use Rattle.sat_beat.specs.Beats.{taken_of, is_old, has_beat}
 use Rattle.sat_sites.specs.Interested.{IsLabelOf}
-use Rattle.sat_store.specs.declared.store.Version.{Version}
+use Rattle.sat_label.specs.Versions.{Version}
 use Rattle.sat_gear.specs.Gear.{GearSeen, EachLane, is_spent, stamped, version_of}
 use Rattle.sat_sink.specs.Sink as sink
 use Rattle.sat_epoch.specs.declared.views.CloseFault.{CloseFault}
@@ -44,12 +46,12 @@ use Rattle.sat_proxy.specs.Stands.{StandsProxy}
 use Rattle.sat_proxy.specs.Steps.{advance_after, beaten as proxy_beaten, brought, has_come}
 use Rattle.sat_site.specs.declared.input.SiteInput.TheVariants as input
 use Rattle.sat_site.specs.Seen.{SiteSeen, IsSite}
-use Rattle.sat_site.specs.Changes.{beat_for, beaten, closed, count_to, fell, gear_at, made_for, HasGear}
+use Rattle.sat_site.specs.Changes.{beat_for, beaten, closed, count_to, fell, gear_at, gear_for, made_for, HasGear}
 use Rattle.sat_site.specs.Inputs.{fits_in, BulkFits, IsFront}
 use Rattle.sat_site.specs.Gives.{label_sent}
 use Rattle.sat_site.specs.Laws.{EachClock, EachStep, StepHolds}
 use Rattle.sat_site.specs.Stands.{StandsSite}
-use Rattle.sat_site.specs.SiteSteps.{close_after, close_answer, close_label, emit_after, emit_answer, fall_after, fall_answer, keeps_item, move_after, move_answer, moved_answer, next_close, next_pulse, passed_after, pulse_after, pulse_answer, read_answer, shown_by, shown_of, show_some, site_after, site_answers, site_sends, stamp_after_of, stamp_answer_of, tick_after, tick_answer, version_answer, write_after, write_answer}
+use Rattle.sat_site.specs.SiteSteps.{close_after, close_answer, close_label, emit_after, emit_answer, fall_after, fall_answer, keeps_each, keeps_item, move_after, move_answer, moved_answer, next_close, next_pulse, passed_after, pulse_after, pulse_answer, read_answer, shown_of, show_some, site_after, site_answers, site_sends, stamp_after_of, stamp_answer_of, tick_after, tick_answer, version_answer, write_after, write_answer}
 use Rattle.sat_site.specs.Does.{Writes, write_not_here, spends, writes, Reads, read_not_here, reads_none, reads}
 use Rattle.sat_site.proofs.Epochs.{close-is, closed-views, fall-is, fell-views, passed-views, sees}
 use Rattle.sat_site.proofs.Fitting.{fits-attach, fits-beat, fits-beat-in, fits-bulk, fits-read, fits-tick, fits-turn, fits-write}
@@ -98,20 +100,20 @@ tick-holds x g t k f =
 
 -- ---- a write and a read
 
-pub write-here : (x : SiteSeen) (seen : Carried) (n : ℕ) (value : List ℕ) → IsSite x →
-    Writes x seen n value (write_answer (keeps_item x n) (slice_get x.gears (gear_at x n)) seen n) (write_after x (keeps_item x n) (slice_get x.gears (gear_at x n)) seen n value)
-write-here x seen n value k = go (keeps_item x n) refl
+pub write-here : (x : SiteSeen) (seen : Carried) (items : Items) (values : List (List ℕ)) → IsSite x →
+    Writes x seen items values (write_answer (keeps_each x (list_of items)) (slice_get x.gears (gear_for x items)) seen.point items) (write_after x (keeps_each x (list_of items)) (slice_get x.gears (gear_for x items)) seen.point items values)
+write-here x seen items values k = go (keeps_each x (list_of items)) refl
   where
-    a : (gear : GearSeen) × HasGear x (gear_at x n) gear
-    a = item-there x n k
+    a : (gear : GearSeen) × HasGear x (gear_for x items) gear
+    a = item-there x (least_item (list_of items)) k
 
-    by : (b : Bool) → is_spent a.0 seen.point ≡ b → keeps_item x n ≡ true → Writes x seen n value (stamp_answer_of b (stamped a.0 seen.point (Update n))) (stamp_after_of x b a.0 seen n value)
+    by : (b : Bool) → is_spent a.0 seen.point ≡ b → keeps_each x (list_of items) ≡ true → Writes x seen items values (stamp_answer_of b (stamped a.0 seen.point (Update items))) (stamp_after_of x b a.0 seen.point items values)
     by true f e = spends a.0 e a.1 f
-    by false f e = writes a.0 e a.1 (k.gears.are (gear_at x n) a.0 a.1) f
+    by false f e = writes a.0 e a.1 (k.gears.are (gear_for x items) a.0 a.1) f
 
-    go : (b : Bool) → keeps_item x n ≡ b → Writes x seen n value (write_answer b (slice_get x.gears (gear_at x n)) seen n) (write_after x b (slice_get x.gears (gear_at x n)) seen n value)
+    go : (b : Bool) → keeps_each x (list_of items) ≡ b → Writes x seen items values (write_answer b (slice_get x.gears (gear_for x items)) seen.point items) (write_after x b (slice_get x.gears (gear_for x items)) seen.point items values)
     go false e = write_not_here e
-    go true e = subst (λ (o : Option GearSeen). Writes x seen n value (write_answer true o seen n) (write_after x true o seen n value)) (sym a.1) (by (is_spent a.0 seen.point) refl e)
+    go true e = subst (λ (o : Option GearSeen). Writes x seen items values (write_answer true o seen.point items) (write_after x true o seen.point items values)) (sym a.1) (by (is_spent a.0 seen.point) refl e)
 
 pub read-here : (x : SiteSeen) (n : ℕ) → IsSite x → Reads x n (read_answer (keeps_item x n) (slice_get x.gears (gear_at x n)) n)
 read-here x n k = go (keeps_item x n) refl
@@ -133,24 +135,25 @@ record Rests (x : SiteSeen) (r : Answer) (y : SiteSeen) : Type 0 where
   refused : is_done r ≡ false → y ≡ x
   shape : y.shape ≡ x.shape
 
-write-rests : (x : SiteSeen) (seen : Carried) (n : ℕ) (value : List ℕ) (r : Answer) (y : SiteSeen) → Writes x seen n value r y → Rests x r y
-write-rests x seen n value r y (write_not_here e) = record { quiet = refl; refused = λ f. refl; shape = refl }
-write-rests x seen n value r y (spends gear e at f) = record { quiet = refl; refused = λ f. refl; shape = refl }
-write-rests x seen n value r y (writes gear e at good f) = record { quiet = refl; refused = λ f. absurd (cc); shape = refl }
+write-rests : (x : SiteSeen) (seen : Carried) (items : Items) (values : List (List ℕ)) (r : Answer) (y : SiteSeen) → Writes x seen items values r y → Rests x r y
+write-rests x seen items values r y (write_not_here e) = record { quiet = refl; refused = λ f. refl; shape = refl }
+write-rests x seen items values r y (spends gear e at f) = record { quiet = refl; refused = λ f. refl; shape = refl }
+write-rests x seen items values r y (writes gear e at good f) = record { quiet = refl; refused = λ f. absurd (cc); shape = refl }
 
 read-rests : (x : SiteSeen) (n : ℕ) (r : Answer) → Reads x n r → label_sent r ≡ None
 read-rests x n r (read_not_here e) = refl
 read-rests x n r (reads_none gear e at f) = refl
 read-rests x n r (reads gear v e at f) = refl
 
-write-holds : (x : SiteSeen) (seen : Carried) (n : ℕ) (value : List ℕ) → EachLane → IsSite x → fits_in x (input.Write seen n value) ≡ true → StepHolds x (input.Write seen n value)
+write-holds : (x : SiteSeen) (seen : Carried) (items : Items) (values : List (List ℕ)) → EachLane → IsSite x → fits_in x (input.Write seen items values) ≡ true → StepHolds x (input.Write seen items values)
 unfolding site_answers site_after site_sends
-write-holds x seen n value laws k f =
-    let w = write-here x seen n value k in
-    let r = write-rests x seen n value _ _ w in
+write-holds x seen items values laws k f =
+    let w = write-here x seen items values k in
+    let r = write-rests x seen items values _ _ w in
+    let g = fits-write x seen items values f in
     record {
-      answers = λ d i s v st. write-answer d i x s seen n value _ _ k st w;
-      stands = λ d i s v st. write-stand d i x s seen n value _ _ laws k (fits-write x seen n value f) st w;
+      answers = λ d i s v st. write-answer d i x s seen items values _ _ k st w;
+      stands = λ d i s v st. write-stand d i x s seen items values _ _ laws k g.0 g.1 st w;
       sent = quiet x.shape x.views _ r.quiet;
       refused = r.refused;
       shape = r.shape;
@@ -290,12 +293,8 @@ shown-shape : (x : SiteSeen) (o : Option Payload) → (show_some x o).shape ≡ 
 shown-shape x None = refl
 shown-shape x (Some p) = go p.label.kind
   where
-    by : (k : ℕ) (o : Option GearSeen) → (shown_by x k p o).shape ≡ x.shape
-    by k None = refl
-    by k (Some gear) = refl
-
     go : (kind : Kind) → (shown_of x p kind).shape ≡ x.shape
-    go (Update k) = by k (slice_get x.gears (gear_at x k))
+    go (Update items) = refl
     go (Move j) = refl
     go Pulse = refl
     go (Close e) = refl
@@ -566,7 +565,7 @@ advance-holds x laws steps k = record {
 
 pub each-step : EachLane → EachAnswers → EachFollows → EachStep
 each-step lanes laws steps x (input.Tick g t) k f = tick-holds x g t k f
-each-step lanes laws steps x (input.Write seen n value) k f = write-holds x seen n value lanes k f
+each-step lanes laws steps x (input.Write seen items values) k f = write-holds x seen items values lanes k f
 each-step lanes laws steps x (input.Read seen n) k f = read-holds x seen n k f
 each-step lanes laws steps x (input.Move seen j) k f = move-holds x seen j k
 each-step lanes laws steps x (input.Attach seen) k f = attach-holds x seen laws k f

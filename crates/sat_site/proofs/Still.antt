@@ -63,7 +63,7 @@ ticks-stand d i x s g t gear at st = record {
   sink = st.sink;
   views = st.views;
   proxy = st.proxy;
-  store = store-set d x.gears g gear (after_tick gear t) s.store s.store at st.store (λ n e old. old) (λ n e. refl);
+  store = store-set d i x.gears g gear (after_tick gear t) s.store s.store at st.store (λ n e old. old) (λ n e. refl);
   made = st.made;
 }
 
@@ -78,6 +78,6 @@ clocks-stand d i x s t up st = record {
   sink = st.sink;
   views = st.views;
   proxy = st.proxy;
-  store = store-map d (ticked_to t) x.gears s.store st.store (λ gear n. refl);
+  store = store-map d i (ticked_to t) x.gears s.store st.store (λ gear n. refl);
   made = st.made;
 }

@@ -1,14 +1,15 @@
 -- Whether a label has a target.
-use Rattle.std.specs.Prelude.{◌≡◌, ◌<◌, ℕ, Bool, true, false, ◌&&◌, Option, Some, None, slice_get, refl}
-use Rattle.std.proofs.Common.{subst, sym, ◌∙◌}
-use Rattle.std.proofs.lemmas.Bool.{eqb-true, ltb-true}
+use Rattle.std.specs.Prelude.{◌≡◌, ◌<◌, ℕ, Bool, true, false, ◌&&◌, List, [], ◌∷◌, Option, Some, None, slice_get, refl}
+use Rattle.std.proofs.Common.{subst, sym, ◌∙◌, inl, inr}
+use Rattle.std.proofs.lemmas.Bool.{eqb-true, ltb-true, or_cases}
 use Rattle.sat_label.specs.declared.label.Label.{Label}
 use Rattle.sat_label.specs.declared.label.Kind.{Kind}
 use Rattle.sat_label.specs.declared.label.Kind.TheVariants.{Update, Move, Pulse, Close}
 use Rattle.sat_label.specs.declared.point.Point.{Point}
 use Rattle.sat_label.specs.declared.site_set.SiteSet.{SiteSet}
+use Rattle.sat_label.specs.Grouped.{list_of}
 use Rattle.sat_label.specs.Words.{bit}
-use Rattle.sat_sites.specs.Interested.{Interested, IsInterest, IsKindOf, IsLabelOf, is_for}
+use Rattle.sat_sites.specs.Interested.{Interested, IsInterest, IsKindOf, IsLabelOf, is_for, keeps, keeps_one}
 use Rattle.sat_sites.specs.declared.shape.Shape.{Shape}
 use Rattle.sat_gear.specs.Gear.{IsShape}
 use Rattle.sat_site.specs.Gives.{HasTarget}
@@ -17,13 +18,20 @@ kept-within : (a : Interested) (x k : ℕ) (o : Option SiteSet) → IsInterest a
 kept-within a x k None i e h = absurd (cc)
 kept-within a x k (Some set) i e h = i.within x k set e h
 
+kept-one-within : (a : Interested) (xs : List ℕ) (k : ℕ) → IsInterest a → keeps_one a xs k ≡ true → k < a.sites
+kept-one-within a [] k i h = absurd (cc)
+kept-one-within a (x ∷ xs) k i h = elim (or_cases (keeps a x k) (keeps_one a xs k) h) [
+  | inl here ↦ kept-within a x k (slice_get a.replicas x) i refl here
+  | inr there ↦ kept-one-within a xs k i there
+]
+
 first-of : (a b : Bool) → (a && b) ≡ true → a ≡ true
 first-of true b e = refl
 first-of false b e = absurd (cc)
 
 target-by : (a : Interested) (p : Point) (kind : Kind) (k : ℕ) → IsInterest a → IsKindOf a kind → is_for a (record { point = p; kind = kind }) k ≡ true → k < a.sites
 unfolding is_for
-target-by a p (Update x) k i own e = kept-within a x k (slice_get a.replicas x) i refl (first-of _ _ e)
+target-by a p (Update items) k i own e = kept-one-within a (list_of items) k i (first-of _ _ e)
 target-by a p (Move j) k i own e = subst (λ (n : ℕ). n < a.sites) (sym (eqb-true k j e)) own
 target-by a p Pulse k i own e = ltb-true k a.sites (first-of _ _ e)
 target-by a p (Close f) k i own e = ltb-true k a.sites (first-of _ _ e)

@@ -2,13 +2,14 @@
 use Rattle.std.specs.Prelude.{◌≡◌, ◌<◌, ◌&&◌, not, ℕ, Bool, true, false, List, [], ◌∷◌, map, Option, Some, None, if◌then◌else◌, refl}
 use Rattle.std.proofs.Common.{subst, ap, sym, ◌∙◌, inl, inr}
 use Rattle.sat_label.specs.declared.label.Label.{Label}
+use Rattle.sat_label.specs.declared.items.Items.{Items}
 use Rattle.sat_label.specs.declared.label.Kind.{Kind}
 use Rattle.sat_label.specs.declared.label.Kind.TheVariants.{Update, Move, Pulse, Close}
 use Rattle.sat_label.specs.Order.{label_eq}
 use Rattle.sat_label.specs.Members.{In}
 use Rattle.sat_label.proofs.Orders.{same-label}
 use Rattle.sat_label.proofs.Least.{least-is}
-use Rattle.sat_bulk.specs.declared.Payload.{Payload}
+use Rattle.sat_bulk.specs.Payloads.{Payload}
 use Rattle.sat_pool.specs.Pool.{Waiting, all_waiting, labels_waiting, labelled, waiting_at}
 use Rattle.sat_pool.proofs.Members.{found-in, in-found}
 use Rattle.sat_epoch.specs.Epochs.{in_stamp}
@@ -81,11 +82,11 @@ turns-stand d i x s front k f st = go front f (in_stamp x.views)
         StandsSite d i (show_some (record x { views = if b then x.views else made.link_views x.views front; proxy = if b then x.proxy else made.link_after x.proxy front }) (if b then None else made.link_shows x.proxy.pool front))
         (site_next d i s (given.Turn front) (front_answer (if b then Some turn.StampOrder else made.link_fault x.proxy.pool front) front))
 
-    update : (l : Label) (n : ℕ) (o : Option Payload) → l.kind ≡ Update n → made.waiting_of x.proxy.pool l ≡ o →
+    update : (l : Label) (items : Items) (o : Option Payload) → l.kind ≡ Update items → made.waiting_of x.proxy.pool l ≡ o →
         StandsProxy (made.shown_after x.proxy l o) (proxy_next d i s (given.Turn (Some l)) (front_answer (made.missing l o) (Some l))) →
         StandsSite d i (show_some (record x { proxy = made.shown_after x.proxy l o }) o) (site_next d i s (given.Turn (Some l)) (front_answer (made.missing l o) (Some l)))
-    update l n None e at proxy = refuses d i x s (given.Turn (Some l)) (why.NoPayload l) st
-    update l n (Some p) e at proxy =
+    update l items None e at proxy = refuses d i x s (given.Turn (Some l)) (why.NoPayload l) st
+    update l items (Some p) e at proxy =
         let w : Found x.proxy.pool l p = found x.proxy.pool l p at in
         let done : done_answer l l.kind ≡ ans.Shown l = ap (done_answer l) e in
         subst (λ (r : Answer). StandsSite d i (show_some (record x { proxy = made.showing x.proxy l }) (Some p)) (site_next d i s (given.Turn (Some l)) r)) (sym done)
@@ -103,7 +104,7 @@ turns-stand d i x s front k f st = go front f (in_stamp x.views)
     other : (l : Label) (kind : Kind) → l.kind ≡ kind → IsFront x l →
         StandsProxy (made.front_after x.proxy l kind) (proxy_next d i s (given.Turn (Some l)) (front_answer (made.front_fault x.proxy.pool l kind) (Some l))) →
         StandsSite d i (show_some (record x { views = made.front_views x.views l kind; proxy = made.front_after x.proxy l kind }) (made.front_shows x.proxy.pool l kind)) (site_next d i s (given.Turn (Some l)) (front_answer (made.front_fault x.proxy.pool l kind) (Some l)))
-    other l (Update n) e front proxy = update l n (made.waiting_of x.proxy.pool l) e refl proxy
+    other l (Update items) e front proxy = update l items (made.waiting_of x.proxy.pool l) e refl proxy
     other l (Move n) e front proxy = takes l (Move n) e refl front proxy
     other l Pulse e front proxy = takes l Pulse e refl front proxy
     other l (Close n) e front proxy = takes l (Close n) e refl front proxy
@@ -119,7 +120,7 @@ pub turn-quiet : (x : SiteSeen) (front : Option Label) → label_sent (turn_answ
 turn-quiet x front = go (in_stamp x.views) front
   where
     kinds : (l : Label) (kind : Kind) → label_sent (done_answer l kind) ≡ None
-    kinds l (Update n) = refl
+    kinds l (Update items) = refl
     kinds l (Move n) = refl
     kinds l Pulse = refl
     kinds l (Close n) = refl
@@ -129,7 +130,7 @@ turn-quiet x front = go (in_stamp x.views) front
     missed l (Some p) = kinds l l.kind
 
     by : (l : Label) (kind : Kind) → label_sent (front_answer (made.front_fault x.proxy.pool l kind) (Some l)) ≡ None
-    by l (Update n) = missed l (made.waiting_of x.proxy.pool l)
+    by l (Update items) = missed l (made.waiting_of x.proxy.pool l)
     by l (Move n) = kinds l l.kind
     by l Pulse = kinds l l.kind
     by l (Close n) = kinds l l.kind
@@ -143,7 +144,7 @@ pub turn-refused : (x : SiteSeen) (front : Option Label) → is_done (turn_answe
 turn-refused x front = go (in_stamp x.views) front
   where
     kinds : (l : Label) (kind : Kind) → is_done (done_answer l kind) ≡ false → ⊥
-    kinds l (Update n) e = cc
+    kinds l (Update items) e = cc
     kinds l (Move n) e = cc
     kinds l Pulse e = cc
     kinds l (Close n) e = cc
@@ -154,7 +155,7 @@ turn-refused x front = go (in_stamp x.views) front
 
     by : (l : Label) (kind : Kind) → is_done (front_answer (made.front_fault x.proxy.pool l kind) (Some l)) ≡ false →
         show_some (record x { views = made.front_views x.views l kind; proxy = made.front_after x.proxy l kind }) (made.front_shows x.proxy.pool l kind) ≡ x
-    by l (Update n) e = missed l (made.waiting_of x.proxy.pool l) e
+    by l (Update items) e = missed l (made.waiting_of x.proxy.pool l) e
     by l (Move n) e = absurd (kinds l l.kind e)
     by l Pulse e = absurd (kinds l l.kind e)
     by l (Close n) e = absurd (kinds l l.kind e)

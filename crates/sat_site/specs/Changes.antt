@@ -1,6 +1,8 @@
 -- What the calls of a site make of what it keeps.
 use Rattle.std.specs.Prelude.{ℕ, ◌≡◌, ◌%◌, Bool, true, false, List, [], ◌∷◌, ◌++◌, map, replicate, set, get_or, slice_get, Some}
+use Rattle.sat_label.specs.declared.items.Items.{Items}
 use Rattle.sat_label.specs.declared.label.Label.{Label}
+use Rattle.sat_label.specs.Grouped.{least_item, list_of}
 use Rattle.sat_label.specs.Words.{below}
 use Rattle.sat_bulk.specs.declared.Drained.{Drained}
 use Rattle.sat_beat.specs.declared.Beat.{Beat}
@@ -70,6 +72,10 @@ beaten x j = record x { made = set x.made j (made_for x j ++ beat_for x j ∷ []
 -- the gear of an item
 abbrev pub gear_at : SiteSeen → ℕ → ℕ
 gear_at x n = n % x.shape.gears
+
+-- the gear that stamps an update of some items: that of the least
+abbrev pub gear_for : SiteSeen → Items → ℕ
+gear_for x items = gear_at x (least_item (list_of items))
 
 abbrev pub HasGear : SiteSeen → ℕ → GearSeen → Type 0
 HasGear x g gear = slice_get x.gears g ≡ Some gear

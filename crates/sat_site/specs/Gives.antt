@@ -1,16 +1,19 @@
 -- What the calls of a site promise.
-use Rattle.std.specs.Prelude.{ℕ, ◌≡◌, ◌≤◌, ◌<◌, true, false, length, slice_get, Option, Some, None}
+use Rattle.std.specs.Prelude.{ℕ, ◌≡◌, ◌≤◌, ◌<◌, true, false, List, length, map, slice_get, Option, Some, None}
+use Rattle.sat_label.specs.declared.items.Items.{Items}
 use Rattle.sat_label.specs.declared.label.Kind.TheVariants.{Update, Close}
 use Rattle.sat_label.specs.declared.label.Label.{Label}
-use Rattle.sat_bulk.specs.declared.Payload.{Payload}
+use Rattle.sat_label.specs.Grouped.{list_of}
+use Rattle.sat_bulk.specs.Payloads.{Payload}
 use Rattle.sat_epoch.specs.Epochs.{Epochs, is_stamp}
-use Rattle.sat_sites.specs.Interested.{is_for, IsLabelOf}
+use Rattle.sat_sites.specs.Interested.{is_for, AreBelow, IsLabelOf}
 use Rattle.sat_sites.specs.declared.shape.Shape.{Shape}
 use Rattle.sat_gear.specs.Gear.{GearSeen}
 use Rattle.sat_act.specs.declared.answer.Answer.{Answer}
 use Rattle.sat_act.specs.declared.answer.Answer.TheVariants as ans
 use Rattle.sat_act.specs.Deployed.{Deployed}
 use Rattle.sat_act.specs.Limits.{IsDeployment}
+use Rattle.sat_act.specs.Parts.{items_of}
 use Rattle.sat_machine.specs.Input.{SiteInput}
 use Rattle.sat_machine.specs.State.{SiteState}
 use Rattle.sat_machine.specs.Reply.{site_answer}
@@ -55,9 +58,10 @@ IsSent shape views answer o = IsSentOf shape views (label_sent answer) o
 abbrev pub PromisesUpTo : SiteSeen → ℕ → Type 0
 PromisesUpTo x ts = (g : ℕ) (gear : GearSeen) → slice_get x.gears g ≡ Some gear → gear.promise ≤ ts
 
--- a payload that gear `gear` made for site `to`
+-- a payload that gear `gear` made for site `to`, with a value for each of its items
 pub record IsOfLane (shape : Shape) (gear to : ℕ) (p : Payload) : Type 0 where
   pub made_at : p.label.point.site ≡ shape.site
   pub made_by : p.label.point.gear ≡ gear
-  pub item : (x : ℕ) × (p.label.kind ≡ Update x) × (x < length shape.interest.replicas)
+  pub items : (items : Items) × (p.label.kind ≡ Update items) × AreBelow (length shape.interest.replicas) (list_of items)
+  pub values : (values : List (List ℕ)) × (p.values ≡ map Some values) × (length values ≡ length (items_of p.label.kind))
   pub target : is_for shape.interest p.label to ≡ true

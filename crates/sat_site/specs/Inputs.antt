@@ -2,28 +2,31 @@
 use Rattle.std.specs.Prelude.{ℕ, ◌≡◌, ◌<◌, ◌^◌, ◌==◌, Bool, true, false, ◌&&◌, ◌||◌, not, nat_le, nat_lt, length, slice_get, Option, Some, None, is_none}
 use Rattle.std.specs.List.{list_all}
 use Rattle.sat_label.specs.declared.carried.Carried.{Carried}
+use Rattle.sat_label.specs.declared.items.Items.{Items}
 use Rattle.sat_label.specs.declared.label.Kind.{Kind}
 use Rattle.sat_label.specs.declared.label.Kind.TheVariants as kind
 use Rattle.sat_label.specs.declared.label.Label.{Label}
 use Rattle.sat_label.specs.declared.point.Point.{Point}
+use Rattle.sat_label.specs.Grouped.{are_items, list_of}
 use Rattle.sat_label.specs.Words.{below}
-use Rattle.sat_bulk.specs.declared.Payload.{Payload}
+use Rattle.sat_bulk.specs.Payloads.{Payload}
 use Rattle.sat_bulk.specs.Windows.{has_number}
 use Rattle.sat_beat.specs.declared.Beat.{Beat}
 use Rattle.sat_pool.specs.Pool.{waiting_at}
 use Rattle.sat_proxy.specs.Proxy.{ProxySeen, note_of, window_of}
-use Rattle.sat_sites.specs.Interested.{keeps}
+use Rattle.sat_sites.specs.Interested.{are_below, keeps_one}
 use Rattle.sat_sites.specs.declared.shape.Shape.{Shape}
+use Rattle.sat_act.specs.Parts.{items_of}
 use Rattle.sat_machine.specs.Fits.{is_time}
 use Rattle.sat_machine.specs.Input.{SiteInput}
 use Rattle.sat_machine.specs.Input as given
 use Rattle.sat_site.specs.declared.input.SiteInput as code
 use Rattle.sat_site.specs.declared.input.SiteInput.TheVariants as input
-use Rattle.sat_site.specs.Seen.{SiteSeen, IsGuest}
+use Rattle.sat_site.specs.Seen.{SiteSeen, IsGuest, has_parts_here}
 
 abbrev pub input_of : code.SiteInput → SiteInput
 input_of (input.Tick g t) = given.Tick g t
-input_of (input.Write seen x value) = given.Write seen x value
+input_of (input.Write seen items values) = given.Write seen items values
 input_of (input.Read seen x) = given.Read seen x
 input_of (input.Move seen j) = given.Move seen j
 input_of (input.Attach seen) = given.Attach seen
@@ -67,9 +70,13 @@ is_carried_here shape seen = is_point_here shape seen.point && is_goal_here shap
 
 -- ---- fronts and payloads
 
--- a kind that names an item or a site, and of closes one of the view's epoch
+-- the items of one update, which ascend, and each of which is one of the deployment's
+abbrev pub is_group_here : Shape → Items → Bool
+is_group_here shape items = are_items (list_of items) && are_below (length shape.interest.replicas) (list_of items)
+
+-- a kind that names items, which ascend, or a site of the deployment, and of closes one of the view's epoch
 abbrev pub is_kind_here : Shape → ℕ → Kind → Bool
-is_kind_here shape view (kind.Update n) = is_item_here shape n
+is_kind_here shape view (kind.Update items) = is_group_here shape items
 is_kind_here shape view (kind.Move j) = is_site_here shape j
 is_kind_here shape view kind.Pulse = true
 is_kind_here shape view (kind.Close e) = e == view
@@ -78,20 +85,21 @@ is_kind_here shape view (kind.Close e) = e == view
 abbrev pub is_front_here : Shape → ℕ → Label → Bool
 is_front_here shape view l = is_time l.point.ts && (is_other_here shape l.point.site && is_kind_here shape view l.kind)
 
--- an update of an item that the site keeps
+-- an update of items of the deployment, which ascend, and of which the site keeps one
 abbrev pub is_kept_here : Shape → Kind → Bool
-is_kept_here shape (kind.Update n) = is_item_here shape n && keeps shape.interest n shape.site
+is_kept_here shape (kind.Update items) = is_group_here shape items && keeps_one shape.interest (list_of items) shape.site
 is_kept_here shape _ = false
 
--- an update that another site made of an item that this one keeps
+-- an update that another site made, of which this one keeps an item
 abbrev pub is_guest_here : Shape → ℕ → Label → Bool
 is_guest_here shape from l = (is_time l.point.ts && (l.point.site == from)) && is_kept_here shape l.kind
 
--- a payload of a lane of another site. Where its number is new, no payload that waits has its point
+-- a payload of a lane of another site, with a value for each item that the site keeps. Where its number is new, no payload that
+-- waits has its point
 abbrev pub is_bulk_here : Shape → ProxySeen → ℕ → ℕ → ℕ → Payload → Bool
 is_bulk_here shape proxy from gear number p =
     (is_other_here shape from && is_gear_here shape gear)
-    && (is_guest_here shape from p.label && (has_number (window_of proxy from gear) number || is_none (waiting_at proxy.pool p.label.point)))
+    && ((is_guest_here shape from p.label && has_parts_here shape (items_of p.label.kind) p.values) && (has_number (window_of proxy from gear) number || is_none (waiting_at proxy.pool p.label.point)))
 
 -- ---- beats
 
@@ -108,7 +116,7 @@ is_beat_here shape epochs beat = is_point_here shape beat.cut && list_all (λ n.
 -- what the machine of the model asks, in the words of a site
 unfoldable pub fits_here : SiteSeen → code.SiteInput → Bool
 fits_here x (input.Tick g t) = is_gear_here x.shape g && is_time t
-fits_here x (input.Write seen n value) = is_carried_here x.shape seen && is_item_here x.shape n
+fits_here x (input.Write seen items values) = is_carried_here x.shape seen && (is_group_here x.shape items && (length values == length (list_of items)))
 fits_here x (input.Read seen n) = is_carried_here x.shape seen && is_item_here x.shape n
 fits_here x (input.Move seen j) = is_carried_here x.shape seen && is_site_here x.shape j
 fits_here x (input.Attach seen) = is_carried_here x.shape seen

@@ -1,6 +1,6 @@
 -- What a site made for the others.
 use Rattle.std.specs.Prelude.{ℕ, List, [], None, Some, slice_get}
-use Rattle.sat_bulk.specs.declared.Payload.{Payload}
+use Rattle.sat_bulk.specs.Payloads.{Payload}
 use Rattle.sat_gear.specs.Gear.{lane_to}
 use Rattle.sat_site.specs.Seen.{SiteSeen}
 

@@ -1,17 +1,20 @@
 -- What a site keeps, and what is true of each.
-use Rattle.std.specs.Prelude.{ℕ, ◌≡◌, ◌≤◌, ◌<◌, ◌%◌, true, false, List, [], length, get_or, slice_get, Some, None}
+use Rattle.std.specs.Prelude.{ℕ, ◌≡◌, ◌≤◌, ◌<◌, Bool, true, false, ◌&&◌, ◌||◌, not, List, [], ◌∷◌, length, get_or, slice_get, Option, Some, is_some}
+use Rattle.sat_label.specs.declared.items.Items.{Items}
 use Rattle.sat_label.specs.declared.label.Kind.TheVariants.{Update}
 use Rattle.sat_label.specs.declared.label.Label.{Label}
-use Rattle.sat_bulk.specs.declared.Payload.{Payload}
+use Rattle.sat_bulk.specs.Payloads.{Payload}
 use Rattle.sat_beat.specs.declared.Beat.{Beat}
+use Rattle.sat_label.specs.Grouped.{list_of}
 use Rattle.sat_label.specs.Members.{In, is_made}
-use Rattle.sat_sites.specs.Interested.{keeps, is_for, IsKindOf}
+use Rattle.sat_sites.specs.Interested.{keeps, keeps_one, is_for, AreBelow, IsKindOf}
 use Rattle.sat_sites.specs.declared.shape.Shape.{Shape}
-use Rattle.sat_gear.specs.Gear.{GearSeen, IsGear, IsShape, version_of}
+use Rattle.sat_gear.specs.Gear.{GearSeen, IsGear, IsShape}
 use Rattle.sat_sink.specs.Sink.{Sink}
 use Rattle.sat_epoch.specs.Epochs.{Epochs, IsEpochs}
 use Rattle.sat_pool.specs.Pool.{all_waiting}
 use Rattle.sat_proxy.specs.Proxy.{ProxySeen, IsProxy}
+use Rattle.sat_act.specs.Parts.{items_of}
 
 -- what the site was made from; its gears; its sink, and by gear how much of its lane to each site was gathered; its epochs; what it
 -- has of the other sites; and by site the beats that it made for it
@@ -31,23 +34,29 @@ pub record IsMadeHere (shape : Shape) (l : Label) : Type 0 where
   pub made : is_made l.kind ≡ true
   pub away : is_for shape.interest l shape.site ≡ false
 
--- gear g is the one of that number, and the sink gathered from it what it drained last. It has no version of an item that the site
--- does not keep
+-- gear g is the one of that number, and the sink gathered from it what it drained last
 pub record IsGearAt (site : Shape) (sink : Sink) (g : ℕ) (gear : GearSeen) : Type 0 where
   pub shape : gear.shape ≡ site
   pub number : gear.gear ≡ g
   pub gathered : get_or sink.promises g 0 ≡ gear.drained_promise
   pub fresh : (l : Label) → In gear.fresh l → IsMadeHere site l
   pub pending : (l : Label) → In (get_or sink.pending g []) l → IsMadeHere site l
-  pub absent : (n : ℕ) → n % site.gears ≡ g → keeps site.interest n site.site ≡ false → version_of gear n ≡ None
 
 -- what is true of each gear of a list
 abbrev pub AreGears : List GearSeen → Type 0
 AreGears gears = (g : ℕ) (gear : GearSeen) → slice_get gears g ≡ Some gear → IsGear gear
 
--- an update of a site, of an item that this one keeps
+-- as many parts as items, and a value for each item that the site keeps
+abbrev pub has_parts_here : Shape → List ℕ → List (Option (List ℕ)) → Bool
+has_parts_here shape [] [] = true
+has_parts_here shape [] (p ∷ ps) = false
+has_parts_here shape (n ∷ ns) [] = false
+has_parts_here shape (n ∷ ns) (p ∷ ps) = (not (keeps shape.interest n shape.site) || is_some p) && has_parts_here shape ns ps
+
+-- an update of a site, of items of which this one keeps one, with a value for each that it keeps
 pub record IsGuest (shape : Shape) (p : Payload) : Type 0 where
-  pub item : (n : ℕ) × (p.label.kind ≡ Update n) × (n < length shape.interest.replicas) × (keeps shape.interest n shape.site ≡ true)
+  pub items : (items : Items) × (p.label.kind ≡ Update items) × AreBelow (length shape.interest.replicas) (list_of items) × (keeps_one shape.interest (list_of items) shape.site ≡ true)
+  pub parts : has_parts_here shape (items_of p.label.kind) p.values ≡ true
   pub from : p.label.point.site < shape.sites
 
 -- a beat with one count for each gear, and with a close cut of each of the first few epochs
@@ -74,7 +83,7 @@ pub record HasEpochs (shape : Shape) (views : Epochs) : Type 0 where
   pub own : views.site ≡ shape.site
   pub heard : length views.heard ≡ shape.sites
 
--- what the site has of the others: all that waits is of items that it keeps
+-- what the site has of the others: of each update that waits it keeps an item
 pub record HasPeers (shape : Shape) (proxy : ProxySeen) : Type 0 where
   pub sound : IsProxy proxy
   pub sites : proxy.sites ≡ shape.sites

@@ -1,22 +1,24 @@
 -- A site's step as a function: what it answers to an input, what it sends, and what it then keeps, by what it kept alone. A
 -- gear, a payload or a version that is not there leaves all as it is.
-use Rattle.std.specs.Prelude.{ℕ, zero, suc, Bool, true, false, ◌&&◌, ◌||◌, ◌==◌, max, List, length, map, slice_get, Option, Some, None, is_none, if◌then◌else◌}
-use Rattle.std.specs.List.{flat_map}
+use Rattle.std.specs.Prelude.{ℕ, zero, suc, ◌%◌, Bool, true, false, ◌&&◌, ◌||◌, ◌==◌, max, List, [], ◌∷◌, length, map, set, slice_get, Option, Some, None, is_none, if◌then◌else◌}
+use Rattle.std.specs.List.{flat_map, list_all}
 use Rattle.sat_label.specs.declared.carried.Carried.{Carried}
+use Rattle.sat_label.specs.declared.items.Items.{Items}
 use Rattle.sat_label.specs.declared.label.Kind.{Kind}
 use Rattle.sat_label.specs.declared.label.Kind.TheVariants.{Update, Move, Close}
 use Rattle.sat_label.specs.declared.label.Label.{Label}
-use Rattle.sat_bulk.specs.declared.Payload.{Payload}
+use Rattle.sat_label.specs.declared.point.Point.{Point}
+use Rattle.sat_label.specs.Grouped.{list_of}
+use Rattle.sat_bulk.specs.Payloads.{Payload}
 use Rattle.sat_beat.specs.declared.Beat.{Beat}
 use Rattle.sat_sites.specs.Interested.{is_for, keeps}
 use Rattle.sat_sites.specs.declared.shape.Shape.{Shape}
-use Rattle.sat_store.specs.declared.store.Version.{Version}
-use Rattle.sat_gear.specs.Gear.{GearSeen, drained_of, is_spent, after_move, after_show, stamped, after_tick, version_of, after_write}
+use Rattle.sat_label.specs.Versions.{Version}
+use Rattle.sat_gear.specs.Gear.{GearSeen, drained_of, is_spent, after_move, after_show, stamped, after_tick, version_of, after_write, payload_with}
 use Rattle.sat_sink.specs.Pending.{least, promise_of}
 use Rattle.sat_sink.specs.Sink.{Sink, cut_of, may_pulse, pulse_of, ready_of}
 use Rattle.sat_act.specs.declared.answer.Answer.{Answer}
 use Rattle.sat_act.specs.declared.answer.Answer.TheVariants as ans
-use Rattle.sat_act.specs.declared.answer.Refusal.{Refusal}
 use Rattle.sat_act.specs.declared.answer.Refusal.TheVariants as why
 use Rattle.sat_site.specs.declared.input.SiteInput as code
 use Rattle.sat_site.specs.declared.input.SiteInput.TheVariants as input
@@ -30,7 +32,7 @@ use Rattle.sat_proxy.specs.Steps.{advance_after, after_beat, after_bulk, has_com
 use Rattle.sat_proxy.specs.Answers.{advance_answer, attach_answer, beat_answer, bulk_answer, stamp_answer, turn_answer}
 use Rattle.sat_site.specs.Seen.{SiteSeen}
 use Rattle.sat_site.specs.Inputs.{is_front_here}
-use Rattle.sat_site.specs.Changes.{with_gear, gathered_all, sent, pulsed, closed, fell, fresh_of, gear_at, beat_for, made_for, beaten}
+use Rattle.sat_site.specs.Changes.{with_gear, gathered_all, sent, pulsed, closed, fell, fresh_of, gear_at, gear_for, beat_for, made_for, beaten}
 
 -- whether the site keeps an item
 abbrev pub keeps_item : SiteSeen → ℕ → Bool
@@ -46,38 +48,77 @@ abbrev pub tick_after : SiteSeen → ℕ → ℕ → Option GearSeen → SiteSee
 tick_after x g t None = x
 tick_after x g t (Some gear) = with_gear x g (after_tick gear t)
 
--- ---- a client's write and read, at the gear of the item, where the site keeps it
+-- ---- an update that is shown: each part whose item the site keeps, by the gear of the item
+
+-- gears of which the one of a number shows the part of a label for item k, if there is one
+abbrev pub shown_by : List GearSeen → ℕ → Label → ℕ → Option (List ℕ) → Option GearSeen → List GearSeen
+shown_by gears g l k None o = gears
+shown_by gears g l k (Some value) None = gears
+shown_by gears g l k (Some value) (Some gear) = set gears g (after_show gear k (record { label = l; value = value }))
+
+-- gears that show it, where the site keeps item k
+abbrev pub shown_at : Bool → Shape → List GearSeen → Label → ℕ → Option (List ℕ) → List GearSeen
+shown_at false shape gears l k p = gears
+shown_at true shape gears l k p = shown_by gears (k % shape.gears) l k p (slice_get gears (k % shape.gears))
+
+-- and each of some parts, one after the other, with its item
+unfoldable pub shown_each : Shape → List GearSeen → Label → List ℕ → List (Option (List ℕ)) → List GearSeen
+shown_each shape gears l [] ps = gears
+shown_each shape gears l (k ∷ ks) [] = gears
+shown_each shape gears l (k ∷ ks) (p ∷ ps) = shown_each shape (shown_at (keeps shape.interest k shape.site) shape gears l k p) l ks ps
+
+abbrev pub shown_part : SiteSeen → Label → ℕ → Option (List ℕ) → SiteSeen
+shown_part x l k p = record x { gears = shown_at (keeps_item x k) x.shape x.gears l k p }
+
+-- a version of item k, if there is one
+abbrev pub shown_version : SiteSeen → ℕ → Option Version → SiteSeen
+shown_version x k None = x
+shown_version x k (Some v) = shown_part x v.label k (Some v.value)
+
+abbrev pub shown_parts : SiteSeen → Label → Items → List (Option (List ℕ)) → SiteSeen
+shown_parts x l items ps = record x { gears = shown_each x.shape x.gears l (list_of items) ps }
+
+abbrev pub shown_of : SiteSeen → Payload → Kind → SiteSeen
+shown_of x p (Update items) = shown_parts x p.label items p.values
+shown_of x p _ = x
+
+abbrev pub show_some : SiteSeen → Option Payload → SiteSeen
+show_some x None = x
+show_some x (Some p) = shown_of x p p.label.kind
+
+-- ---- a client's write, stamped by the gear of the least item, where the site keeps all of them
+
+-- whether the site keeps each of some items
+abbrev pub keeps_each : SiteSeen → List ℕ → Bool
+keeps_each x ns = list_all (keeps_item x) ns
 
 abbrev pub stamp_answer_of : Bool → Label → Answer
 stamp_answer_of true l = ans.Refused why.Spent
 stamp_answer_of false l = ans.Wrote l
 
-abbrev pub write_answer : Bool → Option GearSeen → Carried → ℕ → Answer
-write_answer false o seen n = ans.Refused why.NotHere
-write_answer true None seen n = ans.Refused why.NotHere
-write_answer true (Some gear) seen n = stamp_answer_of (is_spent gear seen.point) (stamped gear seen.point (Update n))
+abbrev pub write_answer : Bool → Option GearSeen → Point → Items → Answer
+write_answer false o seen items = ans.Refused why.NotHere
+write_answer true None seen items = ans.Refused why.NotHere
+write_answer true (Some gear) seen items = stamp_answer_of (is_spent gear seen) (stamped gear seen (Update items))
 
--- the refusal of an answer, if it is one
-abbrev pub refusal_of : Answer → Option Refusal
-refusal_of (ans.Refused y) = Some y
-refusal_of _ = None
+-- the gear has made an update of these values
+abbrev pub stamped_by : SiteSeen → GearSeen → Point → Items → List (List ℕ) → SiteSeen
+stamped_by x gear seen items values = with_gear x (gear_for x items) (after_write gear (payload_with (stamped gear seen (Update items)) values))
 
--- why a client's write would be refused
-abbrev pub write_refusal : SiteSeen → Carried → ℕ → Option Refusal
-write_refusal x seen n = refusal_of (write_answer (keeps_item x n) (slice_get x.gears (gear_at x n)) seen n)
+-- and it is shown
+abbrev pub written : SiteSeen → GearSeen → Point → Items → List (List ℕ) → SiteSeen
+written x gear seen items values = shown_parts (stamped_by x gear seen items values) (stamped gear seen (Update items)) items (map Some values)
 
--- the payload that the gear makes
-abbrev pub update_of : GearSeen → Carried → ℕ → List ℕ → Payload
-update_of gear seen n value = record { label = stamped gear seen.point (Update n); value = value }
+abbrev pub stamp_after_of : SiteSeen → Bool → GearSeen → Point → Items → List (List ℕ) → SiteSeen
+stamp_after_of x true gear seen items values = x
+stamp_after_of x false gear seen items values = written x gear seen items values
 
-abbrev pub stamp_after_of : SiteSeen → Bool → GearSeen → Carried → ℕ → List ℕ → SiteSeen
-stamp_after_of x true gear seen n value = x
-stamp_after_of x false gear seen n value = with_gear x (gear_at x n) (after_write gear n (update_of gear seen n value))
+abbrev pub write_after : SiteSeen → Bool → Option GearSeen → Point → Items → List (List ℕ) → SiteSeen
+write_after x false o seen items values = x
+write_after x true None seen items values = x
+write_after x true (Some gear) seen items values = stamp_after_of x (is_spent gear seen) gear seen items values
 
-abbrev pub write_after : SiteSeen → Bool → Option GearSeen → Carried → ℕ → List ℕ → SiteSeen
-write_after x false o seen n value = x
-write_after x true None seen n value = x
-write_after x true (Some gear) seen n value = stamp_after_of x (is_spent gear seen.point) gear seen n value
+-- ---- a client's read, by the gear of the item, where the site keeps it
 
 abbrev pub version_answer : Option Version → Answer
 version_answer None = ans.ReadNone
@@ -174,19 +215,7 @@ abbrev pub sent_epoch : Option Label → ℕ → ℕ
 sent_epoch None epoch = 0
 sent_epoch (Some l) epoch = epoch
 
--- ---- an update that is shown, by the gear of its item
-
-abbrev pub shown_by : SiteSeen → ℕ → Payload → Option GearSeen → SiteSeen
-shown_by x k p None = x
-shown_by x k p (Some gear) = with_gear x (gear_at x k) (after_show gear k p)
-
-abbrev pub shown_of : SiteSeen → Payload → Kind → SiteSeen
-shown_of x p (Update k) = shown_by x k p (slice_get x.gears (gear_at x k))
-shown_of x p _ = x
-
-abbrev pub show_some : SiteSeen → Option Payload → SiteSeen
-show_some x None = x
-show_some x (Some p) = shown_of x p p.label.kind
+-- ---- a turn, and the next update in timestamp order
 
 -- a turn takes the front of the link to the site
 abbrev pub turned : SiteSeen → Option Label → SiteSeen
@@ -195,7 +224,6 @@ turned x front = record x { views = turn_views x.views front; proxy = turn_after
 abbrev pub turned_after : SiteSeen → Option Label → SiteSeen
 turned_after x front = show_some (turned x front) (turn_shows x.views x.proxy front)
 
--- the next update in timestamp order
 abbrev pub stamped_after : SiteSeen → SiteSeen
 stamped_after x = show_some (record x { proxy = stamp_after x.views x.proxy }) (stamp_shows x.views x.proxy)
 
@@ -219,7 +247,7 @@ passed_after None x = record x { views = after_advance x.views; proxy = advance_
 -- what the site answers
 unfoldable pub site_answers : SiteSeen → code.SiteInput → Answer
 site_answers x (input.Tick g t) = tick_answer (slice_get x.gears g) t
-site_answers x (input.Write seen n value) = write_answer (keeps_item x n) (slice_get x.gears (gear_at x n)) seen n
+site_answers x (input.Write seen items values) = write_answer (keeps_each x (list_of items)) (slice_get x.gears (gear_for x items)) seen.point items
 site_answers x (input.Read seen n) = read_answer (keeps_item x n) (slice_get x.gears (gear_at x n)) n
 site_answers x (input.Move seen j) = move_answer (j == x.shape.site) (slice_get x.gears 0) seen j
 site_answers x (input.Attach seen) = attach_answer x.views x.proxy seen
@@ -257,7 +285,7 @@ site_beat x _ = None
 -- what the site then keeps
 unfoldable pub site_after : SiteSeen → code.SiteInput → SiteSeen
 site_after x (input.Tick g t) = tick_after x g t (slice_get x.gears g)
-site_after x (input.Write seen n value) = write_after x (keeps_item x n) (slice_get x.gears (gear_at x n)) seen n value
+site_after x (input.Write seen items values) = write_after x (keeps_each x (list_of items)) (slice_get x.gears (gear_for x items)) seen.point items values
 site_after x (input.Read seen n) = x
 site_after x (input.Move seen j) = move_after x (j == x.shape.site) (slice_get x.gears 0) seen j
 site_after x (input.Attach seen) = x

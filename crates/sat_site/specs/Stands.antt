@@ -1,23 +1,23 @@
 -- The state of the model's machine that a site stands for, part by part.
-use Rattle.std.specs.Prelude.{ℕ, ◌≡◌, ◌≢◌, ◌≤◌, ◌<◌, false, List, [], length, map, get_or, slice_get, Option, Some, None, is_none}
-use Rattle.sat_bulk.specs.declared.Payload.{Payload}
+use Rattle.std.specs.Prelude.{ℕ, ◌≡◌, ◌≢◌, ◌≤◌, ◌<◌, true, false, List, [], length, map, get_or, slice_get, Option, Some, None, is_none}
 use Rattle.sat_beat.specs.declared.Beat.{Beat}
 use Rattle.sat_epoch.specs.Epochs.{Epochs, close_cut, is_stamp}
 use Rattle.sat_proxy.specs.Proxy.{note_of}
 use Rattle.sat_proxy.specs.Stands.{StandsProxy}
-use Rattle.sat_store.specs.declared.store.Version.{Version}
+use Rattle.sat_label.specs.Versions.{Version}
 use Rattle.sat_gear.specs.Gear.{GearSeen, lane_to, version_of}
 use Rattle.sat_sink.specs.Sink.{Sink}
 use Rattle.sat_act.specs.Deployed.{Deployed}
 use Rattle.sat_act.specs.Answers.{gear_of}
-use Rattle.sat_act.specs.Parts.{BeatNote, tree_of}
-use Rattle.sat_machine.specs.State.{SiteState, GearState, SinkState, ViewState}
+use Rattle.sat_act.specs.Parts.{BeatNote, replicates, tree_of}
+use Rattle.sat_machine.specs.State.{SiteState, GearState, SinkState, ViewState, Version as VersionSeen}
 use Rattle.sat_site.specs.Changes.{shape_for}
 use Rattle.sat_site.specs.Seen.{SiteSeen}
 
-abbrev pub payload_of : Option Version → Option Payload
-payload_of None = None
-payload_of (Some v) = Some (record { label = v.label; value = v.value })
+-- a version, as the machine keeps it
+abbrev pub version_seen : Option Version → Option VersionSeen
+version_seen None = None
+version_seen (Some v) = Some (record { label = v.label; value = v.value })
 
 -- ---- gears
 
@@ -52,10 +52,11 @@ pub record StandsViews (d : Deployed) (i : ℕ) (views : Epochs) (s : ViewState)
   pub plans : (e : ℕ) → 1 ≤ e → e ≤ length d.plans → is_stamp views e ≡ is_none (tree_of d e)
   pub count : length views.stamp ≡ length d.plans
 
--- ---- the store
+-- ---- the store: the versions of the items that site i keeps. That of another item, of which the machine knows by an update of
+-- more than one item, no gear has
 
-pub record StandsStore (d : Deployed) (gears : List GearSeen) (store : ℕ → Option Payload) : Type 0 where
-  pub each : (n : ℕ) (gear : GearSeen) → n < length d.items → slice_get gears (gear_of d n) ≡ Some gear → payload_of (version_of gear n) ≡ store n
+pub record StandsStore (d : Deployed) (i : ℕ) (gears : List GearSeen) (store : ℕ → Option VersionSeen) : Type 0 where
+  pub each : (n : ℕ) (gear : GearSeen) → n < length d.items → replicates d n i ≡ true → slice_get gears (gear_of d n) ≡ Some gear → version_seen (version_of gear n) ≡ store n
 
 -- ---- the beats that it made
 
@@ -71,5 +72,5 @@ pub record StandsSite (d : Deployed) (i : ℕ) (x : SiteSeen) (s : SiteState) : 
   pub sink : StandsSink d x.sink x.counts s.sink
   pub views : StandsViews d i x.views s.views
   pub proxy : StandsProxy x.proxy s.proxy
-  pub store : StandsStore d x.gears s.store
+  pub store : StandsStore d i x.gears s.store
   pub made : StandsMade d x.made s.made_beats

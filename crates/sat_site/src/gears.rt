@@ -3,15 +3,14 @@ ghost use Rattle.std.specs.Prelude.{◌≡◌, ◌≤◌, ◌<◌, ◌^◌, leng
 ghost use Rattle.sat_label.specs.declared.label.Kind.TheVariants.{Move};
 ghost use Rattle.std.specs.List.{flat_map, list_any};
 ghost use Rattle.sat_label.specs.Words.{below};
-ghost use Rattle.sat_gear.specs.Gear.{after_drain, fresh_gear, is_due, is_spent, stamped, IsGear, IsItemOf, IsShape};
+ghost use Rattle.sat_gear.specs.Gear.{after_drain, fresh_gear, is_due, is_spent, stamped, IsGear, IsShape};
 ghost use Rattle.sat_site.specs.Changes.{fresh_of, ticked_to};
 ghost use Rattle.sat_site.specs.SiteSteps.{moved_answer, moved_gear};
 ghost use Rattle.sat_site.specs.Seen.{AreGears};
-ghost use Rattle.sat_site.specs.Does.{WritesAt};
 
 use sat_act::{Answer, Refusal};
 use sat_gear::{Gear, GearFault};
-use sat_label::{Carried, Value};
+use sat_label::Carried;
 use sat_sites::Shape;
 use std::alloc::{AllocError, Global};
 
@@ -42,24 +41,6 @@ pub fn all_limits(gears: &[Gear])
 {
     for gear in gears {
         limits(gear);
-    }
-}
-
-/// Hands a client's write to the gear of its item.
-pub fn write_at(
-    gear: &mut Gear,
-    carried: Carried,
-    item: u16,
-    value: Value,
-) -> Result<Answer, AllocError>
-    requires { IsItemOf gear.old item }
-    ensures writes { IfOk result (λ answer. WritesAt gear.old carried item value answer gear.new) }
-    ensures err { OnErr result (gear.new ≡ gear.old) }
-{
-    match gear.stamp_write(carried.point, item, value) {
-        Ok(label) => Ok(Answer::Wrote(label)),
-        Err(GearFault::Spent) => Ok(Answer::Refused(Refusal::Spent)),
-        Err(GearFault::Memory) => Err(AllocError),
     }
 }
 

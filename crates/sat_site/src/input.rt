@@ -1,7 +1,7 @@
 //! What a site is handed.
 use sat_beat::Beat;
 use sat_bulk::Payload;
-use sat_label::{Carried, Label, Value};
+use sat_label::{Carried, Items, Label, Values};
 
 /// One act at a site, with what the site is handed: `carried` is what the client carries, `front` the front of the link to the
 /// site, `payload` the one of that number in the lane from that site and gear, and `beat` that site's beat of that number for this
@@ -13,11 +13,11 @@ pub enum SiteInput {
         gear: u16,
         ts: u64,
     },
-    /// A client seated here writes an item.
+    /// A client seated here writes items, each with its value, in one update.
     Write {
         carried: Carried,
-        item: u16,
-        value: Value,
+        items: Items,
+        values: Values,
     },
     /// A client seated here reads an item.
     Read {

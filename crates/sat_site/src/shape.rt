@@ -35,13 +35,14 @@ pub fn interest(alloc: Global, d: &Deployment) -> Result<Interest, AllocError>
     }
 }
 
-/// The shape of a site with this number.
-pub fn shape_of(alloc: Global, d: &Deployment, site: u16) -> Result<Shape, AllocError>
+/// The shape of a site with this number, by which sites keep which items.
+pub fn shape_of(d: &Deployment, interest: &Interest, site: u16) -> Result<Shape, AllocError>
+    requires { interest.now ≡ interest_of d.now }
     ensures shape { IfOk result (λ shape. shape ≡ shape_for d.now site) }
     ensures limits { IfOk result (λ shape. IsDeployment d.now) }
     ensures interest { IfOk result (λ shape. IsInterest shape.interest) }
 {
-    let interest = interest(alloc, d)?;
+    let interest = interest.copy()?;
     let _ = interest.items();
     Ok(Shape {
         sites: d.sites(),

@@ -1,9 +1,10 @@
 //! Sites.
-ghost use Rattle.std.specs.Prelude.{ℕ, ◌%◌, ◌*◌, ◌≡◌, ◌≢◌, ◌≤◌, ◌<◌, ◌==◌, ◌^◌, ◌&&◌, length, true, false, slice_get, Some, None, Option, IfOk, IfSome, OnOk, OnErr, IsOk, MatchOption, option_copied};
+ghost use Rattle.std.specs.Prelude.{ℕ, ◌%◌, ◌*◌, ◌≡◌, ◌≢◌, ◌≤◌, ◌<◌, ◌==◌, ◌^◌, ◌&&◌, ◌||◌, not, get_or, is_some, length, true, false, slice_get, Some, None, Option, IfOk, IfSome, IsNone, OnOk, OnErr, IsOk, MatchOption, option_copied};
 ghost use Rattle.std.specs.List.{list_all, list_any};
 ghost use Rattle.sat_label.specs.declared.label.Label.{Label};
+ghost use Rattle.sat_label.specs.Grouped.{list_of};
 ghost use Rattle.sat_label.specs.Words.{below};
-ghost use Rattle.sat_sites.specs.Interested.{IsLabelOf};
+ghost use Rattle.sat_sites.specs.Interested.{are_below, keeps_one, AreBelow, IsLabelOf};
 ghost use Rattle.sat_bulk.specs.Windows.{has_number};
 ghost use Rattle.sat_pool.specs.Pool.{all_waiting, waiting_at};
 ghost use Rattle.sat_epoch.specs.Epochs.{advance_fault, close_fault, fall_fault, in_stamp, is_stamp, IsEpochs};
@@ -12,39 +13,40 @@ ghost use Rattle.sat_sink.specs.Sink.{ready_of};
 ghost use Rattle.sat_label.specs.declared.limits.TheConstants.{MOST_EPOCHS};
 ghost use Rattle.sat_act.specs.Deployed.{Deployed};
 ghost use Rattle.sat_act.specs.declared.answer.Answer.TheVariants as ans;
+ghost use Rattle.sat_act.specs.Parts.{items_of, replicates};
 ghost use Rattle.sat_act.specs.Settling.{is_done};
+ghost use Rattle.sat_machine.specs.Interests.{interest_of};
 ghost use Rattle.sat_machine.specs.State.{SiteState, fresh_site};
 ghost use Rattle.sat_machine.specs.Fits.{is_time};
 ghost use Rattle.sat_machine.specs.Look.{front_of, mode_of};
 ghost use Rattle.sat_proxy.specs.Proxy.{front_at, window_of, IsProxy};
 ghost use Rattle.sat_proxy.specs.Steps.{after_beat, after_bulk, has_come};
 ghost use Rattle.sat_proxy.specs.Answers.{advance_answer, attach_answer, beat_answer, bulk_answer, stamp_answer, turn_answer};
-ghost use Rattle.sat_site.specs.Seen.{IsGuest, IsSite, SiteSeen};
+ghost use Rattle.sat_site.specs.Seen.{has_parts_here, IsGuest, IsSite, SiteSeen};
 ghost use Rattle.sat_site.specs.Lanes.{lane_of};
-ghost use Rattle.sat_site.specs.Inputs.{fits_here, fits_in, is_beat_here, is_bulk_here, is_carried_here, is_counted, is_cut_here, is_front_here, is_gear_here, is_goal_here, is_guest_here, is_item_here, is_kept_here, is_kind_here, is_other_here, is_point_here, is_site_here, is_asked, is_sized, takes_none, BulkFits, IsFront};
-ghost use Rattle.sat_site.specs.Stands.{StandsSite, payload_of};
+ghost use Rattle.sat_site.specs.Inputs.{fits_here, fits_in, is_beat_here, is_bulk_here, is_carried_here, is_counted, is_cut_here, is_front_here, is_gear_here, is_goal_here, is_group_here, is_guest_here, is_item_here, is_kept_here, is_kind_here, is_other_here, is_point_here, is_site_here, is_asked, is_sized, takes_none, BulkFits, IsFront};
+ghost use Rattle.sat_site.specs.Stands.{StandsSite, version_seen};
 ghost use Rattle.sat_site.specs.Gives.{PromisesUpTo, IsOfLane};
 ghost use Rattle.sat_site.specs.Changes.{beat_for, beaten, clocked, fresh_seen, made_for, HasGear};
-ghost use Rattle.sat_site.specs.SiteSteps.{close_after, close_answer, emit_sends, fall_after, fall_answer, has_target, keeps_item, may_turn, move_after, move_answer, next_close, next_pulse, passed_after, pulse_after, pulse_answer, shown_of, site_after, site_answers, site_beat, site_epoch, site_sends, stamped_after, turned_after, write_refusal};
-ghost use Rattle.sat_site.specs.Does.{Does, Reads, Writes};
+ghost use Rattle.sat_site.specs.SiteSteps.{close_after, close_answer, emit_sends, fall_after, fall_answer, has_target, keeps_each, keeps_item, may_turn, move_after, move_answer, next_close, next_pulse, passed_after, pulse_after, pulse_answer, shown_of, shown_parts, shown_version, site_after, site_answers, site_beat, site_epoch, site_sends, stamped_after, turned_after};
+ghost use Rattle.sat_site.specs.Does.{Does, Reads, Stamps, Writes};
 
 use crate::beats::{Made, counts_to, fresh_made, points_of};
 use crate::gears::{
-    all_limits, any_due, count_labels, drain_all, fresh_gears, limits, move_at, tick_all, write_at,
+    all_limits, any_due, count_labels, drain_all, fresh_gears, limits, move_at, tick_all,
 };
-use crate::shape::{shape_of, stamp_plans};
+use crate::shape::{interest, shape_of, stamp_plans};
 use crate::tally::Tally;
 use crate::{SiteInput, SiteOutput, SiteView};
 use sat_act::{Answer, Deployment, Refusal};
 use sat_beat::{Beat, BeatTake};
-use sat_bulk::{Payload, Take};
+use sat_bulk::{Parts, Payload, Take};
 use sat_epoch::{AdvanceFault, CloseFault, FallFault, Views};
-use sat_gear::Gear;
-use sat_label::{Carried, Kind, Label, PULSE_GEAR, Point, TS_END, Value};
+use sat_gear::{Gear, GearFault};
+use sat_label::{Carried, Items, Kind, Label, PULSE_GEAR, Point, TS_END, Value, Values, Version};
 use sat_proxy::{Proxy, StampFault, TurnFault, Turned};
 use sat_sink::LabelSink;
-use sat_sites::Shape;
-use sat_store::Version;
+use sat_sites::{Interest, Shape};
 use std::alloc::{AllocError, Global};
 use std::marker::Model;
 
@@ -88,7 +90,23 @@ impl Site {
         requires { site < d.now.sites }
         ensures { IfOk result (λ made. StandsSite d.now site made (fresh_site site)) }
     {
-        let shape = shape_of(alloc, d, site)?;
+        let interest = interest(alloc, d)?;
+        let made = Site::sharing(alloc, d, &interest, site)?;
+        Ok(made)
+    }
+
+    /// The same, with the table of which sites keep which items, so that all sites of a deployment can share one.
+    pub fn sharing(
+        alloc: Global,
+        d: &Deployment,
+        interest: &Interest,
+        site: u16,
+    ) -> Result<Site, AllocError>
+        requires site { site < d.now.sites }
+        requires interest { interest.now ≡ interest_of d.now }
+        ensures { IfOk result (λ made. StandsSite d.now site made (fresh_site site)) }
+    {
+        let shape = shape_of(d, interest, site)?;
         let stamp = stamp_plans(alloc, d.plans())?;
         // Brings this law into the proof; it does nothing when it runs.
         sat_proxy::proxy_laws();
@@ -278,9 +296,9 @@ impl Site {
             SiteInput::Tick { gear, ts } => Ok(Answer::Ticked(self.tick(gear, ts))),
             SiteInput::Write {
                 carried,
-                item,
-                value,
-            } => self.write(carried, item, value),
+                items,
+                values,
+            } => self.write(carried, items, values.as_slice()),
             SiteInput::Read { carried: _, item } => self.read(item),
             SiteInput::Move { carried, to } => self.move_to(carried, to),
             SiteInput::Attach { carried } => Ok(self.attach(&carried)),
@@ -340,38 +358,68 @@ impl Site {
         item % self.shape.gears
     }
 
-    /// Does a client's write, with what the client carries, and answers it. For want of memory the site is as before.
-    pub fn write(&mut self, carried: Carried, item: u16, value: Value) -> Result<Answer, AllocError>
-        requires { item < length self.old.shape.interest.replicas }
-        ensures writes { IfOk result (λ answer. Writes self.old carried item value answer self.new) }
-        ensures err { OnErr result (self.new ≡ self.old) }
+    // Whether the site keeps each of some items.
+    fn keeps_all(&self, items: &Items) -> bool
+        requires { AreBelow (length self.now.shape.interest.replicas) (list_of items.now) }
+        ensures { result ≡ keeps_each self.now (list_of items.now) }
     {
-        if !self.keeps(item) {
-            return Ok(Answer::Refused(Refusal::NotHere));
+        match *items {
+            Items::One(a) => self.keeps(a),
+            Items::Two(a, b) => self.keeps(a) && self.keeps(b),
+            Items::Three(a, b, c) => self.keeps(a) && self.keeps(b) && self.keeps(c),
+            Items::Four(a, b, c, d) => {
+                self.keeps(a) && self.keeps(b) && self.keeps(c) && self.keeps(d)
+            }
         }
-        let number = self.gear_of(item);
-        self.write_to(number, carried, item, value)
     }
 
-    // Hands a write to the gear of its item, which the site keeps.
-    fn write_to(
+    /// Does a client's write of items, each with its value, with what the client carries, and answers it: it is refused unless the
+    /// site keeps all of them, and is one update, which the gear of the least item stamps and which is shown at each. The values are
+    /// copied where it is done. For want of memory the site is as before.
+    pub fn write(
         &mut self,
-        number: u16,
         carried: Carried,
-        item: u16,
-        value: Value,
+        items: Items,
+        values: &[Value],
     ) -> Result<Answer, AllocError>
-        requires item { item < length self.old.shape.interest.replicas }
-        requires kept { keeps_item self.old item ≡ true }
-        requires gear { number ≡ item % self.old.shape.gears }
-        ensures writes { IfOk result (λ answer. Writes self.old carried item value answer self.new) }
+        requires items { AreBelow (length self.old.shape.interest.replicas) (list_of items) }
+        requires values { length values.now ≡ length (list_of items) }
+        ensures writes { IfOk result (λ answer. Writes self.old carried items values.now answer self.new) }
         ensures err { OnErr result (self.new ≡ self.old) }
     {
+        if !self.keeps_all(&items) {
+            return Ok(Answer::Refused(Refusal::NotHere));
+        }
+        // The gear takes all memory: to show takes none.
+        match self.stamp_at(carried.point, items, values) {
+            Ok(made) => {
+                let label = made.label();
+                self.show(items, made.open());
+                Ok(Answer::Wrote(label))
+            }
+            Err(GearFault::Spent) => Ok(Answer::Refused(Refusal::Spent)),
+            Err(GearFault::Memory) => Err(AllocError),
+        }
+    }
+
+    // Lets the gear of the least of some items that the site keeps make an update of them.
+    fn stamp_at(
+        &mut self,
+        seen: Point,
+        items: Items,
+        values: &[Value],
+    ) -> Result<Payload, GearFault>
+        requires items { AreBelow (length self.old.shape.interest.replicas) (list_of items) }
+        requires kept { keeps_each self.old (list_of items) ≡ true }
+        requires values { length values.now ≡ length (list_of items) }
+        ensures { Stamps self.old seen items values.now result self.new }
+    {
+        let number = self.gear_of(items.least());
         let gear = &mut self.gears[number as usize];
         limits(gear);
-        let answer = write_at(gear, carried, item, value)?;
+        let stamped = gear.stamp_write(seen, items, values);
         limits(gear);
-        Ok(answer)
+        stamped
     }
 
     fn read(&self, item: u16) -> Result<Answer, AllocError>
@@ -385,9 +433,9 @@ impl Site {
         let Some(version) = gear.read(item) else {
             return Ok(Answer::ReadNone);
         };
-        let value = version.value.copy()?;
+        let value = version.value().copy()?;
         Ok(Answer::ReadSome {
-            label: version.label,
+            label: version.label(),
             value,
         })
     }
@@ -475,7 +523,7 @@ impl Site {
         let turned = self.proxy.turn(&mut self.views, front);
         sound(&self.views, &self.proxy);
         match turned {
-            Ok(Turned::Show(payload)) => self.show(payload),
+            Ok(Turned::Show(payload)) => self.show_guest(payload),
             Ok(Turned::Took(label)) => Answer::Took(label),
             Err(TurnFault::StampOrder) => Answer::Refused(Refusal::StampOrder),
             Err(TurnFault::Empty) => Answer::Refused(Refusal::Empty),
@@ -491,28 +539,69 @@ impl Site {
         let shown = self.proxy.stamp(&self.views);
         sound(&self.views, &self.proxy);
         match shown {
-            Ok(payload) => self.show(payload),
+            Ok(payload) => self.show_guest(payload),
             Err(StampFault::TreeOrder) => Answer::Refused(Refusal::TreeOrder),
             Err(StampFault::NotYet) => Answer::Refused(Refusal::NotYet),
         }
     }
 
-    // Shows an update, by the gear of its item.
-    fn show(&mut self, payload: Payload) -> Answer
+    // Shows an update of another site, and answers it.
+    fn show_guest(&mut self, payload: Payload) -> Answer
         requires { IsGuest self.old.shape payload }
         ensures answer { result ≡ ans.Shown payload.label }
         ensures after { self.new ≡ shown_of self.old payload payload.label.kind }
     {
-        let label = payload.label;
-        let Kind::Update(item) = label.kind else {
+        let label = payload.label();
+        let Kind::Update(items) = label.kind else {
             unreachable!()
         };
+        self.show(items, payload.open());
+        Answer::Shown(label)
+    }
+
+    // Shows each part of an update whose item the site keeps.
+    fn show(&mut self, items: Items, parts: Parts)
+        requires items { AreBelow (length self.old.shape.interest.replicas) (list_of items) }
+        requires parts { length parts.values ≡ length (list_of items) }
+        ensures { self.new ≡ shown_parts self.old parts.label items parts.values }
+    {
+        let mut parts = parts;
+        match items {
+            Items::One(a) => self.show_part(a, parts.take(0)),
+            Items::Two(a, b) => {
+                self.show_part(a, parts.take(0));
+                self.show_part(b, parts.take(1));
+            }
+            Items::Three(a, b, c) => {
+                self.show_part(a, parts.take(0));
+                self.show_part(b, parts.take(1));
+                self.show_part(c, parts.take(2));
+            }
+            Items::Four(a, b, c, d) => {
+                self.show_part(a, parts.take(0));
+                self.show_part(b, parts.take(1));
+                self.show_part(c, parts.take(2));
+                self.show_part(d, parts.take(3));
+            }
+        }
+    }
+
+    // Shows a part of an update, if there is one, by the gear of its item, where the site keeps that.
+    fn show_part(&mut self, item: u16, part: Option<Version>)
+        requires { item < length self.old.shape.interest.replicas }
+        ensures { self.new ≡ shown_version self.old item part }
+    {
+        let Some(version) = part else {
+            return;
+        };
+        if !self.keeps(item) {
+            return;
+        }
         let number = self.gear_of(item);
         let gear = &mut self.gears[number as usize];
         limits(gear);
-        let _ = gear.show(payload);
+        let _ = gear.show(item, version);
         limits(gear);
-        Answer::Shown(label)
     }
 
     /// Takes a payload of the lane from a site and a gear, and answers it. For want of memory the site is as before.
@@ -528,7 +617,7 @@ impl Site {
         ensures after { OnOk result (self.new ≡ record self.old { proxy = after_bulk self.old.proxy from gear number payload }) }
         ensures err { OnErr result (self.new ≡ self.old) }
     {
-        let label = payload.label;
+        let label = payload.label();
         let taken = self.proxy.bulk(from, gear, number, payload);
         sound(&self.views, &self.proxy);
         match taken {
@@ -628,25 +717,6 @@ impl Site {
         }
     }
 
-    /// Why a client's write would be refused, None where it would not. It takes no memory, so a caller can ask before it copies
-    /// a value.
-    pub fn write_refusal(&self, carried: &Carried, item: u16) -> Option<Refusal>
-        requires { item < length self.now.shape.interest.replicas }
-        ensures refusal { result ≡ write_refusal self.now carried.now item }
-        ensures sound { IsSite self.now }
-    {
-        let _ = &self.shape;
-        if !self.keeps(item) {
-            return Some(Refusal::NotHere);
-        }
-        let gear = self.gear(self.gear_of(item));
-        if gear.promise().max(carried.point.ts) < TS_END {
-            None
-        } else {
-            Some(Refusal::Spent)
-        }
-    }
-
     /// Raises the promise of each gear to a timestamp that none of them is above. It takes no memory.
     pub fn clock(&mut self, ts: u64)
         requires limit { ts ≤ 2 ^ 62 }
@@ -704,8 +774,12 @@ impl Site {
     {
         match input {
             SiteInput::Tick { gear, ts } => self.is_tick(*gear, *ts),
-            SiteInput::Write { carried, item, .. } => self.is_act_on(carried, *item),
-            SiteInput::Read { carried, item } => self.is_act_on(carried, *item),
+            SiteInput::Write {
+                carried,
+                items,
+                values,
+            } => self.is_write(carried, items, values),
+            SiteInput::Read { carried, item } => self.is_read(carried, *item),
             SiteInput::Move { carried, to } => self.is_carried(carried) && self.is_site(*to),
             SiteInput::Attach { carried } => self.is_carried(carried),
             SiteInput::Turn { front } => match front {
@@ -832,8 +906,20 @@ impl Site {
             && self.is_goal(carried.moving)
     }
 
-    // An act of a client on an item.
-    fn is_act_on(&self, carried: &Carried, item: u16) -> bool
+    // The items of one update of the deployment.
+    fn is_group(&self, items: &Items) -> bool
+        ensures { result ≡ is_group_here self.now.shape items.now }
+    {
+        items.ascend() && self.shape.interest.knows(items)
+    }
+
+    fn is_write(&self, carried: &Carried, items: &Items, values: &Values) -> bool
+        ensures { result ≡ (is_carried_here self.now.shape carried.now && (is_group_here self.now.shape items.now && (length values.now == length (list_of items.now)))) }
+    {
+        self.is_carried(carried) && self.is_group(items) && values.as_slice().len() == items.len()
+    }
+
+    fn is_read(&self, carried: &Carried, item: u16) -> bool
         ensures { result ≡ (is_carried_here self.now.shape carried.now && is_item_here self.now.shape item) }
     {
         self.is_carried(carried) && self.is_item(item)
@@ -843,7 +929,7 @@ impl Site {
         ensures { result ≡ is_kind_here self.now.shape self.now.views.view kind }
     {
         match kind {
-            Kind::Update(item) => self.is_item(item),
+            Kind::Update(items) => self.is_group(&items),
             Kind::Move(site) => site < self.shape.sites,
             Kind::Pulse => true,
             Kind::Close(epoch) => epoch == self.views.view(),
@@ -856,12 +942,35 @@ impl Site {
         label.point.ts <= TS_END && self.is_other(label.point.site) && self.is_kind(label.kind)
     }
 
-    // An update of an item that the site keeps.
+    // Whether the site keeps one of some items.
+    fn keeps_one(&self, items: &Items) -> bool
+        requires { AreBelow (length self.now.shape.interest.replicas) (list_of items.now) }
+        ensures { result ≡ keeps_one self.now.shape.interest (list_of items.now) self.now.shape.site }
+    {
+        match *items {
+            Items::One(a) => self.keeps(a),
+            Items::Two(a, b) => self.keeps(a) || self.keeps(b),
+            Items::Three(a, b, c) => self.keeps(a) || self.keeps(b) || self.keeps(c),
+            Items::Four(a, b, c, d) => {
+                self.keeps(a) || self.keeps(b) || self.keeps(c) || self.keeps(d)
+            }
+        }
+    }
+
+    // The items of one update of the deployment, of which the site keeps one.
+    #[tactic(auto, using(sat_sites::proofs::Below::below_is))]
+    fn is_group_kept(&self, items: &Items) -> bool
+        ensures { result ≡ (is_group_here self.now.shape items.now && keeps_one self.now.shape.interest (list_of items.now) self.now.shape.site) }
+    {
+        self.is_group(items) && self.keeps_one(items)
+    }
+
+    // An update of items of the deployment, of which the site keeps one.
     fn is_kept(&self, kind: Kind) -> bool
         ensures { result ≡ is_kept_here self.now.shape kind }
     {
         match kind {
-            Kind::Update(item) => self.is_item(item) && self.keeps(item),
+            Kind::Update(items) => self.is_group_kept(&items),
             _ => false,
         }
     }
@@ -872,16 +981,62 @@ impl Site {
         label.point.ts <= TS_END && label.point.site == from && self.is_kept(label.kind)
     }
 
+    // Whether a payload has a part of this place, where the site keeps the item.
+    fn has_part(&self, item: u16, payload: &Payload, place: usize) -> bool
+        requires item { item < length self.now.shape.interest.replicas }
+        requires place { place < length payload.now.values }
+        ensures { result ≡ (not (keeps_item self.now item) || is_some (get_or payload.now.values place None)) }
+    {
+        !self.keeps(item) || payload.has(place)
+    }
+
+    // Whether a payload has as many parts as there are items, and a value for each item that the site keeps.
+    fn has_parts(&self, items: &Items, payload: &Payload) -> bool
+        requires { AreBelow (length self.now.shape.interest.replicas) (list_of items.now) }
+        ensures { result ≡ has_parts_here self.now.shape (list_of items.now) payload.now.values }
+    {
+        if payload.len() != items.len() {
+            return false;
+        }
+        match *items {
+            Items::One(a) => self.has_part(a, payload, 0),
+            Items::Two(a, b) => self.has_part(a, payload, 0) && self.has_part(b, payload, 1),
+            Items::Three(a, b, c) => {
+                self.has_part(a, payload, 0)
+                    && self.has_part(b, payload, 1)
+                    && self.has_part(c, payload, 2)
+            }
+            Items::Four(a, b, c, d) => {
+                self.has_part(a, payload, 0)
+                    && self.has_part(b, payload, 1)
+                    && self.has_part(c, payload, 2)
+                    && self.has_part(d, payload, 3)
+            }
+        }
+    }
+
+    // Whether a payload has as many parts as its label has items, and a value for each item that the site keeps.
+    fn is_whole(&self, payload: &Payload) -> bool
+        requires { is_kept_here self.now.shape payload.now.label.kind ≡ true }
+        ensures { result ≡ has_parts_here self.now.shape (items_of payload.now.label.kind) payload.now.values }
+    {
+        let Kind::Update(items) = payload.label().kind else {
+            unreachable!()
+        };
+        self.has_parts(&items, payload)
+    }
+
     fn is_bulk(&self, from: u16, gear: u16, number: u64, payload: &Payload) -> bool
         ensures { result ≡ is_bulk_here self.now.shape self.now.proxy from gear number payload.now }
     {
         if !self.is_other(from) || !self.is_gear(gear) {
             return false;
         }
-        if !self.is_guest(from, &payload.label) {
+        let label = payload.label();
+        if !self.is_guest(from, &label) || !self.is_whole(payload) {
             return false;
         }
-        self.proxy.has(from, gear, number) || self.proxy.payload(&payload.label.point).is_none()
+        self.proxy.has(from, gear, number) || self.proxy.payload(&label.point).is_none()
     }
 
     /// What the site shows of itself.
@@ -898,10 +1053,12 @@ impl Site {
         }
     }
 
-    /// The version of an item, None where the site shows none.
+    /// The version of an item that the site keeps, None where it shows none. Of another item there is none, also where the site
+    /// shows an update that has it.
     pub fn version(&self, item: u16) -> Option<&Version>
         requires { item < length self.now.shape.interest.replicas }
-        ensures { (d : Deployed) (i : ℕ) (s : SiteState) → StandsSite d i self.now s → MatchOption result (s.store item ≡ None) (λ v. s.store item ≡ payload_of (Some v.now)) }
+        ensures kept { (d : Deployed) (i : ℕ) (s : SiteState) → StandsSite d i self.now s → replicates d item i ≡ true → MatchOption result (s.store item ≡ None) (λ v. s.store item ≡ version_seen (Some v.now)) }
+        ensures away { keeps_item self.now item ≡ false → IsNone result }
     {
         let gear = self.gear(self.gear_of(item));
         if !self.keeps(item) {

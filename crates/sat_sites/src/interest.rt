@@ -1,9 +1,10 @@
 //! Which sites keep each item.
 ghost use Rattle.std.specs.Prelude.{◌≡◌, ◌<◌, ◌≤◌, ℕ, length, Some, slice_get, IfOk, IfSome, IsErrOf, IsOkUnless, MatchOption};
 ghost use Rattle.sat_label.specs.Words.{bit, first_failing};
-ghost use Rattle.sat_sites.specs.Interested.{first_bad, is_for, IsLabelOf};
+ghost use Rattle.sat_label.specs.Grouped.{list_of};
+ghost use Rattle.sat_sites.specs.Interested.{are_below, first_bad, is_for, keeps_one, AreBelow, Interested, IsLabelOf};
 
-use sat_label::{Kind, Label, SiteSet};
+use sat_label::{Items, Kind, Label, SiteSet};
 use std::alloc::{AllocError, Global};
 use std::marker::Model;
 use std::sync::ArcSlice;
@@ -58,6 +59,24 @@ fn first_bad(sites: u16, replicas: &[SiteSet]) -> Option<usize>
     replicas.iter().position(|set| !set.is_among(sites))
 }
 
+// The sites that keep one of some items.
+fn joined(replicas: &[SiteSet], items: &Items) -> SiteSet
+    requires { AreBelow (length replicas.now) (list_of items.now) }
+    ensures { (a : Interested) (k : ℕ) → a.replicas ≡ replicas.now → bit result.bits k ≡ keeps_one a (list_of items.now) k }
+{
+    match *items {
+        Items::One(a) => replicas[a as usize],
+        Items::Two(a, b) => replicas[a as usize].plus(&replicas[b as usize]),
+        Items::Three(a, b, c) => replicas[a as usize]
+            .plus(&replicas[b as usize])
+            .plus(&replicas[c as usize]),
+        Items::Four(a, b, c, d) => replicas[a as usize]
+            .plus(&replicas[b as usize])
+            .plus(&replicas[c as usize])
+            .plus(&replicas[d as usize]),
+    }
+}
+
 impl Interest {
     ghost use Rattle.sat_sites.specs.Interested.{IsInterest};
 
@@ -93,6 +112,26 @@ impl Interest {
         self.replicas.len()
     }
 
+    /// Whether each of some items is one of these: below their number.
+    pub fn knows(&self, items: &Items) -> bool
+        ensures { result ≡ are_below (length self.now.replicas) (list_of items.now) }
+    {
+        let count = self.items();
+        match *items {
+            Items::One(a) => (a as usize) < count,
+            Items::Two(a, b) => (a as usize) < count && (b as usize) < count,
+            Items::Three(a, b, c) => {
+                (a as usize) < count && (b as usize) < count && (c as usize) < count
+            }
+            Items::Four(a, b, c, d) => {
+                (a as usize) < count
+                    && (b as usize) < count
+                    && (c as usize) < count
+                    && (d as usize) < count
+            }
+        }
+    }
+
     /// The sites that keep an item.
     pub fn replicas(&self, item: u16) -> SiteSet
         requires { item < length self.now.replicas }
@@ -102,7 +141,7 @@ impl Interest {
         self.replicas.as_slice()[item as usize]
     }
 
-    /// The sites that a label is for: an Update for its item's sites but its own, a Move for the site that it names,
+    /// The sites that a label is for: an Update for the sites of its items but its own, a Move for the site that it names,
     /// a Pulse or a Close for all sites but its own.
     #[tactic(auto, unfolding(crate::specs::Interested::is_for))]
     pub fn targets(&self, label: &Label) -> SiteSet
@@ -113,7 +152,7 @@ impl Interest {
         let sites = self.sites;
         let own = SiteSet::one(label.point.site);
         match label.kind {
-            Kind::Update(item) => self.replicas.as_slice()[item as usize].minus(&own),
+            Kind::Update(items) => joined(self.replicas.as_slice(), &items).minus(&own),
             Kind::Move(site) => SiteSet::one(site),
             Kind::Pulse => SiteSet::all(sites).minus(&own),
             Kind::Close(_) => SiteSet::all(sites).minus(&own),

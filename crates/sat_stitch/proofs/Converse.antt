@@ -12,7 +12,7 @@ use Rattle.sat_act.specs.Parts.{BeatNote, tree_of, lane, beats, seat, entered, e
 use Rattle.sat_act.specs.Answers.{InRange}
 use Rattle.sat_act.specs.Runs.{IsRun}
 use Rattle.sat_act.specs.Goals.{IsValid}
-use Rattle.sat_bulk.specs.declared.Payload.{Payload}
+use Rattle.sat_bulk.specs.Payloads.{Payload}
 use Rattle.sat_laws.proofs.Runs.{before_of, range_of}
 use Rattle.sat_laws.proofs.Links.{taking, taken-if, get-keep}
 use Rattle.sat_laws.proofs.Labels.{some_is}

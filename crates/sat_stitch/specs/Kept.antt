@@ -7,7 +7,7 @@ use Rattle.sat_act.specs.declared.act.Act.{Act}
 use Rattle.sat_act.specs.declared.answer.Answer.{Answer}
 use Rattle.sat_act.specs.declared.entry.Entry.{Entry}
 use Rattle.sat_act.specs.Parts.{BeatNote}
-use Rattle.sat_bulk.specs.declared.Payload.{Payload}
+use Rattle.sat_bulk.specs.Payloads.{Payload}
 
 -- what was handed to an act: the front of a link, a payload or a beat with its number, what a client carries and its seat
 pub data Given : Type 0 where

@@ -5,7 +5,7 @@ use Rattle.std.proofs.lemmas.Bool.{cases_eq}
 use Rattle.std.proofs.lemmas.List.{get_or-map, get_or-set_same, get_or-set_other, get_or_append_left, get_or_push, length-map, length-set, length_push, same_lists, take_all}
 use Rattle.std.proofs.lemmas.List.Sums.{sum_by-set}
 use Rattle.std.proofs.lemmas.Option.{same_Some, slice_get-get_or}
-use Rattle.sat_store.specs.declared.store.Version.{Version}
+use Rattle.sat_label.specs.Versions.{Version}
 use Rattle.sat_label.specs.declared.label.Label.{Label}
 use Rattle.sat_label.specs.Order.{label_lt}
 use Rattle.sat_store.specs.declared.store.Put.TheVariants.{Kept, Lower}
@@ -207,3 +207,9 @@ module _ (versions : List Version) (places slots : List (Option ℕ)) (capacity 
 
     pub goes : (v : Version) → label_lt w.label v.label ≡ true → placed (set versions n v) places ≡ set old x (newer (version_at old x) v)
     goes v above = replaces v v (ap (λ (b : Bool). if b then Some v else Some w) above)
+
+-- ---- labels that were read and compared
+
+pub compared : (a b old new : Label) (answer value : Bool) → answer ≡ label_lt a b → a ≡ old → b ≡ new → answer ≡ value → label_lt old new ≡ value
+compared a b old new answer value is p q e =
+    subst (λ (l : Label). label_lt l new ≡ value) p (subst (λ (l : Label). label_lt a l ≡ value) q (sym is ∙ e))

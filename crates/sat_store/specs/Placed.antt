@@ -1,7 +1,7 @@
 -- How a store lays out its versions: side by side, and for each item the place of its version among them.
 use Rattle.std.specs.Prelude.{ℕ, ◌≡◌, ◌≤◌, ◌<◌, ◌+◌, ◌^◌, List, Option, Some, None, length, map, get_or, slice_get, is_none}
 use Rattle.std.specs.List.{count_by}
-use Rattle.sat_store.specs.declared.store.Version.{Version}
+use Rattle.sat_label.specs.Versions.{Version}
 
 -- the version at a place, None where an item has no place
 abbrev pub at_place : List Version → Option ℕ → Option Version

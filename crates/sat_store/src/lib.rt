@@ -3,4 +3,5 @@
 
 mod store;
 
-pub use store::{Put, Store, Version};
+pub use sat_label::Version;
+pub use store::{Put, Store};

@@ -1,30 +1,10 @@
-//! Versions, and the store of them.
+//! The store of versions.
 ghost use Rattle.std.specs.Prelude.{◌≡◌, ◌<◌, ◌↔◌, length, replicate, slice_get, slice_set, Some, None, IfOk, MatchOption};
 ghost use Rattle.sat_store.specs.Stored.{newer, is_kept, version_at};
 
-use sat_label::{Label, Value};
+use sat_label::Version;
 use std::alloc::{AllocError, Global};
 use std::marker::Model;
-
-/// A version of an item: the label of its update, and the value.
-#[derive(Drop)]
-pub struct Version {
-    pub label: Label,
-    pub value: Value,
-}
-
-impl Version {
-    /// The same version again.
-    pub fn copy(&self) -> Result<Version, AllocError>
-        ensures { IfOk result (λ version. version ≡ self.now) }
-    {
-        let value = self.value.copy()?;
-        Ok(Version {
-            label: self.label,
-            value,
-        })
-    }
-}
 
 /// What a put did.
 #[derive(Clone, Copy, Debug, PartialEq, Eq)]
@@ -49,7 +29,7 @@ pub struct Store {
 impl Model for Store {
     ghost use Rattle.std.specs.Prelude.{List, vec_capacity};
     ghost use Rattle.std.specs.declared.option.Option.{Option};
-    ghost use Rattle.sat_store.specs.declared.store.Version.{Version};
+    ghost use Rattle.sat_label.specs.Versions.{Version};
     ghost use Rattle.sat_store.specs.Placed.{placed, IsPlaced};
 
     ghost Value = { List (Option Version) };
@@ -71,21 +51,21 @@ impl Store {
     }
 
     /// Puts a version. It is kept exactly where the item had none, or one with a lower label.
-    pub fn put(&mut self, item: u16, label: Label, value: Value) -> Put
+    pub fn put(&mut self, item: u16, version: Version) -> Put
         requires { item < length self.old }
-        ensures new { self.new ≡ slice_set self.old item (newer (version_at self.old item) (record { label = label; value = value })) }
-        ensures kept { result ≡ Put.Kept ↔ is_kept (version_at self.old item) label }
+        ensures new { self.new ≡ slice_set self.old item (newer (version_at self.old item) version) }
+        ensures kept { result ≡ Put.Kept ↔ is_kept (version_at self.old item) version.label }
     {
         let Some(place) = self.places.as_slice()[item as usize] else {
             self.places[item as usize] = Some(self.versions.len() as u16);
-            self.versions.push_reserved(Version { label, value });
+            self.versions.push_reserved(version);
             return Put::Kept;
         };
-        let version = &mut self.versions[place as usize];
-        if !version.label.is_below(&label) {
+        let kept = &mut self.versions[place as usize];
+        if !kept.label().is_below(&version.label()) {
             return Put::Lower;
         }
-        *version = Version { label, value };
+        *kept = version;
         Put::Kept
     }
 

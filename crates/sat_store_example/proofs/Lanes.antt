@@ -1,8 +1,8 @@
 -- What is asked of a lane.
-use Rattle.std.proofs.Common.{◌≡◌, ◌<◌, ◌==◌, ◌&&◌, ℕ, Bool, true, not, nat_lt}
+use Rattle.std.proofs.Common.{◌≡◌, ◌<◌, ◌==◌, ℕ, true, not, nat_lt}
 use Rattle.std.proofs.lemmas.Bool.{and_parts, ltb-true}
 use Rattle.sat_site.specs.declared.input.SiteInput.TheVariants as input
-use Rattle.sat_site.specs.Inputs.{fits_here, fits_in, is_gear_here, is_other_here}
+use Rattle.sat_site.specs.Inputs.{fits_here, fits_in, is_gear_here}
 use Rattle.sat_machine.specs.Fits.{is_time}
 use Rattle.sat_site.specs.Seen.{SiteSeen}
 use Rattle.sat_store_example.specs.Replicas.{has_lane}

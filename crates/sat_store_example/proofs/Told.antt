@@ -1,20 +1,22 @@
 -- A client may be told what its call was answered.
 use Rattle.std.proofs.Common.{◌≡◌, ℕ, ◌+◌, ◌<◌, ◌==◌, max, Bool, true, false, List, Option, Some, None, refl, ap, subst, arith}
 use Rattle.sat_label.specs.declared.carried.Carried.{Carried}
+use Rattle.sat_label.specs.declared.items.Items.{Items}
+use Rattle.sat_label.specs.declared.point.Point.{Point}
+use Rattle.sat_label.specs.Grouped.{list_of}
 use Rattle.sat_label.specs.declared.label.Kind.TheVariants as kind
 use Rattle.sat_label.specs.declared.label.Label.{Label}
 use Rattle.sat_label.specs.Order.{point_lt}
 use Rattle.sat_label.proofs.Orders.{ts-lt}
 use Rattle.sat_client.specs.declared.client.Client.{Client}
 use Rattle.sat_client.specs.Clients.{is_move}
-use Rattle.sat_store.specs.declared.store.Version.{Version}
+use Rattle.sat_label.specs.Versions.{Version}
 use Rattle.sat_gear.specs.Gear.{GearSeen, is_spent, stamped, version_of}
 use Rattle.sat_act.specs.declared.answer.Answer.{Answer}
 use Rattle.sat_act.specs.declared.answer.Answer.TheVariants as ans
 use Rattle.sat_site.specs.declared.input.SiteInput.TheVariants as input
 use Rattle.sat_site.specs.Seen.{SiteSeen}
-use Rattle.sat_site.specs.Changes.{gear_at}
-use Rattle.sat_site.specs.SiteSteps.{keeps_item, move_answer, moved_answer, read_answer, site_answers, stamp_answer_of, version_answer, write_answer}
+use Rattle.sat_site.specs.SiteSteps.{keeps_each, keeps_item, move_answer, moved_answer, read_answer, site_answers, stamp_answer_of, version_answer, write_answer}
 use Rattle.sat_store_example.specs.Replicas.{MayTell}
 
 label_of : Label → Answer → Label
@@ -45,14 +47,14 @@ stamps : (b : Bool) (m : Label) (c : Client) → MayTell (stamp_answer_of b m) c
 stamps true m c = λ l e. absurd (cc)
 stamps false m c = λ l e. absurd (cc)
 
-writes : (b : Bool) (o : Option GearSeen) (seen : Carried) (n : ℕ) (c : Client) → MayTell (write_answer b o seen n) c
-writes false o seen n c = λ l e. absurd (cc)
-writes true None seen n c = λ l e. absurd (cc)
-writes true (Some gear) seen n c = stamps (is_spent gear seen.point) _ c
+writes : (b : Bool) (o : Option GearSeen) (seen : Point) (items : Items) (c : Client) → MayTell (write_answer b o seen items) c
+writes false o seen items c = λ l e. absurd (cc)
+writes true None seen items c = λ l e. absurd (cc)
+writes true (Some gear) seen items c = stamps (is_spent gear seen) _ c
 
-pub wrote-told : (x : SiteSeen) (c : Client) (seen : Carried) (n : ℕ) (value : List ℕ) → MayTell (site_answers x (input.Write seen n value)) c
+pub wrote-told : (x : SiteSeen) (c : Client) (seen : Carried) (items : Items) (values : List (List ℕ)) → MayTell (site_answers x (input.Write seen items values)) c
 unfolding site_answers
-wrote-told x c seen n value = writes (keeps_item x n) _ seen n c
+wrote-told x c seen items values = writes (keeps_each x (list_of items)) _ seen.point items c
 
 versions : (o : Option Version) (c : Client) → MayTell (version_answer o) c
 versions None c = λ l e. absurd (cc)

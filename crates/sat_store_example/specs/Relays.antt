@@ -3,9 +3,10 @@ use Rattle.std.specs.Prelude.{ℕ, ◌≡◌, ◌<◌, Bool, true, ◌&&◌, nat
 use Rattle.sat_label.specs.declared.label.Kind.{Kind}
 use Rattle.sat_label.specs.declared.label.Kind.TheVariants.{Update, Move, Pulse, Close}
 use Rattle.sat_label.specs.declared.label.Label.{Label}
+use Rattle.sat_label.specs.Grouped.{list_of}
 use Rattle.sat_label.specs.declared.node.NodeId.{NodeId}
 use Rattle.sat_label.specs.declared.node.NodeId.TheVariants.{Site, Serializer}
-use Rattle.sat_sites.specs.Interested.{Interested}
+use Rattle.sat_sites.specs.Interested.{Interested, are_below}
 use Rattle.sat_tree.specs.Shape.{TreeShape}
 use Rattle.sat_tree.specs.Cut.{is_edge}
 use Rattle.sat_serial.specs.Outboxes.{SerializerSeen}
@@ -34,9 +35,9 @@ is_node t (Serializer z) = nat_lt z (length t.parents)
 abbrev pub is_neighbour : RelaySeen → NodeId → Bool
 is_neighbour r u = is_node r.tree u && is_edge r.tree (Serializer r.number) u
 
--- a kind that names an item, or a site, that there is
+-- a kind that names items, or a site, that there are
 abbrev pub is_kind_of : Interested → Kind → Bool
-is_kind_of a (Update x) = nat_lt x (length a.replicas)
+is_kind_of a (Update items) = are_below (length a.replicas) (list_of items)
 is_kind_of a (Move j) = nat_lt j a.sites
 is_kind_of a Pulse = true
 is_kind_of a (Close e) = true

@@ -74,12 +74,12 @@ impl Relay {
         self.is_node(node) && self.tree.is_edge(NodeId::Serializer(self.number), node)
     }
 
-    // Whether a kind names an item or a site that there is.
+    // Whether a kind names items, or a site, that there are.
     fn is_kind(&self, kind: Kind) -> bool
         ensures { result ≡ is_kind_of self.now.interest kind }
     {
         match kind {
-            Kind::Update(item) => (item as usize) < self.interest.items(),
+            Kind::Update(items) => self.interest.knows(&items),
             Kind::Move(site) => site < self.tree.sites(),
             Kind::Pulse => true,
             Kind::Close(_) => true,

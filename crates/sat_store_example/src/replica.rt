@@ -5,6 +5,7 @@ ghost use Rattle.sat_act.specs.Deployed.{Deployed};
 ghost use Rattle.sat_machine.specs.State.{SiteState, fresh_site};
 ghost use Rattle.sat_site.specs.Inputs.{fits_in, takes_none};
 ghost use Rattle.sat_site.specs.Seen.{IsSite};
+ghost use Rattle.sat_label.specs.declared.items.Items.TheVariants.{One};
 ghost use Rattle.sat_label.specs.declared.label.Label.{Label as LabelSeen};
 ghost use Rattle.sat_act.specs.declared.answer.Answer.TheVariants as ans;
 ghost use Rattle.sat_site.specs.SiteSteps.{site_after, site_answers, site_beat, site_sends};
@@ -17,7 +18,7 @@ use crate::ReplicaFault;
 use sat_act::{Answer, Deployment};
 use sat_bulk::Payload;
 use sat_client::Client;
-use sat_label::{Label, Value};
+use sat_label::{Items, Label, Value, Values};
 use sat_queue::Queue;
 use sat_site::{Site, SiteInput, SiteOutput};
 use std::alloc::{AllocError, Global};
@@ -27,6 +28,7 @@ use std::marker::Model;
 /// oldest first. Contracts see these.
 #[derive(Drop)]
 pub struct Replica {
+    alloc: Global,
     number: u16,
     site: Site,
     inbox: Queue<Label>,
@@ -73,6 +75,7 @@ impl Replica {
     {
         let site = Site::new(alloc, d, number)?;
         Ok(Replica {
+            alloc,
             number,
             site,
             inbox: Queue::new(alloc),
@@ -117,28 +120,51 @@ impl Replica {
         }
     }
 
+    // Whether a client is seated here, and may call this.
+    fn may_call(&self, client: &Client, given: &SiteInput) -> Result<(), ReplicaFault>
+        ensures { MatchOption (call_fault self.now client.now given.now) (IsOk result) (λ why. IsErrOf result why) }
+    {
+        if client.seat != Some(self.number) {
+            return Err(ReplicaFault::Seat);
+        }
+        if !self.site.fits(given) {
+            return Err(ReplicaFault::Unfit);
+        }
+        Ok(())
+    }
+
     /// A local write by a client that is seated here. The client then carries the label of the write, and a read here answers the
     /// value, unless a version with a greater label was here already.
+    #[tactic(auto, using(crate::proofs::OneItem::one_fault))]
     pub fn write(
         &mut self,
         client: &mut Client,
         item: u16,
         value: Value,
     ) -> Result<Answer, ReplicaFault>
-        ensures fault { MatchOption (call_fault self.old client.old (input.Write client.old.carried item value)) (IsOkUnless result fault.Memory) (λ why. IsErrOf result why) }
-        ensures answer { IfOk result (λ answer. answer ≡ site_answers self.old.site (input.Write client.old.carried item value)) }
-        ensures after { OnOk result (self.new ≡ with_site self.old (site_after self.old.site (input.Write client.old.carried item value))) }
+        ensures fault { MatchOption (call_fault self.old client.old (input.Write client.old.carried (One item) (value ∷ []))) (IsOkUnless result fault.Memory) (λ why. IsErrOf result why) }
+        ensures answer { IfOk result (λ answer. answer ≡ site_answers self.old.site (input.Write client.old.carried (One item) (value ∷ []))) }
+        ensures after { OnOk result (self.new ≡ with_site self.old (site_after self.old.site (input.Write client.old.carried (One item) (value ∷ [])))) }
         ensures told { IfOk result (λ answer. client.new ≡ told answer client.old) }
         ensures read_back { IfOk result (λ answer. (l : LabelSeen) → answer ≡ ans.Wrote l → ReadsNewer self.old.site self.new.site item l value) }
         ensures err { OnErr result (self.new ≡ self.old) }
         ensures client { OnErr result (client.new ≡ client.old) }
     {
+        // A write of an item fits where a read of it does. So a fault is told before memory is taken.
+        self.may_call(
+            client,
+            &SiteInput::Read {
+                carried: client.carried,
+                item,
+            },
+        )?;
+        let values = Values::one(self.alloc, value)?;
         let answer = self.call(
             client,
             SiteInput::Write {
                 carried: client.carried,
-                item,
-                value,
+                items: Items::One(item),
+                values,
             },
         )?;
         tell(client, &answer);

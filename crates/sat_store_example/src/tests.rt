@@ -5,7 +5,7 @@ ghost use Rattle.std.specs.Prelude.{◌≡◌, length, IfOk};
 use crate::{Relay, Replica};
 use sat_act::{Answer, ClientLine, Deployment, Item, Plan, Refusal};
 use sat_client::Client;
-use sat_label::{Kind, Label, Name, NodeId, Nodes, Point, SiteSet, Value};
+use sat_label::{Items, Kind, Label, Name, NodeId, Nodes, Point, SiteSet, Value};
 use sat_queue::Queue;
 use sat_site::SiteInput;
 use sat_sites::Interest;
@@ -294,7 +294,7 @@ fn album_comes(store: &mut Store) -> Result<[Said; 2], Fail> {
 #[test]
 fn a_client_moves_once_all_that_it_saw_is_there(rt: HostRuntime) -> Result<(), Fail> {
     let alloc = rt.alloc();
-    let photo = label(1, 0, Kind::Update(PHOTO));
+    let photo = label(1, 0, Kind::Update(Items::One(PHOTO)));
     let leaving = label(2, 0, Kind::Move(1));
     let mut store = fresh_store(alloc)?;
     let mut ann = Client::new(0);
@@ -324,7 +324,7 @@ fn a_client_moves_once_all_that_it_saw_is_there(rt: HostRuntime) -> Result<(), F
     assert_eq!(rt; said, wanted);
     assert!(rt; reads(&mut store.sites.one, &mut ann, PHOTO, b"beach")?);
 
-    let album = label(3, 1, Kind::Update(ALBUM));
+    let album = label(3, 1, Kind::Update(Items::One(ALBUM)));
     let said = album_leaves(alloc, &mut store, &mut ann)?;
     let wanted = [
         Said::Wrote(album),

@@ -14,7 +14,7 @@ use Rattle.sat_script.specs.Lines.{running, failed, acts_with}
 use Rattle.sat_stream.specs.Reading.{reading, with_line, stopped, bad}
 use Rattle.sat_script.specs.Spelled.{AreActsOf, Spells}
 use Rattle.sat_script.specs.State.{State, Seen, number_of, fault_at, deployed_at, deployment_of}
-use Rattle.sat_stream.specs.Stream.{WholeLines, lines_seen, Came, means, will_be, bytes_of, known_fault, kept, meaning, stopped_at, stuck_with, GoesOn, StopsAt, HasTaken, HasStopped, TakesPiece, goes_on}
+use Rattle.sat_stream.specs.Stream.{WholeLines, lines_seen, Came, means, will_be, bytes_until, bytes_before, bytes_of, known_fault, kept, meaning, stopped_at, stuck_with, GoesOn, StopsAt, HasTaken, HasStopped, TakesPiece, goes_on}
 use Rattle.sat_script.specs.Words.{HasNo, IsCut}
 use Rattle.sat_script.specs.declared.fault.Cause.{Cause}
 use Rattle.sat_script.specs.declared.fault.Cause.TheVariants.{Memory, AfterEnd, LongLine}
@@ -31,7 +31,7 @@ use Rattle.sat_script.proofs.Fits.{line_is, fit_after}
 use Rattle.sat_script.proofs.Stands.{Stands}
 use Rattle.sat_stream.proofs.Meaning.{IsStuck, stuck_cause, goes_on-stuck}
 use Rattle.sat_stream.proofs.Pieces.{fresh, part_keeps, line_fails, line_goes}
-use Rattle.sat_stream.proofs.Whole.{read_spells, line_counted, lines_counted, said_after, few_after}
+use Rattle.sat_stream.proofs.Whole.{read_spells, line_counted, lines_counted, bytes_within, said_after, few_after}
 
 -- ---- a fault that is known
 
@@ -78,7 +78,7 @@ good_goes old new line p whole none good goes keeps = record {
       ∙ sym (fresh old.seen (kept old.deployment old.acts) line (10 ∷ more) none);
   counted =
       let more = line_counted old.seen.state line p whole.fit good in
-      let at : number_of new.seen.state ≡ number_of (after old.seen.state p) = ap (λ (seen : Seen). number_of seen.state) goes in
+      let at : bytes_until new.seen.state ≡ bytes_until (after old.seen.state p) = ap (λ (seen : Seen). bytes_until seen.state) goes in
       omega arith;
 }
 
@@ -291,7 +291,7 @@ front_takes old new part none other same longer = record {
       ∙ sym (part_keeps old.lines.seen.state (kept old.lines.deployment old.lines.acts) old.begun part more other)
       ∙ sym (fresh old.lines.seen (kept old.lines.deployment old.lines.acts) old.begun (part ++ more) none);
   counted =
-      let at : number_of new.lines.seen.state ≡ number_of old.lines.seen.state = ap (λ (l : WholeLines). number_of l.seen.state) same in
+      let at : bytes_before new.lines ≡ bytes_before old.lines = ap (λ (l : WholeLines). bytes_before l) same in
       omega (arith, ap length longer, length-append old.begun part);
 }
 
@@ -303,7 +303,7 @@ settled_after new (Err told) old piece takes = after_fault new told takes.knows
 
 pub few_bytes : (r : Came) → IsFit r.lines.seen.state → length r.begun ≤ LONGEST_LINE → bytes_of r ≤ MOST_BYTES
 unfolding bytes_of
-few_bytes r fit short = omega (arith, lines_counted r.lines.seen.state fit)
+few_bytes r fit short = omega (arith, lines_counted r.lines.seen.state fit, bytes_within r.lines.seen.state.header.format)
 
 -- ---- a text read at once
 

@@ -1,5 +1,5 @@
 -- Lines of words and their bytes.
-use Rattle.std.proofs.Common.{◌≡◌, ℕ, suc, ◌+◌, ◌*◌, ◌<◌, ◌≤◌, ◌^◌, Bool, true, false, not, ◌&&◌, ltb, leb, List, [], ◌∷◌, ◌++◌, length, map, filter, All, Option, Some, None, ap, ◌∙◌, refl, arith}
+use Rattle.std.proofs.Common.{◌≡◌, ℕ, suc, ◌+◌, ◌*◌, ◌<◌, ◌≤◌, ◌^◌, Bool, true, false, not, ◌&&◌, cond, eqb, ltb, leb, List, [], ◌∷◌, ◌++◌, length, map, filter, All, Option, Some, None, ap, ◌∙◌, refl, arith}
 use Rattle.std.specs.List.{slice_get, join_with_byte, list_all, AllByRecursion}
 use Rattle.std.specs.Prelude.{codes}
 use Rattle.std.specs.Fmt.{decimal}
@@ -13,6 +13,8 @@ use Rattle.std.proofs.lemmas.Bool.Decides.{nat_tests}
 use Rattle.sat_label.proofs.Numbers.{length-below}
 use Rattle.sat_label.specs.Text.{is_between, is_name, is_name_byte, is_value, node_text}
 use Rattle.sat_label.specs.Words.{bit, below}
+use Rattle.sat_label.specs.Formats.{limits_of as format_limits}
+use Rattle.sat_label.specs.declared.items.Items.TheVariants.{One, Two, Three, Four}
 use Rattle.sat_label.specs.declared.site_set.SiteSet.{SiteSet}
 use Rattle.sat_label.specs.declared.node.NodeId.{NodeId}
 use Rattle.sat_label.specs.declared.node.NodeId.TheVariants.{Site, Serializer}
@@ -28,7 +30,8 @@ use Rattle.sat_act.specs.declared.act.Act.TheVariants as act
 use Rattle.sat_act.specs.declared.deployment.Item.{Item}
 use Rattle.sat_act.specs.declared.deployment.Plan.{Plan}
 use Rattle.sat_act.specs.declared.deployment.Plan.TheVariants as plan
-use Rattle.sat_script.specs.Grammar.{words_line, line_at, is_ended}
+use Rattle.sat_script.specs.Dialect.{allows}
+use Rattle.sat_script.specs.Grammar.{words_line, line_at, is_ended, with_parsed}
 use Rattle.sat_script.specs.Kept.{IsWhole, HasHeader}
 use Rattle.sat_script.specs.Spelled.{line_text, item_words, plan_words, sites_text, HaveNames}
 use Rattle.sat_tree.specs.PlanLine.{parent_text}
@@ -37,11 +40,13 @@ use Rattle.sat_act.specs.Limits.{IsDeployment}
 use Rattle.sat_script.specs.declared.form.Kind.{Kind}
 use Rattle.sat_script.specs.declared.form.Kind.TheVariants as kind
 use Rattle.sat_script.proofs.Acts.{Fits, AllFit, IsSmall, no_small, shape_small}
+use Rattle.sat_script.proofs.Groups.{act_allowed}
 use Rattle.sat_script.proofs.ActsRead.{args_fit, epoch_inside, named_client, named_item}
 use Rattle.sat_script.specs.State.{State}
 use Rattle.sat_script.specs.Words.{is_newline, is_blank, is_text, words_of}
 use Rattle.sat_script.specs.declared.limits.TheConstants.{LONGEST_LINE, MOST_SITES}
-use Rattle.sat_stream.specs.declared.limits.TheConstants.{LINE_BYTES}
+use Rattle.sat_stream.specs.Stream.{line_bytes}
+use Rattle.sat_stream.specs.declared.limits.TheConstants.{LINE_BYTES, LONG_LINE_BYTES}
 use Rattle.sat_script.specs.declared.line.Parsed.{Parsed}
 use Rattle.sat_script.specs.declared.line.Parsed.TheVariants as parsed
 use Rattle.sat_script.specs.declared.line.Stage.{Stage}
@@ -83,19 +88,38 @@ abbrev size : List (List ℕ) → ℕ
 size [] = 0
 size (word ∷ words) = length word + 1 + size words
 
--- words of a line that may stand in a script
-pub record IsLine (words : List (List ℕ)) : Type 0 where
+-- words of a line that has at most so many bytes
+pub record IsSized (most : ℕ) (words : List (List ℕ)) : Type 0 where
   pub each : AllByRecursion IsWord words
   pub some : 0 < length words
-  pub short : size words ≤ LINE_BYTES
+  pub short : size words ≤ most
+
+-- words of a line that may stand in a script of either format
+abbrev pub IsLine : List (List ℕ) → Type 0
+IsLine words = IsSized LONG_LINE_BYTES words
+
+-- either format has lines of so many bytes, and none of more
+sized_in : (format : ℕ) (words : List (List ℕ)) → IsSized LINE_BYTES words → IsSized (line_bytes format) words
+sized_in format words is = go (eqb format 1)
+  where
+    go : (b : Bool) → IsSized (cond b LINE_BYTES LONG_LINE_BYTES) words
+    go true = is
+    go false = let short = is.short in record { each = is.each; some = is.some; short = omega arith }
+
+sized_line : (format : ℕ) (words : List (List ℕ)) → IsSized (line_bytes format) words → IsLine words
+sized_line format words is = go (eqb format 1) is
+  where
+    go : (b : Bool) → IsSized (cond b LINE_BYTES LONG_LINE_BYTES) words → IsLine words
+    go true is = let short = is.short in record { each = is.each; some = is.some; short = omega arith }
+    go false is = is
 
 text_size : (words : List (List ℕ)) → 0 < length words → length (line_text words) + 1 ≡ size words
 text_size [] some = absurd (omega arith)
 text_size (a ∷ []) some = omega arith
 text_size (a ∷ b ∷ words) some = let more = text_size (b ∷ words) (omega arith) in omega (arith, length-append a (32 ∷ line_text (b ∷ words)))
 
-pub line_size : (words : List (List ℕ)) → IsLine words → length (line_text words) + 1 ≤ LINE_BYTES
-line_size words is = let n = text_size words is.some in let m = is.short in omega arith
+pub line_size : (most : ℕ) (words : List (List ℕ)) → IsSized most words → length (line_text words) + 1 ≤ most
+line_size most words is = let n = text_size words is.some in let m = is.short in omega arith
 
 line_is_text : (words : List (List ℕ)) → AllByRecursion IsWord words → is_text (line_text words) ≡ true
 line_is_text [] h = refl
@@ -122,7 +146,7 @@ is_text-line words is = line_is_text words is.each
 pub line_at-words : (s : State) (words : List (List ℕ)) → IsLine words → is_ended s.stage ≡ false → line_at s (line_text words) ≡ words_line s.stage s words
 unfolding line_at
 line_at-words s words is going =
-    let few = line_size words is in
+    let few = line_size LONG_LINE_BYTES words is in
     let fits : ltb LONGEST_LINE (length (line_text words)) ≡ false = grind (arith, nat_tests) in
     rw (going, fits, line_is_text words is.each, again words is.each is.some) refl
 
@@ -205,18 +229,41 @@ words_fit d t (k ∷ ks) (a ∷ xs) is small names h =
     let more = words_fit d t ks xs is small names h.1 in
     ((one.0, more.0), omega (arith, one.1, more.1))
 
-keyword_fits : (a : Act) → IsWord (word_of (form_of a)) × (length (word_of (form_of a)) + 1 + most_of (kinds_of (form_of a)) ≤ LINE_BYTES)
-keyword_fits (act.Bulk i g j None) = (refl, omega arith)
-keyword_fits (act.Bulk i g j (Some n)) = (refl, omega arith)
-keyword_fits _ = (refl, omega arith)
+-- a format that has a form which writes more than one item has long lines
+long_in : (format n count : ℕ) → 2 ≤ n → leb n (format_limits format).written ≡ true → count ≤ LONG_LINE_BYTES → count ≤ line_bytes format
+long_in format n count many has few = go (eqb format 1) has
+  where
+    go : (b : Bool) → leb n (cond b (format_limits 1) (format_limits 2)).written ≡ true → count ≤ cond b LINE_BYTES LONG_LINE_BYTES
+    go true has = absurd (let one = leb-true n 1 has in omega (arith, one, many))
+    go false has = few
 
-pub act_line_fits : (d : Deployed) (a : Act) → IsWhole d → IsActOf d a → IsLine (act_words d a)
+short_in : (format count : ℕ) → count ≤ LINE_BYTES → count ≤ line_bytes format
+short_in format count few = go (eqb format 1)
+  where
+    go : (b : Bool) → count ≤ cond b LINE_BYTES LONG_LINE_BYTES
+    go true = few
+    go false = omega (arith, few)
+
+keyword_fits : (format : ℕ) (a : Act) → allows format (form_of a) ≡ true → IsWord (word_of (form_of a)) × (length (word_of (form_of a)) + 1 + most_of (kinds_of (form_of a)) ≤ line_bytes format)
+unfolding allows
+keyword_fits format (act.Writes c (One x) values) has = (refl, long_in format 2 _ (omega arith) has (omega arith))
+keyword_fits format (act.Writes c (Two x y) values) has = (refl, long_in format 2 _ (omega arith) has (omega arith))
+keyword_fits format (act.Writes c (Three x y z) values) has = (refl, long_in format 3 _ (omega arith) has (omega arith))
+keyword_fits format (act.Writes c (Four x y z w) values) has = (refl, long_in format 4 _ (omega arith) has (omega arith))
+keyword_fits format (act.Bulk i g j None) has = (refl, short_in format _ (omega arith))
+keyword_fits format (act.Bulk i g j (Some n)) has = (refl, short_in format _ (omega arith))
+keyword_fits format _ has = (refl, short_in format _ (omega arith))
+
+act_line_sized : (d : Deployed) (a : Act) → IsWhole d → IsActOf d a → IsSized (line_bytes d.format) (act_words d a)
 unfolding act_words
-act_line_fits d a is fits =
-    let first = keyword_fits a in
+act_line_sized d a is fits =
+    let first = keyword_fits d.format a (act_allowed d a fits) in
     let small = no_small d no_tree is.deployment (omega arith) (omega arith) in
     let more = words_fit d no_tree (kinds_of (form_of a)) (args_of a) is.deployment small is.names (args_fit d a is.deployment fits).0 in
     record { each = (first.0, more.0); some = omega arith; short = omega (arith, first.1, more.1) }
+
+pub act_line_fits : (d : Deployed) (a : Act) → IsWhole d → IsActOf d a → IsLine (act_words d a)
+act_line_fits d a is fits = sized_line d.format (act_words d a) (act_line_sized d a is fits)
 
 -- ---- lists
 
@@ -243,7 +290,7 @@ sites_word set =
     let count = length-below 64 in
     (w.0, omega (arith, w.1))
 
-item_line_fits : (s : State) (item : Item) → ItemStands s item → IsLine (item_words item)
+item_line_fits : (s : State) (item : Item) → ItemStands s item → IsSized LINE_BYTES (item_words item)
 item_line_fits s item is =
     let n = name_word item.name is.name in
     let w = sites_word item.replicas in
@@ -270,7 +317,7 @@ parents_line (Some p ∷ ps) h =
     let more = parents_line ps (λ k m at. h (suc k) m at) in
     ((w.0, more.0), omega (arith, w.1, more.1))
 
-pub tree_line_fits : (t : TreeShape) → IsSmallTree t → IsLine (plan_words (plan.Tree t))
+tree_line_fits : (t : TreeShape) → IsSmallTree t → IsSized LINE_BYTES (plan_words (plan.Tree t))
 tree_line_fits t is =
     let few = is.few_serializers in
     let seats = is.few_seats in
@@ -280,23 +327,33 @@ tree_line_fits t is =
     let tail_size = size_append (map parent_text t.parents) (codes "/" ∷ map decimal t.seats) in
     record { each = (refl, (refl, tail_words)); some = omega arith; short = omega (arith, ps.1, ss.1) }
 
-plan_line_fits : (sites : ℕ) (p : Plan) → sites ≤ MOST_SITES → IsPlanFor sites p → IsLine (plan_words p)
+plan_line_fits : (sites : ℕ) (p : Plan) → sites ≤ MOST_SITES → IsPlanFor sites p → IsSized LINE_BYTES (plan_words p)
 plan_line_fits sites plan.Stamp few h = record { each = (refl, (refl, tt)); some = omega arith; short = omega arith }
 plan_line_fits sites (plan.Tree t) few h = tree_line_fits t (tree_small sites t h few).0
 
 -- ---- any line
 
-pub line_fits : (here : Stage) (s : State) (p : Parsed) → HasHeader here s.header → s.header.sites ≤ MOST_SITES → Stands here s p → IsLine (parsed_words s.header p)
-line_fits stage.Start s (parsed.Format f) kept few h = let w = number_word f (omega (arith, h.1)) in record { each = (refl, (w.0, tt)); some = omega arith; short = omega (arith, w.1) }
-line_fits stage.Sites s (parsed.Sites n) kept few h = let most = (limits_few s.dialect s.header.format).sites in let w = number_word n (omega (arith, h.1)) in record { each = (refl, (w.0, tt)); some = omega arith; short = omega (arith, w.1) }
-line_fits stage.Gears s (parsed.Gears n) kept few h = let w = number_word n (omega (arith, h.1)) in record { each = (refl, (w.0, tt)); some = omega arith; short = omega (arith, w.1) }
-line_fits stage.Header s (parsed.Item item) kept few h = item_line_fits s item h
-line_fits stage.Header s (parsed.Client line) kept few h =
+pub line_sized : (here : Stage) (s : State) (p : Parsed) → HasHeader here s.header → s.header.sites ≤ MOST_SITES → Stands here s p → IsSized (line_bytes (with_parsed s.header p).format) (parsed_words s.header p)
+line_sized stage.Start s (parsed.Format f) kept few h =
+    let w = number_word f (omega (arith, h.1)) in
+    sized_in f (codes "saturn" ∷ decimal f ∷ []) (record { each = (refl, (w.0, tt)); some = omega arith; short = omega (arith, w.1) })
+line_sized stage.Sites s (parsed.Sites n) kept few h =
+    let most = (limits_few s.dialect s.header.format).sites in
+    let w = number_word n (omega (arith, h.1)) in
+    sized_in s.header.format (codes "sites" ∷ decimal n ∷ []) (record { each = (refl, (w.0, tt)); some = omega arith; short = omega (arith, w.1) })
+line_sized stage.Gears s (parsed.Gears n) kept few h =
+    let w = number_word n (omega (arith, h.1)) in
+    sized_in s.header.format (codes "gears" ∷ decimal n ∷ []) (record { each = (refl, (w.0, tt)); some = omega arith; short = omega (arith, w.1) })
+line_sized stage.Header s (parsed.Item item) kept few h = sized_in s.header.format (item_words item) (item_line_fits s item h)
+line_sized stage.Header s (parsed.Client line) kept few h =
     let n = name_word line.name h.name in
     let w = number_word line.site (omega (arith, h.home)) in
-    record { each = (refl, (n.0, (w.0, tt))); some = omega arith; short = omega (arith, n.1, w.1) }
-line_fits stage.Header s (parsed.Plan p) kept few h = plan_line_fits s.header.sites p few h.fits
-line_fits stage.Header s parsed.Begin kept few h = record { each = (refl, tt); some = omega arith; short = omega arith }
-line_fits stage.Body s (parsed.Act a) kept few h = act_line_fits s.header a kept h.fits
-line_fits stage.Body s parsed.End kept few h = record { each = (refl, tt); some = omega arith; short = omega arith }
-line_fits _ s _ kept few h = absurd h
+    sized_in s.header.format (codes "client" ∷ line.name ∷ decimal line.site ∷ []) (record { each = (refl, (n.0, (w.0, tt))); some = omega arith; short = omega (arith, n.1, w.1) })
+line_sized stage.Header s (parsed.Plan p) kept few h = sized_in s.header.format (plan_words p) (plan_line_fits s.header.sites p few h.fits)
+line_sized stage.Header s parsed.Begin kept few h = sized_in s.header.format (codes "begin" ∷ []) (record { each = (refl, tt); some = omega arith; short = omega arith })
+line_sized stage.Body s (parsed.Act a) kept few h = act_line_sized s.header a kept h.fits
+line_sized stage.Body s parsed.End kept few h = sized_in s.header.format (codes "end" ∷ []) (record { each = (refl, tt); some = omega arith; short = omega arith })
+line_sized _ s _ kept few h = absurd h
+
+pub line_fits : (here : Stage) (s : State) (p : Parsed) → HasHeader here s.header → s.header.sites ≤ MOST_SITES → Stands here s p → IsLine (parsed_words s.header p)
+line_fits here s p kept few h = sized_line (with_parsed s.header p).format (parsed_words s.header p) (line_sized here s p kept few h)

@@ -1,7 +1,7 @@
 -- A text has no fault exactly where it is the spelling of its deployment and its acts.
 use Rattle.std.proofs.Common.{◌≡◌, ℕ, ◌+◌, ◌-◌, ◌*◌, ◌≤◌, Bool, true, false, cond, eqb, ltb, List, [], ◌∷◌, ◌++◌, length, Option, Some, None, Result, Ok, Err, sym, ap, ◌∙◌, refl, subst, arith}
 use Rattle.std.specs.List.{filter, flat_map, slice_split, join_with_byte}
-use Rattle.std.specs.Prelude.{codes}
+use Rattle.std.specs.Prelude.{codes, ◌==◌, if◌then◌else◌}
 use Rattle.std.specs.Fmt.{decimal}
 use Rattle.std.proofs.lemmas.List.{append-nil, append_assoc, length-append}
 use Rattle.std.proofs.lemmas.Grind.{flat_map-append}
@@ -18,7 +18,8 @@ use Rattle.sat_act.specs.declared.deployment.ClientLine.{ClientLine}
 use Rattle.sat_act.specs.declared.deployment.Plan.{Plan}
 use Rattle.sat_script.specs.Grammar.{line_at, close_at, close_in, after, next_stage, with_parsed, with_act, with_settle, told_line}
 use Rattle.sat_stream.specs.Laws.{IsRead}
-use Rattle.sat_script.specs.Kept.{IsFit, HasHeader}
+use Rattle.sat_stream.specs.Stream.{line_bytes, bytes_until}
+use Rattle.sat_script.specs.Kept.{IsFit, HasActs, HasHeader}
 use Rattle.sat_stream.specs.Coming.{HasSaid}
 use Rattle.sat_stream.specs.Reading.{script_from, reading, nothing, after_line, closed, with_line, AreAllowed, IsAllowed, IsWithin}
 use Rattle.sat_script.specs.Spelled.{AreActsOf, settles_of, line_text, item_words, client_words, plan_words, ended, items_text, clients_text, plans_text, acts_text, header_text, spelling, Spells}
@@ -30,8 +31,8 @@ use Rattle.sat_script.specs.declared.dialect.Dialect.{Dialect}
 use Rattle.sat_script.specs.declared.dialect.Dialect.TheVariants as dialect
 use Rattle.sat_script.specs.declared.fault.Cause.{Cause}
 use Rattle.sat_script.specs.declared.fault.Cause.TheVariants.{LongLine, NoEnd}
-use Rattle.sat_script.specs.declared.limits.TheConstants.{LONGEST_LINE}
-use Rattle.sat_stream.specs.declared.limits.TheConstants.{LINE_BYTES, MOST_LINES}
+use Rattle.sat_script.specs.declared.limits.TheConstants.{LONGEST_LINE, LIVE_ACTS}
+use Rattle.sat_stream.specs.declared.limits.TheConstants.{LINE_BYTES, LONG_LINE_BYTES, MOST_BYTES, MOST_LINES, MOST_LONG_LINES}
 use Rattle.sat_script.specs.declared.line.Parsed.{Parsed}
 use Rattle.sat_script.specs.declared.line.Parsed.TheVariants as parsed
 use Rattle.sat_script.specs.declared.line.Stage.{Stage}
@@ -40,7 +41,7 @@ use Rattle.sat_stream.specs.declared.stream.Reading.{Reading}
 use Rattle.sat_script.proofs.Lists.{all_more}
 use Rattle.sat_script.proofs.Stands.{parsed_words, Stands, limits_few}
 use Rattle.sat_script.proofs.Fits.{line_is, fit_start, fit_after, acts_allowed}
-use Rattle.sat_stream.proofs.Texts.{line_fits, line_size, line_text-words}
+use Rattle.sat_stream.proofs.Texts.{line_sized, line_size, line_text-words}
 
 -- ---- counting lines and bytes
 
@@ -65,35 +66,88 @@ first_few : (here : Stage) → first_of here ≤ 6
 first_few stage.Start = omega arith
 first_few _ = omega arith
 
--- a good line has few bytes, and is one line more
-pub line_counted : (s : State) (line : List ℕ) (p : Parsed) → IsFit s → line_at s line ≡ Ok p → LINE_BYTES * (number_of s - 1) + length line + 1 ≤ LINE_BYTES * (number_of (after s p) - 1)
+-- a line more of a format, and the first line, which says the format
+step : (format n m size : ℕ) → 1 ≤ n → m ≡ n + 1 → size + 1 ≤ line_bytes format → line_bytes format * (n - 1) + size + 1 ≤ line_bytes format * (m - 1)
+step format n m size some next few = go (eqb format 1) few
+  where
+    go : (b : Bool) → size + 1 ≤ cond b LINE_BYTES LONG_LINE_BYTES → cond b LINE_BYTES LONG_LINE_BYTES * (n - 1) + size + 1 ≤ cond b LINE_BYTES LONG_LINE_BYTES * (m - 1)
+    go true few = omega (arith, some, next, few)
+    go false few = omega (arith, some, next, few)
+
+first_step : (before format n m size : ℕ) → n ≡ 1 → m ≡ n + 1 → size + 1 ≤ line_bytes format → line_bytes before * (n - 1) + size + 1 ≤ line_bytes format * (m - 1)
+first_step before format n m size first next few = go (eqb before 1) (eqb format 1) few
+  where
+    go : (a b : Bool) → size + 1 ≤ cond b LINE_BYTES LONG_LINE_BYTES → cond a LINE_BYTES LONG_LINE_BYTES * (n - 1) + size + 1 ≤ cond b LINE_BYTES LONG_LINE_BYTES * (m - 1)
+    go true true few = omega (arith, first, next, few)
+    go true false few = omega (arith, first, next, few)
+    go false true few = omega (arith, first, next, few)
+    go false false few = omega (arith, first, next, few)
+
+line_step : (here : Stage) (s : State) (p : Parsed) (n m size : ℕ) → (here ≡ stage.Start → n ≡ 1) → Stands here s p → 1 ≤ n → m ≡ n + 1 → size + 1 ≤ line_bytes (with_parsed s.header p).format
+    → line_bytes s.header.format * (n - 1) + size + 1 ≤ line_bytes (with_parsed s.header p).format * (m - 1)
+line_step stage.Start s (parsed.Format f) n m size first h some next few = first_step s.header.format f n m size (first refl) next few
+line_step stage.Sites s (parsed.Sites k) n m size first h some next few = step s.header.format n m size some next few
+line_step stage.Gears s (parsed.Gears k) n m size first h some next few = step s.header.format n m size some next few
+line_step stage.Header s (parsed.Item item) n m size first h some next few = step s.header.format n m size some next few
+line_step stage.Header s (parsed.Client line) n m size first h some next few = step s.header.format n m size some next few
+line_step stage.Header s (parsed.Plan p) n m size first h some next few = step s.header.format n m size some next few
+line_step stage.Header s parsed.Begin n m size first h some next few = step s.header.format n m size some next few
+line_step stage.Body s (parsed.Act a) n m size first h some next few = step s.header.format n m size some next few
+line_step stage.Body s parsed.End n m size first h some next few = step s.header.format n m size some next few
+line_step _ s _ n m size first h some next few = absurd h
+
+at_start : (s : State) → IsFit s → s.stage ≡ stage.Start → number_of s ≡ 1
 unfolding number_of
+at_start s fit e =
+    let kept = subst (λ (here : Stage). HasHeader here s.header) e fit.header in
+    let none = subst (λ (here : Stage). HasActs here s.acts) e fit.begun in
+    omega (arith, ap first_of e, ap header_lines kept, none)
+
+-- a good line has few bytes, and is one line more
+pub line_counted : (s : State) (line : List ℕ) (p : Parsed) → IsFit s → line_at s line ≡ Ok p → bytes_until s + length line + 1 ≤ bytes_until (after s p)
+unfolding bytes_until number_of
 line_counted s line p fit h =
     let is = line_is s line p fit h in
     let most = (limits_few s.dialect s.header.format).sites in
-    let fits = line_fits s.stage s p fit.header (omega (arith, fit.sites)) is.stands in
+    let fits = line_sized s.stage s p fit.header (omega (arith, fit.sites)) is.stands in
     let text : line ≡ line_text (parsed_words s.header p) = sym (line_text-words line) ∙ ap line_text is.spelled in
-    let few = line_size (parsed_words s.header p) fits in
+    let few = line_size (line_bytes (with_parsed s.header p).format) (parsed_words s.header p) fits in
     let same : length line ≡ length (line_text (parsed_words s.header p)) = ap length text in
     let next = number-after s.stage s p is.stands in
     let some = first_some s.stage in
-    omega arith
+    line_step s.stage s p (number_of s) (number_of (after s p)) (length line) (at_start s fit) is.stands (omega arith) next (omega (arith, same, few))
 
--- a format that allows more items allows fewer acts
-most_lines : (dialect : Dialect) (format : ℕ) → (limits_of dialect format).items + (limits_of dialect format).acts ≤ 204096
-most_lines dialect.Run format = go (eqb format 1)
+-- no good script of a format has more lines
+abbrev pub most_lines : ℕ → ℕ
+most_lines format = if format == 1 then MOST_LINES else MOST_LONG_LINES
+
+-- a format that allows more items, or longer lines, allows fewer acts
+few_lines : (dialect : Dialect) (format n : ℕ) → n ≤ 1045 + (limits_of dialect format).items + (limits_of dialect format).acts → line_bytes format * n ≤ line_bytes format * most_lines format
+few_lines dialect.Run format n few = go (eqb format 1) few
   where
-    go : (b : Bool) → (cond b (format_limits 1) (format_limits 2)).items + (cond b (format_limits 1) (format_limits 2)).acts ≤ 204096
-    go true = omega arith
-    go false = omega arith
-most_lines dialect.Live format = let few = (limits_few dialect.Live format).items in omega (arith, few)
+    go : (b : Bool) → n ≤ 1045 + (cond b (format_limits 1) (format_limits 2)).items + (cond b (format_limits 1) (format_limits 2)).acts → cond b LINE_BYTES LONG_LINE_BYTES * n ≤ cond b LINE_BYTES LONG_LINE_BYTES * cond b MOST_LINES MOST_LONG_LINES
+    go true few = omega (arith, few)
+    go false few = omega (arith, few)
+few_lines dialect.Live format n few = go (eqb format 1) few
+  where
+    go : (b : Bool) → n ≤ 1045 + (cond b (format_limits 1) (format_limits 2)).items + LIVE_ACTS → cond b LINE_BYTES LONG_LINE_BYTES * n ≤ cond b LINE_BYTES LONG_LINE_BYTES * cond b MOST_LINES MOST_LONG_LINES
+    go true few = omega (arith, few)
+    go false few = omega (arith, few)
 
-pub lines_counted : (s : State) → IsFit s → LINE_BYTES * (number_of s - 1) ≤ LINE_BYTES * MOST_LINES
-unfolding number_of
+pub lines_counted : (s : State) → IsFit s → bytes_until s ≤ line_bytes s.header.format * most_lines s.header.format
+unfolding bytes_until number_of
 lines_counted s fit =
     let first = first_few s.stage in
     let clients = (limits_few s.dialect s.header.format).clients in
-    omega (arith, most_lines s.dialect s.header.format, clients, fit.items, fit.clients, fit.plans, fit.acts)
+    few_lines s.dialect s.header.format (number_of s - 1) (omega (arith, clients, fit.items, fit.clients, fit.plans, fit.acts))
+
+-- so many lines and the beginning of one more are few bytes in every format
+pub bytes_within : (format : ℕ) → line_bytes format * most_lines format + LONGEST_LINE ≤ MOST_BYTES
+bytes_within format = go (eqb format 1)
+  where
+    go : (b : Bool) → cond b LINE_BYTES LONG_LINE_BYTES * cond b MOST_LINES MOST_LONG_LINES + LONGEST_LINE ≤ MOST_BYTES
+    go true = omega arith
+    go false = omega arith
 
 -- ---- what good lines said
 

@@ -1,5 +1,5 @@
 -- What a reader of pieces shows.
-use Rattle.std.specs.Prelude.{ℕ, ◌≡◌, ◌≢◌, ◌≤◌, ◌+◌, ◌-◌, ◌*◌, List, [], ◌∷◌, ◌++◌, length, ◌&&◌, nat_lt, Some, None, Ok, Err, IfSome, MatchResult, if◌then◌else◌}
+use Rattle.std.specs.Prelude.{◌==◌, ℕ, ◌≡◌, ◌≢◌, ◌≤◌, ◌+◌, ◌-◌, ◌*◌, List, [], ◌∷◌, ◌++◌, length, ◌&&◌, nat_lt, Some, None, Ok, Err, IfSome, MatchResult, if◌then◌else◌}
 use Rattle.std.specs.declared.option.Option.{Option}
 use Rattle.std.specs.declared.result.Result.{Result}
 use Rattle.std.specs.List.{slice_split}
@@ -14,7 +14,7 @@ use Rattle.sat_script.specs.declared.fault.Cause.TheVariants.{Memory, AfterEnd, 
 use Rattle.sat_script.specs.declared.fault.ScriptFault.{ScriptFault}
 use Rattle.sat_stream.specs.declared.stream.Reading.{Reading}
 use Rattle.sat_script.specs.declared.limits.TheConstants.{LONGEST_LINE}
-use Rattle.sat_stream.specs.declared.limits.TheConstants.{LINE_BYTES}
+use Rattle.sat_stream.specs.declared.limits.TheConstants.{LINE_BYTES, LONG_LINE_BYTES}
 
 -- what the whole lines of a script say that came: the state after them, the fault if one is known, and what the good lines said
 pub record WholeLines : Type 0 where
@@ -72,12 +72,19 @@ Knows r (Err fault) = known_fault r ≡ Some fault
 abbrev pub line_of : Came → ℕ
 line_of r = number_of r.lines.seen.state
 
+-- no good line of a format has more bytes, with its byte 10
+abbrev pub line_bytes : ℕ → ℕ
+line_bytes format = if format == 1 then LINE_BYTES else LONG_LINE_BYTES
+
 -- at most as many bytes have come, where no fault is known: a good line has few
+unfoldable pub bytes_until : State → ℕ
+unfolding number_of
+bytes_until s = line_bytes s.header.format * (number_of s - 1)
+
 abbrev pub bytes_before : WholeLines → ℕ
-bytes_before l = LINE_BYTES * (number_of l.seen.state - 1)
+bytes_before l = bytes_until l.seen.state
 
 unfoldable pub bytes_of : Came → ℕ
-unfolding number_of
 bytes_of r = bytes_before r.lines + length r.begun
 
 -- ---- acts that are handed out before the end

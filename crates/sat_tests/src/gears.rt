@@ -3,7 +3,7 @@ ghost use Rattle.std.specs.Prelude.{◌≡◌, ◌∷◌, [], IfOk};
 ghost use Rattle.sat_gear.specs.Gear.{IsShape};
 
 use sat_gear::Gear;
-use sat_label::{Point, SiteSet, Value};
+use sat_label::{Items, Point, SiteSet, Value};
 use sat_sites::{Interest, Shape};
 use std::alloc::Global;
 use std::test::Fail;
@@ -41,7 +41,7 @@ fn a_write_answers_its_numbers(rt: HostRuntime) -> Result<(), Fail> {
     let shape = two_sites(alloc)?;
     let mut gear = Gear::new(alloc, &shape, 0)?;
     let value = Value::of(alloc, b"a")?.ok_or("no value")?;
-    let stamped = gear.write(Point::zero(), 0, value)?;
+    let stamped = gear.write(Point::zero(), Items::One(0), &[value])?;
     assert_eq!(rt; stamped.label.point.ts, 1);
     assert_eq!(rt; stamped.numbers.as_slice(), [0].as_slice());
     Ok(())

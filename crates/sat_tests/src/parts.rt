@@ -3,7 +3,7 @@ ghost use Rattle.std.specs.Prelude.{◌≡◌, [], ◌∷◌, None, Some};
 ghost use Rattle.sat_label.specs.declared.site_set.SiteSet.{SiteSet as SiteSetSeen};
 
 use sat_act::{Deployment, DeploymentFault};
-use sat_label::{Kind, Label, Name, NodeId, Nodes, Point, SiteSet};
+use sat_label::{Items, Kind, Label, Name, NodeId, Nodes, Point, SiteSet};
 use sat_serial::Serializer;
 use sat_sites::{Interest, InterestFault};
 use sat_tree::{Tree, TreeFault};
@@ -52,7 +52,7 @@ fn on_from_the_root(alloc: Global, tree: &Tree, interest: &Interest) -> Result<N
             site: 1,
             gear: 0,
         },
-        kind: Kind::Update(0),
+        kind: Kind::Update(Items::One(0)),
     };
     let root = Serializer::new(alloc, tree, 0)?;
     root.route(interest, NodeId::Serializer(1), &update)

@@ -40,6 +40,26 @@ const ONE_SITE: &str = "saturn 1\nsites 1\ngears 1\nplan stamp\nbegin\n";
 const SIXTY_FOUR_SITES: &str =
     "saturn 2\nsites 64\ngears 1\nitem x 0,63\nclient a 0\nplan tree - / 0 0 0 0 0 0 0 0 0 0 0 0 0 0 0 0 0 0 0 0 0 0 0 0 0 0 0 0 0 0 0 0 0 0 0 0 0 0 0 0 0 0 0 0 0 0 0 0 0 0 0 0 0 0 0 0 0 0 0 0 0 0 0 0\nbegin\n";
 
+// Two sites that keep both items, which are of two gears.
+const GROUPS: &str =
+    "saturn 2\nsites 2\ngears 2\nitem x 0,1\nitem y 0,1\nclient a 0\nclient b 0\nclient c 1\nplan tree - / 0 0\nbegin\n";
+
+// Each two of three sites share one item.
+const SHARED: &str =
+    "saturn 2\nsites 3\ngears 2\nitem x 0,1\nitem y 0,2\nitem z 1,2\nclient a 0\nclient c 2\nplan tree - / 0 0 0\nbegin\n";
+
+// Site 1 keeps the second and the fourth of four items, and there is no tree.
+const FOUR_ITEMS: &str =
+    "saturn 2\nsites 2\ngears 1\nitem p 0\nitem q 0,1\nitem r 0\nitem s 0,1\nclient a 0\nclient b 1\nplan stamp\nbegin\n";
+
+// Both sites keep both items, and two trees follow one another.
+const GROUPS_IN_TWO_TREES: &str =
+    "saturn 2\nsites 2\ngears 1\nitem x 0,1\nitem y 0,1\nclient a 0\nclient b 1\nplan tree - / 0 0\nplan tree - 0 / 0 1\nbegin\n";
+
+// Site 1 keeps one item of two.
+const PART_AT_SITE_1: &str =
+    "saturn 2\nsites 2\ngears 1\nitem x 0\nitem y 0,1\nclient a 0\nplan tree - / 0 0\nbegin\n";
+
 /// A header, acts, and their answers.
 pub const ANSWERS: &[(&str, &str, &str)] = &[
     // Nothing is shown at first, and an update is shown once, when its label and its payload have come.
@@ -52,6 +72,53 @@ pub const ANSWERS: &[(&str, &str, &str)] = &[
         HEADER,
         "write a x v\nwrite a x w\nbulk 0 0 1 18446744073709551615\nbulk 0 0 1 1\nbulk 0 0 1\nbulk 0 0 1\nbulk 0 0 1 1\nend\n",
         "1 wrote 1.0.0\n2 wrote 2.0.0\n3 refused NoSuch\n4 brought x 2.0.0\n5 brought x 1.0.0\n6 refused NoSuch\n7 again\nholdings\n",
+    ),
+    // A group is shown at once: at each site the items of it that the site keeps. It takes all of them to write it.
+    (
+        SHARED,
+        "writes a x X y Y\nwrites a x X z Z\ntick 0 1 1\ngather 0\nemit 0\nhop 1 s0 z0\nbulk 0 0 1\nbulk 0 0 2\nbulk 0 1 2\nturn 1\nturn 2\nread c y\nend\n",
+        "1 wrote 1.0.0\n2 refused NotHere\n3 ticked 1\n4 gathered 1 stable 1\n5 emitted update 1.0.0\n6 hopped update 1.0.0 to s1,s2\n7 brought x 1.0.0\n8 brought y 1.0.0\n9 refused NoSuch\n10 shown x 1.0.0\n11 shown y 1.0.0\n12 read 1.0.0 Y\nholdings\n",
+    ),
+    (
+        GROUPS,
+        "writes a x 1 y 2\ntick 0 1 1\ngather 0\nemit 0\nhop 1 s0 z0\nbulk 0 0 1\nturn 1\nread c y\nend\n",
+        "1 wrote 1.0.0\n2 ticked 1\n3 gathered 1 stable 1\n4 emitted update 1.0.0\n5 hopped update 1.0.0 to s1\n6 brought x,y 1.0.0\n7 shown x,y 1.0.0\n8 read 1.0.0 2\nholdings\n",
+    ),
+    // Of a group and a single write each item has the greater. Before the group is shown nothing of it is.
+    (
+        GROUPS,
+        "writes a x 1 y 2\nwrite c y 9\nbulk 0 0 1\nread c x\nread c y\ntick 0 1 1\ngather 0\nemit 0\nhop 1 s0 z0\nturn 1\nread c x\nread c y\ntick 1 0 1\ngather 1\nemit 1\nhop 1 s1 z0\nbulk 1 1 0\nturn 0\nread a y\nread a x\nend\n",
+        "1 wrote 1.0.0\n2 wrote 1.1.1\n3 brought x,y 1.0.0\n4 read none\n5 read 1.1.1 9\n6 ticked 1\n7 gathered 1 stable 1\n8 emitted update 1.0.0\n9 hopped update 1.0.0 to s1\n10 shown x,y 1.0.0\n11 read 1.0.0 1\n12 read 1.1.1 9\n13 ticked 1\n14 gathered 1 stable 1\n15 emitted update 1.1.1\n16 hopped update 1.1.1 to s0\n17 brought y 1.1.1\n18 shown y 1.1.1\n19 read 1.1.1 9\n20 read 1.0.0 1\nholdings\n",
+    ),
+    // The gear of the least item stamps a group, behind what the client has seen; the promises of the others stay.
+    (
+        GROUPS,
+        "tick 0 1 7\nwrite b y 5\nread a y\nwrites a x 1 y 2\nwrite b y 6\nread b y\nwrites b x 3 y 4\nread a x\nend\n",
+        "1 ticked 7\n2 wrote 8.0.1\n3 read 8.0.1 5\n4 wrote 9.0.0\n5 wrote 9.0.1\n6 read 9.0.1 6\n7 wrote 10.0.0\n8 read 10.0.0 3\nholdings\n",
+    ),
+    // Four items in timestamp order: the site's are the second and the fourth.
+    (
+        FOUR_ITEMS,
+        "writes a p 1 q 2 r 3 s 4\nwrites a q 5 r 6\nbulk 0 0 1\nbulk 0 0 1\nstamp 1\ngather 0\nemit 0\nemit 0\nbeat 0 1\nbeatin 0 1 0\nread b s\nstamp 1\nread b q\nread b s\nstamp 1\nread b q\nread b s\nread b p\nend\n",
+        "1 wrote 1.0.0\n2 wrote 2.0.0\n3 brought q,s 1.0.0\n4 brought q 2.0.0\n5 refused NotYet\n6 gathered 2 stable 2\n7 emitted update 1.0.0\n8 emitted update 2.0.0\n9 beat 0\n10 taken\n11 read none\n12 shown q,s 1.0.0\n13 read 1.0.0 2\n14 read 1.0.0 4\n15 shown q 2.0.0\n16 read 2.0.0 5\n17 read 1.0.0 4\n18 refused NotHere\nholdings\n",
+    ),
+    // Groups through a switch of trees: the second one, which is early, waits whole.
+    (
+        GROUPS_IN_TWO_TREES,
+        "writes a x 1 y 2\ngather 0\nemit 0\nclose 0\nwrites a x 3 y 4\ngather 0\nemit 0\nhop 2 s0 z0\nhop 2 z0 z1\nbulk 0 0 1 1\nturn 1\nadvance 1\nclose 1\nadvance 1\nhop 1 s0 z0\nhop 1 s0 z0\nbulk 0 0 1 0\nturn 1\nturn 1\nadvance 1\nread b x\nread b y\nturn 1\nread b y\nread b x\nend\n",
+        "1 wrote 1.0.0\n2 gathered 1 stable 1\n3 emitted update 1.0.0\n4 closed 1 1.0.65535\n5 wrote 2.0.0\n6 gathered 1 stable 2\n7 emitted update 2.0.0\n8 hopped update 2.0.0 to z1\n9 hopped update 2.0.0 to s1\n10 brought x,y 2.0.0\n11 refused Empty\n12 refused NotClosed\n13 closed 1 0.1.65535\n14 refused NotYet\n15 hopped update 1.0.0 to s1\n16 hopped close 1.0.65535 to s1\n17 brought x,y 1.0.0\n18 shown x,y 1.0.0\n19 took close 1.0.65535\n20 view 2\n21 read 1.0.0 1\n22 read 1.0.0 2\n23 shown x,y 2.0.0\n24 read 2.0.0 4\n25 read 2.0.0 3\nholdings\n",
+    ),
+    // A group whose tree died is shown by its timestamp, at once too.
+    (
+        GROUPS_IN_TWO_TREES,
+        "writes a x 1 y 2\ngather 0\nemit 0\nkill 1 z0\nhop 1 s0 z0\nclose 0\nclose 1\nfall 1\nbulk 0 0 1\nturn 1\nbeat 0 1\nbeatin 0 1 0\nread b y\nstamp 1\nread b y\nread b x\nadvance 1\nend\n",
+        "1 wrote 1.0.0\n2 gathered 1 stable 1\n3 emitted update 1.0.0\n4 killed\n5 refused Dead\n6 closed 1 1.0.65535\n7 closed 1 0.1.65535\n8 fallen\n9 brought x,y 1.0.0\n10 refused StampOrder\n11 beat 0\n12 taken\n13 read none\n14 shown x,y 1.0.0\n15 read 1.0.0 2\n16 read 1.0.0 1\n17 view 2\nholdings\n",
+    ),
+    // A client carries a group to a site that keeps a part of it.
+    (
+        PART_AT_SITE_1,
+        "writes a x 1 y 2\nmove a 1\nattach a 1\ngather 0\nemit 0\nemit 0\nhop 1 s0 z0\nhop 1 s0 z0\nturn 1\nbulk 0 0 1\nturn 1\nattach a 1\nturn 1\nattach a 1\nread a y\nread a x\nend\n",
+        "1 wrote 1.0.0\n2 moved 2.0.0\n3 refused NotYet\n4 gathered 2 stable 2\n5 emitted update 1.0.0\n6 emitted move 2.0.0\n7 hopped update 1.0.0 to s1\n8 hopped move 2.0.0 to s1\n9 refused NoPayload 1.0.0\n10 brought y 1.0.0\n11 shown y 1.0.0\n12 refused NotYet\n13 took move 2.0.0\n14 attached\n15 read 1.0.0 2\n16 refused NotHere\nholdings\n",
     ),
     // Equal timestamps go by site, then by gear.
     (
@@ -209,6 +276,12 @@ pub const REPORTS: &[(&str, &str, &str)] = &[
         "write a x one\ngather 0\nemit 0\nclose 0\nwrite a x two\nclose 1\nsettle\nread b x\nsettle\nend\n",
         "1 wrote 1.0.0\n2 gathered 1 stable 1\n3 emitted update 1.0.0\n4 closed 1 1.0.65535\n5 wrote 2.0.0\n6 closed 1 0.1.65535\n7 settled 2 29\n8 read 2.0.0 two\n9 settled 0 7\nholdings\nsite 0 view 2 emission 2 tree waiting 0\nitem x 2.0.0 two\nsite 1 view 2 emission 2 tree waiting 0\nitem x 2.0.0 two\ndone\n",
     ),
+    // The same with groups: as many acts, since each is one update.
+    (
+        GROUPS_IN_TWO_TREES,
+        "writes a x 1 y 2\ngather 0\nemit 0\nclose 0\nwrites a x 3 y 4\nclose 1\nsettle\nread b y\nend\n",
+        "1 wrote 1.0.0\n2 gathered 1 stable 1\n3 emitted update 1.0.0\n4 closed 1 1.0.65535\n5 wrote 2.0.0\n6 closed 1 0.1.65535\n7 settled 2 29\n8 read 2.0.0 4\nholdings\nsite 0 view 2 emission 2 tree waiting 0\nitem x 2.0.0 3\nitem y 2.0.0 4\nsite 1 view 2 emission 2 tree waiting 0\nitem x 2.0.0 3\nitem y 2.0.0 4\ndone\n",
+    ),
     // In stamp order: eleven acts before the rounds, of which two emissions, and in one round two payloads and two stamps.
     (
         STAMPS,
@@ -236,6 +309,20 @@ pub const REPORTS: &[(&str, &str, &str)] = &[
     (HEADER, "write d x v\nend\n", "line 9: UnknownName\n"),
     (HEADER, "tick 2 0 1\nend\n", "line 9: OutOfRange\n"),
     (HEADER, "hop 1 z0 z0\nend\n", "line 9: NoEdge\n"),
+    // Groups that are none: of items that do not ascend, of one item or of five, with a value too few, of unknown names, and in format 1.
+    (GROUPS, "writes b y 2 x 1\nend\n", "line 11: BadGroup\n"),
+    (GROUPS, "writes b x 2 x 1\nend\n", "line 11: BadGroup\n"),
+    (GROUPS, "writes b x 1 y 2 x 3\nend\n", "line 11: BadGroup\n"),
+    (GROUPS, "writes b x 1\nend\n", "line 11: BadAct\n"),
+    (GROUPS, "writes b x 1 y\nend\n", "line 11: BadAct\n"),
+    (
+        GROUPS,
+        "writes b x 1 y 2 x 3 y 4 x 5\nend\n",
+        "line 11: BadAct\n",
+    ),
+    (GROUPS, "writes d y 2 x 1\nend\n", "line 11: UnknownName\n"),
+    (GROUPS, "writes b y 2 z 1\nend\n", "line 11: UnknownName\n"),
+    (TWO_GEARS, "writes b x 1 y 2\nend\n", "line 11: BadAct\n"),
     (HEADER, "end\nx", "line 10: AfterEnd\n"),
     // A bad header.
     ("", "", "line 1: NoEnd\n"),

@@ -1,19 +1,20 @@
 //! The one call of a sink that the program does not make, at site 0 with two gears.
 ghost use Rattle.std.specs.Prelude.{◌≡◌, [], IfOk};
+ghost use Rattle.sat_label.specs.declared.items.Items.TheVariants.{One};
 
 use sat_bulk::Drained;
-use sat_label::{Counts, Kind, Label, Labels, Point};
+use sat_label::{Counts, Items, Kind, Label, Labels, Point};
 use sat_sink::LabelSink;
 use std::alloc::{AllocError, Global};
 use std::test::Fail;
 
 // An update that a gear of site 0 made.
 fn update(ts: u64, gear: u16) -> Label
-    ensures { result ≡ record { point = record { ts = ts; site = 0; gear = gear }; kind = Kind.Update 0 } }
+    ensures { result ≡ record { point = record { ts = ts; site = 0; gear = gear }; kind = Kind.Update (One 0) } }
 {
     Label {
         point: Point { ts, site: 0, gear },
-        kind: Kind::Update(0),
+        kind: Kind::Update(Items::One(0)),
     }
 }
 

@@ -1,5 +1,6 @@
 //! What is read of texts, at once and in pieces, and at the limits. What is expected was worked out by hand from the table of causes.
-use sat_act::{Act, Answer, Entry};
+use sat_act::{Act, Answer, Deployment, Entry};
+use sat_label::{Items, Kind, Label, Point};
 use sat_report::write_answer;
 use sat_script::{Cause, Line, Reader, ScriptFault, write_script};
 use sat_stream::{Reading, Script, ScriptReader, read_script};
@@ -20,6 +21,9 @@ const SECOND_FORMAT: &str =
 
 const WIDEST: &str =
     "saturn 2\nsites 64\ngears 8\nitem p 0,16,63\nitem q 0,1,2,3,4,5,6,7,8,9,10,11,12,13,14,15,16,17,18,19,20,21,22,23,24,25,26,27,28,29,30,31,32,33,34,35,36,37,38,39,40,41,42,43,44,45,46,47,48,49,50,51,52,53,54,55,56,57,58,59,60,61,62,63\nclient a 63\nplan tree - 0 1 2 3 4 5 6 7 8 9 10 11 12 13 / 0 1 2 3 4 5 6 7 8 9 10 11 12 13 14 14 14 14 14 14 14 14 14 14 14 14 14 14 14 14 14 14 14 14 14 14 14 14 14 14 14 14 14 14 14 14 14 14 14 14 14 14 14 14 14 14 14 14 14 14 14 14 14 14\nbegin\nwrite a q v\nhop 1 s63 z14\nhop 1 z14 z13\nturn 63\nbulk 63 7 62\nbeat 16 63\nkill 1 z14\nend\n";
+
+const GROUPS: &str =
+    "saturn 2\nsites 2\ngears 1\nitem x 0,1\nitem y 0,1\nitem z 0\nitem t 1\nclient a 0\nplan tree - / 0 0\nbegin\nwrites a x 1 y 2\nwrites a x one t four\nwrites a x 1 z 3 t 4\nwrites a x 1 y 2 z 3 t 4\nwrite a t 5\nend\n";
 
 // A text that begins with the header of format 1 above.
 fn under_header(alloc: Global, lines: &str) -> Result<Vec<u8>, AllocError> {
@@ -67,6 +71,7 @@ fn good_texts_are_written_back(rt: HostRuntime) -> Result<(), Fail> {
         PLAIN,
         WIDE,
         WIDEST,
+        GROUPS,
         "saturn 1\nsites 1\ngears 1\nplan tree - / 0\nbegin\nend\n",
     ] {
         let out = written(alloc, text.as_bytes(), false)?;
@@ -77,8 +82,13 @@ fn good_texts_are_written_back(rt: HostRuntime) -> Result<(), Fail> {
     }
     let live =
         "saturn 1\nsites 8\ngears 2\nitem x 7\nclient a 0\nplan tree - / 0 0 0 0 0 0 0 0\nplan stamp\nbegin\nwrite a x v\nread a x\nmove a 7\nleave a\nattach a 0\nclose 0\nfall 7\nkill 1 z0\nend\n";
-    let out = written(alloc, live.as_bytes(), true)?;
-    assert!(rt; matches!(&out, Some(out) if out.as_slice() == live.as_bytes()));
+    for text in [live, GROUPS] {
+        let out = written(alloc, text.as_bytes(), true)?;
+        assert!(rt;
+            matches!(&out, Some(out) if out.as_slice() == text.as_bytes()),
+            "on threads, of {text}"
+        );
+    }
     Ok(())
 }
 
@@ -94,6 +104,7 @@ fn faults_are_told_at_once_and_in_pieces(rt: HostRuntime) -> Result<(), Fail> {
         ("write d x v\n", 9, Cause::UnknownName),
         ("hop 1 s2 z0\n", 9, Cause::OutOfRange),
         ("hop 1 z0 z0\n", 9, Cause::NoEdge),
+        ("writes a x v x w\n", 9, Cause::BadAct),
     ] {
         let text = under_header(alloc, lines)?;
         let want = at(line, cause);
@@ -113,6 +124,16 @@ fn nodes_on_threads_have_their_own_limits(rt: HostRuntime) -> Result<(), Fail> {
     for (text, line, cause) in [
         ("saturn 1\nsites 9\n", 2, Cause::OutOfRange),
         ("saturn 2\nsites 9\n", 2, Cause::OutOfRange),
+        (
+            "saturn 2\nsites 2\ngears 1\nitem x 0,1\nitem y 0,1\nitem z 0\nitem t 1\nclient a 0\nplan tree - / 0 0\nbegin\nwrites a x 1 y 2 z 3\nwrites a y 2 x 1\n",
+            12,
+            Cause::BadGroup,
+        ),
+        (
+            "saturn 2\nsites 2\ngears 1\nitem x 0,1\nitem y 0,1\nitem z 0\nitem t 1\nclient a 0\nplan tree - / 0 0\nbegin\nwrites a x 1 y 2 z 3 t 4 x 5\n",
+            11,
+            Cause::BadAct,
+        ),
         (
             "saturn 1\nsites 2\ngears 1\nitem x 0,1\nclient a 0\nclient b 1\nplan tree - / 0 0\nbegin\ngather 0\n",
             9,
@@ -411,5 +432,40 @@ fn an_entry_is_printed(rt: HostRuntime) -> Result<(), Fail> {
     let mut line = Vec::new(alloc);
     write_answer(&script.deployment, 3, &entry, &mut line)?;
     assert_eq!(rt; line.as_slice(), b"3 clocked 7\n".as_slice());
+    Ok(())
+}
+
+// The line of an act that shows an update of some items.
+fn shown_by(alloc: Global, d: &Deployment, act: Act, items: Items) -> Result<Vec<u8>, AllocError> {
+    let point = Point {
+        ts: 1,
+        site: 2,
+        gear: 0,
+    };
+    let kind = Kind::Update(items);
+    let entry = Entry {
+        act,
+        answer: Answer::Shown(Label { point, kind }),
+        inner: false,
+    };
+    let mut line = Vec::new(alloc);
+    write_answer(d, 8, &entry, &mut line)?;
+    Ok(line)
+}
+
+#[test]
+fn items_that_the_site_keeps_are_named(rt: HostRuntime) -> Result<(), Fail> {
+    let alloc = rt.alloc();
+    let Ok(script) = read_script(alloc, WIDE.as_bytes(), false) else {
+        return Err("the wide script is refused".into());
+    };
+    let d = &script.deployment;
+    let items = Items::Three(0, 1, 2);
+    let line = shown_by(alloc, d, Act::Turn { site: 15 }, items)?;
+    assert_eq!(rt; line.as_slice(), b"8 shown p,r 1.2.0\n".as_slice());
+    let line = shown_by(alloc, d, Act::Stamp { site: 1 }, items)?;
+    assert_eq!(rt; line.as_slice(), b"8 shown q-1.z,r 1.2.0\n".as_slice());
+    let line = shown_by(alloc, d, Act::Turn { site: 3 }, items)?;
+    assert_eq!(rt; line.as_slice(), b"8 shown r 1.2.0\n".as_slice());
     Ok(())
 }

@@ -1,6 +1,6 @@
 -- One write more.
 use Rattle.std.proofs.Common.{◌≡◌, ◌<◌, ◌≤◌, ℕ, suc, Bool, ◌+◌, true, false, List, [], ◌∷◌, ◌++◌, length, drop, get_or, refl, sym, subst, ap, ◌∙◌, arith, add-one, drop-cons}
-use Rattle.std.specs.Prelude.{None}
+use Rattle.std.specs.Prelude.{None, Some}
 use Rattle.std.proofs.lemmas.List.{append_assoc, length-append}
 use Rattle.sat_act.specs.declared.act.Act.{Act}
 use Rattle.sat_act.specs.declared.answer.Answer.{Answer}
@@ -13,6 +13,7 @@ use Rattle.sat_act.specs.Ranges.{IsActOf}
 use Rattle.sat_act.specs.Answers.{answer}
 use Rattle.sat_act.specs.Settling.{run, inner_entry, with_inner}
 use Rattle.sat_laws.proofs.Steps.{Step, outcome, wrote}
+use Rattle.sat_laws.proofs.Written.{write-client}
 use Rattle.sat_rest.specs.Ends.{wrote_count, wrote_entry}
 use Rattle.sat_world.specs.Seen.{WorldSeen}
 use Rattle.sat_world.specs.Stands.{StandsFor}
@@ -29,7 +30,9 @@ wrote-on h a (ans.Wrote l) inner = length-append (listed wrote_entry h) (l ∷ [
 wrote-on h a r inner = length-append (listed wrote_entry h) []
 
 no-write : (d : Deployed) (h : List Entry) (a : Act) (r : Answer) → Step d h a r → of_client a ≡ None → writes_in r ≡ 0
-no-write d h a r (wrote p q s) e = absurd (cc)
+no-write d h a r (wrote {w = w} z p q s) e =
+    let c : of_client a ≡ Some w.client = write-client a w z in
+    absurd (cc)
 no-write d h a r _ e = refl
 
 wrote-in : (d : Deployed) (k : List Entry) (a : Act) → of_client a ≡ None → wrote_count (inner_entry d k a ∷ k) ≡ wrote_count k

@@ -7,6 +7,7 @@ use Rattle.sat_act.specs.declared.answer.Answer.{Answer}
 use Rattle.sat_act.specs.declared.answer.Answer.TheVariants as ans
 use Rattle.sat_act.specs.declared.answer.Refusal.TheVariants as why
 use Rattle.sat_act.specs.declared.entry.Entry.{Entry}
+use Rattle.sat_label.specs.declared.items.Items.TheVariants.{One}
 use Rattle.sat_act.specs.Answers.{answer, at_seat, write_at}
 use Rattle.sat_act.specs.Parts.{seat}
 use Rattle.sat_act.specs.Runs.{IsRun}
@@ -40,4 +41,4 @@ module _ (w : WorldSeen) (c : ℕ) (found : Option ℕ) (keeps : UndoneKeeps) (i
 
   pub no_write : (x : ℕ) (v : List ℕ) → Does w (act.Write c x v) (ans.Refused why.NoSession) w
   unfolding answer
-  no_write x v = left w (act.Write c x v) keeps (λ e. absurd (cc)) (λ h run now. unseated (seat w.deployment h c) (λ i. write_at w.deployment h c x i) (gone h run now))
+  no_write x v = left w (act.Write c x v) keeps (λ e. absurd (cc)) (λ h run now. unseated (seat w.deployment h c) (λ i. write_at w.deployment h c (One x) i) (gone h run now))

@@ -32,6 +32,7 @@ fn session_number(clients: usize, act: &Act) -> Option<usize>
 {
     match act {
         Act::Write { client, .. } => client_number(clients, *client),
+        Act::Writes { client, .. } => client_number(clients, *client),
         Act::Read { client, .. } => client_number(clients, *client),
         Act::Move { client, .. } => client_number(clients, *client),
         Act::Leave { client } => client_number(clients, *client),

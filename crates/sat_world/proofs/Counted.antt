@@ -1,5 +1,5 @@
 -- An act with its count: which acts show nothing, and what an act that is counted does to a world that stands for a history.
-use Rattle.std.specs.Prelude.{◌≡◌, ℕ, Bool, true, false, List, ◌∷◌, IfOk, OnErr, refl}
+use Rattle.std.specs.Prelude.{◌≡◌, ℕ, Bool, true, false, List, ◌∷◌, IfOk, OnErr, Some, refl}
 use Rattle.std.proofs.Common.{Result, Ok, Err, sym, subst, ap, ◌∙◌}
 use Rattle.std.specs.declared.alloc.AllocError.{AllocError}
 use Rattle.sat_act.specs.declared.act.Act.{Act}
@@ -7,6 +7,7 @@ use Rattle.sat_act.specs.declared.act.Act.TheVariants as act
 use Rattle.sat_act.specs.declared.answer.Answer.{Answer}
 use Rattle.sat_act.specs.declared.entry.Entry.{Entry}
 use Rattle.sat_act.specs.Deployed.{Deployed}
+use Rattle.sat_act.specs.Done.{Written, write_in}
 use Rattle.sat_act.specs.Limits.{IsDeployment}
 use Rattle.sat_act.specs.Ranges.{IsActOf}
 use Rattle.sat_act.specs.Runs.{IsRun, is_settle}
@@ -28,6 +29,12 @@ abbrev pub is_showing : Act → Bool
 is_showing (act.Turn j) = true
 is_showing (act.Stamp j) = true
 is_showing _ = false
+
+-- none of them writes
+pub write-unshown : (a : Act) (w : Written) → write_in a ≡ Some w → is_showing a ≡ false
+write-unshown (act.Turn j) w e = absurd (cc)
+write-unshown (act.Stamp j) w e = absurd (cc)
+write-unshown _ w e = refl
 
 step-uncounted : (d : Deployed) (h : List Entry) (a : Act) (r : Answer) (n : ℕ) → Step d h a r → is_showing a ≡ false → counted r n ≡ n
 step-uncounted d h a r n (showed_turn m p s w u c) e = absurd (cc)

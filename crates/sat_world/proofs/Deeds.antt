@@ -2,7 +2,6 @@
 use Rattle.std.specs.Prelude.{◌≡◌, ◌<◌, ◌≤◌, ◌+◌, ◌-◌, ◌^◌, ℕ, Bool, true, false, List, [], ◌∷◌, ◌++◌, length, set, get_or, take, drop, Option, Some, None, IsSome, slice_get, refl}
 use Rattle.std.proofs.Common.{sym, subst, ap, ◌∙◌, arith}
 use Rattle.std.proofs.lemmas.List.{length-map}
-use Rattle.sat_label.specs.declared.carried.Carried.{Carried}
 use Rattle.sat_label.specs.declared.label.Kind.{Kind}
 use Rattle.sat_label.specs.declared.label.Kind.TheVariants as kind
 use Rattle.sat_label.specs.declared.label.Label.{Label}
@@ -10,21 +9,19 @@ use Rattle.sat_label.specs.declared.node.NodeId.{NodeId}
 use Rattle.sat_label.specs.declared.node.NodeId.TheVariants.{Serializer}
 use Rattle.sat_label.specs.Members.{In}
 use Rattle.sat_label.proofs.Members.{In-get}
-use Rattle.sat_bulk.specs.declared.Payload.{Payload}
-use Rattle.sat_sites.specs.Interested.{Interested, IsLabelOf, IsKindOf}
+use Rattle.sat_bulk.specs.Payloads.{Payload}
+use Rattle.sat_label.specs.Grouped.{list_of}
+use Rattle.sat_sites.specs.Interested.{AreBelow, Interested, IsLabelOf, IsKindOf}
 use Rattle.sat_sites.specs.declared.shape.Shape.{Shape}
 use Rattle.sat_tree.specs.Shape.{TreeShape}
 use Rattle.sat_tree.specs.Cut.{is_edge, IsNode}
 use Rattle.sat_act.specs.declared.act.Act.TheVariants as act
 use Rattle.sat_act.specs.declared.answer.Answer.{Answer}
 use Rattle.sat_act.specs.declared.answer.Answer.TheVariants as ans
-use Rattle.sat_act.specs.declared.answer.Refusal.{Refusal}
 use Rattle.sat_act.specs.declared.answer.Refusal.TheVariants as why
-use Rattle.sat_act.specs.Settling.{is_done}
-use Rattle.sat_laws.proofs.Labels.{some_is}
 use Rattle.sat_act.specs.Deployed.{Deployed}
 use Rattle.sat_act.specs.Limits.{IsDeployment}
-use Rattle.sat_act.specs.Parts.{tree_of}
+use Rattle.sat_act.specs.Parts.{replicates, tree_of}
 use Rattle.sat_act.specs.Ranges.{IsActOf}
 use Rattle.sat_act.proofs.Plans.{tree_in_plans}
 use Rattle.sat_act.proofs.Valid.{is_valid}
@@ -40,17 +37,18 @@ use Rattle.sat_sink.specs.Sink.{ready_of}
 use Rattle.sat_site.specs.declared.input.SiteInput as code
 use Rattle.sat_site.specs.declared.input.SiteInput.TheVariants as input
 use Rattle.sat_site.specs.Seen.{SiteSeen, IsSite}
-use Rattle.sat_site.specs.Changes.{gear_at, shape_for}
+use Rattle.sat_site.specs.Changes.{shape_for}
 use Rattle.sat_site.specs.Inputs.{fits_in}
-use Rattle.sat_site.specs.SiteSteps.{keeps_item, refusal_of, emit_after, emit_answer, emit_sends, site_after, site_answers, site_sends, write_answer, write_refusal}
+use Rattle.sat_site.specs.SiteSteps.{keeps_item, emit_after, emit_answer, emit_sends, site_after, site_answers, site_sends}
+use Rattle.sat_site.proofs.Interests.{keeps-here}
 use Rattle.sat_world.specs.Clocks.{IsGreatest, AreUpTo, AreClocked}
 use Rattle.sat_world.specs.Seen.{WorldSeen, HasSite, HasClient}
 use Rattle.sat_world.specs.Steps.{Goes, StepsAt, Hands, act_at, is_sending, told, net_sent, net_taken, front_to, NetAt, HopsAt, KillsAt, IsNumber}
 use Rattle.sat_world.specs.Worlds.{IsWorld}
-use Rattle.sat_world.proofs.Laws.{each-step, leads-to}
+use Rattle.sat_world.proofs.Laws.{leads-to}
 use Rattle.sat_world.proofs.Lists.{both-are, set-same, there, within}
 use Rattle.sat_world.proofs.Goes.{quiet-goes, use-goes, turn-goes, turn-hands, front-found}
-use Rattle.sat_world.proofs.Hands.{fit-here, site-at, hands-at, sending-plain, write-hands, read-hands, write-none, read-none, write-told, read-told, bulk-hands, bulk-none, IsInLane}
+use Rattle.sat_world.proofs.Hands.{fit-here, site-at, hands-at, sending-plain, read-hands, read-none, read-told, bulk-hands, bulk-none, IsInLane}
 use Rattle.sat_world.proofs.Sends.{send-goes}
 use Rattle.sat_world.proofs.Hops.{IsEdge, hop-goes, kill-goes, clock-goes}
 
@@ -211,7 +209,7 @@ hop-edge w v e u z net is k b at =
     record { node = subst (λ (t : TreeShape). IsNode t u) t a.3; end = Rattle.sat_net.proofs.Edges.edge-within net.tree u z of.net.tree edge; edge = edge }
 
 has-kind : (d : Deployed) (k : Kind) → HasKind d k → IsKindOf (interest_of d) k
-has-kind d (kind.Update x) h = subst (λ (n : ℕ). x < n) (sym (length-map d.items replicas_of)) h
+has-kind d (kind.Update items) h = subst (λ (n : ℕ). AreBelow n (list_of items)) (sym (length-map d.items replicas_of)) h.0
 has-kind d (kind.Move j) h = h
 has-kind d kind.Pulse h = h
 has-kind d (kind.Close e) h = h
@@ -261,29 +259,13 @@ did-kill w v e z r nets is k b h =
     subst (λ (m : ℕ). Goes w (act.Kill m z) r (record w { nets = nets })) (sym (kill-placed w v e z is k b).above)
     (kill-goes w (e - 1) z r nets k.frame h (kill-serializer w v e z h.before is k b h.at))
 
--- ---- write and read
-
-pub write-handed : (w v : WorldSeen) (c i n : ℕ) (value copy : List ℕ) (x : Client) → w ≡ v → IsWorld w → c < length v.deployment.clients → x ≡ get_or w.clients c x → x.seat ≡ Some i → copy ≡ value → Hands w (act.Write c n value) i (input.Write x.carried n copy)
-write-handed w v c i n value copy x e k lt is seat same =
-    subst (λ (u : List ℕ). Hands w (act.Write c n value) i (input.Write x.carried n u)) (sym same) (write-hands w c x i (Rattle.sat_world.proofs.Hands.client-at w v c x e k lt is) seat n value)
-
-pub did-write : (w v : WorldSeen) (c i n : ℕ) (value copy : List ℕ) (x : Client) (r : Answer) (ys : List SiteSeen) (now : List Client) → w ≡ v → IsWorld w → c < length v.deployment.clients → x ≡ get_or w.clients c x → x.seat ≡ Some i → copy ≡ value →
-    StepsAt w.sites i (input.Write x.carried n copy) r ys → ((y : Client) → slice_get w.clients c ≡ Some y → now ≡ set w.clients c (told r y)) → Goes w (act.Write c n value) r (record w { sites = ys; clients = now })
-did-write w v c i n value copy x r ys now e k lt is seat same h tells =
-    let at : HasClient w c x = Rattle.sat_world.proofs.Hands.client-at w v c x e k lt is in
-    let g : StepsAt w.sites i (input.Write x.carried n value) r ys = subst (λ (u : List ℕ). StepsAt w.sites i (input.Write x.carried n u) r ys) same h in
-    use-goes w (act.Write c n value) c x i (input.Write x.carried n value) r ys now k.frame refl refl at (write-told w.sites ys i x.carried n value r g) (write-hands w c x i at seat n value) g (tells x at)
+-- ---- read
 
 pub did-read : (w v : WorldSeen) (c i n : ℕ) (x : Client) (r : Answer) (ys : List SiteSeen) (now : List Client) → w ≡ v → IsWorld w → c < length v.deployment.clients → x ≡ get_or w.clients c x → x.seat ≡ Some i →
     StepsAt w.sites i (input.Read x.carried n) r ys → ((y : Client) → slice_get w.clients c ≡ Some y → now ≡ set w.clients c (told r y)) → Goes w (act.Read c n) r (record w { sites = ys; clients = now })
 did-read w v c i n x r ys now e k lt is seat h tells =
     let at : HasClient w c x = Rattle.sat_world.proofs.Hands.client-at w v c x e k lt is in
     use-goes w (act.Read c n) c x i (input.Read x.carried n) r ys now k.frame refl refl at (read-told w.sites ys i x.carried n r h) (read-hands w c x i at seat n) h (tells x at)
-
-pub did-not-write : (w v : WorldSeen) (c n : ℕ) (value : List ℕ) (x : Client) → w ≡ v → IsWorld w → c < length v.deployment.clients → x ≡ get_or w.clients c x → x.seat ≡ None → Goes v (act.Write c n value) (ans.Refused why.NoSession) v
-did-not-write w v c n value x e k lt is none =
-    let at : HasClient w c x = Rattle.sat_world.proofs.Hands.client-at w v c x e k lt is in
-    subst (λ (v : WorldSeen). Goes v (act.Write c n value) (ans.Refused why.NoSession) v) e (quiet-goes w (act.Write c n value) why.NoSession k.frame (write-none w c x at none n value))
 
 pub did-not-read : (w v : WorldSeen) (c n : ℕ) (x : Client) → w ≡ v → IsWorld w → c < length v.deployment.clients → x ≡ get_or w.clients c x → x.seat ≡ None → Goes v (act.Read c n) (ans.Refused why.NoSession) v
 did-not-read w v c n x e k lt is none =
@@ -346,58 +328,8 @@ seen-client w v c x e k lt is = subst (λ (v : WorldSeen). HasClient v c x) e (R
 pub seen-items : (w v : WorldSeen) (i n : ℕ) (x : SiteSeen) → w ≡ v → IsWorld w → i < v.deployment.sites → x ≡ get_or w.sites i x → n < length v.deployment.items → n < length x.shape.interest.replicas
 seen-items w v i n x e k lt is m = subst (λ (s : Shape). n < length s.interest.replicas) (sym (shape-at w v i x e k lt is)) (subst (λ (l : ℕ). n < l) (sym (length-map v.deployment.items replicas_of)) m)
 
--- ---- a write that the site would refuse
-
--- an answer that is this refusal
-refused-is : (r : Answer) (y : Refusal) → Some y ≡ refusal_of r → ans.Refused y ≡ r
-refused-is (ans.Refused z) y e = ap (λ (z : Refusal). ans.Refused z) (some_is y z e)
-refused-is _ y e = absurd (cc)
-
-write-refused : (z : SiteSeen) (seen : Carried) (n : ℕ) (value : List ℕ) (y : Refusal) → Some y ≡ write_refusal z seen n → ans.Refused y ≡ site_answers z (input.Write seen n value)
-unfolding site_answers
-write-refused z seen n value y e = refused-is (write_answer (keeps_item z n) (slice_get z.gears (gear_at z n)) seen n) y e
-
--- it is handed to no gear, and all stays
-pub did-refuse : (w v : WorldSeen) (c i n : ℕ) (value : List ℕ) (x : Client) (z : SiteSeen) (y : Refusal) → w ≡ v → IsWorld w → IsActOf v.deployment (act.Write c n value) → x ≡ get_or w.clients c x → x.seat ≡ Some i → HasSite w i z → IsSite z → Some y ≡ write_refusal z x.carried n →
-    Goes v (act.Write c n value) (ans.Refused y) v
-did-refuse w v c i n value x z y e k b is seat here sound refused =
-    subst (λ (v : WorldSeen). Goes v (act.Write c n value) (ans.Refused y) v) e
-    (subst (λ (cl : List Client). Goes w (act.Write c n value) (ans.Refused y) (record w { clients = cl })) (set-same w.clients c x at)
-    (use-goes w (act.Write c n value) c x i (input.Write x.carried n value) (ans.Refused y) w.sites (set w.clients c x) k.frame refl refl at refl hands stepped refl))
-  where
-    at : HasClient w c x
-    at = Rattle.sat_world.proofs.Hands.client-at w v c x e k b.0 is
-
-    hands : Hands w (act.Write c n value) i (input.Write x.carried n value)
-    hands = write-hands w c x i at seat n value
-
-    answers : ans.Refused y ≡ site_answers z (input.Write x.carried n value)
-    answers = write-refused z x.carried n value y refused
-
-    fits : fits_in z (input.Write x.carried n value) ≡ true
-    fits = fit-here w v (act.Write c n value) i (input.Write x.carried n value) e k b hands z here sound
-
-    stepped : StepsAt w.sites i (input.Write x.carried n value) (ans.Refused y) w.sites
-    stepped = record {
-      before = z;
-      at = here;
-      sound = sound;
-      fits = fits;
-      answers = answers;
-      rest = sym (ap (set w.sites i) ((each-step z (input.Write x.carried n value) sound fits).refused (ap is_done (sym answers))) ∙ set-same w.sites i z here);
-    }
-
--- the site of a seat, and what is asked of it
-pub seat-items : (w v : WorldSeen) (i n : ℕ) (xs : List SiteSeen) (z : SiteSeen) → w ≡ v → IsWorld w → n < length v.deployment.items → xs ≡ w.sites → slice_get xs i ≡ Some z → n < length z.shape.interest.replicas
-seat-items w v i n xs z e k b same at =
-    let here : HasSite w i z = subst (λ (xs : List SiteSeen). slice_get xs i ≡ Some z) same at in
-    let lt : n < length w.deployment.items = subst (λ (v : WorldSeen). n < length v.deployment.items) (sym e) b in
-    subst (λ (s : Shape). n < length s.interest.replicas) (sym (k.stands.sites i z here).shape) (subst (λ (l : ℕ). n < l) (sym (length-map w.deployment.items replicas_of)) lt)
-
--- the refusal that the code found is that of the client's seat
-pub did-refuse-at : (w v : WorldSeen) (c i n : ℕ) (value : List ℕ) (x : Client) (xs : List SiteSeen) (y : Refusal) (o : Option Refusal) → w ≡ v → IsWorld w → IsActOf v.deployment (act.Write c n value) → x ≡ get_or w.clients c x → x.seat ≡ Some i → xs ≡ w.sites →
-    ((z : SiteSeen) → slice_get xs i ≡ Some z → o ≡ write_refusal z x.carried n) → ((z : SiteSeen) → slice_get xs i ≡ Some z → IsSite z) → o ≡ Some y → Goes v (act.Write c n value) (ans.Refused y) v
-did-refuse-at w v c i n value x xs y o e k b is seat same refuses sound found =
-    let q = there w.sites i (Rattle.sat_world.proofs.Hands.seat-within w c i x k (Rattle.sat_world.proofs.Hands.client-at w v c x e k b.0 is) seat) in
-    let at : slice_get xs i ≡ Some q.0 = subst (λ (xs : List SiteSeen). slice_get xs i ≡ Some q.0) (sym same) q.1 in
-    did-refuse w v c i n value x q.0 y e k b is seat q.1 (sound q.0 at) (sym found ∙ refuses q.0 at)
+-- whether the site keeps an item
+pub seen-keeps : (w v : WorldSeen) (i n : ℕ) (x : SiteSeen) → w ≡ v → IsWorld w → i < v.deployment.sites → x ≡ get_or w.sites i x → keeps_item x n ≡ replicates v.deployment n i
+seen-keeps w v i n x e k lt is =
+    subst (λ (v : WorldSeen). keeps_item x n ≡ replicates v.deployment n i) e
+    (keeps-here w.deployment i x ((world_state w.deployment k.history).sites i) n (k.stands.sites i x (site-at w v i x e k lt is)))

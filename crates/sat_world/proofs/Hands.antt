@@ -1,10 +1,14 @@
 -- What each act at a site hands it, by what the world keeps, and that it fits.
-use Rattle.std.specs.Prelude.{◌≡◌, ◌<◌, ◌^◌, ℕ, Bool, true, false, List, length, get_or, Option, Some, None, slice_get, if◌then◌else◌, refl}
+use Rattle.std.specs.Prelude.{◌≡◌, ◌<◌, ◌^◌, ℕ, Bool, true, false, List, [], ◌∷◌, length, get_or, Option, Some, None, slice_get, if◌then◌else◌, refl}
 use Rattle.std.proofs.Common.{sym, subst, ap, ◌∙◌, arith}
 use Rattle.std.proofs.lemmas.Bool.{and_from, lt-ltb}
 use Rattle.sat_label.proofs.Truth.{same-number}
 use Rattle.sat_label.specs.declared.carried.Carried.{Carried}
-use Rattle.sat_bulk.specs.declared.Payload.{Payload}
+use Rattle.sat_label.specs.declared.items.Items.{Items}
+use Rattle.sat_label.specs.declared.items.Items.TheVariants.{One}
+use Rattle.sat_label.specs.declared.point.Point.{Point}
+use Rattle.sat_label.specs.Grouped.{list_of}
+use Rattle.sat_bulk.specs.Payloads.{Payload}
 use Rattle.sat_act.specs.declared.act.Act.{Act}
 use Rattle.sat_act.specs.declared.act.Act.TheVariants as act
 use Rattle.sat_act.specs.declared.answer.Answer.{Answer}
@@ -13,6 +17,7 @@ use Rattle.sat_act.specs.declared.answer.Refusal.TheVariants as why
 use Rattle.sat_act.specs.declared.entry.Entry.{Entry}
 use Rattle.sat_act.specs.Deployed.{Deployed}
 use Rattle.sat_act.specs.Answers.{at_seat}
+use Rattle.sat_act.specs.Done.{Written, of_client, write_in}
 use Rattle.sat_act.specs.Ranges.{IsActOf}
 use Rattle.sat_act.specs.Runs.{is_settle}
 use Rattle.sat_act.proofs.Valid.{is_valid}
@@ -35,14 +40,14 @@ use Rattle.sat_world.proofs.Laws.{each-fits}
 use Rattle.sat_world.specs.Seen.{WorldSeen, HasSite, HasClient}
 use Rattle.sat_world.specs.Stands.{Stands}
 use Rattle.sat_label.specs.declared.label.Kind.TheVariants as kind
-use Rattle.sat_store.specs.declared.store.Version.{Version}
+use Rattle.sat_label.specs.Versions.{Version}
 use Rattle.sat_gear.specs.Gear.{GearSeen, is_spent, stamped, version_of}
-use Rattle.sat_site.specs.Changes.{gear_at}
-use Rattle.sat_site.specs.SiteSteps.{keeps_item, site_answers, write_answer, stamp_answer_of, read_answer, version_answer}
-use Rattle.sat_laws.proofs.Labels.{seat-range}
-use Rattle.sat_world.proofs.Handles.{is_told}
+use Rattle.sat_site.specs.Changes.{gear_at, gear_for}
+use Rattle.sat_site.specs.SiteSteps.{keeps_each, keeps_item, site_answers, write_answer, stamp_answer_of, read_answer, version_answer}
+use Rattle.sat_laws.proofs.Labels.{seat-range, some_is}
+use Rattle.sat_world.proofs.Handles.{is_still, is_told}
 use Rattle.sat_world.proofs.Lists.{index-at}
-use Rattle.sat_world.specs.Steps.{HandsIn, Hands, StepsAt, act_at, is_local, is_sending, number_at, IsNumber}
+use Rattle.sat_world.specs.Steps.{HandsIn, Hands, StepsAt, act_at, is_local, is_sending, number_at, IsNumber, WritesBy}
 use Rattle.sat_world.specs.TakesNone.{takes_none}
 use Rattle.sat_world.specs.Worlds.{IsWorld}
 
@@ -91,6 +96,48 @@ pub sending-plain : (a : Act) → is_sending a ≡ true → is_settle a ≡ fals
 sending-plain act.Settle e = absurd (cc)
 sending-plain _ e = refl
 
+-- ---- what writes
+
+-- an act that writes is handed to its client's seat
+write-given : (d : Deployed) (s : WorldState) (a : Act) (w : Written) (k : ℕ) → write_in a ≡ Some w → world_given d s a k ≡ given_seat (s.clients w.client).seat k (given.Write (s.clients w.client).carried w.items w.values)
+unfolding world_given
+write-given d s (act.Write c n v) w k e = ap (λ (y : Written). given_seat (s.clients y.client).seat k (given.Write (s.clients y.client).carried y.items y.values)) (some_is (record { client = c; items = One n; values = v ∷ [] }) w e)
+write-given d s (act.Writes c items values) w k e = ap (λ (y : Written). given_seat (s.clients y.client).seat k (given.Write (s.clients y.client).carried y.items y.values)) (some_is (record { client = c; items = items; values = values }) w e)
+write-given d s _ w k e = absurd (cc)
+
+-- and answered there
+write-answers : (d : Deployed) (s : WorldState) (a : Act) (w : Written) → write_in a ≡ Some w → world_answer d s a ≡ at_seat (s.clients w.client).seat (λ i. site_answer d i (s.sites i) (given.Write (s.clients w.client).carried w.items w.values))
+unfolding world_answer
+write-answers d s (act.Write c n v) w e =
+    ap (λ (y : Written). at_seat (s.clients y.client).seat (λ i. site_answer d i (s.sites i) (given.Write (s.clients y.client).carried y.items y.values))) (some_is (record { client = c; items = One n; values = v ∷ [] }) w e)
+write-answers d s (act.Writes c items values) w e =
+    ap (λ (y : Written). at_seat (s.clients y.client).seat (λ i. site_answer d i (s.sites i) (given.Write (s.clients y.client).carried y.items y.values))) (some_is (record { client = c; items = items; values = values }) w e)
+write-answers d s _ w e = absurd (cc)
+
+-- it is its client's, no settle, and shows nothing
+pub write-of : (a : Act) (w : Written) → write_in a ≡ Some w → of_client a ≡ Some w.client
+write-of (act.Write c n v) w e = ap (λ (y : Written). Some y.client) (some_is (record { client = c; items = One n; values = v ∷ [] }) w e)
+write-of (act.Writes c items values) w e = ap (λ (y : Written). Some y.client) (some_is (record { client = c; items = items; values = values }) w e)
+write-of _ w e = absurd (cc)
+
+pub write-plain : (a : Act) (w : Written) → write_in a ≡ Some w → is_settle a ≡ false
+write-plain act.Settle w e = absurd (cc)
+write-plain _ w e = refl
+
+pub write-still : (a : Act) (w : Written) → write_in a ≡ Some w → is_still a ≡ true
+write-still (act.Write c n v) w e = refl
+write-still (act.Writes c items values) w e = refl
+write-still _ w e = absurd (cc)
+
+-- the client is one of the deployment's
+client-known : (d : Deployed) (a : Act) (w : Written) → write_in a ≡ Some w → IsActOf d a → w.client < length d.clients
+client-known d (act.Write c n v) w e k = subst (λ (y : Written). y.client < length d.clients) (some_is (record { client = c; items = One n; values = v ∷ [] }) w e) k.0
+client-known d (act.Writes c items values) w e k = subst (λ (y : Written). y.client < length d.clients) (some_is (record { client = c; items = items; values = values }) w e) k.0
+client-known d _ w e k = absurd (cc)
+
+pub write-client : (d : Deployed) (c : ℕ) (items : Items) (values : List (List ℕ)) (a : Act) → WritesBy d c items values a → c < length d.clients
+write-client d c items values a h = client-known d a (record { client = c; items = items; values = values }) h.writes h.act
+
 -- a client's write and read, at its seat
 module _ (w : WorldSeen) (c : ℕ) (x : Client) (i : ℕ) (at : HasClient w c x) (seat : x.seat ≡ Some i) where
   pub seated : (s : WorldState) → Stands w s → (s.clients c).seat ≡ Some i
@@ -99,12 +146,11 @@ module _ (w : WorldSeen) (c : ℕ) (x : Client) (i : ℕ) (at : HasClient w c x)
   pub carries : (s : WorldState) → Stands w s → (s.clients c).carried ≡ x.carried
   carries s st = sym (st.clients c x at).carried
 
-  pub write-hands : (n : ℕ) (value : List ℕ) → Hands w (act.Write c n value) i (input.Write x.carried n value)
-  unfolding world_given world_answer
-  write-hands n value = record {
+  pub write-hands : (a : Act) (items : Items) (values : List (List ℕ)) → write_in a ≡ Some (record { client = c; items = items; values = values }) → Hands w a i (input.Write x.carried items values)
+  write-hands a items values e = record {
     hands = λ s st. record {
-      given = λ k j. given_seat (seated s st j) k (given.Write (carries s st j) n value);
-      answer = λ j. at_seat (seated s st j) (λ i. site_answer w.deployment i (s.sites i) (given.Write (carries s st j) n value));
+      given = λ k. write-given w.deployment s a (record { client = c; items = items; values = values }) k e ∙ (λ j. given_seat (seated s st j) k (given.Write (carries s st j) items values));
+      answer = write-answers w.deployment s a (record { client = c; items = items; values = values }) e ∙ (λ j. at_seat (seated s st j) (λ i. site_answer w.deployment i (s.sites i) (given.Write (carries s st j) items values)));
     };
     sized = λ x at. refl;
   }
@@ -124,9 +170,11 @@ module _ (w : WorldSeen) (c : ℕ) (x : Client) (at : HasClient w c x) (none : x
   pub unseated : (s : WorldState) → Stands w s → (s.clients c).seat ≡ None
   unseated s st = sym (st.clients c x at).seat ∙ none
 
-  pub write-none : (n : ℕ) (value : List ℕ) (s : WorldState) → Stands w s → (ans.Refused why.NoSession ≡ world_answer w.deployment s (act.Write c n value)) × ((k : ℕ) → world_given w.deployment s (act.Write c n value) k ≡ None)
-  unfolding world_given world_answer
-  write-none n value s st = (sym (λ j. at_seat (unseated s st j) (λ i. site_answer w.deployment i (s.sites i) (given.Write (s.clients c).carried n value))), λ k j. given_seat (unseated s st j) k (given.Write (s.clients c).carried n value))
+  pub write-none : (a : Act) (items : Items) (values : List (List ℕ)) → write_in a ≡ Some (record { client = c; items = items; values = values }) → (s : WorldState) → Stands w s → (ans.Refused why.NoSession ≡ world_answer w.deployment s a) × ((k : ℕ) → world_given w.deployment s a k ≡ None)
+  write-none a items values e s st = (
+    sym (write-answers w.deployment s a (record { client = c; items = items; values = values }) e ∙ (λ j. at_seat (unseated s st j) (λ i. site_answer w.deployment i (s.sites i) (given.Write (s.clients c).carried items values)))),
+    λ k. write-given w.deployment s a (record { client = c; items = items; values = values }) k e ∙ (λ j. given_seat (unseated s st j) k (given.Write (s.clients c).carried items values)),
+  )
 
   pub read-none : (n : ℕ) (s : WorldState) → Stands w s → (ans.Refused why.NoSession ≡ world_answer w.deployment s (act.Read c n)) × ((k : ℕ) → world_given w.deployment s (act.Read c n) k ≡ None)
   unfolding world_given world_answer
@@ -189,12 +237,12 @@ seat-within w c i x k at e =
     let a : length w.sites ≡ w.deployment.sites = k.frame.sites in omega arith
 
 -- what a write or a read answers is told to its client
-write-tells : (b : Bool) (o : Option GearSeen) (seen : Carried) (n : ℕ) → is_told (write_answer b o seen n) ≡ true
-write-tells false o seen n = refl
-write-tells true None seen n = refl
-write-tells true (Some gear) seen n = go (is_spent gear seen.point)
+write-tells : (b : Bool) (o : Option GearSeen) (p : Point) (items : Items) → is_told (write_answer b o p items) ≡ true
+write-tells false o p items = refl
+write-tells true None p items = refl
+write-tells true (Some gear) p items = go (is_spent gear p)
   where
-    go : (b : Bool) → is_told (stamp_answer_of b (stamped gear seen.point (kind.Update n))) ≡ true
+    go : (b : Bool) → is_told (stamp_answer_of b (stamped gear p (kind.Update items))) ≡ true
     go true = refl
     go false = refl
 
@@ -207,9 +255,9 @@ read-tells true (Some gear) n = go (version_of gear n)
     go None = refl
     go (Some v) = refl
 
-pub write-told : (xs ys : List SiteSeen) (i : ℕ) (seen : Carried) (n : ℕ) (value : List ℕ) (r : Answer) → StepsAt xs i (input.Write seen n value) r ys → is_told r ≡ true
+pub write-told : (xs ys : List SiteSeen) (i : ℕ) (seen : Carried) (items : Items) (values : List (List ℕ)) (r : Answer) → StepsAt xs i (input.Write seen items values) r ys → is_told r ≡ true
 unfolding site_answers
-write-told xs ys i seen n value r h = ap is_told h.answers ∙ write-tells (keeps_item h.before n) (slice_get h.before.gears (gear_at h.before n)) seen n
+write-told xs ys i seen items values r h = ap is_told h.answers ∙ write-tells (keeps_each h.before (list_of items)) (slice_get h.before.gears (gear_for h.before items)) seen.point items
 
 pub read-told : (xs ys : List SiteSeen) (i : ℕ) (seen : Carried) (n : ℕ) (r : Answer) → StepsAt xs i (input.Read seen n) r ys → is_told r ≡ true
 unfolding site_answers

@@ -19,7 +19,7 @@ use Rattle.sat_act.specs.Parts.{tree_of, lane, brought, entered, taken}
 use Rattle.sat_act.specs.Runs.{IsRun}
 use Rattle.sat_act.specs.Settling.{capped}
 use Rattle.sat_act.proofs.Valid.{is_valid}
-use Rattle.sat_bulk.specs.declared.Payload.{Payload}
+use Rattle.sat_bulk.specs.Payloads.{Payload}
 use Rattle.sat_bulk.specs.Windows.{has_number}
 use Rattle.sat_machine.specs.Parts.{valued}
 use Rattle.sat_machine.specs.State.{SiteState}

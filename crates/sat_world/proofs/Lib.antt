@@ -16,6 +16,7 @@ pub mod Seats
 pub mod Deeds
 pub mod Runs
 pub mod Counted
+pub mod Writing
 pub mod Fresh
 pub mod Shown
 pub mod Clocked

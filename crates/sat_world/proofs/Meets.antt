@@ -15,6 +15,7 @@ home-is d c o e = ap (λ (o : Option ClientLine). elim o [ None ↦ None | Some 
 
 pub in-range : (d : Deployed) (a : Act) → IsActOf d a → InRange d a
 in-range d (act.Tick i g t) k = k
+in-range d (act.Writes c items values) k = (k.1.values_all, k.1.order)
 in-range d (act.Move c j) k = k.1
 in-range d (act.Attach c j) k = k.1
 in-range d (act.Gather i) k = k

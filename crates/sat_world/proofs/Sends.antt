@@ -9,7 +9,8 @@ use Rattle.sat_label.specs.declared.label.Kind.TheVariants as kind
 use Rattle.sat_label.specs.declared.label.Label.{Label}
 use Rattle.sat_label.specs.declared.node.NodeId.{NodeId}
 use Rattle.sat_label.specs.declared.node.NodeId.TheVariants.{Site, Serializer}
-use Rattle.sat_sites.specs.Interested.{Interested, is_for, keeps as kept}
+use Rattle.sat_sites.specs.Interested.{Interested, is_for, keeps_one}
+use Rattle.sat_label.specs.Grouped.{list_of}
 use Rattle.sat_sites.specs.declared.shape.Shape.{Shape}
 use Rattle.sat_tree.specs.Cut.{seat_of}
 use Rattle.sat_act.specs.declared.act.Act.{Act}
@@ -129,11 +130,11 @@ not-own a l i b f = ap (λ (j : ℕ). b && not (i == j)) f ∙ (ap (λ (c : Bool
 
 pulse-not : (a : Interested) (l : Label) (i : ℕ) → l.kind ≡ kind.Pulse → l.point.site ≡ i → is_for a l i ≡ false
 unfolding is_for
-pulse-not a l i e f = ap (λ (k : Kind). elim k [ kind.Update x ↦ kept a x i && not (i == l.point.site) | kind.Move j ↦ i == j | kind.Pulse ↦ nat_lt i a.sites && not (i == l.point.site) | kind.Close e ↦ nat_lt i a.sites && not (i == l.point.site) ]) e ∙ not-own a l i (nat_lt i a.sites) f
+pulse-not a l i e f = ap (λ (k : Kind). elim k [ kind.Update items ↦ keeps_one a (list_of items) i && not (i == l.point.site) | kind.Move j ↦ i == j | kind.Pulse ↦ nat_lt i a.sites && not (i == l.point.site) | kind.Close e ↦ nat_lt i a.sites && not (i == l.point.site) ]) e ∙ not-own a l i (nat_lt i a.sites) f
 
 close-not : (a : Interested) (l : Label) (i e : ℕ) → l.kind ≡ kind.Close e → l.point.site ≡ i → is_for a l i ≡ false
 unfolding is_for
-close-not a l i n e f = ap (λ (k : Kind). elim k [ kind.Update x ↦ kept a x i && not (i == l.point.site) | kind.Move j ↦ i == j | kind.Pulse ↦ nat_lt i a.sites && not (i == l.point.site) | kind.Close e ↦ nat_lt i a.sites && not (i == l.point.site) ]) e ∙ not-own a l i (nat_lt i a.sites) f
+close-not a l i n e f = ap (λ (k : Kind). elim k [ kind.Update items ↦ keeps_one a (list_of items) i && not (i == l.point.site) | kind.Move j ↦ i == j | kind.Pulse ↦ nat_lt i a.sites && not (i == l.point.site) | kind.Close e ↦ nat_lt i a.sites && not (i == l.point.site) ]) e ∙ not-own a l i (nat_lt i a.sites) f
 
 -- a label of the sink is one that the site made
 ready-here : (x : SiteSeen) (l : Label) → IsSite x → ready_of x.sink ≡ Some l → IsMadeHere x.shape l

@@ -1,5 +1,5 @@
 -- What a world shows, and the world in which nothing has happened.
-use Rattle.std.specs.Prelude.{◌≡◌, ◌≤◌, ◌+◌, ◌-◌, ℕ, false, List, [], length, map, Option, Some, None, slice_get, refl}
+use Rattle.std.specs.Prelude.{◌≡◌, ◌≤◌, ◌+◌, ◌-◌, ℕ, true, false, List, [], length, map, Option, Some, None, slice_get, refl}
 use Rattle.std.proofs.Common.{sym, subst, ap, ◌∙◌, arith, Bor, MatchOption}
 use Rattle.std.proofs.lemmas.List.{length-map}
 use Rattle.sat_label.specs.declared.carried.Carried.{Carried}
@@ -14,12 +14,13 @@ use Rattle.sat_act.specs.Runs.{IsRun}
 use Rattle.sat_act.specs.declared.deployment.Plan.{Plan}
 use Rattle.sat_act.specs.declared.deployment.Plan.TheVariants as plan
 use Rattle.sat_act.proofs.Plans.{tree_from_plans}
-use Rattle.sat_act.specs.Parts.{planned_tree, tree_of, view, emission, in_stamp_mode, waiting, version, value_of, carried, moving, seat}
+use Rattle.sat_act.specs.Parts.{planned_tree, tree_of, view, emission, in_stamp_mode, waiting, replicates, version, value_of, carried, moving, seat}
 use Rattle.sat_act.proofs.Valid.{is_valid}
 use Rattle.sat_laws.proofs.Labels.{some_is}
-use Rattle.sat_bulk.specs.declared.Payload.{Payload}
-use Rattle.sat_store.specs.declared.store.Version.{Version}
-use Rattle.sat_machine.specs.State.{SiteState}
+use Rattle.sat_bulk.specs.Payloads.{Payload}
+use Rattle.sat_label.specs.Versions.{Version}
+use Rattle.sat_machine.specs.State.{SiteState, Version as VersionSeen}
+use Rattle.sat_machine.specs.Next.{version_at}
 use Rattle.sat_machine.specs.Look.{mode_of}
 use Rattle.sat_machine.specs.World.{world_state}
 use Rattle.sat_machine.proofs.Worlds.{world-starts}
@@ -33,7 +34,7 @@ use Rattle.sat_net.specs.Nets.{NetSeen, fresh_net}
 use Rattle.sat_net.specs.NetStands.{StandsNet}
 use Rattle.sat_world.proofs.Laws.{starts}
 use Rattle.sat_world.proofs.Laws.{net-fresh}
-use Rattle.sat_site.specs.Stands.{StandsSite, payload_of as of_version}
+use Rattle.sat_site.specs.Stands.{StandsSite, version_seen}
 use Rattle.sat_site.specs.declared.output.SiteView.{SiteView}
 use Rattle.sat_client.specs.declared.client.Client.{Client}
 use Rattle.sat_world.specs.Seen.{WorldSeen, HasSite, HasClient}
@@ -69,26 +70,27 @@ module _ (w : WorldSeen) (h : List Entry) (i : ℕ) (x : SiteSeen) (v : SiteView
   unfolding world_state
   shows-waiting k = ap (λ (v : SiteView). v.waiting) (is _ _ _ (st.parts.sites i x at)) ∙ (ap (λ (ps : List Payload). length ps) (pool-agrees w.deployment h i (is_valid w.deployment k) run) ∙ length-map (waiting h i) (valued h))
 
-none-stored : (h : List Entry) (o : Option Label) → valued_version h o ≡ None → o ≡ None
-none-stored h None e = refl
-none-stored h (Some l) e = absurd (cc)
+none-stored : (h : List Entry) (n : ℕ) (o : Option Label) → valued_version h n o ≡ None → o ≡ None
+none-stored h n None e = refl
+none-stored h n (Some l) e = absurd (cc)
 
-some-stored : (h : List Entry) (o : Option Label) (v : Version) → valued_version h o ≡ of_version (Some v) → (o ≡ Some v.label) × (value_of h v.label ≡ v.value)
-some-stored h None v e = absurd (cc)
-some-stored h (Some l) v e =
-    let p : valued h l ≡ record { label = v.label; value = v.value } = some_is _ _ e in
-    let q : l ≡ v.label = ap (λ (p : Payload). p.label) p in
-    (ap (λ (l : Label). Some l) q, sym (ap (value_of h) q) ∙ ap (λ (p : Payload). p.value) p)
+some-stored : (h : List Entry) (n : ℕ) (o : Option Label) (v : Version) → valued_version h n o ≡ version_seen (Some v) → (o ≡ Some v.label) × (value_of h v.label n ≡ v.value)
+some-stored h n None v e = absurd (cc)
+some-stored h n (Some l) v e =
+    let p : version_at l (value_of h l n) ≡ record { label = v.label; value = v.value } = some_is _ _ e in
+    let q : l ≡ v.label = ap (λ (p : VersionSeen). p.label) p in
+    (ap (λ (l : Label). Some l) q, sym (ap (λ (l : Label). value_of h l n) q) ∙ ap (λ (p : VersionSeen). p.value) p)
 
+-- the version of an item at a site that keeps it
 abbrev pub ShowsVersion : SiteSeen → ℕ → Option (Bor Version) → Type 0
-ShowsVersion x n r = (d : Deployed) (i : ℕ) (s : SiteState) → StandsSite d i x s → MatchOption r (s.store n ≡ None) (λ v. s.store n ≡ of_version (Some v.now))
+ShowsVersion x n r = (d : Deployed) (i : ℕ) (s : SiteState) → StandsSite d i x s → replicates d n i ≡ true → MatchOption r (s.store n ≡ None) (λ v. s.store n ≡ version_seen (Some v.now))
 
-pub shows-version : (w : WorldSeen) (h : List Entry) (i n : ℕ) (x : SiteSeen) (r : Option (Bor Version)) → IsDeployment w.deployment → IsRun w.deployment h → StandsFor w h → HasSite w i x → ShowsVersion x n r →
+pub shows-version : (w : WorldSeen) (h : List Entry) (i n : ℕ) (x : SiteSeen) (r : Option (Bor Version)) → IsDeployment w.deployment → IsRun w.deployment h → StandsFor w h → HasSite w i x → replicates w.deployment n i ≡ true → ShowsVersion x n r →
     MatchOption r (version h i n ≡ None) (λ v. IsVersion h i n v.now)
 unfolding world_state
-shows-version w h i n x None k run st at is = none-stored h (version h i n) (sym (store-agrees w.deployment h i n (is_valid w.deployment k) run) ∙ is _ _ _ (st.parts.sites i x at))
-shows-version w h i n x (Some v) k run st at is =
-    let p = some-stored h (version h i n) v.now (sym (store-agrees w.deployment h i n (is_valid w.deployment k) run) ∙ is _ _ _ (st.parts.sites i x at)) in
+shows-version w h i n x None k run st at kept is = none-stored h n (version h i n) (sym (store-agrees w.deployment h i n (is_valid w.deployment k) run) ∙ is _ _ _ (st.parts.sites i x at) kept)
+shows-version w h i n x (Some v) k run st at kept is =
+    let p = some-stored h n (version h i n) v.now (sym (store-agrees w.deployment h i n (is_valid w.deployment k) run) ∙ is _ _ _ (st.parts.sites i x at) kept) in
     record { label = p.0; value = p.1 }
 
 -- what a client of the world carries, and its seat

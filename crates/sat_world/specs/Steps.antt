@@ -1,5 +1,6 @@
 -- What the acts of a world answer and do.
 use Rattle.std.specs.Prelude.{ℕ, ◌≡◌, Bool, true, false, List, set, Option, Some, None, slice_get}
+use Rattle.sat_label.specs.declared.items.Items.{Items}
 use Rattle.sat_label.specs.declared.label.Label.{Label}
 use Rattle.sat_label.specs.declared.node.NodeId.{NodeId}
 use Rattle.sat_label.specs.declared.node.NodeId.TheVariants.{Site, Serializer}
@@ -12,6 +13,8 @@ use Rattle.sat_act.specs.declared.act.Act.TheVariants as act
 use Rattle.sat_act.specs.declared.answer.Answer.{Answer}
 use Rattle.sat_act.specs.declared.answer.Answer.TheVariants as ans
 use Rattle.sat_act.specs.Deployed.{Deployed}
+use Rattle.sat_act.specs.Done.{write_in}
+use Rattle.sat_act.specs.Ranges.{IsActOf}
 use Rattle.sat_act.specs.Settling.{is_done}
 use Rattle.sat_serial.specs.Routes.{routes}
 use Rattle.sat_client.specs.declared.client.Client.{Client}
@@ -119,6 +122,11 @@ is_sending (act.Close i) = true
 is_sending _ = false
 
 -- ---- clients
+
+-- an act of the deployment by which a client writes some items, one of them or several, with a value for each
+pub record WritesBy (d : Deployed) (c : ℕ) (items : Items) (values : List (List ℕ)) (a : Act) : Type 0 where
+  pub writes : write_in a ≡ Some (record { client = c; items = items; values = values })
+  pub act : IsActOf d a
 
 -- what an answer to a write, a read or a move makes of the client
 abbrev pub told : Answer → Client → Client

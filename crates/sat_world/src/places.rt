@@ -4,14 +4,13 @@ ghost use Rattle.sat_client.specs.declared.client.Client.{Client as ClientSeen};
 ghost use Rattle.sat_client.specs.Clients.{after_leave};
 ghost use Rattle.sat_site.specs.Seen.{SiteSeen, IsSite};
 ghost use Rattle.sat_site.specs.Inputs.{fits_in, takes_none};
-ghost use Rattle.sat_site.specs.SiteSteps.{write_refusal};
 ghost use Rattle.sat_sink.specs.Sink.{ready_of};
 ghost use Rattle.sat_world.specs.Steps.{StepsAt, told, joined, IsNumber, MayTell};
 
-use sat_act::{Answer, Refusal};
+use sat_act::Answer;
 use sat_bulk::Payload;
 use sat_client::Client;
-use sat_label::{Carried, Label, Value};
+use sat_label::{Carried, Items, Label, Value};
 use sat_site::{Site, SiteInput};
 use std::alloc::AllocError;
 
@@ -47,22 +46,22 @@ pub fn tick_at(sites: &mut Vec<Site>, place: u16, gear: u16, ts: u64) -> Answer
     Answer::Ticked(site.tick(gear, ts))
 }
 
-/// Hands a site a client's write. For want of memory the sites are as before.
+/// Hands a site a client's write of items, each with its value. For want of memory the sites are as before.
 pub fn write_at(
     sites: &mut Vec<Site>,
     place: u16,
     carried: Carried,
-    item: u16,
-    value: Value,
+    items: Items,
+    values: &[Value],
 ) -> Result<Answer, AllocError>
     requires within { place < length sites.old.items }
-    requires fits { (x : SiteSeen) → slice_get sites.old.items place ≡ Some x → IsSite x → fits_in x (SiteInput.Write carried item value) ≡ true }
-    ensures ok { IfOk result (λ answer. StepsAt sites.old.items place (SiteInput.Write carried item value) answer sites.new.items) }
+    requires fits { (x : SiteSeen) → slice_get sites.old.items place ≡ Some x → IsSite x → fits_in x (SiteInput.Write carried items values.now) ≡ true }
+    ensures ok { IfOk result (λ answer. StepsAt sites.old.items place (SiteInput.Write carried items values.now) answer sites.new.items) }
     ensures err { OnErr result (sites.new.items ≡ sites.old.items) }
 {
     let site = &mut sites[place as usize];
     sound(site);
-    let answer = site.write(carried, item, value)?;
+    let answer = site.write(carried, items, values)?;
     Ok(answer)
 }
 
@@ -143,17 +142,6 @@ pub fn payload_number(receiver: &Site, from: u16, gear: u16, asked: Option<u64>)
         Some(number) => number,
         None => receiver.front(from, gear),
     }
-}
-
-/// Why a site would refuse a client's write, None where it would not.
-pub fn write_refusal_at(sites: &[Site], place: u16, carried: &Carried, item: u16) -> Option<Refusal>
-    requires within { place < length sites.now }
-    requires item { (x : SiteSeen) → slice_get sites.now place ≡ Some x → item < length x.shape.interest.replicas }
-    ensures refusal { (x : SiteSeen) → slice_get sites.now place ≡ Some x → result ≡ write_refusal x carried.now item }
-    ensures sound { (x : SiteSeen) → slice_get sites.now place ≡ Some x → IsSite x }
-{
-    let site = &sites[place as usize];
-    site.write_refusal(carried, item)
 }
 
 fn tell(client: &mut Client, answer: &Answer)

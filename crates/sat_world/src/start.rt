@@ -1,21 +1,24 @@
 //! The parts of a world in which nothing has happened.
 ghost use Rattle.std.specs.Prelude.{ℕ, ◌≡◌, ◌<◌, [], length, map, slice_get, Some, IfOk};
 ghost use Rattle.sat_act.specs.declared.deployment.Plan.{Plan as PlanSeen};
+ghost use Rattle.sat_machine.specs.Interests.{interest_of};
 ghost use Rattle.sat_world.specs.Starts.{AreFresh, fresh_for, seated};
 
 use sat_act::{Deployment, Plan};
 use sat_client::Client;
 use sat_net::Net;
 use sat_site::Site;
+use sat_sites::Interest;
 use std::alloc::{AllocError, Global};
 
-/// The sites.
-pub fn sites(alloc: Global, d: &Deployment) -> Result<Vec<Site>, AllocError>
+/// The sites, which share the table of which sites keep which items.
+pub fn sites(alloc: Global, d: &Deployment, interest: &Interest) -> Result<Vec<Site>, AllocError>
+    requires { interest.now ≡ interest_of d.now }
     ensures { IfOk result (λ sites. AreFresh d.now d.now.sites sites.items) }
 {
     let mut sites = Vec::new(alloc);
     for site in 0..d.sites() {
-        sites.push(Site::new(alloc, d, site)?)?;
+        sites.push(Site::sharing(alloc, d, interest, site)?)?;
     }
     Ok(sites)
 }

@@ -1,24 +1,25 @@
 //! The world of all acts but a settle.
-ghost use Rattle.std.specs.Prelude.{◌≡◌, ◌<◌, ℕ, true, false, List, [], ◌∷◌, length, slice_get, IfOk, OnErr, IsOk, MatchOption, Some, None};
+ghost use Rattle.std.specs.Prelude.{◌≡◌, ◌<◌, ℕ, true, false, List, [], ◌∷◌, length, slice_get, IfOk, IsNone, OnErr, IsOk, MatchOption, Some, None};
+ghost use Rattle.sat_act.specs.declared.act.Act.{Act as ActSeen};
 ghost use Rattle.sat_act.specs.declared.entry.Entry.{Entry};
 ghost use Rattle.sat_act.specs.Answers.{answer};
 ghost use Rattle.sat_act.specs.Runs.{IsRun, is_settle};
 ghost use Rattle.sat_act.specs.Ranges.{IsActOf};
 ghost use Rattle.sat_act.specs.Settling.{is_done, capped};
 ghost use Rattle.sat_act.specs.Headline.{IsGood};
-ghost use Rattle.sat_act.specs.Parts.{view, emission, in_stamp_mode, waiting, version, value_of, carried, moving, seat};
+ghost use Rattle.sat_act.specs.Parts.{view, emission, in_stamp_mode, waiting, replicates, version, carried, moving, seat};
 ghost use Rattle.sat_world.specs.TakesNone.{takes_none};
 ghost use Rattle.sat_world.specs.Counts.{counted, shown_count};
 ghost use Rattle.sat_world.specs.Underway.{underway};
 ghost use Rattle.sat_world.specs.Applies.{Applies};
-ghost use Rattle.sat_world.specs.Steps.{act_at, is_quiet};
+ghost use Rattle.sat_world.specs.Steps.{act_at, is_quiet, WritesBy};
 ghost use Rattle.sat_world.specs.Worlds.{IsWorld};
 ghost use Rattle.sat_world.specs.Shows.{IsVersion};
 ghost use Rattle.sat_world.specs.Stands.{StandsFor};
 
 use crate::{Client, SiteView, Version, clocks, nets, places, start, underway};
 use sat_act::{Act, Answer, Deployment, Refusal};
-use sat_label::{NodeId, Value};
+use sat_label::{Items, NodeId, Value, Values};
 use sat_net::Net;
 use sat_site::{Site, SiteInput, interest};
 use sat_sites::Interest;
@@ -64,7 +65,7 @@ impl World {
         ensures stands { IfOk result (λ w. StandsFor w []) }
     {
         let interest = interest(alloc, &d)?;
-        let sites = start::sites(alloc, &d)?;
+        let sites = start::sites(alloc, &d, &interest)?;
         let nets = start::nets(alloc, d.plans())?;
         let clients = start::clients(alloc, &d)?;
         Ok(World {
@@ -119,11 +120,13 @@ impl World {
         site.view()
     }
 
-    /// The version of an item at a site, None where the site shows none. It takes no memory.
+    /// The version of an item at a site that keeps it, None where the site shows none. At a site that does not keep it there is
+    /// none, also where the site shows an update that has it. It takes no memory.
     pub fn version(&self, i: u16, item: u16) -> Option<&Version>
         requires site { i < self.now.deployment.sites }
         requires item { item < length self.now.deployment.items }
-        ensures { (h : List Entry) → IsRun self.now.deployment h → StandsFor self.now h → MatchOption result (version h i item ≡ None) (λ v. IsVersion h i item v.now) }
+        ensures kept { (h : List Entry) → IsRun self.now.deployment h → StandsFor self.now h → replicates self.now.deployment item i ≡ true → MatchOption result (version h i item ≡ None) (λ v. IsVersion h i item v.now) }
+        ensures away { replicates self.now.deployment item i ≡ false → IsNone result }
     {
         let site = &self.sites[i as usize];
         site.version(item)
@@ -174,6 +177,11 @@ impl World {
                 item,
                 value,
             } => self.write(*client, *item, value),
+            Act::Writes {
+                client,
+                items,
+                values,
+            } => self.writes(*client, items, values),
             Act::Read { client, item } => self.read(*client, *item),
             Act::Move { client, site } => self.migrate(*client, *site),
             Act::Leave { client } => self.leave(*client),
@@ -309,22 +317,45 @@ impl World {
         Ok(Answer::Clocked(ts))
     }
 
-    /// A client's write, as `apply` does it. The value is copied where the write is done.
+    /// A client's write, as `apply` does it. The value is copied where the site does it.
     pub fn write(&mut self, client: u16, item: u16, value: &Value) -> Result<Answer, AllocError>
         requires { IsActOf self.old.deployment (Act.Write client item value.now) }
         ensures applies { IfOk result (λ r. Applies self.old (Act.Write client item value.now) r self.new) }
+        ensures err { OnErr result (self.new ≡ self.old) }
+    {
+        self.write_items(client, Items::One(item), std::slice::from_ref(value))
+    }
+
+    /// A client's write of several items under one label, as `apply` does it. The values are copied where the site does it.
+    pub fn writes(
+        &mut self,
+        client: u16,
+        items: &Items,
+        values: &Values,
+    ) -> Result<Answer, AllocError>
+        requires { IsActOf self.old.deployment (Act.Writes client items.now values.now) }
+        ensures applies { IfOk result (λ r. Applies self.old (Act.Writes client items.now values.now) r self.new) }
+        ensures err { OnErr result (self.new ≡ self.old) }
+    {
+        self.write_items(client, *items, values.as_slice())
+    }
+
+    // A client's write of one item or several, by what the act writes.
+    fn write_items(
+        &mut self,
+        client: u16,
+        items: Items,
+        values: &[Value],
+    ) -> Result<Answer, AllocError>
+        requires { (a : ActSeen) × WritesBy self.old.deployment client items values.now a }
+        ensures applies { IfOk result (λ r. (a : ActSeen) → WritesBy self.old.deployment client items values.now a → Applies self.old a r self.new) }
         ensures err { OnErr result (self.new ≡ self.old) }
     {
         let known = self.clients[client as usize];
         let Some(seat) = known.seat else {
             return Ok(Answer::Refused(Refusal::NoSession));
         };
-        let refusal = places::write_refusal_at(&self.sites, seat, &known.carried, item);
-        if let Some(refusal) = refusal {
-            return Ok(Answer::Refused(refusal));
-        }
-        let value = value.copy()?;
-        let answer = places::write_at(&mut self.sites, seat, known.carried, item, value)?;
+        let answer = places::write_at(&mut self.sites, seat, known.carried, items, values)?;
         places::tell_at(&mut self.clients, client, &answer);
         Ok(answer)
     }

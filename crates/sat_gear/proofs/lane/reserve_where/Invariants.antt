@@ -1,4 +1,4 @@
-use Rattle.std.proofs.Common.{ℕ, ◌≡◌, ◌-◌, map}
+use Rattle.std.proofs.Common.{◌≡◌, ◌-◌, map}
 use Rattle.sat_label.specs.Words.{bit}
 use Rattle.sat_queue.specs.Queued.{members_of}
 use Rattle.sat_gear.specs.Lanes.{HaveRoomWhere}

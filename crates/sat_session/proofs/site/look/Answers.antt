@@ -12,7 +12,7 @@ returns-in_default g c =
     let state = replay (site_meaning d) node.name node.entries in
     let machine = subst (λ z. Stands d z.name z.machine (replay (site_meaning d) z.name z.entries)) c.node.ensures.node c.machine-machine.ensures.stands in
     let same = c.site.ensures ∙ (c.machine-machine.ensures.machine ∙ ap (λ z. z.machine) c.node.ensures.node) in
-    looked_none d node.name c.site.result.now state c.args.item (subst (λ (x : SiteSeen). Stands d node.name x state) (sym same) machine) c.in_default.ensures
+    looked_none d node.name c.site.result.now state c.args.item (subst (λ (x : SiteSeen). Stands d node.name x state) (sym same) machine) c.in_default.ensures.kept
 
 pub returns : goal.returns
 returns g c =
@@ -21,5 +21,5 @@ returns g c =
     let state = replay (site_meaning d) node.name node.entries in
     let machine = subst (λ z. Stands d z.name z.machine (replay (site_meaning d) z.name z.entries)) c.node.ensures.node c.machine-machine.ensures.stands in
     let same = c.site.ensures ∙ (c.machine-machine.ensures.machine ∙ ap (λ z. z.machine) c.node.ensures.node) in
-    looked_some d node.name c.site.result.now state c.args.item c.in-Some.version.now c.in_ok-value.value c.sites-sites.result (subst (λ (x : SiteSeen). Stands d node.name x state) (sym same) machine) c.in-Some.ensures
-    c.in_ok-value.ensures c.if-version-gt-TS_END.false c.if-version-sites.false c.sites-sites.ensures.sites
+    looked_some d node.name c.site.result.now state c.args.item c.in-Some.version.now c.label-label.result c.in_ok-value.value c.sites-sites.result (subst (λ (x : SiteSeen). Stands d node.name x state) (sym same) machine) c.in-Some.ensures.kept
+    c.label-label.ensures (c.in_ok-value.ensures ∙ c.value.ensures) c.if-label-gt-TS_END.false c.if-label-sites.false c.sites-sites.ensures.sites

@@ -1,6 +1,6 @@
 use Rattle.std.proofs.Common.{ℕ, ap, ◌∙◌, List, map, sym}
 use Rattle.sat_label.specs.Words.{bit}
-use Rattle.sat_bulk.specs.declared.Payload.{Payload}
+use Rattle.sat_bulk.specs.Payloads.{Payload}
 use Rattle.sat_queue.specs.Queued.{Queued, members_of}
 use Rattle.sat_gear.specs.Lanes.{numbers_where}
 use Rattle.sat_gear.proofs.Spreads.{numbers_picked}

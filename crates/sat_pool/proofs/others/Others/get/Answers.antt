@@ -1,5 +1,5 @@
 use Rattle.std.proofs.Common.{ap, ◌∙◌, List}
-use Rattle.sat_bulk.specs.declared.Payload.{Payload}
+use Rattle.sat_bulk.specs.Payloads.{Payload}
 use Rattle.sat_pool.specs.Pool.{at_point}
 use Rattle.sat_pool.proofs.Keyed.{looked_up}
 use Rattle.sat_pool.proofs.others.Others.get.Goals as goal

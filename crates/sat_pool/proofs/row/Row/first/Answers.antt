@@ -1,5 +1,5 @@
 use Rattle.std.proofs.Common.{List, subst}
-use Rattle.sat_bulk.specs.declared.Payload.{Payload}
+use Rattle.sat_bulk.specs.Payloads.{Payload}
 use Rattle.sat_pool.specs.Rows.{Ascends}
 use Rattle.sat_pool.proofs.Parts.{view-ascends}
 use Rattle.sat_pool.proofs.row.Row.first.Goals as goal

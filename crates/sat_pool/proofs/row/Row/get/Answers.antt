@@ -1,5 +1,5 @@
 use Rattle.std.proofs.Common.{List, Some, None, ap, map, refl, ◌∙◌}
-use Rattle.sat_bulk.specs.declared.Payload.{Payload}
+use Rattle.sat_bulk.specs.Payloads.{Payload}
 use Rattle.sat_pool.specs.Pool.{at_point}
 use Rattle.sat_pool.specs.Slots.{waiting_in}
 use Rattle.sat_pool.proofs.Parts.{found_or}

@@ -1,29 +1,33 @@
-use Rattle.std.proofs.Common.{◌≡◌, true, arith, rules}
+use Rattle.std.proofs.Common.{◌≤◌, length, arith, rules}
 use Rattle.sat_script.specs.Said.{TakesActs}
-use Rattle.sat_script.specs.Words.{is_text}
+use Rattle.sat_script.specs.declared.limits.TheConstants.{LONGEST_LINE}
 use Rattle.sat_script.proofs.Quick.{line_said}
 use Rattle.sat_script.proofs.reader.Reader.good_act.Goals as goal
 
-pub returns-in-Some-eq1 : goal.returns-in-Some-eq1
-returns-in-Some-eq1 c =
+pub returns-in-1 : goal.returns-in-1
+returns-in-1 c =
     let takes : TakesActs c.self.inside.place = search rules in
-    let text : is_text c.args.line.now ≡ true = search rules in
+    let fits : length c.args.line.now ≤ LONGEST_LINE = omega (arith, c.if-line-gt-SHORT_LINE.false) in
     let said = rw c.header-header.ensures.header at c.act_of_two.ensures in
-    rw (← c.self.view_is)
-    (line_said c.self.inside.place c.args.line.now _ _ _ c.act_of_two.result takes (omega (arith, c.if-line-gt-SHORT_LINE.false)) text c.two_words.ensures said)
+    rw (← c.self.view_is) (line_said c.self.inside.place c.args.line.now _ _ _ c.act_of_two.result takes fits c.two_words.ensures said)
 
-pub returns-in-Some-eq2 : goal.returns-in-Some-eq2
-returns-in-Some-eq2 c =
+pub returns-in-2 : goal.returns-in-2
+returns-in-2 c =
     let takes : TakesActs c.self.inside.place = search rules in
-    let text : is_text c.args.line.now ≡ true = search rules in
+    let fits : length c.args.line.now ≤ LONGEST_LINE = omega (arith, c.if-line-gt-SHORT_LINE.false) in
     let said = rw c.header-header.ensures.header at c.act_of_three.ensures in
-    rw (← c.self.view_is)
-    (line_said c.self.inside.place c.args.line.now _ _ _ c.act_of_three.result takes (omega (arith, c.if-line-gt-SHORT_LINE.false)) text c.three_words.ensures said)
+    rw (← c.self.view_is) (line_said c.self.inside.place c.args.line.now _ _ _ c.act_of_three.result takes fits c.three_words.ensures said)
 
-pub returns-in-Some-eq3 : goal.returns-in-Some-eq3
-returns-in-Some-eq3 c =
+pub returns-in-3 : goal.returns-in-3
+returns-in-3 c =
     let takes : TakesActs c.self.inside.place = search rules in
-    let text : is_text c.args.line.now ≡ true = search rules in
+    let fits : length c.args.line.now ≤ LONGEST_LINE = omega (arith, c.if-line-gt-SHORT_LINE.false) in
     let said = rw c.header-header.ensures.header at c.act_of_four.ensures in
-    rw (← c.self.view_is)
-    (line_said c.self.inside.place c.args.line.now _ _ _ c.act_of_four.result takes (omega (arith, c.if-line-gt-SHORT_LINE.false)) text c.four_words.ensures said)
+    rw (← c.self.view_is) (line_said c.self.inside.place c.args.line.now _ _ _ c.act_of_four.result takes fits c.four_words.ensures said)
+
+pub returns-in-4 : goal.returns-in-4
+returns-in-4 c =
+    let takes : TakesActs c.self.inside.place = search rules in
+    let fits : length c.args.line.now ≤ LONGEST_LINE = omega (arith, c.if-line-gt-SHORT_LINE.false) in
+    let said = rw c.header-header.ensures.header at c.act_of_five.ensures in
+    rw (← c.self.view_is) (line_said c.self.inside.place c.args.line.now _ _ _ c.act_of_five.result takes fits c.five_words.ensures said)

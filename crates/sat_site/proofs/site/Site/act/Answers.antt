@@ -1,4 +1,4 @@
-use Rattle.std.proofs.Common.{sym, subst, ap, ◌∙◌}
+use Rattle.std.proofs.Common.{length, sym, subst, ap, ◌∙◌}
 use Rattle.sat_gear.proofs.Gears.{each-lane}
 use Rattle.sat_proxy.proofs.Answering.{each-answers}
 use Rattle.sat_proxy.proofs.Following.{each-follows}
@@ -6,7 +6,7 @@ use Rattle.sat_site.specs.Does.{reading, writing}
 use Rattle.sat_site.specs.Seen.{IsSite}
 use Rattle.sat_site.specs.SiteSteps.{site_after, site_answers}
 use Rattle.sat_site.proofs.Acted.{does-after, does-answer, done-after, done-answer, ok-after, ok-answer}
-use Rattle.sat_site.proofs.Deeds.{given-fits, ok-map}
+use Rattle.sat_site.proofs.Deeds.{by-values, given-fits, ok-map}
 use Rattle.sat_site.proofs.Fitting.{fits-attach, fits-beat, fits-beat-in, fits-bulk, fits-move, fits-read, fits-tick, fits-turn, fits-write}
 use Rattle.sat_site.proofs.Step.{undone, undone-ok}
 use Rattle.sat_site.proofs.Steps.{each-step}
@@ -18,8 +18,11 @@ tick-requires-clause-gear c = (fits-tick _ _ _ (given-fits _ _ _ c.in-Tick.is c.
 pub tick-requires-clause-limit : goal.tick-requires-clause-limit
 tick-requires-clause-limit c = (fits-tick c.args.self.now _ _ (given-fits _ _ _ c.in-Tick.is c.requires)).1
 
-pub write-requires : goal.write-requires
-write-requires c = fits-write _ _ _ _ (given-fits _ _ _ c.in-Write.is c.requires)
+pub write-requires-clause-items : goal.write-requires-clause-items
+write-requires-clause-items c = (fits-write _ _ _ _ (given-fits _ _ _ c.in-Write.is c.requires)).0
+
+pub write-requires-clause-values : goal.write-requires-clause-values
+write-requires-clause-values c = ap length c.as_slice.ensures ∙ (fits-write _ _ _ _ (given-fits _ _ _ c.in-Write.is c.requires)).1
 
 pub read-requires : goal.read-requires
 read-requires c = fits-read _ _ _ (given-fits _ _ _ c.in-Read.is c.requires)
@@ -52,10 +55,10 @@ pub returns-in-Tick-clause-after : goal.returns-in-Tick-clause-after
 returns-in-Tick-clause-after c = does-after _ _ _ _ _ c.in-Tick.is c.tick.ensures
 
 pub returns-in-Write-clause-answer : goal.returns-in-Write-clause-answer
-returns-in-Write-clause-answer c = done-answer _ c.write.new.self _ _ c.write.result c.in-Write.is (ok-map c.write.result (λ answer w. writing w) c.write.ensures.writes)
+returns-in-Write-clause-answer c = done-answer _ c.write.new.self _ _ c.write.result c.in-Write.is (ok-map c.write.result (λ answer w. writing (by-values _ _ _ _ _ _ _ c.as_slice.ensures w)) c.write.ensures.writes)
 
 pub returns-in-Write-clause-after : goal.returns-in-Write-clause-after
-returns-in-Write-clause-after c = done-after _ c.write.new.self _ _ c.write.result c.in-Write.is (ok-map c.write.result (λ answer w. writing w) c.write.ensures.writes)
+returns-in-Write-clause-after c = done-after _ c.write.new.self _ _ c.write.result c.in-Write.is (ok-map c.write.result (λ answer w. writing (by-values _ _ _ _ _ _ _ c.as_slice.ensures w)) c.write.ensures.writes)
 
 pub returns-in-Read-clause-answer : goal.returns-in-Read-clause-answer
 returns-in-Read-clause-answer c = done-answer _ c.args.self.now _ _ c.read.result c.in-Read.is (ok-map c.read.result (λ answer w. reading w) c.read.ensures)
@@ -165,8 +168,8 @@ returns-in-Advance-clause-after c = c.advance.ensures.after ∙ ap (site_after c
 
 pub returns-in-Write-clause-refused : goal.returns-in-Write-clause-refused
 returns-in-Write-clause-refused c = undone-ok _ _ _ c.write.result (each-step each-lane each-answers each-follows) (subst IsSite c.self.view_is c.self.invariant) c.requires
-    (done-answer _ c.write.new.self _ _ c.write.result c.in-Write.is (ok-map c.write.result (λ answer w. writing w) c.write.ensures.writes))
-    (done-after _ c.write.new.self _ _ c.write.result c.in-Write.is (ok-map c.write.result (λ answer w. writing w) c.write.ensures.writes))
+    (done-answer _ c.write.new.self _ _ c.write.result c.in-Write.is (ok-map c.write.result (λ answer w. writing (by-values _ _ _ _ _ _ _ c.as_slice.ensures w)) c.write.ensures.writes))
+    (done-after _ c.write.new.self _ _ c.write.result c.in-Write.is (ok-map c.write.result (λ answer w. writing (by-values _ _ _ _ _ _ _ c.as_slice.ensures w)) c.write.ensures.writes))
 
 pub returns-in-Gather-clause-refused : goal.returns-in-Gather-clause-refused
 returns-in-Gather-clause-refused c = undone-ok _ _ _ c.gather.result (each-step each-lane each-answers each-follows) (subst IsSite c.self.view_is c.self.invariant) c.requires

@@ -11,11 +11,11 @@ returns-in-Tick c = c.is_tick.ensures ∙ ap (fits_here c.args.self.now) (sym c.
 
 pub returns-in-Write : goal.returns-in-Write
 unfolding fits_here
-returns-in-Write c = c.is_act_on.ensures ∙ ap (fits_here c.args.self.now) (sym c.in-Write.is)
+returns-in-Write c = c.is_write.ensures ∙ ap (fits_here c.args.self.now) (sym c.in-Write.is)
 
 pub returns-in-Read : goal.returns-in-Read
 unfolding fits_here
-returns-in-Read c = c.is_act_on-in-Read.ensures ∙ ap (fits_here c.args.self.now) (sym c.in-Read.is)
+returns-in-Read c = c.is_read.ensures ∙ ap (fits_here c.args.self.now) (sym c.in-Read.is)
 
 pub returns-then-is_carried : goal.returns-then-is_carried
 unfolding fits_here

@@ -1,5 +1,5 @@
-use Rattle.std.proofs.Common.{◌∙◌, sym}
-use Rattle.sat_store.proofs.Placing.{above, adds, adds-is, below, goes, stays}
+use Rattle.std.proofs.Common.{◌∙◌}
+use Rattle.sat_store.proofs.Placing.{above, adds, adds-is, below, compared, goes, stays}
 use Rattle.sat_store.proofs.store.Store.put.Goals as goal
 
 pub invariant_of-self : goal.invariant_of-self
@@ -14,20 +14,20 @@ returns-in_default-clause-new c =
 
 pub returns-then-not-is_below-clause-new : goal.returns-then-not-is_below-clause-new
 returns-then-not-is_below-clause-new c =
-    stays _ _ _ _ c.args.item _ c.self.view_is c.self.invariant c.requires c.as_slice.ensures.value _ _ c.in-Some.is c.index_mut-version.ensures.value
-    (record { label = c.args.label; value = c.args.value }) (sym c.is_below.ensures ∙ c.if-not-is_below.true)
+    stays _ _ _ _ c.args.item _ c.self.view_is c.self.invariant c.requires c.as_slice.ensures.value _ _ c.in-Some.is c.index_mut-kept.ensures.value
+    c.args.version (compared _ _ _ _ _ _ c.is_below.ensures c.label.ensures c.label-2.ensures c.if-not-is_below.true)
 
 pub returns-then-not-is_below-clause-kept : goal.returns-then-not-is_below-clause-kept
 returns-then-not-is_below-clause-kept c =
-    below _ _ _ _ c.args.item _ c.self.view_is c.self.invariant c.requires c.as_slice.ensures.value _ _ c.in-Some.is c.index_mut-version.ensures.value
-    c.args.label (sym c.is_below.ensures ∙ c.if-not-is_below.true)
+    below _ _ _ _ c.args.item _ c.self.view_is c.self.invariant c.requires c.as_slice.ensures.value _ _ c.in-Some.is c.index_mut-kept.ensures.value
+    c.args.version.label (compared _ _ _ _ _ _ c.is_below.ensures c.label.ensures c.label-2.ensures c.if-not-is_below.true)
 
 pub returns-clause-new : goal.returns-clause-new
 returns-clause-new c =
-    goes _ _ _ _ c.args.item _ c.self.view_is c.self.invariant c.requires c.as_slice.ensures.value _ _ c.in-Some.is c.index_mut-version.ensures.value
-    (record { label = c.args.label; value = c.args.value }) (sym c.is_below.ensures ∙ c.if-not-is_below.false)
+    goes _ _ _ _ c.args.item _ c.self.view_is c.self.invariant c.requires c.as_slice.ensures.value _ _ c.in-Some.is c.index_mut-kept.ensures.value
+    c.args.version (compared _ _ _ _ _ _ c.is_below.ensures c.label.ensures c.label-2.ensures c.if-not-is_below.false)
 
 pub returns-clause-kept : goal.returns-clause-kept
 returns-clause-kept c =
-    above _ _ _ _ c.args.item _ c.self.view_is c.self.invariant c.requires c.as_slice.ensures.value _ _ c.in-Some.is c.index_mut-version.ensures.value
-    c.args.label (sym c.is_below.ensures ∙ c.if-not-is_below.false)
+    above _ _ _ _ c.args.item _ c.self.view_is c.self.invariant c.requires c.as_slice.ensures.value _ _ c.in-Some.is c.index_mut-kept.ensures.value
+    c.args.version.label (compared _ _ _ _ _ _ c.is_below.ensures c.label.ensures c.label-2.ensures c.if-not-is_below.false)

@@ -10,6 +10,9 @@ returns-in-Clock-clause-applies c = applies-in _ _ _ _ c.clock.result c.in-Clock
 pub returns-in-Write-clause-applies : goal.returns-in-Write-clause-applies
 returns-in-Write-clause-applies c = applies-in _ _ _ _ c.write.result c.in-Write.is c.write.ensures.applies
 
+pub returns-in-Writes-clause-applies : goal.returns-in-Writes-clause-applies
+returns-in-Writes-clause-applies c = applies-in _ _ _ _ c.writes.result c.in-Writes.is c.writes.ensures.applies
+
 pub returns-in-Read-clause-applies : goal.returns-in-Read-clause-applies
 returns-in-Read-clause-applies c = applies-in _ _ _ _ c.read.result c.in-Read.is c.read.ensures.applies
 

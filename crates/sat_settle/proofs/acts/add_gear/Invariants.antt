@@ -1,8 +1,0 @@
-use Rattle.std.proofs.Common.{◌≡◌, ◌++◌, ℕ}
-use Rattle.sat_label.specs.Words.{below}
-use Rattle.sat_act.specs.Settling.{joined}
-use Rattle.sat_settle.specs.RoundActs.{bulk_to}
-use Rattle.sat_settle.proofs.acts.add_gear.Given as goal
-
-abbrev pub invariant-loop-to : goal.invariant-loop-to
-invariant-loop-to l = l.acts ≡ l.initial.acts ++ joined (λ (j : ℕ). bulk_to l.from l.gear j) (below l.to)
