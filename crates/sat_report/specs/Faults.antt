@@ -2,7 +2,7 @@
 use Rattle.std.specs.Prelude.{ℕ, List, [], ◌∷◌, ◌++◌, codes}
 use Rattle.std.specs.Fmt.{decimal}
 use Rattle.sat_script.specs.declared.fault.Cause.{Cause}
-use Rattle.sat_script.specs.declared.fault.Cause.TheVariants.{AfterEnd, LongLine, NoEnd, NotText, BadHeader, BadAct, NotLive, TooMany, SameName, UnknownName, OutOfRange, BadTree, NoEdge, BadGroup, Memory}
+use Rattle.sat_script.specs.declared.fault.Cause.TheVariants.{AfterEnd, LongLine, NoEnd, NotText, BadHeader, BadAct, NotLive, TooMany, SameName, UnknownName, OutOfRange, BadTree, NoEdge, BadGroup, BadAnswer, SamePoint, Memory}
 use Rattle.sat_script.specs.declared.fault.ScriptFault.{ScriptFault}
 
 unfoldable pub cause_name : Cause → List ℕ
@@ -20,6 +20,8 @@ cause_name OutOfRange = codes "OutOfRange"
 cause_name BadTree = codes "BadTree"
 cause_name NoEdge = codes "NoEdge"
 cause_name BadGroup = codes "BadGroup"
+cause_name BadAnswer = codes "BadAnswer"
+cause_name SamePoint = codes "SamePoint"
 cause_name Memory = codes "Memory"
 
 -- `line N: CAUSE`

@@ -24,6 +24,8 @@ fn cause_name(cause: Cause) -> &'static str
         Cause::BadTree => "BadTree",
         Cause::NoEdge => "NoEdge",
         Cause::BadGroup => "BadGroup",
+        Cause::BadAnswer => "BadAnswer",
+        Cause::SamePoint => "SamePoint",
         Cause::Memory => "Memory",
     }
 }

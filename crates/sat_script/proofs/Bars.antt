@@ -8,9 +8,9 @@ use Rattle.sat_script.specs.declared.dialect.Dialect.TheVariants as dialect
 use Rattle.sat_script.specs.declared.form.Form.TheVariants as form
 use Rattle.sat_script.specs.declared.line.Stage.TheVariants as stage
 use Rattle.sat_script.specs.Causes.{bar, has_room}
-use Rattle.sat_script.specs.Dialect.{has_form}
+use Rattle.sat_script.specs.Dialect.{has_form, lacking}
 use Rattle.sat_script.specs.State.{State, limits_at}
-use Rattle.sat_script.specs.declared.fault.Cause.TheVariants.{NotLive, TooMany}
+use Rattle.sat_script.specs.declared.fault.Cause.TheVariants.{TooMany}
 use Rattle.sat_script.specs.declared.form.Form.{Form}
 
 pub record IsFree (s : State) (f : Form) : Type 0 where
@@ -21,7 +21,7 @@ pub free : (s : State) (f : Form) → bar s f ≡ None → IsFree s f
 unfolding bar
 free s f h = go (has_form s.dialect f) (has_room s f) refl refl h
   where
-    go : (a b : Bool) → has_form s.dialect f ≡ a → has_room s f ≡ b → cond (not a) (Some NotLive) (cond (not b) (Some TooMany) None) ≡ None → IsFree s f
+    go : (a b : Bool) → has_form s.dialect f ≡ a → has_room s f ≡ b → cond (not a) (Some (lacking s.dialect)) (cond (not b) (Some TooMany) None) ≡ None → IsFree s f
     go true true p q h = record { has = p; room = q }
     go false b p q h = absurd (cc)
     go true false p q h = absurd (cc)

@@ -265,6 +265,7 @@ formats f some few = grind (arith, nat_tests)
 -- no dialect allows more sites than its format does, and each as many items
 pub sites_allowed : (dialect : Dialect) (format n : ℕ) → n ≤ (limits_of dialect format).sites → n ≤ (format_limits format).sites
 sites_allowed dialect.Run format n few = few
+sites_allowed dialect.Audit format n few = few
 sites_allowed dialect.Live format n few = go (eqb format 1)
   where
     go : (b : Bool) → n ≤ (cond b (format_limits 1) (format_limits 2)).sites
@@ -274,11 +275,17 @@ sites_allowed dialect.Live format n few = go (eqb format 1)
 pub items_allowed : (dialect : Dialect) (format : ℕ) → (limits_of dialect format).items ≡ (format_limits format).items
 items_allowed dialect.Run format = refl
 items_allowed dialect.Live format = refl
+items_allowed dialect.Audit format = refl
 
 -- and no dialect allows more acts
 pub acts_allowed : (dialect : Dialect) (format n : ℕ) → n ≤ (limits_of dialect format).acts → n ≤ (format_limits format).acts
 acts_allowed dialect.Run format n few = few
 acts_allowed dialect.Live format n few = go (eqb format 1)
+  where
+    go : (b : Bool) → n ≤ (cond b (format_limits 1) (format_limits 2)).acts
+    go true = omega (arith, few)
+    go false = omega (arith, few)
+acts_allowed dialect.Audit format n few = go (eqb format 1)
   where
     go : (b : Bool) → n ≤ (cond b (format_limits 1) (format_limits 2)).acts
     go true = omega (arith, few)
@@ -312,6 +319,7 @@ header_after _ s _ kept a b c h = absurd h
 same_settles : (dialect : Dialect) (format other : ℕ) → (limits_of dialect format).settles ≡ (limits_of dialect other).settles
 same_settles dialect.Run format other = refl
 same_settles dialect.Live format other = refl
+same_settles dialect.Audit format other = refl
 
 record Counts (s : State) (p : Parsed) : Type 0 where
   sites : (with_parsed s.header p).sites ≤ (limits_at (after s p)).sites

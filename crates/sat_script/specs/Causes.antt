@@ -5,10 +5,10 @@ use Rattle.std.specs.declared.result.Result.{Result}
 use Rattle.std.specs.List.{list_any}
 use Rattle.std.specs.Str.{bytes_eq}
 use Rattle.sat_act.specs.Deployed.{Deployed}
-use Rattle.sat_script.specs.Dialect.{has_form}
+use Rattle.sat_script.specs.Dialect.{has_form, lacking}
 use Rattle.sat_script.specs.State.{State, limits_at}
 use Rattle.sat_script.specs.declared.fault.Cause.{Cause}
-use Rattle.sat_script.specs.declared.fault.Cause.TheVariants.{NotLive, TooMany}
+use Rattle.sat_script.specs.declared.fault.Cause.TheVariants.{TooMany}
 use Rattle.sat_script.specs.declared.form.Form.{Form}
 use Rattle.sat_script.specs.declared.form.Form.TheVariants as form
 use Rattle.sat_script.specs.declared.limits.TheConstants.{MOST_PLANS}
@@ -46,7 +46,7 @@ has_room s _ = nat_lt s.acts (limits_at s).acts
 unfoldable pub bar : State → Form → Option Cause
 unfolding has_room
 bar s f =
-    if not (has_form s.dialect f) then Some NotLive else
+    if not (has_form s.dialect f) then Some (lacking s.dialect) else
     if not (has_room s f) then Some TooMany else
     None
 

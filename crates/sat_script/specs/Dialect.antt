@@ -4,14 +4,17 @@ use Rattle.sat_label.specs.Formats.{limits_of as format_limits}
 use Rattle.sat_script.specs.declared.dialect.Dialect.{Dialect}
 use Rattle.sat_script.specs.declared.dialect.Dialect.TheVariants as dialect
 use Rattle.sat_script.specs.declared.dialect.Limits.{Limits}
+use Rattle.sat_script.specs.declared.fault.Cause.{Cause}
+use Rattle.sat_script.specs.declared.fault.Cause.TheVariants.{BadAct, NotLive}
 use Rattle.sat_script.specs.declared.form.Form.{Form}
 use Rattle.sat_script.specs.declared.form.Form.TheVariants as form
-use Rattle.sat_script.specs.declared.limits.TheConstants.{MOST_CLIENTS, MOST_SETTLES, LIVE_SITES, LIVE_CLIENTS, LIVE_ACTS}
+use Rattle.sat_script.specs.declared.limits.TheConstants.{MOST_CLIENTS, MOST_SETTLES, LIVE_SITES, LIVE_CLIENTS, LIVE_ACTS, AUDIT_ACTS}
 
 -- the limits of scripts of a dialect and a format
 abbrev pub limits_of : Dialect → ℕ → Limits
 limits_of dialect.Run format = record { sites = (format_limits format).sites; items = (format_limits format).items; clients = MOST_CLIENTS; acts = (format_limits format).acts; settles = MOST_SETTLES }
 limits_of dialect.Live format = record { sites = LIVE_SITES; items = (format_limits format).items; clients = LIVE_CLIENTS; acts = LIVE_ACTS; settles = MOST_SETTLES }
+limits_of dialect.Audit format = record { sites = (format_limits format).sites; items = (format_limits format).items; clients = MOST_CLIENTS; acts = AUDIT_ACTS; settles = MOST_SETTLES }
 
 -- the forms of a script for nodes on threads
 unfoldable pub is_live : Form → Bool
@@ -32,10 +35,22 @@ is_live form.Fall = true
 is_live form.Kill = true
 is_live _ = false
 
+-- the forms of a history that is judged
+abbrev pub is_audited : Form → Bool
+is_audited form.Settle = false
+is_audited _ = true
+
 -- the forms of each dialect
 abbrev pub has_form : Dialect → Form → Bool
 has_form dialect.Run f = true
 has_form dialect.Live f = is_live f
+has_form dialect.Audit f = is_audited f
+
+-- why a line is refused that has a form which its dialect lacks: to all but nodes on threads it has none at all
+abbrev pub lacking : Dialect → Cause
+lacking dialect.Run = BadAct
+lacking dialect.Live = NotLive
+lacking dialect.Audit = BadAct
 
 -- how many items an act of the form writes under one label, where that may be more than one
 abbrev pub written_by : Form → ℕ

@@ -36,7 +36,8 @@ use std::alloc::Global;
 
 // ---- each word
 
-fn has_shape(kind: Kind, word: &[u8]) -> bool
+/// Whether a word is one of a kind by its bytes alone.
+pub fn has_shape(kind: Kind, word: &[u8]) -> bool
     ensures { result ≡ shape kind word.now }
 {
     match kind {

@@ -1,9 +1,10 @@
 //! What a script may have, by what it is read for and its format.
 ghost use Rattle.std.specs.Prelude.{◌≡◌};
-ghost use Rattle.sat_script.specs.Dialect.{dialect_of, limits_of, has_form};
+ghost use Rattle.sat_script.specs.Dialect.{dialect_of, limits_of, has_form, lacking};
 
-use crate::form::{Form, is_live};
-use crate::limits::{LIVE_ACTS, LIVE_CLIENTS, LIVE_SITES, MOST_CLIENTS, MOST_SETTLES};
+use crate::Cause;
+use crate::form::{Form, is_audited, is_live};
+use crate::limits::{AUDIT_ACTS, LIVE_ACTS, LIVE_CLIENTS, LIVE_SITES, MOST_CLIENTS, MOST_SETTLES};
 use sat_label::limits_of as format_limits;
 
 /// What a script is read for.
@@ -13,6 +14,8 @@ pub enum Dialect {
     Run,
     /// Nodes on threads, which have fewer forms and lower limits.
     Live,
+    /// A judge of histories, each act of which has its answer behind it.
+    Audit,
 }
 
 /// The most of what a script may have that differs by dialect or format.
@@ -54,6 +57,13 @@ impl Dialect {
                 acts: LIVE_ACTS,
                 settles: MOST_SETTLES,
             },
+            Dialect::Audit => Limits {
+                sites: format.sites,
+                items: format.items,
+                clients: MOST_CLIENTS,
+                acts: AUDIT_ACTS,
+                settles: MOST_SETTLES,
+            },
         }
     }
 
@@ -64,6 +74,18 @@ impl Dialect {
         match self {
             Dialect::Run => true,
             Dialect::Live => is_live(form),
+            Dialect::Audit => is_audited(form),
+        }
+    }
+
+    /// Why a line is refused that has a form which it has not.
+    pub fn lacking(self) -> Cause
+        ensures { result ≡ lacking self }
+    {
+        match self {
+            Dialect::Run => Cause::BadAct,
+            Dialect::Live => Cause::NotLive,
+            Dialect::Audit => Cause::BadAct,
         }
     }
 }

@@ -17,6 +17,10 @@ pub enum Cause {
     BadTree,
     NoEdge,
     BadGroup,
+    /// Of a history: no answer, or none that its act has.
+    BadAnswer,
+    /// Of a history: a point that an earlier answer made.
+    SamePoint,
     /// Want of memory.
     Memory,
 }

@@ -1,6 +1,6 @@
 //! The forms of lines, and the table of the acts: the word that an act begins with, and the kinds of the words after it.
 ghost use Rattle.std.specs.Prelude.{◌≡◌, ◌≤◌, length, Some, IfSome};
-ghost use Rattle.sat_script.specs.Dialect.{allows, is_live, written_by};
+ghost use Rattle.sat_script.specs.Dialect.{allows, is_audited, is_live, written_by};
 ghost use Rattle.sat_script.specs.Table.{word_of, kinds_of, act_forms, found_form};
 
 use sat_label::limits_of;
@@ -269,5 +269,15 @@ pub fn is_live(form: Form) -> bool
         Form::Fall => true,
         Form::Kill => true,
         _ => false,
+    }
+}
+
+/// Whether a history that is judged may have lines of a form.
+pub fn is_audited(form: Form) -> bool
+    ensures { result ≡ is_audited form }
+{
+    match form {
+        Form::Settle => false,
+        _ => true,
     }
 }

@@ -20,11 +20,13 @@ mod words;
 mod write;
 mod write_lines;
 
+pub use act_lines::has_shape;
 pub use dialect::{Dialect, Limits};
 pub use fault::{Cause, ScriptFault};
+pub use form::{Form, Kind, act_forms, allows, found_form, kinds_of};
 pub use limits::{
-    LAST_FORMAT, LIVE_ACTS, LIVE_CLIENTS, LIVE_SITES, LONGEST_LINE, MOST_ACTS, MOST_CLIENTS,
-    MOST_GEARS, MOST_ITEMS, MOST_PLANS, MOST_SETTLES, MOST_SITES,
+    AUDIT_ACTS, LAST_FORMAT, LIVE_ACTS, LIVE_CLIENTS, LIVE_SITES, LONGEST_LINE, MOST_ACTS,
+    MOST_CLIENTS, MOST_GEARS, MOST_ITEMS, MOST_PLANS, MOST_SETTLES, MOST_SITES,
 };
 pub use line::{Line, Parsed};
 pub use number::number_up_to;

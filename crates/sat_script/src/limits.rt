@@ -35,3 +35,6 @@ pub const LIVE_CLIENTS: usize = 16;
 
 /// The most acts of a script for nodes on threads.
 pub const LIVE_ACTS: u32 = 4000;
+
+/// The most acts of a history that is judged.
+pub const AUDIT_ACTS: u32 = 20_000;

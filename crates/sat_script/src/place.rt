@@ -153,7 +153,7 @@ impl Place {
         ensures { MatchResult result (λ _. bar self.now form ≡ None) (λ cause. bar self.now form ≡ Some cause) }
     {
         if !self.dialect.has(form) {
-            return Err(Cause::NotLive);
+            return Err(self.dialect.lacking());
         }
         if !self.has_room(form) {
             return Err(Cause::TooMany);

@@ -1,5 +1,6 @@
 //! A reader of lines.
 ghost use Rattle.std.specs.Prelude.{false, ◌≡◌, ◌↔◌, ◌++◌, [], ◌∷◌, IsTrue, IfErr, IfSome, OnOk, None, Some, Ok, map, take};
+ghost use Rattle.sat_script.specs.Causes.{item_of};
 ghost use Rattle.sat_script.specs.Dialect.{dialect_of};
 ghost use Rattle.sat_script.specs.State.{start, number_of, fault_at, deployment_of};
 ghost use Rattle.sat_script.specs.Grammar.{words_line, line_at, close_in, after, told_line};
@@ -124,9 +125,16 @@ impl Reader {
     pub fn new(alloc: Global, live: bool) -> Reader
         ensures { result ≡ running (start (dialect_of live)) }
     {
+        Reader::of(alloc, Dialect::of(live))
+    }
+
+    /// A reader at the first line of what is read for this.
+    pub fn of(alloc: Global, dialect: Dialect) -> Reader
+        ensures { result ≡ running (start dialect) }
+    {
         Reader {
             alloc,
-            place: Place::new(alloc, Dialect::of(live)),
+            place: Place::new(alloc, dialect),
             fault: None,
         }
     }
@@ -169,6 +177,13 @@ impl Reader {
     {
         let Reader { place, .. } = self;
         place.into_deployment()
+    }
+
+    /// The number of the item with a name.
+    pub fn item(&self, name: &[u8]) -> Option<u16>
+        ensures { result ≡ item_of self.now.state.header name.now }
+    {
+        self.place.header().item_of(name)
     }
 
     /// Whether the line `end` has come.

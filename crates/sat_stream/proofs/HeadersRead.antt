@@ -16,7 +16,7 @@ use Rattle.sat_label.specs.declared.site_set.SiteSet.{SiteSet}
 use Rattle.sat_act.specs.declared.deployment.Item.{Item}
 use Rattle.sat_act.specs.declared.deployment.ClientLine.{ClientLine}
 use Rattle.sat_act.specs.declared.deployment.Plan.{Plan}
-use Rattle.sat_script.specs.Dialect.{is_live, has_form}
+use Rattle.sat_script.specs.Dialect.{is_audited, is_live, has_form}
 use Rattle.sat_script.specs.declared.dialect.Dialect.{Dialect}
 use Rattle.sat_script.specs.declared.dialect.Dialect.TheVariants as dialect
 use Rattle.sat_script.specs.Causes.{bar, has_room}
@@ -112,8 +112,14 @@ unfolding gears_line
 gears_reads n some few = ap (of_count parsed.Gears) (counted_reads (codes "gears") MOST_GEARS n refl some few (omega arith))
 
 any_live : (dialect : Dialect) (f : Form) → is_live f ≡ true → has_form dialect f ≡ true
+unfolding is_live
 any_live dialect.Run f h = refl
 any_live dialect.Live f h = h
+any_live dialect.Audit f h = audited f h
+  where
+    audited : (f : Form) → is_live f ≡ true → is_audited f ≡ true
+    audited form.Settle h = absurd (cc)
+    audited _ h = refl
 
 item_free : (s : State) → length s.header.items < (limits_at s).items → bar s form.Item ≡ None
 unfolding is_live has_room

@@ -31,7 +31,7 @@ use Rattle.sat_script.specs.declared.dialect.Dialect.{Dialect}
 use Rattle.sat_script.specs.declared.dialect.Dialect.TheVariants as dialect
 use Rattle.sat_script.specs.declared.fault.Cause.{Cause}
 use Rattle.sat_script.specs.declared.fault.Cause.TheVariants.{LongLine, NoEnd}
-use Rattle.sat_script.specs.declared.limits.TheConstants.{LONGEST_LINE, LIVE_ACTS}
+use Rattle.sat_script.specs.declared.limits.TheConstants.{LONGEST_LINE, LIVE_ACTS, AUDIT_ACTS}
 use Rattle.sat_stream.specs.declared.limits.TheConstants.{LINE_BYTES, LONG_LINE_BYTES, MOST_BYTES, MOST_LINES, MOST_LONG_LINES}
 use Rattle.sat_script.specs.declared.line.Parsed.{Parsed}
 use Rattle.sat_script.specs.declared.line.Parsed.TheVariants as parsed
@@ -126,6 +126,11 @@ few_lines : (dialect : Dialect) (format n : ℕ) → n ≤ 1045 + (limits_of dia
 few_lines dialect.Run format n few = go (eqb format 1) few
   where
     go : (b : Bool) → n ≤ 1045 + (cond b (format_limits 1) (format_limits 2)).items + (cond b (format_limits 1) (format_limits 2)).acts → cond b LINE_BYTES LONG_LINE_BYTES * n ≤ cond b LINE_BYTES LONG_LINE_BYTES * cond b MOST_LINES MOST_LONG_LINES
+    go true few = omega (arith, few)
+    go false few = omega (arith, few)
+few_lines dialect.Audit format n few = go (eqb format 1) few
+  where
+    go : (b : Bool) → n ≤ 1045 + (cond b (format_limits 1) (format_limits 2)).items + AUDIT_ACTS → cond b LINE_BYTES LONG_LINE_BYTES * n ≤ cond b LINE_BYTES LONG_LINE_BYTES * cond b MOST_LINES MOST_LONG_LINES
     go true few = omega (arith, few)
     go false few = omega (arith, few)
 few_lines dialect.Live format n few = go (eqb format 1) few
