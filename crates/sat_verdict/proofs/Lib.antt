@@ -1,0 +1,14 @@
+pub mod Counted
+pub mod Deciding
+pub mod Found
+pub mod Rows
+pub mod Histories
+pub mod Makings
+pub mod Columns
+pub mod Scanned
+pub mod Passed
+pub mod Freshly
+pub mod Linkings
+pub mod Clear
+pub mod Noting
+pub mod Settled

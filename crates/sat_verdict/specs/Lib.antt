@@ -1,0 +1,11 @@
+pub mod Entries
+pub mod Causes
+pub mod Counts
+pub mod Goals
+pub mod Verdicts
+pub mod Found
+pub mod Tables
+pub mod Passes
+pub mod Laws
+pub mod Walks
+pub mod Greatest
