@@ -1,0 +1,11 @@
+pub mod Cuts
+pub mod Fronts
+pub mod Forms
+pub mod Makings
+pub mod Texting
+pub mod Answering
+pub mod Tells
+pub mod Sound
+pub mod Read
+pub mod Rows
+pub mod Judged
