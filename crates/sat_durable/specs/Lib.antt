@@ -1,0 +1,14 @@
+pub mod Causes
+pub mod Disk
+pub mod Past
+pub mod Arming
+pub mod Memory
+pub mod Journal
+pub mod Machine
+pub mod Settled
+pub mod Durables
+pub mod Fault
+pub mod Replay
+pub mod Recovering
+pub mod Step
+pub mod Adding
