@@ -1,15 +1,23 @@
 //! The program over standard input and output.
 #![tactic(auto)]
 
+use sat_hints::{
+    KeepingReader, KeepingWriter, Kept, Wrote, about_input, about_refusals, about_words, awaits,
+    is_run,
+};
 use sat_outside::{FreeGate, StdSink, StdSource};
 use sat_top::saturn;
-use std::io::ErrorKind;
+use std::alloc::{AllocError, Global};
+use std::io::{ErrorKind, IsTerminal};
 use std::process::ExitCode;
 use std::rt::Env;
 use std::{env, io};
 
 // The status of the top call for want of memory.
 const NO_MEMORY: u8 = 5;
+
+// The status where the output could not be written.
+const UNWRITTEN: u8 = 4;
 
 // What a status means, for the person who started the program.
 fn meaning(status: u8) -> Option<&'static str> {
@@ -20,6 +28,7 @@ fn meaning(status: u8) -> Option<&'static str> {
         4 => Some("standard output could not be written"),
         5 => Some("out of memory"),
         6 => Some("a node and a session kept different things of one act"),
+        7 => Some("the history is not as it should be"),
         8 => Some("the history is not whole"),
         _ => None,
     }
@@ -30,19 +39,65 @@ fn words<R: Env + AllocGlobal>(rt: &R) -> io::Result<Vec<String>> {
     Ok(env::args(rt)?.skip(1).collect(rt.alloc())?)
 }
 
-fn main(rt: HostRuntime) -> ExitCode {
-    let words = match words(&rt) {
-        Ok(words) => words,
-        // A word that is no text is refused like any other.
-        Err(error) if error.kind() == ErrorKind::InvalidData => Vec::new(rt.alloc()),
-        Err(_) => return ExitCode::from(NO_MEMORY),
-    };
-    let mut source = StdSource::new(rt.stdin().reader());
-    let mut sink = StdSink::new(rt.stdout());
-    let status = saturn(&rt, words.as_slice(), &mut source, &mut sink, &FreeGate);
-    if let Some(text) = meaning(status) {
-        // Where standard error is closed too, nobody can be told.
+// What more than its meaning can be said of a status, by the words, what was read and what was written.
+fn hint(
+    alloc: Global,
+    status: u8,
+    words: Option<&[String]>,
+    kept: &Kept,
+    wrote: &Wrote,
+) -> Result<Option<String>, AllocError> {
+    match status {
+        1 => about_input(alloc, kept, wrote),
+        2 => Ok(Some(about_words(alloc, words)?)),
+        _ => Ok(None),
+    }
+}
+
+// Says on standard error what a status means. Where that is closed too, nobody can be told. Where the reader of standard output went
+// away, nobody asks.
+fn tell<R: Eprint + AllocGlobal>(
+    rt: &R,
+    status: u8,
+    words: Option<&[String]>,
+    kept: &Kept,
+    wrote: &Wrote,
+) {
+    if status == UNWRITTEN && wrote.is_closed() {
+        return;
+    }
+    if let Ok(Some(text)) = hint(rt.alloc(), status, words, kept, wrote) {
+        let _ = eprint!(rt; "{text}");
+    } else if let Some(text) = meaning(status) {
         let _ = eprintln!(rt; "saturn: {text}");
     }
+    if let Ok(Some(text)) = about_refusals(rt.alloc(), wrote) {
+        let _ = eprint!(rt; "{text}");
+    }
+}
+
+fn main(rt: HostRuntime) -> ExitCode {
+    let said = match words(&rt) {
+        Ok(words) => Some(words),
+        // A word that is no text is refused like any other.
+        Err(error) if error.kind() == ErrorKind::InvalidData => None,
+        Err(_) => return ExitCode::from(NO_MEMORY),
+    };
+    let said = said.as_ref().map(|words| words.as_slice());
+    let words = said.unwrap_or(&[]);
+    if let Some(text) = awaits(words)
+        && rt.stdin().is_terminal()
+    {
+        let _ = eprintln!(rt; "saturn: {text}");
+    }
+    let counts = is_run(words) && rt.stderr().is_terminal();
+    let mut reader = KeepingReader::new(rt.alloc(), rt.stdin().reader());
+    let mut writer = KeepingWriter::new(rt.alloc(), rt.stdout(), counts);
+    let mut source = StdSource::new(&mut reader);
+    let mut sink = StdSink::new(&mut writer);
+    let status = saturn(&rt, words, &mut source, &mut sink, &FreeGate);
+    drop(source);
+    drop(sink);
+    tell(&rt, status, said, reader.kept(), writer.wrote());
     ExitCode::from(status)
 }
