@@ -7,6 +7,8 @@ mod drawings;
 #[cfg(test)]
 mod gears;
 #[cfg(test)]
+mod judged;
+#[cfg(test)]
 mod living;
 #[cfg(test)]
 mod outside;

@@ -1,5 +1,5 @@
 -- What the statuses of the commands say, once the output is written.
-use Rattle.std.proofs.Common.{◌≡◌, ℕ, zero, suc, false, List, Option, Some, None, Result, Ok, Err, IsSome, refl, sym, ap, subst, ◌∙◌}
+use Rattle.std.proofs.Common.{◌≡◌, ℕ, zero, suc, Bool, true, false, List, Option, Some, None, Result, Ok, Err, IsSome, refl, sym, ap, subst, ◌∙◌}
 use Rattle.sat_outside.specs.Streams.{Told, Takes}
 use Rattle.sat_stream.specs.Reading.{reading}
 use Rattle.sat_script.specs.declared.fault.ScriptFault.{ScriptFault}
@@ -8,7 +8,7 @@ use Rattle.sat_delay.specs.Table.{DelayTable}
 use Rattle.sat_delay.specs.Reading.{reading as delays_in}
 use Rattle.sat_plan.specs.Texts.{plan_text, result_text}
 use Rattle.sat_top.specs.declared.words.Command.{Command}
-use Rattle.sat_top.specs.declared.words.Command.TheVariants.{Run, Draw, Plan, Place, Load, Help, Version}
+use Rattle.sat_top.specs.declared.words.Command.TheVariants.{Run, Draw, Plan, Place, Audit, Load, Help, Version}
 use Rattle.sat_report.specs.Faults.{fault_line}
 use Rattle.sat_stream.specs.declared.stream.Reading.{Reading}
 use Rattle.sat_top.specs.Drawing.{draw_text, IsGoodDrawing}
@@ -16,7 +16,12 @@ use Rattle.sat_top.specs.Good.{IsGoodScript}
 use Rattle.sat_place.specs.Shape.{Shape, shape_reading}
 use Rattle.sat_place.specs.Texts.{place_text, result_text as place_result}
 use Rattle.sat_top.specs.Placing.{place_status}
-use Rattle.sat_top.specs.Whole.{IsDone, IsRefused, IsOutput, HasRun, HasDrawn, HasLineFault, HasFault, HasPlan, HasDelayFault, HasPlacement, HasShapeFault, command_output, plan_status, run_status}
+use Rattle.sat_top.specs.Auditing.{audit_status, heard_in, judged_status, verdict_status}
+use Rattle.sat_audit.specs.Judging.{is_yes, verdict_of}
+use Rattle.sat_audit.specs.declared.heard.History.{History}
+use Rattle.sat_top.specs.Contract.{is_command_status}
+use Rattle.sat_top.proofs.Audits.{audit_refused, verdict_done}
+use Rattle.sat_top.specs.Whole.{IsDone, IsFound, IsRefused, IsOutput, HasRun, HasDrawn, HasLineFault, HasFault, HasPlan, HasDelayFault, HasPlacement, HasShapeFault, command_output, command_status, plan_status, refusal, run_status}
 
 written : (c : Option Command) (left : Option (List ℕ)) (text : List ℕ) (status : ℕ) (old new : Told) (o : IsOutput c left text status) → Takes old new text → Takes old new (command_output c o.input)
 written c left text status old new o took = subst (λ (bytes : List ℕ). Takes old new bytes) o.output took
@@ -146,6 +151,7 @@ is_done (Some Run) left text status old new o took is-zero = run-done left text 
 is_done (Some Draw) left text status old new o took is-zero = draw-done left text old new (subst (λ (n : ℕ). IsOutput (Some Draw) left text n) is-zero o) took
 is_done (Some Plan) left text status old new o took is-zero = plan-done left text old new (subst (λ (n : ℕ). IsOutput (Some Plan) left text n) is-zero o) took
 is_done (Some Place) left text status old new o took is-zero = place-done left text old new (subst (λ (n : ℕ). IsOutput (Some Place) left text n) is-zero o) took
+is_done (Some Audit) left text status old new o took is-zero = verdict_done left text old new true (subst (λ (n : ℕ). IsOutput (Some Audit) left text n) is-zero o) took
 is_done (Some (Load seed acts)) left text status old new o took is-zero = record { written = written (Some (Load seed acts)) left text status old new o took; good = o.proves }
 is_done (Some Help) left text status old new o took is-zero = written (Some Help) left text status old new o took
 is_done (Some Version) left text status old new o took is-zero = written (Some Version) left text status old new o took
@@ -156,7 +162,81 @@ is_refused (Some Run) left text status old new o took is-one = run-refused left 
 is_refused (Some Draw) left text status old new o took is-one = draw-refused left text old new (subst (λ (n : ℕ). IsOutput (Some Draw) left text n) is-one o) took
 is_refused (Some Plan) left text status old new o took is-one = plan-refused left text old new (subst (λ (n : ℕ). IsOutput (Some Plan) left text n) is-one o) took
 is_refused (Some Place) left text status old new o took is-one = place-refused left text old new (subst (λ (n : ℕ). IsOutput (Some Place) left text n) is-one o) took
+is_refused (Some Audit) left text status old new o took is-one = audit_refused left text old new (subst (λ (n : ℕ). IsOutput (Some Audit) left text n) is-one o) took
 is_refused (Some (Load seed acts)) left text status old new o took is-one = absurd (let e : status ≡ 0 = o.status_is in cc)
 is_refused (Some Help) left text status old new o took is-one = absurd (let e : status ≡ 0 = o.status_is in cc)
 is_refused (Some Version) left text status old new o took is-one = absurd (let e : status ≡ 0 = o.status_is in cc)
 is_refused None left text status old new o took is-one = absurd (let e : status ≡ 2 = o.status_is in cc)
+
+-- 7 is the status of a verdict alone
+run-low : (fault : Option ScriptFault) → run_status fault ≡ 7 → ⊥
+run-low None e = cc
+run-low (Some fault) e = cc
+
+plan-low : (r : Result DelayTable DelayFault) → plan_status r ≡ 7 → ⊥
+plan-low (Ok table) e = cc
+plan-low (Err fault) e = cc
+
+place-low : (r : Result Shape DelayFault) → place_status r ≡ 7 → ⊥
+place-low (Ok shape) e = cc
+place-low (Err fault) e = cc
+
+pub is_found : (c : Option Command) (left : Option (List ℕ)) (text : List ℕ) (status : ℕ) (old new : Told) → IsOutput c left text status → Takes old new text → status ≡ 7 → IsFound c left old new
+is_found (Some Audit) left text status old new o took is-seven = verdict_done left text old new false (subst (λ (n : ℕ). IsOutput (Some Audit) left text n) is-seven o) took
+is_found (Some Run) left text status old new o took is-seven = run-low _ (sym o.status_is ∙ is-seven)
+is_found (Some Draw) left text status old new o took is-seven = run-low _ (sym o.status_is ∙ is-seven)
+is_found (Some Plan) left text status old new o took is-seven = plan-low _ (sym o.status_is ∙ is-seven)
+is_found (Some Place) left text status old new o took is-seven = place-low _ (sym o.status_is ∙ is-seven)
+is_found (Some (Load seed acts)) left text status old new o took is-seven = let e : status ≡ 0 = o.status_is in cc
+is_found (Some Help) left text status old new o took is-seven = let e : status ≡ 0 = o.status_is in cc
+is_found (Some Version) left text status old new o took is-seven = let e : status ≡ 0 = o.status_is in cc
+is_found None left text status old new o took is-seven = let e : status ≡ 2 = o.status_is in cc
+
+-- ---- which statuses there are, where the whole output was written
+
+run-each : (P : ℕ → Type 0) → P 0 → P 1 → (fault : Option ScriptFault) → P (run_status fault)
+run-each P none some None = none
+run-each P none some (Some fault) = some
+
+plan-each : (P : ℕ → Type 0) → P 0 → P 1 → (r : Result DelayTable DelayFault) → P (plan_status r)
+plan-each P none some (Ok table) = none
+plan-each P none some (Err fault) = some
+
+place-each : (P : ℕ → Type 0) → P 0 → P 1 → (r : Result Shape DelayFault) → P (place_status r)
+place-each P none some (Ok shape) = none
+place-each P none some (Err fault) = some
+
+verdict-each : (P : ℕ → Type 0) → P 0 → P 7 → (all : Bool) → P (verdict_status all)
+verdict-each P none found true = none
+verdict-each P none found false = found
+
+audit-each : (P : ℕ → Type 0) → P 0 → P 1 → P 7 → (r : Result History ScriptFault) → P (judged_status r)
+audit-each P none some found (Ok h) = verdict-each P none found (is_yes (verdict_of h))
+audit-each P none some found (Err fault) = some
+
+some-each : (P : ℕ → Type 0) → P 0 → P 1 → P 7 → (c : Command) (text : List ℕ) → P (command_status (Some c) text)
+unfolding audit_status
+some-each P none some found Run text = run-each P none some (reading false text).fault
+some-each P none some found Draw text = run-each P none some (reading false text).fault
+some-each P none some found Plan text = plan-each P none some (delays_in text)
+some-each P none some found Place text = place-each P none some (shape_reading text)
+some-each P none some found Audit text = audit-each P none some found (heard_in text)
+some-each P none some found (Load seed acts) text = none
+some-each P none some found Help text = none
+some-each P none some found Version text = none
+
+each-status : (P : ℕ → Type 0) → P 0 → P 1 → P 2 → P 7 → (c : Option Command) (text : List ℕ) → P (command_status c text)
+each-status P none some words found None text = words
+each-status P none some words found (Some c) text = some-each P none some found c text
+
+pub has_status : (c : Option Command) (left : Option (List ℕ)) (text : List ℕ) (status : ℕ) → IsOutput c left text status → is_command_status status ≡ true
+has_status c left text status o = subst (λ (n : ℕ). is_command_status n ≡ true) (sym o.status_is) (each-status (λ n. is_command_status n ≡ true) refl refl refl refl c o.input)
+
+-- and no other
+pub no_status : (k : ℕ) (c : Option Command) (left : Option (List ℕ)) (text : List ℕ) (status : ℕ) → IsOutput c left text status → (0 ≡ k → ⊥) → (1 ≡ k → ⊥) → (2 ≡ k → ⊥) → (7 ≡ k → ⊥) → status ≡ k → ⊥
+no_status k c left text status o zero_not one_not two_not seven_not is = each-status (λ n. n ≡ k → ⊥) zero_not one_not two_not seven_not c o.input (sym o.status_is ∙ is)
+
+-- words that are no command have a status of their own
+pub two_is : (c : Option Command) (left : Option (List ℕ)) (text : List ℕ) (status : ℕ) (old new : Told) → IsOutput c left text status → Takes old new text → status ≡ 2 → (c ≡ None) × Takes old new refusal
+two_is None left text status old new o took is = (refl, subst (λ (bytes : List ℕ). Takes old new bytes) o.output took)
+two_is (Some c) left text status old new o took is = absurd (some-each (λ n. n ≡ 2 → ⊥) (λ e. cc) (λ e. cc) (λ e. cc) c o.input (sym o.status_is ∙ is))

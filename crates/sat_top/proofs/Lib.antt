@@ -13,5 +13,6 @@ pub mod Done
 pub mod Streamed
 pub mod Meetings
 pub mod Entering
+pub mod Audits
 pub mod Drawings
 pub mod Lived

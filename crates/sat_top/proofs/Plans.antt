@@ -42,7 +42,7 @@ too_long : (bytes : List ℕ) → 1048576 < length bytes → delays_in bytes ≡
 unfolding delays_in
 too_long bytes long = let past : nat_lt 1048576 (length bytes) ≡ true = grind (arith, nat_tests) in rw past refl
 
-pub whole_delays : (a b : Option (List ℕ)) (taken : List ℕ) → Consumes a b taken → IsAtEnd b → (text : List ℕ) × IsTextOf a text × (delays_in text ≡ delays_in taken) × (shape_reading text ≡ shape_reading taken)
+whole_delays : (a b : Option (List ℕ)) (taken : List ℕ) → Consumes a b taken → IsAtEnd b → (text : List ℕ) × IsTextOf a text × (delays_in text ≡ delays_in taken) × (shape_reading text ≡ shape_reading taken)
 whole_delays a b taken took ends = (taken, at_end a b taken took ends, refl, refl)
 
 -- so is a text with a tree
@@ -50,7 +50,7 @@ pub too_long_shape : (bytes : List ℕ) → 1048576 < length bytes → shape_rea
 unfolding shape_reading
 too_long_shape bytes long = rw (too_long bytes long) refl
 
-pub enough_delays : (a b : Option (List ℕ)) (taken : List ℕ) → Consumes a b taken → 1048576 < length taken → (text : List ℕ) × IsTextOf a text × (delays_in text ≡ delays_in taken) × (shape_reading text ≡ shape_reading taken)
+enough_delays : (a b : Option (List ℕ)) (taken : List ℕ) → Consumes a b taken → 1048576 < length taken → (text : List ℕ) × IsTextOf a text × (delays_in text ≡ delays_in taken) × (shape_reading text ≡ shape_reading taken)
 enough_delays a b taken took long =
     let rest = rest_of a b taken took in
     let more : 1048576 < length (taken ++ rest.0) = omega (arith, length-append taken rest.0) in (
@@ -59,6 +59,14 @@ enough_delays a b taken took long =
       too_long (taken ++ rest.0) more ∙ sym (too_long taken long),
       too_long_shape (taken ++ rest.0) more ∙ sym (too_long_shape taken long),
     )
+
+-- what was read says of the source's text what there is to say
+pub read_so : (a b : Option (List ℕ)) (taken : List ℕ) → Consumes a b taken → (length taken ≤ 1048576 → IsAtEnd b) → (text : List ℕ) × IsTextOf a text × (delays_in text ≡ delays_in taken) × (shape_reading text ≡ shape_reading taken)
+read_so a b taken took ends = go (nat_lt 1048576 (length taken)) refl
+  where
+    go : (test : Bool) → nat_lt 1048576 (length taken) ≡ test → (text : List ℕ) × IsTextOf a text × (delays_in text ≡ delays_in taken) × (shape_reading text ≡ shape_reading taken)
+    go true long = enough_delays a b taken took (grind (arith, nat_tests))
+    go false few = whole_delays a b taken took (ends (grind (arith, nat_tests)))
 
 -- the plan of what was read is that of the source's text
 pub plan_output : (left : Option (List ℕ)) (found text : List ℕ) (status : ℕ) → (input : List ℕ) × IsTextOf left input × (delays_in input ≡ delays_in found) × (shape_reading input ≡ shape_reading found) → IsPlanned found text status → IsOutput (Some Plan) left text status

@@ -1,17 +1,18 @@
 -- The one contract of the top call, over plain values: the words, the status, and what source and sink told before and after.
-use Rattle.std.specs.Prelude.{ℕ, ◌≡◌, ◌≤◌, ◌+◌, ◌⊎◌, Bool, true, false, List, Option, Some, None, length}
+use Rattle.std.specs.Prelude.{ℕ, ◌≡◌, ◌≤◌, ◌+◌, ◌⊎◌, ◌||◌, ◌==◌, nat_le, Bool, true, false, List, Option, Some, None, length}
 use Rattle.std.specs.Io.KnownBytes.{Consumes, IsAtEnd}
 use Rattle.sat_outside.specs.Causes.{Rose}
 use Rattle.sat_outside.specs.Streams.{Told, Takes}
 use Rattle.sat_stream.specs.declared.limits.TheConstants.{MOST_BYTES}
 use Rattle.sat_delay.specs.declared.read.TheConstants.{MOST_BYTES as MOST_DELAY_BYTES}
+use Rattle.sat_top.specs.declared.auditing.TheConstants.{MOST_HISTORY_BYTES}
 use Rattle.sat_top.specs.declared.stream.TheConstants.{BUFFER_BYTES}
 use Rattle.sat_top.specs.declared.words.Command.{Command}
-use Rattle.sat_top.specs.declared.words.Command.TheVariants.{Run, Draw, Plan, Place}
+use Rattle.sat_top.specs.declared.words.Command.TheVariants.{Run, Draw, Plan, Place, Audit}
 use Rattle.sat_top.specs.Words.{command_of, is_live}
 use Rattle.sat_top.specs.Living.{MeetsLive}
 use Rattle.sat_top.specs.Streaming.{WroteBefore, BrokeOff, GaveUp, StopsReadingOf}
-use Rattle.sat_top.specs.Whole.{IsTextOf, TakesFront, IsDone, IsRefused, reads, refusal, command_status, command_output}
+use Rattle.sat_top.specs.Whole.{IsTextOf, TakesFront, IsDone, IsRefused, IsFound, is_whole, reads, refusal, command_status, command_output}
 
 -- how many bytes a command takes at the most, however many the source has: its longest input, and one piece
 abbrev pub most_taken : Option Command → ℕ
@@ -19,18 +20,25 @@ most_taken (Some Run) = MOST_BYTES + BUFFER_BYTES
 most_taken (Some Draw) = MOST_BYTES + BUFFER_BYTES
 most_taken (Some Plan) = MOST_DELAY_BYTES + BUFFER_BYTES
 most_taken (Some Place) = MOST_DELAY_BYTES + BUFFER_BYTES
+most_taken (Some Audit) = MOST_HISTORY_BYTES + BUFFER_BYTES
 most_taken _ = 0
+
+-- the statuses of commands
+abbrev pub is_command_status : ℕ → Bool
+is_command_status status = nat_le status 5 || (status == 7)
 
 -- What the top call does with a command, and with words that are none. `left` is what the source tells that it still gives, `told`
 -- what the sink tells that it holds, `failed` and `refused` are the counts of faults of the source and of the sink, and `ends` is how
 -- often the source said that none are left; each before the call and after it.
 pub record MeetsCommand (command : Option Command) (status : ℕ) (left left_after : Option (List ℕ)) (told told_after : Told) (failed failed_after refused refused_after ends ends_after : ℕ) : Type 0 where
-  -- 0, 1 and 2 say what the words and the text are, and the sink took the whole output
-  pub written : status ≤ 2 → (text : List ℕ) × IsTextOf left text × (status ≡ command_status command text) × Takes told told_after (command_output command text)
+  -- 0, 1, 2 and 7 say what the words and the text are, and the sink took the whole output
+  pub written : is_whole status ≡ true → (text : List ℕ) × IsTextOf left text × (status ≡ command_status command text) × Takes told told_after (command_output command text)
   pub end : status ≡ 0 → reads command ≡ true → IsAtEnd left_after
+  pub found_end : command ≡ Some Audit → status ≡ 7 → IsAtEnd left_after
   -- the same, status by status and command by command
   pub done : status ≡ 0 → IsDone command left told told_after
   pub bad : status ≡ 1 → IsRefused command left told told_after
+  pub found : status ≡ 7 → IsFound command left told told_after
   pub no_command : status ≡ 2 → (command ≡ None) × Takes told told_after refusal
   -- the source fails between two reads: `run` has written the answers of each whole line that it read, the other commands nothing
   pub no_source : status ≡ 3 → Rose failed failed_after × (reads command ≡ true) × WroteBefore command left left_after told told_after
@@ -38,7 +46,7 @@ pub record MeetsCommand (command : Option Command) (status : ℕ) (left left_aft
   -- where the sink fails or memory runs out, `run` has written the answers of all that came before the last piece that it read
   pub broken : status ≡ 4 → BrokeOff command left left_after told told_after
   pub no_memory : status ≡ 5 → GaveUp command left left_after told told_after
-  pub statuses : status ≤ 5
+  pub statuses : is_command_status status ≡ true
   -- the bytes taken have a bound
   pub bounded : (taken : List ℕ) × Consumes left left_after taken × (length taken ≤ most_taken command)
   -- and of a script all of them but the last ones, at most a piece, have no bad line among them

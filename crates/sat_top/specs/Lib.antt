@@ -2,6 +2,7 @@ pub mod Words
 pub mod Good
 pub mod Loading
 pub mod Placing
+pub mod Auditing
 pub mod Whole
 pub mod Streaming
 pub mod Living

@@ -1,5 +1,5 @@
 -- What a command makes of the whole text of a source, and what it leaves.
-use Rattle.std.specs.Prelude.{ℕ, ◌≡◌, ◌≤◌, Bool, true, false, List, [], ◌∷◌, ◌++◌, Option, Some, None, IfSome, IsSome, Result, Ok, Err, codes, take}
+use Rattle.std.specs.Prelude.{ℕ, ◌≡◌, ◌≤◌, ◌||◌, ◌==◌, nat_le, Bool, true, false, List, [], ◌∷◌, ◌++◌, Option, Some, None, IfSome, IsSome, Result, Ok, Err, codes, take}
 use Rattle.sat_outside.specs.Streams.{Told, Takes}
 use Rattle.sat_act.specs.declared.act.Act.{Act}
 use Rattle.sat_act.specs.Deployed.{Deployed}
@@ -16,7 +16,7 @@ use Rattle.sat_plan.specs.Mismatch.{mismatch}
 use Rattle.sat_plan.specs.Steps.{built}
 use Rattle.sat_plan.specs.Texts.{config_text, plan_text}
 use Rattle.sat_top.specs.declared.words.Command.{Command}
-use Rattle.sat_top.specs.declared.words.Command.TheVariants.{Run, Draw, Plan, Place, Load, Help, Version}
+use Rattle.sat_top.specs.declared.words.Command.TheVariants.{Run, Draw, Plan, Place, Audit, Load, Help, Version}
 use Rattle.sat_place.specs.Placing.{IsLeast, worth}
 use Rattle.sat_place.specs.Search.{least_places}
 use Rattle.sat_place.specs.Shape.{Shape, shape_reading}
@@ -27,6 +27,7 @@ use Rattle.sat_report.specs.Faults.{fault_line}
 use Rattle.sat_top.specs.Drawing.{draw_text, told_history, IsGoodDrawing}
 use Rattle.sat_top.specs.Loading.{load_text, HasLoaded, IsGoodLoad}
 use Rattle.sat_top.specs.Placing.{IsBestPlacement, place_status}
+use Rattle.sat_top.specs.Auditing.{audit_status, audit_text, HasHistoryFault, HasVerdict, IsTrueVerdict}
 use Rattle.sat_top.specs.Words.{command_of}
 use Rattle.sat_runs.specs.Runs.{history, run_text}
 use Rattle.sat_runs.specs.Good.{IsGoodRun}
@@ -42,7 +43,7 @@ refusal = codes "words refused" ++ 10 ∷ []
 
 -- what the program says of itself
 abbrev pub help : List ℕ
-help = codes "saturn: causal order between sites that keep some items each\n\nusage: saturn COMMAND < INPUT\n\n  run          reads a script, and writes the report of its run\n  plan         reads a table of delays as JSON, and writes a tree of serializers\n  place        reads the same with a given tree, and writes the best places of its serializers\n  draw         reads a script, and writes a picture of its run as SVG\n  live         reads a script of clients, has nodes on threads do it, and writes its history\n  load SEED N  makes a script of N acts and six more, runs it, and writes a summary\n  --help       writes this text\n  --version    writes the version\n\nstatus: 0 done; 1 the input is refused, and the last line written says where; 2 no such command;\n        3 the input could not be read; 4 the output could not be written; 5 out of memory;\n        6 and 8 what the nodes did is not whole, and the output says why\n"
+help = codes "saturn: causal order between sites that keep some items each\n\nusage: saturn COMMAND < INPUT\n\n  run          reads a script, and writes the report of its run\n  plan         reads a table of delays as JSON, and writes a tree of serializers\n  place        reads the same with a given tree, and writes the best places of its serializers\n  draw         reads a script, and writes a picture of its run as SVG\n  live         reads a script of clients, has nodes on threads do it, and writes its history\n  audit        reads the history of a store, and writes whether it is causal, shown once and fresh\n  load SEED N  makes a script of N acts and six more, runs it, and writes a summary\n  --help       writes this text\n  --version    writes the version\n\nstatus: 0 done; 1 the input is refused, and the last line written says where; 2 no such command;\n        3 the input could not be read; 4 the output could not be written; 5 out of memory;\n        6 and 8 what the nodes did is not whole, and the output says why\n        7 the history that was judged is not causal, not shown once or not fresh\n"
 
 abbrev pub version : List ℕ
 version = codes "saturn 0.1.0\n"
@@ -53,6 +54,7 @@ reads (Some Run) = true
 reads (Some Draw) = true
 reads (Some Plan) = true
 reads (Some Place) = true
+reads (Some Audit) = true
 reads _ = false
 
 abbrev pub run_status : Option ScriptFault → ℕ
@@ -70,6 +72,7 @@ command_status (Some Run) text = run_status (reading false text).fault
 command_status (Some Draw) text = run_status (reading false text).fault
 command_status (Some Plan) text = plan_status (delays_in text)
 command_status (Some Place) text = place_status (shape_reading text)
+command_status (Some Audit) text = audit_status text
 command_status (Some (Load seed acts)) text = 0
 command_status (Some Help) text = 0
 command_status (Some Version) text = 0
@@ -81,6 +84,7 @@ command_output (Some Run) text = run_text (reading false text)
 command_output (Some Draw) text = draw_text (reading false text)
 command_output (Some Plan) text = plan_text text
 command_output (Some Place) text = place_text text
+command_output (Some Audit) text = audit_text text
 command_output (Some (Load seed acts)) text = load_text seed acts
 command_output (Some Help) text = help
 command_output (Some Version) text = version
@@ -179,6 +183,7 @@ IsDone (Some Run) left old new = HasRun left old new
 IsDone (Some Draw) left old new = HasDrawn left old new
 IsDone (Some Plan) left old new = HasPlan left old new
 IsDone (Some Place) left old new = HasPlacement left old new
+IsDone (Some Audit) left old new = HasVerdict true left old new
 IsDone (Some (Load seed acts)) left old new = HasLoaded seed acts old new
 IsDone (Some Help) left old new = Takes old new help
 IsDone (Some Version) left old new = Takes old new version
@@ -190,7 +195,17 @@ IsRefused (Some Run) left old new = HasFault left old new
 IsRefused (Some Draw) left old new = HasLineFault left old new
 IsRefused (Some Plan) left old new = HasDelayFault left old new
 IsRefused (Some Place) left old new = HasShapeFault left old new
+IsRefused (Some Audit) left old new = HasHistoryFault left old new
 IsRefused _ left old new = ⊥
+
+-- what was found of an input with status 7
+abbrev pub IsFound : Option Command → Option (List ℕ) → Told → Told → Type 0
+IsFound (Some Audit) left old new = HasVerdict false left old new
+IsFound _ left old new = ⊥
+
+-- the statuses with which the whole output was written
+abbrev pub is_whole : ℕ → Bool
+is_whole status = nat_le status 2 || (status == 7)
 
 -- what a status says of the text beside the output
 abbrev pub Proves : Option Command → ℕ → List ℕ → Type 0
@@ -198,6 +213,7 @@ Proves (Some Run) status text = (status ≡ 0 → IsGoodScript text) × (status 
 Proves (Some Draw) status text = status ≡ 0 → IsGoodDrawing text
 Proves (Some Plan) status text = status ≡ 0 → IsBestPlan text
 Proves (Some Place) status text = IsBestPlacement text
+Proves (Some Audit) status text = IsTrueVerdict text
 Proves (Some (Load seed acts)) status text = IsGoodLoad seed acts
 Proves _ status text = Unit {0}
 

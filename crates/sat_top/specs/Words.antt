@@ -4,7 +4,7 @@ use Rattle.std.specs.Str.{bytes_eq}
 use Rattle.sat_script.specs.Words.{number_up_to}
 use Rattle.sat_settle.specs.declared.load_script.TheConstants.{MOST_LOADED}
 use Rattle.sat_top.specs.declared.words.Command.{Command}
-use Rattle.sat_top.specs.declared.words.Command.TheVariants.{Run, Draw, Plan, Place, Load, Help, Version}
+use Rattle.sat_top.specs.declared.words.Command.TheVariants.{Run, Draw, Plan, Place, Audit, Load, Help, Version}
 
 -- the command of one word
 unfoldable pub command_named : List ℕ → Option Command
@@ -13,8 +13,9 @@ command_named word =
     if bytes_eq word (codes "draw") then Some Draw else (
     if bytes_eq word (codes "plan") then Some Plan else (
     if bytes_eq word (codes "place") then Some Place else (
+    if bytes_eq word (codes "audit") then Some Audit else (
     if bytes_eq word (codes "--help") then Some Help else (
-    if bytes_eq word (codes "--version") then Some Version else None)))))
+    if bytes_eq word (codes "--version") then Some Version else None))))))
 
 -- the load of two numbers: one below 2^64, and one from 2 up to the most that are drawn
 abbrev pub load_of : Option ℕ → Option ℕ → Option Command

@@ -3,18 +3,19 @@ ghost use Rattle.std.specs.Prelude.{◌≡◌, ◌≢◌, ◌≤◌, ◌+◌, �
 ghost use Rattle.std.specs.Io.KnownBytes.{Consumes, IsAtEnd};
 ghost use Rattle.sat_outside.specs.Causes.{Rose};
 ghost use Rattle.sat_top.specs.declared.stream.Stop.TheVariants.{Memory};
-ghost use Rattle.sat_top.specs.declared.words.Command.TheVariants.{Run};
+ghost use Rattle.sat_top.specs.declared.words.Command.TheVariants.{Audit, Run};
 ghost use Rattle.sat_top.specs.Words.{command_of};
 ghost use Rattle.sat_top.specs.Whole.{refusal, reads, run_status, IsOutput};
 ghost use Rattle.sat_top.specs.Contract.{most_taken};
 ghost use Rattle.sat_top.specs.Streaming.{StopsReading, StopsReadingOf};
 
+use crate::auditing::audit_of;
 use crate::drawing::draw_of;
 use crate::law::good_drawings;
 use crate::loading::load_output;
 use crate::placing::{place_of, place_wide_of};
 use crate::planning::plan_of;
-use crate::stream::{Stop, read_delay_text, read_script};
+use crate::stream::{Stop, read_delay_text, read_history_text, read_script};
 use crate::words::{Command, command_of};
 use sat_outside::Source;
 use sat_stream::{Reading, sound_readings};
@@ -31,7 +32,7 @@ impl From<AllocError> for Stop {
 
 // What the program says of itself.
 const HELP: &str =
-    "saturn: causal order between sites that keep some items each\n\nusage: saturn COMMAND < INPUT\n\n  run          reads a script, and writes the report of its run\n  plan         reads a table of delays as JSON, and writes a tree of serializers\n  place        reads the same with a given tree, and writes the best places of its serializers\n  draw         reads a script, and writes a picture of its run as SVG\n  live         reads a script of clients, has nodes on threads do it, and writes its history\n  load SEED N  makes a script of N acts and six more, runs it, and writes a summary\n  --help       writes this text\n  --version    writes the version\n\nstatus: 0 done; 1 the input is refused, and the last line written says where; 2 no such command;\n        3 the input could not be read; 4 the output could not be written; 5 out of memory;\n        6 and 8 what the nodes did is not whole, and the output says why\n";
+    "saturn: causal order between sites that keep some items each\n\nusage: saturn COMMAND < INPUT\n\n  run          reads a script, and writes the report of its run\n  plan         reads a table of delays as JSON, and writes a tree of serializers\n  place        reads the same with a given tree, and writes the best places of its serializers\n  draw         reads a script, and writes a picture of its run as SVG\n  live         reads a script of clients, has nodes on threads do it, and writes its history\n  audit        reads the history of a store, and writes whether it is causal, shown once and fresh\n  load SEED N  makes a script of N acts and six more, runs it, and writes a summary\n  --help       writes this text\n  --version    writes the version\n\nstatus: 0 done; 1 the input is refused, and the last line written says where; 2 no such command;\n        3 the input could not be read; 4 the output could not be written; 5 out of memory;\n        6 and 8 what the nodes did is not whole, and the output says why\n        7 the history that was judged is not causal, not shown once or not fresh\n";
 
 const VERSION: &str = "saturn 0.1.0\n";
 
@@ -115,6 +116,21 @@ fn place<S: Source>(alloc: Global, source: &mut S) -> Result<Output, Stop>
     Ok(output)
 }
 
+// Reads a history, and makes the verdict on it.
+fn judge<S: Source>(alloc: Global, source: &mut S) -> Result<Output, Stop>
+    ensures output { IfOk result (λ out. IsOutput (Some Command.Audit) (S.left source.old) out.text.items out.status) }
+    ensures end { IfOk result (λ out. out.status ≡ 0 → IsAtEnd (S.left source.new)) }
+    ensures found_end { IfOk result (λ out. out.status ≡ 7 → IsAtEnd (S.left source.new)) }
+    ensures bounded { (taken : List ℕ) × Consumes (S.left source.old) (S.left source.new) taken × (length taken ≤ most_taken (Some Command.Audit)) }
+    ensures once { S.ends source.new ≤ S.ends source.old + 1 }
+    ensures later { S.faults source.old ≤ S.faults source.new }
+    ensures failed { IsErrOf result Stop.Source → Rose (S.faults source.old) (S.faults source.new) }
+{
+    let text = read_history_text(alloc, source)?;
+    let output = audit_of(alloc, &text)?;
+    Ok(output)
+}
+
 /// The same, made on several threads.
 pub(crate) fn place_wide<R: Threads + Sync, S: Source>(
     rt: &R,
@@ -142,6 +158,7 @@ pub(crate) fn make_output<S: Source>(
     requires { command_of (map string_bytes words.now) ≢ Some Run }
     ensures output { IfOk result (λ out. IsOutput (command_of (map string_bytes words.now)) (S.left source.old) out.text.items out.status) }
     ensures end { IfOk result (λ out. reads (command_of (map string_bytes words.now)) ≡ true → out.status ≡ 0 → IsAtEnd (S.left source.new)) }
+    ensures found_end { IfOk result (λ out. command_of (map string_bytes words.now) ≡ Some Audit → out.status ≡ 7 → IsAtEnd (S.left source.new)) }
     ensures bounded { (taken : List ℕ) × Consumes (S.left source.old) (S.left source.new) taken × (length taken ≤ most_taken (command_of (map string_bytes words.now))) }
     ensures stops { StopsReadingOf (command_of (map string_bytes words.now)) (S.left source.old) (S.left source.new) }
     ensures once { S.ends source.new ≤ S.ends source.old + 1 }
@@ -155,6 +172,7 @@ pub(crate) fn make_output<S: Source>(
         Some(Command::Draw) => draw(alloc, source),
         Some(Command::Plan) => plan(alloc, source),
         Some(Command::Place) => place(alloc, source),
+        Some(Command::Audit) => judge(alloc, source),
         Some(Command::Load { seed, acts }) => {
             let output = load_output(alloc, seed, acts)?;
             Ok(output)

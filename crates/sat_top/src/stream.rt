@@ -15,8 +15,10 @@ ghost use Rattle.sat_top.specs.declared.stream.TheConstants.{BUFFER_BYTES};
 ghost use Rattle.sat_top.specs.Streaming.{HasAnswered, HasFront, StopsReading, WasAnswering};
 ghost use Rattle.sat_top.specs.Whole.{IsOutput, IsTextOf, TakesFront, run_status};
 ghost use Rattle.sat_top.specs.Living.{HasReadLines};
+ghost use Rattle.sat_top.specs.Auditing.{heard_in};
 ghost use Rattle.sat_top.specs.UnderWay.{DoesMore, Ends, EndsBefore, IsKnown, IsWorldOf};
 
+use crate::auditing::MOST_HISTORY_BYTES;
 use crate::law::good_scripts;
 use crate::output::run_status;
 use crate::run::{answer_more, rest_text};
@@ -210,8 +212,29 @@ pub fn read_script<S: Source>(alloc: Global, source: &mut S, live: bool) -> Resu
     unreachable!()
 }
 
-/// Reads a text of delays: all that the source has, or more than such a text may have.
+// Reads all that the source has, or more than so many bytes.
 #[tactic(auto, using(crate::proofs::Progress::ends_once, crate::proofs::Progress::ends_same))]
+fn read_past<S: Source>(alloc: Global, source: &mut S, most: usize) -> Result<Vec<u8>, Stop>
+    ensures taken { IfOk result (λ found. Consumes (S.left source.old) (S.left source.new) found.items) }
+    ensures end { IfOk result (λ found. length found.items ≤ most → IsAtEnd (S.left source.new)) }
+    ensures bounded { (taken : List ℕ) × Consumes (S.left source.old) (S.left source.new) taken × (length taken ≤ most + BUFFER_BYTES) }
+    ensures once { S.ends source.new ≤ S.ends source.old + 1 }
+    ensures later { S.faults source.old ≤ S.faults source.new }
+    ensures failed { IsErrOf result Stop.Source → Rose (S.faults source.old) (S.faults source.new) }
+{
+    let mut text = Vec::new(alloc);
+    let mut buffer = [0u8; BUFFER_BYTES];
+    while text.len() <= most {
+        match source.read(&mut buffer) {
+            Err(_) => return Err(Stop::Source),
+            Ok(0) => return Ok(text),
+            Ok(count) => text.extend_from_slice(&buffer[..count])?,
+        }
+    }
+    Ok(text)
+}
+
+/// Reads a text of delays: all that the source has, or more than such a text may have.
 pub fn read_delay_text<S: Source>(alloc: Global, source: &mut S) -> Result<Vec<u8>, Stop>
     ensures text { IfOk result (λ found. (text : List ℕ) × IsTextOf (S.left source.old) text × (delays_in text ≡ delays_in found.items) × (shape_reading text ≡ shape_reading found.items)) }
     ensures end { IfOk result (λ found. length found.items ≤ MOST_BYTES → IsAtEnd (S.left source.new)) }
@@ -220,15 +243,20 @@ pub fn read_delay_text<S: Source>(alloc: Global, source: &mut S) -> Result<Vec<u
     ensures later { S.faults source.old ≤ S.faults source.new }
     ensures failed { IsErrOf result Stop.Source → Rose (S.faults source.old) (S.faults source.new) }
 {
-    let mut text = Vec::new(alloc);
-    let mut buffer = [0u8; BUFFER_BYTES];
-    while text.len() <= MOST_BYTES {
-        match source.read(&mut buffer) {
-            Err(_) => return Err(Stop::Source),
-            Ok(0) => return Ok(text),
-            Ok(count) => text.extend_from_slice(&buffer[..count])?,
-        }
-    }
+    let text = read_past(alloc, source, MOST_BYTES)?;
+    Ok(text)
+}
+
+/// Reads the text of a history: all that the source has, or more than is read of one.
+pub fn read_history_text<S: Source>(alloc: Global, source: &mut S) -> Result<Vec<u8>, Stop>
+    ensures text { IfOk result (λ found. (text : List ℕ) × IsTextOf (S.left source.old) text × (heard_in text ≡ heard_in found.items)) }
+    ensures end { IfOk result (λ found. length found.items ≤ MOST_HISTORY_BYTES → IsAtEnd (S.left source.new)) }
+    ensures bounded { (taken : List ℕ) × Consumes (S.left source.old) (S.left source.new) taken × (length taken ≤ MOST_HISTORY_BYTES + BUFFER_BYTES) }
+    ensures once { S.ends source.new ≤ S.ends source.old + 1 }
+    ensures later { S.faults source.old ≤ S.faults source.new }
+    ensures failed { IsErrOf result Stop.Source → Rose (S.faults source.old) (S.faults source.new) }
+{
+    let text = read_past(alloc, source, MOST_HISTORY_BYTES)?;
     Ok(text)
 }
 

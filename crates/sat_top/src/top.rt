@@ -17,7 +17,7 @@ use std::thread::Threads;
 /// Does the command that the words say, and answers its status. `run` reads a piece, does each whole line in it and writes its answer
 /// before it reads more; the other commands write nothing before they have read all. The statuses:
 /// 0, the command was done; 1, the input is refused; 2, the words are no command; 3, the source failed;
-/// 4, the sink failed; 5, memory ran out. It waits for nobody, and so `live` is none of its commands.
+/// 4, the sink failed; 5, memory ran out; 7, a history that was judged is not as it should be. It waits for nobody, and so `live` is none of its commands.
 pub fn still<S: Source, K: Sink>(
     alloc: Global,
     words: &[String],
@@ -36,7 +36,7 @@ pub fn still<S: Source, K: Sink>(
 }
 
 // Runs a script line by line, and answers the status.
-#[tactic(auto, using(crate::proofs::Done::is_done, crate::proofs::Done::is_refused))]
+#[tactic(auto, using(crate::proofs::Done::is_done, crate::proofs::Done::is_refused, crate::proofs::Done::is_found, crate::proofs::Done::has_status))]
 fn streamed<S: Source, K: Sink>(alloc: Global, source: &mut S, sink: &mut K) -> u8
     ensures meets { MeetsCommand (Some Run) result (S.left source.old) (S.left source.new) (K.told sink.old) (K.told sink.new)
         (S.faults source.old) (S.faults source.new) (K.faults sink.old) (K.faults sink.new) (S.ends source.old) (S.ends source.new) }
@@ -50,7 +50,7 @@ fn streamed<S: Source, K: Sink>(alloc: Global, source: &mut S, sink: &mut K) -> 
 }
 
 // Does another command: makes its whole output, writes it, and answers the status.
-#[tactic(auto, using(crate::proofs::Done::is_done, crate::proofs::Done::is_refused))]
+#[tactic(auto, using(crate::proofs::Done::is_done, crate::proofs::Done::is_refused, crate::proofs::Done::is_found, crate::proofs::Done::has_status))]
 fn told<S: Source, K: Sink>(alloc: Global, words: &[String], source: &mut S, sink: &mut K) -> u8
     requires { command_of (map string_bytes words.now) ≢ Some Run }
     ensures meets { MeetsCommand (command_of (map string_bytes words.now)) result (S.left source.old) (S.left source.new) (K.told sink.old) (K.told sink.new)
@@ -69,7 +69,7 @@ fn told<S: Source, K: Sink>(alloc: Global, words: &[String], source: &mut S, sin
 }
 
 // Finds the best places of a tree on several threads, and answers the status.
-#[tactic(auto, using(crate::proofs::Done::is_done, crate::proofs::Done::is_refused))]
+#[tactic(auto, using(crate::proofs::Done::is_done, crate::proofs::Done::is_refused, crate::proofs::Done::is_found, crate::proofs::Done::has_status))]
 fn placed<R: AllocGlobal + Threads + Sync, S: Source, K: Sink>(
     rt: &R,
     words: &[String],

@@ -18,6 +18,8 @@ pub enum Command {
     Plan,
     /// Reads a table of delays and a tree, and writes the best places of its serializers.
     Place,
+    /// Reads a history and writes whether it is causal, shows each update once and is fresh.
+    Audit,
     /// Makes a script of so many acts and six more, runs it and writes a summary.
     Load { seed: u64, acts: u32 },
     /// Writes what the program can do.
@@ -37,6 +39,7 @@ fn command_named(word: &str) -> Option<Command>
         "draw" => Some(Command::Draw),
         "plan" => Some(Command::Plan),
         "place" => Some(Command::Place),
+        "audit" => Some(Command::Audit),
         "--help" => Some(Command::Help),
         "--version" => Some(Command::Version),
         _ => None,

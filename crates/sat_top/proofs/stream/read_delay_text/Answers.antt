@@ -1,17 +1,5 @@
-use Rattle.std.proofs.Common.{◌++◌, take, arith}
-use Rattle.std.proofs.lemmas.List.{length-append}
-use Rattle.sat_top.proofs.Plans.{enough_delays}
-use Rattle.sat_top.proofs.Progress.{consumes_more}
+use Rattle.sat_top.proofs.Plans.{read_so}
 use Rattle.sat_top.proofs.stream.read_delay_text.Goals as goal
 
-pub returns-in_err-extend_from_slice-in-Ok-clause-bounded : goal.returns-in_err-extend_from_slice-in-Ok-clause-bounded
-returns-in_err-extend_from_slice-in-Ok-clause-bounded g c =
-    let had = c.loop-buffer.invariant in
-    let piece = take c.in-Ok.count c.read.new.into in (
-      c.loop-buffer.text.items ++ piece,
-      consumes_more (g.S.Source.left c.args.source.now) (g.S.Source.left c.loop-buffer.source) (g.S.Source.left c.read.new.self) c.loop-buffer.text.items piece had.1 c.in-Ok.ensures.bytes.0,
-      omega (arith, length-append c.loop-buffer.text.items piece, c.in-Ok.ensures.count.1, c.in-Ok.ensures.count.0),
-    )
-
 pub returns-clause-text : goal.returns-clause-text
-returns-clause-text g c = enough_delays (g.S.Source.left c.args.source.now) (g.S.Source.left c.loop-buffer.source) c.loop-buffer.text.items c.loop-buffer.invariant.1 (omega arith)
+returns-clause-text g c = read_so (g.S.Source.left c.args.source.now) (g.S.Source.left c.read_past.new.source) c.in_ok-text.text.items c.in_ok-text.ensures.taken c.in_ok-text.ensures.end
