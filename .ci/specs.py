@@ -77,7 +77,7 @@ class Specs:
             head = HEAD.match(line)
             if head and (current is None or len(head.group(1)) <= current[0]):
                 name = head.group(3).strip('◌(')
-                here = Definition(self, name, number, ' '.join(comment))
+                here = Definition(self.path, name, number, ' '.join(comment))
                 here.body.append(line)
                 if not self.about and not self.definitions:
                     self.about = here.comment[:1].upper() + here.comment[1:]
