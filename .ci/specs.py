@@ -1,5 +1,5 @@
-"""The files of definitions, `crates/*/specs/*.antt`, as .ci/reading and .ci/definitions see them: each definition with the comment
-above it, its lines, and the names that it speaks of."""
+"""The files of definitions, `crates/*/specs/*.antt`, as .ci/reading and .ci/definitions see them: each definition with
+the comment above it, its lines, and the names that it speaks of."""
 import re
 from pathlib import Path
 
@@ -10,7 +10,8 @@ LITERAL = re.compile(r'"(?:[^"\\]|\\.)*"')
 
 
 class Definition:
-    """A definition: its name, the line at which it begins (from 1), its comment in one string, and its lines without comments."""
+    """A definition: its name, the line at which it begins (from 1), its comment in one string, and its lines without
+    comments."""
 
     def __init__(self, file, name, line, comment):
         self.file, self.name, self.line, self.comment = file, name, line, comment
@@ -124,8 +125,8 @@ class Specs:
 
 
 def place(crate, module):
-    """Where a module of an import stands: a file of definitions, or the file of code that declares a type or a constant; None for
-    what the kit brings."""
+    """Where a module of an import stands: a file of definitions, or the file of code that declares a type or a
+    constant; None for what the kit brings."""
     parts = module.split('.')
     if parts[0] != 'declared':
         file = f'crates/{crate}/specs/{parts[0]}.antt'
