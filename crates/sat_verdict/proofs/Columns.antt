@@ -1,9 +1,10 @@
 -- One entry more, in the tables of what is known of one client.
-use Rattle.std.specs.Prelude.{◌≡◌, ◌≢◌, ◌⊎◌, ◌<◌, ◌≤◌, ◌+◌, ◌-◌, ℕ, suc, Bool, true, false, List, [], ◌∷◌, ◌++◌, length, reverse, map, drop, get_or, Option, Some, None, refl, ◌==◌, ◌&&◌, nat_lt, nat_le, max, if◌then◌else◌}
+use Rattle.std.specs.Prelude.{◌≡◌, ◌≢◌, ◌⊎◌, ◌<◌, ◌≤◌, ◌+◌, ◌-◌, ℕ, zero, suc, Bool, true, false, List, [], ◌∷◌, ◌++◌, length, reverse, map, drop, set, get_or, Option, Some, None, refl, ◌==◌, ◌&&◌, nat_lt, nat_le, max, if◌then◌else◌}
 use Rattle.std.proofs.Common.{sym, subst, arith, inl, inr, ap, ◌∙◌}
 use Rattle.std.proofs.lemmas.Bool.Decides.{nat_tests}
 use Rattle.std.proofs.Common.{length-append}
-use Rattle.std.proofs.lemmas.List.{get_or-map, get_or_default}
+use Rattle.std.proofs.lemmas.List.{get_or-map, get_or_default, get_or-set_same, get_or-set_other, length-map, length-set, map-append}
+use Rattle.std.proofs.lemmas.Bool.{cases_eq}
 use Rattle.std.proofs.Math.ListN.{get_or-append}
 use Rattle.std.proofs.Math.Seq.{get_or-append_seam}
 use Rattle.sat_label.specs.declared.point.Point.{Point}
@@ -13,8 +14,8 @@ use Rattle.sat_verdict.specs.Entries.{client_of, is_of}
 use Rattle.sat_verdict.specs.Causes.{Client, Maker}
 use Rattle.sat_verdict.specs.Counts.{known, read_count, maker_of, next_count}
 use Rattle.sat_verdict.specs.Found.{made_number}
-use Rattle.sat_verdict.specs.Tables.{number_or, number_in, told, IsUnique, HasClients, value_at, read_of, KnowsNow, IsColumnTo}
-use Rattle.sat_verdict.proofs.Counted.{number_same, yes-is_of, is_of-yes, maker-client, own-count}
+use Rattle.sat_verdict.specs.Tables.{number_or, number_in, told, column, row_before, IsUnique, HasClients, value_at, read_of, AreBlankTo, AreKept, AreRows, IsBlank, IsRaisedBy, KnowsNow, IsColumnTo, Learns, Raises}
+use Rattle.sat_verdict.proofs.Counted.{same_number, some_is, yes-is_of, is_of-yes, maker-client, own-count}
 use Rattle.sat_verdict.proofs.Histories.{told-next, told-length, told-split, made-stays, made-late, made-number-bound, unique-part, unmade-none, WasMade, was-made, StandsAt, stands-told}
 
 -- ---- what the maker knew of a point that an entry reads
@@ -128,14 +129,6 @@ column-next xs d i v counts size column new j c l o = go (cases j i l)
         ap (λ (n : ℕ). get_or (counts ++ v ∷ []) n 0) (a ∙ sym size) ∙ (get_or-append_seam counts v [] 0 ∙
         (new c (subst (λ (n : ℕ). client_of (get_or xs n Other) ≡ Some c) a o) ∙ ap (λ (n : ℕ). known (told xs n) (Client c) d) (sym a)))
 
-pub own-value : (h : List Tale) (c d k place : ℕ) → length h ≡ place → k ≡ d → k ≡ c → place ≡ known h (Client c) d
-own-value h c d k place size e f = sym size ∙ sym (own-count h c d (number_same d c (sym e ∙ f)))
-
-pub loop-start : (xs : List Tale) (d clients : ℕ) (now counts : List ℕ) → length now ≡ clients → ((k : ℕ) → get_or now k 0 ≡ 0) → length counts ≡ 0 →
-    (length now ≡ clients) × (length counts ≡ 0) × KnowsNow (told xs 0) d now × IsColumnTo xs d counts 0
-unfolding known
-loop-start xs d clients now counts size zeros none = (size, none, λ c l away. zeros c, λ j c l o. absurd (omega arith))
-
 -- one turn of the loop
 pub loop-next : (xs : List Tale) (d i clients : ℕ) (e : Tale) (numbers counts seen counts' old seen_now new : List ℕ) (o : Option ℕ) (number v b : ℕ) →
     i < length xs → e ≡ get_or xs i e → IsUnique (reverse xs) → HasClients clients xs → numbers ≡ map (number_in (reverse xs)) xs → number ≡ get_or numbers i 0 →
@@ -181,3 +174,203 @@ loop-next xs d i clients e numbers counts seen counts' old seen_now new o number
         let low : c < clients = below i c l q in
         before (told xs i) c len (subst (λ (ys : List ℕ). KnowsNow (told xs i) d ys) (sym seen_now_is) inv.2) (ap client_of here ∙ q)
         (subst (λ (ys : List ℕ). c < length ys) (sym seen_now_is) (subst (λ (n : ℕ). c < n) (sym inv.0) low))
+
+-- ---- rows of counts, by their columns
+
+pub column-at : (rows : List (List ℕ)) (d j : ℕ) → get_or (column rows d) j 0 ≡ get_or (get_or rows j []) d 0
+column-at [] d j = refl
+column-at (row ∷ rows) d zero = refl
+column-at (row ∷ rows) d (suc j) = column-at rows d j
+
+column-length : (rows : List (List ℕ)) (d : ℕ) → length (column rows d) ≡ length rows
+column-length rows d = length-map rows (λ (row : List ℕ). get_or row d 0)
+
+column-more : (rows : List (List ℕ)) (row : List ℕ) (d : ℕ) → column (rows ++ row ∷ []) d ≡ column rows d ++ get_or row d 0 ∷ []
+column-more rows row d = map-append (λ (r : List ℕ). get_or r d 0) rows (row ∷ [])
+
+-- what the lists say after the first n entries
+pub record AreKnown (xs : List Tale) (clients n : ℕ) (now rows : List (List ℕ)) : Type 0 where
+  pub clients_size : length now ≡ clients
+  pub sizes : (c : ℕ) → c < clients → length (get_or now c []) ≡ clients
+  pub size : length rows ≡ n
+  pub knows : (d : ℕ) → d < clients → KnowsNow (told xs n) d (column now d)
+  pub columns : (d : ℕ) → d < clients → IsColumnTo xs d (column rows d) n
+
+pub known-start : (xs : List Tale) (clients : ℕ) (now rows : List (List ℕ)) → AreBlankTo clients clients now → length rows ≡ 0 → AreKnown xs clients 0 now rows
+unfolding known
+known-start xs clients now rows blank none = record {
+  clients_size = blank.0;
+  sizes = λ c l. (blank.1 c l).0;
+  size = none;
+  knows = λ d l c m away. column-at now d c ∙ (blank.1 c (subst (λ (n : ℕ). c < n) (column-length now d ∙ blank.0) m)).1 d l;
+  columns = λ d l j c m o. absurd (omega arith);
+}
+
+-- the row of an entry has what its client knew
+row-known : (h : List Tale) (c d clients place : ℕ) (now : List (List ℕ)) → length h ≡ place → length now ≡ clients → length (get_or now c []) ≡ clients → c < clients →
+    KnowsNow h d (column now d) → get_or (set (get_or now c []) c place) d 0 ≡ known h (Client c) d
+row-known h c d clients place now size all wide low knows = go (d == c) refl
+  where
+    apart_numbers : (m n : ℕ) → (m == n) ≡ false → m ≡ n → ⊥
+    apart_numbers m n e f = grind (arith, nat_tests)
+
+    go : (t : Bool) → (d == c) ≡ t → get_or (set (get_or now c []) c place) d 0 ≡ known h (Client c) d
+    go true t =
+        let e : d ≡ c = same_number d c t in
+        subst (λ (k : ℕ). get_or (set (get_or now c []) c place) k 0 ≡ known h (Client c) d) (sym e)
+        (get_or-set_same (get_or now c []) c place 0 (subst (λ (n : ℕ). c < n) (sym wide) low) ∙ (sym size ∙ sym (own-count h c d t)))
+    go false t =
+        get_or-set_other (get_or now c []) c d place 0 (apart_numbers d c t) ∙
+        (sym (column-at now d c) ∙ knows c (subst (λ (n : ℕ). c < n) (sym (column-length now d ∙ all)) low) t)
+
+-- one entry more
+pub known-next : (xs : List Tale) (i clients : ℕ) (e : Tale) (numbers : List ℕ) (now seen_now now' rows seen rows' : List (List ℕ)) (row : List ℕ) (o : Option ℕ) (number : ℕ) →
+    i < length xs → e ≡ get_or xs i e → IsUnique (reverse xs) → HasClients clients xs → numbers ≡ map (number_in (reverse xs)) xs → number ≡ get_or numbers i 0 →
+    AreKnown xs clients i now rows → seen_now ≡ now → o ≡ client_of e → row ≡ row_before seen_now i o → seen ≡ rows → Learns e number i seen now now' → rows' ≡ rows ++ row ∷ [] →
+    AreKnown xs clients (i + 1) now' rows'
+known-next xs i clients e numbers now seen_now now' rows seen rows' row o number l is unique below numbers_are number_is inv seen_now_is o_is row_is seen_is learns pushed = record {
+  clients_size = learns.0.0 ∙ inv.clients_size;
+  sizes = λ c low. learns.0.1 c ∙ inv.sizes c low;
+  size = ap (λ (ys : List (List ℕ)). length ys) pushed ∙ (length-append rows (row ∷ []) ∙ ap (λ (n : ℕ). n + 1) inv.size);
+  knows = λ d low. (step d low).2;
+  columns = λ d low. (step d low).3;
+}
+  where
+    here : client_of e ≡ client_of (get_or xs i Other)
+    here = ap client_of (is ∙ get_or_default xs i e Other l)
+
+    row_of : (c : ℕ) → client_of e ≡ Some c → row ≡ set (get_or now c []) c i
+    row_of c q = row_is ∙ (ap (λ (t : Option ℕ). row_before seen_now i t) (o_is ∙ q) ∙ ap (λ (ys : List (List ℕ)). set (get_or ys c []) c i) seen_now_is)
+
+    step : (d : ℕ) → d < clients → (length (column now' d) ≡ clients) × (length (column rows' d) ≡ i + 1) × KnowsNow (told xs (i + 1)) d (column now' d) × IsColumnTo xs d (column rows' d) (i + 1)
+    step d low =
+        loop-next xs d i clients e numbers (column rows d) (column seen d) (column rows' d) (column now d) (column now d) (column now' d) (client_of e) number (read_of e (value_at number i (column seen d))) (get_or row d 0)
+        l is unique below numbers_are number_is
+        (column-length now d ∙ inv.clients_size, column-length rows d ∙ inv.size, inv.knows d low, inv.columns d low)
+        (ap (λ (ys : List (List ℕ)). column ys d) seen_is) refl refl
+        (λ h c size knows q few.
+        ap (λ (r : List ℕ). get_or r d 0) (row_of c q) ∙
+        row-known h c d clients i now size inv.clients_size (inv.sizes c (below i c l (sym here ∙ q))) (below i c l (sym here ∙ q)) knows)
+        (ap (λ (ys : List (List ℕ)). column ys d) pushed ∙ column-more rows row d)
+        refl
+        (column-length now' d ∙ (learns.0.0 ∙ sym (column-length now d)))
+        (λ c away. column-at now' d c ∙ (ap (λ (r : List ℕ). get_or r d 0) (learns.0.2 c away) ∙ sym (column-at now d c)))
+        (λ c q few.
+        let m : c < length now = subst (λ (n : ℕ). c < n) (column-length now d) few in
+        column-at now' d c ∙
+        (learns.1 c q d m (subst (λ (n : ℕ). d < n) (sym (inv.sizes c (subst (λ (n : ℕ). c < n) inv.clients_size m))) low) ∙
+        ap (λ (n : ℕ). max n (read_of e (value_at number i (column seen d)))) (sym (column-at now d c))))
+
+pub known-end : (xs : List Tale) (clients n : ℕ) (now rows : List (List ℕ)) → n ≡ length xs → AreKnown xs clients n now rows → AreRows xs clients rows
+known-end xs clients n now rows e inv = (inv.size ∙ e, λ d low. subst (λ (k : ℕ). IsColumnTo xs d (column rows d) k) e (inv.columns d low))
+
+-- ---- what raises a row
+
+pub blank-more : (clients n : ℕ) (now new : List (List ℕ)) (row : List ℕ) → AreBlankTo clients n now → IsBlank clients row → new ≡ now ++ row ∷ [] → AreBlankTo clients (n + 1) new
+blank-more clients n now new row old blank is = (
+  ap (λ (ys : List (List ℕ)). length ys) is ∙ (length-append now (row ∷ []) ∙ ap (λ (m : ℕ). m + 1) old.0),
+  λ c low. subst (λ (ys : List (List ℕ)). IsBlank clients (get_or ys c [])) (sym is) (go c (cases c n low)),
+)
+  where
+    cases : (c n : ℕ) → c < n + 1 → (c < n) ⊎ (c ≡ n)
+    cases c n l = grind arith
+
+    go : (c : ℕ) → (c < n) ⊎ (c ≡ n) → IsBlank clients (get_or (now ++ row ∷ []) c [])
+    go c (inl a) = subst (λ (ys : List ℕ). IsBlank clients ys) (sym (get_or-append now (row ∷ []) [] c (subst (λ (m : ℕ). c < m) (sym old.0) a))) (old.1 c a)
+    go c (inr a) =
+        subst (λ (ys : List ℕ). IsBlank clients ys) (sym (ap (λ (m : ℕ). get_or (now ++ row ∷ []) m []) (a ∙ sym old.0) ∙ get_or-append_seam now row [] [])) blank
+
+same-kept : (Changed : ℕ → Type 0) (now : List (List ℕ)) → AreKept Changed now now
+same-kept Changed now = (refl, λ c. refl, λ c away. refl)
+
+max_zero : (n m : ℕ) → m ≡ 0 → n ≡ max n m
+max_zero n m e = omega arith
+
+-- no such entry
+pub raises-none : (client number place : ℕ) (rows now : List (List ℕ)) → (nat_lt 0 number && nat_le number place) ≡ false → Raises client number place rows now now
+raises-none client number place rows now out =
+    (same-kept (λ c. client ≡ c) now, λ d m low. max_zero (get_or (get_or now client []) d 0) (value_at number place (column rows d)) (value_out (nat_lt 0 number && nat_le number place) (get_or (column rows d) (number - 1) 0) out))
+
+-- no such client
+pub raises-past : (client number place : ℕ) (rows now : List (List ℕ)) → length now ≤ client → Raises client number place rows now now
+raises-past client number place rows now past = (same-kept (λ c. client ≡ c) now, λ d m low. absurd (omega arith))
+
+pub raises-row : (client number place : ℕ) (rows now : List (List ℕ)) (old new other : List ℕ) → 0 < number → number ≤ place → client < length now → old ≡ get_or now client [] → other ≡ get_or rows (number - 1) [] →
+    length new ≡ length old → ((k : ℕ) → k < length old → get_or new k 0 ≡ max (get_or old k 0) (get_or other k 0)) → Raises client number place rows now (set now client new)
+raises-row client number place rows now old new other some few low old_is other_is size each = (
+  (length-set now client new, λ c. sizes c (cases_eq c client), λ c away. get_or-set_other now client c new [] (λ e. away (sym e))),
+  λ d m wide.
+      ap (λ (r : List ℕ). get_or r d 0) (get_or-set_same now client new [] low) ∙
+      (each d (subst (λ (r : List ℕ). d < length r) (sym old_is) wide) ∙
+      (ap (λ (r : List ℕ). max (get_or r d 0) (get_or other d 0)) old_is ∙
+      ap (λ (n : ℕ). max (get_or (get_or now client []) d 0) n)
+      (ap (λ (r : List ℕ). get_or r d 0) other_is ∙ (sym (column-at rows d (number - 1)) ∙ sym (value_in (nat_lt 0 number && nat_le number place) (get_or (column rows d) (number - 1) 0) (in_range number place some few)))))),
+)
+  where
+    sizes : (c : ℕ) → (c ≡ client) ⊎ (c ≡ client → ⊥) → length (get_or (set now client new) c []) ≡ length (get_or now c [])
+    sizes c (inl e) =
+        ap (λ (k : ℕ). length (get_or (set now client new) k [])) e ∙
+        (ap (λ (r : List ℕ). length r) (get_or-set_same now client new [] low) ∙ (size ∙ (ap (λ (r : List ℕ). length r) old_is ∙ ap (λ (k : ℕ). length (get_or now k [])) (sym e))))
+    sizes c (inr away) = ap (λ (r : List ℕ). length r) (get_or-set_other now client c new [] away)
+
+-- what the entry's client learns, if it reads
+pub learns-read : (e : Tale) (client x : ℕ) (p : Point) (number place : ℕ) (rows old new : List (List ℕ)) → e ≡ ReadSome client x p → Raises client number place rows old new → Learns e number place rows old new
+learns-read e client x p number place rows old new is r =
+    subst (λ (f : Tale). Learns f number place rows old new) (sym is)
+    ((r.0.0, r.0.1, λ c away. r.0.2 c (λ q. away (ap Some q))), λ c q. subst (λ (k : ℕ). IsRaisedBy (λ d. value_at number place (column rows d)) k old new) (some_is client c q) r.1)
+
+nothing-learned : (e : Tale) (number place : ℕ) (rows now : List (List ℕ)) → ((v : ℕ) → read_of e v ≡ 0) → Learns e number place rows now now
+nothing-learned e number place rows now none =
+    (same-kept (λ c. client_of e ≡ Some c) now, λ c q d m low. max_zero (get_or (get_or now c []) d 0) (read_of e (value_at number place (column rows d))) (none (value_at number place (column rows d))))
+
+-- ---- the numbers of two rows
+
+-- the first n numbers are raised to those of some others
+pub record RaisedTo (n : ℕ) (old others now : List ℕ) : Type 0 where
+  pub size : length now ≡ length old
+  pub raised : (k : ℕ) → k < n → get_or now k 0 ≡ max (get_or old k 0) (get_or others k 0)
+  pub kept : (k : ℕ) → n ≤ k → get_or now k 0 ≡ get_or old k 0
+
+pub raise-start : (old others : List ℕ) → RaisedTo 0 old others old
+raise-start old others = record { size = refl; raised = λ k l. absurd (omega arith); kept = λ k l. refl }
+
+pub raise-next : (old others now new : List ℕ) (n v : ℕ) → RaisedTo n old others now → n < length now → v ≡ max (get_or now n 0) (get_or others n 0) → new ≡ set now n v → RaisedTo (n + 1) old others new
+raise-next old others now new n v inv low value is = record {
+  size = ap (λ (ys : List ℕ). length ys) is ∙ (length-set now n v ∙ inv.size);
+  raised = λ k l. ap (λ (ys : List ℕ). get_or ys k 0) is ∙ go k (cases k n l);
+  kept = λ k l. ap (λ (ys : List ℕ). get_or ys k 0) is ∙ (get_or-set_other now n k v 0 (above k n l) ∙ inv.kept k (omega arith));
+}
+  where
+    cases : (k n : ℕ) → k < n + 1 → (k < n) ⊎ (k ≡ n)
+    cases k n l = grind arith
+
+    above : (k n : ℕ) → n + 1 ≤ k → k ≡ n → ⊥
+    above k n l e = omega arith
+
+    below_it : (k n : ℕ) → k < n → k ≡ n → ⊥
+    below_it k n l e = omega arith
+
+    go : (k : ℕ) → (k < n) ⊎ (k ≡ n) → get_or (set now n v) k 0 ≡ max (get_or old k 0) (get_or others k 0)
+    go k (inl a) = get_or-set_other now n k v 0 (below_it k n a) ∙ inv.raised k a
+    go k (inr a) =
+        ap (λ (m : ℕ). get_or (set now n v) m 0) a ∙
+        (get_or-set_same now n v 0 low ∙ (value ∙ (ap (λ (m : ℕ). max m (get_or others n 0)) (inv.kept n (omega arith)) ∙ ap (λ (m : ℕ). max (get_or old m 0) (get_or others m 0)) (sym a))))
+
+past-zero : (xs : List ℕ) (k : ℕ) → length xs ≤ k → get_or xs k 0 ≡ 0
+past-zero [] k l = refl
+past-zero (x ∷ xs) zero l = absurd (omega arith)
+past-zero (x ∷ xs) (suc k) l = past-zero xs k (omega arith)
+
+pub raise-end : (old others now : List ℕ) (n : ℕ) → (length old ≤ n) ⊎ (length others ≤ n) → RaisedTo n old others now → (k : ℕ) → k < length old → get_or now k 0 ≡ max (get_or old k 0) (get_or others k 0)
+raise-end old others now n end inv k low = go (cases k n)
+  where
+    cases : (k n : ℕ) → (k < n) ⊎ (n ≤ k)
+    cases k n = grind arith
+
+    late : (length old ≤ n) ⊎ (length others ≤ n) → n ≤ k → length others ≤ k
+    late (inl a) b = absurd (omega arith)
+    late (inr a) b = omega arith
+
+    go : (k < n) ⊎ (n ≤ k) → get_or now k 0 ≡ max (get_or old k 0) (get_or others k 0)
+    go (inl a) = inv.raised k a
+    go (inr a) = inv.kept k a ∙ max_zero (get_or old k 0) (get_or others k 0) (past-zero others k (late end a))

@@ -5,7 +5,7 @@ ghost use Rattle.sat_verdict.specs.Tables.{HasClients, IsUnique};
 ghost use Rattle.sat_verdict.specs.Passes.{HasSites};
 
 use crate::Tale;
-use crate::counts::columns_of;
+use crate::counts::rows_of;
 use crate::links::links_of;
 use crate::makers::maker_numbers;
 use crate::readers::fresh_entries;
@@ -44,14 +44,14 @@ pub fn judge(
     ensures fresh { IfOk result (λ verdict. IsFreshVerdict (reverse tales.now) verdict.fresh) }
 {
     let numbers = maker_numbers(alloc, tales)?;
-    let columns = columns_of(alloc, tales, numbers.as_slice(), clients)?;
+    let rows = rows_of(alloc, tales, numbers.as_slice(), clients)?;
     let links = links_of(alloc, tales, clients)?;
     let judged = judge_shows(
         alloc,
         sets,
         tales,
         numbers.as_slice(),
-        columns.as_slice(),
+        rows.as_slice(),
         &links,
         clients,
     )?;
@@ -59,14 +59,14 @@ pub fn judge(
         alloc,
         tales,
         numbers.as_slice(),
-        columns.as_slice(),
+        rows.as_slice(),
         &links,
         clients,
     )?;
     let fresh = judge_reads(
         tales,
         numbers.as_slice(),
-        columns.as_slice(),
+        rows.as_slice(),
         clear.as_slice(),
         clients,
     );
