@@ -58,6 +58,14 @@ pub fn awaits(words: &[String]) -> Option<&'static str> {
     }
 }
 
+/// Whether these are the words by which a history is judged.
+pub fn is_audit(words: &[String]) -> bool {
+    match words {
+        [word] => word.as_str() == "audit",
+        _ => false,
+    }
+}
+
 /// Whether these are the words of a run, whose refused acts may be counted.
 pub fn is_run(words: &[String]) -> bool {
     match words {

@@ -1,7 +1,8 @@
 -- The laws of told histories and those of runs say the same.
-use Rattle.std.specs.Prelude.{◌≡◌, ◌⊎◌, ◌==◌, ◌&&◌, ◌||◌, ℕ, zero, suc, Bool, true, false, List, [], ◌∷◌, map, get_or, Option, Some, None, refl, slice_get}
+use Rattle.std.specs.Prelude.{◌≡◌, ◌==◌, ℕ, zero, suc, Bool, true, false, List, [], ◌∷◌, map, get_or, Option, Some, None, refl, slice_get}
 use Rattle.std.proofs.Common.{sym, subst, inl, inr, ap, ◌∙◌}
 use Rattle.std.proofs.lemmas.Bool.{false_from_ne_true}
+use Rattle.std.proofs.lemmas.Nat.Bits.{bit_at-zero}
 use Rattle.sat_label.specs.declared.label.Kind.{Kind}
 use Rattle.sat_label.specs.declared.label.Kind.TheVariants as kind
 use Rattle.sat_label.specs.declared.label.Label.{Label}
@@ -41,7 +42,7 @@ use Rattle.sat_told.proofs.Pasts.{made-apart, knows-told, knows-back, knows-made
 -- ---- which sites keep an item
 
 no-bit : (k : ℕ) → bit 0 k ≡ false
-no-bit k = search
+no-bit k = ap (λ (n : ℕ). n == 1) (bit_at-zero k)
 
 kept-sites : (items : List Item) (x k : ℕ) → bit (get_or (map replicas_of items) x no_sites).bits k ≡ elim (slice_get items x) [ None ↦ false | Some item ↦ bit item.replicas.bits k ]
 kept-sites [] x k = no-bit k
@@ -242,17 +243,17 @@ module _ (w : List Entry) (n : AreNamedWell w) where
   read-back h a r k t c x i nh made (read_some {c = b} {x = y} {l = l}) given is =
       let s : (b ≡ c) × (y ≡ x) = same_read b y c x is in
       λ m past u.
-          let mw : Made w m = made-in-whole h w m i (knows-made h (runs.Client c) m nh past) in
-          false_from_ne_true (label_lt l m) (λ lt.
-          elim (or_of (point_lt l.point m.point) _ lt) [
-            | inl p ↦ given m.point (s.0, s.1, p) (knows-told h (runs.Client c) m nh past) (items-told w m x n mw u)
-            | inr p ↦
-                (let e : l ≡ m = made-apart w l m n (made l refl) mw (same_point l.point m.point (and_of (point_eq l.point m.point) _ p).0) in
-                let z : label_lt l l ≡ true = subst (λ (y : Label). label_lt l y ≡ true) (sym e) lt in
-                let o : label_lt l l ≡ false = label_lt-self l in
-                let v : false ≡ true = sym o ∙ z in
-                cc)
-          ])
+      let mw : Made w m = made-in-whole h w m i (knows-made h (runs.Client c) m nh past) in
+      false_from_ne_true (label_lt l m) (λ lt.
+      elim (or_of (point_lt l.point m.point) _ lt) [
+        | inl p ↦ given m.point (s.0, s.1, p) (knows-told h (runs.Client c) m nh past) (items-told w m x n mw u)
+        | inr p ↦
+            (let e : l ≡ m = made-apart w l m n (made l refl) mw (same_point l.point m.point (and_of (point_eq l.point m.point) _ p).0) in
+            let z : label_lt l l ≡ true = subst (λ (y : Label). label_lt l y ≡ true) (sym e) lt in
+            let o : label_lt l l ≡ false = label_lt-self l in
+            let v : false ≡ true = sym o ∙ z in
+            cc)
+      ])
   read-back h a r k t c x i nh made (read_none {c = b} {x = y}) given is =
       let s : (b ≡ c) × (y ≡ x) = same_read b y c x is in
       λ m past u. given m.point s (knows-told h (runs.Client c) m nh past) (items-told w m x n (made-in-whole h w m i (knows-made h (runs.Client c) m nh past)) u)

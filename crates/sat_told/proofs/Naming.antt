@@ -1,5 +1,5 @@
 -- The entries of a run name labels well, so what it told has three yeses.
-use Rattle.std.specs.Prelude.{◌≡◌, ℕ, Bool, true, List, [], ◌∷◌, Some, refl}
+use Rattle.std.specs.Prelude.{◌≡◌, ℕ, Bool, List, [], ◌∷◌, Some, refl}
 use Rattle.std.proofs.Common.{sym, subst, inl, inr}
 use Rattle.sat_label.specs.declared.label.Label.{Label}
 use Rattle.sat_label.specs.Members.{In}
@@ -8,7 +8,6 @@ use Rattle.sat_act.specs.declared.act.Act.{Act}
 use Rattle.sat_act.specs.declared.answer.Answer.{Answer}
 use Rattle.sat_act.specs.declared.entry.Entry.{Entry}
 use Rattle.sat_act.specs.Deployed.{Deployed}
-use Rattle.sat_act.specs.Done.{made_in}
 use Rattle.sat_act.specs.Goals.{Gives, Made}
 use Rattle.sat_act.specs.Headline.{IsGood}
 use Rattle.sat_act.specs.Parts.{waiting}
@@ -19,7 +18,7 @@ use Rattle.sat_laws.proofs.Runs.{before_of, step_of, entry}
 use Rattle.sat_laws.proofs.Shows.{brings-for, candidate-least, next-stamp-waits, shows-is, waits}
 use Rattle.sat_laws.proofs.Sites.{version-shown}
 use Rattle.sat_laws.proofs.Steps.{Step, wrote, read_none, read_some, moved, showed_turn, showed_stamp}
-use Rattle.sat_told.specs.Laws.{EveryRunIsJudgedGood, RunsNameLabelsWell, TheLawsAreOne}
+use Rattle.sat_told.specs.Laws.{EveryRunIsJudgedGood, RunsNameLabelsWell}
 use Rattle.sat_told.specs.Telling.{named_in, FitsAct, AreNamedWell}
 use Rattle.sat_told.proofs.Judging.{laws-are-one}
 

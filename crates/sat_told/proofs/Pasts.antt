@@ -1,6 +1,6 @@
 -- What clients and makers know, and what sites showed, by labels and by points.
-use Rattle.std.specs.Prelude.{◌≡◌, ◌⊎◌, ℕ, Bool, true, false, List, [], ◌∷◌, Option, Some, None, refl, ◌==◌, if◌then◌else◌}
-use Rattle.std.proofs.Common.{sym, subst, inl, inr, ap, ◌∙◌}
+use Rattle.std.specs.Prelude.{◌≡◌, ◌⊎◌, ℕ, Bool, true, false, List, [], ◌∷◌, Some, None, refl, ◌==◌}
+use Rattle.std.proofs.Common.{sym, inl, inr, ap, ◌∙◌}
 use Rattle.std.proofs.lemmas.Bool.{eqb-true, eq-eqb}
 use Rattle.sat_label.specs.declared.label.Kind.{Kind}
 use Rattle.sat_label.specs.declared.label.Kind.TheVariants as kind
@@ -159,6 +159,15 @@ knows-back (e ∷ h) (runs.Maker b) p n (inr m) (inr k) =
     let y : (a : Label) × (a.point ≡ p) × runs.Knows h (runs.Client k.1.0) a = knows-back h (runs.Client k.1.0) p n.0 tt k.1.2 in
     (y.0, y.1, inr (m, (k.1.0, sym w.3 ∙ k.1.1, y.2)))
 
+-- what a client learns by an answer was made, if what the makers knew was
+learned-made : (e : Entry) (h : List Entry) (a : Label) → ((m : Label) → named_in e.answer ≡ Some m → Made (e ∷ h) m) → ((l : Label) → runs.Knows h (runs.Maker l) a → Made h a) →
+    (r : Answer) → e.answer ≡ r → runs.LearnedBy r a (λ w. runs.Knows h w a) → Made (e ∷ h) a
+unfolding Gives
+learned-made e h a made before (ans.Wrote l) is q = inr (ap made_in is ∙ ap (λ (m : Label). Some m) q)
+learned-made e h a made before (ans.ReadSome l v) is (inl q) = made a (ap named_in is ∙ ap (λ (m : Label). Some m) q)
+learned-made e h a made before (ans.ReadSome l v) is (inr q) = inl (before l q)
+learned-made e h a made before _ is q = absurd q
+
 -- what is known was made
 pub knows-made : (h : List Entry) (who : runs.Who) (a : Label) → AreNamedWell h → runs.Knows h who a → Made h a
 unfolding AreNamedWell runs.Knows Gives
@@ -166,35 +175,24 @@ knows-made [] who a n k = absurd k
 knows-made (e ∷ h) (runs.Client c) a n (inl k) = inl (knows-made h (runs.Client c) a n.0 k)
 knows-made (e ∷ h) (runs.Maker b) a n (inl k) = inl (knows-made h (runs.Maker b) a n.0 k)
 knows-made (e ∷ h) (runs.Maker b) a n (inr k) = inl (knows-made h (runs.Client k.1.0) a n.0 k.1.2)
-knows-made (e ∷ h) (runs.Client c) a n (inr k) = go e.answer refl k.1
-  where
-    go : (r : Answer) → e.answer ≡ r → runs.LearnedBy r a (λ w. runs.Knows h w a) → Made h a ⊎ (made_in e.answer ≡ Some a)
-    go (ans.Wrote l) is q = inr (ap made_in is ∙ ap (λ (m : Label). Some m) q)
-    go (ans.ReadSome l v) is (inl q) = n.1.made a (ap named_in is ∙ ap (λ (m : Label). Some m) q)
-    go (ans.ReadSome l v) is (inr q) = inl (knows-made h (runs.Maker l) a n.0 q)
-    go _ is q = absurd q
+knows-made (e ∷ h) (runs.Client c) a n (inr k) = learned-made e h a n.1.made (λ l q. knows-made h (runs.Maker l) a n.0 q) e.answer refl k.1
 
 -- a list is an end of another
 pub data IsEnd (h : List Entry) : List Entry → Type 0 where
   whole : IsEnd h h
   later : {x : Entry} {w : List Entry} → IsEnd h w → IsEnd h (x ∷ w)
 
+pub made-in-whole : (h w : List Entry) (b : Label) → IsEnd h w → Made h b → Made w b
+unfolding Gives
+made-in-whole h w b whole m = m
+made-in-whole h (y ∷ w) b (later i) m = inl (made-in-whole h w b i m)
+
 -- what the maker of a label knew is told by the entries up to that one
 pub cause-then : (h w : List Entry) (b a : Label) → AreNamedWell w → IsEnd h w → Made h b → runs.Cause w b a → runs.Cause h b a
 unfolding AreNamedWell runs.Knows Gives
 cause-then h w b a n whole m k = k
 cause-then h (x ∷ w) b a n (later i) m (inl k) = cause-then h w b a n.0 i m k
-cause-then h (x ∷ w) b a n (later i) m (inr k) = absurd (n.1.own b b k.0 (made-later h w b i m) refl)
-  where
-    made-later : (h w : List Entry) (b : Label) → IsEnd h w → Made h b → Made w b
-    unfolding Gives
-    made-later h w b whole m = m
-    made-later h (y ∷ w) b (later i) m = inl (made-later h w b i m)
-
-pub made-in-whole : (h w : List Entry) (b : Label) → IsEnd h w → Made h b → Made w b
-unfolding Gives
-made-in-whole h w b whole m = m
-made-in-whole h (y ∷ w) b (later i) m = inl (made-in-whole h w b i m)
+cause-then h (x ∷ w) b a n (later i) m (inr k) = absurd (n.1.own b b k.0 (made-in-whole h w b i m) refl)
 
 pub cause-late : (h w : List Entry) (b a : Label) → IsEnd h w → runs.Cause h b a → runs.Cause w b a
 unfolding runs.Knows

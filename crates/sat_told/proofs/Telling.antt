@@ -1,7 +1,7 @@
 -- What an entry tells, by its act and its answer.
-use Rattle.std.specs.Prelude.{◌≡◌, ℕ, Bool, true, false, List, [], ◌∷◌, map, reverse, Option, Some, None, refl}
+use Rattle.std.specs.Prelude.{◌≡◌, ℕ, Bool, true, false, List, [], ◌∷◌, ◌++◌, map, reverse, Some, None, refl}
 use Rattle.std.proofs.Common.{sym, ap, ◌∙◌}
-use Rattle.std.proofs.lemmas.Grind.{reverse-reverse}
+use Rattle.std.proofs.lemmas.List.{map-append, reverse-append, reverse-reverse}
 use Rattle.sat_label.specs.declared.items.Items.TheVariants.{One}
 use Rattle.sat_label.specs.declared.label.Kind.TheVariants as kind
 use Rattle.sat_label.specs.declared.label.Label.{Label}
@@ -16,9 +16,8 @@ use Rattle.sat_verdict.specs.declared.tale.Tale.{Tale}
 use Rattle.sat_verdict.specs.declared.tale.Tale.TheVariants as tale
 use Rattle.sat_audit.specs.Told.{is_read, is_show}
 use Rattle.sat_audit.specs.Judging.{tale_of, tale_with, tales_of}
-use Rattle.sat_audit.specs.declared.heard.Heard.{Heard}
 use Rattle.sat_laws.proofs.Labels.{some_is}
-use Rattle.sat_told.specs.Telling.{told_of, heard_of, history_of, named_in, FitsAct}
+use Rattle.sat_told.specs.Telling.{told_of, heard_of, history_of, FitsAct}
 
 -- what an entry tells, and what a history does, the newest entry first
 abbrev pub tale_in : Entry → Tale
@@ -32,7 +31,10 @@ mapped [] = refl
 mapped (e ∷ h) = ap (λ (ts : List Tale). tale_in e ∷ ts) (mapped h)
 
 map-reverse : {X Y : Type 0} (f : X → Y) (xs : List X) → map f (reverse xs) ≡ reverse (map f xs)
-map-reverse f xs = search
+map-reverse f [] = refl
+map-reverse {X = X} {Y = Y} f (x ∷ xs) =
+    ap (λ (ys : List X). map f ys) (reverse-append (x ∷ []) xs) ∙
+    (map-append f (reverse xs) (x ∷ []) ∙ (ap (λ (ys : List Y). ys ++ f x ∷ []) (map-reverse f xs) ∙ sym (reverse-append (f x ∷ []) (map f xs))))
 
 pub told-tales : (d : Deployed) (h : List Entry) → tales_of (history_of d h) ≡ tales h
 told-tales d h =

@@ -1,5 +1,6 @@
 //! Of each client, how far its entries are known: by the client of each entry before it.
 ghost use Rattle.std.specs.Prelude.{◌≡◌, ◌≤◌, length, map, reverse, IfOk};
+ghost use Rattle.sat_verdict.specs.declared.limits.TheConstants.{MOST_ENTRIES};
 ghost use Rattle.sat_verdict.specs.Tables.{number_in, row_before, AreBlankTo, AreRows, IsUnique, HasClients, Learns, Raises};
 
 use crate::Tale;
@@ -67,7 +68,7 @@ pub fn rows_of(
     numbers: &[u16],
     clients: u16,
 ) -> Result<Vec<Row>, AllocError>
-    requires few { length tales.now ≤ 20000 }
+    requires few { length tales.now ≤ MOST_ENTRIES }
     requires numbers { numbers.now ≡ map (number_in (reverse tales.now)) tales.now }
     requires clients { HasClients clients tales.now }
     requires unique { IsUnique (reverse tales.now) }

@@ -3,6 +3,7 @@
 //! The reads of one client after another: for each other client a place is kept, below which all that this client wrote or read is
 //! noted. A client's past only grows, so each place only moves on.
 ghost use Rattle.std.specs.Prelude.{◌≡◌, ◌≤◌, ◌<◌, ℕ, [], None, false, length, get_or, slice_index, IsTrue, IfOk};
+ghost use Rattle.sat_verdict.specs.declared.limits.TheConstants.{MOST_ENTRIES};
 ghost use Rattle.sat_verdict.specs.Tables.{HasClients};
 ghost use Rattle.sat_verdict.specs.Passes.{table_fresh};
 ghost use Rattle.sat_verdict.specs.declared.tale.Tale.TheVariants as variants;
@@ -170,7 +171,7 @@ pub fn fresh_entries(
     links: &Links,
     clients: u16,
 ) -> Result<Vec<bool>, AllocError>
-    requires few { length tales.now ≤ 20000 }
+    requires few { length tales.now ≤ MOST_ENTRIES }
     requires numbers { length numbers.now ≡ length tales.now }
     requires clients { HasClients clients tales.now }
     requires links { Linked tales.now clients links.now.heads.items links.now.next.items 0 }

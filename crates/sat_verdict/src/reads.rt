@@ -1,5 +1,6 @@
 //! The verdict on reading fresh: one pass over the entries.
 ghost use Rattle.std.specs.Prelude.{◌≡◌, ◌≤◌, ◌<◌, ◌-◌, None, get_or, length, map, reverse, IsTrue};
+ghost use Rattle.sat_verdict.specs.declared.limits.TheConstants.{MOST_ENTRIES};
 ghost use Rattle.sat_verdict.specs.declared.tale.Tale.TheVariants as variants;
 ghost use Rattle.sat_verdict.specs.Verdicts.{IsFreshVerdict};
 ghost use Rattle.sat_verdict.specs.Found.{first};
@@ -101,7 +102,7 @@ fn least_miss(
     item: u16,
     read: Option<Point>,
 ) -> Option<u16>
-    requires few { length tales.now ≤ 20000 }
+    requires few { length tales.now ≤ MOST_ENTRIES }
     requires numbers { length numbers.now ≡ length tales.now }
     requires place { place ≤ length tales.now }
     ensures { result ≡ scan (table_misses tales.now numbers.now rows.now place item read) place }
@@ -133,7 +134,7 @@ fn next_fresh(
     entry: &Tale,
     place: usize,
 ) -> Option<(u64, u64)>
-    requires few { length tales.now ≤ 20000 }
+    requires few { length tales.now ≤ MOST_ENTRIES }
     requires numbers { length numbers.now ≡ length tales.now }
     requires place { place ≤ length tales.now }
     requires clear { IsTrue clear → table_fresh tales.now numbers.now rows.now place entry.now ≡ None }
@@ -173,7 +174,7 @@ pub fn judge_reads(
     clear: &[bool],
     clients: u16,
 ) -> Option<(u64, u64)>
-    requires few { length tales.now ≤ 20000 }
+    requires few { length tales.now ≤ MOST_ENTRIES }
     requires numbers { numbers.now ≡ map (number_in (reverse tales.now)) tales.now }
     requires rows { AreRows tales.now clients rows.now }
     requires clear { AreFresh tales.now numbers.now rows.now clear.now }

@@ -1,5 +1,6 @@
 //! The least maker's number of what a site lacks.
 ghost use Rattle.std.specs.Prelude.{◌≡◌, ◌≤◌, [], get_or, length, slice_index};
+ghost use Rattle.sat_verdict.specs.declared.limits.TheConstants.{MOST_ENTRIES};
 ghost use Rattle.sat_verdict.specs.Goals.{no_sites};
 ghost use Rattle.sat_verdict.specs.Found.{lower};
 ghost use Rattle.sat_verdict.specs.Tables.{option_of, scan, table_lack, table_lack_by, table_lacks};
@@ -109,7 +110,7 @@ pub fn least_lack(
     made: usize,
     site: u16,
 ) -> Option<u16>
-    requires few { length tales.now ≤ 20000 }
+    requires few { length tales.now ≤ MOST_ENTRIES }
     requires numbers { length numbers.now ≡ length tales.now }
     ensures { result ≡ scan (table_lacks rows.now unshown.now numbers.now tales.now made site) (length tales.now) }
 {

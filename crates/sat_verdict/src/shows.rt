@@ -2,6 +2,7 @@
 ghost use Rattle.std.specs.Prelude.{◌≡◌, ◌≢◌, ◌≤◌, ◌<◌, ◌-◌, ◌&&◌, ◌==◌, not, true, ℕ, Some, None, [], get_or, length, map, reverse, IfOk, IsTrue};
 ghost use Rattle.sat_label.specs.Words.{bit};
 ghost use Rattle.sat_label.specs.Grouped.{list_of};
+ghost use Rattle.sat_verdict.specs.declared.limits.TheConstants.{MOST_ENTRIES};
 ghost use Rattle.sat_verdict.specs.Goals.{no_sites, replicates};
 ghost use Rattle.sat_verdict.specs.Verdicts.{IsCausalVerdict, IsOnceVerdict};
 ghost use Rattle.sat_verdict.specs.Found.{any_kept, first, first_lack, first_again};
@@ -74,7 +75,7 @@ fn next_causal(
     place: u16,
     number: u16,
 ) -> Option<(u64, u64, u16)>
-    requires few { length tales.now ≤ 20000 }
+    requires few { length tales.now ≤ MOST_ENTRIES }
     requires numbers { length numbers.now ≡ length tales.now }
     requires clear { IsTrue clear → IsClear tales.now numbers.now rows.now unshown.now site number }
     ensures { result ≡ first causal (table_causal tales.now numbers.now rows.now unshown.now place number site) }
@@ -175,7 +176,7 @@ pub fn judge_shows(
     links: &Links,
     clients: u16,
 ) -> Result<Judged, AllocError>
-    requires few { length tales.now ≤ 20000 }
+    requires few { length tales.now ≤ MOST_ENTRIES }
     requires numbers { numbers.now ≡ map (number_in (reverse tales.now)) tales.now }
     requires rows { AreRows tales.now clients rows.now }
     requires links { Linked tales.now clients links.now.heads.items links.now.next.items 0 }

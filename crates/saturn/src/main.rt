@@ -2,8 +2,8 @@
 #![tactic(auto)]
 
 use sat_hints::{
-    KeepingReader, KeepingWriter, Kept, Wrote, about_input, about_refusals, about_words, awaits,
-    is_run,
+    KeepingReader, KeepingWriter, Kept, Wrote, about_history, about_input, about_refusals,
+    about_words, awaits, is_audit, is_run,
 };
 use sat_outside::{FreeGate, StdSink, StdSource};
 use sat_top::saturn;
@@ -50,6 +50,7 @@ fn hint(
     match status {
         1 => about_input(alloc, kept, wrote),
         2 => Ok(Some(about_words(alloc, words)?)),
+        7 => about_history(alloc, kept, wrote),
         _ => Ok(None),
     }
 }
@@ -91,7 +92,7 @@ fn main(rt: HostRuntime) -> ExitCode {
         let _ = eprintln!(rt; "saturn: {text}");
     }
     let counts = is_run(words) && rt.stderr().is_terminal();
-    let mut reader = KeepingReader::new(rt.alloc(), rt.stdin().reader());
+    let mut reader = KeepingReader::new(rt.alloc(), rt.stdin().reader(), is_audit(words));
     let mut writer = KeepingWriter::new(rt.alloc(), rt.stdout(), counts);
     let mut source = StdSource::new(&mut reader);
     let mut sink = StdSink::new(&mut writer);
