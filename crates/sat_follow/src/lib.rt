@@ -2,9 +2,11 @@
 #![tactic(auto)]
 
 mod follower;
+mod lines;
 mod pieces;
 mod writing;
 
 pub use follower::{BYTES_END, Follower};
+pub use lines::{LineFollower, Lines};
 pub use pieces::{BUFFER_BYTES, Halt, follow};
 pub use writing::write_text;
