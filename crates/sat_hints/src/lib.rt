@@ -22,5 +22,5 @@ mod wrote;
 pub use history::about_history;
 pub use kept::{KeepingReader, Kept};
 pub use script::{about_input, about_refusals};
-pub use words::{about_words, awaits, is_audit, is_run};
+pub use words::{about_words, awaits, is_audit, is_chain, is_run};
 pub use wrote::{KeepingWriter, Wrote};

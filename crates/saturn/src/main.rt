@@ -3,7 +3,7 @@
 
 use sat_hints::{
     KeepingReader, KeepingWriter, Kept, Wrote, about_history, about_input, about_refusals,
-    about_words, awaits, is_audit, is_run,
+    about_words, awaits, is_audit, is_chain, is_run,
 };
 use sat_outside::{FreeGate, StdSink, StdSource};
 use sat_top::saturn;
@@ -48,6 +48,7 @@ fn hint(
     wrote: &Wrote,
 ) -> Result<Option<String>, AllocError> {
     match status {
+        1 if is_chain(words.unwrap_or(&[])) => Ok(None),
         1 => about_input(alloc, kept, wrote),
         2 => Ok(Some(about_words(alloc, words)?)),
         7 => about_history(alloc, kept, wrote),
