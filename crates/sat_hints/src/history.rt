@@ -146,12 +146,12 @@ fn about_causal(
 fn add_reason(text: &mut String, entries: Entries<'_>, shown: Entry<'_>) -> Result<(), AllocError> {
     let (site, point) = (site_of(shown.line), point_of(shown.line));
     if let Some(earlier) = entries.shown_before(shown.number, site, point) {
-        return write!(text, "again, as in line {earlier}");
+        return write!(text, " again, as in line {earlier}");
     }
     if entries.writes(point) {
-        return write!(text, "which keeps none of its items");
+        return write!(text, ", which keeps none of its items");
     }
-    write!(text, "which no line writes")
+    write!(text, ", which no line writes")
 }
 
 // A site showed an update again, or one that it should not show.
@@ -162,7 +162,7 @@ fn about_once(text: &mut String, entries: Entries<'_>, place: u64) -> Result<(),
     let (line, site, point) = (shown.number, site_of(shown.line), point_of(shown.line));
     write!(text, "saturn: line {line} shows ")?;
     add_items(text, shown.line)?;
-    write!(text, " {point} at site {site} ")?;
+    write!(text, " {point} at site {site}")?;
     add_reason(text, entries, shown)?;
     text.push('\n')?;
     show(text, shown.line, None)
