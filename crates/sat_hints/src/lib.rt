@@ -13,6 +13,7 @@ mod near;
 mod ranges;
 mod reason;
 mod script;
+mod stopped;
 mod table;
 mod tree;
 mod words;
@@ -20,5 +21,6 @@ mod wrote;
 
 pub use kept::{KeepingReader, Kept};
 pub use script::{about_input, about_refusals};
-pub use words::{about_words, awaits, is_run};
+pub use stopped::{Followed, FollowingWriter, about_stopped};
+pub use words::{about_words, awaits, is_live, is_run};
 pub use wrote::{KeepingWriter, Wrote};
