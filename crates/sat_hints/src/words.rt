@@ -81,6 +81,14 @@ pub fn is_chain(words: &[String]) -> bool {
     }
 }
 
+/// Whether these are the words by which nodes on threads do a script.
+pub fn is_live(words: &[String]) -> bool {
+    match words {
+        [word] => word.as_str() == "live",
+        _ => false,
+    }
+}
+
 /// Whether these are the words of a run, whose refused acts may be counted.
 pub fn is_run(words: &[String]) -> bool {
     match words {
