@@ -210,7 +210,7 @@ form_body stage.Gears words f h = absurd (cc)
 form_body stage.Header words f h = absurd (cc)
 form_body stage.Ended words f h = absurd (cc)
 
-script_said : (said : Result Parsed Cause) (p : ChainParsed) → of_script said ≡ Ok p → (q : Parsed) × (said ≡ Ok q) × (says.Plain q ≡ p)
+pub script_said : (said : Result Parsed Cause) (p : ChainParsed) → of_script said ≡ Ok p → (q : Parsed) × (said ≡ Ok q) × (says.Plain q ≡ p)
 script_said (Ok q) p h = (q, refl, (let s : says.Plain q ≡ p = cc in s))
 script_said (Err cause) p h = absurd (cc)
 
