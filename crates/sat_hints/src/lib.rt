@@ -24,5 +24,5 @@ pub use history::about_history;
 pub use kept::{KeepingReader, Kept};
 pub use script::{about_input, about_refusals};
 pub use stopped::{Followed, FollowingWriter, about_stopped};
-pub use words::{about_words, awaits, is_audit, is_chain, is_live, is_run};
+pub use words::{about_words, awaits, is_audit, is_live, is_run};
 pub use wrote::{KeepingWriter, Wrote};

@@ -8,14 +8,13 @@ use std::alloc::{AllocError, Global};
 use std::fmt::Write;
 
 // The commands, and what they are mistaken for.
-const COMMANDS: [&str; 10] = [
+const COMMANDS: [&str; 9] = [
     "run",
     "draw",
     "plan",
     "place",
     "live",
     "audit",
-    "chain",
     "load",
     "--help",
     "--version",
@@ -26,13 +25,9 @@ const FEWEST_LOADED: u64 = 2;
 
 const MOST_LOADED: u64 = 199000;
 
-// The most replicas of a serializer.
-const MOST_REPLICAS: u64 = 5;
-
 const USAGE: &str = "usage: saturn COMMAND < INPUT
 
   run, draw, plan, place, live, audit   read standard input
-  chain R                               reads a script whose serializers have R replicas
   load SEED N                           makes its input
   --help                                says what each of these does
   --version
@@ -45,13 +40,11 @@ fn reads(word: &str) -> bool {
 
 /// What a person is told whose command waits for lines at a terminal, where the words are such a command.
 pub fn awaits(words: &[String]) -> Option<&'static str> {
-    let word = match words {
-        [word] => word,
-        [word, _] if word.as_str() == "chain" => word,
-        _ => return None,
+    let [word] = words else {
+        return None;
     };
     match word.as_str() {
-        "run" | "draw" | "live" | "chain" => {
+        "run" | "draw" | "live" => {
             Some("reading a script from the terminal; the line `end` and then Ctrl-D end it")
         }
         "audit" => Some(
@@ -69,14 +62,6 @@ pub fn awaits(words: &[String]) -> Option<&'static str> {
 pub fn is_audit(words: &[String]) -> bool {
     match words {
         [word] => word.as_str() == "audit",
-        _ => false,
-    }
-}
-
-/// Whether these are the words of a script with chains, of whose lines no more is said than the cause.
-pub fn is_chain(words: &[String]) -> bool {
-    match words {
-        [word, _] => word.as_str() == "chain",
         _ => false,
     }
 }
@@ -169,22 +154,6 @@ fn about_load(text: &mut String, words: &[String]) -> Result<(), AllocError> {
     }
 }
 
-fn about_chain(text: &mut String, words: &[String]) -> Result<(), AllocError> {
-    match words {
-        [replicas] => {
-            let shown = Shown::new(replicas.as_bytes());
-            writeln!(
-                text,
-                "saturn: chain R: R is a number from 1 to {MOST_REPLICAS} without a leading zero, and not `{shown}`"
-            )
-        }
-        _ => writeln!(
-            text,
-            "saturn: `chain` takes the number of replicas of each serializer; type: saturn chain 3"
-        ),
-    }
-}
-
 // Words that begin with this one, and have these behind it.
 fn about_command(
     alloc: Global,
@@ -194,9 +163,6 @@ fn about_command(
 ) -> Result<(), AllocError> {
     if command == "load" {
         return about_load(text, rest);
-    }
-    if command == "chain" {
-        return about_chain(text, rest);
     }
     let is_known = reads(command) || command == "--help" || command == "--version";
     match rest.first() {

@@ -3,8 +3,7 @@
 
 use sat_hints::{
     Followed, FollowingWriter, KeepingReader, KeepingWriter, Kept, Wrote, about_history,
-    about_input, about_refusals, about_stopped, about_words, awaits, is_audit, is_chain, is_live,
-    is_run,
+    about_input, about_refusals, about_stopped, about_words, awaits, is_audit, is_live, is_run,
 };
 use sat_outside::{FreeGate, StdSink, StdSource};
 use sat_top::saturn;
@@ -63,7 +62,6 @@ fn hint(
     wrote: &Wrote,
 ) -> Result<Option<String>, AllocError> {
     match status {
-        1 if is_chain(words.unwrap_or(&[])) => Ok(None),
         1 => about_input(alloc, kept, wrote),
         2 => Ok(Some(about_words(alloc, words)?)),
         7 => about_history(alloc, kept, wrote),
