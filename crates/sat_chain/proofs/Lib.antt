@@ -1,0 +1,4 @@
+pub mod Tallied
+pub mod Firsts
+pub mod Sums
+pub mod OnWays
