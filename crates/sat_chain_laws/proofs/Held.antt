@@ -82,7 +82,7 @@ put-lives : (row : Row) (j : ℕ) (ys zs : List Pair) → row j ≡ Some ys → 
 put-lives row j ys zs has k xs living = elim (put-cases row j (Some zs) k xs living) [ inl w ↦ (j, ys, has) | inr w ↦ (k, xs, w.1) ]
 
 -- the test of two numbers
-both-same : (f e y z : ℕ) → ((f == e) && (y == z)) ≡ true → (f ≡ e) × (y ≡ z)
+pub both-same : (f e y z : ℕ) → ((f == e) && (y == z)) ≡ true → (f ≡ e) × (y ≡ z)
 both-same f e y z w = go (f == e) (y == z) refl refl w
   where
     go : (a b : Bool) → (f == e) ≡ a → (y == z) ≡ b → (a && b) ≡ true → (f ≡ e) × (y ≡ z)
@@ -156,7 +156,7 @@ hop-of-none : (a : Act) (l : Label) (e z : ℕ) → is_allowed a ≡ true → ho
 hop-of-none (act.Hop f u y) l e z ok = absurd (cc)
 hop-of-none _ l e z ok = refl
 
-hop-none : (a : Act) (n : Answer) (i : Bool) (h : List Entry) (e z : ℕ) → is_allowed a ≡ true → hop_pair e z h (entry a n i) ≡ None
+pub hop-none : (a : Act) (n : Answer) (i : Bool) (h : List Entry) (e z : ℕ) → is_allowed a ≡ true → hop_pair e z h (entry a n i) ≡ None
 hop-none a (ans.Hopped l to) i h e z ok = hop-of-none a l e z ok
 hop-none a _ i h e z ok = refl
 
@@ -165,12 +165,12 @@ unfolding killed
 killed-none (act.Kill f y) i h e z ok = absurd (cc)
 killed-none _ i h e z ok = refl
 
-kill-none : (a : Act) (n : Answer) (i : Bool) (h : List Entry) (e z : ℕ) → is_allowed a ≡ true → killed (entry a n i ∷ h) e z ≡ killed h e z
+pub kill-none : (a : Act) (n : Answer) (i : Bool) (h : List Entry) (e z : ℕ) → is_allowed a ≡ true → killed (entry a n i ∷ h) e z ≡ killed h e z
 unfolding killed
 kill-none a ans.Killed i h e z ok = killed-none a i h e z ok
 kill-none a _ i h e z ok = refl
 
-settle-not : (a : Act) → is_allowed a ≡ true → is_settle a ≡ false
+pub settle-not : (a : Act) → is_allowed a ≡ true → is_settle a ≡ false
 settle-not act.Settle ok = absurd (cc)
 settle-not _ ok = refl
 
@@ -219,7 +219,7 @@ step-refused d r c a reason old =
 -- ---- the crash of a replica
 
 -- the kill of a serializer that lives
-kill-done : (d : Deployed) (h : List Entry) (f y : ℕ) → killed h f y ≡ false → answer d h (act.Kill f y) ≡ ans.Killed
+pub kill-done : (d : Deployed) (h : List Entry) (f y : ℕ) → killed h f y ≡ false → answer d h (act.Kill f y) ≡ ans.Killed
 unfolding answer
 kill-done d h f y e = ap (λ (b : Bool). refused_if b no.Already ans.Killed) e
 
@@ -228,7 +228,7 @@ unfolding killed
 killed-other h f y e z n w =
     ap (λ (b : Bool). elim (if b then Some true else None) [ None ↦ killed h e z | Some v ↦ v ]) w
 
-no-hop : (h : List Entry) (x : Entry) (e z : ℕ) → hop_pair e z h x ≡ None → hops (x ∷ h) e z ≡ hops h e z
+pub no-hop : (h : List Entry) (x : Entry) (e z : ℕ) → hop_pair e z h x ≡ None → hops (x ∷ h) e z ≡ hops h e z
 no-hop h x e z none = done-step h x e z ∙ ap (λ (o : Option Pair). hops h e z ++ tail_of o) none ∙ append-nil (hops h e z)
 
 -- the last living replica crashes, and with it the serializer is dead
@@ -257,7 +257,7 @@ crash-last d r c f y k xs has none old = record {
         let there : seq r c e z i ≡ Some ys = subst (λ (b : Bool). changed (seq r c e z) (if b then Some (k, None) else None) i ≡ Some ys) w living in
         killed-other (plain r c) f y e z false w ∙ old.alive e z i ys there
 
-crashed-plain : (r : ℕ) (c : List ChainEntry) (f y k : ℕ) (o : Option Replica) → head r (row_with (seq r c f y) k None) ≡ o →
+pub crashed-plain : (r : ℕ) (c : List ChainEntry) (f y k : ℕ) (o : Option Replica) → head r (row_with (seq r c f y) k None) ≡ o →
     plain r (chain_entry (chain.Crash f y k) says.Crashed ∷ c) ≡ elim (if is_some o then None else Some (plain_entry (act.Kill f y) ans.Killed)) [ None ↦ plain r c | Some entry ↦ entry ∷ plain r c ]
 unfolding plain projected
 crashed-plain r c f y k o w = ap (λ (o : Option Replica). elim (if is_some o then None else Some (plain_entry (act.Kill f y) ans.Killed)) [ None ↦ plain r c | Some entry ↦ entry ∷ plain r c ]) w
@@ -275,12 +275,12 @@ step-crash d r c f y k xs has old = go (head r (row_with (seq r c f y) k None)) 
 -- ---- a label takes effect
 
 -- the hop of the front of a link, at a serializer that lives
-hop-done : (d : Deployed) (h : List Entry) (f y : ℕ) (t : TreeShape) (p : Pair) → killed h f y ≡ false → tree_of d f ≡ Some t → link_front d h f t p.from (Serializer y) ≡ Some p.label →
+pub hop-done : (d : Deployed) (h : List Entry) (f y : ℕ) (t : TreeShape) (p : Pair) → killed h f y ≡ false → tree_of d f ≡ Some t → link_front d h f t p.from (Serializer y) ≡ Some p.label →
     answer d h (act.Hop f p.from y) ≡ ans.Hopped p.label (goes_to d t y p)
 unfolding answer hop_to goes_to
 hop-done d h f y t p k tree w = rw (k, tree, w) refl
 
-apply-plain : (d : Deployed) (r : ℕ) (c : List ChainEntry) (f y : ℕ) (q : Replica) (p : Pair) (n : Answer) → tail r (seq r c f y) ≡ Some q → slice_get q.list (applied c f y) ≡ Some p →
+pub apply-plain : (d : Deployed) (r : ℕ) (c : List ChainEntry) (f y : ℕ) (q : Replica) (p : Pair) (n : Answer) → tail r (seq r c f y) ≡ Some q → slice_get q.list (applied c f y) ≡ Some p →
     plain r (chain_entry (chain.Apply f y) (says.Plain n) ∷ c) ≡ plain_entry (act.Hop f p.from y) n ∷ plain r c
 unfolding plain projected next_pair
 apply-plain d r c f y q p n tl at =
