@@ -32,11 +32,11 @@ first-none-at row a (suc n) none =
 pub row-at : (rows : List (Option (List Pair))) (k : ℕ) (x : Option (List Pair)) → k < length rows → x ≡ slice_index_or rows k x → row_of rows k ≡ x
 row-at rows k x lt e = ap (λ (o : Option (Option (List Pair))). elim o [ None ↦ None | Some x ↦ x ]) (slice_get-get_or rows k x lt) ∙ sym e
 
-some-list : (x : Option (List Pair)) → is_some x ≡ true → (xs : List Pair) × (x ≡ Some xs)
+pub some-list : (x : Option (List Pair)) → is_some x ≡ true → (xs : List Pair) × (x ≡ Some xs)
 some-list None e = absurd (cc)
 some-list (Some xs) e = (xs, refl)
 
-none-list : (x : Option (List Pair)) → is_some x ≡ false → x ≡ None
+pub none-list : (x : Option (List Pair)) → is_some x ≡ false → x ≡ None
 none-list None e = refl
 none-list (Some xs) e = absurd (cc)
 

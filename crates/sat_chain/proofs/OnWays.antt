@@ -14,7 +14,7 @@ use Rattle.sat_tree.specs.Cut.{neighbours}
 use Rattle.sat_serial.specs.Routes.{goes, routes, IsFarSide}
 use Rattle.sat_serial.proofs.Places.{few-neighbours}
 
-few-pass : {X : Type 0} (g : X → Bool) (xs : List X) → length (filter g xs) ≤ length xs
+pub few-pass : {X : Type 0} (g : X → Bool) (xs : List X) → length (filter g xs) ≤ length xs
 few-pass g [] = omega arith
 few-pass g (x ∷ xs) = go (g x) (few-pass g xs)
   where

@@ -30,7 +30,7 @@ use Rattle.sat_chain_laws.proofs.Held.{hop-none, no-hop, crashed-plain, apply-pl
 use Rattle.sat_chain.specs.Chained.{ChainSeen, row_of, fresh_chain, after_change, after_crash, after_effect}
 use Rattle.sat_chain.specs.StandsChain.{StandsChain}
 use Rattle.sat_chain.specs.Tallies.{TellsFrom, raised}
-use Rattle.sat_chain.proofs.Places.{self-test, get-set, set-there, get-past, get-copies}
+use Rattle.sat_chain.proofs.Sets.{self-test, get-set, set-there, get-past, get-copies}
 use Rattle.sat_chain.proofs.Tallied.{tells-none, tells-more}
 
 abbrev pub entry_of : ChainAct → ChainAnswer → ChainEntry

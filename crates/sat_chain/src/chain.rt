@@ -4,7 +4,7 @@ ghost use Rattle.sat_serial.specs.Hits.{code};
 ghost use Rattle.sat_chain_laws.specs.declared.pair.Pair.{Pair as PairSeen};
 ghost use Rattle.sat_chain_laws.specs.Rows.{first_from, tail, labels_from};
 ghost use Rattle.sat_chain.specs.declared.by_node.TheConstants.{PLACES};
-ghost use Rattle.sat_chain.specs.Chained.{fresh_chain, row_of, number_of, after_change, after_crash, after_effect};
+ghost use Rattle.sat_chain.specs.Chained.{fresh_chain, row_of, number_of, after_change, after_crash, after_look, after_effect};
 
 use crate::by_node::ByNode;
 use crate::replica::Replica;
@@ -101,6 +101,20 @@ impl Chain {
         self.replicas[k].list()
     }
 
+    /// The pair at a place of the list of a replica that lives, None where it is not so long.
+    pub fn pair_at(&self, k: usize, place: usize) -> Option<Pair>
+        requires { IsSome (row_of self.now.rows k) }
+        ensures pair { (xs : List PairSeen) → row_of self.now.rows k ≡ Some xs → result ≡ slice_get xs place }
+        ensures small { IsSome result → place < 18446744073709551615 }
+    {
+        let list = self.list(k);
+        if place < list.len() {
+            Some(list[place])
+        } else {
+            None
+        }
+    }
+
     /// A replica that lives gains a pair. For want of memory all is as before.
     pub fn gain(&mut self, k: usize, pair: Pair) -> Result<(), AllocError>
         requires { IsSome (row_of self.old.rows k) }
@@ -118,6 +132,13 @@ impl Chain {
     {
         self.replicas[k].crash();
         self.found = None;
+    }
+
+    /// The tail has looked, and knows how many pairs took effect. It takes no memory.
+    pub fn look(&mut self, count: usize)
+        ensures { self.new ≡ after_look self.old count }
+    {
+        self.found = Some(count);
     }
 
     /// How many pairs took effect, where the tail has found it.

@@ -4,8 +4,11 @@
 
 mod by_node;
 mod chain;
+mod chains;
+mod places;
 mod replica;
+mod row;
 mod tail;
 
+pub use chains::Chains;
 pub use sat_chain_laws::{ChainAct, ChainAnswer, ChainRefusal};
-pub use chain::Chain;

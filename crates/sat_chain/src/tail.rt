@@ -1,5 +1,5 @@
 //! A new tail.
-ghost use Rattle.std.specs.Prelude.{ℕ, ◌≡◌, ◌≤◌, ◌<◌, ◌&&◌, nat_lt, length, take, sum_by};
+ghost use Rattle.std.specs.Prelude.{ℕ, ◌≡◌, ◌≤◌, ◌<◌, ◌&&◌, List, nat_lt, length, take, sum_by, Some, None, IsSome};
 ghost use Rattle.sat_label.specs.Members.{In};
 ghost use Rattle.sat_label.specs.Order.{node_eq};
 ghost use Rattle.sat_label.specs.Words.{bit};
@@ -8,8 +8,9 @@ ghost use Rattle.sat_tree.specs.Shape.{TreeShape};
 ghost use Rattle.sat_sites.specs.Interested.{Interested, is_for, IsLabelOf};
 ghost use Rattle.sat_serial.specs.Routes.{goes, IsFarSide};
 ghost use Rattle.sat_chain_laws.specs.declared.pair.Pair.{Pair as PairSeen};
-ghost use Rattle.sat_chain.specs.Chained.{ways_on};
+ghost use Rattle.sat_chain.specs.Chained.{row_of, ways_on, CanTell, Accounts};
 
+use crate::chain::Chain;
 use sat_chain_laws::Pair;
 use sat_label::{NodeId, SiteSet};
 use sat_sites::Interest;
@@ -67,4 +68,20 @@ pub fn applied_by_links(
         left -= ways(pair, tree, z, interest);
     }
     list.len()
+}
+
+/// How many pairs of a tail's list took effect, as it knows, or else by what was put on the outgoing links of its serializer. It takes
+/// no memory.
+pub fn applied(chain: &Chain, tail: usize, tree: &Tree, z: u16, interest: &Interest) -> usize
+    requires lives { IsSome (row_of chain.now.rows tail) }
+    requires serializer { z < length tree.now.parents }
+    requires sites { interest.now.sites ≡ length tree.now.seats }
+    requires tells { (xs : List PairSeen) → row_of chain.now.rows tail ≡ Some xs → CanTell interest.now tree.now z xs chain.now.put }
+    ensures { (n : ℕ) → ((m : ℕ) → chain.now.found ≡ Some m → m ≡ n) →
+        ((xs : List PairSeen) → row_of chain.now.rows tail ≡ Some xs → Accounts interest.now tree.now z xs chain.now.put n) → result ≡ n }
+{
+    match chain.found() {
+        Some(count) => count,
+        None => applied_by_links(chain.list(tail), chain.put(), tree, z, interest),
+    }
 }

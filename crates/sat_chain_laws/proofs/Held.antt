@@ -287,20 +287,31 @@ apply-plain d r c f y q p n tl at =
     ap (λ (o : Option Pair). elim (hop_of_pair f y n o) [ None ↦ plain r c | Some first ↦ first ∷ plain r c ])
     (ap (λ (o : Option Replica). elim o [ None ↦ None | Some t ↦ slice_get t.list (applied c f y) ]) tl ∙ at)
 
-apply-held : (d : Deployed) (r : ℕ) (c : List ChainEntry) (f y : ℕ) (t : TreeShape) (q : Replica) (p : Pair) → tail r (seq r c f y) ≡ Some q → slice_get q.list (applied c f y) ≡ Some p → tree_of d f ≡ Some t →
-    Held d r c → HeldFor d r (chain_entry (chain.Apply f y) (says.Plain (ans.Hopped p.label (goes_to d t y p))) ∷ c) (plain_entry (act.Hop f p.from y) (ans.Hopped p.label (goes_to d t y p)) ∷ plain r c)
-unfolding seq applied link_front killed plain
-apply-held d r c f y t q p tl at tree old =
-    let h : List Entry = plain r c in
-    let good : Good d (plain r c) r f y (seq r c f y) = old.rows f y in
-    let at' : slice_get q.list (length (hops (plain r c) f y)) ≡ Some p = subst (λ (n : ℕ). slice_get q.list n ≡ Some p) (old.count f y) at in
-    let front = row-front (links_in d (plain r c) f y (tree_of d f)) (IsNeighbourOf d f y) (hops (plain r c) f y) r (seq r c f y) good q p tl at' in
+-- what the pair that takes effect next tells of its link
+apply-front : (d : Deployed) (r : ℕ) (c : List ChainEntry) (f y : ℕ) (q : Replica) (p : Pair) → tail r (seq r c f y) ≡ Some q → slice_get q.list (applied c f y) ≡ Some p → Held d r c →
+    (slice_get (links_in d (plain r c) f y (tree_of d f) p.from) (length (labels_from p.from (hops (plain r c) f y))) ≡ Some p.label) × IsNeighbourOf d f y p.from × (seq r c f y q.number ≡ Some q.list)
+apply-front d r c f y q p tl at old =
+    row-front (links_in d (plain r c) f y (tree_of d f)) (IsNeighbourOf d f y) (hops (plain r c) f y) r (seq r c f y) (old.rows f y) q p tl (subst (λ (n : ℕ). slice_get q.list n ≡ Some p) (old.count f y) at)
+
+-- a hop from that pair's neighbour handles it
+pub apply-says : (d : Deployed) (r : ℕ) (c : List ChainEntry) (f y : ℕ) (t : TreeShape) (q : Replica) (p : Pair) → tail r (seq r c f y) ≡ Some q → slice_get q.list (applied c f y) ≡ Some p → tree_of d f ≡ Some t → Held d r c →
+    answer d (plain r c) (act.Hop f p.from y) ≡ ans.Hopped p.label (goes_to d t y p)
+unfolding link_front
+apply-says d r c f y t q p tl at tree old =
+    let front = apply-front d r c f y q p tl at old in
     let here : link_front d (plain r c) f t p.from (Serializer y) ≡ Some p.label =
     ap (slice_get (entered d (plain r c) f t p.from (Serializer y))) (taken-is d (plain r c) f y p.from old.run)
     ∙ subst (λ (ls : List Label). slice_get ls (length (labels_from p.from (hops (plain r c) f y))) ≡ Some p.label) (links-are d (plain r c) f y t p.from tree) front.0 in
-    let same : answer d (plain r c) (act.Hop f p.from y) ≡ ans.Hopped p.label (goes_to d t y p) = hop-done d (plain r c) f y t p (old.alive f y q.number q.list front.2) tree here in
+    hop-done d (plain r c) f y t p (old.alive f y q.number q.list front.2) tree here
+
+apply-held : (d : Deployed) (r : ℕ) (c : List ChainEntry) (f y : ℕ) (t : TreeShape) (q : Replica) (p : Pair) → tail r (seq r c f y) ≡ Some q → slice_get q.list (applied c f y) ≡ Some p → tree_of d f ≡ Some t →
+    Held d r c → HeldFor d r (chain_entry (chain.Apply f y) (says.Plain (ans.Hopped p.label (goes_to d t y p))) ∷ c) (plain_entry (act.Hop f p.from y) (ans.Hopped p.label (goes_to d t y p)) ∷ plain r c)
+unfolding seq applied killed plain
+apply-held d r c f y t q p tl at tree old =
+    let at' : slice_get q.list (length (hops (plain r c) f y)) ≡ Some p = subst (λ (n : ℕ). slice_get q.list n ≡ Some p) (old.count f y) at in
+    let same : answer d (plain r c) (act.Hop f p.from y) ≡ ans.Hopped p.label (goes_to d t y p) = apply-says d r c f y t q p tl at tree old in
     record {
-      run = subst (λ (n : Answer). IsRun d (entry (act.Hop f p.from y) n false ∷ plain r c)) same (run-on d (plain r c) (act.Hop f p.from y) false refl old.run front.1);
+      run = subst (λ (n : Answer). IsRun d (entry (act.Hop f p.from y) n false ∷ plain r c)) same (run-on d (plain r c) (act.Hop f p.from y) false refl old.run (apply-front d r c f y q p tl at old).1);
       rows = λ e z. rows at' e z ((f == e) && (y == z)) refl;
       count = λ e z. counts e z ((f == e) && (y == z)) refl;
       alive = old.alive;
