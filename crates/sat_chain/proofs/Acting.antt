@@ -1,11 +1,11 @@
 -- What each act of a chain does in each history that the chains stood for.
-use Rattle.std.proofs.Common.{◌≡◌, ◌⊎◌, ◌≤◌, ◌<◌, ℕ, ◌+◌, ◌-◌, ◌*◌, ◌==◌, ◌&&◌, Bool, true, false, List, [], ◌∷◌, ◌++◌, length, filter, set, sum_by, take, get_or, Option, Some, None, IsSome, IsOk, Ok, Result, slice_get, inl, inr, refl, sym, ap, subst, subst₂, ◌∙◌, if◌then◌else◌, arith, length-set}
+use Rattle.std.proofs.Common.{◌≡◌, ◌≤◌, ◌<◌, ℕ, ◌+◌, ◌-◌, List, [], ◌∷◌, ◌++◌, length, set, get_or, Option, Some, None, slice_get, inl, inr, refl, sym, ap, subst, subst₂, ◌∙◌, arith, length-set}
 use Rattle.sat_label.specs.declared.label.Label.{Label}
-use Rattle.sat_label.specs.declared.limits.TheConstants.{MOST_SITES, MOST_SERIALIZERS}
+use Rattle.sat_label.specs.declared.limits.TheConstants.{MOST_SITES}
 use Rattle.sat_label.specs.declared.node.NodeId.{NodeId}
 use Rattle.sat_label.specs.declared.node.NodeId.TheVariants.{Site, Serializer}
 use Rattle.sat_label.specs.Members.{In}
-use Rattle.sat_label.proofs.Members.{In-parts, In-get}
+use Rattle.sat_label.proofs.Members.{In-parts}
 use Rattle.sat_tree.specs.Shape.{TreeShape}
 use Rattle.sat_tree.specs.Cut.{neighbours, IsNode}
 use Rattle.sat_tree.specs.Flaw.{IsSmallTree}
@@ -48,7 +48,7 @@ use Rattle.sat_chain.specs.Applies.{ChainApplies}
 use Rattle.sat_chain.proofs.Tallied.{in-range}
 use Rattle.sat_chain.proofs.OnWays.{few-pass}
 use Rattle.sat_chain.proofs.Steps.{entry_of, row-there, refused-keeps, refused-plain, plain-keeps, plain-plain, enter-plain, enter-here, enter-other, pass-plain, pass-here, pass-other, crash-here, crash-other, effect-plain, effect-here, effect-other}
-use Rattle.sat_chain.proofs.Answering.{Finds, entering, passing, none-is, some-is, first-has, tail-has, the-head, the-next, the-tail, enter-answer, pass-answer, apply-done, crash-done}
+use Rattle.sat_chain.proofs.Answering.{Finds, passing, none-is, some-is, first-has, the-head, the-next, the-tail, enter-answer, pass-answer, apply-done, crash-done}
 use Rattle.sat_chain.proofs.Stood.{with_world, with_both, applies-of, held-in, frame-chain, for-kept, for-changed}
 
 -- ---- numbers
@@ -57,18 +57,6 @@ pub small-code : (d : Deployed) (f : ℕ) (t : TreeShape) (u : NodeId) → IsDep
 small-code d f t (Site i) dep planned node = let s : length t.seats ≡ d.sites = dep.all_seated f t planned in let few : d.sites ≤ 64 = dep.few_sites in let low : i < length t.seats = node in omega arith
 small-code d f t (Serializer z) dep planned node = let few : length t.parents ≤ 15 = dep.few_serializers f t planned in let low : z < length t.parents = node in omega arith
 
-pub small-tree : (d : Deployed) (f : ℕ) (t : TreeShape) (y : ℕ) → IsDeployment d → tree_of d f ≡ Some t → y < length t.parents → IsSmallTree t
-small-tree d f t y dep planned lt = record {
-  tree = dep.trees f t planned;
-  some_serializer = omega arith;
-  few_serializers = dep.few_serializers f t planned;
-  few_seats = let s : length t.seats ≡ d.sites = dep.all_seated f t planned in let few : d.sites ≤ MOST_SITES = dep.few_sites in omega arith;
-}
-
-few-goes : (d : Deployed) (t : TreeShape) (y : ℕ) (p : Pair) → IsSmallTree t → length (goes_to d t y p) ≤ 79
-unfolding goes_to
-few-goes d t y p small = omega (arith, few-pass (λ v. goes_on d t y v p) (neighbours t y), few-neighbours t y small)
-
 -- ---- acts that leave all chains
 
 pub refuses : (s : ChainsSeen) (a : ChainAct) (reason : ChainRefusal) → IsChains s → IsChainActOf s.world.deployment s.replicas a →
@@ -76,7 +64,7 @@ pub refuses : (s : ChainsSeen) (a : ChainAct) (reason : ChainRefusal) → IsChai
 refuses s a reason k of answers =
     applies-of s s a (says.Refused reason) k.frame.deployment of refl refl answers
     (λ c run st. for-kept s s.world c (entry_of a (says.Refused reason)) refl st (subst (StandsFor s.world) (sym (refused-plain s.replicas c a reason)) st.world)
-        (λ e z ch. refused-keeps s.world.deployment s.replicas c a reason e z ch))
+    (λ e z ch. refused-keeps s.world.deployment s.replicas c a reason e z ch))
 
 pub plain-applies : (s : ChainsSeen) (w : WorldSeen) (a : Act) (n : Answer) → IsChains s → IsChainActOf s.world.deployment s.replicas (chain.Plain a) → Applies s.world a n w → ChainApplies s (chain.Plain a) (says.Plain n) (with_world s w)
 unfolding chain_answer
@@ -84,7 +72,7 @@ plain-applies s w a n k of did =
     applies-of s (with_world s w) (chain.Plain a) (says.Plain n) k.frame.deployment of did.deployment refl
     (λ c run st. ap says.Plain (did.answer (plain s.replicas c) (held-in s c run).run st.world))
     (λ c run st. for-kept s w c (entry_of (chain.Plain a) (says.Plain n)) did.deployment st (subst (StandsFor w) (sym (plain-plain s.replicas c a n)) (did.stands (plain s.replicas c) (held-in s c run).run st.world))
-        (λ e z ch. plain-keeps s.world.deployment s.replicas c a n e z ch of.1))
+    (λ e z ch. plain-keeps s.world.deployment s.replicas c a n e z ch of.1))
 
 -- ---- one chain changes
 
@@ -136,20 +124,20 @@ module _ (s : ChainsSeen) (k : IsChains s) (f y : ℕ) (ch : ChainSeen) (had : H
   pub enter-applies : (u : NodeId) (l : Label) (j ahead : ℕ) (xs : List Pair) → IsActOf s.world.deployment (act.Hop f u y) → Some j ≡ number_of (first_from (row_of ch.rows) 0 (length ch.rows - 0)) → row_of ch.rows j ≡ Some xs →
       ahead ≡ length (labels_from u xs) - get_or ch.taken (code u) 0 →
       ((h : List Entry) → IsRun s.world.deployment h → StandsFor s.world h → (t : TreeShape) → tree_of s.world.deployment f ≡ Some t →
-          Some l ≡ slice_get (entered s.world.deployment h f t u (Serializer y)) (taken s.world.deployment h f u (Serializer y) + ahead)) →
+      Some l ≡ slice_get (entered s.world.deployment h f t u (Serializer y)) (taken s.world.deployment h f u (Serializer y) + ahead)) →
       ChainApplies s (chain.Enter f u y) (says.Entered l) (with_both s s.world (f - 1) y (after_change ch j (xs ++ record { from = u; label = l } ∷ [])))
   enter-applies u l j ahead xs of first has is ahead-of =
       applies-of s (with_both s s.world (f - 1) y (after_change ch j (xs ++ record { from = u; label = l } ∷ []))) (chain.Enter f u y) (says.Entered l) k.frame.deployment of refl refl
       (λ c run st. enter-answer s.world.deployment s.replicas c f y ch (of-chain c st) u of.0 j ahead xs (Some l) (held-in s c run) of.2 (small-code s.world.deployment f of.0 u k.frame.deployment of.2 of.3) first has is
-          (ahead-of (plain s.replicas c) (held-in s c run).run st.world of.0 of.2))
+      (ahead-of (plain s.replicas c) (held-in s c run).run st.world of.0 of.2))
       (λ c run st.
-          let q : Finds (head s.replicas (seq s.replicas c f y)) j xs = the-head s.world.deployment s.replicas c f y ch (of-chain c st) j xs first has in
-          let low : j < 0 + (length ch.rows - 0) = (first-has (row_of ch.rows) 0 (length ch.rows - 0) j first).2 in
-          for-changed s s.world c (entry_of (chain.Enter f u y) (says.Entered l)) f y ch (after_change ch j (xs ++ record { from = u; label = l } ∷ [])) refl had st
-          (subst (StandsFor s.world) (sym (enter-plain s.replicas c f y u l)) st.world)
-          (subst₂ (λ (i : ℕ) (zs : List Pair). StandsChain s.world.deployment s.replicas (entry_of (chain.Enter f u y) (says.Entered l) ∷ c) f y (after_change ch i (zs ++ record { from = u; label = l } ∷ []))) q.number q.list
-              (enter-here s.world.deployment s.replicas c f y u l q.replica ch q.is (omega (arith, q.number, low, size-is)) (of-chain c st)))
-          (λ e z v other. enter-other s.world.deployment s.replicas c f y u l e z v other))
+      let q : Finds (head s.replicas (seq s.replicas c f y)) j xs = the-head s.world.deployment s.replicas c f y ch (of-chain c st) j xs first has in
+      let low : j < 0 + (length ch.rows - 0) = (first-has (row_of ch.rows) 0 (length ch.rows - 0) j first).2 in
+      for-changed s s.world c (entry_of (chain.Enter f u y) (says.Entered l)) f y ch (after_change ch j (xs ++ record { from = u; label = l } ∷ [])) refl had st
+      (subst (StandsFor s.world) (sym (enter-plain s.replicas c f y u l)) st.world)
+      (subst₂ (λ (i : ℕ) (zs : List Pair). StandsChain s.world.deployment s.replicas (entry_of (chain.Enter f u y) (says.Entered l) ∷ c) f y (after_change ch i (zs ++ record { from = u; label = l } ∷ []))) q.number q.list
+      (enter-here s.world.deployment s.replicas c f y u l q.replica ch q.is (omega (arith, q.number, low, size-is)) (of-chain c st)))
+      (λ e z v other. enter-other s.world.deployment s.replicas c f y u l e z v other))
 
   -- a replica hands a pair on
   pub pass-applies : (i n m : ℕ) (xs ys : List Pair) (p : Pair) → IsActOf s.world.deployment (act.Kill f y) × (i < s.replicas) → Some n ≡ number_of (first_from (row_of ch.rows) 0 (length ch.rows - 0)) → row_of ch.rows i ≡ Some xs →
@@ -159,14 +147,14 @@ module _ (s : ChainsSeen) (k : IsChains s) (f y : ℕ) (ch : ChainSeen) (had : H
       applies-of s (with_both s s.world (f - 1) y (after_change ch m (ys ++ p ∷ []))) (chain.Pass f y i) (says.Passed p.label) k.frame.deployment of refl refl
       (λ c run st. sym (ap passing at) ∙ pass-answer s.world.deployment s.replicas c f y ch (of-chain c st) i n m xs ys first has nx there)
       (λ c run st.
-          let q : Finds (next_after s.replicas (seq s.replicas c f y) i) m ys = the-next s.world.deployment s.replicas c f y ch (of-chain c st) i m ys nx there in
-          let low : m < (i + 1) + (length ch.rows - (i + 1)) = (first-has (row_of ch.rows) (i + 1) (length ch.rows - (i + 1)) m nx).2 in
-          let bound : i < s.replicas = of.1 in
-          for-changed s s.world c (entry_of (chain.Pass f y i) (says.Passed p.label)) f y ch (after_change ch m (ys ++ p ∷ [])) refl had st
-          (subst (StandsFor s.world) (sym (pass-plain s.replicas c f y i p.label)) st.world)
-          (subst₂ (λ (j : ℕ) (zs : List Pair). StandsChain s.world.deployment s.replicas (entry_of (chain.Pass f y i) (says.Passed p.label) ∷ c) f y (after_change ch j (zs ++ p ∷ []))) q.number q.list
-              (pass-here s.world.deployment s.replicas c f y i xs q.replica p ch (sym ((of-chain c st).rows i) ∙ has) q.is (ap (λ (zs : List Pair). slice_get xs (length zs)) q.list ∙ at) (omega (arith, q.number, low, size-is, bound)) (of-chain c st)))
-          (λ e z v other. pass-other s.world.deployment s.replicas c f y i p.label e z v other))
+      let q : Finds (next_after s.replicas (seq s.replicas c f y) i) m ys = the-next s.world.deployment s.replicas c f y ch (of-chain c st) i m ys nx there in
+      let low : m < (i + 1) + (length ch.rows - (i + 1)) = (first-has (row_of ch.rows) (i + 1) (length ch.rows - (i + 1)) m nx).2 in
+      let bound : i < s.replicas = of.1 in
+      for-changed s s.world c (entry_of (chain.Pass f y i) (says.Passed p.label)) f y ch (after_change ch m (ys ++ p ∷ [])) refl had st
+      (subst (StandsFor s.world) (sym (pass-plain s.replicas c f y i p.label)) st.world)
+      (subst₂ (λ (j : ℕ) (zs : List Pair). StandsChain s.world.deployment s.replicas (entry_of (chain.Pass f y i) (says.Passed p.label) ∷ c) f y (after_change ch j (zs ++ p ∷ []))) q.number q.list
+      (pass-here s.world.deployment s.replicas c f y i xs q.replica p ch (sym ((of-chain c st).rows i) ∙ has) q.is (ap (λ (zs : List Pair). slice_get xs (length zs)) q.list ∙ at) (omega (arith, q.number, low, size-is, bound)) (of-chain c st)))
+      (λ e z v other. pass-other s.world.deployment s.replicas c f y i p.label e z v other))
 
   -- the tail finds nothing more, and has looked
   pub look-applies : (n : ℕ) → IsActOf s.world.deployment (act.Kill f y) → ((c : List ChainEntry) → IsChainRun s.world.deployment s.replicas c → ChainsFor s c → n ≡ applied c f y) →
@@ -175,8 +163,8 @@ module _ (s : ChainsSeen) (k : IsChains s) (f y : ℕ) (ch : ChainSeen) (had : H
   look-applies n of is answers =
       applies-of s (with_both s s.world (f - 1) y (after_look ch n)) (chain.Apply f y) (says.Refused why.Empty) k.frame.deployment of refl refl answers
       (λ c run st. for-changed s s.world c (entry_of (chain.Apply f y) (says.Refused why.Empty)) f y ch (after_look ch n) refl had st (subst (StandsFor s.world) (sym (refused-plain s.replicas c (chain.Apply f y) why.Empty)) st.world)
-          (refused-keeps s.world.deployment s.replicas c (chain.Apply f y) why.Empty f y (after_look ch n) (looked c (of-chain c st) (is c run st)))
-          (λ e z v other. refused-keeps s.world.deployment s.replicas c (chain.Apply f y) why.Empty e z v))
+      (refused-keeps s.world.deployment s.replicas c (chain.Apply f y) why.Empty f y (after_look ch n) (looked c (of-chain c st) (is c run st)))
+      (λ e z v other. refused-keeps s.world.deployment s.replicas c (chain.Apply f y) why.Empty e z v))
     where
       looked : (c : List ChainEntry) → StandsChain s.world.deployment s.replicas c f y ch → n ≡ applied c f y → StandsChain s.world.deployment s.replicas c f y (after_look ch n)
       looked c st same = record { size = st.size; rows = st.rows; put = st.put; taken = st.taken; found = λ m e. sym (some_is n m e) ∙ same }
@@ -204,12 +192,12 @@ module _ (s : ChainsSeen) (k : IsChains s) (f y : ℕ) (ch : ChainSeen) (had : H
         applies-of s (with_both s w (f - 1) y (after_effect ch n p.from (length (goes_to s.world.deployment of.0 y p)))) (chain.Apply f y) (says.Plain (ans.Hopped p.label (goes_to s.world.deployment of.0 y p))) k.frame.deployment of did.deployment refl
         (λ c run st. apply-done s.world.deployment s.replicas c f y ch (of-chain c st) j n xs p of.0 last has (is c run st) at of.2)
         (λ c run st.
-            let q : Finds (tail s.replicas (seq s.replicas c f y)) j xs = finds c st in
-            for-changed s w c (entry_of (chain.Apply f y) (says.Plain (ans.Hopped p.label (goes_to s.world.deployment of.0 y p)))) f y ch (after_effect ch n p.from (length (goes_to s.world.deployment of.0 y p))) did.deployment had st
-            (subst (StandsFor w) (sym (effect-plain s.world.deployment s.replicas c f y q.replica p (goes_to s.world.deployment of.0 y p) q.is (tail-at c run st q))) (did.stands (plain s.replicas c) (held-in s c run).run st.world))
-            (effect-here s.world.deployment s.replicas c f y q.replica p (goes_to s.world.deployment of.0 y p) q.is (tail-at c run st q) ch n (length (goes_to s.world.deployment of.0 y p)) (is c run st)
-                (λ t planned. ap (λ (t : TreeShape). ways s.world.deployment t y p) (some_is of.0 t (sym of.2 ∙ planned))) (of-chain c st))
-            (λ e z v other. effect-other s.world.deployment s.replicas c f y q.replica p (goes_to s.world.deployment of.0 y p) q.is (tail-at c run st q) e z v other))
+        let q : Finds (tail s.replicas (seq s.replicas c f y)) j xs = finds c st in
+        for-changed s w c (entry_of (chain.Apply f y) (says.Plain (ans.Hopped p.label (goes_to s.world.deployment of.0 y p)))) f y ch (after_effect ch n p.from (length (goes_to s.world.deployment of.0 y p))) did.deployment had st
+        (subst (StandsFor w) (sym (effect-plain s.world.deployment s.replicas c f y q.replica p (goes_to s.world.deployment of.0 y p) q.is (tail-at c run st q))) (did.stands (plain s.replicas c) (held-in s c run).run st.world))
+        (effect-here s.world.deployment s.replicas c f y q.replica p (goes_to s.world.deployment of.0 y p) q.is (tail-at c run st q) ch n (length (goes_to s.world.deployment of.0 y p)) (is c run st)
+        (λ t planned. ap (λ (t : TreeShape). ways s.world.deployment t y p) (some_is of.0 t (sym of.2 ∙ planned))) (of-chain c st))
+        (λ e z v other. effect-other s.world.deployment s.replicas c f y q.replica p (goes_to s.world.deployment of.0 y p) q.is (tail-at c run st q) e z v other))
 
     pub effect-applies : (w : WorldSeen) (r : Answer) (count : ℕ) → count ≡ put_by r → Applies s.world (act.Hop f p.from y) r w → ChainApplies s (chain.Apply f y) (says.Plain r) (with_both s w (f - 1) y (after_effect ch n p.from count))
     effect-applies w r count same did =
@@ -217,12 +205,6 @@ module _ (s : ChainsSeen) (k : IsChains s) (f y : ℕ) (ch : ChainSeen) (had : H
         let many : count ≡ length (goes_to s.world.deployment of.0 y p) = same ∙ ap put_by e in
         subst₂ (λ (r : Answer) (m : ℕ). ChainApplies s (chain.Apply f y) (says.Plain r) (with_both s w (f - 1) y (after_effect ch n p.from m))) (sym e) (sym many)
         (said-applies w (subst (λ (r : Answer). Applies s.world (act.Hop f p.from y) r w) e did))
-
-    pub few-put : (w : WorldSeen) (r : Answer) (count : ℕ) → count ≡ put_by r → Applies s.world (act.Hop f p.from y) r w → count ≤ 79
-    few-put w r count same did =
-        let m : count ≡ length (goes_to s.world.deployment of.0 y p) = same ∙ ap put_by (hop-says w r did) in
-        let few : length (goes_to s.world.deployment of.0 y p) ≤ 79 = few-goes s.world.deployment of.0 y p (small-tree s.world.deployment f of.0 y k.frame.deployment of.2 of.3) in
-        omega arith
 
     pub small-taken : n < 18446744073709551615 → get_or ch.taken (code p.from) 0 < 18446744073709551615
     small-taken small =
@@ -250,11 +232,11 @@ module _ (s : ChainsSeen) (k : IsChains s) (f y : ℕ) (ch : ChainSeen) (had : H
       applies-of s (with_both s s.world (f - 1) y (after_crash ch i)) (chain.Crash f y i) says.Crashed k.frame.deployment of refl refl
       (λ c run st. crash-done s.world.deployment s.replicas c f y ch (of-chain c st) i xs has)
       (λ c run st.
-          let q : (q : Replica) × (head s.replicas (row_with (seq s.replicas c f y) i None) ≡ Some q) × (q.number ≡ n) = some-is (head s.replicas (row_with (seq s.replicas c f y) i None)) n (lives ∙ crashed-head c st i of.1) in
-          for-changed s s.world c (entry_of (chain.Crash f y i) says.Crashed) f y ch (after_crash ch i) refl had st
-          (subst (StandsFor s.world) (sym (crashed-plain s.replicas c f y i (Some q.0) q.1)) st.world)
-          (crash-here s.world.deployment s.replicas c f y i ch of.1 (of-chain c st))
-          (λ e z v other. crash-other s.world.deployment s.replicas c f y i e z v other))
+      let q : (q : Replica) × (head s.replicas (row_with (seq s.replicas c f y) i None) ≡ Some q) × (q.number ≡ n) = some-is (head s.replicas (row_with (seq s.replicas c f y) i None)) n (lives ∙ crashed-head c st i of.1) in
+      for-changed s s.world c (entry_of (chain.Crash f y i) says.Crashed) f y ch (after_crash ch i) refl had st
+      (subst (StandsFor s.world) (sym (crashed-plain s.replicas c f y i (Some q.0) q.1)) st.world)
+      (crash-here s.world.deployment s.replicas c f y i ch of.1 (of-chain c st))
+      (λ e z v other. crash-other s.world.deployment s.replicas c f y i e z v other))
 
   -- the last one, and with it the serializer
   pub kill-applies : (i : ℕ) (xs : List Pair) (w : WorldSeen) (r : Answer) → IsActOf s.world.deployment (act.Kill f y) × (i < s.replicas) → row_of ch.rows i ≡ Some xs →
@@ -264,11 +246,11 @@ module _ (s : ChainsSeen) (k : IsChains s) (f y : ℕ) (ch : ChainSeen) (had : H
       applies-of s (with_both s w (f - 1) y (after_crash ch i)) (chain.Crash f y i) says.Crashed k.frame.deployment of did.deployment refl
       (λ c run st. crash-done s.world.deployment s.replicas c f y ch (of-chain c st) i xs has)
       (λ c run st.
-          let gone : head s.replicas (row_with (seq s.replicas c f y) i None) ≡ None = none-is (head s.replicas (row_with (seq s.replicas c f y) i None)) (none ∙ crashed-head c st i of.1) in
-          let all : Held s.world.deployment s.replicas c = held-in s c run in
-          let said : r ≡ ans.Killed =
-          did.answer (plain s.replicas c) all.run st.world ∙ kill-done s.world.deployment (plain s.replicas c) f y (all.alive f y i xs (sym ((of-chain c st).rows i) ∙ has)) in
-          for-changed s w c (entry_of (chain.Crash f y i) says.Crashed) f y ch (after_crash ch i) did.deployment had st
-          (subst (StandsFor w) (ap (λ (r : Answer). plain_entry (act.Kill f y) r ∷ plain s.replicas c) said ∙ sym (crashed-plain s.replicas c f y i None gone)) (did.stands (plain s.replicas c) all.run st.world))
-          (crash-here s.world.deployment s.replicas c f y i ch of.1 (of-chain c st))
-          (λ e z v other. crash-other s.world.deployment s.replicas c f y i e z v other))
+      let gone : head s.replicas (row_with (seq s.replicas c f y) i None) ≡ None = none-is (head s.replicas (row_with (seq s.replicas c f y) i None)) (none ∙ crashed-head c st i of.1) in
+      let all : Held s.world.deployment s.replicas c = held-in s c run in
+      let said : r ≡ ans.Killed =
+      did.answer (plain s.replicas c) all.run st.world ∙ kill-done s.world.deployment (plain s.replicas c) f y (all.alive f y i xs (sym ((of-chain c st).rows i) ∙ has)) in
+      for-changed s w c (entry_of (chain.Crash f y i) says.Crashed) f y ch (after_crash ch i) did.deployment had st
+      (subst (StandsFor w) (ap (λ (r : Answer). plain_entry (act.Kill f y) r ∷ plain s.replicas c) said ∙ sym (crashed-plain s.replicas c f y i None gone)) (did.stands (plain s.replicas c) all.run st.world))
+      (crash-here s.world.deployment s.replicas c f y i ch of.1 (of-chain c st))
+      (λ e z v other. crash-other s.world.deployment s.replicas c f y i e z v other))

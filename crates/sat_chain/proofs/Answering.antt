@@ -1,5 +1,5 @@
 -- The answers of steps of a chain, by what the chain keeps.
-use Rattle.std.proofs.Common.{◌≡◌, ◌<◌, ◌≤◌, ℕ, ◌+◌, ◌-◌, true, false, List, [], ◌∷◌, length, take, sum_by, get_or, Option, Some, None, is_some, IsSome, slice_get, refl, sym, ap, subst, ◌∙◌, arith}
+use Rattle.std.proofs.Common.{◌≡◌, ◌<◌, ◌≤◌, ℕ, ◌+◌, ◌-◌, List, length, take, sum_by, get_or, Option, Some, None, slice_get, refl, sym, ap, subst, ◌∙◌, arith}
 use Rattle.std.proofs.Math.Seq.{take-append_seam}
 use Rattle.sat_label.specs.declared.label.Label.{Label}
 use Rattle.sat_label.specs.declared.node.NodeId.{NodeId}
@@ -19,12 +19,12 @@ use Rattle.sat_chain_laws.specs.declared.chain_answer.ChainAnswer.TheVariants as
 use Rattle.sat_chain_laws.specs.declared.chain_answer.ChainRefusal.TheVariants as why
 use Rattle.sat_chain_laws.specs.Rows.{Replica, Row, first_from, head, next_after, tail, labels_from, IsPrefix}
 use Rattle.sat_chain_laws.specs.Chains.{ChainEntry, seq, applied, plain, hops}
-use Rattle.sat_chain_laws.specs.ChainAnswers.{goes_to, enter_at, pass_at, apply_at, crash_at, chain_answer}
+use Rattle.sat_chain_laws.specs.ChainAnswers.{goes_to, enter_at, pass_at, apply_at, chain_answer}
 use Rattle.sat_chain_laws.specs.Goals.{ways, SeatsAll}
 use Rattle.sat_chain_laws.proofs.Lists.{some_is, labels-prefix, prefix-length}
 use Rattle.sat_chain_laws.proofs.Rows.{IsFirst, IsLast, first-is, tail-is}
 use Rattle.sat_chain_laws.proofs.Done.{taken-is}
-use Rattle.sat_chain_laws.proofs.Held.{Held, Good, held}
+use Rattle.sat_chain_laws.proofs.Held.{Held, Good}
 use Rattle.sat_chain_laws.proofs.Totals.{totals}
 use Rattle.sat_chain.specs.declared.by_node.TheConstants.{PLACES}
 use Rattle.sat_chain.specs.Chained.{ChainSeen, row_of, number_of}

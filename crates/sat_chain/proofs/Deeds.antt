@@ -1,18 +1,15 @@
 -- The acts of chains, by what the code found: over the record of its fields, w, and what is seen of it, v.
-use Rattle.std.proofs.Common.{◌≡◌, ◌≤◌, ◌<◌, ℕ, ◌-◌, ◌+◌, Bool, true, false, List, [], ◌∷◌, ◌++◌, length, take, sum_by, get_or, map, replicate, Option, Some, None, IsSome, IsOk, IfOk, Ok, Err, Result, is_some, slice_get, inl, inr, refl, sym, ap, subst, ◌∙◌, arith}
+use Rattle.std.proofs.Common.{◌≡◌, ◌<◌, ℕ, ◌-◌, ◌+◌, Bool, true, false, List, [], ◌∷◌, ◌++◌, length, get_or, Option, Some, None, IsSome, IsOk, IfOk, Ok, Err, Result, is_some, slice_get, sym, ap, subst, ◌∙◌, arith}
 use Rattle.sat_label.specs.declared.label.Label.{Label}
 use Rattle.sat_label.specs.declared.node.NodeId.{NodeId}
 use Rattle.sat_label.specs.declared.node.NodeId.TheVariants.{Serializer}
-use Rattle.sat_label.specs.Members.{In}
 use Rattle.sat_label.proofs.Members.{In-get}
-use Rattle.sat_sites.specs.Interested.{Interested, IsKindOf, IsLabelOf}
 use Rattle.sat_tree.specs.Shape.{TreeShape}
 use Rattle.sat_tree.proofs.Trees.{edge-end}
 use Rattle.sat_act.specs.declared.act.Act.{Act}
 use Rattle.sat_act.specs.declared.act.Act.TheVariants as act
 use Rattle.sat_act.specs.declared.answer.Answer.{Answer}
 use Rattle.sat_act.specs.declared.entry.Entry.{Entry}
-use Rattle.sat_act.specs.Deployed.{Deployed}
 use Rattle.sat_act.specs.Ranges.{IsActOf}
 use Rattle.sat_act.specs.Runs.{IsRun}
 use Rattle.sat_act.specs.Parts.{tree_of, entered, taken}
@@ -27,19 +24,16 @@ use Rattle.sat_chain_laws.specs.declared.chain_answer.ChainAnswer.{ChainAnswer}
 use Rattle.sat_chain_laws.specs.declared.chain_answer.ChainAnswer.TheVariants as says
 use Rattle.sat_chain_laws.specs.declared.chain_answer.ChainRefusal.{ChainRefusal}
 use Rattle.sat_chain_laws.specs.declared.chain_answer.ChainRefusal.TheVariants as why
-use Rattle.sat_chain_laws.specs.Rows.{first_from, tail, labels_from}
-use Rattle.sat_chain_laws.specs.Chains.{ChainEntry, applied, plain}
-use Rattle.sat_chain_laws.specs.ChainRuns.{IsChainRun}
+use Rattle.sat_chain_laws.specs.Rows.{first_from, labels_from}
+use Rattle.sat_chain_laws.specs.Chains.{plain}
 use Rattle.sat_chain_laws.specs.Ranges.{IsChainActOf}
 use Rattle.sat_chain_laws.proofs.Lists.{some_is}
-use Rattle.sat_chain.specs.declared.by_node.TheConstants.{PLACES}
-use Rattle.sat_chain.specs.Chained.{ChainSeen, row_of, number_of, after_change, after_crash, after_look, after_effect}
-use Rattle.sat_chain.specs.Stands.{ChainsSeen, HasChain, ChainsFor, IsFrame, IsChains, chain_at, with_chain}
-use Rattle.sat_chain.specs.Starts.{put_by}
+use Rattle.sat_chain.specs.Chained.{ChainSeen, row_of, number_of, after_change, after_crash}
+use Rattle.sat_chain.specs.Stands.{ChainsSeen, HasChain, IsFrame, IsChains, chain_at, with_chain}
 use Rattle.sat_chain.specs.Applies.{ChainApplies}
 use Rattle.sat_chain.proofs.Twofold.{with-there}
-use Rattle.sat_chain.proofs.Answering.{first-has, tail-has, enter-dead, enter-answer, pass-dead, pass-crashed, pass-last, pass-answer, passing, apply-dead, apply-empty, crash-gone}
-use Rattle.sat_chain.proofs.Acting.{refuses, plain-applies, enter-applies, pass-applies, look-applies, effect-applies, crash-applies, kill-applies, gain-frame, crash-frame, look-frame, effect-frame, few-put, small-taken, small-code, near-in, within-rows, of-chain}
+use Rattle.sat_chain.proofs.Answering.{first-has, enter-dead, enter-answer, pass-dead, pass-crashed, pass-last, pass-answer, passing, crash-gone}
+use Rattle.sat_chain.proofs.Acting.{refuses, plain-applies, enter-applies, pass-applies, crash-applies, kill-applies, gain-frame, crash-frame, small-code, near-in, within-rows, of-chain}
 use Rattle.sat_chain.proofs.Ready.{asked, has-list, no-list, is-list, some-at}
 use Rattle.sat_chain.proofs.Stood.{with_world, with_both, stays, frame-world, held-in}
 
@@ -51,9 +45,6 @@ pub record Did (v : ChainsSeen) (a : ChainAct) (n : ChainAnswer) (t : ChainsSeen
 -- the chains with another world and other lists
 abbrev pub now_with : ChainsSeen → WorldSeen → List (List ChainSeen) → ChainsSeen
 now_with s w chains = record { world = w; interest = s.interest; replicas = s.replicas; chains = chains }
-
-some-same : {X : Type 0} (o : Option X) (x : X) → o ≡ Some x → (p : Option X) → o ≡ p → Some x ≡ p
-some-same o x e p f = sym e ∙ f
 
 pub on-ok : {X E : Type 0} (P : X → Type 0) (res : Result X E) → IfOk res P → IsOk res → (x : X) × P x
 on-ok P (Ok x) p i = (x, p)
@@ -100,19 +91,10 @@ module _ (w v : ChainsSeen) (e : w ≡ v) (k : IsChains w) where
       had : HasChain w f y ch
       had = record { epochs = edge.1; at = sym found }
 
-      pub enter-there : IsSome (chain_at w.chains (f - 1) y)
-      enter-there = some-at (chain_at w.chains (f - 1) y) ch (sym found)
-
       pub head-lives : (o : Option ℕ) (j : ℕ) → o ≡ number_of (first_from (row_of ch.rows) 0 (length ch.rows - 0)) → o ≡ Some j → IsSome (row_of ch.rows j)
       head-lives o j first is =
           let row : (xs : List Pair) × (row_of ch.rows j ≡ Some xs) × (j < 0 + (length ch.rows - 0)) = first-has (row_of ch.rows) 0 (length ch.rows - 0) j (sym is ∙ first) in
           is-list (row_of ch.rows j) row.0 row.1
-
-      pub code-small : code u < PLACES
-      code-small = small-code w.world.deployment f edge.0 u k.frame.deployment edge.2 edge.3
-
-      pub edge-here : IsActOf w.world.deployment (act.Hop f u y)
-      edge-here = edge
 
       pub enter-no-head : (o : Option ℕ) → o ≡ number_of (first_from (row_of ch.rows) 0 (length ch.rows - 0)) → o ≡ None → ChainApplies v (chain.Enter f u y) (says.Refused why.Dead) v
       enter-no-head o first none =
@@ -122,19 +104,19 @@ module _ (w v : ChainsSeen) (e : w ≡ v) (k : IsChains w) where
       pub enter-nothing : (o : Option ℕ) (j ahead : ℕ) (l : Option Label) → o ≡ number_of (first_from (row_of ch.rows) 0 (length ch.rows - 0)) → o ≡ Some j →
           ((xs : List Pair) → row_of ch.rows j ≡ Some xs → ahead ≡ length (labels_from u xs) - get_or ch.taken (code u) 0) →
           ((h : List Entry) → IsRun w.world.deployment h → StandsFor w.world h → (t : TreeShape) → tree_of w.world.deployment f ≡ Some t →
-              l ≡ slice_get (entered w.world.deployment h f t u (Serializer y)) (taken w.world.deployment h f u (Serializer y) + ahead)) →
+          l ≡ slice_get (entered w.world.deployment h f t u (Serializer y)) (taken w.world.deployment h f u (Serializer y) + ahead)) →
           l ≡ None → ChainApplies v (chain.Enter f u y) (says.Refused why.Empty) v
       enter-nothing o j ahead l first is count look none =
           let row : (xs : List Pair) × (row_of ch.rows j ≡ Some xs) × (j < 0 + (length ch.rows - 0)) = first-has (row_of ch.rows) 0 (length ch.rows - 0) j (sym is ∙ first) in
           refused (chain.Enter f u y) why.Empty of
           (refuses w (chain.Enter f u y) why.Empty k edge (λ c run st.
-              enter-answer w.world.deployment w.replicas c f y ch (of-chain w k f y ch had c st) u edge.0 j ahead row.0 None (held-in w c run) edge.2 (small-code w.world.deployment f edge.0 u k.frame.deployment edge.2 edge.3)
-              (sym is ∙ first) row.1 (count row.0 row.1) (sym none ∙ look (plain w.replicas c) (held-in w c run).run st.world edge.0 edge.2)))
+          enter-answer w.world.deployment w.replicas c f y ch (of-chain w k f y ch had c st) u edge.0 j ahead row.0 None (held-in w c run) edge.2 (small-code w.world.deployment f edge.0 u k.frame.deployment edge.2 edge.3)
+          (sym is ∙ first) row.1 (count row.0 row.1) (sym none ∙ look (plain w.replicas c) (held-in w c run).run st.world edge.0 edge.2)))
 
       pub enter-deed : (o : Option ℕ) (j ahead : ℕ) (x : Option Label) (l : Label) (rows : List (List ChainSeen)) → o ≡ number_of (first_from (row_of ch.rows) 0 (length ch.rows - 0)) → o ≡ Some j →
           ((xs : List Pair) → row_of ch.rows j ≡ Some xs → ahead ≡ length (labels_from u xs) - get_or ch.taken (code u) 0) →
           ((h : List Entry) → IsRun w.world.deployment h → StandsFor w.world h → (t : TreeShape) → tree_of w.world.deployment f ≡ Some t →
-              x ≡ slice_get (entered w.world.deployment h f t u (Serializer y)) (taken w.world.deployment h f u (Serializer y) + ahead)) →
+          x ≡ slice_get (entered w.world.deployment h f t u (Serializer y)) (taken w.world.deployment h f u (Serializer y) + ahead)) →
           x ≡ Some l → ((b : ChainSeen) (xs : List Pair) → chain_at w.chains (f - 1) y ≡ Some b → row_of b.rows j ≡ Some xs → rows ≡ with_chain w.chains (f - 1) y (after_change b j (xs ++ record { from = u; label = l } ∷ []))) →
           Did v (chain.Enter f u y) (says.Entered l) (now_with w w.world rows)
       enter-deed o j ahead x l rows first is count look there gained =
@@ -194,7 +176,7 @@ module _ (w v : ChainsSeen) (e : w ≡ v) (k : IsChains w) where
           let empty : slice_get own.0 (length row.0) ≡ None = ap (slice_get own.0) (sym (lists.next row.0 row.1)) ∙ sym (lists.pair own.0 own.1) ∙ none in
           refused (chain.Pass f y i) why.Empty of
           (refuses w (chain.Pass f y i) why.Empty k here (λ c run st.
-              sym (ap passing empty) ∙ pass-answer w.world.deployment w.replicas c f y ch (of-chain w k f y ch mine c st) i n m own.0 row.0 (sym is ∙ first) own.1 (sym at ∙ next) row.1))
+          sym (ap passing empty) ∙ pass-answer w.world.deployment w.replicas c f y ch (of-chain w k f y ch mine c st) i n m own.0 row.0 (sym is ∙ first) own.1 (sym at ∙ next) row.1))
 
       pub pass-deed : (o q : Option ℕ) (n m len : ℕ) (b : Bool) (p : Option Pair) (x : Pair) (rows : List (List ChainSeen)) → o ≡ number_of (first_from (row_of ch.rows) 0 (length ch.rows - 0)) → o ≡ Some n → b ≡ is_some (row_of ch.rows i) → b ≡ true →
           q ≡ number_of (first_from (row_of ch.rows) (i + 1) (length ch.rows - (i + 1))) → q ≡ Some m → Lists m len p → p ≡ Some x →

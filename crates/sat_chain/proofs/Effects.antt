@@ -1,5 +1,5 @@
 -- An apply, by what the code found: over the record of its fields, w, and what is seen of it, v.
-use Rattle.std.proofs.Common.{◌≡◌, ◌≤◌, ◌<◌, ℕ, ◌-◌, ◌+◌, true, false, List, [], ◌∷◌, length, take, sum_by, get_or, map, Option, Some, None, IsSome, IfOk, Result, slice_get, inl, inr, refl, sym, ap, subst, ◌∙◌, arith}
+use Rattle.std.proofs.Common.{◌≡◌, ◌≤◌, ◌<◌, ℕ, ◌-◌, ◌+◌, List, length, take, sum_by, get_or, map, Option, Some, None, IsSome, slice_get, sym, ap, subst, ◌∙◌, arith}
 use Rattle.std.proofs.lemmas.List.{length-map}
 use Rattle.sat_label.specs.declared.label.Kind.{Kind}
 use Rattle.sat_label.specs.declared.label.Kind.TheVariants as kind
@@ -15,7 +15,7 @@ use Rattle.sat_act.specs.declared.act.Act.TheVariants as act
 use Rattle.sat_act.specs.declared.answer.Answer.{Answer}
 use Rattle.sat_act.specs.Deployed.{Deployed}
 use Rattle.sat_act.specs.Ranges.{IsActOf}
-use Rattle.sat_act.specs.Parts.{tree_of, entered}
+use Rattle.sat_act.specs.Parts.{tree_of}
 use Rattle.sat_serial.specs.Hits.{code}
 use Rattle.sat_serial.specs.Routes.{routes}
 use Rattle.sat_machine.specs.Interests.{interest_of, replicas_of}
@@ -41,7 +41,7 @@ use Rattle.sat_chain.specs.Stands.{ChainsSeen, HasChain, ChainsFor, IsChains, ch
 use Rattle.sat_chain.specs.Starts.{put_by}
 use Rattle.sat_chain.specs.Applies.{ChainApplies}
 use Rattle.sat_chain.proofs.Answering.{Accounted, accounted, tail-has, apply-dead, apply-empty}
-use Rattle.sat_chain.proofs.Acting.{refuses, look-applies, effect-applies, look-frame, effect-frame, few-put, small-taken, near-in, of-chain}
+use Rattle.sat_chain.proofs.Acting.{refuses, look-applies, effect-applies, look-frame, effect-frame, small-taken, near-in, of-chain}
 use Rattle.sat_chain.proofs.Ready.{asked, is-list}
 use Rattle.sat_chain.proofs.Stood.{with_both, frame-world, held-in}
 use Rattle.sat_chain.proofs.Deeds.{Did, now_with, refused, done}
@@ -103,7 +103,6 @@ module _ (w v : ChainsSeen) (e : w ≡ v) (k : IsChains w) (f y : ℕ) (ch : Cha
 
       pub can-tell : (xs : List Pair) → row_of ch.rows j ≡ Some xs → CanTell w.interest t y xs ch.put
       can-tell xs has =
-          let h = plain w.replicas k.history in
           let all : Held w.world.deployment w.replicas k.history = held-in w k.history k.run in
           let a : Accounted w.world.deployment w.replicas k.history f y ch (of-chain w k f y ch had k.history k.stands) t xs =
           accounted w.world.deployment w.replicas k.history f y ch (of-chain w k f y ch had k.history k.stands) t j xs k.frame.deployment.trees k.frame.deployment.all_seated all planned has in
@@ -114,7 +113,7 @@ module _ (w v : ChainsSeen) (e : w ≡ v) (k : IsChains w) (f y : ℕ) (ch : Cha
                 let there : In (links_in w.world.deployment (plain w.replicas k.history) f y (tree_of w.world.deployment f) p.from) p.label =
                 prefix-in (labels_from p.from xs) (links_in w.world.deployment (plain w.replicas k.history) f y (tree_of w.world.deployment f) p.from) p.label (good.from j xs p.from living) (labels-in xs p i) in
                 let on = entered-leads w.world.deployment (plain w.replicas k.history) f t p.from (Serializer y) p.label all.run
-                    (subst (λ (ls : List Label). In ls p.label) (links-are w.world.deployment (plain w.replicas k.history) f y t p.from planned) there) in
+                (subst (λ (ls : List Label). In ls p.label) (links-are w.world.deployment (plain w.replicas k.history) f y t p.from planned) there) in
                 subst (λ (b : Interested). IsLabelOf b p.label) (sym k.frame.interest) (label-of w.world.deployment t p.from (Serializer y) p.label on.1);
             each = λ p i. subst (λ (n : ℕ). 0 < n) (sym (ways-at w.interest w.world.deployment t y p k.frame.interest)) (a.each p i);
             count = applied k.history f y;
@@ -131,7 +130,7 @@ module _ (w v : ChainsSeen) (e : w ≡ v) (k : IsChains w) (f y : ℕ) (ch : Cha
           empty-deed rows none looked =
               done w v e k (chain.Apply f y) (says.Refused why.Empty) w.world (f - 1) y (after_look ch n) rows (looked ch (sym found)) (look-frame w k f y ch had n)
               (look-applies w k f y ch had n at-serializer count-is
-                  (λ c run st. apply-empty w.world.deployment w.replicas c f y ch (of-chain w k f y ch had c st) j n row.0 (sym is ∙ last) row.1 (count-is c run st) (sym (pair row.0 row.1) ∙ none)))
+              (λ c run st. apply-empty w.world.deployment w.replicas c f y ch (of-chain w k f y ch had c st) j n row.0 (sym is ∙ last) row.1 (count-is c run st) (sym (pair row.0 row.1) ∙ none)))
 
           module _ (x : Pair) (there : p ≡ Some x) where
             at : slice_get row.0 n ≡ Some x
@@ -144,12 +143,6 @@ module _ (w v : ChainsSeen) (e : w ≡ v) (k : IsChains w) (f y : ℕ) (ch : Cha
               pub small-from : n < 18446744073709551615 → (b : ChainSeen) → chain_at w.chains (f - 1) y ≡ Some b → get_or b.taken (code x.from) 0 < 18446744073709551615
               small-from small b e = subst (λ (q : ChainSeen). get_or q.taken (code x.from) 0 < 18446744073709551615) (some_is ch b (found ∙ e))
                   (small-taken w k f y ch had j n row.0 x at-serializer (sym is ∙ last) row.1 count-is at small)
-
-              pub small-put : ch.put < 9223372036854775808 → (b : ChainSeen) → chain_at w.chains (f - 1) y ≡ Some b → b.put + count < 18446744073709551616
-              small-put small b e =
-                  let few : count ≤ 79 = few-put w k f y ch had j n row.0 x at-serializer (sym is ∙ last) row.1 count-is at u r count same did in
-                  let q : ch.put ≡ b.put = ap (λ (q : ChainSeen). q.put) (some_is ch b (found ∙ e)) in
-                  omega arith
 
               pub effect-deed : (rows : List (List ChainSeen)) → ((b : ChainSeen) → chain_at w.chains (f - 1) y ≡ Some b → rows ≡ with_chain w.chains (f - 1) y (after_effect b n x.from count)) →
                   Did v (chain.Apply f y) (says.Plain r) (now_with w u rows)

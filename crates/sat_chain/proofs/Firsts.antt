@@ -3,8 +3,8 @@ use Rattle.std.proofs.Common.{◌≡◌, ◌<◌, ◌≤◌, ℕ, zero, suc, ◌
 use Rattle.std.proofs.lemmas.Option.{slice_get-get_or}
 use Rattle.sat_chain_laws.specs.declared.pair.Pair.{Pair}
 use Rattle.sat_chain_laws.specs.Rows.{Row, here_or, first_from, tail}
-use Rattle.sat_chain_laws.proofs.Rows.{le-cases, either}
-use Rattle.sat_chain.specs.Chained.{ChainSeen, row_of, number_of}
+use Rattle.sat_chain_laws.proofs.Rows.{le-cases}
+use Rattle.sat_chain.specs.Chained.{row_of, number_of}
 
 -- none of those from number a up to k lives
 abbrev pub NoneLives : List (Option (List Pair)) → ℕ → ℕ → Type 0

@@ -1,8 +1,7 @@
 -- Chains to which nothing has happened.
-use Rattle.std.proofs.Common.{◌≡◌, ◌≤◌, ◌<◌, ℕ, zero, suc, ◌-◌, List, [], ◌∷◌, length, map, replicate, Option, Some, None, slice_get, refl, sym, ap, subst, ◌∙◌, arith}
+use Rattle.std.proofs.Common.{◌≡◌, ℕ, zero, suc, ◌-◌, List, [], ◌∷◌, length, map, replicate, Option, Some, None, slice_get, refl, sym, ap, subst, ◌∙◌}
 use Rattle.sat_label.specs.Members.{In}
 use Rattle.sat_sites.specs.Interested.{Interested}
-use Rattle.sat_tree.specs.Shape.{TreeShape}
 use Rattle.sat_act.specs.declared.act.Act.TheVariants as act
 use Rattle.sat_act.specs.declared.deployment.Plan.{Plan}
 use Rattle.sat_act.specs.declared.deployment.Plan.TheVariants as plan
@@ -19,7 +18,7 @@ use Rattle.sat_chain_laws.specs.ChainRuns.{IsChainRun}
 use Rattle.sat_chain_laws.proofs.Lists.{some_is}
 use Rattle.sat_chain.specs.Chained.{ChainSeen, row_of, fresh_chain}
 use Rattle.sat_chain.specs.StandsChain.{StandsChain}
-use Rattle.sat_chain.specs.Stands.{ChainsSeen, HasChain, ChainsFor, IsFrame, IsChains, chain_at}
+use Rattle.sat_chain.specs.Stands.{HasChain, ChainsFor, IsChains, chain_at}
 use Rattle.sat_chain.specs.Starts.{fresh_row, serializers_of}
 use Rattle.sat_chain.proofs.Sets.{get-copies}
 use Rattle.sat_chain.proofs.Steps.{starts}
@@ -73,11 +72,13 @@ module _ (d : Deployed) (w : WorldSeen) (a : Interested) (r : ℕ) (plans : List
   new-has e z of =
       let plan-at : slice_get d.plans (e - 1) ≡ Some (plan.Tree of.0) = (tree_in_plans d e of.0 of.2).1 in
       let row-at : slice_get (map (fresh_row r) d.plans) (e - 1) ≡ Some (replicate (length of.0.parents) (fresh_chain r)) = map-at (fresh_row r) d.plans (e - 1) (plan.Tree of.0) plan-at in
-      let is : rows ≡ map (fresh_row r) d.plans = fresh ∙ ap (λ (ps : List Plan). map (fresh_row r) ps) planned in
-      (fresh_chain r, record {
-        epochs = of.1;
-        at = ap (λ (cs : List (List ChainSeen)). chain_at cs (e - 1) z) is ∙ ap (λ (o : Option (List ChainSeen)). elim o [ None ↦ None | Some row ↦ slice_get row z ]) row-at ∙ get-copies (length of.0.parents) z (fresh_chain r) of.3;
-      })
+      let is : rows ≡ map (fresh_row r) d.plans = fresh ∙ ap (λ (ps : List Plan). map (fresh_row r) ps) planned in (
+        fresh_chain r,
+        record {
+          epochs = of.1;
+          at = ap (λ (cs : List (List ChainSeen)). chain_at cs (e - 1) z) is ∙ ap (λ (o : Option (List ChainSeen)). elim o [ None ↦ None | Some row ↦ slice_get row z ]) row-at ∙ get-copies (length of.0.parents) z (fresh_chain r) of.3;
+        },
+      )
 
   pub new-chains : IsChains (record { world = w; interest = a; replicas = r; chains = rows })
   unfolding IsChainRun

@@ -1,30 +1,22 @@
 -- The outgoing links on which a pair is put, counted neighbour by neighbour.
-use Rattle.std.proofs.Common.{◌≡◌, ◌<◌, ◌≤◌, ◌&&◌, ℕ, suc, ◌+◌, Bool, true, false, nat_lt, List, [], ◌∷◌, length, filter, take, cond, slice_index_or, sym, ap, ◌∙◌, arith, length-take-le}
+use Rattle.std.proofs.Common.{◌≡◌, ◌<◌, ◌≤◌, ℕ, suc, ◌+◌, Bool, true, false, List, [], ◌∷◌, length, filter, take, cond, slice_index_or, ap, arith, length-take-le}
 use Rattle.std.proofs.lemmas.List.Filters.{length-filter_more}
-use Rattle.std.proofs.lemmas.List.{take_all}
 use Rattle.sat_label.specs.declared.label.Label.{Label}
 use Rattle.sat_label.specs.declared.node.NodeId.{NodeId}
-use Rattle.sat_label.specs.declared.node.NodeId.TheVariants.{Site, Serializer}
-use Rattle.sat_label.specs.declared.site_set.SiteSet.{SiteSet}
-use Rattle.sat_label.specs.Words.{bit}
-use Rattle.sat_sites.specs.Interested.{Interested, is_for}
+use Rattle.sat_sites.specs.Interested.{Interested}
 use Rattle.sat_tree.specs.Shape.{TreeShape}
 use Rattle.sat_tree.specs.Flaw.{IsSmallTree}
 use Rattle.sat_tree.specs.Cut.{neighbours}
-use Rattle.sat_serial.specs.Routes.{goes, routes, IsFarSide}
+use Rattle.sat_serial.specs.Routes.{goes, routes}
 use Rattle.sat_serial.proofs.Places.{few-neighbours}
 
-pub few-pass : {X : Type 0} (g : X → Bool) (xs : List X) → length (filter g xs) ≤ length xs
+few-pass : {X : Type 0} (g : X → Bool) (xs : List X) → length (filter g xs) ≤ length xs
 few-pass g [] = omega arith
 few-pass g (x ∷ xs) = go (g x) (few-pass g xs)
   where
     go : (b : Bool) → length (filter g xs) ≤ length xs → length (cond b (x ∷ filter g xs) (filter g xs)) ≤ suc (length xs)
     go true e = omega arith
     go false e = omega arith
-
--- no pair is put on more links than there can be
-pub few-routes : (a : Interested) (t : TreeShape) (z : ℕ) (u : NodeId) (l : Label) → IsSmallTree t → length (routes a t z u l) ≤ 79
-few-routes a t z u l small = omega (arith, few-pass (goes a t z u l) (neighbours t z), few-neighbours t z small)
 
 pub few-hits : (g : NodeId → Bool) (nodes : List NodeId) (t : TreeShape) (z i count : ℕ) → nodes ≡ neighbours t z → IsSmallTree t → count ≡ length (filter g (take i nodes)) → i < length nodes → count + 1 < 18446744073709551616
 few-hits g nodes t z i count are small had lt =

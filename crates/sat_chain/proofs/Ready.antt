@@ -1,5 +1,5 @@
 -- What the code of chains knows at each call, over the record of its fields and what is seen of it.
-use Rattle.std.proofs.Common.{◌≡◌, ◌≤◌, ◌<◌, ℕ, ◌-◌, ◌+◌, Bool, true, false, List, [], ◌∷◌, length, Option, Some, None, IsSome, is_some, slice_get, slice_index_or, refl, sym, ap, subst, ◌∙◌, arith}
+use Rattle.std.proofs.Common.{◌≡◌, ◌<◌, ℕ, ◌-◌, Bool, true, false, List, length, Option, Some, None, IsSome, is_some, slice_get, slice_index_or, refl, sym, ap, subst, ◌∙◌}
 use Rattle.std.proofs.lemmas.Option.{get_or_from_slice_get, slice_get_within}
 use Rattle.sat_tree.specs.Shape.{TreeShape}
 use Rattle.sat_act.specs.declared.act.Act.TheVariants as act
@@ -22,10 +22,6 @@ use Rattle.sat_chain.proofs.Firsts.{some-list, none-list}
 pub asked : (w v : ChainsSeen) (a : ChainAct) → w ≡ v → IsChainActOf v.world.deployment v.replicas a → IsChainActOf w.world.deployment w.replicas a
 asked w v a is of = subst (λ (s : ChainsSeen). IsChainActOf s.world.deployment s.replicas a) (sym is) of
 
--- what an act does to the fields it does to what is seen
-pub seen-as : (w v t : ChainsSeen) (a : ChainAct) (n : ChainAnswer) → w ≡ v → ChainApplies w a n t → ChainApplies v a n t
-seen-as w v t a n is did = subst (λ (s : ChainsSeen). ChainApplies s a n t) is did
-
 pub some-at : (o : Option ChainSeen) (ch : ChainSeen) → o ≡ Some ch → IsSome o
 some-at None ch e = absurd (cc)
 some-at (Some x) ch e = refl
@@ -33,10 +29,6 @@ some-at (Some x) ch e = refl
 -- a serializer has a chain
 pub has-chain : (s : ChainsSeen) (f y : ℕ) → IsChains s → IsActOf s.world.deployment (act.Kill f y) → IsSome (chain_at s.chains (f - 1) y)
 has-chain s f y k of = let p = k.frame.planned f y of in some-at (chain_at s.chains (f - 1) y) p.0 p.1.at
-
--- which is the one that the code found
-pub the-chain : (s : ChainsSeen) (f y : ℕ) (ch : ChainSeen) → IsActOf s.world.deployment (act.Kill f y) → Some ch ≡ chain_at s.chains (f - 1) y → HasChain s f y ch
-the-chain s f y ch of e = record { epochs = of.1; at = sym e }
 
 -- a row has a list where it says so
 pub has-list : (ch : ChainSeen) (k : ℕ) (b : Bool) → b ≡ is_some (row_of ch.rows k) → b ≡ true → (xs : List Pair) × (row_of ch.rows k ≡ Some xs)
@@ -48,10 +40,6 @@ no-list ch k b e w = none-list (row_of ch.rows k) (sym e ∙ w)
 pub is-list : (o : Option (List Pair)) (xs : List Pair) → o ≡ Some xs → IsSome o
 is-list None xs e = absurd (cc)
 is-list (Some ys) xs e = refl
-
--- an act that changes nothing leaves what is seen
-pub same-as : (w v : ChainsSeen) (a : ChainAct) (n : ChainAnswer) → w ≡ v → ChainApplies w a n w → ChainApplies v a n v
-same-as w v a n is did = subst (λ (s : ChainsSeen). ChainApplies s a n s) is did
 
 pub is-some-of : {X : Type 0} (o : Option X) (x : X) → o ≡ Some x → IsSome o
 is-some-of None x e = absurd (cc)

@@ -1,5 +1,5 @@
 -- What an entry does to the chain of one serializer.
-use Rattle.std.proofs.Common.{◌≡◌, ◌<◌, ◌≤◌, ℕ, ◌+◌, Bool, true, false, ◌&&◌, ◌==◌, nat_lt, List, [], ◌∷◌, ◌++◌, length, set, sum_by, replicate, Option, Some, None, is_some, slice_get, refl, sym, ap, ap₂, subst, ◌∙◌, if◌then◌else◌, append-nil, arith, length-set}
+use Rattle.std.proofs.Common.{◌≡◌, ◌<◌, ◌≤◌, ℕ, ◌+◌, Bool, true, false, ◌&&◌, ◌==◌, nat_lt, List, [], ◌∷◌, ◌++◌, length, set, sum_by, replicate, Option, Some, None, slice_get, refl, sym, ap, ap₂, subst, ◌∙◌, if◌then◌else◌, append-nil, arith, length-set}
 use Rattle.std.proofs.lemmas.List.{length-replicate}
 use Rattle.std.proofs.lemmas.List.Sums.{sum_by_push}
 use Rattle.std.proofs.lemmas.Bool.Decides.{nat_tests}
@@ -20,8 +20,8 @@ use Rattle.sat_chain_laws.specs.declared.chain_act.ChainAct.TheVariants as chain
 use Rattle.sat_chain_laws.specs.declared.chain_answer.ChainAnswer.{ChainAnswer}
 use Rattle.sat_chain_laws.specs.declared.chain_answer.ChainAnswer.TheVariants as says
 use Rattle.sat_chain_laws.specs.declared.chain_answer.ChainRefusal.{ChainRefusal}
-use Rattle.sat_chain_laws.specs.Rows.{Replica, Row, head, next_after, tail, row_with}
-use Rattle.sat_chain_laws.specs.Chains.{ChainEntry, Change, change, changed, head_gains, next_gains, handed_on, seq, applied, plain, plain_entry, projected, hop_pair, hops}
+use Rattle.sat_chain_laws.specs.Rows.{Replica, head, next_after, tail, row_with}
+use Rattle.sat_chain_laws.specs.Chains.{ChainEntry, Change, change, changed, head_gains, next_gains, handed_on, seq, applied, plain, plain_entry, projected, hops}
 use Rattle.sat_chain_laws.specs.ChainAnswers.{is_allowed}
 use Rattle.sat_chain_laws.specs.Goals.{ways}
 use Rattle.sat_chain_laws.proofs.Lists.{some_is}
@@ -132,7 +132,7 @@ unfolding plain projected applied
 enter-here d r c f y u l q ch hd lt st =
     changes d r c (entry_of (chain.Enter f u y) (says.Entered l)) f y ch st q.number (Some (q.list ++ record { from = u; label = l } ∷ [])) ch.found
     (ap (λ (b : Bool). if b then head_gains r (seq r c f y) (record { from = u; label = l }) else None) (here-test f y)
-        ∙ ap (λ (o : Option Replica). elim o [ None ↦ None | Some h ↦ Some (h.number, Some (h.list ++ record { from = u; label = l } ∷ [])) ]) hd)
+    ∙ ap (λ (o : Option Replica). elim o [ None ↦ None | Some h ↦ Some (h.number, Some (h.list ++ record { from = u; label = l } ∷ [])) ]) hd)
     lt (λ n is. is) refl refl
 
 pub enter-other : (d : Deployed) (r : ℕ) (c : List ChainEntry) (f y : ℕ) (u : NodeId) (l : Label) (e z : ℕ) (ch : ChainSeen) → ((f == e) && (y == z)) ≡ false → StandsChain d r c e z ch →
@@ -153,8 +153,8 @@ pass-here d r c f y k xs n p ch has nx at lt st =
     let given : handed_on (seq r c f y) k n ≡ Some p = ap (λ (o : Option (List Pair)). elim o [ None ↦ None | Some xs ↦ slice_get xs (length n.list) ]) has ∙ at in
     changes d r c (entry_of (chain.Pass f y k) (says.Passed p.label)) f y ch st n.number (Some (n.list ++ p ∷ [])) ch.found
     (ap (λ (b : Bool). if b then next_gains r (seq r c f y) k else None) (here-test f y)
-        ∙ ap (λ (o : Option Replica). elim o [ None ↦ None | Some n ↦ elim (handed_on (seq r c f y) k n) [ None ↦ None | Some p ↦ Some (n.number, Some (n.list ++ p ∷ [])) ] ]) nx
-        ∙ ap (λ (o : Option Pair). elim o [ None ↦ None | Some p ↦ Some (n.number, Some (n.list ++ p ∷ [])) ]) given)
+    ∙ ap (λ (o : Option Replica). elim o [ None ↦ None | Some n ↦ elim (handed_on (seq r c f y) k n) [ None ↦ None | Some p ↦ Some (n.number, Some (n.list ++ p ∷ [])) ] ]) nx
+    ∙ ap (λ (o : Option Pair). elim o [ None ↦ None | Some p ↦ Some (n.number, Some (n.list ++ p ∷ [])) ]) given)
     lt (λ n is. is) refl refl
 
 pub pass-other : (d : Deployed) (r : ℕ) (c : List ChainEntry) (f y k : ℕ) (l : Label) (e z : ℕ) (ch : ChainSeen) → ((f == e) && (y == z)) ≡ false → StandsChain d r c e z ch →

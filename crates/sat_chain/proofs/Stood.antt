@@ -1,13 +1,11 @@
 -- What chains over a world stand for after a step.
-use Rattle.std.proofs.Common.{◌≡◌, ◌≤◌, ◌<◌, ℕ, ◌-◌, ◌==◌, ◌&&◌, Bool, true, false, List, [], ◌∷◌, ◌++◌, length, Option, Some, None, IsSome, inl, inr, refl, sym, ap, subst, subst₂, ◌∙◌, arith}
+use Rattle.std.proofs.Common.{◌≡◌, ◌≤◌, ℕ, ◌-◌, ◌==◌, ◌&&◌, Bool, true, false, List, ◌∷◌, Some, inl, inr, refl, sym, ap, subst, subst₂, ◌∙◌, arith}
 use Rattle.std.proofs.lemmas.Bool.Decides.{nat_tests}
 use Rattle.sat_label.specs.Members.{In}
-use Rattle.sat_act.specs.declared.act.Act.{Act}
 use Rattle.sat_act.specs.declared.act.Act.TheVariants as act
 use Rattle.sat_act.specs.Deployed.{Deployed}
 use Rattle.sat_act.specs.Limits.{IsDeployment}
 use Rattle.sat_act.specs.Ranges.{IsActOf}
-use Rattle.sat_act.specs.Runs.{IsRun}
 use Rattle.sat_act.proofs.Valid.{is_valid}
 use Rattle.sat_machine.specs.Interests.{interest_of}
 use Rattle.sat_world.specs.Seen.{WorldSeen}
@@ -25,11 +23,11 @@ use Rattle.sat_chain_laws.proofs.Theorem.{chains}
 use Rattle.sat_chain_laws.proofs.Held.{Held, held}
 use Rattle.sat_chain.specs.Chained.{ChainSeen, row_of}
 use Rattle.sat_chain.specs.StandsChain.{StandsChain}
-use Rattle.sat_chain.specs.Stands.{ChainsSeen, HasChain, ChainsFor, IsFrame, IsChains, chain_at, with_chain}
+use Rattle.sat_chain.specs.Stands.{ChainsSeen, HasChain, ChainsFor, IsFrame, IsChains, with_chain}
 use Rattle.sat_chain.specs.Applies.{ChainApplies}
 use Rattle.sat_chain.proofs.Steps.{entry_of}
 use Rattle.sat_chain.proofs.Sets.{self-test}
-use Rattle.sat_chain.proofs.Twofold.{with-there, with-cases, with-some}
+use Rattle.sat_chain.proofs.Twofold.{with-cases, with-some}
 
 chain-in-range : (d : Deployed) (r : ℕ) (a : ChainAct) → IsChainActOf d r a → IsChainInRange d r a
 chain-in-range d r (chain.Plain a) k = (in-range d a k.0, k.1)

@@ -1,5 +1,5 @@
 -- Chains to which nothing has happened.
-use Rattle.std.specs.Prelude.{ℕ, List, length, map, replicate}
+use Rattle.std.specs.Prelude.{ℕ, List, length, replicate}
 use Rattle.sat_act.specs.declared.answer.Answer.{Answer}
 use Rattle.sat_act.specs.declared.answer.Answer.TheVariants as ans
 use Rattle.sat_act.specs.declared.deployment.Plan.{Plan}

@@ -173,12 +173,7 @@ impl Chains {
     }
 
     // A replica hands on to the next living one what that one has next to come.
-    fn pass(
-        &mut self,
-        epoch: u16,
-        serializer: u16,
-        replica: u16,
-    ) -> Result<ChainAnswer, AllocError>
+    fn pass(&mut self, epoch: u16, serializer: u16, replica: u16) -> Result<ChainAnswer, AllocError>
         requires { IsChainActOf self.old.world.deployment self.old.replicas (ChainAct.Pass epoch serializer replica) }
         ensures applies { IfOk result (λ r. ChainApplies self.old (ChainAct.Pass epoch serializer replica) r self.new) }
         ensures err { OnErr result (self.new ≡ self.old) }

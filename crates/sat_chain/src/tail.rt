@@ -46,13 +46,7 @@ fn ways(pair: &Pair, tree: &Tree, z: u16, interest: &Interest) -> u64
 /// were put on the outgoing links of its serializer, all together, since each pair that took effect was put on those that it goes on
 /// to. Each pair goes on to one at least, and some number of pairs accounts for what was put; there is no other such number. It
 /// takes no memory.
-pub fn applied_by_links(
-    list: &[Pair],
-    put: u64,
-    tree: &Tree,
-    z: u16,
-    interest: &Interest,
-) -> usize
+pub fn applied_by_links(list: &[Pair], put: u64, tree: &Tree, z: u16, interest: &Interest) -> usize
     requires serializer { z < length tree.now.parents }
     requires sites { interest.now.sites ≡ length tree.now.seats }
     requires labels { (p : PairSeen) → In list.now p → IsLabelOf interest.now p.label }

@@ -5,3 +5,4 @@ pub mod Answers
 pub mod Holdings
 pub mod Faults
 pub mod Summary
+pub mod ChainAnswers

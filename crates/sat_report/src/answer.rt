@@ -22,7 +22,7 @@ use std::alloc::AllocError;
 // In this file each word that something follows ends with its space. `number` is that of the line; an answer that stands by itself has none.
 // All but a value and further nodes is put together in an array, so that `out` grows once.
 #[inline(always)]
-fn append_word<const N: usize>(
+pub fn append_word<const N: usize>(
     number: &LineFront,
     word: &[u8; N],
     out: &mut Vec<u8>,
@@ -100,7 +100,7 @@ fn append_with_point<const N: usize>(
 }
 
 #[inline(always)]
-fn append_with_kind<const N: usize>(
+pub fn append_with_kind<const N: usize>(
     number: &LineFront,
     word: &[u8; N],
     label: &Label,
@@ -359,7 +359,7 @@ fn append_refused(n: &LineFront, refusal: &Refusal, out: &mut Vec<u8>) -> Result
 
 // The text of an answer, by itself or as a line with its number.
 #[tactic(auto, unfolding(crate::specs::Answers::answer_text))]
-fn append_framed(
+pub fn append_framed(
     d: &Deployment,
     n: &LineFront,
     act: &Act,

@@ -1,4 +1,4 @@
-use Rattle.std.proofs.Common.{◌≡◌, ◌∙◌, Some, sym, ap, subst}
+use Rattle.std.proofs.Common.{◌∙◌, Some, sym, ap}
 use Rattle.sat_tree.specs.Shape.{TreeShape}
 use Rattle.sat_chain.proofs.Ready.{plan-in, plan-is, no-stamp, tree-same}
 use Rattle.sat_chain.proofs.chains.tree_of.Goals as goal

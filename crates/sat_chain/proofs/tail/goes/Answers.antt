@@ -1,6 +1,5 @@
-use Rattle.std.proofs.Common.{◌∙◌, not, ◌&&◌, ap, sym, true, false}
+use Rattle.std.proofs.Common.{◌∙◌, not, ◌&&◌, ap, sym}
 use Rattle.sat_label.specs.declared.node.NodeId.TheVariants.{Serializer}
-use Rattle.sat_label.specs.Order.{node_eq}
 use Rattle.sat_serial.specs.Routes.{leads}
 use Rattle.sat_serial.proofs.Ways.{meets-leads}
 use Rattle.sat_chain.proofs.tail.goes.Goals as goal

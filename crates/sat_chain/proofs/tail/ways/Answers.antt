@@ -1,5 +1,4 @@
-use Rattle.std.proofs.Common.{◌≡◌, ◌∙◌, ◌+◌, ◌<◌, ◌≤◌, ap, arith, length, filter, take, cond, true, false, slice_index_or, sym}
-use Rattle.std.proofs.lemmas.List.Filters.{length-filter_more}
+use Rattle.std.proofs.Common.{◌∙◌, arith, sym}
 use Rattle.sat_serial.specs.Routes.{goes}
 use Rattle.sat_serial.proofs.Ways.{neighbour-at}
 use Rattle.sat_chain.proofs.OnWays.{few-hits, hit, missed}

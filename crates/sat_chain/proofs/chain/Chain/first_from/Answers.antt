@@ -1,5 +1,4 @@
-use Rattle.std.proofs.Common.{◌≡◌, ◌∙◌, List, Option, length, slice_index_or, sym, ap, subst, arith}
-use Rattle.sat_chain_laws.specs.declared.pair.Pair.{Pair}
+use Rattle.std.proofs.Common.{◌≡◌, ◌∙◌, length, slice_index_or, sym, ap, subst, arith}
 use Rattle.sat_chain.specs.Chained.{ChainSeen}
 use Rattle.sat_chain.proofs.Firsts.{lives-at, none-more, none-all}
 use Rattle.sat_chain.proofs.chain.Chain.first_from.Goals as goal

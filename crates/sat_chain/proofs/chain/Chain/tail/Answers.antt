@@ -1,4 +1,4 @@
-use Rattle.std.proofs.Common.{◌≡◌, ◌<◌, ◌∙◌, List, Option, length, slice_index_or, sym, ap, subst, arith}
+use Rattle.std.proofs.Common.{◌≡◌, ◌<◌, ◌∙◌, length, slice_index_or, sym, ap, subst, arith}
 use Rattle.sat_chain.specs.Chained.{ChainSeen, row_of}
 use Rattle.sat_chain.proofs.Firsts.{last-lives, last-stays, last-none}
 use Rattle.sat_chain.proofs.chain.Chain.tail.Goals.{then-lives, else-lives}

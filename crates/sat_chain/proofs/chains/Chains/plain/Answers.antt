@@ -1,6 +1,4 @@
-use Rattle.sat_chain_laws.specs.declared.chain_act.ChainAct.TheVariants as chain
 use Rattle.sat_chain.proofs.Deeds.{plain-deed}
-use Rattle.sat_chain.proofs.Ready.{asked}
 use Rattle.sat_chain.proofs.chains.Chains.plain.Goals as goal
 
 pub returns-clause-applies : goal.returns-clause-applies

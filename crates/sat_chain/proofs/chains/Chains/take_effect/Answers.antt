@@ -1,5 +1,5 @@
 use Rattle.sat_chain_laws.specs.declared.chain_act.ChainAct.TheVariants as chain
-use Rattle.sat_chain.proofs.Effects.{apply-no-tail, tree-is, tail-lives, can-tell, empty-deed, hop-ready, small-from, small-put, effect-deed}
+use Rattle.sat_chain.proofs.Effects.{apply-no-tail, tree-is, tail-lives, can-tell, empty-deed, hop-ready, small-from, effect-deed}
 use Rattle.sat_chain.proofs.Ready.{asked, has-chain, is-some-of}
 use Rattle.sat_chain.proofs.chains.Chains.take_effect.Goals as goal
 

@@ -1,4 +1,4 @@
-use Rattle.std.proofs.Common.{subst, sym, List, ap, ◌∙◌, ℕ, arith, length, ◌++◌, ◌∷◌, [], length-append}
+use Rattle.std.proofs.Common.{subst, sym, List, ap, ℕ, arith, length, ◌∷◌, [], length-append}
 use Rattle.sat_chain_laws.specs.declared.pair.Pair.{Pair}
 use Rattle.sat_chain.specs.Tallies.{TellsFrom, raised}
 use Rattle.sat_chain.proofs.Tallied.{tells-more, in-range}
