@@ -5,4 +5,3 @@ pub mod Answers
 pub mod Holdings
 pub mod Faults
 pub mod Summary
-pub mod ChainAnswers

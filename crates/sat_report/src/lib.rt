@@ -2,7 +2,6 @@
 #![tactic(auto)]
 
 mod answer;
-mod chain_answer;
 mod fault;
 mod front;
 mod holdings;
@@ -11,8 +10,10 @@ mod line;
 mod summary;
 mod text;
 
-pub use answer::{append_answer, write_answer, write_line, write_numbered};
-pub use chain_answer::{append_chain_answer, write_chain_numbered};
+pub use answer::{
+    append_answer, append_framed, append_with_kind, append_word, write_answer, write_line,
+    write_numbered,
+};
 pub use fault::write_fault;
 pub use front::LineFront;
 pub use holdings::write_holdings;
