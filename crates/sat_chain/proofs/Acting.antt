@@ -46,7 +46,6 @@ use Rattle.sat_chain.specs.Stands.{ChainsSeen, HasChain, ChainsFor, IsFrame, IsC
 use Rattle.sat_chain.specs.Starts.{put_by}
 use Rattle.sat_chain.specs.Applies.{ChainApplies}
 use Rattle.sat_chain.proofs.Tallied.{in-range}
-use Rattle.sat_chain.proofs.OnWays.{few-pass}
 use Rattle.sat_chain.proofs.Steps.{entry_of, row-there, refused-keeps, refused-plain, plain-keeps, plain-plain, enter-plain, enter-here, enter-other, pass-plain, pass-here, pass-other, crash-here, crash-other, effect-plain, effect-here, effect-other}
 use Rattle.sat_chain.proofs.Answering.{Finds, passing, none-is, some-is, first-has, the-head, the-next, the-tail, enter-answer, pass-answer, apply-done, crash-done}
 use Rattle.sat_chain.proofs.Stood.{with_world, with_both, applies-of, held-in, frame-chain, for-kept, for-changed}
