@@ -1,14 +1,12 @@
 -- What each act of a chain does in each history that the chains stood for.
 use Rattle.std.proofs.Common.{◌≡◌, ◌≤◌, ◌<◌, ℕ, ◌+◌, ◌-◌, List, [], ◌∷◌, ◌++◌, length, set, get_or, Option, Some, None, slice_get, inl, inr, refl, sym, ap, subst, subst₂, ◌∙◌, arith, length-set}
 use Rattle.sat_label.specs.declared.label.Label.{Label}
-use Rattle.sat_label.specs.declared.limits.TheConstants.{MOST_SITES}
 use Rattle.sat_label.specs.declared.node.NodeId.{NodeId}
 use Rattle.sat_label.specs.declared.node.NodeId.TheVariants.{Site, Serializer}
 use Rattle.sat_label.specs.Members.{In}
 use Rattle.sat_label.proofs.Members.{In-parts}
 use Rattle.sat_tree.specs.Shape.{TreeShape}
-use Rattle.sat_tree.specs.Cut.{neighbours, IsNode}
-use Rattle.sat_tree.specs.Flaw.{IsSmallTree}
+use Rattle.sat_tree.specs.Cut.{IsNode}
 use Rattle.sat_act.specs.declared.act.Act.{Act}
 use Rattle.sat_act.specs.declared.act.Act.TheVariants as act
 use Rattle.sat_act.specs.declared.answer.Answer.{Answer}
@@ -20,7 +18,6 @@ use Rattle.sat_act.specs.Ranges.{IsActOf}
 use Rattle.sat_act.specs.Runs.{IsRun}
 use Rattle.sat_act.specs.Parts.{tree_of, entered, taken}
 use Rattle.sat_serial.specs.Hits.{code}
-use Rattle.sat_serial.proofs.Places.{few-neighbours}
 use Rattle.sat_world.specs.Seen.{WorldSeen}
 use Rattle.sat_world.specs.Stands.{StandsFor}
 use Rattle.sat_world.specs.Applies.{Applies}
@@ -32,7 +29,7 @@ use Rattle.sat_chain_laws.specs.declared.chain_answer.ChainRefusal.{ChainRefusal
 use Rattle.sat_chain_laws.specs.declared.chain_answer.ChainRefusal.TheVariants as why
 use Rattle.sat_chain_laws.specs.Rows.{Replica, first_from, head, next_after, tail, row_with, labels_from}
 use Rattle.sat_chain_laws.specs.Chains.{ChainEntry, seq, applied, plain, plain_entry, hops}
-use Rattle.sat_chain_laws.specs.ChainAnswers.{goes_on, goes_to, chain_answer}
+use Rattle.sat_chain_laws.specs.ChainAnswers.{goes_to, chain_answer}
 use Rattle.sat_chain_laws.specs.ChainRuns.{IsChainRun}
 use Rattle.sat_chain_laws.specs.Goals.{ways}
 use Rattle.sat_chain_laws.specs.Ranges.{IsChainActOf}
@@ -46,7 +43,6 @@ use Rattle.sat_chain.specs.Stands.{ChainsSeen, HasChain, ChainsFor, IsFrame, IsC
 use Rattle.sat_chain.specs.Starts.{put_by}
 use Rattle.sat_chain.specs.Applies.{ChainApplies}
 use Rattle.sat_chain.proofs.Tallied.{in-range}
-use Rattle.sat_chain.proofs.OnWays.{few-pass}
 use Rattle.sat_chain.proofs.Steps.{entry_of, row-there, refused-keeps, refused-plain, plain-keeps, plain-plain, enter-plain, enter-here, enter-other, pass-plain, pass-here, pass-other, crash-here, crash-other, effect-plain, effect-here, effect-other}
 use Rattle.sat_chain.proofs.Answering.{Finds, passing, none-is, some-is, first-has, the-head, the-next, the-tail, enter-answer, pass-answer, apply-done, crash-done}
 use Rattle.sat_chain.proofs.Stood.{with_world, with_both, applies-of, held-in, frame-chain, for-kept, for-changed}

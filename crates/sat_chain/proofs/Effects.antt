@@ -1,5 +1,5 @@
 -- An apply, by what the code found: over the record of its fields, w, and what is seen of it, v.
-use Rattle.std.proofs.Common.{◌≡◌, ◌≤◌, ◌<◌, ℕ, ◌-◌, ◌+◌, List, length, take, sum_by, get_or, map, Option, Some, None, IsSome, slice_get, sym, ap, subst, ◌∙◌, arith}
+use Rattle.std.proofs.Common.{◌≡◌, ◌<◌, ℕ, ◌-◌, List, length, take, sum_by, get_or, map, Option, Some, None, IsSome, slice_get, sym, ap, subst, ◌∙◌}
 use Rattle.std.proofs.lemmas.List.{length-map}
 use Rattle.sat_label.specs.declared.label.Kind.{Kind}
 use Rattle.sat_label.specs.declared.label.Kind.TheVariants as kind

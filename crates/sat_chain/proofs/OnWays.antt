@@ -1,13 +1,10 @@
 -- The outgoing links on which a pair is put, counted neighbour by neighbour.
 use Rattle.std.proofs.Common.{◌≡◌, ◌<◌, ◌≤◌, ℕ, suc, ◌+◌, Bool, true, false, List, [], ◌∷◌, length, filter, take, cond, slice_index_or, ap, arith, length-take-le}
 use Rattle.std.proofs.lemmas.List.Filters.{length-filter_more}
-use Rattle.sat_label.specs.declared.label.Label.{Label}
 use Rattle.sat_label.specs.declared.node.NodeId.{NodeId}
-use Rattle.sat_sites.specs.Interested.{Interested}
 use Rattle.sat_tree.specs.Shape.{TreeShape}
 use Rattle.sat_tree.specs.Flaw.{IsSmallTree}
 use Rattle.sat_tree.specs.Cut.{neighbours}
-use Rattle.sat_serial.specs.Routes.{goes, routes}
 use Rattle.sat_serial.proofs.Places.{few-neighbours}
 
 few-pass : {X : Type 0} (g : X → Bool) (xs : List X) → length (filter g xs) ≤ length xs

@@ -11,11 +11,9 @@ use Rattle.sat_act.proofs.Plans.{tree_in_plans}
 use Rattle.sat_act.specs.Ranges.{IsActOf}
 use Rattle.sat_chain_laws.specs.declared.pair.Pair.{Pair}
 use Rattle.sat_chain_laws.specs.declared.chain_act.ChainAct.{ChainAct}
-use Rattle.sat_chain_laws.specs.declared.chain_answer.ChainAnswer.{ChainAnswer}
 use Rattle.sat_chain_laws.specs.Ranges.{IsChainActOf}
 use Rattle.sat_chain.specs.Chained.{ChainSeen, row_of}
-use Rattle.sat_chain.specs.Stands.{ChainsSeen, HasChain, IsChains, chain_at}
-use Rattle.sat_chain.specs.Applies.{ChainApplies}
+use Rattle.sat_chain.specs.Stands.{ChainsSeen, IsChains, chain_at}
 use Rattle.sat_chain.proofs.Firsts.{some-list, none-list}
 
 -- an act that what is seen allows is one that the fields allow
