@@ -1,0 +1,6 @@
+pub mod Bounds
+pub mod Code
+pub mod Exact
+pub mod Forms
+pub mod Labels
+pub mod Texts
