@@ -1,6 +1,6 @@
 //! Payloads.
-ghost use Rattle.std.specs.Prelude.{◌≡◌, ◌<◌, length, get_or, is_some, map, set, None, Some, IfOk};
-ghost use Rattle.sat_bulk.specs.Payloads.{held_parts, part_of, version_in};
+ghost use Rattle.std.specs.Prelude.{◌≡◌, ◌<◌, length, get_or, is_some, map, set, None, Some, IfOk, IfSome, MatchOption, [], ◌∷◌};
+ghost use Rattle.sat_bulk.specs.Payloads.{held_parts, part_of, value_of, version_for, version_in};
 
 use sat_label::{Label, Value, Version};
 use std::alloc::{AllocError, Global};
@@ -52,6 +52,48 @@ fn parts_of(
     Ok(parts)
 }
 
+// The part of a value, none where there is none.
+fn part_for(
+    alloc: Global,
+    label: Label,
+    value: &Option<Value>,
+) -> Result<Option<Version>, AllocError>
+    ensures { IfOk result (λ part. part ≡ version_for label value.now) }
+{
+    match value {
+        None => Ok(None),
+        Some(value) => {
+            let version = Version::new(alloc, label, value.copy()?)?;
+            Ok(Some(version))
+        }
+    }
+}
+
+// The value that stands alone in a list.
+fn only(values: &[Option<Value>]) -> Option<&Value>
+    ensures { IfSome result (λ value. values.now ≡ Some value.now ∷ []) }
+{
+    match values {
+        [Some(value)] => Some(value),
+        _ => None,
+    }
+}
+
+// A part for each value that is there.
+fn parts_for(
+    alloc: Global,
+    label: Label,
+    values: &[Option<Value>],
+) -> Result<Vec<Option<Version>>, AllocError>
+    ensures { IfOk result (λ parts. parts.items ≡ map (version_for label) values.now) }
+{
+    let mut parts = Vec::with_capacity(alloc, values.len())?;
+    for value in values {
+        parts.push(part_for(alloc, label, value)?)?;
+    }
+    Ok(parts)
+}
+
 fn copy_part(part: &Option<Version>) -> Result<Option<Version>, AllocError>
     ensures { IfOk result (λ copy. copy ≡ part.now) }
 {
@@ -61,6 +103,16 @@ fn copy_part(part: &Option<Version>) -> Result<Option<Version>, AllocError>
             let version = version.copy()?;
             Ok(Some(version))
         }
+    }
+}
+
+// The value of a part.
+fn value_of(part: &Option<Version>) -> Option<&Value>
+    ensures { MatchOption result (value_of part.now ≡ None) (λ value. value_of part.now ≡ Some value.now) }
+{
+    match part {
+        None => None,
+        Some(version) => Some(version.value()),
     }
 }
 
@@ -114,6 +166,28 @@ impl Payload {
         })
     }
 
+    /// The payload of an update with this label, which gives copies of these values to those of its items that have one here, as
+    /// it comes to a site that keeps only some of them.
+    pub fn of_parts(
+        alloc: Global,
+        label: Label,
+        values: &[Option<Value>],
+    ) -> Result<Payload, AllocError>
+        ensures { IfOk result (λ payload. payload ≡ record { label = label; values = values.now }) }
+    {
+        if let Some(value) = only(values) {
+            let version = Version::new(alloc, label, value.copy()?)?;
+            return Ok(Payload {
+                kept: Kept::One(version),
+            });
+        }
+        let parts = parts_for(alloc, label, values)?;
+        let group = make_group(alloc, label, parts)?;
+        Ok(Payload {
+            kept: Kept::Many(group),
+        })
+    }
+
     /// The label of its update.
     pub fn label(&self) -> Label
         ensures { result ≡ self.now.label }
@@ -142,6 +216,18 @@ impl Payload {
         match &self.kept {
             Kept::One(_) => true,
             Kept::Many(group) => group.parts[place].is_some(),
+        }
+    }
+
+    /// The value of this place, None where it is not there. It takes no memory.
+    #[tactic(auto, using(crate::proofs::Payloads::only_value, crate::proofs::Payloads::value_there, crate::proofs::Payloads::value_away))]
+    pub fn value(&self, place: usize) -> Option<&Value>
+        requires { place < length self.now.values }
+        ensures { MatchOption result (get_or self.now.values place None ≡ None) (λ value. get_or self.now.values place None ≡ Some value.now) }
+    {
+        match &self.kept {
+            Kept::One(version) => Some(version.value()),
+            Kept::Many(group) => value_of(&group.parts[place]),
         }
     }
 

@@ -28,13 +28,13 @@ within-at : (m n : NetSeen) (z : ℕ) → m ≡ n → IsNet m → z < length n.t
 within-at m n z same k less = there-is m.serializers z (subst (λ (c : ℕ). z < c) (sym k.serializers) (subst (λ (n : NetSeen). z < length n.tree.parents) (sym same) less))
 
 -- what is read from a serializer's outbox is what stands on the link
-pub front-at : (m n : NetSeen) (u : NodeId) (z : ℕ) (v : NodeId) (r : Option Label) (ss : List SerializerSeen) → m ≡ n → IsNet m → u ≡ Serializer z → IsNode n.tree u → ss ≡ m.serializers →
-    ((s : SerializerSeen) → slice_get ss z ≡ Some s → r ≡ slice_get (outbox s v) 0) → r ≡ slice_get (link_of n u v) 0
-front-at m n u z v r ss same k is node all read =
+pub label-at : (m n : NetSeen) (u : NodeId) (z : ℕ) (v : NodeId) (count : ℕ) (r : Option Label) (ss : List SerializerSeen) → m ≡ n → IsNet m → u ≡ Serializer z → IsNode n.tree u → ss ≡ m.serializers →
+    ((s : SerializerSeen) → slice_get ss z ≡ Some s → r ≡ slice_get (outbox s v) count) → r ≡ slice_get (link_of n u v) count
+label-at m n u z v count r ss same k is node all read =
     let s : (s : SerializerSeen) × (slice_get m.serializers z ≡ Some s) = within-at m n z same k (subst (IsNode n.tree) is node) in
     read s.0 (ap (λ (ss : List SerializerSeen). slice_get ss z) all ∙ s.1) ∙
-    (ap (λ (o : Option SerializerSeen). slice_get (elim o [ None ↦ [] | Some s ↦ outbox s v ]) 0) (sym s.1) ∙
-    (λ i. slice_get (link_of (same i) (sym is i) v) 0))
+    (ap (λ (o : Option SerializerSeen). slice_get (elim o [ None ↦ [] | Some s ↦ outbox s v ]) count) (sym s.1) ∙
+    (λ i. slice_get (link_of (same i) (sym is i) v) count))
 
 -- ---- a hop
 

@@ -194,6 +194,23 @@ impl Net {
         count
     }
 
+    /// The label at a place of the link from a node to a serializer, counted from the oldest one, None where there is none. It asks for
+    /// an edge of the tree. It takes no memory, and works after a kill too.
+    pub fn ahead(&self, from: NodeId, to: u16, count: usize) -> Option<Label>
+        requires from { IsNode self.now.tree from }
+        requires to { to < length self.now.tree.parents }
+        requires edge { is_edge self.now.tree from (SerializerNode to) ≡ true }
+        ensures label { result ≡ slice_get (link_of self.now from (SerializerNode to)) count }
+        ensures limits { IsNet self.now }
+    {
+        match from {
+            NodeId::Site(site) => places::waiting(&self.up, site, count),
+            NodeId::Serializer(z) => {
+                places::ahead(&self.serializers, z, NodeId::Serializer(to), count)
+            }
+        }
+    }
+
     // Whether a serializer was killed.
     fn is_dead(&self, z: u16) -> bool
         requires { z < length self.now.tree.parents }

@@ -53,6 +53,16 @@ pub fn front(serializers: &[Serializer], place: u16, to: NodeId) -> Option<Label
     serializer.front(to)
 }
 
+/// The label at a place of those that a serializer has for a neighbour.
+pub fn ahead(serializers: &[Serializer], place: u16, to: NodeId, count: usize) -> Option<Label>
+    requires within { place < length serializers.now }
+    requires neighbour { (s : SerializerSeen) → slice_get serializers.now place ≡ Some s → IsNeighbour s.tree s.number to }
+    ensures { (s : SerializerSeen) → slice_get serializers.now place ≡ Some s → result ≡ slice_get (outbox s to) count }
+{
+    let serializer = &serializers[place as usize];
+    serializer.ahead(to, count)
+}
+
 /// Takes the oldest label that a serializer has for a neighbour.
 pub fn ship(serializers: &mut Vec<Serializer>, place: u16, to: NodeId)
     requires within { place < length serializers.old.items }
@@ -78,6 +88,14 @@ pub fn oldest(links: &[Queue<Label>], place: u16) -> Option<Label>
     ensures { result ≡ slice_get (get_or (map members_of links.now) place []) 0 }
 {
     links[place as usize].front()
+}
+
+/// The label at a place of a link.
+pub fn waiting(links: &[Queue<Label>], place: u16, count: usize) -> Option<Label>
+    requires { place < length links.now }
+    ensures { result ≡ slice_get (get_or (map members_of links.now) place []) count }
+{
+    links[place as usize].get(count)
 }
 
 /// How many labels stand on a link.

@@ -266,6 +266,8 @@ formats f some few = grind (arith, nat_tests)
 pub sites_allowed : (dialect : Dialect) (format n : ℕ) → n ≤ (limits_of dialect format).sites → n ≤ (format_limits format).sites
 sites_allowed dialect.Run format n few = few
 sites_allowed dialect.Audit format n few = few
+sites_allowed dialect.Chain format n few = few
+sites_allowed dialect.Lasting format n few = few
 sites_allowed dialect.Live format n few = go (eqb format 1)
   where
     go : (b : Bool) → n ≤ (cond b (format_limits 1) (format_limits 2)).sites
@@ -276,10 +278,14 @@ pub items_allowed : (dialect : Dialect) (format : ℕ) → (limits_of dialect fo
 items_allowed dialect.Run format = refl
 items_allowed dialect.Live format = refl
 items_allowed dialect.Audit format = refl
+items_allowed dialect.Chain format = refl
+items_allowed dialect.Lasting format = refl
 
 -- and no dialect allows more acts
 pub acts_allowed : (dialect : Dialect) (format n : ℕ) → n ≤ (limits_of dialect format).acts → n ≤ (format_limits format).acts
 acts_allowed dialect.Run format n few = few
+acts_allowed dialect.Chain format n few = few
+acts_allowed dialect.Lasting format n few = few
 acts_allowed dialect.Live format n few = go (eqb format 1)
   where
     go : (b : Bool) → n ≤ (cond b (format_limits 1) (format_limits 2)).acts
@@ -320,6 +326,8 @@ same_settles : (dialect : Dialect) (format other : ℕ) → (limits_of dialect f
 same_settles dialect.Run format other = refl
 same_settles dialect.Live format other = refl
 same_settles dialect.Audit format other = refl
+same_settles dialect.Chain format other = refl
+same_settles dialect.Lasting format other = refl
 
 record Counts (s : State) (p : Parsed) : Type 0 where
   sites : (with_parsed s.header p).sites ≤ (limits_at (after s p)).sites

@@ -50,6 +50,10 @@ bar s f =
     if not (has_room s f) then Some TooMany else
     None
 
+-- why no further act may come
+unfoldable pub full : State → Option Cause
+full s = if nat_lt s.acts (limits_at s).acts then None else Some TooMany
+
 -- ---- names of the header
 
 -- the number of the client or the item of this name

@@ -16,6 +16,9 @@ limits_of dialect.Run format = record { sites = (format_limits format).sites; it
 limits_of dialect.Live format = record { sites = LIVE_SITES; items = (format_limits format).items; clients = LIVE_CLIENTS; acts = LIVE_ACTS; settles = MOST_SETTLES }
 limits_of dialect.Audit format = record { sites = (format_limits format).sites; items = (format_limits format).items; clients = MOST_CLIENTS; acts = AUDIT_ACTS; settles = MOST_SETTLES }
 
+limits_of dialect.Chain format = limits_of dialect.Run format
+limits_of dialect.Lasting format = limits_of dialect.Run format
+
 -- the forms of a script for nodes on threads
 unfoldable pub is_live : Form → Bool
 is_live form.Item = true
@@ -40,17 +43,34 @@ abbrev pub is_audited : Form → Bool
 is_audited form.Settle = false
 is_audited _ = true
 
+-- the forms of a script for serializers that are chains of replicas: what a hop does is done by forms of their own
+abbrev pub is_chained : Form → Bool
+is_chained form.Hop = false
+is_chained form.Kill = false
+is_chained form.Settle = false
+is_chained _ = true
+
+-- the forms of a script for sites that last
+abbrev pub is_lasting : Form → Bool
+is_lasting form.Clock = false
+is_lasting form.Settle = false
+is_lasting _ = true
+
 -- the forms of each dialect
 abbrev pub has_form : Dialect → Form → Bool
 has_form dialect.Run f = true
 has_form dialect.Live f = is_live f
 has_form dialect.Audit f = is_audited f
+has_form dialect.Chain f = is_chained f
+has_form dialect.Lasting f = is_lasting f
 
 -- why a line is refused that has a form which its dialect lacks: to all but nodes on threads it has none at all
 abbrev pub lacking : Dialect → Cause
 lacking dialect.Run = BadAct
 lacking dialect.Live = NotLive
 lacking dialect.Audit = BadAct
+lacking dialect.Chain = BadAct
+lacking dialect.Lasting = BadAct
 
 -- how many items an act of the form writes under one label, where that may be more than one
 abbrev pub written_by : Form → ℕ

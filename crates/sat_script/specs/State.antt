@@ -60,6 +60,10 @@ first_of stage.Ended = 6
 unfoldable pub number_of : State → ℕ
 number_of s = first_of s.stage + header_lines s.header + s.acts
 
+-- the state with an act more, which another reader has read
+abbrev pub with_one_act : State → State
+with_one_act s = record { dialect = s.dialect; stage = s.stage; header = s.header; acts = s.acts + 1; settles = s.settles }
+
 -- the fault of the next line
 abbrev pub fault_at : State → Cause → ScriptFault
 fault_at s cause = record { line = number_of s; cause = cause }

@@ -353,6 +353,13 @@ form_line bars d f words =
     (barred (bars f)
     (needs UnknownName (all_known d (kinds_of f) words) (said_act d f (all_say d no_tree (kinds_of f) words)))))
 
+-- what words of these kinds say behind the word of an act, by the same causes in their order, where one may say that no further act may come
+unfoldable pub kinds_say : Option Cause → Deployed → List Kind → List (List ℕ) → Result (List Said) Cause
+kinds_say full d kinds words =
+    needs BadAct (shapes kinds words)
+    (barred full
+    (needs UnknownName (all_known d kinds words) (all_say d no_tree kinds words)))
+
 -- what the words of a line say, by the first of them and how many follow
 unfoldable pub act_line : (Form → Option Cause) → Deployed → List (List ℕ) → Result Act Cause
 unfolding form_line

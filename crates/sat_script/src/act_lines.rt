@@ -1,10 +1,10 @@
 //! The lines after `begin`, by their words.
-ghost use Rattle.std.specs.Prelude.{codes, true, ◌≡◌, ◌<◌, ◌≤◌, ◌+◌, ◌==◌, [], ◌∷◌, length, map, option_copied, IsTrue, IfSome, Some, None, Ok, if◌then◌else◌};
+ghost use Rattle.std.specs.Prelude.{codes, true, ◌≡◌, ◌<◌, ◌≤◌, ◌+◌, ◌==◌, [], ◌∷◌, length, map, option_copied, IsTrue, IfSome, MatchResult, Some, None, Ok, Err, if◌then◌else◌};
 ghost use Rattle.std.specs.Option.{option_map};
 ghost use Rattle.sat_tree.specs.Cut.{IsNode};
 ghost use Rattle.sat_tree.specs.Shape.{TreeShape};
 ghost use Rattle.sat_act.specs.Parts.{tree_of};
-ghost use Rattle.sat_script.specs.Causes.{bar};
+ghost use Rattle.sat_script.specs.Causes.{bar, full};
 ghost use Rattle.sat_script.specs.Grammar.{is_end, body_line};
 ghost use Rattle.sat_script.specs.Lines.{Gives};
 ghost use Rattle.sat_script.specs.Said.{said_of, shape_of, SaysOn, begins, IsReadWord, SaysAct, is_counted};
@@ -12,7 +12,7 @@ ghost use Rattle.sat_act.specs.Deployed.{Deployed};
 ghost use Rattle.sat_label.specs.Grouped.{are_items, list_of};
 ghost use Rattle.sat_label.specs.Text.{is_value};
 ghost use Rattle.sat_script.specs.Spelled.{HaveNames};
-ghost use Rattle.sat_script.specs.Table.{shape, shapes, known, all_known, says, all_say, has_node, joins, edge_cause, unfit, said_act, form_line, act_line, kinds_of, act_of, args_of};
+ghost use Rattle.sat_script.specs.Table.{shape, shapes, known, all_known, says, all_say, has_node, joins, edge_cause, unfit, said_act, form_line, kinds_say, act_line, kinds_of, act_of, args_of};
 ghost use Rattle.sat_script.specs.Table.{place, num, at};
 ghost use Rattle.sat_script.specs.Words.{node_in, serializer_in, words_of};
 ghost use Rattle.sat_script.specs.declared.form.Form.TheVariants as form;
@@ -228,7 +228,8 @@ fn joins(tree: &Tree, from: NodeId, to: u16) -> bool
     tree.is_edge(from, to)
 }
 
-fn edge_cause(tree: Option<&Tree>, from: NodeId, to: u16) -> Option<Cause>
+/// Why a label may not go from a node to a serializer of a tree.
+pub fn edge_cause(tree: Option<&Tree>, from: NodeId, to: u16) -> Option<Cause>
     ensures { result ≡ edge_cause (option_copied tree.entry) from to }
 {
     match tree {
@@ -308,6 +309,28 @@ fn form_line(alloc: Global, place: &Place, form: Form, words: &[&[u8]]) -> Resul
     let mut said = ArrayVec::new();
     all_say(place.header(), None, kinds, words, &mut said)?;
     said_act(alloc, place.header(), form, said.as_slice())
+}
+
+/// What words of these kinds say behind the word of an act that another reader has.
+#[tactic(auto, unfolding(crate::specs::Table::kinds_say))]
+pub fn kinds_say<'a>(place: &Place, kinds: &[Kind], words: &[&'a [u8]]) -> Result<Args<'a>, Cause>
+    requires { length kinds.now ≤ 9 }
+    ensures { MatchResult result
+        (λ args. kinds_say (full place.now) place.now.header kinds.now (map (λ word. word.now) words.now) ≡ Ok (map said_of args.items))
+        (λ cause. kinds_say (full place.now) place.now.header kinds.now (map (λ word. word.now) words.now) ≡ Err cause) }
+{
+    if !shapes(kinds, words) {
+        return Err(Cause::BadAct);
+    }
+    if let Some(cause) = place.full() {
+        return Err(cause);
+    }
+    if !all_known(place.header(), kinds, words) {
+        return Err(Cause::UnknownName);
+    }
+    let mut said = ArrayVec::new();
+    all_say(place.header(), None, kinds, words, &mut said)?;
+    Ok(said)
 }
 
 #[tactic(auto, unfolding(crate::specs::Table::act_line))]

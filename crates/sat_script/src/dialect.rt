@@ -3,7 +3,7 @@ ghost use Rattle.std.specs.Prelude.{◌≡◌};
 ghost use Rattle.sat_script.specs.Dialect.{dialect_of, limits_of, has_form, lacking};
 
 use crate::Cause;
-use crate::form::{Form, is_audited, is_live};
+use crate::form::{Form, is_audited, is_chained, is_lasting, is_live};
 use crate::limits::{AUDIT_ACTS, LIVE_ACTS, LIVE_CLIENTS, LIVE_SITES, MOST_CLIENTS, MOST_SETTLES};
 use sat_label::limits_of as format_limits;
 
@@ -16,6 +16,10 @@ pub enum Dialect {
     Live,
     /// A judge of histories, each act of which has its answer behind it.
     Audit,
+    /// The machine, each of whose serializers is a chain of replicas.
+    Chain,
+    /// The machine, each of whose sites has a journal that lasts.
+    Lasting,
 }
 
 /// The most of what a script may have that differs by dialect or format.
@@ -42,14 +46,17 @@ impl Dialect {
         ensures { result ≡ limits_of self format }
     {
         let format = format_limits(format);
+        let of_run = Limits {
+            sites: format.sites,
+            items: format.items,
+            clients: MOST_CLIENTS,
+            acts: format.acts,
+            settles: MOST_SETTLES,
+        };
         match self {
-            Dialect::Run => Limits {
-                sites: format.sites,
-                items: format.items,
-                clients: MOST_CLIENTS,
-                acts: format.acts,
-                settles: MOST_SETTLES,
-            },
+            Dialect::Run => of_run,
+            Dialect::Chain => of_run,
+            Dialect::Lasting => of_run,
             Dialect::Live => Limits {
                 sites: LIVE_SITES,
                 items: format.items,
@@ -75,6 +82,8 @@ impl Dialect {
             Dialect::Run => true,
             Dialect::Live => is_live(form),
             Dialect::Audit => is_audited(form),
+            Dialect::Chain => is_chained(form),
+            Dialect::Lasting => is_lasting(form),
         }
     }
 
@@ -86,6 +95,8 @@ impl Dialect {
             Dialect::Run => Cause::BadAct,
             Dialect::Live => Cause::NotLive,
             Dialect::Audit => Cause::BadAct,
+            Dialect::Chain => Cause::BadAct,
+            Dialect::Lasting => Cause::BadAct,
         }
     }
 }

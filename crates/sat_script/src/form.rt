@@ -1,6 +1,6 @@
 //! The forms of lines, and the table of the acts: the word that an act begins with, and the kinds of the words after it.
 ghost use Rattle.std.specs.Prelude.{◌≡◌, ◌≤◌, length, Some, IfSome};
-ghost use Rattle.sat_script.specs.Dialect.{allows, is_audited, is_live, written_by};
+ghost use Rattle.sat_script.specs.Dialect.{allows, is_audited, is_chained, is_lasting, is_live, written_by};
 ghost use Rattle.sat_script.specs.Table.{word_of, kinds_of, act_forms, found_form};
 
 use sat_label::limits_of;
@@ -277,6 +277,29 @@ pub fn is_audited(form: Form) -> bool
     ensures { result ≡ is_audited form }
 {
     match form {
+        Form::Settle => false,
+        _ => true,
+    }
+}
+
+/// Whether a script for serializers that are chains of replicas may have lines of a form.
+pub fn is_chained(form: Form) -> bool
+    ensures { result ≡ is_chained form }
+{
+    match form {
+        Form::Hop => false,
+        Form::Kill => false,
+        Form::Settle => false,
+        _ => true,
+    }
+}
+
+/// Whether a script for sites that last may have lines of a form.
+pub fn is_lasting(form: Form) -> bool
+    ensures { result ≡ is_lasting form }
+{
+    match form {
+        Form::Clock => false,
         Form::Settle => false,
         _ => true,
     }

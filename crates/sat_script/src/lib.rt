@@ -31,5 +31,7 @@ pub use limits::{
 pub use line::{Line, Parsed};
 pub use number::number_up_to;
 pub use reader::Reader;
+pub use said::{Args, Said};
+pub use words::{FirstWords, first_words};
 pub use write::write_script;
 pub use write_lines::act_line;

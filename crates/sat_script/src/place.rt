@@ -1,7 +1,7 @@
 //! What the lines so far say: where the next line stands, and what may stand there.
 ghost use Rattle.std.specs.Prelude.{◌≡◌, ◌≤◌, ◌↔◌, ◌++◌, [], ◌∷◌, IsTrue, IfOk, OnOk, OnErr, MatchResult, Some, None, length};
-ghost use Rattle.sat_script.specs.State.{start, limits_at, number_of, deployment_of};
-ghost use Rattle.sat_script.specs.Causes.{has_room, bar};
+ghost use Rattle.sat_script.specs.State.{start, limits_at, number_of, deployment_of, with_one_act};
+ghost use Rattle.sat_script.specs.Causes.{has_room, bar, full};
 ghost use Rattle.sat_script.specs.Grammar.{after, told_line};
 ghost use Rattle.sat_script.specs.Kept.{IsFit, Suits};
 ghost use Rattle.sat_script.specs.Said.{TakesActs};
@@ -159,6 +159,28 @@ impl Place {
             return Err(Cause::TooMany);
         }
         Ok(())
+    }
+
+    /// Why no further act may come.
+    #[tactic(auto, unfolding(crate::specs::Causes::full))]
+    pub fn full(&self) -> Option<Cause>
+        ensures { result ≡ full self.now }
+    {
+        if self.acts < self.limits().acts {
+            None
+        } else {
+            Some(Cause::TooMany)
+        }
+    }
+
+    /// Counts an act that another reader has read.
+    #[tactic(auto, unfolding(crate::specs::Causes::full))]
+    pub fn count_act(&mut self)
+        requires body { self.old.stage ≡ Stage.Body }
+        requires room { full self.old ≡ None }
+        ensures { self.new ≡ with_one_act self.old }
+    {
+        self.acts += 1;
     }
 
     /// Takes an act, and adds it to others. For want of memory all is as before.

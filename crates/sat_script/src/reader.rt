@@ -1,8 +1,11 @@
 //! A reader of lines.
-ghost use Rattle.std.specs.Prelude.{false, ◌≡◌, ◌↔◌, ◌++◌, [], ◌∷◌, IsTrue, IfErr, IfSome, OnOk, None, Some, Ok, map, take};
-ghost use Rattle.sat_script.specs.Causes.{item_of};
+ghost use Rattle.std.specs.Prelude.{false, ◌≡◌, ◌≤◌, ◌↔◌, ◌++◌, [], ◌∷◌, IsTrue, IfErr, IfSome, OnOk, MatchResult, None, Some, Ok, Err, length, map, take};
+ghost use Rattle.sat_act.specs.Parts.{tree_of};
+ghost use Rattle.sat_script.specs.Causes.{full, item_of};
+ghost use Rattle.sat_script.specs.Said.{said_of};
+ghost use Rattle.sat_script.specs.Table.{edge_cause, kinds_say};
 ghost use Rattle.sat_script.specs.Dialect.{dialect_of};
-ghost use Rattle.sat_script.specs.State.{start, number_of, fault_at, deployment_of};
+ghost use Rattle.sat_script.specs.State.{start, number_of, fault_at, deployment_of, with_one_act};
 ghost use Rattle.sat_script.specs.Grammar.{words_line, line_at, close_in, after, told_line};
 ghost use Rattle.sat_script.specs.Kept.{IsFit, Suits};
 ghost use Rattle.sat_script.specs.Lines.{Gives, Takes, Closes, running, failed, acts_with};
@@ -10,7 +13,8 @@ ghost use Rattle.sat_script.specs.Words.{words_of};
 ghost use Rattle.sat_script.specs.declared.line.Parsed.TheVariants as parsed;
 
 use crate::act_lines::{
-    act_of_five, act_of_four, act_of_three, act_of_two, body_line, long_write_of,
+    act_of_five, act_of_four, act_of_three, act_of_two, body_line, edge_cause, kinds_say,
+    long_write_of,
 };
 use crate::header_lines::{format_line, gears_line, header_line, sites_line};
 use crate::limits::LONGEST_LINE;
@@ -19,9 +23,10 @@ use crate::place::Place;
 use crate::words::{
     SHORT_LINE, blanks, cut_line, first_words, five_words, four_words, three_words, two_words,
 };
-use crate::{Cause, Dialect, ScriptFault};
+use crate::{Args, Cause, Dialect, Kind, ScriptFault};
 use arrayvec::ArrayVec;
 use sat_act::{Act, Acts, Deployment};
+use sat_label::NodeId;
 use std::alloc::Global;
 use std::marker::Model;
 
@@ -191,6 +196,40 @@ impl Reader {
         ensures { IsTrue result ↔ (self.now.state.stage ≡ Stage.Ended) }
     {
         self.place.stage() == Stage::Ended
+    }
+
+    /// Why the next line may be no act, if so many have come as there may be.
+    pub fn full(&self) -> Option<Cause>
+        ensures { result ≡ full self.now.state }
+    {
+        self.place.full()
+    }
+
+    /// What words say that stand behind the first word of an act which the reader has not, by their kinds: the causes are those of an
+    /// act with such words, in their order.
+    pub fn said<'a>(&self, kinds: &[Kind], words: &[&'a [u8]]) -> Result<Args<'a>, Cause>
+        requires { length kinds.now ≤ 9 }
+        ensures { MatchResult result
+            (λ args. kinds_say (full self.now.state) self.now.state.header kinds.now (map (λ word. word.now) words.now) ≡ Ok (map said_of args.items))
+            (λ cause. kinds_say (full self.now.state) self.now.state.header kinds.now (map (λ word. word.now) words.now) ≡ Err cause) }
+    {
+        kinds_say(&self.place, kinds, words)
+    }
+
+    /// Why a label may not go from a node to a serializer, if they are no neighbours in the tree of an epoch.
+    pub fn edge_cause(&self, epoch: u16, from: NodeId, to: u16) -> Option<Cause>
+        ensures { result ≡ edge_cause (tree_of self.now.state.header epoch) from to }
+    {
+        edge_cause(self.place.header().tree(epoch), from, to)
+    }
+
+    /// Counts the next line as an act, which another reader has read.
+    pub fn count_act(&mut self)
+        requires body { self.old.state.stage ≡ Stage.Body }
+        requires room { full self.old.state ≡ None }
+        ensures { self.new ≡ record { state = with_one_act self.old.state; fault = self.old.fault } }
+    {
+        self.place.count_act();
     }
 
     /// What the next line says.

@@ -117,14 +117,14 @@ taken-first v nodes queues k q r left same at here split rest =
     let box : box_of v nodes (map members_of queues) ≡ q.members = (placed v nodes (map members_of queues) k (length-labels queues ∙ same) at).0 ∙ (queue-at queues k q less ∙ sym (ap (λ (p : Queued Label). p.members) here)) in
     first q.members r (split ∙ ap (λ (xs : List Label). option_to_list r ++ xs) rest) ∙ ap (λ (xs : List Label). slice_get xs 0) (sym box)
 
--- the oldest label of the queue of a node is that of its outbox
-pub oldest-of : (v : NodeId) (nodes : List NodeId) (queues : List (Queued Label)) (k : ℕ) (q : Queued Label) (r : Option Label) →
-    length queues ≡ length nodes → position (node_eq v) nodes ≡ Some k → q ≡ get_or queues k q → r ≡ slice_get q.members 0 → r ≡ slice_get (box_of v nodes (map members_of queues)) 0
+-- a label at a place of the queue of a node is that of its outbox
+pub label-of : (v : NodeId) (nodes : List NodeId) (queues : List (Queued Label)) (k : ℕ) (q : Queued Label) (n : ℕ) (r : Option Label) →
+    length queues ≡ length nodes → position (node_eq v) nodes ≡ Some k → q ≡ get_or queues k q → r ≡ slice_get q.members n → r ≡ slice_get (box_of v nodes (map members_of queues)) n
 unfolding AtPlace
-oldest-of v nodes queues k q r same at here front =
+label-of v nodes queues k q n r same at here label =
     let less : k < length queues = subst (λ (n : ℕ). k < n) (sym same) (within v nodes k at) in
     let box : box_of v nodes (map members_of queues) ≡ q.members = (placed v nodes (map members_of queues) k (length-labels queues ∙ same) at).0 ∙ (queue-at queues k q less ∙ sym (ap (λ (p : Queued Label). p.members) here)) in
-    front ∙ ap (λ (xs : List Label). slice_get xs 0) (sym box)
+    label ∙ ap (λ (xs : List Label). slice_get xs n) (sym box)
 
 -- the queue of a node has as many labels as its outbox
 pub many-of : (v : NodeId) (nodes : List NodeId) (queues : List (Queued Label)) (k : ℕ) (q : Queued Label) (n : ℕ) →

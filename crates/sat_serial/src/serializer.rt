@@ -107,6 +107,18 @@ impl Serializer {
         self.outboxes[place].front()
     }
 
+    /// The label at a place of the outbox of a neighbour, counted from the oldest one, None where there is none. It stays there.
+    pub fn ahead(&self, to: NodeId, count: usize) -> Option<Label>
+        requires { IsNeighbour self.now.tree self.now.number to }
+        ensures label { result ≡ slice_get (outbox self.now to) count }
+        ensures limits { IsSerializer self.now }
+    {
+        let Some(place) = self.router.place(to) else {
+            return None;
+        };
+        self.outboxes[place].get(count)
+    }
+
     /// How many labels stand in the outbox of a neighbour, none where the node is no neighbour. It takes no memory.
     pub fn kept(&self, to: NodeId) -> u64
         ensures kept { result ≡ length (outbox self.now to) }

@@ -29,7 +29,7 @@ use Rattle.sat_proxy.specs.Laws.{Starts}
 use Rattle.sat_epoch.specs.Epochs.{Epochs, IsEpochs, first_epochs}
 use Rattle.sat_machine.specs.Interests.{replicas_of}
 use Rattle.sat_site.specs.Seen.{SiteSeen, AreGears, IsSite, IsGearAt}
-use Rattle.sat_site.specs.Changes.{fresh_seen, is_stamp_plan, shape_for}
+use Rattle.sat_site.specs.Changes.{fresh_seen, is_stamp_plan, new_site, shape_for}
 use Rattle.sat_site.specs.Stands.{StandsSite, StandsGear, version_seen}
 use Rattle.sat_site.proofs.Lists.{map-cases, Mapped}
 
@@ -157,6 +157,9 @@ shape-sound d i shape limits lt a e = record {
   gears = subst (λ (s : Shape). 0 < s.gears) (sym e) limits.some_gear;
   items = subst (λ (s : Shape). length s.interest.replicas < 2 ^ 16) (sym e) (let few = limits.few_items in omega (arith, length-map d.items replicas_of));
 }
+
+pub made-same : (d : Deployed) (i : ℕ) (shape : Shape) (stamp : List Bool) (made : SiteSeen) → shape ≡ shape_for d i → stamp ≡ map is_stamp_plan d.plans → made ≡ fresh_seen shape stamp → made ≡ new_site d i
+made-same d i shape stamp made e f g = g ∙ (λ j. fresh_seen (e j) (f j))
 
 pub made-stands : (d : Deployed) (i : ℕ) (shape : Shape) (stamp : List Bool) (made : SiteSeen) → Starts → shape ≡ shape_for d i → stamp ≡ map is_stamp_plan d.plans → made ≡ fresh_seen shape stamp → StandsSite d i made (fresh_site i)
 made-stands d i shape stamp made starts e f g =

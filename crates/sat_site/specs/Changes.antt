@@ -102,3 +102,7 @@ fresh_seen shape stamp = record {
   proxy = fresh_proxy shape.sites shape.gears shape.site;
   made = replicate shape.sites [];
 }
+
+-- a new site of a deployment
+abbrev pub new_site : Deployed → ℕ → SiteSeen
+new_site d i = fresh_seen (shape_for d i) (map is_stamp_plan d.plans)

@@ -27,7 +27,7 @@ ghost use Rattle.sat_site.specs.Lanes.{lane_of};
 ghost use Rattle.sat_site.specs.Inputs.{fits_here, fits_in, is_beat_here, is_bulk_here, is_carried_here, is_counted, is_cut_here, is_front_here, is_gear_here, is_goal_here, is_group_here, is_guest_here, is_item_here, is_kept_here, is_kind_here, is_other_here, is_point_here, is_site_here, is_asked, is_sized, takes_none, BulkFits, IsFront};
 ghost use Rattle.sat_site.specs.Stands.{StandsSite, version_seen};
 ghost use Rattle.sat_site.specs.Gives.{PromisesUpTo, IsOfLane};
-ghost use Rattle.sat_site.specs.Changes.{beat_for, beaten, clocked, fresh_seen, made_for, HasGear};
+ghost use Rattle.sat_site.specs.Changes.{beat_for, beaten, clocked, fresh_seen, made_for, new_site, HasGear};
 ghost use Rattle.sat_site.specs.SiteSteps.{close_after, close_answer, emit_sends, fall_after, fall_answer, has_target, keeps_each, keeps_item, may_turn, move_after, move_answer, next_close, next_pulse, passed_after, pulse_after, pulse_answer, shown_of, shown_parts, shown_version, site_after, site_answers, site_beat, site_epoch, site_sends, stamped_after, turned_after};
 ghost use Rattle.sat_site.specs.Does.{Does, Reads, Stamps, Writes};
 
@@ -88,7 +88,9 @@ impl Site {
     /// The site with this number of a deployment, at which nothing has happened.
     pub fn new(alloc: Global, d: &Deployment, site: u16) -> Result<Site, AllocError>
         requires { site < d.now.sites }
-        ensures { IfOk result (λ made. StandsSite d.now site made (fresh_site site)) }
+        ensures stands { IfOk result (λ made. StandsSite d.now site made (fresh_site site)) }
+        // Two new sites of one deployment and number are one value.
+        ensures same { IfOk result (λ made. made ≡ new_site d.now site) }
     {
         let interest = interest(alloc, d)?;
         let made = Site::sharing(alloc, d, &interest, site)?;
@@ -104,7 +106,8 @@ impl Site {
     ) -> Result<Site, AllocError>
         requires site { site < d.now.sites }
         requires interest { interest.now ≡ interest_of d.now }
-        ensures { IfOk result (λ made. StandsSite d.now site made (fresh_site site)) }
+        ensures stands { IfOk result (λ made. StandsSite d.now site made (fresh_site site)) }
+        ensures same { IfOk result (λ made. made ≡ new_site d.now site) }
     {
         let shape = shape_of(d, interest, site)?;
         let stamp = stamp_plans(alloc, d.plans())?;

@@ -16,7 +16,7 @@ use Rattle.sat_label.specs.declared.site_set.SiteSet.{SiteSet}
 use Rattle.sat_act.specs.declared.deployment.Item.{Item}
 use Rattle.sat_act.specs.declared.deployment.ClientLine.{ClientLine}
 use Rattle.sat_act.specs.declared.deployment.Plan.{Plan}
-use Rattle.sat_script.specs.Dialect.{is_audited, is_live, has_form}
+use Rattle.sat_script.specs.Dialect.{is_audited, is_chained, is_lasting, is_live, has_form}
 use Rattle.sat_script.specs.declared.dialect.Dialect.{Dialect}
 use Rattle.sat_script.specs.declared.dialect.Dialect.TheVariants as dialect
 use Rattle.sat_script.specs.Causes.{bar, has_room}
@@ -111,31 +111,60 @@ pub gears_reads : (n : ℕ) → 1 ≤ n → n ≤ MOST_GEARS → gears_line (cod
 unfolding gears_line
 gears_reads n some few = ap (of_count parsed.Gears) (counted_reads (codes "gears") MOST_GEARS n refl some few (omega arith))
 
-any_live : (dialect : Dialect) (f : Form) → is_live f ≡ true → has_form dialect f ≡ true
-unfolding is_live
-any_live dialect.Run f h = refl
-any_live dialect.Live f h = h
-any_live dialect.Audit f h = audited f h
+-- the lines of the header that come any number of times
+is_header : Form → Bool
+is_header form.Item = true
+is_header form.Client = true
+is_header form.PlanStamp = true
+is_header form.PlanTree = true
+is_header _ = false
+
+-- each dialect has the lines of the header
+any_header : (dialect : Dialect) (f : Form) → is_header f ≡ true → has_form dialect f ≡ true
+any_header dialect.Run f h = refl
+any_header dialect.Live f h = each f h
   where
-    audited : (f : Form) → is_live f ≡ true → is_audited f ≡ true
-    audited form.Settle h = absurd (cc)
-    audited _ h = refl
+    each : (f : Form) → is_header f ≡ true → is_live f ≡ true
+    unfolding is_live
+    each form.Item h = refl
+    each form.Client h = refl
+    each form.PlanStamp h = refl
+    each form.PlanTree h = refl
+    each _ h = absurd (cc)
+any_header dialect.Audit f h = each f h
+  where
+    each : (f : Form) → is_header f ≡ true → is_audited f ≡ true
+    each form.Settle h = absurd (cc)
+    each _ h = refl
+any_header dialect.Chain f h = each f h
+  where
+    each : (f : Form) → is_header f ≡ true → is_chained f ≡ true
+    each form.Hop h = absurd (cc)
+    each form.Kill h = absurd (cc)
+    each form.Settle h = absurd (cc)
+    each _ h = refl
+any_header dialect.Lasting f h = each f h
+  where
+    each : (f : Form) → is_header f ≡ true → is_lasting f ≡ true
+    each form.Clock h = absurd (cc)
+    each form.Settle h = absurd (cc)
+    each _ h = refl
 
 item_free : (s : State) → length s.header.items < (limits_at s).items → bar s form.Item ≡ None
-unfolding is_live has_room
-item_free s room = bars_nothing s form.Item (any_live s.dialect form.Item refl) (lt-ltb (length s.header.items) (limits_at s).items room)
+unfolding has_room
+item_free s room = bars_nothing s form.Item (any_header s.dialect form.Item refl) (lt-ltb (length s.header.items) (limits_at s).items room)
 
 client_free : (s : State) → length s.header.clients < (limits_at s).clients → bar s form.Client ≡ None
-unfolding is_live has_room
-client_free s room = bars_nothing s form.Client (any_live s.dialect form.Client refl) (lt-ltb (length s.header.clients) (limits_at s).clients room)
+unfolding has_room
+client_free s room = bars_nothing s form.Client (any_header s.dialect form.Client refl) (lt-ltb (length s.header.clients) (limits_at s).clients room)
 
 pub tree_free : (s : State) → length s.header.plans < MOST_PLANS → bar s form.PlanTree ≡ None
-unfolding is_live has_room
-tree_free s room = bars_nothing s form.PlanTree (any_live s.dialect form.PlanTree refl) (lt-ltb (length s.header.plans) MOST_PLANS room)
+unfolding has_room
+tree_free s room = bars_nothing s form.PlanTree (any_header s.dialect form.PlanTree refl) (lt-ltb (length s.header.plans) MOST_PLANS room)
 
 pub stamp_free : (s : State) → length s.header.plans < MOST_PLANS → bar s form.PlanStamp ≡ None
-unfolding is_live has_room
-stamp_free s room = bars_nothing s form.PlanStamp (any_live s.dialect form.PlanStamp refl) (lt-ltb (length s.header.plans) MOST_PLANS room)
+unfolding has_room
+stamp_free s room = bars_nothing s form.PlanStamp (any_header s.dialect form.PlanStamp refl) (lt-ltb (length s.header.plans) MOST_PLANS room)
 
 item_said : (s : State) (item : Item) → s.header.sites ≤ MOST_SITES → IsSites s.header.sites item.replicas → ItemStands s item → item_line s item.name (sites_text item.replicas) ≡ Ok (parsed.Item item)
 unfolding item_line

@@ -14,6 +14,7 @@ pub mod Hands
 pub mod Beats
 pub mod Seats
 pub mod Deeds
+pub mod Ahead
 pub mod Runs
 pub mod Counted
 pub mod Writing

@@ -1,7 +1,9 @@
 //! What one act does to the net of an epoch: None stands for an epoch of stamp order, in which no label goes over a link.
-ghost use Rattle.std.specs.Prelude.{ℕ, ◌≡◌, ◌<◌, length, slice_get, Some, None, Option, IsSome, IfOk, OnOk, OnErr};
+ghost use Rattle.std.specs.Prelude.{ℕ, ◌≡◌, ◌<◌, true, length, slice_get, Some, None, Option, IsSome, IfOk, OnOk, OnErr};
 ghost use Rattle.sat_label.specs.declared.label.Label.{Label};
-ghost use Rattle.sat_net.specs.Nets.{NetSeen, MayHop};
+ghost use Rattle.sat_label.specs.declared.node.NodeId.TheVariants.{Serializer as SerializerNode};
+ghost use Rattle.sat_tree.specs.Cut.{is_edge, IsNode};
+ghost use Rattle.sat_net.specs.Nets.{NetSeen, MayHop, link_of};
 ghost use Rattle.sat_world.specs.Steps.{front_to, net_sent, net_taken, Hops, HopsAt, Kills, KillsAt, NetAt};
 
 use sat_act::{Answer, Refusal};
@@ -29,6 +31,37 @@ pub fn front_at(nets: &[Option<Net>], place: usize, site: u16) -> Option<Label>
 {
     let net = &nets[place];
     front_of(net, site)
+}
+
+// The label at a place of the link to a serializer.
+fn ahead_of(net: &Option<Net>, from: NodeId, to: u16, count: usize) -> Option<Label>
+    requires node { (n : NetSeen) → net.now ≡ Some n → IsNode n.tree from }
+    requires end { (n : NetSeen) → net.now ≡ Some n → to < length n.tree.parents }
+    requires edge { (n : NetSeen) → net.now ≡ Some n → is_edge n.tree from (SerializerNode to) ≡ true }
+    ensures { (n : NetSeen) → net.now ≡ Some n → result ≡ slice_get (link_of n from (SerializerNode to)) count }
+{
+    match net {
+        None => None,
+        Some(net) => net.ahead(from, to, count),
+    }
+}
+
+/// The label at a place of the link to a serializer, in the net at a place, which has the edge.
+pub fn ahead_at(
+    nets: &[Option<Net>],
+    place: usize,
+    from: NodeId,
+    to: u16,
+    count: usize,
+) -> Option<Label>
+    requires within { place < length nets.now }
+    requires node { (n : NetSeen) → slice_get nets.now place ≡ Some (Some n) → IsNode n.tree from }
+    requires end { (n : NetSeen) → slice_get nets.now place ≡ Some (Some n) → to < length n.tree.parents }
+    requires edge { (n : NetSeen) → slice_get nets.now place ≡ Some (Some n) → is_edge n.tree from (SerializerNode to) ≡ true }
+    ensures { (n : NetSeen) → slice_get nets.now place ≡ Some (Some n) → result ≡ slice_get (link_of n from (SerializerNode to)) count }
+{
+    let net = &nets[place];
+    ahead_of(net, from, to, count)
 }
 
 // Takes that label out, where the site showed it or took it.

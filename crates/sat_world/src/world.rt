@@ -1,5 +1,5 @@
 //! The world of all acts but a settle.
-ghost use Rattle.std.specs.Prelude.{◌≡◌, ◌<◌, ℕ, true, false, List, [], ◌∷◌, length, slice_get, IfOk, IsNone, OnErr, IsOk, MatchOption, Some, None};
+ghost use Rattle.std.specs.Prelude.{◌≡◌, ◌<◌, ◌+◌, ℕ, true, false, List, [], ◌∷◌, length, slice_get, IfOk, IsNone, OnErr, IsOk, MatchOption, Some, None};
 ghost use Rattle.sat_act.specs.declared.act.Act.{Act as ActSeen};
 ghost use Rattle.sat_act.specs.declared.entry.Entry.{Entry};
 ghost use Rattle.sat_act.specs.Answers.{answer};
@@ -7,7 +7,9 @@ ghost use Rattle.sat_act.specs.Runs.{IsRun, is_settle};
 ghost use Rattle.sat_act.specs.Ranges.{IsActOf};
 ghost use Rattle.sat_act.specs.Settling.{is_done, capped};
 ghost use Rattle.sat_act.specs.Headline.{IsGood};
-ghost use Rattle.sat_act.specs.Parts.{view, emission, in_stamp_mode, waiting, replicates, version, carried, moving, seat};
+ghost use Rattle.sat_act.specs.Parts.{view, emission, in_stamp_mode, waiting, replicates, version, carried, moving, seat, tree_of, entered, taken};
+ghost use Rattle.sat_tree.specs.Shape.{TreeShape};
+ghost use Rattle.sat_label.specs.declared.node.NodeId.TheVariants.{Serializer as SerializerNode};
 ghost use Rattle.sat_world.specs.TakesNone.{takes_none};
 ghost use Rattle.sat_world.specs.Counts.{counted, shown_count};
 ghost use Rattle.sat_world.specs.Underway.{underway};
@@ -456,6 +458,17 @@ impl World {
         let place = epoch as usize - 1;
         let answer = nets::hop_at(&mut self.nets, place, &self.interest, from, to)?;
         Ok(answer)
+    }
+
+    /// The label at a place of the link to a serializer, counted from the oldest one that it has not taken, None where there is none.
+    /// It asks for an edge of an epoch's tree. It takes no memory, and works after a kill too.
+    pub fn ahead(&self, epoch: u16, from: NodeId, to: u16, count: u64) -> Option<Label>
+        requires { IsActOf self.now.deployment (Act.Hop epoch from to) }
+        ensures { (h : List Entry) → IsRun self.now.deployment h → StandsFor self.now h → (tree : TreeShape) → tree_of self.now.deployment epoch ≡ Some tree →
+            result ≡ slice_get (entered self.now.deployment h epoch tree from (SerializerNode to)) (taken self.now.deployment h epoch from (SerializerNode to) + count) }
+    {
+        let place = epoch as usize - 1;
+        nets::ahead_at(&self.nets, place, from, to, count as usize)
     }
 
     /// A turn, as `apply` does it. It takes no memory.

@@ -3,7 +3,7 @@ use Rattle.sat_label.specs.declared.label.Label.{Label}
 use Rattle.sat_tree.specs.Cut.{neighbours}
 use Rattle.sat_queue.specs.Queued.{members_of}
 use Rattle.sat_serial.specs.Outboxes.{SerializerSeen, outbox}
-use Rattle.sat_serial.proofs.Boxes.{length-labels, no-box, oldest-of}
+use Rattle.sat_serial.proofs.Boxes.{length-labels, no-box, label-of}
 use Rattle.sat_serial.proofs.serializer.Serializer.front.Goals as goal
 
 pub returns-in_default-clause-label : goal.returns-in_default-clause-label
@@ -14,6 +14,6 @@ returns-in_default-clause-label c =
 
 pub returns-clause-label : goal.returns-clause-label
 returns-clause-label c =
-    oldest-of c.args.to (neighbours c.self.inside.router.tree c.self.inside.router.number) c.self.inside.outboxes.items c.in-Some.place c.index.result.now c.front.result
+    label-of c.args.to (neighbours c.self.inside.router.tree c.self.inside.router.number) c.self.inside.outboxes.items c.in-Some.place c.index.result.now 0 c.front.result
     (sym (length-labels c.self.inside.outboxes.items) ∙ c.self.invariant.each) (sym c.place.ensures ∙ c.in-Some.is) c.index.ensures c.front.ensures
     ∙ ap (λ (s : SerializerSeen). slice_get (outbox s c.args.to) 0) c.self.view_is
