@@ -4,3 +4,4 @@ pub mod Exact
 pub mod Forms
 pub mod Labels
 pub mod Texts
+pub mod Wholes

@@ -90,7 +90,7 @@ visible (x ∷ xs) is =
     let top = range.1 in
     and_is (nat_lt x 256) (all_fit byte xs) (grind (arith, nat_tests, top)) (visible xs two.1)
 
-value_few : (xs : List ℕ) → is_value xs ≡ true → length xs ≤ 256
+pub value_few : (xs : List ℕ) → is_value xs ≡ true → length xs ≤ 256
 value_few xs is =
     let parts = test_both (nat_lt 0 (length xs)) (nat_le (length xs) 256 && list_all (is_between 33 126) xs) is in
     let few = (test_both (nat_le (length xs) 256) (list_all (is_between 33 126) xs) parts.1).0 in

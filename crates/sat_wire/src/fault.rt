@@ -46,3 +46,20 @@ impl From<AllocError> for ReadFault {
         ReadFault::Memory
     }
 }
+
+/// Bytes that are refused: why, and the place, from 0, of the byte at which they stop to be a spelling. Where they end too early
+/// that is behind the last of them; where a value is none of its kind it is the first byte of that value.
+#[derive(Clone, Copy, Debug, PartialEq, Eq)]
+pub struct Wrong {
+    pub cause: Cause,
+    pub place: usize,
+}
+
+/// Why bytes were not read as a value.
+#[derive(Clone, Copy, Debug, PartialEq, Eq)]
+pub enum DecodeFault {
+    /// There is no memory for it.
+    Memory,
+    /// They spell none.
+    Wrong(Wrong),
+}

@@ -1,4 +1,5 @@
-//! The bytes of values.
+//! The bytes of values, on a wire or in a journal: numbers, the highest byte first, options, lists, points, labels and values, each
+//! read as it is written, and everything else refused.
 #![tactic(auto)]
 
 mod fault;
@@ -6,7 +7,10 @@ mod labels;
 mod numbers;
 mod options;
 mod points;
+mod values;
+mod whole;
 mod wire;
 
-pub use fault::{Cause, ReadFault, Stop};
+pub use fault::{Cause, DecodeFault, ReadFault, Stop, Wrong};
+pub use whole::{decode, encode};
 pub use wire::Wire;
