@@ -166,6 +166,10 @@ counted count top code = record {
   most = count.most + top * code.most;
 }
 
+-- more values behind those that were read
+abbrev pub with_front : {A : Type 0} → List A → Read (List A) → Read (List A)
+with_front front read = and_then read (λ xs. Ok (front ++ xs.0, xs.1))
+
 -- so many bytes
 abbrev pub bytes_at : ℕ → List ℕ → Read (List ℕ)
 bytes_at n bytes = if nat_lt (length bytes) n then ended else Ok (take n bytes, drop n bytes)
@@ -178,6 +182,10 @@ text = record {
   fits = λ xs. both_fit (nat_lt (length xs) 65536) (all_fit byte xs);
   most = 2 + 65535;
 }
+
+-- a list whose members all are allowed
+abbrev pub AllAllowed : {A : Type 0} → (A → Bool) → Type 0
+AllAllowed {A} allows = (x : A) → allows x ≡ true
 
 -- ---- forms
 

@@ -307,7 +307,7 @@ module _ {A : Type 0} (code : Code A) (p : IsExact code) where
         fit = and_is (code.fits x.0.0) (all_fit code ys.0.0) front.1 others.fit;
       })
 
-  members_short : (xs : List A) → all_fit code xs ≡ true → length (flat_map code.spell xs) ≤ length xs * code.most
+  pub members_short : (xs : List A) → all_fit code xs ≡ true → length (flat_map code.spell xs) ≤ length xs * code.most
   members_short [] fits = omega arith
   members_short (x ∷ xs) fits =
       let two = and_both (code.fits x) (all_fit code xs) fits in

@@ -2,7 +2,7 @@
 ghost use Rattle.sat_wire.specs.declared.fault.ReadFault.TheVariants as read_fault;
 ghost use Rattle.std.specs.Prelude.{◌≡◌};
 
-use std::alloc::AllocError;
+use std::alloc::{AllocError, AllocFailed};
 
 /// Why bytes spell no value.
 #[derive(Clone, Copy, Debug, PartialEq, Eq)]
@@ -43,6 +43,14 @@ impl From<AllocError> for ReadFault {
     ghost from_gives = { λ _ fault. fault ≡ read_fault.Memory };
 
     fn from(_fault: AllocError) -> ReadFault {
+        ReadFault::Memory
+    }
+}
+
+impl<T: Drop> From<AllocFailed<T>> for ReadFault {
+    ghost from_gives = { λ _ fault. fault ≡ read_fault.Memory };
+
+    fn from(_fault: AllocFailed<T>) -> ReadFault {
         ReadFault::Memory
     }
 }

@@ -2,10 +2,13 @@
 //! read as it is written, and everything else refused.
 #![tactic(auto)]
 
+mod beats;
 mod fault;
 mod labels;
+mod lists;
 mod numbers;
 mod options;
+mod payloads;
 mod points;
 mod values;
 mod whole;

@@ -22,7 +22,8 @@ pub trait Wire: Drop {
         requires { allows self.now ≡ true }
         ensures size { result ≡ length (code.spell self.now) }
         ensures fits { code.fits self.now ≡ true }
-        ensures most { result ≤ code.most };
+        ensures most { result ≤ code.most }
+        ensures small { result < 2 ^ 32 };
 
     /// Puts the value's bytes behind others, for which there is room. It takes no memory.
     fn write(&self, out: &mut Vec<u8>)
