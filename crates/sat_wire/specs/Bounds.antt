@@ -1,5 +1,5 @@
 -- Each code's greatest length is small.
-use Rattle.std.proofs.Common.{ℕ, ◌<◌, ◌^◌, arith}
+use Rattle.std.proofs.Common.{◌<◌, ◌^◌, arith}
 
 pub small1 : 1 < 2 ^ 32
 small1 = omega arith
@@ -33,3 +33,6 @@ small258 = omega arith
 
 pub small259 : 259 < 2 ^ 32
 small259 = omega arith
+
+pub small23 : 23 < 2 ^ 32
+small23 = omega arith

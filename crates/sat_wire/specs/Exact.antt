@@ -1,17 +1,17 @@
 -- Each code is exact where its parts are.
-use Rattle.std.proofs.Common.{◌≡◌, ◌≢◌, ℕ, zero, suc, ◌+◌, ◌*◌, ◌<◌, ◌≤◌, ◌^◌, Bool, true, false, List, [], ◌∷◌, ◌++◌, length, take, drop, Option, Some, None, Ok, Err, refl, sym, ◌∙◌, ap, subst, arith, inl, inr, append_assoc, length-append, length-drop, take-append-drop}
+use Rattle.std.proofs.Common.{◌≡◌, ℕ, zero, suc, ◌+◌, ◌*◌, ◌<◌, ◌≤◌, ◌^◌, Bool, true, false, List, [], ◌∷◌, ◌++◌, length, take, drop, Option, Some, None, Ok, Err, refl, sym, ◌∙◌, ap, subst, arith, inl, inr, append_assoc, length-append, take-append-drop}
 use native.Mathlib.Nat.{mul-le-mul_right, suc-mul}
-use Rattle.std.specs.Prelude.{slice_index, slice_get, nat_lt, if◌then◌else◌}
+use Rattle.std.specs.Prelude.{slice_index, nat_lt, if◌then◌else◌}
 use Rattle.std.specs.declared.result.Result.{Result}
 use Rattle.std.specs.List.{flat_map}
 use Rattle.std.specs.Int.{w16, w64, to_be_bytes, from_be_bytes}
 use Rattle.std.proofs.lemmas.Nat.{be_bytes_2, be_bytes_8, from_be_bytes-to_be_bytes_2, from_be_bytes-to_be_bytes_8}
 use Rattle.std.proofs.lemmas.Bool.{cases_lt}
 use Rattle.std.proofs.lemmas.Bool.Decides.{nat_tests}
-use Rattle.std.proofs.lemmas.List.{take_at, drop_at, get_or-take, get_or-drop, get_or_past, length-take, length-take-le, append-nil, nil_from_length}
+use Rattle.std.proofs.lemmas.List.{drop_at, get_or-take, get_or-drop, get_or_past, length-take, length-take-le}
 use Rattle.sat_wire.specs.declared.fault.Cause.{Cause}
 use Rattle.sat_wire.specs.declared.fault.Stop.{Stop}
-use Rattle.sat_wire.specs.Code.{Read, Code, AreBytes, IsExact, and_then, both_fit, all_fit, byte_at, byte, number16, number64, nothing, both, mapped, checked, made, stopped, ended, spelled_if, fits_if, read_if, optional, read_members, counted, bytes_at, text, read_form, read_number, chosen}
+use Rattle.sat_wire.specs.Code.{Read, Code, AreBytes, IsExact, and_then, both_fit, all_fit, byte_at, byte, number16, number64, nothing, both, mapped, checked, made, stopped, ended, spelled_if, fits_if, read_if, optional, read_members, counted}
 
 pub taken_bytes : (n : ℕ) (bytes : List ℕ) → AreBytes bytes → AreBytes (take n bytes)
 taken_bytes n bytes small i = elim (cases_lt i n) [
@@ -173,10 +173,10 @@ module _ {A B : Type 0} (first : Code A) (second : Code B) (p : IsExact first) (
   both_inside bytes stop small is = part_stops (first.read bytes) (λ x. and_then (second.read x.1) (λ y. Ok ((x.0, y.0), y.1))) stop (length bytes) is
       (p.inside bytes stop small)
       (λ x read next.
-        let front = p.only bytes x.1 x.0 small read in
-        part_stops (second.read x.1) (λ y. Ok ((x.0, y.0), y.1)) stop (length bytes) next
-        (λ at. let inner = q.inside x.1 stop (rest_bytes (first.spell x.0) x.1 bytes front.0 small) at in omega (arith, inner, rest_short (first.spell x.0) x.1 bytes front.0))
-        (λ y read wrong. cc))
+      let front = p.only bytes x.1 x.0 small read in
+      part_stops (second.read x.1) (λ y. Ok ((x.0, y.0), y.1)) stop (length bytes) next
+      (λ at. let inner = q.inside x.1 stop (rest_bytes (first.spell x.0) x.1 bytes front.0 small) at in omega (arith, inner, rest_short (first.spell x.0) x.1 bytes front.0))
+      (λ y read wrong. cc))
 
   pub exact_both : IsExact (both first second)
   exact_both = record { again = both_again; only = both_only; short = both_short; inside = both_inside }
@@ -322,10 +322,10 @@ module _ {A : Type 0} (code : Code A) (p : IsExact code) where
   members_inside (suc n) bytes stop small is = part_stops (code.read bytes) (λ y. and_then (read_members code n y.1) (λ ys. Ok (y.0 ∷ ys.0, ys.1))) stop (length bytes) is
       (p.inside bytes stop small)
       (λ x read next.
-        let front = p.only bytes x.1 x.0 small read in
-        part_stops (read_members code n x.1) (λ ys. Ok (x.0 ∷ ys.0, ys.1)) stop (length bytes) next
-        (λ at. let inner = members_inside n x.1 stop (rest_bytes (code.spell x.0) x.1 bytes front.0 small) at in omega (arith, inner, rest_short (code.spell x.0) x.1 bytes front.0))
-        (λ ys read wrong. cc))
+      let front = p.only bytes x.1 x.0 small read in
+      part_stops (read_members code n x.1) (λ ys. Ok (x.0 ∷ ys.0, ys.1)) stop (length bytes) next
+      (λ at. let inner = members_inside n x.1 stop (rest_bytes (code.spell x.0) x.1 bytes front.0 small) at in omega (arith, inner, rest_short (code.spell x.0) x.1 bytes front.0))
+      (λ ys read wrong. cc))
 
   module _ (count : Code ℕ) (top : ℕ) (q : IsExact count) (high : (n : ℕ) → count.fits n ≡ true → n ≤ top) where
     counted_again : (xs : List A) (rest : List ℕ) → (counted count top code).fits xs ≡ true → (counted count top code).read ((counted count top code).spell xs ++ rest) ≡ Ok (xs, rest)
@@ -358,9 +358,9 @@ module _ {A : Type 0} (code : Code A) (p : IsExact code) where
     counted_inside bytes stop small is = part_stops (count.read bytes) (λ n. read_members code n.0 n.1) stop (length bytes) is
         (q.inside bytes stop small)
         (λ n read next.
-          let front = q.only bytes n.1 n.0 small read in
-          let inner = members_inside n.0 n.1 stop (rest_bytes (count.spell n.0) n.1 bytes front.0 small) next in
-          omega (arith, inner, rest_short (count.spell n.0) n.1 bytes front.0))
+        let front = q.only bytes n.1 n.0 small read in
+        let inner = members_inside n.0 n.1 stop (rest_bytes (count.spell n.0) n.1 bytes front.0 small) next in
+        omega (arith, inner, rest_short (count.spell n.0) n.1 bytes front.0))
 
     pub exact_counted : IsExact (counted count top code)
     exact_counted = record { again = counted_again; only = counted_only; short = counted_short; inside = counted_inside }

@@ -1,7 +1,6 @@
 -- Values of several forms are read exactly where each form is.
-use Rattle.std.proofs.Common.{◌≡◌, ℕ, zero, suc, ◌+◌, ◌<◌, ◌≤◌, Bool, true, false, List, [], ◌∷◌, ◌++◌, length, Option, Some, None, Ok, Err, refl, sym, ◌∙◌, ap, arith}
+use Rattle.std.proofs.Common.{◌≡◌, ℕ, zero, suc, ◌+◌, ◌≤◌, Bool, true, List, [], ◌∷◌, ◌++◌, length, Ok, Err, sym, ◌∙◌, ap, arith}
 use Rattle.std.specs.Prelude.{slice_get}
-use Rattle.std.specs.declared.result.Result.{Result}
 use Rattle.sat_wire.specs.declared.fault.Cause.{Cause}
 use Rattle.sat_wire.specs.declared.fault.Stop.{Stop}
 use Rattle.sat_wire.specs.Code.{Read, Code, AreBytes, IsExact, made, stopped, read_form, read_number, chosen}

@@ -1,5 +1,5 @@
 -- How labels and what goes with them are spelled.
-use Rattle.std.proofs.Common.{◌≡◌, ℕ, zero, suc, ◌+◌, ◌<◌, ◌≤◌, Bool, true, false, List, [], ◌∷◌, ◌++◌, length, Option, Some, None, Ok, Err, refl, sym, ◌∙◌, ap, arith}
+use Rattle.std.proofs.Common.{◌≡◌, ℕ, suc, ◌≤◌, Bool, true, List, [], ◌∷◌, ◌++◌, length, Option, Ok, refl, arith}
 use Rattle.std.specs.Prelude.{slice_get}
 use Rattle.sat_label.specs.declared.point.Point.{Point}
 use Rattle.sat_label.specs.declared.items.Items.{Items}
@@ -91,13 +91,22 @@ abbrev pub numbers : Code Items
 numbers = chosen items_number items_fields numbers_fit 8 cause.Items items_forms
 
 are_numbers : AreForms items_number items_fields numbers_fit 0 items_forms
-are_numbers =
-    (no_form items_number items_fields numbers_fit cause.Items 0,
-    (form_of items_number items_fields numbers_fit One number16 exact16 1 (λ x. refl) (λ x. refl) (λ x. refl),
-    (form_of items_number items_fields numbers_fit two_of two exact_two 2 (λ x. refl) (λ x. refl) (λ x. refl),
-    (form_of items_number items_fields numbers_fit three_of three exact_three 3 (λ x. refl) (λ x. refl) (λ x. refl),
-    (form_of items_number items_fields numbers_fit four_of four exact_four 4 (λ x. refl) (λ x. refl) (λ x. refl),
-    tt)))))
+are_numbers = (
+  no_form items_number items_fields numbers_fit cause.Items 0,
+  (
+    form_of items_number items_fields numbers_fit One number16 exact16 1 (λ x. refl) (λ x. refl) (λ x. refl),
+    (
+      form_of items_number items_fields numbers_fit two_of two exact_two 2 (λ x. refl) (λ x. refl) (λ x. refl),
+      (
+        form_of items_number items_fields numbers_fit three_of three exact_three 3 (λ x. refl) (λ x. refl) (λ x. refl),
+        (
+          form_of items_number items_fields numbers_fit four_of four exact_four 4 (λ x. refl) (λ x. refl) (λ x. refl),
+          tt,
+        ),
+      ),
+    ),
+  ),
+)
 
 numbers_again : (x : Items) (rest : List ℕ) (left : ℕ) → numbers_fit x ≡ true → read_form cause.Items left (slice_get items_forms (items_number x)) (items_fields x ++ rest) ≡ Ok (x, rest)
 numbers_again (One a) rest left fit = form_again items_number items_fields numbers_fit One number16 exact16 1 (λ x. refl) (λ x. refl) (λ x. refl) a rest fit
@@ -160,12 +169,19 @@ abbrev pub label_kind : Code Kind
 label_kind = chosen kind_number kind_fields kind_fits 9 cause.Kind kind_forms
 
 are_kinds : AreForms kind_number kind_fields kind_fits 0 kind_forms
-are_kinds =
-    (form_of kind_number kind_fields kind_fits kind.Update items exact_items 0 (λ x. refl) (λ x. refl) (λ x. refl),
-    (form_of kind_number kind_fields kind_fits kind.Move number16 exact16 1 (λ x. refl) (λ x. refl) (λ x. refl),
-    (form_of kind_number kind_fields kind_fits pulse_of nothing exact_nothing 2 (λ x. refl) (λ x. refl) (λ x. refl),
-    (form_of kind_number kind_fields kind_fits kind.Close number16 exact16 3 (λ x. refl) (λ x. refl) (λ x. refl),
-    tt))))
+are_kinds = (
+  form_of kind_number kind_fields kind_fits kind.Update items exact_items 0 (λ x. refl) (λ x. refl) (λ x. refl),
+  (
+    form_of kind_number kind_fields kind_fits kind.Move number16 exact16 1 (λ x. refl) (λ x. refl) (λ x. refl),
+    (
+      form_of kind_number kind_fields kind_fits pulse_of nothing exact_nothing 2 (λ x. refl) (λ x. refl) (λ x. refl),
+      (
+        form_of kind_number kind_fields kind_fits kind.Close number16 exact16 3 (λ x. refl) (λ x. refl) (λ x. refl),
+        tt,
+      ),
+    ),
+  ),
+)
 
 kind_again : (x : Kind) (rest : List ℕ) (left : ℕ) → kind_fits x ≡ true → read_form cause.Kind left (slice_get kind_forms (kind_number x)) (kind_fields x ++ rest) ≡ Ok (x, rest)
 kind_again (kind.Update x) rest left fit = form_again kind_number kind_fields kind_fits kind.Update items exact_items 0 (λ x. refl) (λ x. refl) (λ x. refl) x rest fit

@@ -1,5 +1,5 @@
 -- How payloads and beats are spelled.
-use Rattle.std.proofs.Common.{◌≡◌, ℕ, ◌<◌, ◌≤◌, ◌^◌, ◌+◌, ◌*◌, Bool, true, List, length, Option, refl, sym, ◌∙◌, ap, arith}
+use Rattle.std.proofs.Common.{ℕ, ◌<◌, ◌^◌, Bool, List, length, Option, refl, arith}
 use Rattle.std.specs.Prelude.{nat_lt}
 use Rattle.sat_label.specs.declared.label.Label.{Label}
 use Rattle.sat_label.specs.declared.point.Point.{Point}

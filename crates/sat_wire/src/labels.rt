@@ -1,12 +1,14 @@
 //! Items and labels.
 ghost use Rattle.std.specs.Prelude.{◌≡◌, ◌+◌, ◌≤◌, ◌++◌, true, length, vec_capacity, Ok, IfOk, IfErr};
 ghost use Rattle.sat_label.specs.declared.items.Items.TheVariants as items_of;
-ghost use Rattle.sat_wire.specs.Bounds.{small9, small10, small22};
-ghost use Rattle.sat_wire.specs.Code.{made, number16, StopsAt};
+ghost use Rattle.sat_wire.specs.Bounds.{small9, small10, small22, small23};
+ghost use Rattle.sat_wire.specs.Code.{allowed_if, made, number16, optional, StopsAt};
+ghost use Rattle.sat_wire.specs.Exact.{exact_optional};
 ghost use Rattle.sat_wire.specs.Labels.{ascend, exact_items, exact_kind, exact_label, four, four_of, items, kind_allows, label, label_allows, label_kind, numbers, numbers_fit, three, three_of, two, two_of};
 
 use crate::Wire;
 use crate::fault::{Cause, ReadFault, Stop};
+use crate::options::{option_is_allowed, option_size, read_option, write_option};
 use sat_label::{Items, Kind, Label, Point};
 use std::alloc::Global;
 
@@ -216,5 +218,31 @@ impl Wire for Label {
         let (point, rest) = Point::read(alloc, bytes)?;
         let (kind, rest) = Kind::read(alloc, rest)?;
         Ok((Label { point, kind }, rest))
+    }
+}
+
+impl Wire for Option<Label> {
+    ghost code = { optional label };
+
+    ghost allows = { allowed_if label_allows };
+
+    ghost exact = { exact_optional label exact_label };
+
+    ghost small = { small23 };
+
+    fn is_allowed(&self) -> bool {
+        option_is_allowed(self)
+    }
+
+    fn size(&self) -> usize {
+        option_size(self)
+    }
+
+    fn write(&self, out: &mut Vec<u8>) {
+        write_option(self, out)
+    }
+
+    fn read(alloc: Global, bytes: &[u8]) -> Result<(Option<Label>, &[u8]), ReadFault> {
+        read_option(alloc, bytes)
     }
 }

@@ -4,8 +4,8 @@ ghost use Rattle.sat_wire.specs.Code.{byte, number16, number64};
 ghost use Rattle.sat_wire.specs.Bounds.{small1, small2, small8};
 ghost use Rattle.sat_wire.specs.Exact.{exact_byte, exact16, exact64};
 
-use crate::fault::{Cause, ReadFault, Stop};
 use crate::Wire;
+use crate::fault::{Cause, ReadFault, Stop};
 use std::alloc::Global;
 
 // Puts bytes behind others, for which there is room.
@@ -43,7 +43,10 @@ impl Wire for u8 {
 
     fn read(_alloc: Global, bytes: &[u8]) -> Result<(u8, &[u8]), ReadFault> {
         match bytes {
-            [] => Err(ReadFault::Stop(Stop { cause: Cause::Short, left: 0 })),
+            [] => Err(ReadFault::Stop(Stop {
+                cause: Cause::Short,
+                left: 0,
+            })),
             [first, rest @ ..] => Ok((*first, rest)),
         }
     }
@@ -73,7 +76,10 @@ impl Wire for u16 {
 
     fn read(_alloc: Global, bytes: &[u8]) -> Result<(u16, &[u8]), ReadFault> {
         if bytes.len() < 2 {
-            return Err(ReadFault::Stop(Stop { cause: Cause::Short, left: 0 }));
+            return Err(ReadFault::Stop(Stop {
+                cause: Cause::Short,
+                left: 0,
+            }));
         }
         let (head, rest) = bytes.split_at(2);
         Ok((u16::from_be_bytes([head[0], head[1]]), rest))
@@ -104,7 +110,10 @@ impl Wire for u64 {
 
     fn read(_alloc: Global, bytes: &[u8]) -> Result<(u64, &[u8]), ReadFault> {
         if bytes.len() < 8 {
-            return Err(ReadFault::Stop(Stop { cause: Cause::Short, left: 0 }));
+            return Err(ReadFault::Stop(Stop {
+                cause: Cause::Short,
+                left: 0,
+            }));
         }
         let (head, rest) = bytes.split_at(8);
         let number = u64::from_be_bytes([
@@ -113,4 +122,3 @@ impl Wire for u64 {
         Ok((number, rest))
     }
 }
-

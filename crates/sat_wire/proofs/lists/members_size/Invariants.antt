@@ -1,4 +1,4 @@
-use Rattle.std.proofs.Common.{◌≡◌, ◌++◌, ◌+◌, ◌*◌, ◌≤◌, true, length}
+use Rattle.std.proofs.Common.{◌≡◌, ◌+◌, ◌*◌, ◌≤◌, true, length}
 use Rattle.std.specs.List.{flat_map}
 use Rattle.sat_wire.specs.Code.{all_fit}
 use Rattle.sat_wire.proofs.lists.members_size.Given as goal

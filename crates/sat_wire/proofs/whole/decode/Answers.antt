@@ -1,4 +1,4 @@
-use Rattle.std.proofs.Common.{◌≡◌, arith}
+use Rattle.std.proofs.Common.{arith}
 use Rattle.std.proofs.lemmas.Result.{IfOk-weaker, IfErr-weaker}
 use Rattle.sat_wire.specs.Wholes.{whole_only, value_is, not_refused}
 use Rattle.sat_wire.proofs.whole.decode.Goals as goal

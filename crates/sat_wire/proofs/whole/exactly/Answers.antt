@@ -1,4 +1,4 @@
-use Rattle.std.proofs.Common.{◌≡◌, arith}
+use Rattle.std.proofs.Common.{arith}
 use Rattle.sat_wire.specs.Exact.{rest_short}
 use Rattle.sat_wire.proofs.whole.exactly.Goals as goal
 

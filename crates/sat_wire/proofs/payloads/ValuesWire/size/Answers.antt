@@ -1,5 +1,4 @@
-use Rattle.std.proofs.Common.{◌≡◌, ◌∙◌, ap, length, arith}
-use Rattle.std.specs.Prelude.{nat_lt}
+use Rattle.std.proofs.Common.{arith}
 use Rattle.sat_wire.proofs.Sizes.{values_few}
 use Rattle.sat_wire.proofs.payloads.ValuesWire.size.Goals as goal
 
