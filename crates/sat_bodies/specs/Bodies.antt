@@ -1,5 +1,5 @@
 -- How the inputs of a site are spelled: the body of each, as a journal keeps it.
-use Rattle.std.proofs.Common.{◌≡◌, ℕ, ◌<◌, ◌≤◌, ◌^◌, ◌+◌, ◌*◌, Bool, true, List, [], ◌∷◌, ◌++◌, length, Option, Some, None, Ok, Err, refl, sym, ◌∙◌, ap, arith}
+use Rattle.std.proofs.Common.{◌≡◌, ℕ, ◌<◌, ◌≤◌, ◌^◌, Bool, true, List, [], ◌∷◌, ◌++◌, length, Option, Some, None, Ok, Err, refl, ap, arith}
 use Rattle.std.specs.Prelude.{nat_lt, slice_get}
 use Rattle.std.specs.declared.result.Result.{Result}
 use Rattle.sat_label.specs.declared.carried.Carried.{Carried}
@@ -175,24 +175,55 @@ input = chosen input_number input_fields input_fits 1310726 cause.Form input_for
 -- ---- each is exact
 
 are_inputs : AreForms input_number input_fields input_fits 0 input_forms
-are_inputs =
-    (form_of input_number input_fields input_fits tick_of tick_code exact_tick 0 (λ x. refl) (λ x. refl) (λ x. refl),
-    (form_of input_number input_fields input_fits write_of write_code exact_write 1 (λ x. refl) (λ x. refl) (λ x. refl),
-    (form_of input_number input_fields input_fits read_of client_code exact_client 2 (λ x. refl) (λ x. refl) (λ x. refl),
-    (form_of input_number input_fields input_fits move_of client_code exact_client 3 (λ x. refl) (λ x. refl) (λ x. refl),
-    (form_of input_number input_fields input_fits given.Attach carried exact_carried 4 (λ x. refl) (λ x. refl) (λ x. refl),
-    (form_of input_number input_fields input_fits gather_of nothing exact_nothing 5 (λ x. refl) (λ x. refl) (λ x. refl),
-    (form_of input_number input_fields input_fits emit_of nothing exact_nothing 6 (λ x. refl) (λ x. refl) (λ x. refl),
-    (form_of input_number input_fields input_fits pulse_of nothing exact_nothing 7 (λ x. refl) (λ x. refl) (λ x. refl),
-    (form_of input_number input_fields input_fits given.Turn turn_code exact_turn 8 (λ x. refl) (λ x. refl) (λ x. refl),
-    (form_of input_number input_fields input_fits bulk_of bulk_code exact_bulk 9 (λ x. refl) (λ x. refl) (λ x. refl),
-    (form_of input_number input_fields input_fits given.Beat number16 exact16 10 (λ x. refl) (λ x. refl) (λ x. refl),
-    (form_of input_number input_fields input_fits beat_in_of beat_code exact_beat_in 11 (λ x. refl) (λ x. refl) (λ x. refl),
-    (form_of input_number input_fields input_fits stamp_of nothing exact_nothing 12 (λ x. refl) (λ x. refl) (λ x. refl),
-    (form_of input_number input_fields input_fits close_of nothing exact_nothing 13 (λ x. refl) (λ x. refl) (λ x. refl),
-    (form_of input_number input_fields input_fits fall_of nothing exact_nothing 14 (λ x. refl) (λ x. refl) (λ x. refl),
-    (form_of input_number input_fields input_fits advance_of nothing exact_nothing 15 (λ x. refl) (λ x. refl) (λ x. refl),
-    tt))))))))))))))))
+are_inputs = (
+  form_of input_number input_fields input_fits tick_of tick_code exact_tick 0 (λ x. refl) (λ x. refl) (λ x. refl),
+  (
+    form_of input_number input_fields input_fits write_of write_code exact_write 1 (λ x. refl) (λ x. refl) (λ x. refl),
+    (
+      form_of input_number input_fields input_fits read_of client_code exact_client 2 (λ x. refl) (λ x. refl) (λ x. refl),
+      (
+        form_of input_number input_fields input_fits move_of client_code exact_client 3 (λ x. refl) (λ x. refl) (λ x. refl),
+        (
+          form_of input_number input_fields input_fits given.Attach carried exact_carried 4 (λ x. refl) (λ x. refl) (λ x. refl),
+          (
+            form_of input_number input_fields input_fits gather_of nothing exact_nothing 5 (λ x. refl) (λ x. refl) (λ x. refl),
+            (
+              form_of input_number input_fields input_fits emit_of nothing exact_nothing 6 (λ x. refl) (λ x. refl) (λ x. refl),
+              (
+                form_of input_number input_fields input_fits pulse_of nothing exact_nothing 7 (λ x. refl) (λ x. refl) (λ x. refl),
+                (
+                  form_of input_number input_fields input_fits given.Turn turn_code exact_turn 8 (λ x. refl) (λ x. refl) (λ x. refl),
+                  (
+                    form_of input_number input_fields input_fits bulk_of bulk_code exact_bulk 9 (λ x. refl) (λ x. refl) (λ x. refl),
+                    (
+                      form_of input_number input_fields input_fits given.Beat number16 exact16 10 (λ x. refl) (λ x. refl) (λ x. refl),
+                      (
+                        form_of input_number input_fields input_fits beat_in_of beat_code exact_beat_in 11 (λ x. refl) (λ x. refl) (λ x. refl),
+                        (
+                          form_of input_number input_fields input_fits stamp_of nothing exact_nothing 12 (λ x. refl) (λ x. refl) (λ x. refl),
+                          (
+                            form_of input_number input_fields input_fits close_of nothing exact_nothing 13 (λ x. refl) (λ x. refl) (λ x. refl),
+                            (
+                              form_of input_number input_fields input_fits fall_of nothing exact_nothing 14 (λ x. refl) (λ x. refl) (λ x. refl),
+                              (
+                                form_of input_number input_fields input_fits advance_of nothing exact_nothing 15 (λ x. refl) (λ x. refl) (λ x. refl),
+                                tt,
+                              ),
+                            ),
+                          ),
+                        ),
+                      ),
+                    ),
+                  ),
+                ),
+              ),
+            ),
+          ),
+        ),
+      ),
+    ),
+  ),
+)
 
 input_again : (x : SiteInput) (rest : List ℕ) (left : ℕ) → input_fits x ≡ true → read_form cause.Form left (slice_get input_forms (input_number x)) (input_fields x ++ rest) ≡ Ok (x, rest)
 input_again (given.Tick gear ts) rest left fit = form_again input_number input_fields input_fits tick_of tick_code exact_tick 0 (λ x. refl) (λ x. refl) (λ x. refl) (gear, ts) rest fit
