@@ -9,6 +9,8 @@ use Rattle.sat_act.specs.Deployed.{Deployed}
 use Rattle.sat_act.specs.Ranges.{IsActOf}
 use Rattle.sat_act.specs.declared.act.Act.{Act}
 use Rattle.sat_act.specs.declared.act.Act.TheVariants as act
+use Rattle.sat_script.specs.declared.limits.TheConstants.{AUDIT_ACTS}
+use Rattle.sat_verdict.specs.declared.limits.TheConstants.{MOST_ENTRIES}
 use Rattle.sat_verdict.specs.declared.tale.Tale.{Tale}
 use Rattle.sat_verdict.specs.declared.tale.Tale.TheVariants as tale
 use Rattle.sat_verdict.specs.Entries.{client_of, makes, made_in}
@@ -149,8 +151,8 @@ pub is_unique : (h : History) (tales : List Tale) → IsHistory h → tales ≡ 
 unfolding IsUnique made_number
 is_unique h tales is same = rw same (unique-from [] h.heard h.heard refl is.once tt (λ b none. refl))
 
-pub few_tales : (h : History) (tales : List Tale) → IsHistory h → tales ≡ map tale_of h.heard → length tales ≤ 20000
-few_tales h tales is same = rw same (subst (λ (n : ℕ). n ≤ 20000) (sym (many h.heard)) is.few)
+pub few_tales : (h : History) (tales : List Tale) → IsHistory h → tales ≡ map tale_of h.heard → length tales ≤ MOST_ENTRIES
+few_tales h tales is same = rw same (subst (λ (n : ℕ). n ≤ MOST_ENTRIES) (sym (many h.heard)) (let few : length h.heard ≤ AUDIT_ACTS = is.few in omega arith))
   where
     many : (xs : List Heard) → length (map tale_of xs) ≡ length xs
     many [] = refl

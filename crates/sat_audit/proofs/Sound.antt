@@ -21,7 +21,7 @@ use Rattle.sat_script.specs.declared.fault.Cause.{Cause}
 use Rattle.sat_script.specs.declared.fault.Cause.TheVariants.{AfterEnd, LongLine, NoEnd, NotText, BadAnswer, SamePoint}
 use Rattle.sat_script.specs.declared.fault.ScriptFault.{ScriptFault}
 use Rattle.sat_script.specs.declared.form.Form.TheVariants as form
-use Rattle.sat_script.specs.declared.limits.TheConstants.{LONGEST_LINE}
+use Rattle.sat_script.specs.declared.limits.TheConstants.{LONGEST_LINE, AUDIT_ACTS}
 use Rattle.sat_script.specs.declared.line.Parsed.{Parsed}
 use Rattle.sat_script.specs.declared.line.Parsed.TheVariants as parsed
 use Rattle.sat_script.specs.declared.line.Stage.{Stage}
@@ -226,7 +226,7 @@ ended_at stage.Gears rest e = absurd (no-none (ltb LONGEST_LINE (length rest)) L
 ended_at stage.Header rest e = absurd (no-none (ltb LONGEST_LINE (length rest)) LongLine NoEnd e)
 ended_at stage.Body rest e = absurd (no-none (ltb LONGEST_LINE (length rest)) LongLine NoEnd e)
 
-few_of : (h : Hearing) → IsSound h → length h.heard ≤ 20000
+few_of : (h : Hearing) → IsSound h → length h.heard ≤ AUDIT_ACTS
 few_of h is =
     let few : h.script.acts ≤ (limits_of dialect.Audit h.script.header.format).acts = subst (λ (d : Dialect). h.script.acts ≤ (limits_of d h.script.header.format).acts) is.audit is.fit.acts in
     omega (arith, is.counted, few)

@@ -8,6 +8,7 @@ use Rattle.sat_act.specs.Limits.{IsDeployment}
 use Rattle.sat_act.specs.Ranges.{IsActOf}
 use Rattle.sat_act.specs.Runs.{is_settle}
 use Rattle.sat_act.specs.declared.act.Act.{Act}
+use Rattle.sat_script.specs.declared.limits.TheConstants.{AUDIT_ACTS}
 use Rattle.sat_audit.specs.Lines.{was_made}
 use Rattle.sat_audit.specs.Told.{is_write, is_read, is_move, is_show, made_in}
 use Rattle.sat_audit.specs.declared.heard.Heard.{Heard}
@@ -47,5 +48,5 @@ AreMadeOnce heard = (front rest : List Heard) (e : Heard) (p : Point) → heard 
 pub record IsHistory (h : History) : Type 0 where
   pub deployment : IsDeployment h.deployment
   pub each : AreHeardOf h.deployment h.heard
-  pub few : length h.heard ≤ 20000
+  pub few : length h.heard ≤ AUDIT_ACTS
   pub once : AreMadeOnce h.heard

@@ -7,6 +7,8 @@ use std::io::Read;
 
 // So much of the input's beginning is kept, where the header stands.
 const MOST_HEAD: usize = 65536;
+// So much of a history is kept, all of whose lines a message may need.
+const MOST_HISTORY: usize = 4_194_304;
 // So much of a line that is not whole yet is kept. A longer one is at fault.
 const MOST_BEGUN: usize = 8192;
 
@@ -14,6 +16,8 @@ const MOST_BEGUN: usize = 8192;
 #[derive(Drop)]
 pub struct Kept {
     head: Vec<u8>,
+    // so many bytes the head has at most
+    most: usize,
     recent: Vec<u8>,
     // the number of the line that `recent` begins with, from 1
     first: u64,
@@ -36,10 +40,11 @@ fn count_lines(bytes: &[u8]) -> usize {
 }
 
 impl Kept {
-    /// Nothing was read yet.
-    pub fn new(alloc: Global) -> Kept {
+    /// Nothing was read yet. Of a history all is kept, up to 4 MiB.
+    pub fn new(alloc: Global, is_history: bool) -> Kept {
         Kept {
             head: Vec::new(alloc),
+            most: if is_history { MOST_HISTORY } else { MOST_HEAD },
             recent: Vec::new(alloc),
             first: 1,
             lost: false,
@@ -47,7 +52,7 @@ impl Kept {
     }
 
     fn keep_head(&mut self, piece: &[u8]) -> Result<(), AllocError> {
-        let room = MOST_HEAD.saturating_sub(self.head.len()).min(piece.len());
+        let room = self.most.saturating_sub(self.head.len()).min(piece.len());
         self.head.extend_from_slice(&piece[..room])
     }
 
@@ -98,11 +103,11 @@ pub struct KeepingReader<R: Read + Drop> {
 }
 
 impl<R: Read + Drop> KeepingReader<R> {
-    /// A reader of the same bytes.
-    pub fn new(alloc: Global, reader: R) -> KeepingReader<R> {
+    /// A reader of the same bytes. Of a history all is kept, up to 4 MiB.
+    pub fn new(alloc: Global, reader: R, is_history: bool) -> KeepingReader<R> {
         KeepingReader {
             reader,
-            kept: Kept::new(alloc),
+            kept: Kept::new(alloc, is_history),
         }
     }
 

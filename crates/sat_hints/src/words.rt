@@ -8,13 +8,14 @@ use std::alloc::{AllocError, Global};
 use std::fmt::Write;
 
 // The commands, and what they are mistaken for.
-const COMMANDS: [&str; 9] = [
+const COMMANDS: [&str; 10] = [
     "run",
     "draw",
     "plan",
     "place",
     "live",
     "audit",
+    "chain",
     "load",
     "--help",
     "--version",
@@ -25,9 +26,13 @@ const FEWEST_LOADED: u64 = 2;
 
 const MOST_LOADED: u64 = 199000;
 
+// The most replicas of a serializer.
+const MOST_REPLICAS: u64 = 5;
+
 const USAGE: &str = "usage: saturn COMMAND < INPUT
 
   run, draw, plan, place, live, audit   read standard input
+  chain R                               reads a script whose serializers have R replicas
   load SEED N                           makes its input
   --help                                says what each of these does
   --version
@@ -40,11 +45,13 @@ fn reads(word: &str) -> bool {
 
 /// What a person is told whose command waits for lines at a terminal, where the words are such a command.
 pub fn awaits(words: &[String]) -> Option<&'static str> {
-    let [word] = words else {
-        return None;
+    let word = match words {
+        [word] => word,
+        [word, _] if word.as_str() == "chain" => word,
+        _ => return None,
     };
     match word.as_str() {
-        "run" | "draw" | "live" => {
+        "run" | "draw" | "live" | "chain" => {
             Some("reading a script from the terminal; the line `end` and then Ctrl-D end it")
         }
         "audit" => Some(
@@ -55,6 +62,30 @@ pub fn awaits(words: &[String]) -> Option<&'static str> {
             Some("reading a table of delays and a tree, as JSON, from the terminal; Ctrl-D ends it")
         }
         _ => None,
+    }
+}
+
+/// Whether these are the words by which a history is judged.
+pub fn is_audit(words: &[String]) -> bool {
+    match words {
+        [word] => word.as_str() == "audit",
+        _ => false,
+    }
+}
+
+/// Whether these are the words of a script with chains, of whose lines no more is said than the cause.
+pub fn is_chain(words: &[String]) -> bool {
+    match words {
+        [word, _] => word.as_str() == "chain",
+        _ => false,
+    }
+}
+
+/// Whether these are the words by which nodes on threads do a script.
+pub fn is_live(words: &[String]) -> bool {
+    match words {
+        [word] => word.as_str() == "live",
+        _ => false,
     }
 }
 
@@ -138,6 +169,22 @@ fn about_load(text: &mut String, words: &[String]) -> Result<(), AllocError> {
     }
 }
 
+fn about_chain(text: &mut String, words: &[String]) -> Result<(), AllocError> {
+    match words {
+        [replicas] => {
+            let shown = Shown::new(replicas.as_bytes());
+            writeln!(
+                text,
+                "saturn: chain R: R is a number from 1 to {MOST_REPLICAS} without a leading zero, and not `{shown}`"
+            )
+        }
+        _ => writeln!(
+            text,
+            "saturn: `chain` takes the number of replicas of each serializer; type: saturn chain 3"
+        ),
+    }
+}
+
 // Words that begin with this one, and have these behind it.
 fn about_command(
     alloc: Global,
@@ -147,6 +194,9 @@ fn about_command(
 ) -> Result<(), AllocError> {
     if command == "load" {
         return about_load(text, rest);
+    }
+    if command == "chain" {
+        return about_chain(text, rest);
     }
     let is_known = reads(command) || command == "--help" || command == "--version";
     match rest.first() {

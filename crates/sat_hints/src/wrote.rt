@@ -5,7 +5,7 @@ use std::alloc::Global;
 use std::io;
 use std::io::{ErrorKind, Write};
 
-// So much of the output's end is kept. The line of a fault is shorter.
+// So much of the output's end is kept. The line of a fault is shorter, and so are the three lines of a verdict.
 const MOST_LAST: usize = 128;
 
 // How an act that was refused is answered, behind its number.
@@ -138,6 +138,11 @@ impl Wrote {
     /// Whether the reader of standard output went away.
     pub fn is_closed(&self) -> bool {
         self.is_closed
+    }
+
+    /// The last bytes.
+    pub(crate) fn last(&self) -> &[u8] {
+        self.last.as_slice()
     }
 
     /// The last whole line.

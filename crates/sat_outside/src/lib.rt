@@ -2,12 +2,14 @@
 #![tactic(auto)]
 
 mod clean;
+mod endless;
 mod gate;
 mod memory;
 mod standard;
 mod traits;
 
 pub use clean::{CleanSink, CleanSource};
+pub use endless::LoopSource;
 pub use gate::{FreeGate, Gate};
 pub use memory::{MemorySink, MemorySource};
 pub use standard::{StdSink, StdSource};

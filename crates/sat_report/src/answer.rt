@@ -21,8 +21,9 @@ use std::alloc::AllocError;
 
 // In this file each word that something follows ends with its space. `number` is that of the line; an answer that stands by itself has none.
 // All but a value and further nodes is put together in an array, so that `out` grows once.
+/// Appends a word, at most 24 bytes, by itself or as a line with its number. For want of memory a front of it may stand there.
 #[inline(always)]
-fn append_word<const N: usize>(
+pub fn append_word<const N: usize>(
     number: &LineFront,
     word: &[u8; N],
     out: &mut Vec<u8>,
@@ -99,8 +100,10 @@ fn append_with_point<const N: usize>(
     out.extend_from_slice(&text[at..])
 }
 
+/// Appends a word, at most 24 bytes, whose last one is a space, and the kind and the point of a label. For want of memory a front of it
+/// may stand there.
 #[inline(always)]
-fn append_with_kind<const N: usize>(
+pub fn append_with_kind<const N: usize>(
     number: &LineFront,
     word: &[u8; N],
     label: &Label,
@@ -357,9 +360,9 @@ fn append_refused(n: &LineFront, refusal: &Refusal, out: &mut Vec<u8>) -> Result
     }
 }
 
-// The text of an answer, by itself or as a line with its number.
+/// Appends the text of an answer, by itself or as a line with its number. For want of memory a front of it may stand there.
 #[tactic(auto, unfolding(crate::specs::Answers::answer_text))]
-fn append_framed(
+pub fn append_framed(
     d: &Deployment,
     n: &LineFront,
     act: &Act,

@@ -10,7 +10,10 @@ mod line;
 mod summary;
 mod text;
 
-pub use answer::{append_answer, write_answer, write_line, write_numbered};
+pub use answer::{
+    append_answer, append_framed, append_with_kind, append_word, write_answer, write_line,
+    write_numbered,
+};
 pub use fault::write_fault;
 pub use front::LineFront;
 pub use holdings::write_holdings;

@@ -39,8 +39,8 @@ pub record AreFew (l : Limits) : Type 0 where
 
 pub limits_few : (dialect : Dialect) (format : ℕ) → AreFew (limits_of dialect format)
 limits_few dialect.Run format = record { sites = sites_within format _ (omega arith); items = items_within format _ (omega arith); clients = omega arith; acts = acts_within format _ (omega arith); settles = omega arith }
-limits_few dialect.Chain format = limits_few dialect.Run format
-limits_few dialect.Lasting format = limits_few dialect.Run format
+limits_few dialect.Chain format = record { sites = sites_within format _ (omega arith); items = items_within format _ (omega arith); clients = omega arith; acts = acts_within format _ (omega arith); settles = omega arith }
+limits_few dialect.Lasting format = record { sites = sites_within format _ (omega arith); items = items_within format _ (omega arith); clients = omega arith; acts = acts_within format _ (omega arith); settles = omega arith }
 limits_few dialect.Live format = record { sites = omega arith; items = items_within format _ (omega arith); clients = omega arith; acts = omega arith; settles = omega arith }
 limits_few dialect.Audit format = record { sites = sites_within format _ (omega arith); items = items_within format _ (omega arith); clients = omega arith; acts = omega arith; settles = omega arith }
 

@@ -15,9 +15,8 @@ abbrev pub limits_of : Dialect → ℕ → Limits
 limits_of dialect.Run format = record { sites = (format_limits format).sites; items = (format_limits format).items; clients = MOST_CLIENTS; acts = (format_limits format).acts; settles = MOST_SETTLES }
 limits_of dialect.Live format = record { sites = LIVE_SITES; items = (format_limits format).items; clients = LIVE_CLIENTS; acts = LIVE_ACTS; settles = MOST_SETTLES }
 limits_of dialect.Audit format = record { sites = (format_limits format).sites; items = (format_limits format).items; clients = MOST_CLIENTS; acts = AUDIT_ACTS; settles = MOST_SETTLES }
-
-limits_of dialect.Chain format = limits_of dialect.Run format
-limits_of dialect.Lasting format = limits_of dialect.Run format
+limits_of dialect.Chain format = record { sites = (format_limits format).sites; items = (format_limits format).items; clients = MOST_CLIENTS; acts = (format_limits format).acts; settles = MOST_SETTLES }
+limits_of dialect.Lasting format = record { sites = (format_limits format).sites; items = (format_limits format).items; clients = MOST_CLIENTS; acts = (format_limits format).acts; settles = MOST_SETTLES }
 
 -- the forms of a script for nodes on threads
 unfoldable pub is_live : Form → Bool

@@ -178,7 +178,8 @@ impl Place {
     pub fn count_act(&mut self)
         requires body { self.old.stage ≡ Stage.Body }
         requires room { full self.old ≡ None }
-        ensures { self.new ≡ with_one_act self.old }
+        ensures counted { self.new ≡ with_one_act self.old }
+        ensures fit { IsFit self.new }
     {
         self.acts += 1;
     }

@@ -3,3 +3,7 @@ pub mod Kept
 pub mod Lanes
 pub mod ReadBack
 pub mod OneItem
+pub mod Duties
+pub mod Fronts
+pub mod Views
+pub mod Beyond

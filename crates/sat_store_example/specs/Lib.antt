@@ -1,2 +1,4 @@
+pub mod Duties
 pub mod Relays
 pub mod Replicas
+pub mod Waiting

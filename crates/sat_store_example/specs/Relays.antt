@@ -1,5 +1,5 @@
 -- What a relay keeps, and what it asks of a label that comes.
-use Rattle.std.specs.Prelude.{ℕ, ◌≡◌, ◌<◌, Bool, true, ◌&&◌, nat_lt, length}
+use Rattle.std.specs.Prelude.{ℕ, ◌≡◌, ◌<◌, Bool, true, ◌&&◌, nat_lt, List, [], length, if◌then◌else◌}
 use Rattle.sat_label.specs.declared.label.Kind.{Kind}
 use Rattle.sat_label.specs.declared.label.Kind.TheVariants.{Update, Move, Pulse, Close}
 use Rattle.sat_label.specs.declared.label.Label.{Label}
@@ -9,7 +9,7 @@ use Rattle.sat_label.specs.declared.node.NodeId.TheVariants.{Site, Serializer}
 use Rattle.sat_sites.specs.Interested.{Interested, are_below}
 use Rattle.sat_tree.specs.Shape.{TreeShape}
 use Rattle.sat_tree.specs.Cut.{is_edge}
-use Rattle.sat_serial.specs.Outboxes.{SerializerSeen}
+use Rattle.sat_serial.specs.Outboxes.{SerializerSeen, after_ship, outbox}
 use Rattle.sat_serial.specs.Routes.{leads}
 
 -- the tree, which sites keep which items, the relay's number, and its serializer
@@ -49,3 +49,11 @@ is_label_of a l = nat_lt l.point.site a.sites && is_kind_of a l.kind
 -- a label of the deployment, come from a neighbour, with a target on this side of the link
 abbrev pub arrives : RelaySeen → NodeId → Label → Bool
 arrives r u l = (is_neighbour r u && is_label_of r.interest l) && leads r.interest r.tree u (Serializer r.number) l
+
+-- the labels that wait for a node, the oldest first: none where it is no neighbour
+abbrev pub waiting_for : RelaySeen → NodeId → List Label
+waiting_for r v = if is_neighbour r v then outbox r.serializer v else []
+
+-- the relay without the oldest label for a node
+abbrev pub shipped : RelaySeen → NodeId → RelaySeen
+shipped r v = if is_neighbour r v then record r { serializer = after_ship r.serializer v } else r

@@ -1,5 +1,5 @@
 -- What a replica keeps, why it does not do what it is told, and what a client is told.
-use Rattle.std.specs.Prelude.{ℕ, ◌≡◌, ◌==◌, ◌&&◌, Bool, true, false, List, drop, Option, Some, None, if◌then◌else◌, is_none}
+use Rattle.std.specs.Prelude.{ℕ, ◌≡◌, ◌==◌, ◌&&◌, Bool, true, false, List, nat_lt, slice_get, Option, Some, None, if◌then◌else◌, is_none}
 use Rattle.sat_label.specs.declared.carried.Carried.{Carried}
 use Rattle.sat_label.specs.declared.label.Label.{Label}
 use Rattle.sat_label.specs.Order.{label_lt, point_lt}
@@ -9,17 +9,21 @@ use Rattle.sat_act.specs.declared.answer.Answer.{Answer}
 use Rattle.sat_act.specs.declared.answer.Answer.TheVariants as ans
 use Rattle.sat_site.specs.declared.input.SiteInput.{SiteInput}
 use Rattle.sat_site.specs.declared.input.SiteInput.TheVariants as input
-use Rattle.sat_site.specs.Inputs.{fits_in}
+use Rattle.sat_site.specs.Inputs.{fits_in, is_front_here}
 use Rattle.sat_site.specs.Seen.{SiteSeen}
 use Rattle.sat_site.specs.SiteSteps.{site_answers}
+use Rattle.sat_store_example.specs.Waiting.{link_of, with_label, without_front}
+use Rattle.sat_store_example.specs.declared.links.TheConstants.{LINKS}
 use Rattle.sat_store_example.specs.declared.fault.ReplicaFault.{ReplicaFault}
 use Rattle.sat_store_example.specs.declared.fault.ReplicaFault.TheVariants.{Seat, Unfit}
 
--- the site's number, the site, and the labels that wait at it, the oldest first
+-- the site's number, the site, and by epoch the labels that came and wait to be shown or taken, and those that it sent and that its
+-- relay has not taken, the oldest first
 pub record ReplicaSeen : Type 0 where
   pub number : ℕ
   pub site : SiteSeen
-  pub inbox : List Label
+  pub inbox : List (List Label)
+  pub outbox : List (List Label)
 
 abbrev pub with_site : ReplicaSeen → SiteSeen → ReplicaSeen
 with_site r x = record r { site = x }
@@ -41,11 +45,24 @@ call_fault r c given = if sits_at c.seat r.number then hand_fault r given else S
 abbrev pub attach_fault : ReplicaSeen → Client → SiteInput → Option ReplicaFault
 attach_fault r c given = if is_none c.seat then hand_fault r given else Some Seat
 
--- the labels that wait, after the oldest was shown, taken or left there
-abbrev pub inbox_after : Answer → List Label → List Label
-inbox_after (ans.Shown l) labels = drop 1 labels
-inbox_after (ans.Took l) labels = drop 1 labels
-inbox_after r labels = labels
+-- the label that is sent in an epoch, if there is one, waits on its link
+abbrev pub posted : List (List Label) → ℕ → Option Label → List (List Label)
+posted links epoch None = links
+posted links epoch (Some l) = with_label links epoch l
+
+-- why a label may not wait on the link of an epoch: there is no such epoch, or no other site sends such a label there
+abbrev pub arrive_fault : ReplicaSeen → ℕ → Label → Option ReplicaFault
+arrive_fault r epoch l = if nat_lt epoch LINKS && is_front_here r.site.shape epoch l then None else Some Unfit
+
+-- the oldest label that waits in the tree of the site's view
+abbrev pub next_label : ReplicaSeen → Option Label
+next_label r = slice_get (link_of r.inbox r.site.views.view) 0
+
+-- the labels that wait, after the oldest of an epoch was shown, taken or left there
+abbrev pub inbox_after : Answer → ℕ → List (List Label) → List (List Label)
+inbox_after (ans.Shown l) epoch links = without_front links epoch
+inbox_after (ans.Took l) epoch links = without_front links epoch
+inbox_after r epoch links = links
 
 -- what the answer makes of a client
 abbrev pub told : Answer → Client → Client

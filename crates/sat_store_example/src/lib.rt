@@ -1,12 +1,17 @@
 //! A store that embeds the machines: what a builder writes around a site, a serializer and a client, and what each call asks for.
-//! `docs/EMBEDDING.md` of the repository says which call answers which need; the test runs a store of three sites.
+//! `docs/EMBEDDING.md` of the repository says which call answers which need; the tests run a store of three sites.
 #![tactic(auto)]
 
+mod duty;
 mod fault;
+mod links;
+mod offer;
 mod relay;
 mod replica;
 
+pub use duty::{Duty, Sending};
 pub use fault::{RelayFault, ReplicaFault};
+pub use offer::Offer;
 pub use relay::Relay;
 pub use replica::Replica;
 

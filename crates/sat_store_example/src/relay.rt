@@ -1,14 +1,15 @@
 //! A relay: the process that runs one serializer of the tree.
-ghost use Rattle.std.specs.Prelude.{◌≡◌, ◌<◌, ◌&&◌, true, false, length, slice_get, IfOk, OnOk, OnErr, IsErrOf, IsOkUnless};
+ghost use Rattle.std.specs.Prelude.{◌≡◌, ◌<◌, ◌&&◌, true, false, length, slice_get, Some, None, IfOk, IfSome, OnOk, OnErr, IsErrOf, IsOkUnless, MatchOption};
 ghost use Rattle.sat_sites.specs.Interested.{IsLabelOf};
 ghost use Rattle.sat_tree.specs.Cut.{is_edge, IsNode};
-ghost use Rattle.sat_serial.specs.Outboxes.{after_handle, after_ship, fresh, outbox};
+ghost use Rattle.sat_serial.specs.Outboxes.{after_handle, fresh};
 ghost use Rattle.sat_serial.specs.Routes.{leads, routes, IsNeighbour};
 ghost use Rattle.sat_label.specs.declared.node.NodeId.TheVariants.{Serializer as SerializerNode};
 ghost use Rattle.sat_store_example.specs.declared.fault.RelayFault.TheVariants as fault;
-ghost use Rattle.sat_store_example.specs.Relays.{IsRelay, arrives, is_kind_of, is_label_of, is_neighbour, is_node};
+ghost use Rattle.sat_store_example.specs.Relays.{IsRelay, arrives, is_kind_of, is_label_of, is_neighbour, is_node, shipped, waiting_for};
+ghost use Rattle.sat_store_example.specs.Waiting.{is_it};
 
-use crate::RelayFault;
+use crate::{Offer, RelayFault};
 use sat_label::{Kind, Label, NodeId, Nodes};
 use sat_serial::{HandleFault, Serializer};
 use sat_sites::Interest;
@@ -135,18 +136,51 @@ impl Relay {
         }
     }
 
-    /// A label out: the oldest one for a node, taken from its outbox; None where none waits, or the node is no neighbour. It takes no
-    /// memory, and works after a kill too.
-    pub fn ship(&mut self, to: NodeId) -> Option<Label>
-        ensures none { is_neighbour self.old to ≡ false → result ≡ Rattle.std.specs.Prelude.None }
-        ensures stays { is_neighbour self.old to ≡ false → self.new ≡ self.old }
-        ensures label { is_neighbour self.old to ≡ true → result ≡ slice_get (outbox self.old.serializer to) 0 }
-        ensures after { is_neighbour self.old to ≡ true → self.new ≡ record self.old { serializer = after_ship self.old.serializer to } }
+    // The oldest label for a node, None where none waits, or the node is no neighbour. It stays where it is.
+    fn front(&self, to: NodeId) -> Option<Label>
+        ensures { result ≡ slice_get (waiting_for self.now to) 0 }
     {
         if !self.is_neighbour(to) {
             return None;
         }
-        self.serializer.ship(to)
+        self.serializer.front(to)
+    }
+
+    /// A label out: the oldest one for a node, which stays in its outbox until `taken` is told of it; None where none waits, or the
+    /// node is no neighbour. It takes no memory, and works after a kill too.
+    pub fn offer(&self, to: NodeId) -> Option<Offer<NodeId>>
+        ensures label { MatchOption result (slice_get (waiting_for self.now to) 0 ≡ None) (λ offer. slice_get (waiting_for self.now to) 0 ≡ Some offer.label) }
+        ensures link { IfSome result (λ offer. offer.link ≡ to) }
+    {
+        let label = self.front(to)?;
+        Some(Offer { label, link: to })
+    }
+
+    /// The other end has said that it took what was offered: the label leaves its outbox. Where another one is the oldest there, since
+    /// this was told twice, nothing changes, and the answer is false. It takes no memory, and works after a kill too.
+    pub fn taken(&mut self, offer: Offer<NodeId>) -> bool
+        ensures stands { result ≡ is_it offer.label (slice_get (waiting_for self.old offer.link) 0) }
+        ensures taken { result ≡ true → self.new ≡ shipped self.old offer.link }
+        ensures stays { result ≡ false → self.new ≡ self.old }
+    {
+        let Some(front) = self.front(offer.link) else {
+            return false;
+        };
+        if !front.is_same(&offer.label) {
+            return false;
+        }
+        self.ship(offer.link);
+        true
+    }
+
+    // Takes the oldest label for a node out of its outbox, if it is a neighbour.
+    fn ship(&mut self, to: NodeId)
+        ensures { self.new ≡ shipped self.old to }
+    {
+        if !self.is_neighbour(to) {
+            return;
+        }
+        let _ = self.serializer.ship(to);
     }
 
     /// Failure: the relay hands nothing on from now on. A second kill changes nothing. It takes no memory.

@@ -1,9 +1,9 @@
 //! A replica: the process that runs one site of the store.
-ghost use Rattle.std.specs.Prelude.{ℕ, ◌≡◌, ◌++◌, ◌∷◌, [], ◌<◌, length, slice_get, Some, None, IfOk, IsOk, OnOk, OnErr, IsErrOf, IsOkUnless, MatchOption, MatchResult, true, false, option_copied};
-ghost use Rattle.std.specs.Option.{option_to_list};
+ghost use Rattle.std.specs.Prelude.{ℕ, ◌≡◌, ◌∷◌, [], ◌<◌, slice_get, Some, None, IfOk, IfSome, IsOk, OnOk, OnErr, IsErrOf, IsOkUnless, MatchOption, true, false, option_copied};
 ghost use Rattle.sat_act.specs.Deployed.{Deployed};
 ghost use Rattle.sat_machine.specs.State.{SiteState, fresh_site};
-ghost use Rattle.sat_site.specs.Inputs.{fits_in, takes_none};
+ghost use Rattle.sat_proxy.specs.Proxy.{front_at};
+ghost use Rattle.sat_site.specs.Inputs.{fits_in, is_front_here, takes_none};
 ghost use Rattle.sat_site.specs.Seen.{IsSite};
 ghost use Rattle.sat_label.specs.declared.items.Items.TheVariants.{One};
 ghost use Rattle.sat_label.specs.declared.label.Label.{Label as LabelSeen};
@@ -12,26 +12,31 @@ ghost use Rattle.sat_site.specs.SiteSteps.{site_after, site_answers, site_beat, 
 ghost use Rattle.sat_site.specs.Stands.{StandsSite};
 ghost use Rattle.sat_site.specs.declared.input.SiteInput.TheVariants as input;
 ghost use Rattle.sat_store_example.specs.declared.fault.ReplicaFault.TheVariants as fault;
-ghost use Rattle.sat_store_example.specs.Replicas.{attach_fault, call_fault, hand_fault, has_lane, inbox_after, joined, told, with_site, MayTell, ReadsNewer};
+ghost use Rattle.sat_store_example.specs.Duties.{duty_input, sending_input};
+ghost use Rattle.sat_store_example.specs.Replicas.{arrive_fault, attach_fault, call_fault, hand_fault, has_lane, inbox_after, joined, next_label, posted, told, with_site, MayTell, ReadsNewer};
+ghost use Rattle.sat_store_example.specs.Waiting.{is_it, link_of, no_links, with_label, without_front};
+ghost use Rattle.sat_store_example.specs.declared.links.TheConstants.{LINKS};
 
-use crate::ReplicaFault;
+use crate::links::{LINKS, Links};
+use crate::{Duty, Offer, ReplicaFault, Sending};
 use sat_act::{Answer, Deployment};
 use sat_bulk::Payload;
 use sat_client::Client;
-use sat_label::{Items, Label, Value, Values};
-use sat_queue::Queue;
+use sat_label::{Items, Kind, Label, Value, Values};
 use sat_site::{Site, SiteInput, SiteOutput};
 use std::alloc::{AllocError, Global};
 use std::marker::Model;
 
-/// One site, in a process of its own, with its number and the labels that came over its link and that it has not taken yet, the
-/// oldest first. Contracts see these.
+/// One site, in a process of its own, with its number, and with two links in the tree of each epoch, to its relay there and from it:
+/// the labels that it sent and that the relay has not taken yet, and the labels that came and that it has not taken yet. Contracts
+/// see these.
 #[derive(Drop)]
 pub struct Replica {
     alloc: Global,
     number: u16,
     site: Site,
-    inbox: Queue<Label>,
+    inbox: Links,
+    outbox: Links,
 }
 
 impl Model for Replica {
@@ -39,7 +44,7 @@ impl Model for Replica {
 
     ghost Value = { ReplicaSeen };
 
-    ghost view = { λ r. record { number = r.number; site = r.site; inbox = r.inbox.members } };
+    ghost view = { λ r. record { number = r.number; site = r.site; inbox = r.inbox; outbox = r.outbox } };
 }
 
 // Tells a client what its call was answered.
@@ -65,26 +70,59 @@ fn seat(client: &mut Client, site: u16, answer: &Answer)
     }
 }
 
+// Puts the label that a site would send, if there is one, onto the link of its epoch.
+#[tactic(auto, using(crate::proofs::Views::emission_is_small))]
+fn post(site: &Site, given: &SiteInput, outbox: &mut Links) -> Result<(), AllocError>
+    ensures ok { OnOk result (outbox.new ≡ posted outbox.old site.now.views.emission (site_sends site.now given.now)) }
+    ensures err { OnErr result (outbox.new ≡ outbox.old) }
+{
+    let Some(label) = site.sends(given) else {
+        return Ok(());
+    };
+    let view = site.view();
+    outbox.add(view.emission, label)
+}
+
+// Takes the oldest label off a link, where the answer says that it was shown or taken.
+fn clear(inbox: &mut Links, epoch: u16, answer: &Answer)
+    requires { epoch < LINKS }
+    ensures { inbox.new ≡ inbox_after answer.now epoch inbox.old }
+{
+    match answer {
+        Answer::Shown(_) => inbox.take(epoch),
+        Answer::Took(_) => inbox.take(epoch),
+        _ => {}
+    }
+}
+
 impl Replica {
     /// A new site: the one with this number of the deployment, at which nothing has happened.
     pub fn new(alloc: Global, d: &Deployment, number: u16) -> Result<Replica, AllocError>
         requires { number < d.now.sites }
         ensures number { IfOk result (λ made. made.number ≡ number) }
         ensures site { IfOk result (λ made. StandsSite d.now number made.site (fresh_site number)) }
-        ensures inbox { IfOk result (λ made. made.inbox ≡ []) }
+        ensures inbox { IfOk result (λ made. made.inbox ≡ no_links) }
+        ensures outbox { IfOk result (λ made. made.outbox ≡ no_links) }
     {
         let site = Site::new(alloc, d, number)?;
         Ok(Replica {
             alloc,
             number,
             site,
-            inbox: Queue::new(alloc),
+            inbox: Links::new(alloc)?,
+            outbox: Links::new(alloc)?,
         })
     }
 
-    /// Any act at the site that is no client's: a tick of a gear, a gather, a payload or a beat that came, a stamp, a close, a fall,
-    /// an advance. What it is handed is tested first, since a message may say anything.
-    pub fn hand(&mut self, given: SiteInput) -> Result<SiteOutput, ReplicaFault>
+    /// The site, for what it tells of itself: its view and how much waits there, what it made for others, what it promised.
+    pub fn site(&self) -> &Site
+        ensures { result.now ≡ self.now.site }
+    {
+        &self.site
+    }
+
+    // Lets the site do an act. What it is handed is tested first, since a message may say anything.
+    fn step(&mut self, given: SiteInput) -> Result<SiteOutput, ReplicaFault>
         ensures fault { MatchOption (hand_fault self.old given) (IsOkUnless result fault.Memory) (λ why. IsErrOf result why) }
         ensures answer { IfOk result (λ out. out.answer ≡ site_answers self.old.site given) }
         ensures sent { IfOk result (λ out. out.sent ≡ site_sends self.old.site given) }
@@ -103,6 +141,21 @@ impl Replica {
         }
     }
 
+    /// A duty of the site: a tick of a gear, a gather, a payload or a beat that came, a beat for another site, a stamp, a fall, an
+    /// advance. What came is tested first, since a message may say anything. A duty sends no label.
+    #[tactic(auto, using(crate::proofs::Duties::duty_sends))]
+    pub fn hand(&mut self, duty: Duty) -> Result<SiteOutput, ReplicaFault>
+        ensures fault { MatchOption (hand_fault self.old (duty_input duty)) (IsOkUnless result fault.Memory) (λ why. IsErrOf result why) }
+        ensures answer { IfOk result (λ out. out.answer ≡ site_answers self.old.site (duty_input duty)) }
+        ensures sent { IfOk result (λ out. out.sent ≡ None) }
+        ensures beat { IfOk result (λ out. out.beat ≡ site_beat self.old.site (duty_input duty)) }
+        ensures after { OnOk result (self.new ≡ with_site self.old (site_after self.old.site (duty_input duty))) }
+        ensures spare { hand_fault self.old (duty_input duty) ≡ None → takes_none (duty_input duty) ≡ true → IsOk result }
+        ensures err { OnErr result (self.new ≡ self.old) }
+    {
+        self.step(duty.input())
+    }
+
     // A call of a client that is seated here.
     fn call(&mut self, client: &Client, given: SiteInput) -> Result<Answer, ReplicaFault>
         ensures fault { MatchOption (call_fault self.old client.now given) (IsOkUnless result fault.Memory) (λ why. IsErrOf result why) }
@@ -114,7 +167,7 @@ impl Replica {
         if client.seat != Some(self.number) {
             return Err(ReplicaFault::Seat);
         }
-        match self.hand(given) {
+        match self.step(given) {
             Ok(out) => Ok(out.answer),
             Err(fault) => Err(fault),
         }
@@ -222,71 +275,118 @@ impl Replica {
         if client.seat.is_some() {
             return Err(ReplicaFault::Seat);
         }
-        let out = self.hand(SiteInput::Attach {
+        let out = self.step(SiteInput::Attach {
             carried: client.carried,
         })?;
         seat(client, self.number, &out.answer);
         Ok(out.answer)
     }
 
-    /// A label out: an Emit, a Pulse or a Close, whose label goes onto the link to the site's relay, if it is for some site. The room on
-    /// the link is made first, since a label that has left the site must not be lost.
-    pub fn send(
-        &mut self,
-        given: SiteInput,
-        link: &mut Queue<Label>,
-    ) -> Result<Answer, ReplicaFault>
-        ensures fault { MatchOption (hand_fault self.old given) (IsOkUnless result fault.Memory) (λ why. IsErrOf result why) }
-        ensures answer { IfOk result (λ answer. answer ≡ site_answers self.old.site given) }
-        ensures link { OnOk result (link.new.members ≡ link.old.members ++ option_to_list (site_sends self.old.site given)) }
-        ensures after { OnOk result (self.new ≡ with_site self.old (site_after self.old.site given)) }
+    /// A label out: an Emit, a Pulse or a Close, whose label, if it is for some site, waits on the link of its epoch until the relay has
+    /// it. It is put there first, since a label that has left the site must not be lost. For want of memory nothing has changed.
+    #[tactic(auto, using(crate::proofs::Duties::sending_fits, crate::proofs::Duties::sending_spares))]
+    pub fn send(&mut self, sending: Sending) -> Result<Answer, AllocError>
+        ensures answer { IfOk result (λ answer. answer ≡ site_answers self.old.site (sending_input sending)) }
+        ensures after { OnOk result (self.new ≡ record self.old { site = site_after self.old.site (sending_input sending); outbox = posted self.old.outbox self.old.site.views.emission (site_sends self.old.site (sending_input sending)) }) }
         ensures err { OnErr result (self.new ≡ self.old) }
-        ensures still { OnErr result (link.new.members ≡ link.old.members) }
     {
-        if !self.site.fits(&given) {
-            return Err(ReplicaFault::Unfit);
-        }
-        link.reserve(1)?;
+        let given = sending.input();
+        post(&self.site, &given, &mut self.outbox)?;
         match self.site.step(given) {
-            Ok(out) => {
-                if let Some(label) = out.sent {
-                    link.push(label);
-                }
-                Ok(out.answer)
-            }
-            Err(_) => Err(ReplicaFault::Memory),
+            Ok(out) => Ok(out.answer),
+            // A sending takes no memory.
+            Err(_) => unreachable!(),
         }
     }
 
-    /// A label in: it waits behind those that came before it. For want of memory nothing has changed.
-    pub fn arrive(&mut self, label: Label) -> Result<(), ReplicaFault>
-        ensures ok { OnOk result (self.new ≡ record self.old { inbox = self.old.inbox ++ label ∷ [] }) }
-        ensures memory { MatchResult result (λ _. Unit {0}) (λ why. why ≡ fault.Memory) }
+    /// A label out, on the link to the relay in the tree of an epoch: the oldest one, which stays there until `taken` is told of it;
+    /// None where none waits. It takes no memory.
+    pub fn offer(&self, epoch: u16) -> Option<Offer<u16>>
+        ensures label { MatchOption result (slice_get (link_of self.now.outbox epoch) 0 ≡ None) (λ offer. slice_get (link_of self.now.outbox epoch) 0 ≡ Some offer.label) }
+        ensures link { IfSome result (λ offer. offer.link ≡ epoch) }
+    {
+        let label = self.outbox.front(epoch)?;
+        Some(Offer { label, link: epoch })
+    }
+
+    /// The relay has said that it took what was offered: the label leaves its link. Where another one is the oldest there, since this
+    /// was told twice, nothing changes, and the answer is false. It takes no memory.
+    pub fn taken(&mut self, offer: Offer<u16>) -> bool
+        ensures stands { result ≡ is_it offer.label (slice_get (link_of self.old.outbox offer.link) 0) }
+        ensures taken { result ≡ true → self.new ≡ record self.old { outbox = without_front self.old.outbox offer.link } }
+        ensures stays { result ≡ false → self.new ≡ self.old }
+    {
+        let Some(front) = self.outbox.front(offer.link) else {
+            return false;
+        };
+        if !front.is_same(&offer.label) {
+            return false;
+        }
+        self.outbox.take(offer.link);
+        true
+    }
+
+    // Whether the site may be handed a label as the front of the link in the tree of its view.
+    #[tactic(auto, using(crate::proofs::Fronts::front_fits))]
+    fn may_front(&self, label: Label) -> bool
+        ensures { result ≡ is_front_here self.now.site.shape self.now.site.views.view label }
+    {
+        self.site.fits(&SiteInput::Turn { front: Some(label) })
+    }
+
+    // Whether a label may wait on the link of an epoch: another site sends it, and where it is a close, it is one of that epoch.
+    fn is_sent(&self, epoch: u16, label: Label) -> bool
+        ensures { result ≡ is_front_here self.now.site.shape epoch label }
+    {
+        match label.kind {
+            Kind::Close(closed) => {
+                let pulse = Label {
+                    point: label.point,
+                    kind: Kind::Pulse,
+                };
+                closed == epoch && self.may_front(pulse)
+            }
+            Kind::Update(_) => self.may_front(label),
+            Kind::Move(_) => self.may_front(label),
+            Kind::Pulse => self.may_front(label),
+        }
+    }
+
+    /// A label in, by the tree of an epoch: it waits behind those that came before it on that link. `Unfit` says that there is no such
+    /// epoch, or that no other site sends such a label there. For want of memory nothing has changed.
+    pub fn arrive(&mut self, epoch: u16, label: Label) -> Result<(), ReplicaFault>
+        ensures fault { MatchOption (arrive_fault self.old epoch label) (IsOkUnless result fault.Memory) (λ why. IsErrOf result why) }
+        ensures ok { OnOk result (self.new ≡ record self.old { inbox = with_label self.old.inbox epoch label }) }
         ensures err { OnErr result (self.new ≡ self.old) }
     {
-        self.inbox.reserve(1)?;
-        self.inbox.push(label);
+        if epoch as usize >= LINKS || !self.is_sent(epoch, label) {
+            return Err(ReplicaFault::Unfit);
+        }
+        self.inbox.add(epoch, label)?;
         Ok(())
     }
 
-    /// Shows the oldest label that waits, once its payload is there; it is taken out only then. It takes no memory.
+    // The oldest label that waits in the tree of the site's view.
+    fn next(&self) -> Option<Label>
+        ensures { result ≡ next_label self.now }
+    {
+        let view = self.site.view();
+        self.inbox.front(view.view)
+    }
+
+    /// Shows the oldest label that waits in the tree of the site's view, once its payload is there; it is taken off its link only then.
+    /// It takes no memory.
+    #[tactic(auto, using(crate::proofs::Views::view_is_small))]
     pub fn show(&mut self) -> Result<Answer, ReplicaFault>
-        ensures fault { MatchOption (hand_fault self.old (input.Turn (slice_get self.old.inbox 0))) (IsOk result) (λ why. IsErrOf result why) }
-        ensures answer { IfOk result (λ answer. answer ≡ site_answers self.old.site (input.Turn (slice_get self.old.inbox 0))) }
-        ensures after { IfOk result (λ answer. self.new ≡ record self.old { site = site_after self.old.site (input.Turn (slice_get self.old.inbox 0)); inbox = inbox_after answer self.old.inbox }) }
+        ensures fault { MatchOption (hand_fault self.old (input.Turn (next_label self.old))) (IsOk result) (λ why. IsErrOf result why) }
+        ensures answer { IfOk result (λ answer. answer ≡ site_answers self.old.site (input.Turn (next_label self.old))) }
+        ensures after { IfOk result (λ answer. self.new ≡ record self.old { site = site_after self.old.site (input.Turn (next_label self.old)); inbox = inbox_after answer self.old.site.views.view self.old.inbox }) }
         ensures err { OnErr result (self.new ≡ self.old) }
     {
-        let front = self.inbox.front();
-        let out = self.hand(SiteInput::Turn { front })?;
-        match out.answer {
-            Answer::Shown(_) => {
-                self.inbox.take();
-            }
-            Answer::Took(_) => {
-                self.inbox.take();
-            }
-            _ => {}
-        }
+        let view = self.site.view();
+        let front = self.next();
+        let out = self.step(SiteInput::Turn { front })?;
+        clear(&mut self.inbox, view.view, &out.answer);
         Ok(out.answer)
     }
 
@@ -295,6 +395,18 @@ impl Replica {
         ensures { result ≡ has_lane self.now.site gear to }
     {
         self.site.fits(&SiteInput::Tick { gear, ts: 0 }) && self.site.fits(&SiteInput::Beat { to })
+    }
+
+    /// The payload to ask another site for next, of those that a gear of it makes for this one: the least number that did not come
+    /// yet. None where there is no such gear or site. It takes no memory.
+    pub fn wanted(&self, from: u16, gear: u16) -> Option<u64>
+        ensures none { has_lane self.now.site gear from ≡ false → result ≡ None }
+        ensures number { has_lane self.now.site gear from ≡ true → result ≡ Some (front_at self.now.site.proxy from gear) }
+    {
+        if !self.has_lane(gear, from) {
+            return None;
+        }
+        Some(self.site.front(from, gear))
     }
 
     /// A payload out: the one with this number of those that a gear made for another site, None where there is none yet, or no such

@@ -1,7 +1,7 @@
 -- The spelling of a header's line is read as what it says.
 use Rattle.std.proofs.Common.{◌≡◌, ℕ, ◌<◌, ◌≤◌, ◌^◌, true, false, eqb, ltb, List, [], ◌∷◌, length, map, filter, Some, None, Ok, sym, ap, ◌∙◌, refl, subst, arith}
 use Rattle.std.specs.Str.{bytes_eq}
-use Rattle.std.specs.Prelude.{codes}
+use Rattle.std.specs.Prelude.{Bool, codes}
 use Rattle.std.specs.Fmt.{decimal}
 use Rattle.std.specs.List.{list_all, join_with_byte}
 use Rattle.std.proofs.lemmas.Bool.{and_from, and_parts, lt-ltb, ltb-true}
@@ -112,7 +112,7 @@ unfolding gears_line
 gears_reads n some few = ap (of_count parsed.Gears) (counted_reads (codes "gears") MOST_GEARS n refl some few (omega arith))
 
 -- the lines of the header that come any number of times
-is_header : Form → Bool
+abbrev is_header : Form → Bool
 is_header form.Item = true
 is_header form.Client = true
 is_header form.PlanStamp = true
@@ -121,11 +121,11 @@ is_header _ = false
 
 -- each dialect has the lines of the header
 any_header : (dialect : Dialect) (f : Form) → is_header f ≡ true → has_form dialect f ≡ true
+unfolding is_live
 any_header dialect.Run f h = refl
 any_header dialect.Live f h = each f h
   where
     each : (f : Form) → is_header f ≡ true → is_live f ≡ true
-    unfolding is_live
     each form.Item h = refl
     each form.Client h = refl
     each form.PlanStamp h = refl

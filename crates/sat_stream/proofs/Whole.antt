@@ -128,8 +128,16 @@ few_lines dialect.Run format n few = go (eqb format 1) few
     go : (b : Bool) → n ≤ 1045 + (cond b (format_limits 1) (format_limits 2)).items + (cond b (format_limits 1) (format_limits 2)).acts → cond b LINE_BYTES LONG_LINE_BYTES * n ≤ cond b LINE_BYTES LONG_LINE_BYTES * cond b MOST_LINES MOST_LONG_LINES
     go true few = omega (arith, few)
     go false few = omega (arith, few)
-few_lines dialect.Chain format n few = few_lines dialect.Run format n few
-few_lines dialect.Lasting format n few = few_lines dialect.Run format n few
+few_lines dialect.Chain format n few = go (eqb format 1) few
+  where
+    go : (b : Bool) → n ≤ 1045 + (cond b (format_limits 1) (format_limits 2)).items + (cond b (format_limits 1) (format_limits 2)).acts → cond b LINE_BYTES LONG_LINE_BYTES * n ≤ cond b LINE_BYTES LONG_LINE_BYTES * cond b MOST_LINES MOST_LONG_LINES
+    go true few = omega (arith, few)
+    go false few = omega (arith, few)
+few_lines dialect.Lasting format n few = go (eqb format 1) few
+  where
+    go : (b : Bool) → n ≤ 1045 + (cond b (format_limits 1) (format_limits 2)).items + (cond b (format_limits 1) (format_limits 2)).acts → cond b LINE_BYTES LONG_LINE_BYTES * n ≤ cond b LINE_BYTES LONG_LINE_BYTES * cond b MOST_LINES MOST_LONG_LINES
+    go true few = omega (arith, few)
+    go false few = omega (arith, few)
 few_lines dialect.Audit format n few = go (eqb format 1) few
   where
     go : (b : Bool) → n ≤ 1045 + (cond b (format_limits 1) (format_limits 2)).items + AUDIT_ACTS → cond b LINE_BYTES LONG_LINE_BYTES * n ≤ cond b LINE_BYTES LONG_LINE_BYTES * cond b MOST_LINES MOST_LONG_LINES

@@ -32,14 +32,14 @@ none-told true true n (inr e) = go (n == 0) e
     go true e = refl
     go false e = absurd (cc)
 
-none-lacks : (columns : List (List ℕ)) (unshown : List SiteSet) (made k j number : ℕ) (e : Tale) →
-    ((c : ℕ) → client_of e ≡ Some c → (nat_lt j (get_or (get_or columns c []) made 0) ≡ false) ⊎ (is_open unshown k number e ≡ false)) → table_lack columns unshown made k j number e ≡ None
-none-lacks columns unshown made k j number (Wrote c xs b) w = none-told (nat_lt j (get_or (get_or columns c []) made 0)) (bit (get_or unshown (number - 1) no_sites).bits k) number (w c refl)
-none-lacks columns unshown made k j number (ReadSome c x p) w = none-told (nat_lt j (get_or (get_or columns c []) made 0)) (bit (get_or unshown (number - 1) no_sites).bits k) number (w c refl)
-none-lacks columns unshown made k j number (Moved c b) w = refl
-none-lacks columns unshown made k j number (ReadNone c x) w = refl
-none-lacks columns unshown made k j number (Shown i p) w = refl
-none-lacks columns unshown made k j number Other w = refl
+none-lacks : (rows : List (List ℕ)) (unshown : List SiteSet) (made k j number : ℕ) (e : Tale) →
+    ((c : ℕ) → client_of e ≡ Some c → (nat_lt j (get_or (get_or rows made []) c 0) ≡ false) ⊎ (is_open unshown k number e ≡ false)) → table_lack rows unshown made k j number e ≡ None
+none-lacks rows unshown made k j number (Wrote c xs b) w = none-told (nat_lt j (get_or (get_or rows made []) c 0)) (bit (get_or unshown (number - 1) no_sites).bits k) number (w c refl)
+none-lacks rows unshown made k j number (ReadSome c x p) w = none-told (nat_lt j (get_or (get_or rows made []) c 0)) (bit (get_or unshown (number - 1) no_sites).bits k) number (w c refl)
+none-lacks rows unshown made k j number (Moved c b) w = refl
+none-lacks rows unshown made k j number (ReadNone c x) w = refl
+none-lacks rows unshown made k j number (Shown i p) w = refl
+none-lacks rows unshown made k j number Other w = refl
 
 -- entry j lies below a place, or past the count
 pub past-or-below : (xs : List Tale) (j to at : ℕ) → j < length xs → IsPast xs to at → (nat_lt j to ≡ false) ⊎ (j < at)
@@ -50,16 +50,16 @@ past-or-below xs j to at low past = go (cases_lt j to) (cases_lt j at)
     go (inl l) (inl m) = inr m
     go (inl l) (inr m) = absurd (let b : at < to = omega arith in let p : length xs ≤ at = past b in omega arith)
 
-pub clear-scan : (xs : List Tale) (numbers : List ℕ) (columns : List (List ℕ)) (unshown : List SiteSet) (made k : ℕ) (places : List ℕ) → IsDone xs numbers unshown k places →
-    ((c : ℕ) → c < length places → IsPast xs (get_or (get_or columns c []) made 0) (get_or places c 0)) → scan (table_lacks columns unshown numbers xs made k) (length xs) ≡ None
-clear-scan xs numbers columns unshown made k places done past =
-    scan-none (table_lacks columns unshown numbers xs made k) (length xs) (λ j low. none-lacks columns unshown made k j (get_or numbers j 0) (get_or xs j Other) (λ c o. each j c low o))
+pub clear-scan : (xs : List Tale) (numbers : List ℕ) (rows : List (List ℕ)) (unshown : List SiteSet) (made k : ℕ) (places : List ℕ) → IsDone xs numbers unshown k places →
+    ((c : ℕ) → c < length places → IsPast xs (get_or (get_or rows made []) c 0) (get_or places c 0)) → scan (table_lacks rows unshown numbers xs made k) (length xs) ≡ None
+clear-scan xs numbers rows unshown made k places done past =
+    scan-none (table_lacks rows unshown numbers xs made k) (length xs) (λ j low. none-lacks rows unshown made k j (get_or numbers j 0) (get_or xs j Other) (λ c o. each j c low o))
   where
     each : (j c : ℕ) → j < length xs → client_of (get_or xs j Other) ≡ Some c →
-        (nat_lt j (get_or (get_or columns c []) made 0) ≡ false) ⊎ (is_open unshown k (get_or numbers j 0) (get_or xs j Other) ≡ false)
+        (nat_lt j (get_or (get_or rows made []) c 0) ≡ false) ⊎ (is_open unshown k (get_or numbers j 0) (get_or xs j Other) ≡ false)
     each j c low o =
         let few : c < length places = done.clients j c low o in
-        elim (past-or-below xs j (get_or (get_or columns c []) made 0) (get_or places c 0) low (past c few)) [
+        elim (past-or-below xs j (get_or (get_or rows made []) c 0) (get_or places c 0) low (past c few)) [
           | inl e ↦ inl e
           | inr l ↦ inr (done.closed c few j (omega arith) l o)
         ]

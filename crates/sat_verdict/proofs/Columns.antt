@@ -1,9 +1,10 @@
 -- One entry more, in the tables of what is known of one client.
-use Rattle.std.specs.Prelude.{◌≡◌, ◌≢◌, ◌⊎◌, ◌<◌, ◌≤◌, ◌+◌, ◌-◌, ℕ, suc, Bool, true, false, List, [], ◌∷◌, ◌++◌, length, reverse, map, drop, get_or, Option, Some, None, refl, ◌==◌, ◌&&◌, nat_lt, nat_le, max, if◌then◌else◌}
+use Rattle.std.specs.Prelude.{◌≡◌, ◌≢◌, ◌⊎◌, ◌<◌, ◌≤◌, ◌+◌, ◌-◌, ℕ, zero, suc, Bool, true, false, List, [], ◌∷◌, ◌++◌, length, reverse, map, drop, set, get_or, Option, Some, None, refl, ◌==◌, ◌&&◌, nat_lt, nat_le, max, if◌then◌else◌}
 use Rattle.std.proofs.Common.{sym, subst, arith, inl, inr, ap, ◌∙◌}
 use Rattle.std.proofs.lemmas.Bool.Decides.{nat_tests}
 use Rattle.std.proofs.Common.{length-append}
-use Rattle.std.proofs.lemmas.List.{get_or-map, get_or_default}
+use Rattle.std.proofs.lemmas.List.{get_or-map, get_or_default, get_or-set_same, get_or-set_other, length-map, length-set, map-append}
+use Rattle.std.proofs.lemmas.Bool.{cases_eq}
 use Rattle.std.proofs.Math.ListN.{get_or-append}
 use Rattle.std.proofs.Math.Seq.{get_or-append_seam}
 use Rattle.sat_label.specs.declared.point.Point.{Point}
@@ -13,8 +14,8 @@ use Rattle.sat_verdict.specs.Entries.{client_of, is_of}
 use Rattle.sat_verdict.specs.Causes.{Client, Maker}
 use Rattle.sat_verdict.specs.Counts.{known, read_count, maker_of, next_count}
 use Rattle.sat_verdict.specs.Found.{made_number}
-use Rattle.sat_verdict.specs.Tables.{number_or, number_in, told, IsUnique, HasClients, value_at, read_of, KnowsNow, IsColumnTo}
-use Rattle.sat_verdict.proofs.Counted.{number_same, yes-is_of, is_of-yes, maker-client, own-count}
+use Rattle.sat_verdict.specs.Tables.{number_or, number_in, told, column, row_before, IsUnique, HasClients, value_at, read_of, AreBlankTo, AreKept, AreRows, IsBlank, IsRaisedBy, KnowsNow, IsColumnTo, Learns, Raises}
+use Rattle.sat_verdict.proofs.Counted.{same_number, some_is, yes-is_of, is_of-yes, maker-client, own-count}
 use Rattle.sat_verdict.proofs.Histories.{told-next, told-length, told-split, made-stays, made-late, made-number-bound, unique-part, unmade-none, WasMade, was-made, StandsAt, stands-told}
 
 -- ---- what the maker knew of a point that an entry reads
@@ -128,14 +129,6 @@ column-next xs d i v counts size column new j c l o = go (cases j i l)
         ap (λ (n : ℕ). get_or (counts ++ v ∷ []) n 0) (a ∙ sym size) ∙ (get_or-append_seam counts v [] 0 ∙
         (new c (subst (λ (n : ℕ). client_of (get_or xs n Other) ≡ Some c) a o) ∙ ap (λ (n : ℕ). known (told xs n) (Client c) d) (sym a)))
 
-pub own-value : (h : List Tale) (c d k place : ℕ) → length h ≡ place → k ≡ d → k ≡ c → place ≡ known h (Client c) d
-own-value h c d k place size e f = sym size ∙ sym (own-count h c d (number_same d c (sym e ∙ f)))
-
-pub loop-start : (xs : List Tale) (d clients : ℕ) (now counts : List ℕ) → length now ≡ clients → ((k : ℕ) → get_or now k 0 ≡ 0) → length counts ≡ 0 →
-    (length now ≡ clients) × (length counts ≡ 0) × KnowsNow (told xs 0) d now × IsColumnTo xs d counts 0
-unfolding known
-loop-start xs d clients now counts size zeros none = (size, none, λ c l away. zeros c, λ j c l o. absurd (omega arith))
-
 -- one turn of the loop
 pub loop-next : (xs : List Tale) (d i clients : ℕ) (e : Tale) (numbers counts seen counts' old seen_now new : List ℕ) (o : Option ℕ) (number v b : ℕ) →
     i < length xs → e ≡ get_or xs i e → IsUnique (reverse xs) → HasClients clients xs → numbers ≡ map (number_in (reverse xs)) xs → number ≡ get_or numbers i 0 →
@@ -181,3 +174,100 @@ loop-next xs d i clients e numbers counts seen counts' old seen_now new o number
         let low : c < clients = below i c l q in
         before (told xs i) c len (subst (λ (ys : List ℕ). KnowsNow (told xs i) d ys) (sym seen_now_is) inv.2) (ap client_of here ∙ q)
         (subst (λ (ys : List ℕ). c < length ys) (sym seen_now_is) (subst (λ (n : ℕ). c < n) (sym inv.0) low))
+
+-- ---- rows of counts, by their columns
+
+pub column-at : (rows : List (List ℕ)) (d j : ℕ) → get_or (column rows d) j 0 ≡ get_or (get_or rows j []) d 0
+column-at [] d j = refl
+column-at (row ∷ rows) d zero = refl
+column-at (row ∷ rows) d (suc j) = column-at rows d j
+
+column-length : (rows : List (List ℕ)) (d : ℕ) → length (column rows d) ≡ length rows
+column-length rows d = length-map rows (λ (row : List ℕ). get_or row d 0)
+
+column-more : (rows : List (List ℕ)) (row : List ℕ) (d : ℕ) → column (rows ++ row ∷ []) d ≡ column rows d ++ get_or row d 0 ∷ []
+column-more rows row d = map-append (λ (r : List ℕ). get_or r d 0) rows (row ∷ [])
+
+-- what the lists say after the first n entries
+pub record AreKnown (xs : List Tale) (clients n : ℕ) (now rows : List (List ℕ)) : Type 0 where
+  pub clients_size : length now ≡ clients
+  pub sizes : (c : ℕ) → c < clients → length (get_or now c []) ≡ clients
+  pub size : length rows ≡ n
+  pub knows : (d : ℕ) → d < clients → KnowsNow (told xs n) d (column now d)
+  pub columns : (d : ℕ) → d < clients → IsColumnTo xs d (column rows d) n
+
+pub known-start : (xs : List Tale) (clients : ℕ) (now rows : List (List ℕ)) → AreBlankTo clients clients now → length rows ≡ 0 → AreKnown xs clients 0 now rows
+unfolding known
+known-start xs clients now rows blank none = record {
+  clients_size = blank.0;
+  sizes = λ c l. (blank.1 c l).0;
+  size = none;
+  knows = λ d l c m away. column-at now d c ∙ (blank.1 c (subst (λ (n : ℕ). c < n) (column-length now d ∙ blank.0) m)).1 d l;
+  columns = λ d l j c m o. absurd (omega arith);
+}
+
+-- the row of an entry has what its client knew
+row-known : (h : List Tale) (c d clients place : ℕ) (now : List (List ℕ)) → length h ≡ place → length now ≡ clients → length (get_or now c []) ≡ clients → c < clients →
+    KnowsNow h d (column now d) → get_or (set (get_or now c []) c place) d 0 ≡ known h (Client c) d
+row-known h c d clients place now size all wide low knows = go (d == c) refl
+  where
+    apart_numbers : (m n : ℕ) → (m == n) ≡ false → m ≡ n → ⊥
+    apart_numbers m n e f = grind (arith, nat_tests)
+
+    go : (t : Bool) → (d == c) ≡ t → get_or (set (get_or now c []) c place) d 0 ≡ known h (Client c) d
+    go true t =
+        let e : d ≡ c = same_number d c t in
+        subst (λ (k : ℕ). get_or (set (get_or now c []) c place) k 0 ≡ known h (Client c) d) (sym e)
+        (get_or-set_same (get_or now c []) c place 0 (subst (λ (n : ℕ). c < n) (sym wide) low) ∙ (sym size ∙ sym (own-count h c d t)))
+    go false t =
+        get_or-set_other (get_or now c []) c d place 0 (apart_numbers d c t) ∙
+        (sym (column-at now d c) ∙ knows c (subst (λ (n : ℕ). c < n) (sym (column-length now d ∙ all)) low) t)
+
+-- one entry more
+pub known-next : (xs : List Tale) (i clients : ℕ) (e : Tale) (numbers : List ℕ) (now seen_now now' rows seen rows' : List (List ℕ)) (row : List ℕ) (o : Option ℕ) (number : ℕ) →
+    i < length xs → e ≡ get_or xs i e → IsUnique (reverse xs) → HasClients clients xs → numbers ≡ map (number_in (reverse xs)) xs → number ≡ get_or numbers i 0 →
+    AreKnown xs clients i now rows → seen_now ≡ now → o ≡ client_of e → row ≡ row_before seen_now i o → seen ≡ rows → Learns e number i seen now now' → rows' ≡ rows ++ row ∷ [] →
+    AreKnown xs clients (i + 1) now' rows'
+known-next xs i clients e numbers now seen_now now' rows seen rows' row o number l is unique below numbers_are number_is inv seen_now_is o_is row_is seen_is learns pushed = record {
+  clients_size = learns.0.0 ∙ inv.clients_size;
+  sizes = λ c low. learns.0.1 c ∙ inv.sizes c low;
+  size = ap (λ (ys : List (List ℕ)). length ys) pushed ∙ (length-append rows (row ∷ []) ∙ ap (λ (n : ℕ). n + 1) inv.size);
+  knows = λ d low. (step d low).2;
+  columns = λ d low. (step d low).3;
+}
+  where
+    here : client_of e ≡ client_of (get_or xs i Other)
+    here = ap client_of (is ∙ get_or_default xs i e Other l)
+
+    row_of : (c : ℕ) → client_of e ≡ Some c → row ≡ set (get_or now c []) c i
+    row_of c q = row_is ∙ (ap (λ (t : Option ℕ). row_before seen_now i t) (o_is ∙ q) ∙ ap (λ (ys : List (List ℕ)). set (get_or ys c []) c i) seen_now_is)
+
+    step : (d : ℕ) → d < clients → (length (column now' d) ≡ clients) × (length (column rows' d) ≡ i + 1) × KnowsNow (told xs (i + 1)) d (column now' d) × IsColumnTo xs d (column rows' d) (i + 1)
+    step d low =
+        loop-next xs d i clients e numbers (column rows d) (column seen d) (column rows' d) (column now d) (column now d) (column now' d) (client_of e) number (read_of e (value_at number i (column seen d))) (get_or row d 0)
+        l is unique below numbers_are number_is
+        (column-length now d ∙ inv.clients_size, column-length rows d ∙ inv.size, inv.knows d low, inv.columns d low)
+        (ap (λ (ys : List (List ℕ)). column ys d) seen_is) refl refl
+        (λ h c size knows q few.
+        ap (λ (r : List ℕ). get_or r d 0) (row_of c q) ∙
+        row-known h c d clients i now size inv.clients_size (inv.sizes c (below i c l (sym here ∙ q))) (below i c l (sym here ∙ q)) knows)
+        (ap (λ (ys : List (List ℕ)). column ys d) pushed ∙ column-more rows row d)
+        refl
+        (column-length now' d ∙ (learns.0.0 ∙ sym (column-length now d)))
+        (λ c away. column-at now' d c ∙ (ap (λ (r : List ℕ). get_or r d 0) (learns.0.2 c away) ∙ sym (column-at now d c)))
+        (λ c q few.
+        let m : c < length now = subst (λ (n : ℕ). c < n) (column-length now d) few in
+        column-at now' d c ∙
+        (learns.1 c q d m (subst (λ (n : ℕ). d < n) (sym (inv.sizes c (subst (λ (n : ℕ). c < n) inv.clients_size m))) low) ∙
+        ap (λ (n : ℕ). max n (read_of e (value_at number i (column seen d)))) (sym (column-at now d c))))
+
+-- ---- the numbers of two rows
+
+-- the first n numbers are raised to those of some others
+pub record RaisedTo (n : ℕ) (old others now : List ℕ) : Type 0 where
+  pub size : length now ≡ length old
+  pub raised : (k : ℕ) → k < n → get_or now k 0 ≡ max (get_or old k 0) (get_or others k 0)
+  pub kept : (k : ℕ) → n ≤ k → get_or now k 0 ≡ get_or old k 0
+
+pub raise-start : (old others : List ℕ) → RaisedTo 0 old others old
+raise-start old others = record { size = refl; raised = λ k l. absurd (omega arith); kept = λ k l. refl }

@@ -13,8 +13,9 @@ use Rattle.sat_verdict.specs.Counts.{known}
 use Rattle.sat_verdict.specs.Goals.{Stands}
 use Rattle.sat_verdict.specs.Verdicts.{IsFreshVerdict}
 use Rattle.sat_verdict.specs.Found.{item_now, has_item, made_number, lower, within_now, least_within, is_missed, miss_by, miss_now, first, first_miss}
-use Rattle.sat_verdict.specs.Tables.{number_or, number_in, told, IsUnique, HasClients, AreColumns, scan}
+use Rattle.sat_verdict.specs.Tables.{number_or, number_in, told, IsUnique, HasClients, AreRows, scan}
 use Rattle.sat_verdict.specs.Passes.{item_of, passes, table_miss_by, table_miss, table_misses, table_fresh}
+use Rattle.sat_verdict.proofs.Columns.{column-at}
 use Rattle.sat_verdict.proofs.Counted.{yes-makes}
 use Rattle.sat_verdict.proofs.Histories.{told-next, told-length, told-all, made-number-bound, made-splits, unmade-parts, StandsAt, stands-told}
 use Rattle.sat_verdict.proofs.Scanned.{option-of, same-pick, scan-within, scan-next}
@@ -93,15 +94,15 @@ made-item xs x p n u m =
 
 -- ---- one read
 
-module _ (xs : List Tale) (columns : List (List ℕ)) (numbers : List ℕ) (clients i : ℕ) (unique : IsUnique (reverse xs)) (below : HasClients clients xs)
-    (numbers_are : numbers ≡ map (number_in (reverse xs)) xs) (are : AreColumns xs clients columns) (l : i < length xs) where
+module _ (xs : List Tale) (rows : List (List ℕ)) (numbers : List ℕ) (clients i : ℕ) (unique : IsUnique (reverse xs)) (below : HasClients clients xs)
+    (numbers_are : numbers ≡ map (number_in (reverse xs)) xs) (are : AreRows xs clients rows) (l : i < length xs) where
   miss-by : (r x : ℕ) (read : Option Point) (pass : Point → Bool) → ((a : Point) → pass a ≡ (has_item (reverse xs) a x && passes read a)) → (j c : ℕ) (p : Point) →
-      get_or (get_or columns c []) i 0 ≡ known (told xs i) (Client r) c →
-      table_miss_by xs columns i x read j (number_or (made_number (reverse xs) p)) c p ≡ (if nat_lt j (known (told xs i) (Client r) c) && pass p then made_number (reverse xs) p else None)
+      get_or (get_or rows i []) c 0 ≡ known (told xs i) (Client r) c →
+      table_miss_by xs rows i x read j (number_or (made_number (reverse xs) p)) c p ≡ (if nat_lt j (known (told xs i) (Client r) c) && pass p then made_number (reverse xs) p else None)
   miss-by r x read pass passing j c p column =
-      ap (λ (o : Option ℕ). if nat_lt j (get_or (get_or columns c []) i 0) && (item_of x (get_or xs (number_or (made_number (reverse xs) p) - 1) Other) && passes read p) then o else None)
+      ap (λ (o : Option ℕ). if nat_lt j (get_or (get_or rows i []) c 0) && (item_of x (get_or xs (number_or (made_number (reverse xs) p) - 1) Other) && passes read p) then o else None)
       (option-of (made_number (reverse xs) p) (λ n e. (made-number-bound (reverse xs) p n e).0)) ∙
-      same-pick (nat_lt j (get_or (get_or columns c []) i 0) && (item_of x (get_or xs (number_or (made_number (reverse xs) p) - 1) Other) && passes read p))
+      same-pick (nat_lt j (get_or (get_or rows i []) c 0) && (item_of x (get_or xs (number_or (made_number (reverse xs) p) - 1) Other) && passes read p))
       (nat_lt j (known (told xs i) (Client r) c) && pass p) (made_number (reverse xs) p)
       (λ n e.
       ap (λ (m : ℕ). nat_lt j m && (item_of x (get_or xs (number_or (made_number (reverse xs) p) - 1) Other) && passes read p)) column ∙
@@ -110,8 +111,8 @@ module _ (xs : List Tale) (columns : List (List ℕ)) (numbers : List ℕ) (clie
       ap (λ (t : Bool). nat_lt j (known (told xs i) (Client r) c) && t) (sym (passing p)))))
 
   miss-in : (r x : ℕ) (read : Option Point) (pass : Point → Bool) → ((a : Point) → pass a ≡ (has_item (reverse xs) a x && passes read a)) → (j : ℕ) (e : Tale) →
-      ((c : ℕ) → client_of e ≡ Some c → get_or (get_or columns c []) i 0 ≡ known (told xs i) (Client r) c) →
-      table_miss xs columns i x read j (number_in (reverse xs) e) e ≡ within_now pass (made_number (reverse xs)) (known (told xs i) (Client r)) j e
+      ((c : ℕ) → client_of e ≡ Some c → get_or (get_or rows i []) c 0 ≡ known (told xs i) (Client r) c) →
+      table_miss xs rows i x read j (number_in (reverse xs) e) e ≡ within_now pass (made_number (reverse xs)) (known (told xs i) (Client r)) j e
   miss-in r x read pass passing j (Wrote c ys p) column = miss-by r x read pass passing j c p (column c refl)
   miss-in r x read pass passing j (ReadSome c y p) column = miss-by r x read pass passing j c p (column c refl)
   miss-in r x read pass passing j (Moved c p) column = refl
@@ -120,22 +121,22 @@ module _ (xs : List Tale) (columns : List (List ℕ)) (numbers : List ℕ) (clie
   miss-in r x read pass passing j Other column = refl
 
   misses-found : (r x : ℕ) (read : Option Point) (pass : Point → Bool) → ((a : Point) → pass a ≡ (has_item (reverse xs) a x && passes read a)) → client_of (get_or xs i Other) ≡ Some r →
-      scan (table_misses xs numbers columns i x read) i ≡ least_within pass (made_number (reverse xs)) (known (told xs i) (Client r)) (told xs i)
+      scan (table_misses xs numbers rows i x read) i ≡ least_within pass (made_number (reverse xs)) (known (told xs i) (Client r)) (told xs i)
   misses-found r x read pass passing reader =
-      scan-within xs (table_misses xs numbers columns i x read) pass (made_number (reverse xs)) (known (told xs i) (Client r)) i (omega arith) each
+      scan-within xs (table_misses xs numbers rows i x read) pass (made_number (reverse xs)) (known (told xs i) (Client r)) i (omega arith) each
     where
-      column : (c : ℕ) → c < clients → get_or (get_or columns c []) i 0 ≡ known (told xs i) (Client r) c
-      column c low = (are.1 c low).1 i r l reader
+      column : (c : ℕ) → c < clients → get_or (get_or rows i []) c 0 ≡ known (told xs i) (Client r) c
+      column c low = sym (column-at rows c i) ∙ are.1 c low i r l reader
 
-      each : (j : ℕ) → j < i → table_misses xs numbers columns i x read j ≡ within_now pass (made_number (reverse xs)) (known (told xs i) (Client r)) j (get_or xs j Other)
+      each : (j : ℕ) → j < i → table_misses xs numbers rows i x read j ≡ within_now pass (made_number (reverse xs)) (known (told xs i) (Client r)) j (get_or xs j Other)
       each j low =
           let high : j < length xs = omega arith in
           let number : get_or numbers j 0 ≡ number_in (reverse xs) (get_or xs j Other) =
           ap (λ (ys : List ℕ). get_or ys j 0) numbers_are ∙ get_or-map (number_in (reverse xs)) xs j Other 0 high in
-          ap (λ (n : ℕ). table_miss xs columns i x read j n (get_or xs j Other)) number ∙
+          ap (λ (n : ℕ). table_miss xs rows i x read j n (get_or xs j Other)) number ∙
           miss-in r x read pass passing j (get_or xs j Other) (λ c o. column c (below j c high o))
 
-  reading : (e : Tale) → e ≡ get_or xs i Other → table_fresh xs numbers columns i e ≡ miss_now (reverse xs) (told xs i) e
+  reading : (e : Tale) → e ≡ get_or xs i Other → table_fresh xs numbers rows i e ≡ miss_now (reverse xs) (told xs i) e
   reading (ReadSome c x p) is =
       ap (λ (o : Option ℕ). miss_by (i + 1) o) (misses-found c x (Some p) (is_missed (reverse xs) x p) (λ a. refl) (ap client_of (sym is))) ∙
       ap (λ (n : ℕ). miss_by n (least_within (is_missed (reverse xs) x p) (made_number (reverse xs)) (known (told xs i) (Client c)) (told xs i))) len
@@ -153,19 +154,19 @@ module _ (xs : List Tale) (columns : List (List ℕ)) (numbers : List ℕ) (clie
   reading (Shown k p) is = refl
   reading Other is = refl
 
-miss-item : (xs : List Tale) (numbers : List ℕ) (columns : List (List ℕ)) (place x : ℕ) (read : Option Point) (n : ℕ) (e : Tale) (found : Option ℕ) → n < length xs → e ≡ get_or xs n e →
-    found ≡ table_miss xs columns place x read n (get_or numbers n 0) e → found ≡ table_misses xs numbers columns place x read n
-miss-item xs numbers columns place x read n e found l is f =
-    f ∙ ap (λ (y : Tale). table_miss xs columns place x read n (get_or numbers n 0) y) (is ∙ get_or_default xs n e Other l)
+miss-item : (xs : List Tale) (numbers : List ℕ) (rows : List (List ℕ)) (place x : ℕ) (read : Option Point) (n : ℕ) (e : Tale) (found : Option ℕ) → n < length xs → e ≡ get_or xs n e →
+    found ≡ table_miss xs rows place x read n (get_or numbers n 0) e → found ≡ table_misses xs numbers rows place x read n
+miss-item xs numbers rows place x read n e found l is f =
+    f ∙ ap (λ (y : Tale). table_miss xs rows place x read n (get_or numbers n 0) y) (is ∙ get_or_default xs n e Other l)
 
-pub miss-step : (xs : List Tale) (numbers : List ℕ) (columns : List (List ℕ)) (place x : ℕ) (read : Option Point) (n : ℕ) (e : Tale) (old found new : Option ℕ) → n < place → place ≤ length xs → e ≡ get_or xs n e →
-    old ≡ scan (table_misses xs numbers columns place x read) n → found ≡ table_miss xs columns place x read n (get_or numbers n 0) e → new ≡ lower old found →
-    new ≡ scan (table_misses xs numbers columns place x read) (n + 1)
-miss-step xs numbers columns place x read n e old found new low l is a f b =
+pub miss-step : (xs : List Tale) (numbers : List ℕ) (rows : List (List ℕ)) (place x : ℕ) (read : Option Point) (n : ℕ) (e : Tale) (old found new : Option ℕ) → n < place → place ≤ length xs → e ≡ get_or xs n e →
+    old ≡ scan (table_misses xs numbers rows place x read) n → found ≡ table_miss xs rows place x read n (get_or numbers n 0) e → new ≡ lower old found →
+    new ≡ scan (table_misses xs numbers rows place x read) (n + 1)
+miss-step xs numbers rows place x read n e old found new low l is a f b =
     let high : n < length xs = omega arith in
     b ∙ (ap (λ (o : Option ℕ). lower o found) a ∙
-    (ap (λ (o : Option ℕ). lower (scan (table_misses xs numbers columns place x read) n) o) (miss-item xs numbers columns place x read n e found high is f) ∙
-    sym (scan-next (table_misses xs numbers columns place x read) n)))
+    (ap (λ (o : Option ℕ). lower (scan (table_misses xs numbers rows place x read) n) o) (miss-item xs numbers rows place x read n e found high is f) ∙
+    sym (scan-next (table_misses xs numbers rows place x read) n)))
 
 first-next : (whole before : List Tale) (e : Tale) → first_miss whole (e ∷ before) ≡ first (first_miss whole before) (miss_now whole before e)
 unfolding first_miss
@@ -175,11 +176,11 @@ pub fresh-start : (xs : List Tale) → None ≡ first_miss (reverse xs) (told xs
 unfolding first_miss
 fresh-start xs = refl
 
-pub fresh-next : (xs : List Tale) (columns : List (List ℕ)) (numbers : List ℕ) (clients i : ℕ) (e : Tale) (fresh fresh' : Option (ℕ × ℕ)) →
-    IsUnique (reverse xs) → HasClients clients xs → numbers ≡ map (number_in (reverse xs)) xs → AreColumns xs clients columns → i < length xs → e ≡ get_or xs i e →
-    fresh ≡ first_miss (reverse xs) (told xs i) → fresh' ≡ first fresh (table_fresh xs numbers columns i e) → fresh' ≡ first_miss (reverse xs) (told xs (i + 1))
-fresh-next xs columns numbers clients i e fresh fresh' unique below numbers_are are l is inv found =
-    found ∙ (ap (λ (o : Option (ℕ × ℕ)). first fresh o) (reading xs columns numbers clients i unique below numbers_are are l e at) ∙
+pub fresh-next : (xs : List Tale) (rows : List (List ℕ)) (numbers : List ℕ) (clients i : ℕ) (e : Tale) (fresh fresh' : Option (ℕ × ℕ)) →
+    IsUnique (reverse xs) → HasClients clients xs → numbers ≡ map (number_in (reverse xs)) xs → AreRows xs clients rows → i < length xs → e ≡ get_or xs i e →
+    fresh ≡ first_miss (reverse xs) (told xs i) → fresh' ≡ first fresh (table_fresh xs numbers rows i e) → fresh' ≡ first_miss (reverse xs) (told xs (i + 1))
+fresh-next xs rows numbers clients i e fresh fresh' unique below numbers_are are l is inv found =
+    found ∙ (ap (λ (o : Option (ℕ × ℕ)). first fresh o) (reading xs rows numbers clients i unique below numbers_are are l e at) ∙
     (ap (λ (o : Option (ℕ × ℕ)). first o (miss_now (reverse xs) (told xs i) e)) inv ∙
     (sym (first-next (reverse xs) (told xs i) e) ∙ ap (λ (h : List Tale). first_miss (reverse xs) h) (sym step))))
   where

@@ -171,26 +171,26 @@ read-step xs numbers old new reader counts places places' c end from to at inv l
 
 -- ---- marks
 
-pub read-some : (xs : List Tale) (numbers : List ℕ) (columns : List (List ℕ)) (i : ℕ) (e : Tale) (c x : ℕ) (p : Point) → e ≡ ReadSome c x p → scan (table_misses xs numbers columns i x (Some p)) i ≡ None →
-    table_fresh xs numbers columns i e ≡ None
-read-some xs numbers columns i e c x p is none = ap (λ (f : Tale). table_fresh xs numbers columns i f) is ∙ ap (λ (o : Option ℕ). miss_by (i + 1) o) none
+pub read-some : (xs : List Tale) (numbers : List ℕ) (rows : List (List ℕ)) (i : ℕ) (e : Tale) (c x : ℕ) (p : Point) → e ≡ ReadSome c x p → scan (table_misses xs numbers rows i x (Some p)) i ≡ None →
+    table_fresh xs numbers rows i e ≡ None
+read-some xs numbers rows i e c x p is none = ap (λ (f : Tale). table_fresh xs numbers rows i f) is ∙ ap (λ (o : Option ℕ). miss_by (i + 1) o) none
 
-pub read-none : (xs : List Tale) (numbers : List ℕ) (columns : List (List ℕ)) (i : ℕ) (e : Tale) (c x : ℕ) → e ≡ ReadNone c x → scan (table_misses xs numbers columns i x None) i ≡ None →
-    table_fresh xs numbers columns i e ≡ None
-read-none xs numbers columns i e c x is none = ap (λ (f : Tale). table_fresh xs numbers columns i f) is ∙ ap (λ (o : Option ℕ). miss_by (i + 1) o) none
+pub read-none : (xs : List Tale) (numbers : List ℕ) (rows : List (List ℕ)) (i : ℕ) (e : Tale) (c x : ℕ) → e ≡ ReadNone c x → scan (table_misses xs numbers rows i x None) i ≡ None →
+    table_fresh xs numbers rows i e ≡ None
+read-none xs numbers rows i e c x is none = ap (λ (f : Tale). table_fresh xs numbers rows i f) is ∙ ap (λ (o : Option ℕ). miss_by (i + 1) o) none
 
-pub marks-set : (xs : List Tale) (numbers : List ℕ) (columns : List (List ℕ)) (marks : List Bool) (at : ℕ) (b : Bool) → at < length marks → AreFresh xs numbers columns marks →
-    (b ≡ true → table_fresh xs numbers columns at (get_or xs at Other) ≡ None) → AreFresh xs numbers columns (set marks at b)
-marks-set xs numbers columns marks at b few all here i e = go (cases_eq i at)
+pub marks-set : (xs : List Tale) (numbers : List ℕ) (rows : List (List ℕ)) (marks : List Bool) (at : ℕ) (b : Bool) → at < length marks → AreFresh xs numbers rows marks →
+    (b ≡ true → table_fresh xs numbers rows at (get_or xs at Other) ≡ None) → AreFresh xs numbers rows (set marks at b)
+marks-set xs numbers rows marks at b few all here i e = go (cases_eq i at)
   where
-    go : (i ≡ at) ⊎ (i ≡ at → ⊥) → table_fresh xs numbers columns i (get_or xs i Other) ≡ None
+    go : (i ≡ at) ⊎ (i ≡ at → ⊥) → table_fresh xs numbers rows i (get_or xs i Other) ≡ None
     go (inl q) =
-        subst (λ (n : ℕ). table_fresh xs numbers columns n (get_or xs n Other) ≡ None) (sym q)
+        subst (λ (n : ℕ). table_fresh xs numbers rows n (get_or xs n Other) ≡ None) (sym q)
         (here (sym (get_or-set_same marks at b false few) ∙ subst (λ (n : ℕ). get_or (set marks at b) n false ≡ true) q e))
     go (inr n) = all i (sym (get_or-set_other marks at i b false n) ∙ e)
 
-pub no-marks : (xs : List Tale) (numbers : List ℕ) (columns : List (List ℕ)) (marks : List Bool) → ((i : ℕ) → get_or marks i false ≡ false) → AreFresh xs numbers columns marks
-no-marks xs numbers columns marks none i e = absurd (let f : false ≡ true = sym (none i) ∙ e in cc)
+pub no-marks : (xs : List Tale) (numbers : List ℕ) (rows : List (List ℕ)) (marks : List Bool) → ((i : ℕ) → get_or marks i false ≡ false) → AreFresh xs numbers rows marks
+no-marks xs numbers rows marks none i e = absurd (let f : false ≡ true = sym (none i) ∙ e in cc)
 
 -- ---- a read that missed nothing
 
@@ -225,16 +225,16 @@ silent (suc n) false p f = rest (not (suc n == 0))
     rest true = refl
     rest false = refl
 
-module _ (xs : List Tale) (numbers : List ℕ) (columns : List (List ℕ)) (noted : List Noted) (reader place x : ℕ) (read : Option Point) (none : is_none_above (greatest_of noted reader x) read ≡ true) where
-  telling : (j number c : ℕ) (a : Point) → (nat_lt j (get_or (get_or columns c []) place 0) ≡ false) ⊎ (0 < number → item_of x (get_or xs (number - 1) Other) ≡ true → is_reached noted reader x a ≡ true) →
-      (if nat_lt j (get_or (get_or columns c []) place 0) && (item_of x (get_or xs (number - 1) Other) && passes read a) then option_of number else None) ≡ None
-  telling j number c a (inl e) = none-told (nat_lt j (get_or (get_or columns c []) place 0)) (item_of x (get_or xs (number - 1) Other) && passes read a) number (inl e)
+module _ (xs : List Tale) (numbers : List ℕ) (rows : List (List ℕ)) (noted : List Noted) (reader place x : ℕ) (read : Option Point) (none : is_none_above (greatest_of noted reader x) read ≡ true) where
+  telling : (j number c : ℕ) (a : Point) → (nat_lt j (get_or (get_or rows place []) c 0) ≡ false) ⊎ (0 < number → item_of x (get_or xs (number - 1) Other) ≡ true → is_reached noted reader x a ≡ true) →
+      (if nat_lt j (get_or (get_or rows place []) c 0) && (item_of x (get_or xs (number - 1) Other) && passes read a) then option_of number else None) ≡ None
+  telling j number c a (inl e) = none-told (nat_lt j (get_or (get_or rows place []) c 0)) (item_of x (get_or xs (number - 1) Other) && passes read a) number (inl e)
   telling j number c a (inr f) =
-      none-told (nat_lt j (get_or (get_or columns c []) place 0)) (item_of x (get_or xs (number - 1) Other) && passes read a) number
+      none-told (nat_lt j (get_or (get_or rows place []) c 0)) (item_of x (get_or xs (number - 1) Other) && passes read a) number
       (inr (silent number (item_of x (get_or xs (number - 1) Other)) (passes read a) (λ l t. passed-none (greatest_of noted reader x) read a (f l t) none)))
 
-  none-misses : (j number : ℕ) (e : Tale) → ((c : ℕ) → client_of e ≡ Some c → (nat_lt j (get_or (get_or columns c []) place 0) ≡ false) ⊎ Absorbs xs noted reader number e) →
-      table_miss xs columns place x read j number e ≡ None
+  none-misses : (j number : ℕ) (e : Tale) → ((c : ℕ) → client_of e ≡ Some c → (nat_lt j (get_or (get_or rows place []) c 0) ≡ false) ⊎ Absorbs xs noted reader number e) →
+      table_miss xs rows place x read j number e ≡ None
   none-misses j number (Wrote c ys b) w = telling j number c b (elim (w c refl) [ inl l ↦ inl l | inr f ↦ inr (λ l t. f b x refl l t) ])
   none-misses j number (ReadSome c y p) w = telling j number c p (elim (w c refl) [ inl l ↦ inl l | inr f ↦ inr (λ l t. f p x refl l t) ])
   none-misses j number (Moved c b) w = refl
@@ -243,15 +243,15 @@ module _ (xs : List Tale) (numbers : List ℕ) (columns : List (List ℕ)) (note
   none-misses j number Other w = refl
 
   pub fresh-scan : (places : List ℕ) → ((j c : ℕ) → j < length xs → client_of (get_or xs j Other) ≡ Some c → c < length places) → place ≤ length xs → AreRead xs numbers noted reader places →
-      ((c : ℕ) → c < length places → IsPast xs (get_or (get_or columns c []) place 0) (get_or places c 0)) → scan (table_misses xs numbers columns place x read) place ≡ None
+      ((c : ℕ) → c < length places → IsPast xs (get_or (get_or rows place []) c 0) (get_or places c 0)) → scan (table_misses xs numbers rows place x read) place ≡ None
   fresh-scan places below l are past =
-      scan-none (table_misses xs numbers columns place x read) place (λ j low. none-misses j (get_or numbers j 0) (get_or xs j Other) (λ c o. each j c (omega arith) o))
+      scan-none (table_misses xs numbers rows place x read) place (λ j low. none-misses j (get_or numbers j 0) (get_or xs j Other) (λ c o. each j c (omega arith) o))
     where
       each : (j c : ℕ) → j < length xs → client_of (get_or xs j Other) ≡ Some c →
-          (nat_lt j (get_or (get_or columns c []) place 0) ≡ false) ⊎ Absorbs xs noted reader (get_or numbers j 0) (get_or xs j Other)
+          (nat_lt j (get_or (get_or rows place []) c 0) ≡ false) ⊎ Absorbs xs noted reader (get_or numbers j 0) (get_or xs j Other)
       each j c low o =
           let few : c < length places = below j c low o in
-          elim (past-or-below xs j (get_or (get_or columns c []) place 0) (get_or places c 0) low (past c few)) [
+          elim (past-or-below xs j (get_or (get_or rows place []) c 0) (get_or places c 0) low (past c few)) [
             | inl e ↦ inl e
             | inr m ↦ inr (are.absorbed c few j (omega arith) m o)
           ]

@@ -18,7 +18,7 @@ use Rattle.sat_verdict.specs.Counts.{known}
 use Rattle.sat_verdict.specs.Goals.{no_sites, Stands}
 use Rattle.sat_verdict.specs.Verdicts.{IsCausalVerdict, IsOnceVerdict}
 use Rattle.sat_verdict.specs.Found.{any_kept, kept_now, is_kept, shown_now, has_shown, made_number, lower, within_now, least_within, is_lacking, lack_at, lack_by, lack_now, first, first_lack, again_at, again_now, first_again}
-use Rattle.sat_verdict.specs.Tables.{number_or, number_in, told, IsUnique, HasClients, AreColumns, scan, table_lacks, AreUnshown}
+use Rattle.sat_verdict.specs.Tables.{number_or, number_in, told, IsUnique, HasClients, AreRows, scan, table_lacks, AreUnshown}
 use Rattle.sat_verdict.specs.Passes.{kept_of, site_of, HasSites, AreKeptTo, table_causal, table_once}
 use Rattle.sat_verdict.proofs.Counted.{some_is, same_point, point_same, yes-makes}
 use Rattle.sat_verdict.proofs.Histories.{told-next, told-length, told-all, made-number-bound, made-splits, unmade-parts, unmade-none, StandsAt, stands-told}
@@ -193,18 +193,18 @@ lack-none sets whole before k b none =
 one-less : (n : ℕ) → 0 < n → n ≡ n - 1 + 1
 one-less n l = omega arith
 
-module _ (sets : List SiteSet) (xs : List Tale) (columns : List (List ℕ)) (unshown : List SiteSet) (numbers : List ℕ) (clients i : ℕ) (unique : IsUnique (reverse xs)) (below : HasClients clients xs)
-    (numbers_are : numbers ≡ map (number_in (reverse xs)) xs) (are : AreColumns xs clients columns) (l : i < length xs) (shut : AreUnshown sets (reverse xs) (told xs i) unshown) where
+module _ (sets : List SiteSet) (xs : List Tale) (rows : List (List ℕ)) (unshown : List SiteSet) (numbers : List ℕ) (clients i : ℕ) (unique : IsUnique (reverse xs)) (below : HasClients clients xs)
+    (numbers_are : numbers ≡ map (number_in (reverse xs)) xs) (are : AreRows xs clients rows) (l : i < length xs) (shut : AreUnshown sets (reverse xs) (told xs i) unshown) where
   causal-at : (k : ℕ) (b : Point) (o : Option ℕ) → made_number (reverse xs) b ≡ o → ((d : ℕ) → made_number (reverse xs) b ≡ None → known (reverse xs) (Maker b) d ≡ 0) →
-      table_causal xs numbers columns unshown i (number_or o) (Some k) ≡ lack_by (suc (length (told xs i))) k (lack_at sets (reverse xs) (told xs i) k b)
+      table_causal xs numbers rows unshown i (number_or o) (Some k) ≡ lack_by (suc (length (told xs i))) k (lack_at sets (reverse xs) (told xs i) k b)
   causal-at k b None m none = sym (ap (λ (o : Option ℕ). lack_by (suc (length (told xs i))) k o) (lack-none sets (reverse xs) (told xs i) k b (λ d. none d m)))
   causal-at k b (Some n) m none =
       let low : 0 < n = (made-number-bound (reverse xs) b n m).0 in
       let len : i + 1 ≡ suc (length (told xs i)) = let e : length (told xs i) ≡ i = told-length xs i (omega arith) in omega arith in
-      else_is (n == 0) None (lack_by (i + 1) k (scan (table_lacks columns unshown numbers xs (n - 1) k) (length xs))) (not_zero n low) ∙
-      (ap (λ (j : ℕ). lack_by j k (scan (table_lacks columns unshown numbers xs (n - 1) k) (length xs))) len ∙
+      else_is (n == 0) None (lack_by (i + 1) k (scan (table_lacks rows unshown numbers xs (n - 1) k) (length xs))) (not_zero n low) ∙
+      (ap (λ (j : ℕ). lack_by j k (scan (table_lacks rows unshown numbers xs (n - 1) k) (length xs))) len ∙
       ap (λ (o : Option ℕ). lack_by (suc (length (told xs i))) k o)
-      (lacks-found sets xs (told xs i) columns unshown numbers clients (n - 1) k b unique below numbers_are are shut (m ∙ ap Some (one-less n low))))
+      (lacks-found sets xs (told xs i) rows unshown numbers clients (n - 1) k b unique below numbers_are are shut (m ∙ ap Some (one-less n low))))
 
   once-at : (k : ℕ) (b : Point) (o : Option ℕ) → made_number (reverse xs) b ≡ o →
       table_once unshown i (number_or o) (Some k) ≡ again_at sets (reverse xs) (told xs i) k b
@@ -223,13 +223,13 @@ module _ (sets : List SiteSet) (xs : List Tale) (columns : List (List ℕ)) (uns
           (ap (λ (t : Bool). not t) (shut b n k e) ∙ not_and (is_kept sets (reverse xs) k b) (has_shown (told xs i) k b))
 
   showing : (e : Tale) (number : ℕ) → number ≡ number_in (reverse xs) e → ((b : Point) (d : ℕ) → made_number (reverse xs) b ≡ None → known (reverse xs) (Maker b) d ≡ 0) →
-      (table_causal xs numbers columns unshown i number (site_of e) ≡ lack_now sets (reverse xs) (told xs i) e) × (table_once unshown i number (site_of e) ≡ again_now sets (reverse xs) (told xs i) e)
+      (table_causal xs numbers rows unshown i number (site_of e) ≡ lack_now sets (reverse xs) (told xs i) e) × (table_once unshown i number (site_of e) ≡ again_now sets (reverse xs) (told xs i) e)
   showing (Wrote c ys b) number is none = (
-    ap (λ (n : ℕ). table_causal xs numbers columns unshown i n (Some b.site)) is ∙ causal-at b.site b (made_number (reverse xs) b) refl (λ d m. none b d m),
+    ap (λ (n : ℕ). table_causal xs numbers rows unshown i n (Some b.site)) is ∙ causal-at b.site b (made_number (reverse xs) b) refl (λ d m. none b d m),
     ap (λ (n : ℕ). table_once unshown i n (Some b.site)) is ∙ once-at b.site b (made_number (reverse xs) b) refl,
   )
   showing (Shown k b) number is none = (
-    ap (λ (n : ℕ). table_causal xs numbers columns unshown i n (Some k)) is ∙ causal-at k b (made_number (reverse xs) b) refl (λ d m. none b d m),
+    ap (λ (n : ℕ). table_causal xs numbers rows unshown i n (Some k)) is ∙ causal-at k b (made_number (reverse xs) b) refl (λ d m. none b d m),
     ap (λ (n : ℕ). table_once unshown i n (Some k)) is ∙ once-at k b (made_number (reverse xs) b) refl,
   )
   showing (Moved c b) number is none = (refl, refl)
@@ -325,17 +325,17 @@ pub pass-start : (sets : List SiteSet) (xs : List Tale) (kept : List SiteSet) �
 unfolding first_lack first_again
 pass-start sets xs kept u size are = (refl, refl, size, unshown-start sets xs kept u are)
 
-pub pass-next : (sets : List SiteSet) (xs : List Tale) (columns : List (List ℕ)) (numbers : List ℕ) (clients i : ℕ) (e : Tale) (old seen seen' new : List SiteSet) →
+pub pass-next : (sets : List SiteSet) (xs : List Tale) (rows : List (List ℕ)) (numbers : List ℕ) (clients i : ℕ) (e : Tale) (old seen seen' new : List SiteSet) →
     (causal causal' : Option (ℕ × ℕ × ℕ)) (once once' : Option ℕ) (site : Option ℕ) (number : ℕ) →
-    IsUnique (reverse xs) → HasClients clients xs → numbers ≡ map (number_in (reverse xs)) xs → AreColumns xs clients columns → HasSites xs → i < length xs → e ≡ get_or xs i e → site ≡ site_of e → number ≡ get_or numbers i 0 →
+    IsUnique (reverse xs) → HasClients clients xs → numbers ≡ map (number_in (reverse xs)) xs → AreRows xs clients rows → HasSites xs → i < length xs → e ≡ get_or xs i e → site ≡ site_of e → number ≡ get_or numbers i 0 →
     (causal ≡ first_lack sets (reverse xs) (told xs i)) × (once ≡ first_again sets (reverse xs) (told xs i)) × (length old ≡ length xs) × AreUnshown sets (reverse xs) (told xs i) old →
-    seen ≡ old → causal' ≡ first causal (table_causal xs numbers columns seen i number site) → seen' ≡ old → once' ≡ first once (table_once seen' i number site) →
+    seen ≡ old → causal' ≡ first causal (table_causal xs numbers rows seen i number site) → seen' ≡ old → once' ≡ first once (table_once seen' i number site) →
     length new ≡ length old → (site ≡ None → new ≡ old) → (number ≡ 0 → new ≡ old) → ((j : ℕ) → j ≢ number - 1 → get_or new j no_sites ≡ get_or old j no_sites) →
     ((k j : ℕ) → site ≡ Some k → k < 64 → 0 < number → number ≤ length old → bit (get_or new (number - 1) no_sites).bits j ≡ (bit (get_or old (number - 1) no_sites).bits j && not (j == k))) →
     (causal' ≡ first_lack sets (reverse xs) (told xs (i + 1))) × (once' ≡ first_again sets (reverse xs) (told xs (i + 1))) × (length new ≡ length xs) × AreUnshown sets (reverse xs) (told xs (i + 1)) new
-pass-next sets xs columns numbers clients i e old seen seen' new causal causal' once once' site number unique below numbers_are are sites l is site_is number_is inv seen_is causal_is seen_is' once_is size still unmade apart here = (
-  causal_is ∙ (ap (λ (ys : List SiteSet). first causal (table_causal xs numbers columns ys i number site)) seen_is ∙
-      (ap (λ (o : Option ℕ). first causal (table_causal xs numbers columns old i number o)) site_is ∙
+pass-next sets xs rows numbers clients i e old seen seen' new causal causal' once once' site number unique below numbers_are are sites l is site_is number_is inv seen_is causal_is seen_is' once_is size still unmade apart here = (
+  causal_is ∙ (ap (λ (ys : List SiteSet). first causal (table_causal xs numbers rows ys i number site)) seen_is ∙
+      (ap (λ (o : Option ℕ). first causal (table_causal xs numbers rows old i number o)) site_is ∙
       (ap (λ (o : Option (ℕ × ℕ × ℕ)). first causal o) found.0 ∙
       (ap (λ (o : Option (ℕ × ℕ × ℕ)). first o (lack_now sets (reverse xs) (told xs i) e)) inv.0 ∙
       (sym (first-next sets (reverse xs) (told xs i) e).0 ∙ ap (λ (h : List Tale). first_lack sets (reverse xs) h) (sym step)))))),
@@ -357,8 +357,8 @@ pass-next sets xs columns numbers clients i e old seen seen' new causal causal' 
     number_in_is : number ≡ number_in (reverse xs) e
     number_in_is = number_is ∙ (ap (λ (ys : List ℕ). get_or ys i 0) numbers_are ∙ (get_or-map (number_in (reverse xs)) xs i Other 0 l ∙ ap (λ (x : Tale). number_in (reverse xs) x) (sym at)))
 
-    found : (table_causal xs numbers columns old i number (site_of e) ≡ lack_now sets (reverse xs) (told xs i) e) × (table_once old i number (site_of e) ≡ again_now sets (reverse xs) (told xs i) e)
-    found = showing sets xs columns old numbers clients i unique below numbers_are are l inv.3 e number number_in_is (λ b d m. unmade-none (reverse xs) b d m)
+    found : (table_causal xs numbers rows old i number (site_of e) ≡ lack_now sets (reverse xs) (told xs i) e) × (table_once old i number (site_of e) ≡ again_now sets (reverse xs) (told xs i) e)
+    found = showing sets xs rows old numbers clients i unique below numbers_are are l inv.3 e number number_in_is (λ b d m. unmade-none (reverse xs) b d m)
 
     few : (k : ℕ) → site_of e ≡ Some k → k < 64
     few k s = sites i k l (ap site_of (sym at) ∙ s)

@@ -13,9 +13,9 @@ use Rattle.sat_verdict.specs.Causes.{Maker}
 use Rattle.sat_verdict.specs.Counts.{known}
 use Rattle.sat_verdict.specs.Goals.{no_sites}
 use Rattle.sat_verdict.specs.Found.{made_number, lower, within_now, least_within, is_lacking, lack_at}
-use Rattle.sat_verdict.specs.Tables.{number_or, number_in, told, IsUnique, HasClients, AreColumns, option_of, table_lack_by, table_lack, scan, table_lacks, AreUnshown}
+use Rattle.sat_verdict.specs.Tables.{number_or, number_in, told, column, IsUnique, HasClients, AreRows, option_of, table_lack_by, table_lack, scan, table_lacks, AreUnshown}
 use Rattle.sat_verdict.proofs.Histories.{told-next, told-length, told-all, made-number-bound}
-use Rattle.sat_verdict.proofs.Columns.{made-value}
+use Rattle.sat_verdict.proofs.Columns.{column-at, made-value}
 
 pub scan-next : (f : ℕ → Option ℕ) (n : ℕ) → scan f (n + 1) ≡ lower (scan f n) (f n)
 unfolding scan
@@ -42,28 +42,28 @@ same-pick false true None e = refl
 same-pick false false None e = refl
 
 -- one entry that wrote or read a point
-lack-by : (sets : List SiteSet) (whole before : List Tale) (columns : List (List ℕ)) (unshown : List SiteSet) (made k place c : ℕ) (b p : Point) →
-    get_or (get_or columns c []) made 0 ≡ known whole (Maker b) c → AreUnshown sets whole before unshown →
-    table_lack_by columns unshown made k place (number_or (made_number whole p)) c ≡ (if nat_lt place (known whole (Maker b) c) && is_lacking sets whole before k p then made_number whole p else None)
-lack-by sets whole before columns unshown made k place c b p column shut =
-    ap (λ (o : Option ℕ). if nat_lt place (get_or (get_or columns c []) made 0) && bit (get_or unshown (number_or (made_number whole p) - 1) no_sites).bits k then o else None)
+lack-by : (sets : List SiteSet) (whole before : List Tale) (rows : List (List ℕ)) (unshown : List SiteSet) (made k place c : ℕ) (b p : Point) →
+    get_or (get_or rows made []) c 0 ≡ known whole (Maker b) c → AreUnshown sets whole before unshown →
+    table_lack_by rows unshown made k place (number_or (made_number whole p)) c ≡ (if nat_lt place (known whole (Maker b) c) && is_lacking sets whole before k p then made_number whole p else None)
+lack-by sets whole before rows unshown made k place c b p column shut =
+    ap (λ (o : Option ℕ). if nat_lt place (get_or (get_or rows made []) c 0) && bit (get_or unshown (number_or (made_number whole p) - 1) no_sites).bits k then o else None)
     (option-of (made_number whole p) (λ n e. (made-number-bound whole p n e).0)) ∙
-    same-pick (nat_lt place (get_or (get_or columns c []) made 0) && bit (get_or unshown (number_or (made_number whole p) - 1) no_sites).bits k)
+    same-pick (nat_lt place (get_or (get_or rows made []) c 0) && bit (get_or unshown (number_or (made_number whole p) - 1) no_sites).bits k)
     (nat_lt place (known whole (Maker b) c) && is_lacking sets whole before k p) (made_number whole p)
     (λ n e.
     ap (λ (m : ℕ). nat_lt place m && bit (get_or unshown (number_or (made_number whole p) - 1) no_sites).bits k) column ∙
     (ap (λ (o : Option ℕ). nat_lt place (known whole (Maker b) c) && bit (get_or unshown (number_or o - 1) no_sites).bits k) e ∙
     ap (λ (t : Bool). nat_lt place (known whole (Maker b) c) && t) (shut p n k e)))
 
-lack-in : (sets : List SiteSet) (whole before : List Tale) (columns : List (List ℕ)) (unshown : List SiteSet) (made k place : ℕ) (b : Point) (e : Tale) →
-    ((c : ℕ) → client_of e ≡ Some c → get_or (get_or columns c []) made 0 ≡ known whole (Maker b) c) → AreUnshown sets whole before unshown →
-    table_lack columns unshown made k place (number_in whole e) e ≡ within_now (is_lacking sets whole before k) (made_number whole) (known whole (Maker b)) place e
-lack-in sets whole before columns unshown made k place b (Wrote c xs p) column shut = lack-by sets whole before columns unshown made k place c b p (column c refl) shut
-lack-in sets whole before columns unshown made k place b (ReadSome c x p) column shut = lack-by sets whole before columns unshown made k place c b p (column c refl) shut
-lack-in sets whole before columns unshown made k place b (Moved c p) column shut = refl
-lack-in sets whole before columns unshown made k place b (ReadNone c x) column shut = refl
-lack-in sets whole before columns unshown made k place b (Shown j p) column shut = refl
-lack-in sets whole before columns unshown made k place b Other column shut = refl
+lack-in : (sets : List SiteSet) (whole before : List Tale) (rows : List (List ℕ)) (unshown : List SiteSet) (made k place : ℕ) (b : Point) (e : Tale) →
+    ((c : ℕ) → client_of e ≡ Some c → get_or (get_or rows made []) c 0 ≡ known whole (Maker b) c) → AreUnshown sets whole before unshown →
+    table_lack rows unshown made k place (number_in whole e) e ≡ within_now (is_lacking sets whole before k) (made_number whole) (known whole (Maker b)) place e
+lack-in sets whole before rows unshown made k place b (Wrote c xs p) column shut = lack-by sets whole before rows unshown made k place c b p (column c refl) shut
+lack-in sets whole before rows unshown made k place b (ReadSome c x p) column shut = lack-by sets whole before rows unshown made k place c b p (column c refl) shut
+lack-in sets whole before rows unshown made k place b (Moved c p) column shut = refl
+lack-in sets whole before rows unshown made k place b (ReadNone c x) column shut = refl
+lack-in sets whole before rows unshown made k place b (Shown j p) column shut = refl
+lack-in sets whole before rows unshown made k place b Other column shut = refl
 
 -- a scan of the first n entries
 pub scan-within : (xs : List Tale) (f : ℕ → Option ℕ) (test : Point → Bool) (maker : Point → Option ℕ) (count : ℕ → ℕ) (n : ℕ) → n ≤ length xs →
@@ -83,36 +83,37 @@ scan-within xs f test maker count (suc n) l each =
     sym (ap (λ (h : List Tale). least_within test maker count h) step))
 
 -- what the code finds is what is to be found
-pub lacks-found : (sets : List SiteSet) (xs before : List Tale) (columns : List (List ℕ)) (unshown : List SiteSet) (numbers : List ℕ) (clients made k : ℕ) (b : Point) →
-    IsUnique (reverse xs) → HasClients clients xs → numbers ≡ map (number_in (reverse xs)) xs → AreColumns xs clients columns → AreUnshown sets (reverse xs) before unshown →
+pub lacks-found : (sets : List SiteSet) (xs before : List Tale) (rows : List (List ℕ)) (unshown : List SiteSet) (numbers : List ℕ) (clients made k : ℕ) (b : Point) →
+    IsUnique (reverse xs) → HasClients clients xs → numbers ≡ map (number_in (reverse xs)) xs → AreRows xs clients rows → AreUnshown sets (reverse xs) before unshown →
     made_number (reverse xs) b ≡ Some (made + 1) →
-    scan (table_lacks columns unshown numbers xs made k) (length xs) ≡ lack_at sets (reverse xs) before k b
-lacks-found sets xs before columns unshown numbers clients made k b unique below numbers_are are shut m =
-    scan-within xs (table_lacks columns unshown numbers xs made k) (is_lacking sets (reverse xs) before k) (made_number (reverse xs)) (known (reverse xs) (Maker b)) (length xs) (omega arith) each ∙
+    scan (table_lacks rows unshown numbers xs made k) (length xs) ≡ lack_at sets (reverse xs) before k b
+lacks-found sets xs before rows unshown numbers clients made k b unique below numbers_are are shut m =
+    scan-within xs (table_lacks rows unshown numbers xs made k) (is_lacking sets (reverse xs) before k) (made_number (reverse xs)) (known (reverse xs) (Maker b)) (length xs) (omega arith) each ∙
     ap (λ (h : List Tale). least_within (is_lacking sets (reverse xs) before k) (made_number (reverse xs)) (known (reverse xs) (Maker b)) h) (told-all xs)
   where
     less : (made + 1) - 1 ≡ made
     less = omega arith
 
-    column : (c : ℕ) → c < clients → get_or (get_or columns c []) made 0 ≡ known (reverse xs) (Maker b) c
-    column c low =
+    counts : (c : ℕ) → c < clients → get_or (get_or rows made []) c 0 ≡ known (reverse xs) (Maker b) c
+    counts c low =
         let all : reverse xs ≡ told xs (length xs) = sym (told-all xs) in
-        ap (λ (n : ℕ). get_or (get_or columns c []) n 0) (sym less) ∙
-        (made-value xs c (length xs) (get_or columns c []) b (made + 1) (omega arith) (subst (λ (h : List Tale). IsUnique h) all unique) (are.1 c low).1
+        sym (column-at rows c made) ∙
+        (ap (λ (n : ℕ). get_or (column rows c) n 0) (sym less) ∙
+        (made-value xs c (length xs) (column rows c) b (made + 1) (omega arith) (subst (λ (h : List Tale). IsUnique h) all unique) (are.1 c low)
         (subst (λ (h : List Tale). made_number h b ≡ Some (made + 1)) all m) ∙
-        ap (λ (h : List Tale). known h (Maker b) c) (told-all xs))
+        ap (λ (h : List Tale). known h (Maker b) c) (told-all xs)))
 
-    each : (j : ℕ) → j < length xs → table_lacks columns unshown numbers xs made k j ≡ within_now (is_lacking sets (reverse xs) before k) (made_number (reverse xs)) (known (reverse xs) (Maker b)) j (get_or xs j Other)
+    each : (j : ℕ) → j < length xs → table_lacks rows unshown numbers xs made k j ≡ within_now (is_lacking sets (reverse xs) before k) (made_number (reverse xs)) (known (reverse xs) (Maker b)) j (get_or xs j Other)
     each j low =
         let number : get_or numbers j 0 ≡ number_in (reverse xs) (get_or xs j Other) =
         ap (λ (ys : List ℕ). get_or ys j 0) numbers_are ∙ get_or-map (number_in (reverse xs)) xs j Other 0 low in
-        ap (λ (n : ℕ). table_lack columns unshown made k j n (get_or xs j Other)) number ∙
-        lack-in sets (reverse xs) before columns unshown made k j b (get_or xs j Other) (λ c o. column c (below j c low o)) shut
+        ap (λ (n : ℕ). table_lack rows unshown made k j n (get_or xs j Other)) number ∙
+        lack-in sets (reverse xs) before rows unshown made k j b (get_or xs j Other) (λ c o. counts c (below j c low o)) shut
 
 pub scan-step : (f : ℕ → Option ℕ) (n : ℕ) (old found new : Option ℕ) → old ≡ scan f n → found ≡ f n → new ≡ lower old found → new ≡ scan f (n + 1)
 scan-step f n old found new a b e = e ∙ (ap (λ (o : Option ℕ). lower o found) a ∙ (ap (λ (o : Option ℕ). lower (scan f n) o) b ∙ sym (scan-next f n)))
 
-pub lack-item : (columns : List (List ℕ)) (unshown : List SiteSet) (numbers : List ℕ) (xs : List Tale) (made k n : ℕ) (e : Tale) (found : Option ℕ) → n < length xs → e ≡ get_or xs n e →
-    found ≡ table_lack columns unshown made k n (get_or numbers n 0) e → found ≡ table_lacks columns unshown numbers xs made k n
-lack-item columns unshown numbers xs made k n e found l is f =
-    f ∙ ap (λ (x : Tale). table_lack columns unshown made k n (get_or numbers n 0) x) (is ∙ get_or_default xs n e Other l)
+pub lack-item : (rows : List (List ℕ)) (unshown : List SiteSet) (numbers : List ℕ) (xs : List Tale) (made k n : ℕ) (e : Tale) (found : Option ℕ) → n < length xs → e ≡ get_or xs n e →
+    found ≡ table_lack rows unshown made k n (get_or numbers n 0) e → found ≡ table_lacks rows unshown numbers xs made k n
+lack-item rows unshown numbers xs made k n e found l is f =
+    f ∙ ap (λ (x : Tale). table_lack rows unshown made k n (get_or numbers n 0) x) (is ∙ get_or_default xs n e Other l)

@@ -58,4 +58,4 @@ is_none_above (Some q) read = not (passes read q)
 
 -- the marked entries missed nothing
 abbrev pub AreFresh : List Tale → List ℕ → List (List ℕ) → List Bool → Type 0
-AreFresh tales numbers columns fresh = (i : ℕ) → get_or fresh i false ≡ true → table_fresh tales numbers columns i (get_or tales i Other) ≡ None
+AreFresh tales numbers rows fresh = (i : ℕ) → get_or fresh i false ≡ true → table_fresh tales numbers rows i (get_or tales i Other) ≡ None

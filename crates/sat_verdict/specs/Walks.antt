@@ -75,5 +75,5 @@ AreDone tales numbers unshown done = (k : ℕ) → k < length done → IsDone ta
 
 -- a site lacks no cause of the point that it shows, which the entry with this number made
 abbrev pub IsClear : List Tale → List ℕ → List (List ℕ) → List SiteSet → Option ℕ → ℕ → Type 0
-IsClear tales numbers columns unshown None number = Unit {0}
-IsClear tales numbers columns unshown (Some k) number = 0 < number → scan (table_lacks columns unshown numbers tales (number - 1) k) (length tales) ≡ None
+IsClear tales numbers rows unshown None number = Unit {0}
+IsClear tales numbers rows unshown (Some k) number = 0 < number → scan (table_lacks rows unshown numbers tales (number - 1) k) (length tales) ≡ None

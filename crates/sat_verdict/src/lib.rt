@@ -7,6 +7,7 @@
 mod counts;
 mod greatest;
 mod law;
+mod limits;
 mod links;
 mod makers;
 mod readers;
@@ -19,5 +20,6 @@ mod verdict;
 mod walks;
 
 pub use law::{counts_tell_pasts, nos_are_true, verdicts_are_found, verdicts_are_unique};
+pub use limits::MOST_ENTRIES;
 pub use tale::Tale;
 pub use verdict::{Verdict, judge};

@@ -1,5 +1,6 @@
 //! The entries of each client, one behind the other.
 ghost use Rattle.std.specs.Prelude.{◌≡◌, ◌≤◌, length, IfOk};
+ghost use Rattle.sat_verdict.specs.declared.limits.TheConstants.{MOST_ENTRIES};
 ghost use Rattle.sat_verdict.specs.Tables.{HasClients};
 ghost use Rattle.sat_verdict.specs.Walks.{follower, headed, Linked};
 
@@ -42,7 +43,7 @@ fn put_first(heads: &mut Vec<u16>, client: Option<u16>, place: u16)
 
 /// Links the entries of each client.
 pub fn links_of(alloc: Global, tales: &[Tale], clients: u16) -> Result<Links, AllocError>
-    requires few { length tales.now ≤ 20000 }
+    requires few { length tales.now ≤ MOST_ENTRIES }
     requires clients { HasClients clients tales.now }
     ensures { IfOk result (λ links. Linked tales.now clients links.heads.items links.next.items 0) }
 {

@@ -2,6 +2,7 @@
 ghost use Rattle.std.specs.Prelude.{◌≡◌, ◌≤◌, if◌then◌else◌, length, reverse, map, Some, IfOk, OnOk};
 ghost use Rattle.std.specs.BTreeMap.{get};
 ghost use Rattle.sat_label.specs.declared.point.Point as points;
+ghost use Rattle.sat_verdict.specs.declared.limits.TheConstants.{MOST_ENTRIES};
 ghost use Rattle.sat_verdict.specs.Entries.{makes};
 ghost use Rattle.sat_verdict.specs.Found.{made_number};
 ghost use Rattle.sat_verdict.specs.Tables.{number_or, number_in, point_cmp, IsUnique};
@@ -24,7 +25,7 @@ fn note(makers: &mut BTreeMap<Point, u16>, tale: &Tale, number: u16) -> Result<(
 
 /// The number, from 1, of the entry that made a point.
 fn makers_of(alloc: Global, tales: &[Tale]) -> Result<BTreeMap<Point, u16>, AllocError>
-    requires few { length tales.now ≤ 20000 }
+    requires few { length tales.now ≤ MOST_ENTRIES }
     requires unique { IsUnique (reverse tales.now) }
     ensures { IfOk result (λ makers. (p : points.Point) → get point_cmp makers p ≡ made_number (reverse tales.now) p) }
 {
@@ -60,7 +61,7 @@ fn number_of(makers: &BTreeMap<Point, u16>, tale: &Tale) -> u16
 
 /// The number of the maker of each entry's point; 0 where nobody made it.
 pub fn maker_numbers(alloc: Global, tales: &[Tale]) -> Result<Vec<u16>, AllocError>
-    requires few { length tales.now ≤ 20000 }
+    requires few { length tales.now ≤ MOST_ENTRIES }
     requires unique { IsUnique (reverse tales.now) }
     ensures { IfOk result (λ numbers. numbers.items ≡ map (number_in (reverse tales.now)) tales.now) }
 {

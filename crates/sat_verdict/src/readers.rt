@@ -3,6 +3,7 @@
 //! The reads of one client after another: for each other client a place is kept, below which all that this client wrote or read is
 //! noted. A client's past only grows, so each place only moves on.
 ghost use Rattle.std.specs.Prelude.{◌≡◌, ◌≤◌, ◌<◌, ℕ, [], None, false, length, get_or, slice_index, IsTrue, IfOk};
+ghost use Rattle.sat_verdict.specs.declared.limits.TheConstants.{MOST_ENTRIES};
 ghost use Rattle.sat_verdict.specs.Tables.{HasClients};
 ghost use Rattle.sat_verdict.specs.Passes.{table_fresh};
 ghost use Rattle.sat_verdict.specs.declared.tale.Tale.TheVariants as variants;
@@ -13,7 +14,7 @@ use crate::Tale;
 use crate::greatest::{Noted, absorb, greatest_of, none_noted};
 use crate::links::Links;
 use crate::row::Row;
-use crate::scans::count_in;
+use crate::scans::{count_in, row_at};
 use sat_label::Point;
 use std::alloc::{AllocError, Global};
 
@@ -50,7 +51,7 @@ fn catch_up_all(
     tales: &[Tale],
     numbers: &[u16],
     next: &[u16],
-    columns: &[Row],
+    rows: &[Row],
     reader: u16,
     place: usize,
 )
@@ -61,11 +62,12 @@ fn catch_up_all(
     ensures size { length noted.new.items ≡ 65536 }
     ensures places { length places.new ≡ length places.old }
     ensures read { AreRead tales.now numbers.now noted.new.items reader places.new }
-    ensures past { (c : ℕ) → c < length places.new → IsPast tales.now (slice_index (get_or columns.now c []) place) (slice_index places.new c) }
+    ensures past { (c : ℕ) → c < length places.new → IsPast tales.now (slice_index (get_or rows.now place []) c) (slice_index places.new c) }
 {
+    let row = row_at(rows, place);
     for client in 0..places.len() {
         let from = places.at(client);
-        let to = count_in(columns, client, place);
+        let to = count_in(row, client);
         let at = catch_up(noted, tales, numbers, next, reader, from, to);
         places.set(client, at);
     }
@@ -91,7 +93,7 @@ fn is_fresh(
     tales: &[Tale],
     numbers: &[u16],
     next: &[u16],
-    columns: &[Row],
+    rows: &[Row],
     reader: u16,
     place: usize,
 ) -> bool
@@ -104,15 +106,15 @@ fn is_fresh(
     ensures size { length noted.new.items ≡ 65536 }
     ensures places { length places.new ≡ length places.old }
     ensures read { AreRead tales.now numbers.now noted.new.items reader places.new }
-    ensures fresh { IsTrue result → table_fresh tales.now numbers.now columns.now place (get_or tales.now place variants.Other) ≡ None }
+    ensures fresh { IsTrue result → table_fresh tales.now numbers.now rows.now place (get_or tales.now place variants.Other) ≡ None }
 {
     match &tales[place] {
         Tale::ReadSome { item, point, .. } => {
-            catch_up_all(places, noted, tales, numbers, next, columns, reader, place);
+            catch_up_all(places, noted, tales, numbers, next, rows, reader, place);
             is_none_above(greatest_of(noted.as_slice(), reader, *item), Some(*point))
         }
         Tale::ReadNone { item, .. } => {
-            catch_up_all(places, noted, tales, numbers, next, columns, reader, place);
+            catch_up_all(places, noted, tales, numbers, next, rows, reader, place);
             is_none_above(greatest_of(noted.as_slice(), reader, *item), None)
         }
         _ => true,
@@ -127,7 +129,7 @@ fn mark_fresh(
     tales: &[Tale],
     numbers: &[u16],
     next: &[u16],
-    columns: &[Row],
+    rows: &[Row],
     reader: u16,
     first: u16,
 )
@@ -137,15 +139,15 @@ fn mark_fresh(
     requires clients { HasClients (length places.old) tales.now }
     requires read { AreRead tales.now numbers.now noted.old.items reader places.old }
     requires marks { length fresh.old.items ≡ length tales.now }
-    requires fresh { AreFresh tales.now numbers.now columns.now fresh.old.items }
+    requires fresh { AreFresh tales.now numbers.now rows.now fresh.old.items }
     ensures size { length noted.new.items ≡ 65536 }
     ensures marks { length fresh.new.items ≡ length tales.now }
-    ensures fresh { AreFresh tales.now numbers.now columns.now fresh.new.items }
+    ensures fresh { AreFresh tales.now numbers.now rows.now fresh.new.items }
 {
     let mut at = first;
     while (at as usize) < tales.len() {
         let place = at as usize;
-        let found = is_fresh(places, noted, tales, numbers, next, columns, reader, place);
+        let found = is_fresh(places, noted, tales, numbers, next, rows, reader, place);
         fresh[place] = found;
         at = next[place];
     }
@@ -165,16 +167,16 @@ pub fn fresh_entries(
     alloc: Global,
     tales: &[Tale],
     numbers: &[u16],
-    columns: &[Row],
+    rows: &[Row],
     links: &Links,
     clients: u16,
 ) -> Result<Vec<bool>, AllocError>
-    requires few { length tales.now ≤ 20000 }
+    requires few { length tales.now ≤ MOST_ENTRIES }
     requires numbers { length numbers.now ≡ length tales.now }
     requires clients { HasClients clients tales.now }
     requires links { Linked tales.now clients links.now.heads.items links.now.next.items 0 }
     ensures marks { IfOk result (λ fresh. length fresh.items ≡ length tales.now) }
-    ensures fresh { IfOk result (λ fresh. AreFresh tales.now numbers.now columns.now fresh.items) }
+    ensures fresh { IfOk result (λ fresh. AreFresh tales.now numbers.now rows.now fresh.items) }
 {
     let mut noted = none_noted(alloc)?;
     let mut fresh = no_marks(alloc, tales.len())?;
@@ -187,7 +189,7 @@ pub fn fresh_entries(
             tales,
             numbers,
             links.next.as_slice(),
-            columns,
+            rows,
             reader,
             links.heads[reader as usize],
         );

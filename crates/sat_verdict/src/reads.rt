@@ -1,15 +1,16 @@
 //! The verdict on reading fresh: one pass over the entries.
 ghost use Rattle.std.specs.Prelude.{◌≡◌, ◌≤◌, ◌<◌, ◌-◌, None, get_or, length, map, reverse, IsTrue};
+ghost use Rattle.sat_verdict.specs.declared.limits.TheConstants.{MOST_ENTRIES};
 ghost use Rattle.sat_verdict.specs.declared.tale.Tale.TheVariants as variants;
 ghost use Rattle.sat_verdict.specs.Verdicts.{IsFreshVerdict};
 ghost use Rattle.sat_verdict.specs.Found.{first};
-ghost use Rattle.sat_verdict.specs.Tables.{number_in, scan, AreColumns, HasClients, IsUnique};
+ghost use Rattle.sat_verdict.specs.Tables.{number_in, scan, AreRows, HasClients, IsUnique};
 ghost use Rattle.sat_verdict.specs.Greatest.{AreFresh};
 ghost use Rattle.sat_verdict.specs.Passes.{item_of, passes, table_miss_by, table_miss, table_misses, table_fresh};
 
 use crate::Tale;
 use crate::row::Row;
-use crate::scans::{count_in, lower};
+use crate::scans::{count_in, lower, row_at};
 use sat_label::Point;
 
 /// Whether an entry wrote the item.
@@ -46,7 +47,7 @@ fn made_item(tales: &[Tale], item: u16, number: u16) -> bool
 /// What one entry of a client tells of what a read missed.
 fn miss_by(
     tales: &[Tale],
-    columns: &[Row],
+    rows: &[Row],
     place: usize,
     item: u16,
     read: Option<Point>,
@@ -55,12 +56,12 @@ fn miss_by(
     client: u16,
     point: &Point,
 ) -> Option<u16>
-    ensures { result ≡ table_miss_by tales.now columns.now place item read at number client point.now }
+    ensures { result ≡ table_miss_by tales.now rows.now place item read at number client point.now }
 {
     if number == 0 {
         return None;
     }
-    let known = count_in(columns, client as usize, place);
+    let known = count_in(row_at(rows, place), client as usize);
     if at < known && made_item(tales, item, number) && passes(read, point) {
         Some(number)
     } else {
@@ -72,21 +73,21 @@ fn miss_by(
 fn miss(
     entry: &Tale,
     tales: &[Tale],
-    columns: &[Row],
+    rows: &[Row],
     place: usize,
     item: u16,
     read: Option<Point>,
     at: u16,
     number: u16,
 ) -> Option<u16>
-    ensures { result ≡ table_miss tales.now columns.now place item read at number entry.now }
+    ensures { result ≡ table_miss tales.now rows.now place item read at number entry.now }
 {
     match entry {
         Tale::Wrote { client, point, .. } => miss_by(
-            tales, columns, place, item, read, at, number, *client, point,
+            tales, rows, place, item, read, at, number, *client, point,
         ),
         Tale::ReadSome { client, point, .. } => miss_by(
-            tales, columns, place, item, read, at, number, *client, point,
+            tales, rows, place, item, read, at, number, *client, point,
         ),
         _ => None,
     }
@@ -96,22 +97,22 @@ fn miss(
 fn least_miss(
     tales: &[Tale],
     numbers: &[u16],
-    columns: &[Row],
+    rows: &[Row],
     place: usize,
     item: u16,
     read: Option<Point>,
 ) -> Option<u16>
-    requires few { length tales.now ≤ 20000 }
+    requires few { length tales.now ≤ MOST_ENTRIES }
     requires numbers { length numbers.now ≡ length tales.now }
     requires place { place ≤ length tales.now }
-    ensures { result ≡ scan (table_misses tales.now numbers.now columns.now place item read) place }
+    ensures { result ≡ scan (table_misses tales.now numbers.now rows.now place item read) place }
 {
     let mut least = None;
     for at in 0..place {
         let found = miss(
             &tales[at],
             tales,
-            columns,
+            rows,
             place,
             item,
             read,
@@ -129,15 +130,15 @@ fn next_fresh(
     clear: bool,
     tales: &[Tale],
     numbers: &[u16],
-    columns: &[Row],
+    rows: &[Row],
     entry: &Tale,
     place: usize,
 ) -> Option<(u64, u64)>
-    requires few { length tales.now ≤ 20000 }
+    requires few { length tales.now ≤ MOST_ENTRIES }
     requires numbers { length numbers.now ≡ length tales.now }
     requires place { place ≤ length tales.now }
-    requires clear { IsTrue clear → table_fresh tales.now numbers.now columns.now place entry.now ≡ None }
-    ensures { result ≡ first fresh (table_fresh tales.now numbers.now columns.now place entry.now) }
+    requires clear { IsTrue clear → table_fresh tales.now numbers.now rows.now place entry.now ≡ None }
+    ensures { result ≡ first fresh (table_fresh tales.now numbers.now rows.now place entry.now) }
 {
     if fresh.is_some() {
         return fresh;
@@ -149,7 +150,7 @@ fn next_fresh(
         Tale::ReadSome { item, point, .. } => match least_miss(
             tales,
             numbers,
-            columns,
+            rows,
             place,
             *item,
             Some(*point),
@@ -157,9 +158,7 @@ fn next_fresh(
             Some(maker) => Some((place as u64 + 1, maker as u64)),
             None => None,
         },
-        Tale::ReadNone { item, .. } => match least_miss(
-            tales, numbers, columns, place, *item, None,
-        ) {
+        Tale::ReadNone { item, .. } => match least_miss(tales, numbers, rows, place, *item, None) {
             Some(maker) => Some((place as u64 + 1, maker as u64)),
             None => None,
         },
@@ -171,14 +170,14 @@ fn next_fresh(
 pub fn judge_reads(
     tales: &[Tale],
     numbers: &[u16],
-    columns: &[Row],
+    rows: &[Row],
     clear: &[bool],
     clients: u16,
 ) -> Option<(u64, u64)>
-    requires few { length tales.now ≤ 20000 }
+    requires few { length tales.now ≤ MOST_ENTRIES }
     requires numbers { numbers.now ≡ map (number_in (reverse tales.now)) tales.now }
-    requires columns { AreColumns tales.now clients columns.now }
-    requires clear { AreFresh tales.now numbers.now columns.now clear.now }
+    requires rows { AreRows tales.now clients rows.now }
+    requires clear { AreFresh tales.now numbers.now rows.now clear.now }
     requires size { length clear.now ≡ length tales.now }
     requires clients { HasClients clients tales.now }
     requires unique { IsUnique (reverse tales.now) }
@@ -186,7 +185,7 @@ pub fn judge_reads(
 {
     let mut fresh = None;
     for (place, entry) in tales.iter().enumerate() {
-        fresh = next_fresh(fresh, clear[place], tales, numbers, columns, entry, place);
+        fresh = next_fresh(fresh, clear[place], tales, numbers, rows, entry, place);
     }
     fresh
 }

@@ -1,5 +1,5 @@
 //! A number for each of some entries or clients.
-ghost use Rattle.std.specs.Prelude.{◌≡◌, ◌<◌, ℕ, length, slice_index, slice_set, IfOk};
+ghost use Rattle.std.specs.Prelude.{◌≡◌, ◌<◌, ℕ, [], max, get_or, length, set, slice_index, slice_set, IfOk};
 
 use std::alloc::{AllocError, Global};
 use std::marker::Model;
@@ -11,6 +11,13 @@ pub fn filled(alloc: Global, size: usize, value: u16) -> Result<Vec<u16>, AllocE
 {
     let made: Vec<u16> = vec![in alloc; value; size]?;
     Ok(made)
+}
+
+/// The greater of two numbers.
+fn greater(one: u16, other: u16) -> u16
+    ensures { result ≡ max one other }
+{
+    if one < other { other } else { one }
 }
 
 /// A number for each of some entries or clients. Contracts see the list of the numbers.
@@ -28,6 +35,15 @@ impl Model for Row {
 }
 
 impl Row {
+    /// No numbers. It takes no memory.
+    pub fn none(alloc: Global) -> Row
+        ensures { result ≡ [] }
+    {
+        Row {
+            counts: Vec::new(alloc),
+        }
+    }
+
     /// These numbers.
     pub fn of(alloc: Global, numbers: &[u16]) -> Result<Row, AllocError>
         ensures { IfOk result (λ row. row ≡ numbers.now) }
@@ -67,5 +83,29 @@ impl Row {
         ensures { self.new ≡ slice_set self.old place value }
     {
         self.counts[place] = value;
+    }
+
+    /// Sets the number at a place, if there is one.
+    pub fn put(&mut self, place: usize, value: u16)
+        ensures { self.new ≡ set self.old place value }
+    {
+        if place < self.counts.len() {
+            self.counts[place] = value;
+        }
+    }
+
+    /// Raises each number to that of some others at its place.
+    pub fn raise(&mut self, others: &[u16])
+        ensures size { length self.new ≡ length self.old }
+        ensures each { (k : ℕ) → k < length self.old → get_or self.new k 0 ≡ max (get_or self.old k 0) (get_or others.now k 0) }
+    {
+        let size = if self.counts.len() < others.len() {
+            self.counts.len()
+        } else {
+            others.len()
+        };
+        for place in 0..size {
+            self.counts[place] = greater(self.counts[place], others[place]);
+        }
     }
 }

@@ -1,5 +1,6 @@
 //! The least maker's number of what a site lacks.
 ghost use Rattle.std.specs.Prelude.{◌≡◌, ◌≤◌, [], get_or, length, slice_index};
+ghost use Rattle.sat_verdict.specs.declared.limits.TheConstants.{MOST_ENTRIES};
 ghost use Rattle.sat_verdict.specs.Goals.{no_sites};
 ghost use Rattle.sat_verdict.specs.Found.{lower};
 ghost use Rattle.sat_verdict.specs.Tables.{option_of, scan, table_lack, table_lack_by, table_lacks};
@@ -28,12 +29,22 @@ pub fn lower(one: Option<u16>, other: Option<u16>) -> Option<u16>
     }
 }
 
-/// A count of a client's column; 0 where there is none.
-pub fn count_in(columns: &[Row], client: usize, place: usize) -> u16
-    ensures { result ≡ slice_index (get_or columns.now client []) place }
+/// A row of a table; an empty one past its end.
+pub fn row_at(rows: &[Row], place: usize) -> &[u16]
+    ensures { result.now ≡ get_or rows.now place [] }
 {
-    match columns.get(client) {
-        Some(row) => row.at(place),
+    match rows.get(place) {
+        Some(row) => row.as_slice(),
+        None => &[],
+    }
+}
+
+/// A client's count in a row; 0 past its end.
+pub fn count_in(row: &[u16], client: usize) -> u16
+    ensures { result ≡ slice_index row.now client }
+{
+    match row.get(client) {
+        Some(count) => *count,
         None => 0,
     }
 }
@@ -50,7 +61,7 @@ pub fn set_at(sets: &[SiteSet], place: usize) -> SiteSet
 
 /// What one entry of a client tells of what a site lacks.
 fn lack_by(
-    columns: &[Row],
+    rows: &[Row],
     unshown: &[SiteSet],
     made: usize,
     site: u16,
@@ -58,12 +69,12 @@ fn lack_by(
     number: u16,
     client: u16,
 ) -> Option<u16>
-    ensures { result ≡ table_lack_by columns.now unshown.now made site place number client }
+    ensures { result ≡ table_lack_by rows.now unshown.now made site place number client }
 {
     if number == 0 {
         return None;
     }
-    let known = count_in(columns, client as usize, made);
+    let known = count_in(row_at(rows, made), client as usize);
     if place < known && set_at(unshown, number as usize - 1).has(site) {
         Some(number)
     } else {
@@ -74,20 +85,18 @@ fn lack_by(
 /// What one entry tells of what a site lacks.
 fn lack(
     entry: &Tale,
-    columns: &[Row],
+    rows: &[Row],
     unshown: &[SiteSet],
     made: usize,
     site: u16,
     place: u16,
     number: u16,
 ) -> Option<u16>
-    ensures { result ≡ table_lack columns.now unshown.now made site place number entry.now }
+    ensures { result ≡ table_lack rows.now unshown.now made site place number entry.now }
 {
     match entry {
-        Tale::Wrote { client, .. } => lack_by(columns, unshown, made, site, place, number, *client),
-        Tale::ReadSome { client, .. } => lack_by(
-            columns, unshown, made, site, place, number, *client,
-        ),
+        Tale::Wrote { client, .. } => lack_by(rows, unshown, made, site, place, number, *client),
+        Tale::ReadSome { client, .. } => lack_by(rows, unshown, made, site, place, number, *client),
         _ => None,
     }
 }
@@ -96,20 +105,20 @@ fn lack(
 pub fn least_lack(
     tales: &[Tale],
     numbers: &[u16],
-    columns: &[Row],
+    rows: &[Row],
     unshown: &[SiteSet],
     made: usize,
     site: u16,
 ) -> Option<u16>
-    requires few { length tales.now ≤ 20000 }
+    requires few { length tales.now ≤ MOST_ENTRIES }
     requires numbers { length numbers.now ≡ length tales.now }
-    ensures { result ≡ scan (table_lacks columns.now unshown.now numbers.now tales.now made site) (length tales.now) }
+    ensures { result ≡ scan (table_lacks rows.now unshown.now numbers.now tales.now made site) (length tales.now) }
 {
     let mut least = None;
     for (place, entry) in tales.iter().enumerate() {
         let found = lack(
             entry,
-            columns,
+            rows,
             unshown,
             made,
             site,

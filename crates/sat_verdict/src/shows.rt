@@ -2,10 +2,11 @@
 ghost use Rattle.std.specs.Prelude.{◌≡◌, ◌≢◌, ◌≤◌, ◌<◌, ◌-◌, ◌&&◌, ◌==◌, not, true, ℕ, Some, None, [], get_or, length, map, reverse, IfOk, IsTrue};
 ghost use Rattle.sat_label.specs.Words.{bit};
 ghost use Rattle.sat_label.specs.Grouped.{list_of};
+ghost use Rattle.sat_verdict.specs.declared.limits.TheConstants.{MOST_ENTRIES};
 ghost use Rattle.sat_verdict.specs.Goals.{no_sites, replicates};
 ghost use Rattle.sat_verdict.specs.Verdicts.{IsCausalVerdict, IsOnceVerdict};
 ghost use Rattle.sat_verdict.specs.Found.{any_kept, first, first_lack, first_again};
-ghost use Rattle.sat_verdict.specs.Tables.{number_in, AreColumns, AreUnshown, HasClients, IsUnique};
+ghost use Rattle.sat_verdict.specs.Tables.{number_in, AreRows, AreUnshown, HasClients, IsUnique};
 ghost use Rattle.sat_verdict.specs.Walks.{IsClear, Linked};
 ghost use Rattle.sat_verdict.specs.Passes.{AreKeptTo, HasSites, kept_of, site_of, table_causal, table_once};
 
@@ -68,16 +69,16 @@ fn next_causal(
     clear: bool,
     tales: &[Tale],
     numbers: &[u16],
-    columns: &[Row],
+    rows: &[Row],
     unshown: &[SiteSet],
     site: Option<u16>,
     place: u16,
     number: u16,
 ) -> Option<(u64, u64, u16)>
-    requires few { length tales.now ≤ 20000 }
+    requires few { length tales.now ≤ MOST_ENTRIES }
     requires numbers { length numbers.now ≡ length tales.now }
-    requires clear { IsTrue clear → IsClear tales.now numbers.now columns.now unshown.now site number }
-    ensures { result ≡ first causal (table_causal tales.now numbers.now columns.now unshown.now place number site) }
+    requires clear { IsTrue clear → IsClear tales.now numbers.now rows.now unshown.now site number }
+    ensures { result ≡ first causal (table_causal tales.now numbers.now rows.now unshown.now place number site) }
 {
     if causal.is_some() {
         return causal;
@@ -90,7 +91,7 @@ fn next_causal(
             if number == 0 {
                 None
             } else {
-                match least_lack(tales, numbers, columns, unshown, number as usize - 1, site) {
+                match least_lack(tales, numbers, rows, unshown, number as usize - 1, site) {
                     Some(maker) => Some((place as u64 + 1, maker as u64, site)),
                     None => None,
                 }
@@ -171,13 +172,13 @@ pub fn judge_shows(
     sets: &[SiteSet],
     tales: &[Tale],
     numbers: &[u16],
-    columns: &[Row],
+    rows: &[Row],
     links: &Links,
     clients: u16,
 ) -> Result<Judged, AllocError>
-    requires few { length tales.now ≤ 20000 }
+    requires few { length tales.now ≤ MOST_ENTRIES }
     requires numbers { numbers.now ≡ map (number_in (reverse tales.now)) tales.now }
-    requires columns { AreColumns tales.now clients columns.now }
+    requires rows { AreRows tales.now clients rows.now }
     requires links { Linked tales.now clients links.now.heads.items links.now.next.items 0 }
     requires clients { HasClients clients tales.now }
     requires sites { HasSites tales.now }
@@ -198,7 +199,7 @@ pub fn judge_shows(
             tales,
             numbers,
             next,
-            columns,
+            rows,
             unshown.as_slice(),
             site,
             number,
@@ -208,7 +209,7 @@ pub fn judge_shows(
             clear,
             tales,
             numbers,
-            columns,
+            rows,
             unshown.as_slice(),
             site,
             place as u16,

@@ -1,11 +1,12 @@
 //! The verdict on a given history.
 ghost use Rattle.std.specs.Prelude.{◌≤◌, length, reverse, IfOk};
+ghost use Rattle.sat_verdict.specs.declared.limits.TheConstants.{MOST_ENTRIES};
 ghost use Rattle.sat_verdict.specs.Verdicts.{IsCausalVerdict, IsOnceVerdict, IsFreshVerdict};
 ghost use Rattle.sat_verdict.specs.Tables.{HasClients, IsUnique};
 ghost use Rattle.sat_verdict.specs.Passes.{HasSites};
 
 use crate::Tale;
-use crate::counts::columns_of;
+use crate::counts::rows_of;
 use crate::links::links_of;
 use crate::makers::maker_numbers;
 use crate::readers::fresh_entries;
@@ -25,17 +26,19 @@ pub struct Verdict {
     pub fresh: Option<(u64, u64)>,
 }
 
-/// Judges a history, given the oldest entry first: exactly, in time of about its entries times its clients. `sets` has for each item the
-/// sites that replicate it; an item behind its end is replicated nowhere. It asks for at most 20,000 entries, each of a client below
-/// `clients`, for sites that show below 64, and for no point that two entries made. A read is judged by what its client knew before it; the
-/// items and causes of a point are those of the entry that made it, wherever that stands. Want of memory is the one error.
+/// Judges a history, given the oldest entry first: exactly, and where each law holds in time of about its entries times its clients. A
+/// law that does not hold costs one pass over the entries more. `sets` has for each item the sites that replicate it; an item behind its
+/// end is replicated nowhere. It asks for at most [`MOST_ENTRIES`](crate::MOST_ENTRIES) entries, each of a client below `clients`, for sites
+/// that show below 64, and for no point that two entries made. A read is judged by what its client knew before it; the items and causes of
+/// a point are those of the entry that made it, wherever that stands. It takes memory for a count of each client for each entry of a
+/// client. Want of memory is the one error.
 pub fn judge(
     alloc: Global,
     sets: &[SiteSet],
     tales: &[Tale],
     clients: u16,
 ) -> Result<Verdict, AllocError>
-    requires few { length tales.now ≤ 20000 }
+    requires few { length tales.now ≤ MOST_ENTRIES }
     requires clients { HasClients clients tales.now }
     requires sites { HasSites tales.now }
     requires unique { IsUnique (reverse tales.now) }
@@ -44,14 +47,14 @@ pub fn judge(
     ensures fresh { IfOk result (λ verdict. IsFreshVerdict (reverse tales.now) verdict.fresh) }
 {
     let numbers = maker_numbers(alloc, tales)?;
-    let columns = columns_of(alloc, tales, numbers.as_slice(), clients)?;
+    let rows = rows_of(alloc, tales, numbers.as_slice(), clients)?;
     let links = links_of(alloc, tales, clients)?;
     let judged = judge_shows(
         alloc,
         sets,
         tales,
         numbers.as_slice(),
-        columns.as_slice(),
+        rows.as_slice(),
         &links,
         clients,
     )?;
@@ -59,14 +62,14 @@ pub fn judge(
         alloc,
         tales,
         numbers.as_slice(),
-        columns.as_slice(),
+        rows.as_slice(),
         &links,
         clients,
     )?;
     let fresh = judge_reads(
         tales,
         numbers.as_slice(),
-        columns.as_slice(),
+        rows.as_slice(),
         clear.as_slice(),
         clients,
     );

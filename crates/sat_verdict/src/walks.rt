@@ -10,7 +10,7 @@ ghost use Rattle.sat_verdict.specs.Walks.{is_open, AreClosed, AreDone, AreLinks,
 
 use crate::Tale;
 use crate::row::Row;
-use crate::scans::{count_in, set_at};
+use crate::scans::{count_in, row_at, set_at};
 use sat_label::SiteSet;
 
 /// Whether the point that an entry with this number made is one that a site replicates and did not show.
@@ -62,7 +62,7 @@ fn moves_on(
     tales: &[Tale],
     numbers: &[u16],
     next: &[u16],
-    columns: &[Row],
+    rows: &[Row],
     unshown: &[SiteSet],
     made: usize,
     site: u16,
@@ -71,11 +71,12 @@ fn moves_on(
     requires links { AreLinks tales.now next.now }
     requires done { IsDone tales.now numbers.now unshown.now site done.old }
     ensures done { IsDone tales.now numbers.now unshown.now site done.new }
-    ensures clear { IsTrue result → scan (table_lacks columns.now unshown.now numbers.now tales.now made site) (length tales.now) ≡ None }
+    ensures clear { IsTrue result → scan (table_lacks rows.now unshown.now numbers.now tales.now made site) (length tales.now) ≡ None }
 {
+    let row = row_at(rows, made);
     for client in 0..done.len() {
         let from = done.at(client);
-        let to = count_in(columns, client, made);
+        let to = count_in(row, client);
         match walk(tales, numbers, next, unshown, site, from, to) {
             Some(at) => done.set(client, at),
             None => return false,
@@ -90,7 +91,7 @@ pub fn is_clear(
     tales: &[Tale],
     numbers: &[u16],
     next: &[u16],
-    columns: &[Row],
+    rows: &[Row],
     unshown: &[SiteSet],
     site: Option<u16>,
     number: u16,
@@ -99,7 +100,7 @@ pub fn is_clear(
     requires links { AreLinks tales.now next.now }
     requires done { AreDone tales.now numbers.now unshown.now done.old.items }
     ensures done { AreDone tales.now numbers.now unshown.now done.new.items }
-    ensures clear { IsTrue result → IsClear tales.now numbers.now columns.now unshown.now site number }
+    ensures clear { IsTrue result → IsClear tales.now numbers.now rows.now unshown.now site number }
 {
     let Some(site) = site else { return true };
     if number == 0 {
@@ -114,7 +115,7 @@ pub fn is_clear(
         tales,
         numbers,
         next,
-        columns,
+        rows,
         unshown,
         number as usize - 1,
         site,

@@ -60,8 +60,7 @@ pub fn ahead_at(
     requires edge { (n : NetSeen) → slice_get nets.now place ≡ Some (Some n) → is_edge n.tree from (SerializerNode to) ≡ true }
     ensures { (n : NetSeen) → slice_get nets.now place ≡ Some (Some n) → result ≡ slice_get (link_of n from (SerializerNode to)) count }
 {
-    let net = &nets[place];
-    ahead_of(net, from, to, count)
+    ahead_of(&nets[place], from, to, count)
 }
 
 // Takes that label out, where the site showed it or took it.

@@ -21,7 +21,7 @@ ghost use Rattle.sat_world.specs.Stands.{StandsFor};
 
 use crate::{Client, SiteView, Version, clocks, nets, places, start, underway};
 use sat_act::{Act, Answer, Deployment, Refusal};
-use sat_label::{Items, NodeId, Value, Values};
+use sat_label::{Items, Label, NodeId, Value, Values};
 use sat_net::Net;
 use sat_site::{Site, SiteInput, interest};
 use sat_sites::Interest;

@@ -2,7 +2,8 @@
 #![tactic(auto)]
 
 use sat_hints::{
-    KeepingReader, KeepingWriter, Kept, Wrote, about_input, about_refusals, about_words, awaits,
+    Followed, FollowingWriter, KeepingReader, KeepingWriter, Kept, Wrote, about_history,
+    about_input, about_refusals, about_stopped, about_words, awaits, is_audit, is_chain, is_live,
     is_run,
 };
 use sat_outside::{FreeGate, StdSink, StdSource};
@@ -34,6 +35,20 @@ fn meaning(status: u8) -> Option<&'static str> {
     }
 }
 
+// Says what a status means.
+fn say_meaning<R: Eprint>(rt: &R, status: u8) {
+    if let Some(text) = meaning(status) {
+        let _ = eprintln!(rt; "saturn: {text}");
+    }
+}
+
+// Says which clients gave up.
+fn tell_stopped<R: Eprint + AllocGlobal>(rt: &R, followed: &Followed) {
+    if let Ok(Some(text)) = about_stopped(rt.alloc(), followed) {
+        let _ = eprint!(rt; "{text}");
+    }
+}
+
 // The words after the program's name.
 fn words<R: Env + AllocGlobal>(rt: &R) -> io::Result<Vec<String>> {
     Ok(env::args(rt)?.skip(1).collect(rt.alloc())?)
@@ -48,8 +63,10 @@ fn hint(
     wrote: &Wrote,
 ) -> Result<Option<String>, AllocError> {
     match status {
+        1 if is_chain(words.unwrap_or(&[])) => Ok(None),
         1 => about_input(alloc, kept, wrote),
         2 => Ok(Some(about_words(alloc, words)?)),
+        7 => about_history(alloc, kept, wrote),
         _ => Ok(None),
     }
 }
@@ -68,8 +85,8 @@ fn tell<R: Eprint + AllocGlobal>(
     }
     if let Ok(Some(text)) = hint(rt.alloc(), status, words, kept, wrote) {
         let _ = eprint!(rt; "{text}");
-    } else if let Some(text) = meaning(status) {
-        let _ = eprintln!(rt; "saturn: {text}");
+    } else {
+        say_meaning(rt, status);
     }
     if let Ok(Some(text)) = about_refusals(rt.alloc(), wrote) {
         let _ = eprint!(rt; "{text}");
@@ -81,7 +98,10 @@ fn main(rt: HostRuntime) -> ExitCode {
         Ok(words) => Some(words),
         // A word that is no text is refused like any other.
         Err(error) if error.kind() == ErrorKind::InvalidData => None,
-        Err(_) => return ExitCode::from(NO_MEMORY),
+        Err(_) => {
+            say_meaning(&rt, NO_MEMORY);
+            return ExitCode::from(NO_MEMORY);
+        }
     };
     let said = said.as_ref().map(|words| words.as_slice());
     let words = said.unwrap_or(&[]);
@@ -91,13 +111,17 @@ fn main(rt: HostRuntime) -> ExitCode {
         let _ = eprintln!(rt; "saturn: {text}");
     }
     let counts = is_run(words) && rt.stderr().is_terminal();
-    let mut reader = KeepingReader::new(rt.alloc(), rt.stdin().reader());
-    let mut writer = KeepingWriter::new(rt.alloc(), rt.stdout(), counts);
+    let mut reader = KeepingReader::new(rt.alloc(), rt.stdin().reader(), is_audit(words));
+    let writer = KeepingWriter::new(rt.alloc(), rt.stdout(), counts);
+    let mut writer = FollowingWriter::new(rt.alloc(), writer, is_live(words));
     let mut source = StdSource::new(&mut reader);
     let mut sink = StdSink::new(&mut writer);
     let status = saturn(&rt, words, &mut source, &mut sink, &FreeGate);
     drop(source);
     drop(sink);
-    tell(&rt, status, said, reader.kept(), writer.wrote());
+    tell(&rt, status, said, reader.kept(), writer.writer().wrote());
+    if let Some(followed) = writer.followed() {
+        tell_stopped(&rt, followed);
+    }
     ExitCode::from(status)
 }

@@ -15,7 +15,7 @@ loop-at-preserved c = (
   c.is_fresh-found.ensures.size,
   subst (λ (n : ℕ). HasClients n c.args.tales.now) (sym c.is_fresh-found.ensures.places) c.loop-at.invariant.2,
   c.is_fresh-found.ensures.read,
-  marks-set c.args.tales.now c.args.numbers.now c.args.columns.now c.loop-at.fresh.items c.loop-at.at c.is_fresh-found.result (omega (arith, c.loop-at-test.true, c.loop-at.invariant.0)) c.loop-at.invariant.4 c.is_fresh-found.ensures.fresh,
+  marks-set c.args.tales.now c.args.numbers.now c.args.rows.now c.loop-at.fresh.items c.loop-at.at c.is_fresh-found.result (omega (arith, c.loop-at-test.true, c.loop-at.invariant.0)) c.loop-at.invariant.4 c.is_fresh-found.ensures.fresh,
 )
 
 pub loop-at-smaller : goal.loop-at-smaller

@@ -10,7 +10,7 @@ loop-place-init c = refl
 
 pub loop-place-preserved : goal.loop-place-preserved
 loop-place-preserved c =
-    scan-step (table_lacks c.args.columns.now c.args.unshown.now c.args.numbers.now c.args.tales.now c.args.made c.args.site) c.loop-place.place c.loop-place.least c.lack-found.result c.lower-least.result c.loop-place.invariant
-    (lack-item c.args.columns.now c.args.unshown.now c.args.numbers.now c.args.tales.now c.args.made c.args.site c.loop-place.place _ c.lack-found.result c.loop-place-test.true (get_or_default c.args.tales.now c.loop-place.place _ _ c.loop-place-test.true)
+    scan-step (table_lacks c.args.rows.now c.args.unshown.now c.args.numbers.now c.args.tales.now c.args.made c.args.site) c.loop-place.place c.loop-place.least c.lack-found.result c.lower-least.result c.loop-place.invariant
+    (lack-item c.args.rows.now c.args.unshown.now c.args.numbers.now c.args.tales.now c.args.made c.args.site c.loop-place.place _ c.lack-found.result c.loop-place-test.true (get_or_default c.args.tales.now c.loop-place.place _ _ c.loop-place-test.true)
     c.lack-found.ensures)
     c.lower-least.ensures

@@ -25,10 +25,10 @@ is_clear-clear-requires-clause-done c =
 pub loop-place-preserved : goal.loop-place-preserved
 loop-place-preserved c =
     let s =
-    pass-next c.args.sets.now c.args.tales.now c.args.columns.now c.args.numbers.now c.args.clients c.loop-place.place _
+    pass-next c.args.sets.now c.args.tales.now c.args.rows.now c.args.numbers.now c.args.clients c.loop-place.place _
     c.loop-place.unshown.items c.as_slice-in-loop-place-2.result.now c.as_slice-in-loop-place-3.result.now c.show.new.unshown.items
     c.loop-place.causal c.next_causal-causal.result c.loop-place.once c.next_once-once.result c.site-site.result _
-    c.requires.unique c.requires.clients c.requires.numbers c.requires.columns c.requires.sites c.loop-place-test.true
+    c.requires.unique c.requires.clients c.requires.numbers c.requires.rows c.requires.sites c.loop-place-test.true
     (get_or_default c.args.tales.now c.loop-place.place _ _ c.loop-place-test.true) c.site-site.ensures refl
     (c.loop-place.invariant.0, c.loop-place.invariant.1, c.loop-place.invariant.2, c.loop-place.invariant.3)
     c.as_slice-in-loop-place-2.ensures.value c.next_causal-causal.ensures c.as_slice-in-loop-place-3.ensures.value c.next_once-once.ensures

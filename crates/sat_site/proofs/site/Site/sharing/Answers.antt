@@ -10,4 +10,4 @@ pub returns-clause-stands : goal.returns-clause-stands
 returns-clause-stands c = made-stands _ _ _ _ _ c.proxy_laws.ensures.starts c.in_ok-shape.ensures.shape (c.deref.ensures.value ∙ (c.in_ok-stamp.ensures ∙ ap (map is_stamp_plan) c.plans.ensures.plans)) c.in_ok-made.ensures
 
 pub returns-clause-same : goal.returns-clause-same
-returns-clause-same c = made-same _ _ _ _ _ c.in_ok-shape.ensures.shape (c.deref.ensures.value ∙ (c.in_ok-stamp.ensures ∙ ap (map is_stamp_plan) c.plans.ensures.plans)) c.in_ok-made.ensures
+returns-clause-same c = made-same c.args.d.now c.args.site _ _ _ c.in_ok-shape.ensures.shape (c.deref.ensures.value ∙ (c.in_ok-stamp.ensures ∙ ap (map is_stamp_plan) c.plans.ensures.plans)) c.in_ok-made.ensures

@@ -1,0 +1,14 @@
+pub mod Tallied
+pub mod Firsts
+pub mod Sums
+pub mod OnWays
+pub mod Sets
+pub mod Steps
+pub mod Answering
+pub mod Twofold
+pub mod Stood
+pub mod Acting
+pub mod Ready
+pub mod Deeds
+pub mod Effects
+pub mod Fresh

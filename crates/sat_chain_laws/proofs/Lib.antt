@@ -1,0 +1,9 @@
+pub mod Lists
+pub mod Rows
+pub mod Moves
+pub mod Done
+pub mod Held
+pub mod Tells
+pub mod Totals
+pub mod Theorem
+pub mod WorkedScripts

@@ -1,0 +1,6 @@
+pub mod Meaning
+pub mod Following
+pub mod UnderWay
+pub mod Rules
+pub mod ByLines
+pub mod Answered

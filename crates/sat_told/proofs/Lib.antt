@@ -1,0 +1,4 @@
+pub mod Telling
+pub mod Pasts
+pub mod Judging
+pub mod Naming
