@@ -10,6 +10,7 @@ ghost use Rattle.sat_crew.specs.Crews.{entries_in};
 ghost use Rattle.sat_crew.specs.Standing.{Came, Stood, Tried};
 
 use crate::passing::pass_all;
+use crate::pause::pause;
 use sat_act::{Act, Answer, Deployment};
 use sat_cluster::Cluster;
 use sat_machines::Laid;
@@ -18,7 +19,7 @@ use sat_outside::Gate;
 use sat_session::Session;
 use sat_undone::{MOST_TRIES, has_to_wait};
 use std::sync::Wait;
-use std::thread;
+use std::time::Clock;
 
 // ---- whose act it is
 
@@ -123,7 +124,7 @@ fn try_act<N: Laid + Names, R: Wait, G: Gate>(
 /// Does the act: an attach that has to wait is tried again, `MOST_TRIES` times in a row at the most. False where the client gave up,
 /// after exactly so many.
 #[tactic(auto, using(crate::proofs::Trying::trying_start, crate::proofs::Trying::trying_more, crate::proofs::Trying::trying_done, crate::proofs::Trying::trying_failed, crate::proofs::Trying::trying_given_up, crate::proofs::Owning::own_still))]
-pub(crate) fn do_act<N: Laid + Names, R: Wait, G: Gate>(
+pub(crate) fn do_act<N: Laid + Names, R: Wait + Clock, G: Gate>(
     rt: &R,
     cluster: &Cluster<N>,
     session: &mut Session<N>,
@@ -136,10 +137,10 @@ pub(crate) fn do_act<N: Laid + Names, R: Wait, G: Gate>(
     ensures came { (done : List Deed) → Stood done 0 None (entries_in session.old) → Came done act.now result (entries_in session.new) }
     ensures fault { IfErr result IsFault }
 {
-    'trying: for _ in 0..MOST_TRIES {
+    'trying: for tries in 0..MOST_TRIES {
         match try_act(rt, cluster, session, act, gate) {
             // What it waits for may be another's act, which wants the same lock.
-            Ok(true) => thread::yield_now(),
+            Ok(true) => pause(rt, tries),
             Ok(false) => return Ok(true),
             Err(fault) => return Err(fault),
         }

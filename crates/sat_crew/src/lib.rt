@@ -4,6 +4,7 @@
 mod acting;
 mod fault;
 mod passing;
+mod pause;
 mod roll;
 mod serving;
 mod together;

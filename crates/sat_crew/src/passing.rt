@@ -2,6 +2,7 @@
 ghost use Rattle.std.specs.Prelude.{IfErr};
 ghost use Rattle.sat_session.specs.Calls.{IsFault};
 
+use crate::pause::pause;
 use crate::roll::Roll;
 use sat_cluster::Cluster;
 use sat_label::NodeName;
@@ -9,13 +10,13 @@ use sat_machines::Laid;
 use sat_node::{CallFault, Names};
 use sat_outside::Gate;
 use std::sync::Wait;
-use std::thread;
+use std::time::Clock;
 
 /// How many passes over all nodes are made at the end, at the most.
 pub const MOST_PASSES: u64 = 1_000;
 
-/// Behind so many passes of one node in a row during which no session's worker was at work, its own makes no more.
-pub const IDLE_PASSES: u64 = 200_000;
+/// Behind so many passes of one node in a row during which no session's worker was at work, some two seconds, its own makes no more.
+pub const IDLE_PASSES: u64 = 2_000;
 
 /// Behind so many passes over all nodes in a row that added no entry, no more are made.
 pub const QUIET_PASSES: u64 = 3;
@@ -73,18 +74,15 @@ pub(crate) fn pass_all<N: Laid + Names, R: Wait, G: Gate>(
     }
 }
 
-// One more, or none: how many passes in a row found no session's worker at work.
-fn idle_passes(before: u64, roll: &Roll) -> u64 {
-    if roll.none_works() {
-        before.saturating_add(1)
-    } else {
-        0
-    }
+// How many in a row: one more, or none again.
+fn in_row(before: u64, again: bool) -> u64 {
+    if again { before.saturating_add(1) } else { 0 }
 }
 
-/// Passes of one node, until all sessions' workers have returned. Where threads are few, some of these begin only once this returns: so it
-/// also does after `IDLE_PASSES` during which none was at work.
-pub(crate) fn pass_until<N: Laid + Names, R: Wait, G: Gate>(
+/// Passes of one node, until all sessions' workers have returned, with a pause behind each, longer behind several that added no entry.
+/// Where threads are few, some sessions' workers begin only once this returns: so it also does after `IDLE_PASSES` during which none was
+/// at work, and from then on each other node's does once it finds none at work.
+pub(crate) fn pass_until<N: Laid + Names, R: Wait + Clock, G: Gate>(
     rt: &R,
     cluster: &Cluster<N>,
     node: NodeName,
@@ -94,18 +92,21 @@ pub(crate) fn pass_until<N: Laid + Names, R: Wait, G: Gate>(
     ensures { IfErr result IsFault }
 {
     let mut idle = 0u64;
+    let mut quiet = 0u64;
     'passing: for _ in rt.forever() {
-        if roll.all_returned() {
+        if roll.all_returned() || roll.none_comes() {
             return Ok(());
         }
         if idle >= IDLE_PASSES {
+            roll.gives_up();
             return Ok(());
         }
-        idle = idle_passes(idle, roll);
+        idle = in_row(idle, roll.none_works());
         match cluster.round(rt, node, gate) {
-            Ok(_) => thread::yield_now(),
+            Ok(added) => quiet = in_row(quiet, added == 0),
             Err(fault) => return Err(fault),
         }
+        pause(rt, quiet);
     }
     unreachable!()
 }

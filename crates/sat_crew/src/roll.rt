@@ -1,11 +1,12 @@
 //! Which sessions' workers have returned, and which are at work.
-use std::sync::atomic::{AtomicU64, Ordering};
+use std::sync::atomic::{AtomicBool, AtomicU64, Ordering};
 
-/// How many sessions' workers have not returned, and how many of these have begun.
+/// How many sessions' workers have not returned, how many of these have begun, and whether a node's worker gave up waiting for one.
 #[derive(Drop)]
 pub(crate) struct Roll {
     left: AtomicU64,
     at_work: AtomicU64,
+    given_up: AtomicBool,
 }
 
 impl Roll {
@@ -14,6 +15,7 @@ impl Roll {
         Roll {
             left: AtomicU64::new(count),
             at_work: AtomicU64::new(0),
+            given_up: AtomicBool::new(false),
         }
     }
 
@@ -36,5 +38,15 @@ impl Roll {
     /// Whether none is at work: none has begun, or each that has has returned.
     pub(crate) fn none_works(&self) -> bool {
         self.at_work.load(Ordering::SeqCst) == 0
+    }
+
+    /// A node's worker gives up: for a long time none was at work.
+    pub(crate) fn gives_up(&self) {
+        self.given_up.store(true, Ordering::SeqCst);
+    }
+
+    /// Whether one gave up, and none is at work still.
+    pub(crate) fn none_comes(&self) -> bool {
+        self.given_up.load(Ordering::SeqCst) && self.none_works()
     }
 }

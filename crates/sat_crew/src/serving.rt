@@ -19,10 +19,11 @@ use sat_node::{CallFault, Names};
 use sat_outside::Gate;
 use sat_session::Session;
 use std::sync::Wait;
+use std::time::Clock;
 
 /// Does a session's acts of a script, in their order, until its client gives up or a call fails.
 #[tactic(auto, using(crate::proofs::Scripts::serving_start, crate::proofs::Scripts::serving_act, crate::proofs::Scripts::serving_other, crate::proofs::Scripts::serving_own, crate::proofs::Scripts::worked_failed, crate::proofs::Scripts::worked_given_up, crate::proofs::Scripts::worked_all))]
-fn serve<N: Laid + Names, R: Wait, G: Gate>(
+fn serve<N: Laid + Names, R: Wait + Clock, G: Gate>(
     rt: &R,
     cluster: &Cluster<N>,
     acts: &[Act],
@@ -49,7 +50,7 @@ fn serve<N: Laid + Names, R: Wait, G: Gate>(
 
 // A session's worker.
 #[tactic(auto, using(crate::proofs::Scripts::serves))]
-fn work_caller<N: Laid + Names, R: Wait, G: Gate>(
+fn work_caller<N: Laid + Names, R: Wait + Clock, G: Gate>(
     rt: &R,
     cluster: &Cluster<N>,
     acts: &[Act],
@@ -64,7 +65,7 @@ fn work_caller<N: Laid + Names, R: Wait, G: Gate>(
 
 // A node's worker.
 #[tactic(auto, using(crate::proofs::Scripts::passes))]
-fn work_passer<N: Laid + Names, R: Wait, G: Gate>(
+fn work_passer<N: Laid + Names, R: Wait + Clock, G: Gate>(
     rt: &R,
     cluster: &Cluster<N>,
     passer: &mut Passer,
@@ -77,7 +78,7 @@ fn work_passer<N: Laid + Names, R: Wait, G: Gate>(
 }
 
 /// What a worker does. Sessions' workers say when they begin and when they return, since nodes' workers go on for them.
-pub(crate) fn work<N: Laid + Names, R: Wait, G: Gate>(
+pub(crate) fn work<N: Laid + Names, R: Wait + Clock, G: Gate>(
     rt: &R,
     cluster: &Cluster<N>,
     acts: &[Act],

@@ -22,6 +22,7 @@ use std::alloc::{AllocError, Global};
 use std::sync::Wait;
 use std::thread;
 use std::thread::Threads;
+use std::time::Clock;
 
 // ---- the workers
 
@@ -225,7 +226,7 @@ fn first_fault<N: Laid>(workers: &[Worker<N>]) -> Option<CallFault>
 // Each worker works in a thread of its own. Where the system refuses threads, some work one after another in one, in no order that
 // anything says: a node's worker then does not wait for a session's that cannot begin.
 #[tactic(auto, using(crate::proofs::Hiring::zip_each))]
-fn work_all<N: Laid + Names + Send + Sync, R: Threads + Wait + Sync, G: Gate>(
+fn work_all<N: Laid + Names + Send + Sync, R: Threads + Wait + Clock + Sync, G: Gate>(
     rt: &R,
     cluster: &Cluster<N>,
     acts: &[Act],
@@ -245,7 +246,7 @@ fn work_all<N: Laid + Names + Send + Sync, R: Threads + Wait + Sync, G: Gate>(
 }
 
 // The same of a whole list of workers.
-fn work_whole<N: Laid + Names + Send + Sync, R: Threads + Wait + Sync, G: Gate>(
+fn work_whole<N: Laid + Names + Send + Sync, R: Threads + Wait + Clock + Sync, G: Gate>(
     rt: &R,
     cluster: &Cluster<N>,
     acts: &[Act],
@@ -262,7 +263,7 @@ fn work_whole<N: Laid + Names + Send + Sync, R: Threads + Wait + Sync, G: Gate>(
 
 // All workers work, and then the nodes make passes until nothing is left to do. Where a worker stopped at a fault, no passes are made.
 #[tactic(auto, using(crate::proofs::Hiring::back, crate::proofs::Hiring::through))]
-fn run<N: Laid + Names + Send + Sync, R: Threads + Wait + Sync, G: Gate>(
+fn run<N: Laid + Names + Send + Sync, R: Threads + Wait + Clock + Sync, G: Gate>(
     rt: &R,
     cluster: &Cluster<N>,
     acts: &[Act],
@@ -293,7 +294,7 @@ fn run<N: Laid + Names + Send + Sync, R: Threads + Wait + Sync, G: Gate>(
 /// Each try is of the act that comes next. `Worn`, with the greatest u64, where a worker's call answered it; `Memory`. All sessions
 /// come back, in their order.
 #[tactic(auto, using(crate::proofs::Hiring::untouched, crate::proofs::Hiring::back_as, crate::proofs::Hiring::through_as))]
-pub fn crew<N: Laid + Names + Send + Sync, R: Threads + Wait + Sync, G: Gate>(
+pub fn crew<N: Laid + Names + Send + Sync, R: Threads + Wait + Clock + Sync, G: Gate>(
     rt: &R,
     alloc: Global,
     cluster: &Cluster<N>,

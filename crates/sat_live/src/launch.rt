@@ -12,6 +12,7 @@ use std::alloc::{AllocError, Global};
 use std::marker::Brand;
 use std::sync::Wait;
 use std::thread::Threads;
+use std::time::Clock;
 
 // The most messages that stand on a link.
 const LINK_ROOM: usize = 64;
@@ -20,7 +21,7 @@ const LINK_ROOM: usize = 64;
 /// in their order on a thread for each, and each node makes its passes on one. The text is the script of their one journal and the
 /// report of its run, with status 0; else what is missing, with 6 or 8. Acts of no client and not of the operator are not done.
 #[tactic(auto, using(crate::proofs::Outcomes::told_apart, crate::proofs::Outcomes::told_status))]
-pub fn live<R: Threads + Wait + Sync, G: Gate>(
+pub fn live<R: Threads + Wait + Clock + Sync, G: Gate>(
     rt: &R,
     alloc: Global,
     d: Deployment,

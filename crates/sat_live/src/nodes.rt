@@ -19,6 +19,7 @@ use sat_wires::Wires;
 use std::alloc::{AllocError, Global};
 use std::sync::Wait;
 use std::thread::Threads;
+use std::time::Clock;
 
 /// The one journal of nodes and sessions, the oldest entry first; or what a node and a session kept of an act, where this is not the
 /// same; or that there was no memory.
@@ -76,7 +77,7 @@ fn all_sessions<N: Laid + Names>(
 
 // The sessions as they come back of a script. Where a number ran out, what stands is told; None for want of memory.
 #[tactic(auto, using(crate::proofs::Coming::through_back))]
-fn worked<N: Laid + Names + Send + Sync, R: Threads + Wait + Sync, G: Gate>(
+fn worked<N: Laid + Names + Send + Sync, R: Threads + Wait + Clock + Sync, G: Gate>(
     rt: &R,
     alloc: Global,
     cluster: &Cluster<N>,
@@ -124,7 +125,7 @@ fn ended<N: Laid + Names>(alloc: Global, cluster: Cluster<N>, sessions: Vec<Sess
 /// Does a script at the nodes of N's deployment, on threads, and tells what came of it. The sessions are those of these clients, which
 /// are the deployment's, and of the operator.
 #[tactic(auto, using(crate::proofs::Coming::none_are, crate::proofs::Coming::as_many, crate::proofs::Coming::came_of))]
-pub(crate) fn come<N: Laid + Names + Send + Sync, R: Threads + Wait + Sync, G: Gate>(
+pub(crate) fn come<N: Laid + Names + Send + Sync, R: Threads + Wait + Clock + Sync, G: Gate>(
     rt: &R,
     alloc: Global,
     d: Deployment,

@@ -12,9 +12,10 @@ use sat_stream::{Reading, one_spelling};
 use std::alloc::{AllocError, Global};
 use std::sync::Wait;
 use std::thread::Threads;
+use std::time::Clock;
 
 // Does what was read at nodes on threads, and makes what is told of their history; or the line of the first fault, and no node is made.
-fn tell<R: Threads + Wait + Sync, G: Gate>(
+fn tell<R: Threads + Wait + Clock + Sync, G: Gate>(
     rt: &R,
     alloc: Global,
     reading: Reading,
@@ -44,7 +45,7 @@ fn tell<R: Threads + Wait + Sync, G: Gate>(
 }
 
 /// Reads a script, has nodes on threads do its acts, and writes the history that happened, or why it is not whole. It answers the status.
-pub(crate) fn lived<R: AllocGlobal + Threads + Wait + Sync, S: Source, K: Sink, G: Gate>(
+pub(crate) fn lived<R: AllocGlobal + Threads + Wait + Clock + Sync, S: Source, K: Sink, G: Gate>(
     rt: &R,
     source: &mut S,
     sink: &mut K,

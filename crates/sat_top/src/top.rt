@@ -13,6 +13,7 @@ use sat_outside::{Gate, Sink, Source};
 use std::alloc::Global;
 use std::sync::Wait;
 use std::thread::Threads;
+use std::time::Clock;
 
 /// Does the command that the words say, and answers its status. `run` reads a piece, does each whole line in it and writes its answer
 /// before it reads more; the other commands write nothing before they have read all. The statuses:
@@ -94,7 +95,7 @@ fn placed<R: AllocGlobal + Threads + Sync, S: Source, K: Sink>(
 
 /// Does the command that the words say, as [`still`] does, but `place` on several threads; and `live`, whose workers call the gate. Its
 /// further statuses: 6, what nodes and sessions kept differs; 8, the history is not whole. `live` may wait.
-pub fn saturn<R: AllocGlobal + Threads + Wait + Sync, S: Source, K: Sink, G: Gate>(
+pub fn saturn<R: AllocGlobal + Threads + Wait + Clock + Sync, S: Source, K: Sink, G: Gate>(
     rt: &R,
     words: &[String],
     source: &mut S,
