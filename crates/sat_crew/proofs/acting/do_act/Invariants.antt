@@ -5,4 +5,4 @@ use Rattle.sat_crew.specs.Standing.{Stood, Trying}
 use Rattle.sat_crew.proofs.acting.do_act.Given as goal
 
 abbrev pub invariant-trying : goal.invariant-trying
-invariant-trying g l = (l.session.number ≡ l.fn.session.number) × ((done : List Act) → Stood done 0 None (entries_in l.fn.session) → Trying done l.act l.counter (entries_in l.session))
+invariant-trying g l = (l.session.number ≡ l.fn.session.number) × ((done : List Act) → Stood done 0 None (entries_in l.fn.session) → Trying done l.act l.tries (entries_in l.session))
