@@ -8,6 +8,7 @@ use std::sync::atomic::{AtomicU64, Ordering};
 use std::test::Fail;
 use std::thread;
 use std::thread::Threads;
+use std::time::Clock;
 
 // How often a hold looks before it runs out.
 const MOST_TURNS: u64 = 100_000_000;
@@ -73,7 +74,7 @@ fn word(alloc: Global, text: &str) -> Result<Vec<String>, Fail> {
 }
 
 // The status and the output of a script at nodes on threads.
-fn lived<R: AllocGlobal + Threads + Wait + Sync, G: Gate>(
+fn lived<R: AllocGlobal + Threads + Wait + Clock + Sync, G: Gate>(
     rt: &R,
     text: &str,
     gate: &G,
@@ -160,6 +161,11 @@ const WHOLE: &[(&str, &[&str])] = &[
     (
         "saturn 1\nsites 2\ngears 1\nitem x 0,1\nclient a 0\nclient b 1\nplan tree - / 0 0\nbegin\nmove a 1\nattach a 1\nread a x\nend\n",
         &[" attached\n", " read none\n"],
+    ),
+    // Two clients write, while the operator switches from one tree to another, kills the first one and has both sites fall.
+    (
+        "saturn 1\nsites 2\ngears 1\nitem x 0,1\nclient a 0\nclient b 1\nplan tree - / 0 0\nplan tree - / 0 0\nbegin\nclose 0\nclose 1\nkill 1 z0\nfall 0\nfall 1\nwrite a x v\nwrite b x w\nwrite a x v\nwrite b x w\nwrite a x v\nwrite b x w\nwrite a x v\nwrite b x w\nwrite a x v\nwrite b x w\nwrite a x v\nwrite b x w\nwrite a x v\nwrite b x w\nwrite a x v\nwrite b x w\nwrite a x v\nwrite b x w\nwrite a x v\nwrite b x w\nwrite a x v\nwrite b x w\nwrite a x v\nwrite b x w\nwrite a x v\nwrite b x w\nwrite a x v\nwrite b x w\nwrite a x v\nwrite b x w\nwrite a x v\nwrite b x w\nwrite a x v\nwrite b x w\nwrite a x v\nwrite b x w\nwrite a x v\nwrite b x w\nwrite a x v\nwrite b x w\nend\n",
+        &[" closed 1 ", " closed 1 ", " killed\n"],
     ),
 ];
 

@@ -12,16 +12,16 @@ use sat_world::World;
 use std::alloc::Global;
 use std::test::Fail;
 
-const ACTS: &str =
+pub(crate) const ACTS: &str =
     "write a x hello\ngather 0\nemit 0\nhop 1 s0 z0\nbulk 0 0 1\nturn 1\nread b x\nend\n";
 
-const REPORT: &str =
+pub(crate) const REPORT: &str =
     "1 wrote 1.0.0\n2 gathered 1 stable 1\n3 emitted update 1.0.0\n4 hopped update 1.0.0 to s1\n5 brought x 1.0.0\n6 shown x 1.0.0\n7 read 1.0.0 hello\nholdings\nsite 0 view 1 emission 1 tree waiting 0\nitem x 1.0.0 hello\nsite 1 view 1 emission 1 tree waiting 0\nitem x 1.0.0 hello\ndone\n";
 
-const ROOM: usize = 4096;
+pub(crate) const ROOM: usize = 4096;
 
 // The words of a line.
-fn words(alloc: Global, line: &str) -> Result<Vec<String>, Fail> {
+pub(crate) fn words(alloc: Global, line: &str) -> Result<Vec<String>, Fail> {
     let mut words = Vec::new(alloc);
     for word in line.split_whitespace() {
         words.push(String::from_str(alloc, word)?)?;
@@ -30,7 +30,7 @@ fn words(alloc: Global, line: &str) -> Result<Vec<String>, Fail> {
 }
 
 // A script with the header and these lines.
-fn script(alloc: Global, lines: &str) -> Result<Vec<u8>, Fail> {
+pub(crate) fn script(alloc: Global, lines: &str) -> Result<Vec<u8>, Fail> {
     let mut text = HEADER.as_bytes().to_vec(alloc)?;
     text.extend_from_slice(lines.as_bytes())?;
     Ok(text)
@@ -210,37 +210,9 @@ fn the_program_tells_of_itself(rt: HostRuntime) -> Result<(), Fail> {
 }
 
 #[test]
-fn a_source_that_fails_leaves_the_sink_empty(rt: HostRuntime) -> Result<(), Fail> {
+fn a_sink_that_is_full_holds_a_front(rt: HostRuntime) -> Result<(), Fail> {
     let alloc = rt.alloc();
     let words = words(alloc, "run")?;
-    let mut source = MemorySource::new(script(alloc, ACTS)?, 10, vec![in alloc; 0u64]?);
-    let mut sink = CleanSink::with_room(alloc, 4, ROOM)?;
-    assert_eq!(rt; still(alloc, words.as_slice(), &mut source, &mut sink), 3);
-    assert_eq!(rt; sink.held(), b"".as_slice());
-    Ok(())
-}
-
-// The first 98 bytes are the header and the first act, and the read after them fails.
-#[test]
-fn an_answer_is_written_before_more_is_read(rt: HostRuntime) -> Result<(), Fail> {
-    let alloc = rt.alloc();
-    let words = words(alloc, "run")?;
-    let mut source = MemorySource::new(script(alloc, ACTS)?, 1, vec![in alloc; 98u64]?);
-    let mut sink = CleanSink::with_room(alloc, 4, ROOM)?;
-    assert_eq!(rt; still(alloc, words.as_slice(), &mut source, &mut sink), 3);
-    assert_eq!(rt; sink.held(), b"1 wrote 1.0.0\n".as_slice());
-    Ok(())
-}
-
-#[test]
-fn a_sink_that_fails_holds_a_front(rt: HostRuntime) -> Result<(), Fail> {
-    let alloc = rt.alloc();
-    let words = words(alloc, "run")?;
-    let mut source = CleanSource::new(script(alloc, ACTS)?, 10);
-    let mut sink = MemorySink::new(alloc, 10, vec![in alloc; 1u64]?, 65536)?;
-    assert_eq!(rt; still(alloc, words.as_slice(), &mut source, &mut sink), 4);
-    assert_eq!(rt; sink.held(), b"1 wrote 1.".as_slice());
-
     let mut source = CleanSource::new(script(alloc, ACTS)?, 10);
     let mut sink = MemorySink::new(alloc, 10, Vec::new(alloc), 14)?;
     assert_eq!(rt; still(alloc, words.as_slice(), &mut source, &mut sink), 4);

@@ -9,6 +9,7 @@ use std::alloc::Global;
 use std::sync::Wait;
 use std::test::Fail;
 use std::thread::Threads;
+use std::time::Clock;
 
 const ROOM: usize = 4096;
 
@@ -37,7 +38,7 @@ fn ended(alloc: Global, command: &str, text: Vec<u8>) -> Result<(u8, CleanSink),
 }
 
 // The same of a placement that is found on several threads.
-fn placed_wide<R: AllocGlobal + Threads + Wait + Sync>(
+fn placed_wide<R: AllocGlobal + Threads + Wait + Clock + Sync>(
     rt: &R,
     text: Vec<u8>,
 ) -> Result<(u8, CleanSink), Fail> {
