@@ -1,5 +1,5 @@
 //! A store that embeds the machines: what a builder writes around a site, a serializer and a client, and what each call asks for.
-//! `docs/EMBEDDING.md` of the repository says which call answers which need; the tests run a store of three sites.
+//! `docs/EMBEDDING.md` of the repository says which call answers which need.
 #![tactic(auto)]
 
 mod duty;
@@ -14,6 +14,3 @@ pub use fault::{RelayFault, ReplicaFault};
 pub use offer::Offer;
 pub use relay::Relay;
 pub use replica::Replica;
-
-#[cfg(test)]
-mod tests;
