@@ -52,6 +52,7 @@ tale_with a (told.Moved p) = moved_tale a p
 tale_with a (told.Shown p) = shown_tale a p
 tale_with a told.Other = tale.Other
 
+-- what an entry of a given history counts for
 abbrev pub tale_of : Heard → Tale
 tale_of e = tale_with e.act e.told
 
@@ -109,5 +110,6 @@ abbrev pub fresh_text : Option (ℕ × ℕ) → List ℕ
 fresh_text None = codes "fresh yes\n"
 fresh_text (Some v) = codes "fresh no" ++ numbers_text (v.0 ∷ v.1 ∷ [])
 
+-- the lines of a verdict
 unfoldable pub verdict_text : Verdict → List ℕ
 verdict_text v = causal_text v.causal ++ (once_text v.once ++ fresh_text v.fresh)

@@ -1,5 +1,5 @@
 -- The best beat goes forward, and a beat comes.
-use Rattle.std.specs.Prelude.{◌≡◌, ◌≤◌, ◌<◌, ℕ, ◌+◌, ◌||◌, ◌==◌, Bool, true, false, nat_le, nat_lt, cond, List, [], ◌∷◌, Option, Some, None, option_map, is_some, if◌then◌else◌, refl}
+use Rattle.std.specs.Prelude.{◌≡◌, ◌≤◌, ◌<◌, ℕ, ◌+◌, ◌-◌, ◌||◌, ◌==◌, Bool, true, false, nat_le, nat_lt, cond, List, [], ◌∷◌, ◌++◌, length, slice_get, Option, Some, None, option_map, is_some, IsSome, IfSome, ◌↔◌, if◌then◌else◌, refl}
 use Rattle.std.specs.Ordering.{nat_cmp, match_ordering}
 use Rattle.std.specs.declared.cmp.Ordering.TheVariants.{Less, Equal, Greater}
 use Rattle.std.specs.BTreeMap.{is_at, insert_entry}
@@ -7,10 +7,14 @@ use Rattle.std.specs.Map.{lookup}
 use Rattle.std.proofs.Common.{arith, sym, ◌∙◌, ap, subst, inl, inr}
 use Rattle.std.proofs.lemmas.Bool.{le-leb, lt-leb}
 use Rattle.std.proofs.lemmas.Bool.Decides.{nat_tests}
+use Rattle.std.proofs.lemmas.List.{length-append}
+use Rattle.std.proofs.lemmas.Option.{slice_get_within}
 use Rattle.sat_label.specs.Members.{In}
+use Rattle.sat_label.proofs.Members.{In-right}
 use Rattle.sat_beat.specs.declared.Beat.{Beat}
 use Rattle.sat_beat.specs.declared.beats.BeatTake.TheVariants.{New, Again, Old}
 use Rattle.sat_beat.specs.Beats.{TakenBeats, is_complete, newest, above, forward, refreshed, starts_to, passed, moved, is_old, is_old_by, has_beat, placed, take_answer, after_take, RisesFrom, next_number, IsTaken}
+use Rattle.sat_beat.specs.Rising.{EndsTo}
 use Rattle.sat_beat.proofs.Newest.{or_else, alone}
 
 abbrev kept : Option (ℕ × Beat) → List (ℕ × Beat) → TakenBeats
@@ -71,6 +75,46 @@ newest-in fronts (c ∷ bs) b e = go (newest fronts bs) refl (is_complete fronts
     go (Some d) w t u e rest = let k : In bs b × (is_complete fronts b.1 ≡ true) = rest (w ∙ e) in (inr k.0, k.1)
     go None w true u e rest = let s : c ≡ b = some_is c b e in (inl s, subst (λ (x : ℕ × Beat). is_complete fronts x.1 ≡ true) s u)
     go None w false u e rest = absurd (cc)
+
+-- ---- all of them are passed
+
+pub all_passed : (n low : ℕ) (best : Option (ℕ × Beat)) (bs : List (ℕ × Beat)) (b : ℕ × Beat) → RisesFrom low (bs ++ b ∷ []) → b.0 ≤ n → passed n best (bs ++ b ∷ []) ≡ record { best = Some b; later = [] }
+all_passed n low best [] b rises le = ap (λ (t : Bool). if t then kept (Some b) [] else kept best (b ∷ [])) (le-leb b.0 n le)
+all_passed n low best (c ∷ bs) b rises le =
+    let up : c.0 + 1 ≤ b.0 = rises-in (c.0 + 1) (bs ++ b ∷ []) b rises.1 (In-right bs (b ∷ []) b (inl refl)) in
+    ap (λ (t : Bool). if t then passed n (Some c) (bs ++ b ∷ []) else kept best (c ∷ (bs ++ b ∷ []))) (le-leb c.0 n (reach c.0 b.0 n up le))
+    ∙ all_passed n (c.0 + 1) (Some c) bs b rises.1 le
+  where
+    reach : (x y z : ℕ) → x + 1 ≤ y → y ≤ z → x ≤ z
+    reach x y z p q = omega arith
+
+-- the last of a list
+got-last : {X : Type 0} (xs : List X) (x : X) → slice_get (xs ++ x ∷ []) (length xs) ≡ Some x
+got-last [] x = refl
+got-last (y ∷ xs) x = got-last xs x
+
+ends-at : {X : Type 0} (bs xs : List X) (x y : X) → bs ≡ xs ++ x ∷ [] → slice_get bs (length bs - 1) ≡ Some y → y ≡ x
+ends-at bs xs x y e last =
+    let place : length (xs ++ x ∷ []) - 1 ≡ length xs = shorter (length (xs ++ x ∷ [])) (length xs) (length-append xs (x ∷ [])) in
+    let there : slice_get (xs ++ x ∷ []) (length (xs ++ x ∷ []) - 1) ≡ Some x = rw place (got-last xs x) in
+    let here : slice_get (xs ++ x ∷ []) (length (xs ++ x ∷ []) - 1) ≡ Some y = rw e at last in
+    some_is y x (sym here ∙ there)
+  where
+    shorter : (m n : ℕ) → m ≡ n + 1 → m - 1 ≡ n
+    shorter m n e = omega arith
+
+-- where the last one was taken out, and nothing is left
+pub passed_whole : (n : ℕ) (best o : Option (ℕ × Beat)) (bs rest left : List (ℕ × Beat)) → RisesFrom (next_number best) bs → EndsTo bs n → IsSome o ↔ (0 < length bs) → IfSome o (λ b. bs ≡ rest ++ b ∷ []) → left ≡ [] →
+    record { best = o; later = left } ≡ passed n best bs
+passed_whole n best None bs rest left rises ends some removal e =
+    let within : length bs - 1 < length bs = slice_get_within bs (length bs - 1) ends.0 ends.1 in
+    let z : false ≡ true = some.1 (omega (arith, within)) in
+    absurd (cc)
+passed_whole n best (Some b) bs rest left rises ends some removal e =
+    let same : ends.0 ≡ b = ends-at bs rest b ends.0 removal ends.1 in
+    ap (kept (Some b)) e
+    ∙ sym (ap (passed n best) removal
+    ∙ all_passed n (next_number best) best rest b (subst (λ (ys : List (ℕ × Beat)). RisesFrom (next_number best) ys) removal rises) (subst (λ (x : ℕ × Beat). x.0 ≤ n) same ends.2))
 
 -- ---- the best goes forward
 

@@ -9,7 +9,7 @@ use Rattle.sat_label.specs.Members.{In}
 use Rattle.sat_label.proofs.Members.{In-right, into-filter}
 use Rattle.sat_beat.specs.declared.Beat.{Beat}
 use Rattle.sat_beat.specs.Beats.{TakenBeats, are_reached, is_complete, newest, refreshed, passed, moved, is_old, placed, IsTaken}
-use Rattle.sat_beat.specs.Rising.{RiseFrom, CountsRise, last_before, RisesTo, RisesOn, IsKept}
+use Rattle.sat_beat.specs.Rising.{RiseFrom, CountsRise, last_before, starts_complete, RisesTo, RisesOn, IsKept}
 use Rattle.sat_beat.proofs.Complete.{reached-trans}
 use Rattle.sat_beat.proofs.Newest.{or_else}
 use Rattle.sat_beat.proofs.Passed.{moved_taken, placed_taken}
@@ -61,6 +61,11 @@ last_newest fronts bs rise = last-from fronts [] None bs rise ∙ same (newest f
     same : (p : Option (ℕ × Beat)) → number_or None p ≡ option_map (λ b. b.0) p
     same None = refl
     same (Some b) = refl
+
+-- where the first is not complete, none is
+pub none_starts : (fronts : List ℕ) (bs : List (ℕ × Beat)) → CountsRise bs → starts_complete fronts bs ≡ false → None ≡ option_map (λ b. b.0) (newest fronts bs)
+none_starts fronts [] rise e = refl
+none_starts fronts (b ∷ bs) rise e = sym (ap (λ (t : Bool). if t then last_before fronts (Some b.0) bs else None) e) ∙ last_newest fronts (b ∷ bs) rise
 
 -- ---- what goes forward rises
 

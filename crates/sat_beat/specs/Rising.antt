@@ -1,5 +1,5 @@
 -- Beats whose counts rise with their numbers, as those of every run do: of them the complete ones come first.
-use Rattle.std.specs.Prelude.{ℕ, ◌≡◌, ◌≤◌, ◌<◌, Bool, true, List, [], ◌∷◌, Option, Some, if◌then◌else◌}
+use Rattle.std.specs.Prelude.{ℕ, ◌≡◌, ◌≤◌, ◌<◌, ◌-◌, Bool, true, false, List, [], ◌∷◌, length, slice_get, Option, Some, if◌then◌else◌}
 use Rattle.sat_label.specs.Members.{In}
 use Rattle.sat_beat.specs.declared.Beat.{Beat}
 use Rattle.sat_beat.specs.Beats.{TakenBeats, are_reached, is_complete, IsTaken}
@@ -18,6 +18,11 @@ abbrev pub last_before : List ℕ → Option ℕ → List (ℕ × Beat) → Opti
 last_before fronts o [] = o
 last_before fronts o (b ∷ bs) = if is_complete fronts b.1 then last_before fronts (Some b.0) bs else o
 
+-- the first of them is complete
+abbrev pub starts_complete : List ℕ → List (ℕ × Beat) → Bool
+starts_complete fronts [] = false
+starts_complete fronts (b ∷ bs) = is_complete fronts b.1
+
 -- the counts of each beat whose number is below this one are at or below those of this beat
 abbrev pub RisesTo : List (ℕ × Beat) → ℕ → Beat → Type 0
 RisesTo bs n beat = (c : ℕ × Beat) → In bs c → c.0 < n → are_reached c.1.counts beat.counts ≡ true
@@ -25,6 +30,10 @@ RisesTo bs n beat = (c : ℕ × Beat) → In bs c → c.0 < n → are_reached c.
 -- those of each other beat are at or above them
 abbrev pub RisesOn : List (ℕ × Beat) → ℕ → Beat → Type 0
 RisesOn bs n beat = (c : ℕ × Beat) → In bs c → n ≤ c.0 → are_reached beat.counts c.1.counts ≡ true
+
+-- there are some, and the last of them has a number up to n
+abbrev pub EndsTo : List (ℕ × Beat) → ℕ → Type 0
+EndsTo bs n = (b : ℕ × Beat) × (slice_get bs (length bs - 1) ≡ Some b) × (b.0 ≤ n)
 
 -- what is kept of one site: where the mark says that the counts rise, they do
 pub record IsKept (t : TakenBeats) (rising : Bool) : Type 0 where

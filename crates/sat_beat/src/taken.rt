@@ -1,7 +1,7 @@
 //! The beats that were taken of one site.
 ghost use Rattle.std.specs.Prelude.{◌≡◌, ℕ, get_or, true, if◌then◌else◌, option_map, option_copied, Some, None, IfOk, IfErr, OnOk, OnErr};
-ghost use Rattle.sat_beat.specs.Beats.{after_take, are_reached, has_beat, is_complete, is_old, is_old_by, moved, newest, none_taken, passed, placed, refreshed, starts_to, take_answer};
-ghost use Rattle.sat_beat.specs.Rising.{last_before, CountsRise, RisesOn, RisesTo};
+ghost use Rattle.sat_beat.specs.Beats.{after_take, are_reached, has_beat, is_complete, is_old, is_old_by, moved, newest, next_number, none_taken, passed, placed, refreshed, starts_to, take_answer, RisesFrom};
+ghost use Rattle.sat_beat.specs.Rising.{last_before, starts_complete, CountsRise, EndsTo, RisesOn, RisesTo};
 
 use crate::{Beat, BeatTake};
 use std::alloc::Global;
@@ -81,14 +81,36 @@ fn last_before(later: &BTreeMap<u64, Beat>, fronts: &[u64]) -> Option<u64>
     last
 }
 
+// Whether the first of some beats is complete. It walks no beats, so it is asked first: mostly none is.
+fn starts_complete(later: &BTreeMap<u64, Beat>, fronts: &[u64]) -> bool
+    ensures { result ≡ starts_complete fronts.now later.now.entries }
+{
+    match later.first_key_value() {
+        None => false,
+        Some((_, beat)) => are_reached(beat.counts.as_slice(), fronts),
+    }
+}
+
+// The number of the newest complete one of some beats whose counts rise.
+#[tactic(auto, using(crate::proofs::Rising::last_newest, crate::proofs::Rising::none_starts))]
+fn newest_rising(later: &BTreeMap<u64, Beat>, fronts: &[u64]) -> Option<u64>
+    requires { CountsRise later.now.entries }
+    ensures { result ≡ option_map (λ b. b.0) (newest fronts.now later.now.entries) }
+{
+    if starts_complete(later, fronts) {
+        last_before(later, fronts)
+    } else {
+        None
+    }
+}
+
 // The number of the newest complete one of some beats.
-#[tactic(auto, using(crate::proofs::Rising::last_newest))]
 fn newest(later: &BTreeMap<u64, Beat>, rising: bool, fronts: &[u64]) -> Option<u64>
     requires { rising ≡ true → CountsRise later.now.entries }
     ensures { result ≡ option_map (λ b. b.0) (newest fronts.now later.now.entries) }
 {
     if rising {
-        last_before(later, fronts)
+        newest_rising(later, fronts)
     } else {
         newest_of_all(later, fronts)
     }
@@ -114,11 +136,43 @@ fn pass(best: &mut Option<(u64, Beat)>, later: &mut BTreeMap<u64, Beat>, number:
     }
 }
 
+// Fewer beats than these are taken out one by one: a map that is emptied at once gives its memory back, and asks for it anew.
+const MANY: usize = 16;
+
+// Whether there are many beats, and the last of them has a number up to this one.
+fn ends_to(later: &BTreeMap<u64, Beat>, number: u64) -> bool
+    ensures { result ≡ true → EndsTo later.now.entries number }
+{
+    if later.len() < MANY {
+        return false;
+    }
+    match later.last_key_value() {
+        None => false,
+        Some((last, _)) => *last <= number,
+    }
+}
+
+// Takes all beats out; the last of them becomes the best.
+fn pass_all(best: &mut Option<(u64, Beat)>, later: &mut BTreeMap<u64, Beat>, number: u64)
+    requires rises { RisesFrom (next_number best.old) later.old.entries }
+    requires ends { EndsTo later.old.entries number }
+    ensures { record { best = best.new; later = later.new.entries } ≡ passed number best.old later.old.entries }
+{
+    *best = later.pop_last();
+    later.clear();
+}
+
 // Takes the beats up to a number, if any, out; the last of them becomes the best.
 fn move_forward(best: &mut Option<(u64, Beat)>, later: &mut BTreeMap<u64, Beat>, to: Option<u64>)
+    requires { RisesFrom (next_number best.old) later.old.entries }
     ensures { record { best = best.new; later = later.new.entries } ≡ moved to (record { best = best.old; later = later.old.entries }) }
 {
-    if let Some(number) = to {
+    let Some(number) = to else {
+        return;
+    };
+    if ends_to(later, number) {
+        pass_all(best, later, number);
+    } else {
         pass(best, later, number);
     }
 }
@@ -226,7 +280,10 @@ impl Taken {
         ensures { self.new ≡ refreshed fronts.now self.old }
     {
         let newest = self.newest(fronts);
-        self.forward(newest);
+        match newest {
+            None => {}
+            Some(_) => self.forward(newest),
+        }
     }
 
     // Whether the best beat, once it has gone forward up to a number, if any, has this number or a greater one.

@@ -7,6 +7,7 @@ pub record Numbers : Type 0 where
   pub front : ℕ
   pub above : List ℕ
 
+-- whether a number was taken: it is below the front, or among those above it
 abbrev pub has_number : Numbers → ℕ → Bool
 has_number w n = nat_lt n w.front || has ◌==◌ w.above n
 

@@ -271,7 +271,7 @@ pub record IsSoundAt (r : ℕ) (s : State) (x : ChainReading) : Type 0 where
   pub said : SaidAt r s.stage s.header x
   pub fresh : x.fault ≡ None
 
-allowed : (a : Act) → is_chained (form_of a) ≡ true → is_allowed a ≡ true
+pub allowed : (a : Act) → is_chained (form_of a) ≡ true → is_allowed a ≡ true
 allowed (act.Hop e u z) h = h
 allowed (act.Kill e z) h = h
 allowed act.Settle h = h
@@ -347,7 +347,7 @@ never_none : (b : Bool) (x y : Cause) → cond b (Some x) (Some y) ≡ None → 
 never_none true x y h = cc
 never_none false x y h = cc
 
-close_ends : (here : Stage) (rest : List ℕ) → close_in here rest ≡ None → here ≡ stage.Ended
+pub close_ends : (here : Stage) (rest : List ℕ) → close_in here rest ≡ None → here ≡ stage.Ended
 unfolding close_in
 close_ends stage.Ended rest h = refl
 close_ends stage.Start rest h = absurd (never_none (ltb LONGEST_LINE (length rest)) LongLine NoEnd h)

@@ -32,6 +32,7 @@ abbrev pub taken_if : Bool → Option SessionFault
 taken_if true = Some fault.Taken
 taken_if false = None
 
+-- why no session is given: there is no such client, or it has one
 abbrev pub session_fault : Option ℕ → List Bool → Option SessionFault
 session_fault None given = Some fault.NoSuch
 session_fault (Some number) given = taken_if (get_or given number false)

@@ -65,6 +65,7 @@ unfoldable pub cell_at : Form → ℕ → Option Data → ℕ → Result ℕ Del
 unfolding number_at
 cell_at form r row c = number_at (place_at form.key r c) form.most (item_at c row)
 
+-- the numbers of a row of a table's matrix, or its first fault
 unfoldable pub row_of : Form → ℕ → Option Data → Result (List ℕ) DelayFault
 unfolding gathered cell_at
 row_of form r row = ended (place_at form.key r form.columns) (item_at form.columns row) (gathered (cell_at form r row) form.columns)

@@ -22,8 +22,10 @@ use Rattle.sat_draw.specs.declared.tracks.Tracks.{Tracks}
 use Rattle.sat_draw.specs.Columns.{act_column, seat_column, column_x, row_y}
 use Rattle.sat_draw.specs.Elements.{spell, spelled}
 use Rattle.sat_draw.specs.Trails.{left_by, comes_from, reseated, after_change}
-use Rattle.sat_draw.specs.Rows.{spot_at, mark_spot, spot_of, after_leaving, last_spot, arrow, arrows, ways_at, marks_at, ways_of, marks_of, ways, marks, rule}
-use Rattle.sat_draw.specs.Tracks.{seat_by, spot_by, Follows, IsDrawn}
+use Rattle.sat_draw.specs.Rows.{spot_at, mark_spot, spot_of, after_leaving, last_spot, arrow, arrows, ways_at, marks_at, ways_of, marks_of, ways, marks, signs}
+use Rattle.sat_draw.specs.declared.lost.Sending.{Sending}
+use Rattle.sat_draw.specs.Lost.{is_settled, after_taking, lost_spot, sendings_at, sendings, is_spot, lost_way, cross_for, crosses_by, crosses}
+use Rattle.sat_draw.specs.Tracks.{seat_by, spot_by, Moves, Follows, IsDrawn, HasRows}
 
 -- ---- the same seats and the same trails give the same row
 
@@ -58,7 +60,7 @@ mark-same d f g row n entry e same =
 arrows-same : (f g : Trail → Option Spot) → ((t : Trail) → f t ≡ g t) → (here : Spot) (cs : List Coming) → arrows f here cs ≡ arrows g here cs
 arrows-same f g e here [] = refl
 arrows-same f g e here (c ∷ cs) =
-    ap (λ (o : Option Spot). arrow c.ink here o ++ arrows f here cs) (e c.trail) ∙ ap (λ (xs : List Element). arrow c.ink here (g c.trail) ++ xs) (arrows-same f g e here cs)
+    ap (λ (o : Option Spot). arrow c here o ++ arrows f here cs) (e c.trail) ∙ ap (λ (xs : List Element). arrow c here (g c.trail) ++ xs) (arrows-same f g e here cs)
 
 spot-same : (d : Deployed) (h : List Entry) (tracks : Tracks) (row : ℕ) (here : Spot) (entry : Entry) → Follows d h tracks → row ≡ length h
     → here ≡ mark_spot d (seat_by d tracks.seats) row entry → here ≡ spot_of d h entry
@@ -67,7 +69,7 @@ spot-same d h tracks row here entry follows same at = at ∙ mark-same d _ _ row
 ways-same : (d : Deployed) (h : List Entry) (tracks : Tracks) (here : Spot) (entry : Entry) → Follows d h tracks → here ≡ spot_of d h entry → ways_at d (spot_by tracks.spots) here entry ≡ ways_of d h entry
 ways-same d h tracks here entry follows at =
     ap (λ (s : Spot). ways_at d (spot_by tracks.spots) s entry) at
-    ∙ ap (λ (xs : List Element). rule d entry.act (spot_of d h entry) ++ xs) (arrows-same _ _ follows.spots (spot_of d h entry) (comes_from entry.act entry.answer))
+    ∙ ap (λ (xs : List Element). signs d (spot_of d h entry) entry ++ xs) (arrows-same _ _ follows.spots (spot_of d h entry) (comes_from entry.act entry.answer))
 
 marks-same : (d : Deployed) (h : List Entry) (row : ℕ) (here : Spot) (entry : Entry) → row ≡ length h → here ≡ spot_of d h entry → marks_at d row here entry ≡ marks_of d h entry
 marks-same d h row here entry same at =
@@ -150,16 +152,30 @@ spots-step : (d : Deployed) (h : List Entry) (entry : Entry) (t : Trail) → las
 unfolding last_spot
 spots-step d h entry t = refl
 
+lost-step : (d : Deployed) (h : List Entry) (entry : Entry) (t : Trail) → lost_spot d (entry ∷ h) t
+    ≡ after_leaving (left_by entry.act entry.answer) (spot_of d h entry) (after_taking (is_settled entry.answer) (comes_from entry.act entry.answer) (lost_spot d h t) t) t
+unfolding lost_spot
+lost-step d h entry t = refl
+
+sendings-step : (d : Deployed) (h : List Entry) (entry : Entry) → sendings d (entry ∷ h) ≡ sendings d h ++ sendings_at (spot_of d h entry) (left_by entry.act entry.answer)
+unfolding sendings
+sendings-step d h entry = refl
+
 pub follows-on : (d : Deployed) (h : List Entry) (old new : Tracks) (row : ℕ) (here : Spot) (entry : Entry) → Follows d h old → row ≡ length h
     → here ≡ mark_spot d (seat_by d old.seats) row entry
-    → ((first : Option ℕ) (c : ℕ) → unwrap_or (get nat_cmp new.seats c) first ≡ after_change (reseated entry.act entry.answer) (unwrap_or (get nat_cmp old.seats c) first) c)
-    → ((t : Trail) → spot_by new.spots t ≡ after_leaving (left_by entry.act entry.answer) here (spot_by old.spots t) t)
+    → Moves old entry here new
     → Follows d (entry ∷ h) new
-follows-on d h old new row here entry follows same at seats spots = record {
-  seats = λ c. seats (home d c) c ∙ (ap (λ (o : Option ℕ). after_change (reseated entry.act entry.answer) o c) (follows.seats c) ∙ sym (seat-step d h c entry.inner entry.act entry.answer));
-  spots = λ t. spots t ∙ (ap (λ (o : Option Spot). after_leaving (left_by entry.act entry.answer) here o t) (follows.spots t)
+follows-on d h old new row here entry follows same at moves = record {
+  seats = λ c. moves.seats (home d c) c ∙ (ap (λ (o : Option ℕ). after_change (reseated entry.act entry.answer) o c) (follows.seats c) ∙ sym (seat-step d h c entry.inner entry.act entry.answer));
+  spots = λ t. moves.spots t ∙ (ap (λ (o : Option Spot). after_leaving (left_by entry.act entry.answer) here o t) (follows.spots t)
       ∙ (ap (λ (s : Spot). after_leaving (left_by entry.act entry.answer) s (last_spot d h t) t) (at ∙ mark-same d _ _ row (length h) entry follows.seats same)
       ∙ sym (spots-step d h entry t)));
+  under_way = λ t. moves.under_way t ∙ (ap (λ (o : Option Spot). after_leaving (left_by entry.act entry.answer) here (after_taking (is_settled entry.answer) (comes_from entry.act entry.answer) o t) t) (follows.under_way t)
+      ∙ (ap (λ (s : Spot). after_leaving (left_by entry.act entry.answer) s (after_taking (is_settled entry.answer) (comes_from entry.act entry.answer) (lost_spot d h t) t) t) (at ∙ mark-same d _ _ row (length h) entry follows.seats same)
+      ∙ sym (lost-step d h entry t)));
+  sendings_are = moves.sendings_are ∙ (ap (λ (xs : List Sending). xs ++ sendings_at here (left_by entry.act entry.answer)) follows.sendings_are
+      ∙ (ap (λ (s : Spot). sendings d h ++ sendings_at s (left_by entry.act entry.answer)) (at ∙ mark-same d _ _ row (length h) entry follows.seats same)
+      ∙ sym (sendings-step d h entry)));
 }
 
 -- ---- one entry more
@@ -191,15 +207,14 @@ pub drawn_on : (d : Deployed) (lines words lines-after words-after : List ℕ) (
     → here ≡ mark_spot d (seat_by d tracks.seats) row entry
     → led ≡ ways_at d (spot_by tracks.spots) here entry → lines-after ≡ lines ++ spelled led
     → marked ≡ marks_at d row here entry → words-after ≡ words ++ spelled marked
-    → ((first : Option ℕ) (c : ℕ) → unwrap_or (get nat_cmp after.seats c) first ≡ after_change (reseated entry.act entry.answer) (unwrap_or (get nat_cmp tracks.seats c) first) c)
-    → ((t : Trail) → spot_by after.spots t ≡ after_leaving (left_by entry.act entry.answer) here (spot_by tracks.spots t) t)
+    → Moves tracks entry here after
     → IsDrawn d lines-after words-after after (earlier ++ entry ∷ [])
-drawn_on d lines words lines-after words-after tracks after earlier row here entry led marked drawn same at leads led-on marks-are marked-on seats spots =
+drawn_on d lines words lines-after words-after tracks after earlier row here entry led marked drawn same at leads led-on marks-are marked-on moves =
     let h = reverse earlier in
     let counted : row ≡ length (reverse earlier) = same ∙ sym (length-reverse earlier) in
     let spot : here ≡ spot_of d (reverse earlier) entry = spot-same d h tracks row here entry drawn.follows counted at in
     record {
-      follows = subst (λ (k : List Entry). Follows d k after) (sym (next-history earlier entry)) (follows-on d h tracks after row here entry drawn.follows counted at seats spots);
+      follows = subst (λ (k : List Entry). Follows d k after) (sym (next-history earlier entry)) (follows-on d h tracks after row here entry drawn.follows counted at moves);
       lines_are = spelled-on (ways d) lines lines-after earlier entry led (ways_of d h entry) (ways-step d h entry) drawn.lines_are (leads ∙ ways-same d h tracks here entry drawn.follows spot) led-on;
       words_are = spelled-on (marks d) words words-after earlier entry marked (marks_of d h entry) (marks-step d h entry) drawn.words_are (marks-are ∙ marks-same d h row here entry counted spot) marked-on;
     }
@@ -212,6 +227,14 @@ spots-first : (d : Deployed) (t : Trail) → None ≡ last_spot d [] t
 unfolding last_spot
 spots-first d t = refl
 
+lost-first : (d : Deployed) (t : Trail) → None ≡ lost_spot d [] t
+unfolding lost_spot
+lost-first d t = refl
+
+sendings-first : (d : Deployed) → [] ≡ sendings d []
+unfolding sendings
+sendings-first d = refl
+
 ways-first : (d : Deployed) → [] ≡ spelled (ways d [])
 unfolding ways
 ways-first d = refl
@@ -220,12 +243,40 @@ marks-first : (d : Deployed) → [] ≡ spelled (marks d [])
 unfolding marks
 marks-first d = refl
 
-pub drawn_none : (d : Deployed) (lines words : List ℕ) (tracks : Tracks) → lines ≡ [] → words ≡ [] → ((c : ℕ) → get nat_cmp tracks.seats c ≡ None) → ((t : Trail) → spot_by tracks.spots t ≡ None) → IsDrawn d lines words tracks []
-drawn_none d lines words tracks no-lines no-words seats spots = record {
+pub drawn_none : (d : Deployed) (lines words : List ℕ) (tracks : Tracks) → lines ≡ [] → words ≡ [] → ((c : ℕ) → get nat_cmp tracks.seats c ≡ None) → ((t : Trail) → spot_by tracks.spots t ≡ None) → ((t : Trail) → spot_by tracks.under_way t ≡ None) → tracks.sendings.items ≡ [] → IsDrawn d lines words tracks []
+drawn_none d lines words tracks no-lines no-words seats spots under-way no-sendings = record {
   follows = record {
     seats = λ c. ap (λ (o : Option (Option ℕ)). unwrap_or o (home d c)) (seats c) ∙ seat-first d c;
     spots = λ t. spots t ∙ spots-first d t;
+    under_way = λ t. under-way t ∙ lost-first d t;
+    sendings_are = no-sendings ∙ sendings-first d;
   };
   lines_are = no-lines ∙ ways-first d;
   words_are = no-words ∙ marks-first d;
 }
+
+-- ---- the lost labels, and the end
+
+cross-same : (f g : Trail → Option Spot) → ((t : Trail) → f t ≡ g t) → (ss : List Sending) → crosses_by f ss ≡ crosses_by g ss
+cross-same f g e [] = refl
+cross-same f g e (s ∷ ss) =
+    ap (λ (o : Option Spot). (if is_spot o s.here then lost_way s ∷ [] else []) ++ crosses_by f ss) (e s.trail)
+    ∙ ap (λ (xs : List Element). cross_for g s ++ xs) (cross-same f g e ss)
+
+crosses-same : (d : Deployed) (h : List Entry) (tracks : Tracks) → Follows d h tracks → crosses_by (spot_by tracks.under_way) tracks.sendings.items ≡ crosses d h
+unfolding crosses
+crosses-same d h tracks follows =
+    cross-same _ (lost_spot d h) follows.under_way tracks.sendings.items ∙ ap (crosses_by (lost_spot d h)) follows.sendings_are
+
+pub rows_done : (d : Deployed) (old mid new lines lines-after words : List ℕ) (tracks : Tracks) (entries : List Entry) (all : List Element)
+    → IsDrawn d lines words tracks entries → all ≡ crosses_by (spot_by tracks.under_way) tracks.sendings.items
+    → lines-after ≡ lines ++ spelled all → mid ≡ old ++ lines-after → new ≡ mid ++ words → HasRows d old new (reverse entries)
+rows_done d old mid new lines lines-after words tracks entries all drawn are added one two =
+    let h = reverse entries in
+    let together : lines-after ≡ spelled (ways d (reverse entries) ++ crosses d (reverse entries)) =
+    added ∙ (ap (λ (x : List ℕ). x ++ spelled all) drawn.lines_are
+    ∙ (ap (λ (xs : List Element). spelled (ways d h) ++ spelled xs) (are ∙ crosses-same d h tracks drawn.follows)
+    ∙ sym (flat_map-append spell (ways d h) (crosses d h)))) in
+    record {
+      added = two ∙ (ap (λ (x : List ℕ). mid ++ x) drawn.words_are ∙ ap (λ (x : List ℕ). x ++ spelled (marks d h)) (one ∙ ap (λ (x : List ℕ). old ++ x) together));
+    }

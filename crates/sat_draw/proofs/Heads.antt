@@ -1,13 +1,14 @@
 -- One column, serializer or seat more.
-use Rattle.std.proofs.Common.{◌≡◌, ℕ, ◌+◌, List, ◌++◌, sym, ap, ◌∙◌, add-one}
+use Rattle.std.proofs.Common.{◌≡◌, ℕ, ◌+◌, ◌-◌, ◌*◌, List, [], ◌∷◌, ◌++◌, sym, ap, ◌∙◌, add-one}
 use Rattle.std.proofs.lemmas.List.{append-nil, append_assoc}
 use Rattle.sat_label.specs.declared.node.NodeId.TheVariants.{Site}
 use Rattle.sat_label.specs.Text.{node_text}
 use Rattle.sat_tree.specs.Shape.{TreeShape}
 use Rattle.sat_act.specs.Deployed.{Deployed}
 use Rattle.sat_draw.specs.declared.element.Element.{Element}
+use Rattle.sat_draw.specs.declared.geometry.TheConstants.{NAMES_APART}
 use Rattle.sat_draw.specs.Columns.{site_column}
-use Rattle.sat_draw.specs.Head.{lane, site_lanes, serializer_elements, serializers_elements, seat_elements, seats_elements}
+use Rattle.sat_draw.specs.Head.{name_at, names, lane, site_lanes, serializer_elements, serializers_elements, seat_elements, seats_elements}
 
 -- what is added behind a part of a list
 one-more : (old mid new part piece whole : List Element) → new ≡ mid ++ piece → mid ≡ old ++ part → whole ≡ part ++ piece → new ≡ old ++ whole
@@ -27,6 +28,18 @@ more_lanes old mid new d top bottom i column name added at named so-far =
     one-more old mid new _ (lane top bottom (site_column d i) (node_text (Site i))) _
     (added ∙ ap (λ (c : ℕ). mid ++ lane top bottom c name) at ∙ ap (λ (n : List ℕ). mid ++ lane top bottom (site_column d i) n) named)
     so-far (next-lane d top bottom i)
+
+pub no_names : (old : List Element) (top column : ℕ) (name : List ℕ) → old ≡ old ++ names top column name 0
+unfolding names
+no_names old top column name = sym (append-nil old)
+
+next-name : (top column : ℕ) (name : List ℕ) (n : ℕ) → names top column name (n + 1) ≡ names top column name n ++ name_at column (top + (n + 1) * NAMES_APART - 8) name ∷ []
+unfolding names
+next-name top column name n = ap (names top column name) (add-one n)
+
+pub more_names : (old mid new : List Element) (top column : ℕ) (name : List ℕ) (n : ℕ) (x : Element) → new ≡ mid ++ x ∷ [] → x ≡ name_at column (top + (n + 1) * NAMES_APART - 8) name → mid ≡ old ++ names top column name n → new ≡ old ++ names top column name (n + 1)
+more_names old mid new top column name n x added is so-far =
+    one-more old mid new _ (name_at column (top + (n + 1) * NAMES_APART - 8) name ∷ []) _ (added ∙ ap (λ (y : Element). mid ++ y ∷ []) is) so-far (next-name top column name n)
 
 pub no_serializers : (old : List Element) (d : Deployed) (top bottom epoch y : ℕ) (tree : TreeShape) → old ≡ old ++ serializers_elements d top bottom epoch y tree 0
 unfolding serializers_elements

@@ -1,4 +1,7 @@
 pub mod Trails
+pub mod Pieces
+pub mod Taken
+pub mod Crossed
 pub mod Heads
 pub mod Following
 pub mod Arrows

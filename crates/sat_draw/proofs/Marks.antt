@@ -1,9 +1,11 @@
 -- Each act is drawn once.
-use Rattle.std.proofs.Common.{◌≡◌, ℕ, zero, suc, ◌+◌, ◌-◌, Bool, true, false, List, [], ◌∷◌, ◌++◌, length, codes, refl, ap, ◌∙◌}
+use Rattle.std.proofs.Common.{◌≡◌, ℕ, zero, suc, ◌+◌, ◌-◌, Bool, true, false, List, [], ◌∷◌, ◌++◌, ◌*◌, length, codes, refl, ap, ◌∙◌}
 use Rattle.std.specs.Prelude.{filter, Option, Some, None, if◌then◌else◌}
 use Rattle.std.specs.Fmt.{decimal}
 use Rattle.std.proofs.lemmas.List.{append-nil}
 use Rattle.std.proofs.lemmas.List.Elements.{filter-append}
+use Rattle.sat_label.specs.Members.{In}
+use Rattle.sat_label.proofs.Members.{into-filter}
 use Rattle.sat_label.specs.declared.node.NodeId.TheVariants.{Site, Serializer}
 use Rattle.sat_label.specs.Text.{node_text}
 use Rattle.sat_tree.specs.Shape.{TreeShape}
@@ -12,6 +14,7 @@ use Rattle.sat_act.specs.declared.deployment.Plan.{Plan}
 use Rattle.sat_act.specs.declared.deployment.Plan.TheVariants as plan
 use Rattle.sat_act.specs.declared.entry.Entry.{Entry}
 use Rattle.sat_act.specs.declared.act.Act.{Act}
+use Rattle.sat_act.specs.declared.answer.Answer.{Answer}
 use Rattle.sat_act.specs.Deployed.{Deployed}
 use Rattle.sat_act.specs.Histories.{listed}
 use Rattle.sat_act.specs.Settling.{is_done}
@@ -19,16 +22,18 @@ use Rattle.sat_draw.specs.declared.element.Ink.{Ink}
 use Rattle.sat_draw.specs.declared.element.Ink.TheVariants as ink
 use Rattle.sat_draw.specs.declared.element.Spot.{Spot}
 use Rattle.sat_draw.specs.declared.element.Element.{Element}
-use Rattle.sat_draw.specs.declared.element.Element.TheVariants.{Line, Dot, Word}
+use Rattle.sat_draw.specs.declared.element.Element.TheVariants.{Line, Way, Lost, Glow, Dot, Word}
 use Rattle.sat_draw.specs.declared.trail.Trail.{Trail}
 use Rattle.sat_draw.specs.declared.trail.Coming.{Coming}
-use Rattle.sat_draw.specs.declared.geometry.TheConstants.{TREES}
+use Rattle.sat_draw.specs.declared.geometry.TheConstants.{TREES, NAMES_APART}
 use Rattle.sat_draw.specs.Columns.{columns, column_x, plan_height, site_column, serializer_column, rows_top, row_y}
-use Rattle.sat_draw.specs.Trails.{comes_from}
-use Rattle.sat_draw.specs.Rows.{spot_at, spot_of, last_spot, arrow, arrows, is_across, rule, mark_of, answer_of, act_of, ways_of, marks_of, ways, marks}
-use Rattle.sat_draw.specs.Head.{lane, node, site_lanes, branch, serializer_spot, site_spot, epoch_name, serializer_elements, serializers_elements, seat_elements, seats_elements, tree_elements, plan_elements, plans_elements, head}
-use Rattle.sat_draw.specs.Drawing.{elements}
-use Rattle.sat_draw.specs.Laws.{is_done_mark, is_refused_mark, done_mark, refused_mark, EachIsDrawnOnce}
+use Rattle.sat_draw.specs.Trails.{born, comes_from}
+use Rattle.sat_draw.specs.Rows.{spot_at, spot_of, last_spot, arrow, arrows, is_across, rule, cross, is_killed, death, glow, signs, mark_of, answer_of, act_of, ways_of, marks_of, ways, marks}
+use Rattle.sat_draw.specs.Head.{name_at, names, repeats, lane, node, column_name, caption, site_lanes, branch, serializer_spot, site_spot, epoch_name, serializer_elements, serializers_elements, seat_elements, seats_elements, tree_elements, plan_elements, plans_elements, head}
+use Rattle.sat_draw.specs.declared.lost.Sending.{Sending}
+use Rattle.sat_draw.specs.Lost.{lost_spot, sendings, is_spot, lost_way, cross_for, crosses_by, crosses}
+use Rattle.sat_draw.specs.Drawing.{lines, elements}
+use Rattle.sat_draw.specs.Laws.{is_done_mark, is_refused_mark, title_of, done_mark, refused_mark, EachIsDrawnOnce}
 
 -- a test that nothing passes that stands behind the rows
 pub record IsOfRows (p : Element → Bool) : Type 0 where
@@ -36,12 +41,15 @@ pub record IsOfRows (p : Element → Bool) : Type 0 where
   pub edges : (a b : Spot) → p (Line ink.Edge a b) ≡ false
   pub rules : (a b : Spot) → p (Line ink.Rule a b) ≡ false
   pub words : (i : Ink) (a : Spot) (text : List ℕ) → p (Word i a text) ≡ false
-  pub nodes : (a : Spot) → p (Dot ink.Node a) ≡ false
+  pub nodes : (a : Spot) (text : List ℕ) → p (Dot ink.Node a text) ≡ false
+  pub deaths : (a b : Spot) → p (Line ink.Dead a b) ≡ false
+  pub glows : (t : Trail) → p (Glow t) ≡ false
 
--- and no line
-record IsOfActs (p : Element → Bool) : Type 0 where
-  rows : IsOfRows p
-  lines : (i : Ink) (a b : Spot) → p (Line i a b) ≡ false
+-- and no way
+pub record IsOfActs (p : Element → Bool) : Type 0 where
+  pub rows : IsOfRows p
+  pub lines : (i : Ink) (t : Trail) (a b : Spot) → p (Way i t a b) ≡ false
+  pub losses : (t : Trail) (a b : Spot) → p (Lost t a b) ≡ false
 
 -- no element of a list passes
 pub record Free (p : Element → Bool) (xs : List Element) : Type 0 where
@@ -56,12 +64,34 @@ skip p x xs e rest = record { free = ap (λ (b : Bool). if b then x ∷ filter p
 pub both : (p : Element → Bool) (xs ys : List Element) → Free p xs → Free p ys → Free p (xs ++ ys)
 both p xs ys one two = record { free = filter-append p xs ys ∙ (ap (λ (zs : List Element). zs ++ filter p ys) one.free ∙ two.free) }
 
+-- so nothing that passes is among them
+pub not-free : (p : Element → Bool) (xs : List Element) (x : Element) → Free p xs → p x ≡ true → In xs x → ⊥
+not-free p xs x free passes within = elim-nil (filter p xs) x free.free (into-filter p xs x within passes)
+  where
+    elim-nil : (ys : List Element) (x : Element) → ys ≡ [] → In ys x → ⊥
+    elim-nil [] x e within = within
+    elim-nil (y ∷ ys) x e within = absurd (cc)
+
+pub some-is : (a b : Spot) → Some a ≡ Some b → a ≡ b
+some-is a b e = ap (λ (o : Option Spot). elim o [ None ↦ a | Some s ↦ s ]) e
+
 -- ---- none above the rows
+
+names-free : (p : Element → Bool) → IsOfRows p → (top column : ℕ) (name : List ℕ) (n : ℕ) → Free p (names top column name n)
+unfolding names
+names-free p is top column name zero = nothing p
+names-free p is top column name (suc n) =
+    both p (names top column name n) (name_at column (top + (n + 1) * NAMES_APART - 8) name ∷ []) (names-free p is top column name n)
+    (skip p (name_at column (top + (n + 1) * NAMES_APART - 8) name) [] (is.words _ _ _) (nothing p))
 
 lane-free : (p : Element → Bool) → IsOfRows p → (top bottom column : ℕ) (name : List ℕ) → Free p (lane top bottom column name)
 lane-free p is top bottom column name =
-    skip p (Line ink.Lane (spot_at (column_x column) (top - 24)) (spot_at (column_x column) bottom)) (Word ink.Name (spot_at (column_x column) (top - 30)) name ∷ []) (is.lanes _ _)
-    (skip p (Word ink.Name (spot_at (column_x column) (top - 30)) name) [] (is.words _ _ _) (nothing p))
+    let line = Line ink.Lane (spot_at (column_x column) (top - 24)) (spot_at (column_x column) bottom) in
+    let above = name_at column (top - 30) name in
+    let below = name_at column (bottom + 18) name in
+    both p (line ∷ above ∷ below ∷ []) (names top column name (repeats top bottom))
+    (skip p line (above ∷ below ∷ []) (is.lanes _ _) (skip p above (below ∷ []) (is.words _ _ _) (skip p below [] (is.words _ _ _) (nothing p))))
+    (names-free p is top column name (repeats top bottom))
 
 site_lanes-free : (p : Element → Bool) → IsOfRows p → (d : Deployed) (top bottom n : ℕ) → Free p (site_lanes d top bottom n)
 unfolding site_lanes
@@ -77,7 +107,7 @@ branch-free p is d epoch y z (Some q) =
 
 node-free : (p : Element → Bool) → IsOfRows p → (at : Spot) (name : List ℕ) → Free p (node at name)
 node-free p is at name =
-    skip p (Dot ink.Node at) (Word ink.Epoch (spot_at (at.x + 7) (at.y - 5)) name ∷ []) (is.nodes at)
+    skip p (Dot ink.Node at name) (Word ink.Epoch (spot_at (at.x + 7) (at.y - 5)) name ∷ []) (is.nodes at name)
     (skip p (Word ink.Epoch (spot_at (at.x + 7) (at.y - 5)) name) [] (is.words _ _ _) (nothing p))
 
 serializer-free : (p : Element → Bool) → IsOfRows p → (d : Deployed) (top bottom epoch y : ℕ) (tree : TreeShape) (z : ℕ) → Free p (serializer_elements d top bottom epoch y tree z)
@@ -85,7 +115,7 @@ serializer-free p is d top bottom epoch y tree z =
     let here = serializer_spot d epoch y z in
     let name = node_text (Serializer z) in
     let column = serializer_column d epoch z in
-    let title = decimal epoch ++ 32 ∷ node_text (Serializer z) in
+    let title = column_name epoch z in
     both p (branch d epoch y z (parent_of tree.parents z)) (node here name ++ lane top bottom column title)
     (branch-free p is d epoch y z (parent_of tree.parents z))
     (both p (node here name) (lane top bottom column title) (node-free p is here name) (lane-free p is top bottom column title))
@@ -127,9 +157,11 @@ unfolding head
 head-free p is d count =
     let top = rows_top d in
     let bottom = row_y d count in
-    both p (lane top bottom 0 (codes "outside")) (site_lanes d top bottom d.sites ++ plans_elements d top bottom 1 TREES d.plans)
+    skip p (Word ink.Title (spot_at 8 22) (caption d count)) (lane top bottom 0 (codes "outside") ++ (site_lanes d top bottom d.sites ++ plans_elements d top bottom 1 TREES d.plans))
+    (is.words _ _ _)
+    (both p (lane top bottom 0 (codes "outside")) (site_lanes d top bottom d.sites ++ plans_elements d top bottom 1 TREES d.plans)
     (lane-free p is top bottom 0 (codes "outside"))
-    (both p (site_lanes d top bottom d.sites) (plans_elements d top bottom 1 TREES d.plans) (site_lanes-free p is d top bottom d.sites) (plans-free p is d top bottom 1 TREES d.plans))
+    (both p (site_lanes d top bottom d.sites) (plans_elements d top bottom 1 TREES d.plans) (site_lanes-free p is d top bottom d.sites) (plans-free p is d top bottom 1 TREES d.plans)))
 
 -- ---- one in each row
 
@@ -140,28 +172,81 @@ rule-free p is d a here = go (is_across a)
     go true = skip p (Line ink.Rule here (spot_at (column_x (columns d - 1)) here.y)) [] (is.rules here (spot_at (column_x (columns d - 1)) here.y)) (nothing p)
     go false = nothing p
 
-arrow-free : (p : Element → Bool) → IsOfActs p → (i : Ink) (here : Spot) (o : Option Spot) → Free p (arrow i here o)
-arrow-free p is i here None = nothing p
-arrow-free p is i here (Some there) = skip p (Line i there here) [] (is.lines i there here) (nothing p)
+death-free : (p : Element → Bool) → IsOfRows p → (r : Answer) (here : Spot) → Free p (death r here)
+death-free p is r here = go (is_killed r)
+  where
+    go : (b : Bool) → Free p (if b then cross ink.Dead here else [])
+    go true =
+        let down = Line ink.Dead (spot_at (here.x - 7) (here.y - 7)) (spot_at (here.x + 7) (here.y + 7)) in
+        let up = Line ink.Dead (spot_at (here.x - 7) (here.y + 7)) (spot_at (here.x + 7) (here.y - 7)) in
+        skip p down (up ∷ []) (is.deaths _ _) (skip p up [] (is.deaths _ _) (nothing p))
+    go false = nothing p
 
-arrows-free : (p : Element → Bool) → IsOfActs p → (found : Trail → Option Spot) (here : Spot) (cs : List Coming) → Free p (arrows found here cs)
+glow-free : (p : Element → Bool) → IsOfRows p → (o : Option Trail) → Free p (glow o)
+glow-free p is None = nothing p
+glow-free p is (Some t) = skip p (Glow t) [] (is.glows t) (nothing p)
+
+pub signs-free : (p : Element → Bool) → IsOfRows p → (d : Deployed) (here : Spot) (entry : Entry) → Free p (signs d here entry)
+signs-free p is d here entry =
+    both p (rule d entry.act here) (death entry.answer here ++ glow (born entry.answer)) (rule-free p is d entry.act here)
+    (both p (death entry.answer here) (glow (born entry.answer)) (death-free p is entry.answer here) (glow-free p is (born entry.answer)))
+
+arrow-free : (p : Element → Bool) → ((i : Ink) (t : Trail) (a b : Spot) → p (Way i t a b) ≡ false) → (c : Coming) (here : Spot) (o : Option Spot) → Free p (arrow c here o)
+arrow-free p is c here None = nothing p
+arrow-free p is c here (Some there) = skip p (Way c.ink c.trail there here) [] (is c.ink c.trail there here) (nothing p)
+
+arrows-free : (p : Element → Bool) → ((i : Ink) (t : Trail) (a b : Spot) → p (Way i t a b) ≡ false) → (found : Trail → Option Spot) (here : Spot) (cs : List Coming) → Free p (arrows found here cs)
 arrows-free p is found here [] = nothing p
 arrows-free p is found here (c ∷ cs) =
-    both p (arrow c.ink here (found c.trail)) (arrows found here cs) (arrow-free p is c.ink here (found c.trail)) (arrows-free p is found here cs)
+    both p (arrow c here (found c.trail)) (arrows found here cs) (arrow-free p is c here (found c.trail)) (arrows-free p is found here cs)
 
-ways-free : (p : Element → Bool) → IsOfActs p → (d : Deployed) (h : List Entry) → Free p (ways d h)
+pub ways-free : (p : Element → Bool) → IsOfRows p → ((i : Ink) (t : Trail) (a b : Spot) → p (Way i t a b) ≡ false) → (d : Deployed) (h : List Entry) → Free p (ways d h)
 unfolding ways
-ways-free p is d [] = nothing p
-ways-free p is d (entry ∷ h) =
+ways-free p is away d [] = nothing p
+ways-free p is away d (entry ∷ h) =
     let here = spot_of d h entry in
-    both p (ways d h) (ways_of d h entry) (ways-free p is d h)
-    (both p (rule d entry.act here) (arrows (last_spot d h) here (comes_from entry.act entry.answer)) (rule-free p is.rows d entry.act here) (arrows-free p is (last_spot d h) here (comes_from entry.act entry.answer)))
+    both p (ways d h) (ways_of d h entry) (ways-free p is away d h)
+    (both p (signs d here entry) (arrows (last_spot d h) here (comes_from entry.act entry.answer)) (signs-free p is d here entry) (arrows-free p away (last_spot d h) here (comes_from entry.act entry.answer)))
+
+crosses-by-free : (p : Element → Bool) → ((t : Trail) (a b : Spot) → p (Lost t a b) ≡ false) → (found : Trail → Option Spot) (ss : List Sending) → Free p (crosses_by found ss)
+crosses-by-free p is found [] = nothing p
+crosses-by-free p is found (s ∷ ss) =
+    both p (cross_for found s) (crosses_by found ss) (go (is_spot (found s.trail) s.here)) (crosses-by-free p is found ss)
+  where
+    go : (b : Bool) → Free p (if b then lost_way s ∷ [] else [])
+    go true = skip p (lost_way s) [] (is s.trail s.here s.end) (nothing p)
+    go false = nothing p
+
+pub crosses-free : (p : Element → Bool) → ((t : Trail) (a b : Spot) → p (Lost t a b) ≡ false) → (d : Deployed) (h : List Entry) → Free p (crosses d h)
+unfolding crosses
+crosses-free p is d h = crosses-by-free p is (lost_spot d h) (sendings d h)
+
+-- no mark, and no words
+pub marks-free : (p : Element → Bool) → IsOfRows p → ((i : Ink) (a : Spot) (text : List ℕ) → p (Dot i a text) ≡ false) → (d : Deployed) (h : List Entry) → Free p (marks d h)
+unfolding marks
+marks-free p is dots d [] = nothing p
+marks-free p is dots d (entry ∷ h) =
+    let here = spot_of d h entry in
+    both p (marks d h) (marks_of d h entry) (marks-free p is dots d h)
+    (skip p (mark_of d (length h) here entry) (answer_of d (length h) here entry ∷ act_of d here entry ∷ []) (dots _ _ _)
+    (skip p (answer_of d (length h) here entry) (act_of d here entry ∷ []) (is.words _ _ _)
+    (skip p (act_of d here entry) [] (is.words _ _ _) (nothing p))))
+
+lines-free : (p : Element → Bool) → IsOfActs p → (d : Deployed) (h : List Entry) → Free p (lines d h)
+lines-free p is d h = both p (ways d h) (crosses d h) (ways-free p is.rows is.lines d h) (crosses-free p is.losses d h)
+
+-- nothing in the whole drawing
+pub all-free : (p : Element → Bool) → IsOfActs p → ((i : Ink) (a : Spot) (text : List ℕ) → p (Dot i a text) ≡ false) → (d : Deployed) (h : List Entry) → Free p (elements d h)
+unfolding elements
+all-free p is dots d h =
+    both p (head d (length h)) (lines d h ++ marks d h) (head-free p is.rows d (length h))
+    (both p (lines d h) (marks d h) (lines-free p is d h) (marks-free p is.rows dots d h))
 
 -- the mark alone
-one-mark : (p : Element → Bool) → IsOfActs p → (d : Deployed) (h : List Entry) (entry : Entry) → filter p (marks_of d h entry) ≡ filter p (mark_of (spot_of d h entry) entry ∷ [])
+one-mark : (p : Element → Bool) → IsOfActs p → (d : Deployed) (h : List Entry) (entry : Entry) → filter p (marks_of d h entry) ≡ filter p (mark_of d (length h) (spot_of d h entry) entry ∷ [])
 one-mark p is d h entry =
     let here = spot_of d h entry in
-    let mark = mark_of here entry in
+    let mark = mark_of d (length h) here entry in
     let words = answer_of d (length h) here entry ∷ act_of d here entry ∷ [] in
     filter-append p (mark ∷ []) words
     ∙ (ap (λ (xs : List Element). filter p (mark ∷ []) ++ xs) (skip p (answer_of d (length h) here entry) (act_of d here entry ∷ []) (is.rows.words _ _ _) (skip p (act_of d here entry) [] (is.rows.words _ _ _) (nothing p))).free
@@ -169,7 +254,7 @@ one-mark p is d h entry =
 
 -- so the marks that pass are those that the entries are to have
 marks-listed : (p : Element → Bool) → IsOfActs p → (d : Deployed) (f : List Entry → Entry → Option Element)
-    → ((h : List Entry) (entry : Entry) → filter p (mark_of (spot_of d h entry) entry ∷ []) ≡ elim (f h entry) [ None ↦ [] | Some x ↦ x ∷ [] ])
+    → ((h : List Entry) (entry : Entry) → filter p (mark_of d (length h) (spot_of d h entry) entry ∷ []) ≡ elim (f h entry) [ None ↦ [] | Some x ↦ x ∷ [] ])
     → (h : List Entry) → filter p (marks d h) ≡ listed f h
 unfolding marks listed
 marks-listed p is d f each [] = refl
@@ -179,34 +264,34 @@ marks-listed p is d f each (entry ∷ h) =
     ∙ ap (λ (xs : List Element). listed f h ++ xs) (one-mark p is d h entry ∙ each h entry))
 
 all-marks : (p : Element → Bool) → IsOfActs p → (d : Deployed) (f : List Entry → Entry → Option Element)
-    → ((h : List Entry) (entry : Entry) → filter p (mark_of (spot_of d h entry) entry ∷ []) ≡ elim (f h entry) [ None ↦ [] | Some x ↦ x ∷ [] ])
+    → ((h : List Entry) (entry : Entry) → filter p (mark_of d (length h) (spot_of d h entry) entry ∷ []) ≡ elim (f h entry) [ None ↦ [] | Some x ↦ x ∷ [] ])
     → (h : List Entry) → filter p (elements d h) ≡ listed f h
 unfolding elements
 all-marks p is d f each h =
-    filter-append p (head d (length h)) (ways d h ++ marks d h)
-    ∙ (ap (λ (xs : List Element). xs ++ filter p (ways d h ++ marks d h)) (head-free p is.rows d (length h)).free
-    ∙ (filter-append p (ways d h) (marks d h)
-    ∙ (ap (λ (xs : List Element). xs ++ filter p (marks d h)) (ways-free p is d h).free ∙ marks-listed p is d f each h)))
+    filter-append p (head d (length h)) (lines d h ++ marks d h)
+    ∙ (ap (λ (xs : List Element). xs ++ filter p (lines d h ++ marks d h)) (head-free p is.rows d (length h)).free
+    ∙ (filter-append p (lines d h) (marks d h)
+    ∙ (ap (λ (xs : List Element). xs ++ filter p (marks d h)) (lines-free p is d h).free ∙ marks-listed p is d f each h)))
 
 -- ---- acts that were done, and acts that changed nothing
 
 of-done : IsOfActs is_done_mark
-of-done = record { rows = record { lanes = λ a b. refl; edges = λ a b. refl; rules = λ a b. refl; words = λ i a text. refl; nodes = λ a. refl }; lines = λ i a b. refl }
+of-done = record { rows = record { lanes = λ a b. refl; edges = λ a b. refl; rules = λ a b. refl; words = λ i a text. refl; nodes = λ a text. refl; deaths = λ a b. refl; glows = λ t. refl }; lines = λ i t a b. refl; losses = λ t a b. refl }
 
 of-refused : IsOfActs is_refused_mark
-of-refused = record { rows = record { lanes = λ a b. refl; edges = λ a b. refl; rules = λ a b. refl; words = λ i a text. refl; nodes = λ a. refl }; lines = λ i a b. refl }
+of-refused = record { rows = record { lanes = λ a b. refl; edges = λ a b. refl; rules = λ a b. refl; words = λ i a text. refl; nodes = λ a text. refl; deaths = λ a b. refl; glows = λ t. refl }; lines = λ i t a b. refl; losses = λ t a b. refl }
 
-done-each : (d : Deployed) (h : List Entry) (entry : Entry) → filter is_done_mark (mark_of (spot_of d h entry) entry ∷ []) ≡ elim (done_mark d h entry) [ None ↦ [] | Some x ↦ x ∷ [] ]
+done-each : (d : Deployed) (h : List Entry) (entry : Entry) → filter is_done_mark (mark_of d (length h) (spot_of d h entry) entry ∷ []) ≡ elim (done_mark d h entry) [ None ↦ [] | Some x ↦ x ∷ [] ]
 done-each d h entry = go (is_done entry.answer)
   where
-    go : (b : Bool) → filter is_done_mark (Dot (if b then ink.Done else ink.Refused) (spot_of d h entry) ∷ []) ≡ elim (if b then Some (Dot ink.Done (spot_of d h entry)) else None) [ None ↦ [] | Some x ↦ x ∷ [] ]
+    go : (b : Bool) → filter is_done_mark (Dot (if b then ink.Done else ink.Refused) (spot_of d h entry) (title_of d h entry) ∷ []) ≡ elim (if b then Some (Dot ink.Done (spot_of d h entry) (title_of d h entry)) else None) [ None ↦ [] | Some x ↦ x ∷ [] ]
     go true = refl
     go false = refl
 
-refused-each : (d : Deployed) (h : List Entry) (entry : Entry) → filter is_refused_mark (mark_of (spot_of d h entry) entry ∷ []) ≡ elim (refused_mark d h entry) [ None ↦ [] | Some x ↦ x ∷ [] ]
+refused-each : (d : Deployed) (h : List Entry) (entry : Entry) → filter is_refused_mark (mark_of d (length h) (spot_of d h entry) entry ∷ []) ≡ elim (refused_mark d h entry) [ None ↦ [] | Some x ↦ x ∷ [] ]
 refused-each d h entry = go (is_done entry.answer)
   where
-    go : (b : Bool) → filter is_refused_mark (Dot (if b then ink.Done else ink.Refused) (spot_of d h entry) ∷ []) ≡ elim (if b then None else Some (Dot ink.Refused (spot_of d h entry))) [ None ↦ [] | Some x ↦ x ∷ [] ]
+    go : (b : Bool) → filter is_refused_mark (Dot (if b then ink.Done else ink.Refused) (spot_of d h entry) (title_of d h entry) ∷ []) ≡ elim (if b then None else Some (Dot ink.Refused (spot_of d h entry) (title_of d h entry))) [ None ↦ [] | Some x ↦ x ∷ [] ]
     go true = refl
     go false = refl
 

@@ -1,16 +1,16 @@
 -- The pieces of the drawing.
-use Rattle.std.proofs.Common.{◌≡◌, ℕ, ◌+◌, List, ◌++◌, length, reverse, codes, sym, ap, ◌∙◌}
+use Rattle.std.proofs.Common.{◌≡◌, ℕ, ◌+◌, ◌*◌, List, [], ◌++◌, length, reverse, codes, sym, ap, ◌∙◌}
 use Rattle.std.proofs.lemmas.List.{append_assoc, length-reverse}
 use Rattle.std.proofs.lemmas.List.Concat.{flat_map-append}
 use Rattle.sat_act.specs.declared.entry.Entry.{Entry}
 use Rattle.sat_act.specs.Deployed.{Deployed}
-use Rattle.sat_draw.specs.declared.geometry.TheConstants.{RIGHT}
-use Rattle.sat_draw.specs.Columns.{columns, column_x, row_y}
+use Rattle.sat_draw.specs.declared.geometry.TheConstants.{RIGHT, ROW, NAMES}
+use Rattle.sat_draw.specs.Columns.{answers_x, rows_top}
 use Rattle.sat_draw.specs.Elements.{spell, spelled}
 use Rattle.sat_draw.specs.Head.{head}
 use Rattle.sat_draw.specs.Legend.{legend}
-use Rattle.sat_draw.specs.Rows.{ways, marks}
-use Rattle.sat_draw.specs.Drawing.{opening, elements, drawing}
+use Rattle.sat_draw.specs.Rows.{marks}
+use Rattle.sat_draw.specs.Drawing.{lines, opening, title_text, start, elements, drawing}
 
 six : (a b c e f g : List ℕ) → ((((a ++ b) ++ c) ++ e) ++ f) ++ g ≡ a ++ (b ++ ((c ++ (e ++ f)) ++ g))
 six a b c e f g =
@@ -20,20 +20,28 @@ six a b c e f g =
     ∙ (append_assoc a b (c ++ (e ++ (f ++ g)))
     ∙ ap (λ (x : List ℕ). a ++ (b ++ x)) (ap (λ (x : List ℕ). c ++ x) (sym (append_assoc e f g)) ∙ sym (append_assoc c (e ++ f) g)))))
 
-of-length : (d : Deployed) (h : List Entry) → opening (column_x (columns d) + RIGHT) (row_y d (length h) + 20) ++ (legend ++ ((spelled (head d (length h)) ++ (spelled (ways d h) ++ spelled (marks d h))) ++ codes "</svg>\n")) ≡ drawing d h
+-- how the text begins
+pub started : (d : Deployed) (count top x : ℕ) (e a b : List ℕ) → e ≡ [] → x ≡ answers_x d → top ≡ rows_top d
+    → a ≡ e ++ opening (x + RIGHT) (top + count * ROW + NAMES) → b ≡ a ++ title_text d count → b ≡ start d count
+started d count top x e a b nothing at below one two =
+    two ∙ ap (λ (y : List ℕ). y ++ title_text d count)
+    (one ∙ (ap (λ (y : List ℕ). y ++ opening (x + RIGHT) (top + count * ROW + NAMES)) nothing
+    ∙ (ap (λ (n : ℕ). opening (n + RIGHT) (top + count * ROW + NAMES)) at
+    ∙ ap (λ (n : ℕ). opening (answers_x d + RIGHT) (n + count * ROW + NAMES)) below)))
+
+of-length : (d : Deployed) (h : List Entry) → start d (length h) ++ (legend ++ ((spelled (head d (length h)) ++ (spelled (lines d h) ++ spelled (marks d h))) ++ codes "</svg>\n")) ≡ drawing d h
 unfolding drawing elements
 of-length d h =
-    ap (λ (x : List ℕ). opening (column_x (columns d) + RIGHT) (row_y d (length h) + 20) ++ (legend ++ (x ++ codes "</svg>\n")))
-    (ap (λ (x : List ℕ). spelled (head d (length h)) ++ x) (sym (flat_map-append spell (ways d h) (marks d h))) ∙ sym (flat_map-append spell (head d (length h)) (ways d h ++ marks d h)))
+    ap (λ (x : List ℕ). start d (length h) ++ (legend ++ (x ++ codes "</svg>\n")))
+    (ap (λ (x : List ℕ). spelled (head d (length h)) ++ x) (sym (flat_map-append spell (lines d h) (marks d h))) ∙ sym (flat_map-append spell (head d (length h)) (lines d h ++ marks d h)))
 
-pub whole : (d : Deployed) (es : List Entry) (count height : ℕ) (a b c e f : List ℕ) → count ≡ length es → height ≡ row_y d count + 20
-    → a ≡ opening (column_x (columns d) + RIGHT) height → b ≡ a ++ legend → c ≡ b ++ spelled (head d count)
-    → e ≡ (c ++ spelled (ways d (reverse es))) ++ spelled (marks d (reverse es)) → f ≡ e ++ codes "</svg>\n"
+pub whole : (d : Deployed) (es : List Entry) (count : ℕ) (a b c e f : List ℕ) → count ≡ length es
+    → a ≡ start d count → b ≡ a ++ legend → c ≡ b ++ spelled (head d count)
+    → e ≡ (c ++ spelled (lines d (reverse es))) ++ spelled (marks d (reverse es)) → f ≡ e ++ codes "</svg>\n"
     → f ≡ drawing d (reverse es)
-whole d es count height a b c e f counted high one two three four close =
+whole d es count a b c e f counted one two three four close =
     let n : count ≡ length (reverse es) = counted ∙ sym (length-reverse es) in
-    let width = column_x (columns d) + RIGHT in
-    close ∙ (ap (λ (x : List ℕ). x ++ codes "</svg>\n") (four ∙ ap (λ (x : List ℕ). (x ++ spelled (ways d (reverse es))) ++ spelled (marks d (reverse es))) (three ∙ ap (λ (x : List ℕ). x ++ spelled (head d count)) (two ∙ ap (λ (x : List ℕ). x ++ legend) (one ∙ ap (opening width) high))))
-    ∙ (six (opening width (row_y d count + 20)) legend (spelled (head d count)) (spelled (ways d (reverse es))) (spelled (marks d (reverse es))) (codes "</svg>\n")
-    ∙ (ap (λ (m : ℕ). opening width (row_y d m + 20) ++ (legend ++ ((spelled (head d m) ++ (spelled (ways d (reverse es)) ++ spelled (marks d (reverse es)))) ++ codes "</svg>\n"))) n
+    close ∙ (ap (λ (x : List ℕ). x ++ codes "</svg>\n") (four ∙ ap (λ (x : List ℕ). (x ++ spelled (lines d (reverse es))) ++ spelled (marks d (reverse es))) (three ∙ ap (λ (x : List ℕ). x ++ spelled (head d count)) (two ∙ ap (λ (x : List ℕ). x ++ legend) one)))
+    ∙ (six (start d count) legend (spelled (head d count)) (spelled (lines d (reverse es))) (spelled (marks d (reverse es))) (codes "</svg>\n")
+    ∙ (ap (λ (m : ℕ). start d m ++ (legend ++ ((spelled (head d m) ++ (spelled (lines d (reverse es)) ++ spelled (marks d (reverse es)))) ++ codes "</svg>\n"))) n
     ∙ of-length d (reverse es))))

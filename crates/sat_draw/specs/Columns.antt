@@ -6,7 +6,7 @@ use Rattle.sat_act.specs.declared.deployment.Plan.TheVariants as plan
 use Rattle.sat_act.specs.declared.act.Act.{Act}
 use Rattle.sat_act.specs.declared.act.Act.TheVariants as act
 use Rattle.sat_act.specs.Deployed.{Deployed}
-use Rattle.sat_draw.specs.declared.geometry.TheConstants.{FIRST_COLUMN, COLUMN, ROW, TREES, STEP, TREE_MARGINS, NAMES}
+use Rattle.sat_draw.specs.declared.geometry.TheConstants.{OUTSIDE, FIRST_COLUMN, COLUMN, ANSWERS, ROW, TREES, STEP, TREE_MARGINS, NAMES}
 
 -- how many serializers a plan has
 abbrev pub serializers_of : Plan → ℕ
@@ -79,7 +79,11 @@ act_column d seat act.Settle = 0
 
 -- from the left
 abbrev pub column_x : ℕ → ℕ
-column_x column = FIRST_COLUMN + column * COLUMN
+column_x column = if column == 0 then OUTSIDE else FIRST_COLUMN + (column - 1) * COLUMN
+
+-- where the answers stand: right of the last column
+abbrev pub answers_x : Deployed → ℕ
+answers_x d = column_x (columns d - 1) + ANSWERS
 
 -- what a plan's tree takes
 abbrev pub plan_height : Plan → ℕ
@@ -93,5 +97,6 @@ plans_height (p ∷ ps) = plan_height p + plans_height ps
 abbrev pub rows_top : Deployed → ℕ
 rows_top d = TREES + plans_height d.plans + NAMES
 
+-- how far down a row lies
 abbrev pub row_y : Deployed → ℕ → ℕ
 row_y d row = rows_top d + row * ROW

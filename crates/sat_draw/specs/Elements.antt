@@ -1,26 +1,36 @@
 -- How the elements of a drawing are spelled.
-use Rattle.std.specs.Prelude.{ℕ, ◌==◌, List, [], ◌∷◌, ◌++◌, codes, if◌then◌else◌}
+use Rattle.std.specs.Prelude.{ℕ, ◌==◌, nat_le, nat_lt, List, [], ◌∷◌, ◌++◌, length, take, codes, Bool, true, false, if◌then◌else◌}
 use Rattle.std.specs.List.{flat_map}
 use Rattle.std.specs.Fmt.{decimal}
 use Rattle.sat_draw.specs.declared.element.Ink.{Ink}
 use Rattle.sat_draw.specs.declared.element.Ink.TheVariants as ink
 use Rattle.sat_draw.specs.declared.element.Spot.{Spot}
 use Rattle.sat_draw.specs.declared.element.Element.{Element}
-use Rattle.sat_draw.specs.declared.element.Element.TheVariants.{Line, Dot, Word}
+use Rattle.sat_draw.specs.declared.element.Element.TheVariants.{Line, Way, Lost, Glow, Dot, Word}
+use Rattle.sat_draw.specs.declared.trail.Trail.{Trail}
+use Rattle.sat_draw.specs.declared.trail.TheConstants.{BEAT_RANK}
 
--- the class of an ink
+-- the class of an ink: all labels look like labels, and those that are no update's have a look of their own
 unfoldable pub ink_word : Ink → List ℕ
 ink_word ink.Lane = codes "lane"
 ink_word ink.Rule = codes "rule"
 ink_word ink.Edge = codes "edge"
 ink_word ink.Node = codes "node"
 ink_word ink.Label = codes "label"
+ink_word ink.Move = codes "label move"
+ink_word ink.Pulse = codes "label pulse"
+ink_word ink.Close = codes "label close"
 ink_word ink.Sink = codes "sink"
 ink_word ink.Payload = codes "payload"
 ink_word ink.Store = codes "store"
 ink_word ink.Beat = codes "beat"
+ink_word ink.Seat = codes "seat"
+ink_word ink.Away = codes "seat away"
+ink_word ink.Switch = codes "switch"
+ink_word ink.Dead = codes "dead"
 ink_word ink.Done = codes "done"
 ink_word ink.Refused = codes "refused"
+ink_word ink.Title = codes "title"
 ink_word ink.Name = codes "name"
 ink_word ink.Epoch = codes "epoch"
 ink_word ink.Act = codes "act"
@@ -41,23 +51,106 @@ line_text class from to =
     codes "<line class='" ++ (class ++ (codes "' x1='" ++ (decimal from.x ++ (codes "' y1='" ++ (decimal from.y
     ++ (codes "' x2='" ++ (decimal to.x ++ (codes "' y2='" ++ (decimal to.y ++ codes "'/>\n")))))))))
 
-abbrev pub dot_text : List ℕ → Spot → List ℕ
-dot_text class at =
-    codes "<circle class='" ++ (class ++ (codes "' cx='" ++ (decimal at.x ++ (codes "' cy='" ++ (decimal at.y ++ codes "' r='4'/>\n")))))
+-- ---- ways
+
+-- the class of all ways of one label
+abbrev pub group_text : Trail → List ℕ
+group_text t =
+    codes "w" ++ (decimal t.ts ++ (45 ∷ (decimal t.site ++ (45 ∷ (decimal t.gear ++ (45 ∷ decimal t.rank))))))
+
+-- what goes or waits, in words
+unfoldable pub way_word : Ink → List ℕ
+way_word ink.Label = codes "update"
+way_word ink.Move = codes "move"
+way_word ink.Pulse = codes "pulse"
+way_word ink.Close = codes "close"
+way_word ink.Sink = codes "in its sink:"
+way_word ink.Payload = codes "payload of"
+way_word ink.Store = codes "waits:"
+way_word ink.Beat = codes "beat"
+way_word ink.Seat = codes "client"
+way_word ink.Away = codes "on its way: client"
+way_word ink.Switch = codes "closed, not yet advanced: site"
+way_word _ = []
+
+-- its title: with the point of its label, or with the number of a beat, a client or a site
+abbrev pub label_title : List ℕ → Trail → List ℕ
+label_title word t =
+    word ++ (32 ∷ (decimal t.ts ++ (46 ∷ (decimal t.site ++ (46 ∷ (decimal t.gear ++ codes "</title></line>\n"))))))
+
+abbrev pub number_title : List ℕ → ℕ → List ℕ
+number_title word n = word ++ (32 ∷ (decimal n ++ codes "</title></line>\n"))
+
+abbrev pub way_title : List ℕ → Trail → List ℕ
+way_title word t = if nat_lt t.rank BEAT_RANK then label_title word t else number_title word t.ts
+
+abbrev pub way_class : List ℕ → List ℕ
+way_class class = codes "<line class='" ++ (class ++ 32 ∷ [])
+
+abbrev pub way_start : List ℕ → List ℕ → List ℕ
+way_start class group = way_class class ++ group
+
+abbrev pub way_ends : Spot → Spot → List ℕ
+way_ends from to =
+    codes "' x1='" ++ (decimal from.x ++ (codes "' y1='" ++ (decimal from.y ++ (codes "' x2='" ++ (decimal to.x
+    ++ (codes "' y2='" ++ (decimal to.y ++ codes "'><title>")))))))
+
+abbrev pub way_text : List ℕ → List ℕ → Trail → Spot → Spot → List ℕ
+way_text class word t from to = way_start class (group_text t) ++ (way_ends from to ++ way_title word t)
+
+-- the style by which the ways of a label stand out: where one of them is under the pointer, each is thick
+abbrev pub under_pointer : List ℕ → List ℕ
+under_pointer group = codes "<style>svg:has(." ++ (group ++ codes ":hover) .")
+
+abbrev pub are_thick : List ℕ → List ℕ
+are_thick group = group ++ codes "{stroke-width:4}</style>\n"
+
+abbrev pub glow_text : List ℕ → List ℕ
+glow_text group = under_pointer group ++ are_thick group
+
+-- ---- marks and words
+
+abbrev pub dot_start : List ℕ → Spot → List ℕ
+dot_start class at =
+    codes "<circle class='" ++ (class ++ (codes "' cx='" ++ (decimal at.x ++ (codes "' cy='"
+    ++ (decimal at.y ++ codes "' r='4'><title>")))))
+
+abbrev pub dot_text : List ℕ → Spot → List ℕ → List ℕ
+dot_text class at text = dot_start class at ++ (escaped text ++ codes "</title></circle>\n")
+
+-- how many bytes of a text there is room for
+abbrev pub room : Ink → ℕ
+room ink.Act = 27
+room ink.Said = 41
+room ink.Denied = 41
+room _ = 400
+
+-- a text for which there is no room is the title of what is shown of it
+abbrev pub whole_of : ℕ → List ℕ → List ℕ
+whole_of most text = if nat_le (length text) most then [] else codes "<title>" ++ (escaped text ++ codes "</title>")
+
+-- what is shown: the front of such a text, and three dots as one character
+abbrev pub front_of : ℕ → List ℕ → List ℕ
+front_of most text =
+    if nat_le (length text) most then escaped text else escaped (take most text) ++ 226 ∷ 128 ∷ 166 ∷ []
 
 abbrev pub word_start : List ℕ → Spot → List ℕ
 word_start class at =
     codes "<text class='" ++ (class ++ (codes "' x='" ++ (decimal at.x ++ (codes "' y='" ++ (decimal at.y ++ codes "'>")))))
 
-abbrev pub word_text : List ℕ → Spot → List ℕ → List ℕ
-word_text class at text = word_start class at ++ (escaped text ++ codes "</text>\n")
+abbrev pub word_text : List ℕ → Spot → ℕ → List ℕ → List ℕ
+word_text class at most text =
+    word_start class at ++ (whole_of most text ++ (front_of most text ++ codes "</text>\n"))
 
 -- an element's line of the drawing
 unfoldable pub spell : Element → List ℕ
-unfolding ink_word
+unfolding ink_word way_word
 spell (Line ink from to) = line_text (ink_word ink) from to
-spell (Dot ink at) = dot_text (ink_word ink) at
-spell (Word ink at text) = word_text (ink_word ink) at text
+spell (Way ink trail from to) = way_text (ink_word ink) (way_word ink) trail from to
+spell (Lost trail from to) = way_text (codes "label lost") (codes "never taken:") trail from to
+spell (Glow trail) = glow_text (group_text trail)
+spell (Dot ink at text) = dot_text (ink_word ink) at text
+spell (Word ink at text) = word_text (ink_word ink) at (room ink) text
 
 -- the lines of elements, in order
 abbrev pub spelled : List Element → List ℕ

@@ -1,5 +1,5 @@
 -- What stands above and behind the rows: the columns with their names, and the tree of each epoch.
-use Rattle.std.specs.Prelude.{ℕ, zero, suc, ◌+◌, ◌-◌, ◌*◌, List, [], ◌∷◌, ◌++◌, length, Option, Some, None, codes}
+use Rattle.std.specs.Prelude.{ℕ, zero, suc, ◌+◌, ◌-◌, ◌*◌, ◌/◌, ◌==◌, nat_lt, List, [], ◌∷◌, ◌++◌, length, Option, Some, None, codes, if◌then◌else◌}
 use Rattle.std.specs.Fmt.{decimal}
 use Rattle.sat_label.specs.declared.node.NodeId.TheVariants.{Site, Serializer}
 use Rattle.sat_label.specs.Text.{node_text}
@@ -12,19 +12,34 @@ use Rattle.sat_draw.specs.declared.element.Ink.TheVariants as ink
 use Rattle.sat_draw.specs.declared.element.Spot.{Spot}
 use Rattle.sat_draw.specs.declared.element.Element.{Element}
 use Rattle.sat_draw.specs.declared.element.Element.TheVariants.{Line, Dot, Word}
-use Rattle.sat_draw.specs.declared.geometry.TheConstants.{TREES, STEP}
+use Rattle.sat_draw.specs.declared.geometry.TheConstants.{TREES, STEP, NAMES_APART, NAMES_SPARED}
 use Rattle.sat_draw.specs.Columns.{site_column, serializer_column, column_x, plan_height, rows_top, row_y}
 use Rattle.sat_draw.specs.Rows.{spot_at}
+
+-- the name of a column
+abbrev pub name_at : ℕ → ℕ → List ℕ → Element
+name_at column y name = Word ink.Name (spot_at (column_x column) y) name
+
+-- how often it has its name again between the first row and the last one
+abbrev pub repeats : ℕ → ℕ → ℕ
+repeats top bottom =
+    if nat_lt bottom (top + NAMES_SPARED) then 0 else (bottom - (top + NAMES_SPARED)) / NAMES_APART
+
+-- the first n of these, each above a row
+unfoldable pub names : ℕ → ℕ → List ℕ → ℕ → List Element
+names top column name zero = []
+names top column name (suc n) = names top column name n ++ name_at column (top + (n + 1) * NAMES_APART - 8) name ∷ []
 
 -- a column from above the first row to below the last one, with its name
 abbrev pub lane : ℕ → ℕ → ℕ → List ℕ → List Element
 lane top bottom column name =
-    Line ink.Lane (spot_at (column_x column) (top - 24)) (spot_at (column_x column) bottom)
-    ∷ Word ink.Name (spot_at (column_x column) (top - 30)) name ∷ []
+    (Line ink.Lane (spot_at (column_x column) (top - 24)) (spot_at (column_x column) bottom)
+    ∷ name_at column (top - 30) name ∷ name_at column (bottom + 18) name ∷ [])
+    ++ names top column name (repeats top bottom)
 
 -- the columns of the first n sites
 unfoldable pub site_lanes : Deployed → ℕ → ℕ → ℕ → List Element
-unfolding node_text
+unfolding node_text names
 site_lanes d top bottom zero = []
 site_lanes d top bottom (suc i) = site_lanes d top bottom i ++ lane top bottom (site_column d i) (node_text (Site i))
 
@@ -41,22 +56,26 @@ site_spot d y tree i = spot_at (column_x (site_column d i)) (tree_y y (length tr
 
 -- a node and its name
 abbrev pub node : Spot → List ℕ → List Element
-node at name = Dot ink.Node at ∷ Word ink.Epoch (spot_at (at.x + 7) (at.y - 5)) name ∷ []
+node at name = Dot ink.Node at name ∷ Word ink.Epoch (spot_at (at.x + 7) (at.y - 5)) name ∷ []
 
 -- the edge from a serializer to the one that it hangs on
 abbrev pub branch : Deployed → ℕ → ℕ → ℕ → Option ℕ → List Element
 branch d epoch y z None = []
 branch d epoch y z (Some p) = Line ink.Edge (serializer_spot d epoch y z) (serializer_spot d epoch y p) ∷ []
 
+-- the name of a serializer's column
+abbrev pub column_name : ℕ → ℕ → List ℕ
+column_name epoch z = node_text (Serializer z) ++ (codes " of epoch " ++ decimal epoch)
+
 -- what is drawn of a serializer: its edge, its node, and its column
 abbrev pub serializer_elements : Deployed → ℕ → ℕ → ℕ → ℕ → TreeShape → ℕ → List Element
 serializer_elements d top bottom epoch y tree z =
     branch d epoch y z (parent_of tree.parents z)
     ++ (node (serializer_spot d epoch y z) (node_text (Serializer z))
-    ++ lane top bottom (serializer_column d epoch z) (decimal epoch ++ 32 ∷ node_text (Serializer z)))
+    ++ lane top bottom (serializer_column d epoch z) (column_name epoch z))
 
 unfoldable pub serializers_elements : Deployed → ℕ → ℕ → ℕ → ℕ → TreeShape → ℕ → List Element
-unfolding node_text parent_of
+unfolding node_text parent_of names
 serializers_elements d top bottom epoch y tree zero = []
 serializers_elements d top bottom epoch y tree (suc z) =
     serializers_elements d top bottom epoch y tree z ++ serializer_elements d top bottom epoch y tree z
@@ -92,9 +111,23 @@ plans_elements d top bottom epoch y [] = []
 plans_elements d top bottom epoch y (p ∷ ps) =
     plan_elements d top bottom epoch y p ++ plans_elements d top bottom (epoch + 1) (y + plan_height p) ps
 
+-- ---- what it is of
+
+-- so many of something
+abbrev pub counted : ℕ → List ℕ → List ℕ
+counted n word = if n == 1 then decimal n ++ 32 ∷ word else decimal n ++ 32 ∷ (word ++ codes "s")
+
+-- the title of a drawing with so many rows
+unfoldable pub caption : Deployed → ℕ → List ℕ
+caption d count =
+    codes "A run of Saturn: " ++ (counted count (codes "act") ++ (codes ", " ++ (counted d.sites (codes "site")
+    ++ (codes ", " ++ counted (length d.clients) (codes "client")))))
+
 -- all that stands above and behind so many rows
 unfoldable pub head : Deployed → ℕ → List Element
-unfolding site_lanes plans_elements
+unfolding caption site_lanes plans_elements
 head d count =
-    lane (rows_top d) (row_y d count) 0 (codes "outside")
-    ++ (site_lanes d (rows_top d) (row_y d count) d.sites ++ plans_elements d (rows_top d) (row_y d count) 1 TREES d.plans)
+    Word ink.Title (spot_at 8 22) (caption d count)
+    ∷ (lane (rows_top d) (row_y d count) 0 (codes "outside")
+    ++ (site_lanes d (rows_top d) (row_y d count) d.sites
+    ++ plans_elements d (rows_top d) (row_y d count) 1 TREES d.plans))

@@ -2,6 +2,7 @@ pub mod Elements
 pub mod Columns
 pub mod Trails
 pub mod Rows
+pub mod Lost
 pub mod Tracks
 pub mod Head
 pub mod Legend

@@ -1,9 +1,9 @@
 //! Where the columns and the rows of a drawing stand.
 ghost use Rattle.std.specs.Prelude.{◌≡◌, ◌≤◌, ◌*◌, ◌+◌, length, take, ℕ, Option};
 ghost use Rattle.sat_act.specs.Limits.{IsDeployment};
-ghost use Rattle.sat_draw.specs.Columns.{serializers_of, serializers_in, left_sites, site_column, serializer_column, columns, seat_column, column_x, plan_height, plans_height, rows_top, row_y};
+ghost use Rattle.sat_draw.specs.Columns.{serializers_of, serializers_in, left_sites, site_column, serializer_column, columns, seat_column, column_x, answers_x, plan_height, plans_height, rows_top, row_y};
 
-use crate::geometry::{COLUMN, FIRST_COLUMN, NAMES, ROW, STEP, TREE_MARGINS, TREES};
+use crate::geometry::{ANSWERS, COLUMN, FIRST_COLUMN, NAMES, OUTSIDE, STEP, TREE_MARGINS, TREES};
 use sat_act::{Deployment, Plan};
 
 /// How many serializers a plan has.
@@ -92,9 +92,22 @@ pub(crate) fn seat_column(d: &Deployment, seat: Option<u16>) -> u64
 pub(crate) fn column_x(column: u64) -> u64
     requires { column ≤ 2000000 }
     ensures x { result ≡ column_x column }
+    ensures right { 100 ≤ result }
     ensures small { result ≤ 400000000 }
 {
-    FIRST_COLUMN + column * COLUMN
+    if column == 0 {
+        OUTSIDE
+    } else {
+        FIRST_COLUMN + (column - 1) * COLUMN
+    }
+}
+
+/// Where the answers stand: right of the last column.
+pub(crate) fn answers_x(d: &Deployment) -> u64
+    ensures x { result ≡ answers_x d.now }
+    ensures small { result ≤ 500000000 }
+{
+    column_x(columns(d) - 1) + ANSWERS
 }
 
 /// What a plan's tree takes from the top to the bottom.

@@ -1,6 +1,7 @@
 //! What a drawing is made of.
 ghost use Rattle.std.specs.Prelude.{◌≡◌, IfOk};
 
+use crate::trail::Trail;
 use std::alloc::{AllocError, Global};
 use std::marker::Model;
 
@@ -15,8 +16,14 @@ pub enum Ink {
     Edge,
     /// A node of a tree.
     Node,
-    /// A label on a link.
+    /// An update's label on a link.
     Label,
+    /// A move's label on a link.
+    Move,
+    /// A pulse on a link.
+    Pulse,
+    /// A close on a link.
+    Close,
     /// A label in the sink of its site.
     Sink,
     /// A payload on its way.
@@ -25,10 +32,20 @@ pub enum Ink {
     Store,
     /// A beat on its way.
     Beat,
+    /// A client that stays at its seat from one act to the next.
+    Seat,
+    /// A client that has no seat.
+    Away,
+    /// A site from its close to its advance.
+    Switch,
+    /// A serializer that was killed.
+    Dead,
     /// An act that was done.
     Done,
     /// An act that changed nothing.
     Refused,
+    /// What the drawing is of.
+    Title,
     /// The name of a column.
     Name,
     /// The name of an epoch, or of a node in its tree.
@@ -89,10 +106,39 @@ impl Text {
 /// A piece of a drawing.
 #[derive(Drop)]
 pub enum Element {
-    /// A line from one place to another. A label, a payload or a beat has an arrow's head at its end.
-    Line { ink: Ink, from: Spot, to: Spot },
-    /// A mark.
-    Dot { ink: Ink, at: Spot },
-    /// A text that begins at a place.
-    Word { ink: Ink, at: Spot, text: Text },
+    /// A line from one place to another.
+    Line {
+        ink: Ink,
+        from: Spot,
+        to: Spot,
+    },
+    /// The way of a label, a payload or a beat, with a title that says what it is. One that moves has an arrow's head at its end.
+    Way {
+        ink: Ink,
+        trail: Trail,
+        from: Spot,
+        to: Spot,
+    },
+    /// The short way of a label that was sent and never taken, with a cross at its end.
+    Lost {
+        trail: Trail,
+        from: Spot,
+        to: Spot,
+    },
+    /// All ways of this trail's label stand out while the pointer is on one of them.
+    Glow {
+        trail: Trail,
+    },
+    /// A mark, with a title.
+    Dot {
+        ink: Ink,
+        at: Spot,
+        text: Text,
+    },
+    /// A text that begins at a place. Of a long one the front is shown, and the whole is its title.
+    Word {
+        ink: Ink,
+        at: Spot,
+        text: Text,
+    },
 }

@@ -1,16 +1,25 @@
 //! The measures of a drawing, in pixels.
 
 /// Where the column of what is outside of all nodes stands: behind the lines of the acts.
-pub const FIRST_COLUMN: u64 = 250;
+pub const OUTSIDE: u64 = 204;
+
+/// Where the column of the first node stands.
+pub const FIRST_COLUMN: u64 = 262;
 
 /// From one column to the next.
-pub const COLUMN: u64 = 150;
+pub const COLUMN: u64 = 120;
+
+/// From the last column to the answers.
+pub const ANSWERS: u64 = 62;
+
+/// What the answers take.
+pub const RIGHT: u64 = 280;
 
 /// From one row to the next.
-pub const ROW: u64 = 24;
+pub const ROW: u64 = 22;
 
 /// Where the first tree begins, below the title and the legend.
-pub const TREES: u64 = 70;
+pub const TREES: u64 = 112;
 
 /// From one serializer of a tree to the next one.
 pub const STEP: u64 = 26;
@@ -18,8 +27,11 @@ pub const STEP: u64 = 26;
 /// What a tree takes above its root and below its last serializer.
 pub const TREE_MARGINS: u64 = 50;
 
-/// What the names of the columns take.
+/// What the names of the columns take, above the rows and below them.
 pub const NAMES: u64 = 50;
 
-/// What stands right of where the last column's neighbour would be, for the words of the last one.
-pub const RIGHT: u64 = 60;
+/// The columns have their names again behind so many pixels, which are forty rows.
+pub const NAMES_APART: u64 = 880;
+
+/// They haven't where fewer pixels than these are left.
+pub const NAMES_SPARED: u64 = 440;

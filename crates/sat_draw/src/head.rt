@@ -1,15 +1,18 @@
 //! What stands above and behind the rows of a drawing.
-ghost use Rattle.std.specs.Prelude.{◌≡◌, ◌≤◌, ◌<◌, ◌+◌, ◌*◌, ◌++◌, ◌∷◌, [], List, length, OnOk, IfOk, Some, slice_get};
+ghost use Rattle.std.specs.Prelude.{◌≡◌, ◌≤◌, ◌<◌, ◌+◌, ◌*◌, ◌^◌, ◌++◌, ◌∷◌, [], List, length, OnOk, IfOk, Some, slice_get};
 ghost use Rattle.std.specs.Fmt.{decimal};
 ghost use Rattle.sat_label.specs.declared.node.NodeId.TheVariants.{Site, Serializer};
 ghost use Rattle.sat_label.specs.Text.{node_text};
 ghost use Rattle.sat_tree.specs.Cut.{parent_of, seat_of};
 ghost use Rattle.sat_draw.specs.Columns.{column_x, rows_top, row_y, site_column, serializer_column};
-ghost use Rattle.sat_draw.specs.Head.{lane, site_lanes, tree_y, serializer_spot, site_spot, node, branch, serializer_elements, serializers_elements, seat_elements, seats_elements, epoch_name, tree_elements, plan_elements, plans_elements, head};
+ghost use Rattle.sat_draw.specs.Head.{name_at, repeats, names, lane, site_lanes, tree_y, serializer_spot, site_spot};
+ghost use Rattle.sat_draw.specs.Head.{node, branch, column_name, serializer_elements, serializers_elements};
+ghost use Rattle.sat_draw.specs.Head.{seat_elements, seats_elements, epoch_name, tree_elements, plan_elements};
+ghost use Rattle.sat_draw.specs.Head.{plans_elements, counted, caption, head};
 
 use crate::columns::{column_x, plan_height, serializer_column, site_column};
 use crate::element::{Element, Ink, Spot, Text};
-use crate::geometry::{ROW, STEP, TREES};
+use crate::geometry::{NAMES_APART, NAMES_SPARED, ROW, STEP, TREES};
 use sat_act::{Deployment, Plan};
 use sat_label::NodeId;
 use sat_tree::Tree;
@@ -29,17 +32,70 @@ fn push_line(ink: Ink, from: Spot, to: Spot, out: &mut Vec<Element>) -> Result<(
     Ok(())
 }
 
+// The name of a column.
+fn name_at(alloc: Global, column: u64, y: u64, name: &Text) -> Result<Element, AllocError>
+    requires { column ≤ 2000000 }
+    ensures { IfOk result (λ element. element ≡ name_at column y name.now) }
+{
+    let bytes = name.bytes().to_vec(alloc)?;
+    Ok(Element::Word {
+        ink: Ink::Name,
+        at: Spot {
+            x: column_x(column),
+            y,
+        },
+        text: Text::of(bytes),
+    })
+}
+
+// How often a column has its name again.
+fn repeats(top: u64, bottom: u64) -> u64
+    requires top { top ≤ 40000000 }
+    requires bottom { bottom ≤ 2 ^ 40 }
+    ensures repeats { result ≡ repeats top bottom }
+    ensures few { result ≤ 2 ^ 40 }
+{
+    if bottom < top + NAMES_SPARED {
+        0
+    } else {
+        (bottom - (top + NAMES_SPARED)) / NAMES_APART
+    }
+}
+
+fn push_names(
+    alloc: Global,
+    top: u64,
+    column: u64,
+    name: &Text,
+    count: u64,
+    out: &mut Vec<Element>,
+) -> Result<(), AllocError>
+    requires top { top ≤ 40000000 }
+    requires column { column ≤ 2000000 }
+    requires count { count ≤ 2 ^ 40 }
+    ensures { OnOk result (out.new.items ≡ out.old.items ++ names top column name.now count) }
+{
+    for n in 0..count {
+        let again = name_at(alloc, column, top + (n + 1) * NAMES_APART - 8, name)?;
+        out.push(again)?;
+    }
+    Ok(())
+}
+
 // A column with its name.
 fn push_lane(
+    alloc: Global,
     top: u64,
     bottom: u64,
     column: u64,
-    name: Text,
+    name: &Text,
     out: &mut Vec<Element>,
 ) -> Result<(), AllocError>
     requires top { 30 ≤ top }
+    requires low { top ≤ 40000000 }
+    requires bottom { bottom ≤ 2 ^ 40 }
     requires column { column ≤ 2000000 }
-    ensures { OnOk result (out.new.items ≡ out.old.items ++ lane top bottom column name) }
+    ensures { OnOk result (out.new.items ≡ out.old.items ++ lane top bottom column name.now) }
 {
     let x = column_x(column);
     push_line(
@@ -48,12 +104,11 @@ fn push_lane(
         Spot { x, y: bottom },
         out,
     )?;
-    out.push(Element::Word {
-        ink: Ink::Name,
-        at: Spot { x, y: top - 30 },
-        text: name,
-    })?;
-    Ok(())
+    let above = name_at(alloc, column, top - 30, name)?;
+    out.push(above)?;
+    let below = name_at(alloc, column, bottom + 18, name)?;
+    out.push(below)?;
+    push_names(alloc, top, column, name, repeats(top, bottom), out)
 }
 
 // The columns of the sites.
@@ -64,12 +119,14 @@ fn push_site_lanes(
     bottom: u64,
     out: &mut Vec<Element>,
 ) -> Result<(), AllocError>
-    requires { 30 ≤ top }
+    requires top { 30 ≤ top }
+    requires low { top ≤ 40000000 }
+    requires bottom { bottom ≤ 2 ^ 40 }
     ensures { OnOk result (out.new.items ≡ out.old.items ++ site_lanes d.now top bottom d.now.sites) }
 {
     for site in 0..d.sites() {
         let name = node_name(alloc, NodeId::Site(site))?;
-        push_lane(top, bottom, site_column(d, site), name, out)?;
+        push_lane(alloc, top, bottom, site_column(d, site), &name, out)?;
     }
     Ok(())
 }
@@ -107,12 +164,17 @@ fn site_spot(d: &Deployment, y: u64, tree: &Tree, site: u16) -> Spot
 }
 
 // A node and its name.
-fn push_node(at: Spot, name: Text, out: &mut Vec<Element>) -> Result<(), AllocError>
+fn push_node(alloc: Global, at: Spot, name: Text, out: &mut Vec<Element>) -> Result<(), AllocError>
     requires right { at.x ≤ 400000000 }
     requires below { 20 ≤ at.y }
     ensures { OnOk result (out.new.items ≡ out.old.items ++ node at name) }
 {
-    out.push(Element::Dot { ink: Ink::Node, at })?;
+    let title = name.bytes().to_vec(alloc)?;
+    out.push(Element::Dot {
+        ink: Ink::Node,
+        at,
+        text: Text::of(title),
+    })?;
     out.push(Element::Word {
         ink: Ink::Epoch,
         at: Spot {
@@ -147,13 +209,13 @@ fn push_branch(
     }
 }
 
-// The name of a serializer's column: its epoch, and its own name.
+// The name of a serializer's column.
 fn column_name(alloc: Global, epoch: u16, z: u16) -> Result<Text, AllocError>
-    ensures { IfOk result (λ text. text ≡ decimal epoch ++ 32 ∷ node_text (Serializer z)) }
+    ensures { IfOk result (λ text. text ≡ column_name epoch z) }
 {
     let node = NodeId::Serializer(z).text(alloc)?;
     let name = node.as_str();
-    let text = format!(in alloc; "{epoch} {name}")?;
+    let text = format!(in alloc; "{name} of epoch {epoch}")?;
     Ok(Text::of(text.into_bytes()))
 }
 
@@ -187,15 +249,24 @@ fn push_serializer(
     out: &mut Vec<Element>,
 ) -> Result<(), AllocError>
     requires top { 30 ≤ top }
+    requires low { top ≤ 40000000 }
+    requires bottom { bottom ≤ 2 ^ 40 }
     requires y { y ≤ 40000000 }
     requires z { z < length tree.now.parents }
     ensures { OnOk result (out.new.items ≡ out.old.items ++ serializer_elements d.now top bottom epoch y tree.now z) }
 {
     push_branch(d, epoch, y, z, parent_of(tree, z), out)?;
     let name = node_name(alloc, NodeId::Serializer(z))?;
-    push_node(serializer_spot(d, epoch, y, z), name, out)?;
+    push_node(alloc, serializer_spot(d, epoch, y, z), name, out)?;
     let name = column_name(alloc, epoch, z)?;
-    push_lane(top, bottom, serializer_column(d, epoch, z), name, out)
+    push_lane(
+        alloc,
+        top,
+        bottom,
+        serializer_column(d, epoch, z),
+        &name,
+        out,
+    )
 }
 
 fn push_serializers(
@@ -209,6 +280,8 @@ fn push_serializers(
     out: &mut Vec<Element>,
 ) -> Result<(), AllocError>
     requires top { 30 ≤ top }
+    requires low { top ≤ 40000000 }
+    requires bottom { bottom ≤ 2 ^ 40 }
     requires y { y ≤ 40000000 }
     ensures { OnOk result (out.new.items ≡ out.old.items ++ serializers_elements d.now top bottom epoch y tree.now (length tree.now.parents)) }
 {
@@ -240,7 +313,7 @@ fn push_seat(
         out,
     )?;
     let name = node_name(alloc, NodeId::Site(site))?;
-    push_node(at, name, out)
+    push_node(alloc, at, name, out)
 }
 
 fn push_seats(
@@ -281,6 +354,8 @@ fn push_tree(
     out: &mut Vec<Element>,
 ) -> Result<(), AllocError>
     requires top { 30 ≤ top }
+    requires low { top ≤ 40000000 }
+    requires bottom { bottom ≤ 2 ^ 40 }
     requires y { y ≤ 40000000 }
     ensures { OnOk result (out.new.items ≡ out.old.items ++ tree_elements d.now top bottom epoch y plan.now) }
 {
@@ -304,6 +379,8 @@ fn push_plan(
     out: &mut Vec<Element>,
 ) -> Result<(), AllocError>
     requires top { 30 ≤ top }
+    requires low { top ≤ 40000000 }
+    requires bottom { bottom ≤ 2 ^ 40 }
     requires y { y ≤ 40000000 }
     ensures { OnOk result (out.new.items ≡ out.old.items ++ plan_elements d.now top bottom epoch y plan.now) }
 {
@@ -329,6 +406,8 @@ fn push_plans(
     out: &mut Vec<Element>,
 ) -> Result<(), AllocError>
     requires top { 30 ≤ top }
+    requires low { top ≤ 40000000 }
+    requires bottom { bottom ≤ 2 ^ 40 }
     requires epoch { epoch + length plans.now ≤ 17 }
     requires y { y + length plans.now * 2000000 ≤ 40000000 }
     ensures { OnOk result (out.new.items ≡ out.old.items ++ plans_elements d.now top bottom epoch y plans.now) }
@@ -349,6 +428,35 @@ fn push_plans(
     )
 }
 
+// So many of something.
+fn counted(alloc: Global, n: u64, word: &str) -> Result<Text, AllocError>
+    ensures { IfOk result (λ text. text ≡ counted n word.now) }
+{
+    if n == 1 {
+        let text = format!(in alloc; "{n} {word}")?;
+        return Ok(Text::of(text.into_bytes()));
+    }
+    let text = format!(in alloc; "{n} {word}s")?;
+    Ok(Text::of(text.into_bytes()))
+}
+
+/// The title of a drawing with so many rows.
+#[tactic(auto, unfolding(crate::specs::Head::caption))]
+pub(crate) fn caption(alloc: Global, d: &Deployment, count: u64) -> Result<Text, AllocError>
+    ensures { IfOk result (λ text. text ≡ caption d.now count) }
+{
+    let acts = counted(alloc, count, "act")?;
+    let sites = counted(alloc, u64::from(d.sites()), "site")?;
+    let clients = counted(alloc, d.clients().len() as u64, "client")?;
+    let mut text = b"A run of Saturn: ".to_vec(alloc)?;
+    text.extend_from_slice(acts.bytes())?;
+    text.extend_from_slice(b", ")?;
+    text.extend_from_slice(sites.bytes())?;
+    text.extend_from_slice(b", ")?;
+    text.extend_from_slice(clients.bytes())?;
+    Ok(Text::of(text))
+}
+
 /// All that stands above and behind so many rows.
 #[tactic(auto, unfolding(crate::specs::Head::head))]
 pub(crate) fn head(
@@ -363,9 +471,15 @@ pub(crate) fn head(
     ensures { IfOk result (λ all. all.items ≡ head d.now count) }
 {
     let bottom = top + count * ROW;
+    let title = caption(alloc, d, count)?;
     let mut all = Vec::new(alloc);
+    all.push(Element::Word {
+        ink: Ink::Title,
+        at: Spot { x: 8, y: 22 },
+        text: title,
+    })?;
     let name = Text::word(alloc, "outside")?;
-    push_lane(top, bottom, 0, name, &mut all)?;
+    push_lane(alloc, top, bottom, 0, &name, &mut all)?;
     push_site_lanes(alloc, d, top, bottom, &mut all)?;
     push_plans(alloc, d, top, bottom, 1, TREES, d.plans(), &mut all)?;
     Ok(all)

@@ -6,6 +6,7 @@ mod element;
 mod geometry;
 mod head;
 mod legend;
+mod lost;
 mod picture;
 mod rows;
 mod spell;

@@ -1,29 +1,59 @@
 //! The drawing of the run of a script.
-ghost use Rattle.std.specs.Prelude.{◌≡◌, ◌≤◌, ◌++◌, length, reverse, codes, IfOk, OnOk};
-ghost use Rattle.sat_draw.specs.Columns.{rows_top};
+ghost use Rattle.std.specs.Prelude.{◌≡◌, ◌≤◌, ◌++◌, List, length, reverse, codes, IfOk, OnOk};
+ghost use Rattle.sat_act.specs.declared.entry.Entry.{Entry};
+ghost use Rattle.sat_draw.specs.Columns.{rows_top, row_y, answers_x};
 ghost use Rattle.sat_draw.specs.Elements.{spelled};
 ghost use Rattle.sat_draw.specs.Head.{head};
-ghost use Rattle.sat_draw.specs.Rows.{ways, marks};
-ghost use Rattle.sat_draw.specs.Drawing.{opening, drawing};
+ghost use Rattle.sat_draw.specs.Tracks.{IsDrawn, HasRows};
+ghost use Rattle.sat_draw.specs.Drawing.{opening, title_text, start, drawing};
 ghost use Rattle.sat_draw.specs.Laws.{EachIsDrawnOnce, WaysAreTold};
 
-use crate::columns::{column_x, columns, rows_top};
-use crate::geometry::{RIGHT, ROW};
-use crate::head::head;
+use crate::columns::{answers_x, rows_top};
+use crate::geometry::{NAMES, RIGHT, ROW};
+use crate::head::{caption, head};
 use crate::legend::legend;
+use crate::lost::crosses;
 use crate::rows::append_row;
 use crate::spell::append_elements;
 use crate::tracks::Tracks;
 use sat_act::{Deployment, Entry};
 use std::alloc::{AllocError, Global};
 
-fn opening(alloc: Global, width: u64, height: u64) -> Result<Vec<u8>, AllocError>
-    ensures { IfOk result (λ text. text.items ≡ opening width height) }
+fn append_opening(width: u64, height: u64, out: &mut Vec<u8>) -> Result<(), AllocError>
+    ensures { OnOk result (out.new.items ≡ out.old.items ++ opening width height) }
 {
-    let text = format!(in alloc;
-        "<svg xmlns='http://www.w3.org/2000/svg' width='{width}' height='{height}'>\n"
+    let text = format!(in *out.allocator();
+        "<svg xmlns='http://www.w3.org/2000/svg' viewBox='0 0 {width} {height}' width='{width}' height='{height}' "
     )?;
-    Ok(text.into_bytes())
+    out.extend_from_slice(text.as_bytes())
+}
+
+fn append_title(
+    alloc: Global,
+    d: &Deployment,
+    count: u64,
+    out: &mut Vec<u8>,
+) -> Result<(), AllocError>
+    ensures { OnOk result (out.new.items ≡ out.old.items ++ title_text d.now count) }
+{
+    let title = caption(alloc, d, count)?;
+    out.extend_from_slice(b"role='img' aria-labelledby='t'>\n<title id='t'>")?;
+    out.extend_from_slice(title.bytes())?;
+    out.extend_from_slice(b"</title>\n")?;
+    Ok(())
+}
+
+// The first line, and the title.
+fn start(alloc: Global, d: &Deployment, top: u64, count: u64) -> Result<Vec<u8>, AllocError>
+    requires top { top ≡ rows_top d.now }
+    requires low { top ≤ 40000000 }
+    requires few { count ≤ 4294967296 }
+    ensures { IfOk result (λ text. text.items ≡ start d.now count) }
+{
+    let mut text = Vec::new(alloc);
+    append_opening(answers_x(d) + RIGHT, top + count * ROW + NAMES, &mut text)?;
+    append_title(alloc, d, count, &mut text)?;
+    Ok(text)
 }
 
 fn append_head(
@@ -42,6 +72,27 @@ fn append_head(
     append_elements(all.as_slice(), out)
 }
 
+// The rows' lines and then their words, with the labels that were lost.
+fn append_drawn(
+    alloc: Global,
+    d: &Deployment,
+    tracks: &Tracks,
+    lines: Vec<u8>,
+    words: &[u8],
+    out: &mut Vec<u8>,
+) -> Result<(), AllocError>
+    ensures { OnOk result ((entries : List Entry) → IsDrawn d.now lines.items words.now tracks.now entries
+        → HasRows d.now out.old.items out.new.items (reverse entries)) }
+{
+    let _ = d;
+    let mut lines = lines;
+    let all = crosses(alloc, &tracks.under_way, tracks.sendings.as_slice())?;
+    append_elements(all.as_slice(), &mut lines)?;
+    out.extend_from_slice(lines.as_slice())?;
+    out.extend_from_slice(words)?;
+    Ok(())
+}
+
 fn append_rows(
     alloc: Global,
     d: &Deployment,
@@ -52,7 +103,7 @@ fn append_rows(
     requires top { top ≡ rows_top d.now }
     requires low { top ≤ 40000000 }
     requires few { length entries.now ≤ 4294967296 }
-    ensures { OnOk result (out.new.items ≡ (out.old.items ++ spelled (ways d.now (reverse entries.now))) ++ spelled (marks d.now (reverse entries.now))) }
+    ensures { OnOk result (HasRows d.now out.old.items out.new.items (reverse entries.now)) }
 {
     let mut tracks = Tracks::new(alloc);
     let mut lines = Vec::new(alloc);
@@ -69,8 +120,7 @@ fn append_rows(
             &mut words,
         )?;
     }
-    out.extend_from_slice(lines.as_slice())?;
-    out.extend_from_slice(words.as_slice())?;
+    append_drawn(alloc, d, &tracks, lines, words.as_slice(), out)?;
     Ok(())
 }
 
@@ -85,7 +135,7 @@ pub fn draw(alloc: Global, d: &Deployment, entries: &[Entry]) -> Result<Vec<u8>,
 {
     let top = rows_top(d);
     let count = entries.len() as u64;
-    let mut text = opening(alloc, column_x(columns(d)) + RIGHT, top + count * ROW + 20)?;
+    let mut text = start(alloc, d, top, count)?;
     text.extend_from_slice(legend().as_bytes())?;
     append_head(alloc, d, top, count, &mut text)?;
     append_rows(alloc, d, top, entries, &mut text)?;

@@ -3,18 +3,21 @@ ghost use Rattle.std.specs.Prelude.{◌≡◌, ◌≤◌, ◌++◌, ◌∷◌, [
 ghost use Rattle.sat_act.specs.declared.entry.Entry.{Entry};
 ghost use Rattle.sat_act.specs.Settling.{is_done};
 ghost use Rattle.sat_report.specs.Answers.{answer_line};
-ghost use Rattle.sat_draw.specs.Columns.{act_column, rows_top};
+ghost use Rattle.sat_script.specs.Spelled.{act_text};
+ghost use Rattle.sat_draw.specs.Columns.{act_column, answers_x, rows_top};
 ghost use Rattle.sat_draw.specs.Elements.{spelled};
-ghost use Rattle.sat_draw.specs.Rows.{mark_spot, arrow, arrow_for, arrows, is_across, rule, mark_ink, answer_ink, mark_of, answer_of, act_of, ways_at, marks_at};
-ghost use Rattle.sat_draw.specs.Trails.{comes_from};
+ghost use Rattle.sat_draw.specs.Rows.{mark_spot, arrow, arrow_for, arrows, is_across, rule, cross, is_killed, death};
+ghost use Rattle.sat_draw.specs.Rows.{glow, signs, mark_ink, answer_ink, mark_title, mark_of, answer_of, act_of};
+ghost use Rattle.sat_draw.specs.Rows.{ways_at, marks_at};
+ghost use Rattle.sat_draw.specs.Trails.{born, comes_from};
 ghost use Rattle.sat_draw.specs.Tracks.{seat_by, spot_by, IsDrawn};
 
-use crate::columns::{column_x, columns, seat_column, serializer_column, site_column};
+use crate::columns::{answers_x, column_x, columns, seat_column, serializer_column, site_column};
 use crate::element::{Element, Ink, Spot, Text};
 use crate::geometry::ROW;
 use crate::spell::append_elements;
 use crate::tracks::{Tracks, seat_by, spot_by};
-use crate::trail::{Coming, Trail, comes_from};
+use crate::trail::{Coming, Trail, born, comes_from};
 use sat_act::{Act, Answer, Deployment, Entry};
 use sat_report::write_answer;
 use sat_script::act_line;
@@ -64,6 +67,7 @@ fn mark_spot(
     requires low { top ≤ 40000000 }
     requires few { row < 2 ^ 32 }
     ensures spot { result ≡ mark_spot d.now (seat_by d.now seats.now) row entry.now }
+    ensures left { 100 ≤ result.x }
     ensures right { result.x ≤ 400000000 }
     ensures below { 100 ≤ result.y }
     ensures small { result.y ≤ 2 ^ 40 }
@@ -85,8 +89,9 @@ fn push_arrow(
     match spot_by(spots, coming.trail) {
         None => Ok(()),
         Some(there) => {
-            out.push(Element::Line {
+            out.push(Element::Way {
                 ink: coming.ink,
+                trail: coming.trail,
                 from: there,
                 to: here,
             })?;
@@ -142,6 +147,82 @@ fn push_rule(
     Ok(())
 }
 
+fn push_cross(ink: Ink, at: Spot, out: &mut Vec<Element>) -> Result<(), AllocError>
+    requires left { 100 ≤ at.x }
+    requires right { at.x ≤ 400000000 }
+    requires below { 100 ≤ at.y }
+    requires small { at.y ≤ 2 ^ 40 }
+    ensures { OnOk result (out.new.items ≡ out.old.items ++ cross ink at) }
+{
+    let (left, right, top, bottom) = (at.x - 7, at.x + 7, at.y - 7, at.y + 7);
+    out.push(Element::Line {
+        ink,
+        from: Spot { x: left, y: top },
+        to: Spot {
+            x: right,
+            y: bottom,
+        },
+    })?;
+    out.push(Element::Line {
+        ink,
+        from: Spot { x: left, y: bottom },
+        to: Spot { x: right, y: top },
+    })?;
+    Ok(())
+}
+
+fn is_killed(answer: &Answer) -> bool
+    ensures { result ≡ is_killed answer.now }
+{
+    match answer {
+        Answer::Killed => true,
+        _ => false,
+    }
+}
+
+fn push_death(answer: &Answer, here: Spot, out: &mut Vec<Element>) -> Result<(), AllocError>
+    requires left { 100 ≤ here.x }
+    requires right { here.x ≤ 400000000 }
+    requires below { 100 ≤ here.y }
+    requires small { here.y ≤ 2 ^ 40 }
+    ensures { OnOk result (out.new.items ≡ out.old.items ++ death answer.now here) }
+{
+    if !is_killed(answer) {
+        return Ok(());
+    }
+    push_cross(Ink::Dead, here, out)
+}
+
+fn push_glow(born: Option<Trail>, out: &mut Vec<Element>) -> Result<(), AllocError>
+    ensures { OnOk result (out.new.items ≡ out.old.items ++ glow born) }
+{
+    match born {
+        None => Ok(()),
+        Some(trail) => {
+            out.push(Element::Glow { trail })?;
+            Ok(())
+        }
+    }
+}
+
+// What a row has besides its mark and what leads to it.
+fn push_signs(
+    d: &Deployment,
+    here: Spot,
+    entry: &Entry,
+    out: &mut Vec<Element>,
+) -> Result<(), AllocError>
+    requires left { 100 ≤ here.x }
+    requires right { here.x ≤ 400000000 }
+    requires below { 100 ≤ here.y }
+    requires small { here.y ≤ 2 ^ 40 }
+    ensures { OnOk result (out.new.items ≡ out.old.items ++ signs d.now here entry.now) }
+{
+    push_rule(d, &entry.act, here, out)?;
+    push_death(&entry.answer, here, out)?;
+    push_glow(born(&entry.answer), out)
+}
+
 fn is_done(answer: &Answer) -> bool
     ensures { result ≡ is_done answer.now }
 {
@@ -187,6 +268,35 @@ fn answer_text(
     Ok(Text::of(bytes))
 }
 
+// The act's line, and that of its answer.
+fn title_text(alloc: Global, d: &Deployment, number: u64, entry: &Entry) -> Result<Text, AllocError>
+    ensures { IfOk result (λ text. text ≡ (act_text d.now entry.now.act ++ 10 ∷ [])
+        ++ answer_line d.now number entry.now.act entry.now.answer) }
+{
+    let mut bytes = act_line(alloc, d, &entry.act)?;
+    bytes.push(b'\n')?;
+    write_answer(d, number, entry, &mut bytes)?;
+    Ok(Text::of(bytes))
+}
+
+fn mark_of(
+    alloc: Global,
+    d: &Deployment,
+    row: u64,
+    here: Spot,
+    entry: &Entry,
+) -> Result<Element, AllocError>
+    requires { row < 2 ^ 32 }
+    ensures { IfOk result (λ element. element ≡ mark_of d.now row here entry.now) }
+{
+    let text = title_text(alloc, d, row + 1, entry)?;
+    Ok(Element::Dot {
+        ink: mark_ink(&entry.answer),
+        at: here,
+        text,
+    })
+}
+
 fn answer_of(
     alloc: Global,
     d: &Deployment,
@@ -195,16 +305,15 @@ fn answer_of(
     entry: &Entry,
 ) -> Result<Element, AllocError>
     requires few { row < 2 ^ 32 }
-    requires right { here.x ≤ 400000000 }
-    requires below { 100 ≤ here.y }
+    requires small { here.y ≤ 2 ^ 40 }
     ensures { IfOk result (λ element. element ≡ answer_of d.now row here entry.now) }
 {
     let text = answer_text(alloc, d, row + 1, entry)?;
     Ok(Element::Word {
         ink: answer_ink(&entry.answer),
         at: Spot {
-            x: here.x + 8,
-            y: here.y - 6,
+            x: answers_x(d),
+            y: here.y + 4,
         },
         text,
     })
@@ -234,18 +343,14 @@ fn marks_at(
     entry: &Entry,
 ) -> Result<Vec<Element>, AllocError>
     requires few { row < 2 ^ 32 }
-    requires right { here.x ≤ 400000000 }
-    requires below { 100 ≤ here.y }
     requires small { here.y ≤ 2 ^ 40 }
     ensures { IfOk result (λ all. all.items ≡ marks_at d.now row here entry.now) }
 {
+    let mark = mark_of(alloc, d, row, here, entry)?;
     let answer = answer_of(alloc, d, row, here, entry)?;
     let act = act_of(alloc, d, here, entry)?;
     let mut all = Vec::new(alloc);
-    all.push(Element::Dot {
-        ink: mark_ink(&entry.answer),
-        at: here,
-    })?;
+    all.push(mark)?;
     all.push(answer)?;
     all.push(act)?;
     Ok(all)
@@ -259,10 +364,14 @@ fn ways_at(
     here: Spot,
     entry: &Entry,
 ) -> Result<Vec<Element>, AllocError>
+    requires left { 100 ≤ here.x }
+    requires right { here.x ≤ 400000000 }
+    requires below { 100 ≤ here.y }
+    requires small { here.y ≤ 2 ^ 40 }
     ensures { IfOk result (λ all. all.items ≡ ways_at d.now (spot_by spots.now) here entry.now) }
 {
     let mut all = Vec::new(alloc);
-    push_rule(d, &entry.act, here, &mut all)?;
+    push_signs(d, here, entry, &mut all)?;
     let coming = comes_from(alloc, entry)?;
     push_arrows(spots, here, coming.as_slice(), &mut all)?;
     Ok(all)

@@ -1,10 +1,14 @@
 //! How elements are spelled.
-ghost use Rattle.std.specs.Prelude.{◌≡◌, ◌++◌, OnOk, OnErr, codes};
-ghost use Rattle.sat_draw.specs.Elements.{ink_word, escape, escaped, line_text, dot_text, word_start, spell, spelled};
+ghost use Rattle.std.specs.Prelude.{◌≡◌, ◌++◌, OnOk, OnErr, IfOk, codes};
+ghost use Rattle.sat_draw.specs.Elements.{ink_word, escape, escaped, line_text, group_text, way_word};
+ghost use Rattle.sat_draw.specs.Elements.{label_title, number_title, way_title};
+ghost use Rattle.sat_draw.specs.Elements.{way_class, way_start, way_ends, way_text, under_pointer, are_thick, glow_text, dot_start, dot_text, room};
+ghost use Rattle.sat_draw.specs.Elements.{whole_of, front_of, word_start, word_text, spell, spelled};
 ghost use Rattle.sat_report.specs.Fronts.{Keeps};
 
-use crate::element::{Element, Ink, Spot};
-use std::alloc::AllocError;
+use crate::element::{Element, Ink, Spot, Text};
+use crate::trail::{BEAT_RANK, Trail};
+use std::alloc::{AllocError, Global};
 
 #[tactic(auto, unfolding(crate::specs::Elements::ink_word))]
 fn ink_word(ink: Ink) -> &'static str
@@ -16,12 +20,20 @@ fn ink_word(ink: Ink) -> &'static str
         Ink::Edge => "edge",
         Ink::Node => "node",
         Ink::Label => "label",
+        Ink::Move => "label move",
+        Ink::Pulse => "label pulse",
+        Ink::Close => "label close",
         Ink::Sink => "sink",
         Ink::Payload => "payload",
         Ink::Store => "store",
         Ink::Beat => "beat",
+        Ink::Seat => "seat",
+        Ink::Away => "seat away",
+        Ink::Switch => "switch",
+        Ink::Dead => "dead",
         Ink::Done => "done",
         Ink::Refused => "refused",
+        Ink::Title => "title",
         Ink::Name => "name",
         Ink::Epoch => "epoch",
         Ink::Act => "act",
@@ -71,13 +83,192 @@ fn append_line(class: &str, from: Spot, to: Spot, out: &mut Vec<u8>) -> Result<(
     out.extend_from_slice(text.as_bytes())
 }
 
-fn append_dot(class: &str, at: Spot, out: &mut Vec<u8>) -> Result<(), AllocError>
-    ensures ok { OnOk result (out.new.items ≡ out.old.items ++ dot_text class.now at) }
+// The class of all ways of a label.
+fn group_of(alloc: Global, trail: Trail) -> Result<Text, AllocError>
+    ensures { IfOk result (λ text. text ≡ group_text trail) }
+{
+    let (ts, site, gear, rank) = (trail.ts, trail.site, trail.gear, trail.rank);
+    let text = format!(in alloc; "w{ts}-{site}-{gear}-{rank}")?;
+    Ok(Text::of(text.into_bytes()))
+}
+
+#[tactic(auto, unfolding(crate::specs::Elements::way_word))]
+fn way_word(ink: Ink) -> &'static str
+    ensures { result.now ≡ way_word ink }
+{
+    match ink {
+        Ink::Label => "update",
+        Ink::Move => "move",
+        Ink::Pulse => "pulse",
+        Ink::Close => "close",
+        Ink::Sink => "in its sink:",
+        Ink::Payload => "payload of",
+        Ink::Store => "waits:",
+        Ink::Beat => "beat",
+        Ink::Seat => "client",
+        Ink::Away => "on its way: client",
+        Ink::Switch => "closed, not yet advanced: site",
+        _ => "",
+    }
+}
+
+fn append_way_class(class: &str, out: &mut Vec<u8>) -> Result<(), AllocError>
+    ensures ok { OnOk result (out.new.items ≡ out.old.items ++ way_class class.now) }
+    ensures err { OnErr result (Keeps out.old.items out.new.items) }
+{
+    let text = format!(in *out.allocator(); "<line class='{class} ")?;
+    out.extend_from_slice(text.as_bytes())
+}
+
+fn append_way_start(class: &str, group: &[u8], out: &mut Vec<u8>) -> Result<(), AllocError>
+    ensures ok { OnOk result (out.new.items ≡ out.old.items ++ way_start class.now group.now) }
+    ensures err { OnErr result (Keeps out.old.items out.new.items) }
+{
+    append_way_class(class, out)?;
+    out.extend_from_slice(group)?;
+    Ok(())
+}
+
+fn append_way_ends(from: Spot, to: Spot, out: &mut Vec<u8>) -> Result<(), AllocError>
+    ensures ok { OnOk result (out.new.items ≡ out.old.items ++ way_ends from to) }
+    ensures err { OnErr result (Keeps out.old.items out.new.items) }
+{
+    let (x1, y1, x2, y2) = (from.x, from.y, to.x, to.y);
+    let text = format!(in *out.allocator(); "' x1='{x1}' y1='{y1}' x2='{x2}' y2='{y2}'><title>")?;
+    out.extend_from_slice(text.as_bytes())
+}
+
+fn append_label_title(word: &str, trail: Trail, out: &mut Vec<u8>) -> Result<(), AllocError>
+    ensures ok { OnOk result (out.new.items ≡ out.old.items ++ label_title word.now trail) }
+    ensures err { OnErr result (Keeps out.old.items out.new.items) }
+{
+    let (ts, site, gear) = (trail.ts, trail.site, trail.gear);
+    let text = format!(in *out.allocator(); "{word} {ts}.{site}.{gear}</title></line>\n")?;
+    out.extend_from_slice(text.as_bytes())
+}
+
+fn append_number_title(word: &str, number: u64, out: &mut Vec<u8>) -> Result<(), AllocError>
+    ensures ok { OnOk result (out.new.items ≡ out.old.items ++ number_title word.now number) }
+    ensures err { OnErr result (Keeps out.old.items out.new.items) }
+{
+    let text = format!(in *out.allocator(); "{word} {number}</title></line>\n")?;
+    out.extend_from_slice(text.as_bytes())
+}
+
+fn append_way_title(word: &str, trail: Trail, out: &mut Vec<u8>) -> Result<(), AllocError>
+    ensures ok { OnOk result (out.new.items ≡ out.old.items ++ way_title word.now trail) }
+    ensures err { OnErr result (Keeps out.old.items out.new.items) }
+{
+    if trail.rank < BEAT_RANK {
+        return append_label_title(word, trail, out);
+    }
+    append_number_title(word, trail.ts, out)
+}
+
+fn append_way(
+    class: &str,
+    word: &str,
+    trail: Trail,
+    from: Spot,
+    to: Spot,
+    out: &mut Vec<u8>,
+) -> Result<(), AllocError>
+    ensures ok { OnOk result (out.new.items ≡ out.old.items ++ way_text class.now word.now trail from to) }
+    ensures err { OnErr result (Keeps out.old.items out.new.items) }
+{
+    let group = group_of(*out.allocator(), trail)?;
+    append_way_start(class, group.bytes(), out)?;
+    append_way_ends(from, to, out)?;
+    append_way_title(word, trail, out)
+}
+
+fn append_under_pointer(group: &[u8], out: &mut Vec<u8>) -> Result<(), AllocError>
+    ensures ok { OnOk result (out.new.items ≡ out.old.items ++ under_pointer group.now) }
+    ensures err { OnErr result (Keeps out.old.items out.new.items) }
+{
+    out.extend_from_slice(b"<style>svg:has(.")?;
+    out.extend_from_slice(group)?;
+    out.extend_from_slice(b":hover) .")?;
+    Ok(())
+}
+
+fn append_are_thick(group: &[u8], out: &mut Vec<u8>) -> Result<(), AllocError>
+    ensures ok { OnOk result (out.new.items ≡ out.old.items ++ are_thick group.now) }
+    ensures err { OnErr result (Keeps out.old.items out.new.items) }
+{
+    out.extend_from_slice(group)?;
+    out.extend_from_slice(b"{stroke-width:4}</style>\n")
+}
+
+fn append_hover(group: &[u8], out: &mut Vec<u8>) -> Result<(), AllocError>
+    ensures ok { OnOk result (out.new.items ≡ out.old.items ++ glow_text group.now) }
+    ensures err { OnErr result (Keeps out.old.items out.new.items) }
+{
+    append_under_pointer(group, out)?;
+    append_are_thick(group, out)
+}
+
+fn append_glow(trail: Trail, out: &mut Vec<u8>) -> Result<(), AllocError>
+    ensures ok { OnOk result (out.new.items ≡ out.old.items ++ glow_text (group_text trail)) }
+    ensures err { OnErr result (Keeps out.old.items out.new.items) }
+{
+    let group = group_of(*out.allocator(), trail)?;
+    append_hover(group.bytes(), out)
+}
+
+fn append_dot_start(class: &str, at: Spot, out: &mut Vec<u8>) -> Result<(), AllocError>
+    ensures ok { OnOk result (out.new.items ≡ out.old.items ++ dot_start class.now at) }
     ensures err { OnErr result (Keeps out.old.items out.new.items) }
 {
     let (x, y) = (at.x, at.y);
-    let text = format!(in *out.allocator(); "<circle class='{class}' cx='{x}' cy='{y}' r='4'/>\n")?;
+    let text = format!(in *out.allocator();
+        "<circle class='{class}' cx='{x}' cy='{y}' r='4'><title>"
+    )?;
     out.extend_from_slice(text.as_bytes())
+}
+
+fn append_dot(class: &str, at: Spot, text: &[u8], out: &mut Vec<u8>) -> Result<(), AllocError>
+    ensures ok { OnOk result (out.new.items ≡ out.old.items ++ dot_text class.now at text.now) }
+    ensures err { OnErr result (Keeps out.old.items out.new.items) }
+{
+    append_dot_start(class, at, out)?;
+    append_escaped(text, out)?;
+    out.extend_from_slice(b"</title></circle>\n")
+}
+
+// How many bytes of a text there is room for.
+fn room(ink: Ink) -> usize
+    ensures { result ≡ room ink }
+{
+    match ink {
+        Ink::Act => 27,
+        Ink::Said => 41,
+        Ink::Denied => 41,
+        _ => 400,
+    }
+}
+
+fn append_whole(most: usize, text: &[u8], out: &mut Vec<u8>) -> Result<(), AllocError>
+    ensures ok { OnOk result (out.new.items ≡ out.old.items ++ whole_of most text.now) }
+    ensures err { OnErr result (Keeps out.old.items out.new.items) }
+{
+    if text.len() <= most {
+        return Ok(());
+    }
+    out.extend_from_slice(b"<title>")?;
+    append_escaped(text, out)?;
+    out.extend_from_slice(b"</title>")
+}
+
+fn append_front(most: usize, text: &[u8], out: &mut Vec<u8>) -> Result<(), AllocError>
+    ensures ok { OnOk result (out.new.items ≡ out.old.items ++ front_of most text.now) }
+    ensures err { OnErr result (Keeps out.old.items out.new.items) }
+{
+    if text.len() <= most {
+        return append_escaped(text, out);
+    }
+    append_escaped(&text[..most], out)?;
+    out.extend_from_slice(b"\xe2\x80\xa6")
 }
 
 fn append_word_start(class: &str, at: Spot, out: &mut Vec<u8>) -> Result<(), AllocError>
@@ -89,20 +280,20 @@ fn append_word_start(class: &str, at: Spot, out: &mut Vec<u8>) -> Result<(), All
     out.extend_from_slice(text.as_bytes())
 }
 
-fn append_inner(text: &[u8], out: &mut Vec<u8>) -> Result<(), AllocError>
-    ensures ok { OnOk result (out.new.items ≡ out.old.items ++ (escaped text.now ++ codes "</text>\n")) }
-    ensures err { OnErr result (Keeps out.old.items out.new.items) }
-{
-    append_escaped(text, out)?;
-    out.extend_from_slice(b"</text>\n")
-}
-
-fn append_word(class: &str, at: Spot, text: &[u8], out: &mut Vec<u8>) -> Result<(), AllocError>
-    ensures ok { OnOk result (out.new.items ≡ out.old.items ++ (word_start class.now at ++ (escaped text.now ++ codes "</text>\n"))) }
+fn append_word(
+    class: &str,
+    at: Spot,
+    most: usize,
+    text: &[u8],
+    out: &mut Vec<u8>,
+) -> Result<(), AllocError>
+    ensures ok { OnOk result (out.new.items ≡ out.old.items ++ word_text class.now at most text.now) }
     ensures err { OnErr result (Keeps out.old.items out.new.items) }
 {
     append_word_start(class, at, out)?;
-    append_inner(text, out)
+    append_whole(most, text, out)?;
+    append_front(most, text, out)?;
+    out.extend_from_slice(b"</text>\n")
 }
 
 #[tactic(auto, unfolding(crate::specs::Elements::spell))]
@@ -112,8 +303,24 @@ fn append_element(element: &Element, out: &mut Vec<u8>) -> Result<(), AllocError
 {
     match element {
         Element::Line { ink, from, to } => append_line(ink_word(*ink), *from, *to, out),
-        Element::Dot { ink, at } => append_dot(ink_word(*ink), *at, out),
-        Element::Word { ink, at, text } => append_word(ink_word(*ink), *at, text.bytes(), out),
+        Element::Way {
+            ink,
+            trail,
+            from,
+            to,
+        } => { append_way(ink_word(*ink), way_word(*ink), *trail, *from, *to, out) }
+        Element::Lost { trail, from, to } => {
+            append_way("label lost", "never taken:", *trail, *from, *to, out)
+        }
+        Element::Glow { trail } => append_glow(*trail, out),
+        Element::Dot { ink, at, text } => append_dot(ink_word(*ink), *at, text.bytes(), out),
+        Element::Word { ink, at, text } => append_word(
+            ink_word(*ink),
+            *at,
+            room(*ink),
+            text.bytes(),
+            out,
+        ),
     }
 }
 

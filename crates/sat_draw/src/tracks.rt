@@ -1,5 +1,5 @@
 //! What is kept of the entries so far.
-ghost use Rattle.std.specs.Prelude.{ℕ, ◌≡◌, OnOk, Option, None, unwrap_or};
+ghost use Rattle.std.specs.Prelude.{ℕ, ◌≡◌, ◌≤◌, ◌^◌, [], OnOk, Option, None, unwrap_or};
 ghost use Rattle.std.specs.BTreeMap.{get};
 ghost use Rattle.std.specs.Ordering.{nat_cmp};
 ghost use Rattle.sat_act.specs.declared.entry.Entry.{Entry};
@@ -7,10 +7,11 @@ ghost use Rattle.sat_act.specs.Parts.{home};
 ghost use Rattle.sat_draw.specs.declared.trail.Trail.{Trail};
 ghost use Rattle.sat_draw.specs.Trails.{trail_cmp, after_change, reseated, left_by};
 ghost use Rattle.sat_draw.specs.Rows.{after_leaving};
-ghost use Rattle.sat_draw.specs.Tracks.{seat_by, spot_by};
+ghost use Rattle.sat_draw.specs.Tracks.{seat_by, spot_by, Moves};
 
 use crate::element::Spot;
-use crate::trail::{Trail, left_by, reseated};
+use crate::lost::{Sending, end_ways, is_settled, push_sendings};
+use crate::trail::{Trail, comes_from, left_by, reseated};
 use sat_act::{Deployment, Entry};
 use std::alloc::{AllocError, Global};
 use std::collections::BTreeMap;
@@ -20,6 +21,10 @@ use std::collections::BTreeMap;
 pub struct Tracks {
     pub spots: BTreeMap<Trail, Spot>,
     pub seats: BTreeMap<u16, Option<u16>>,
+    /// Those that were not taken since.
+    pub under_way: BTreeMap<Trail, Spot>,
+    /// The labels that went over links.
+    pub sendings: Vec<Sending>,
 }
 
 // The site of a client's header line.
@@ -88,10 +93,14 @@ impl Tracks {
     pub(crate) fn new(alloc: Global) -> Tracks
         ensures seats { (c : ℕ) → get nat_cmp result.seats c ≡ None }
         ensures spots { (t : Trail) → spot_by result.spots t ≡ None }
+        ensures under_way { (t : Trail) → spot_by result.under_way t ≡ None }
+        ensures sendings { result.sendings.items ≡ [] }
     {
         Tracks {
             spots: BTreeMap::new(alloc),
             seats: BTreeMap::new(alloc),
+            under_way: BTreeMap::new(alloc),
+            sendings: Vec::new(alloc),
         }
     }
 
@@ -102,13 +111,18 @@ impl Tracks {
         entry: &Entry,
         here: Spot,
     ) -> Result<(), AllocError>
-        ensures seats { OnOk result ((first : Option ℕ) (c : ℕ) → unwrap_or (get nat_cmp self.new.seats c) first
-            ≡ after_change (reseated entry.now.act entry.now.answer) (unwrap_or (get nat_cmp self.old.seats c) first) c) }
-        ensures spots { OnOk result ((t : Trail) → spot_by self.new.spots t
-            ≡ after_leaving (left_by entry.now.act entry.now.answer) here (spot_by self.old.spots t) t) }
+        requires right { here.x ≤ 400000000 }
+        requires small { here.y ≤ 2 ^ 40 }
+        ensures { OnOk result (Moves self.old entry.now here self.new) }
     {
+        let coming = comes_from(alloc, entry)?;
         let trails = left_by(alloc, entry)?;
+        let settled = is_settled(&entry.answer);
+        end_ways(alloc, &mut self.under_way, settled, coming.as_slice());
+        leave(&mut self.under_way, trails.as_slice(), here)?;
+        push_sendings(here, trails.as_slice(), &mut self.sendings)?;
         leave(&mut self.spots, trails.as_slice(), here)?;
-        reseat(&mut self.seats, reseated(entry))
+        reseat(&mut self.seats, reseated(entry))?;
+        Ok(())
     }
 }

@@ -1,5 +1,7 @@
 pub mod Causes
+pub mod Told
 pub mod Disk
+pub mod Drills
 pub mod Past
 pub mod Arming
 pub mod Memory

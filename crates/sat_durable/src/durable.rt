@@ -1,7 +1,8 @@
 //! A machine that survives a stop.
-ghost use Rattle.std.specs.Prelude.{◌≡◌, ◌⊎◌, ◌^◌, ◌<◌, ◌≤◌, true, List, Some, [], ◌∷◌, ◌++◌, length, IfOk, IfErr};
+ghost use Rattle.std.specs.Prelude.{◌≡◌, ◌⊎◌, ◌^◌, ◌<◌, ◌≤◌, true, false, List, Some, [], ◌∷◌, ◌++◌, length, IfOk, IfErr};
 ghost use Rattle.sat_durable.specs.Causes.{Rose};
 ghost use Rattle.sat_durable.specs.Disk.{DiskState, LeftOnly, Rests};
+ghost use Rattle.sat_durable.specs.Drills.{StepsTold};
 ghost use Rattle.sat_durable.specs.Machine.{Meaning, Keeps, Recovers};
 ghost use Rattle.sat_durable.specs.Settled.{IsSettled};
 ghost use Rattle.sat_durable.specs.Journal.{record_of};
@@ -42,7 +43,7 @@ pub enum DurableFault<D: Disk> {
 
 impl<D: Disk, M: Machine> Durable<D, M> {
     ghost use Rattle.sat_durable.specs.Durables.{disk_of, machine_of, size_of};
-    ghost use Rattle.sat_durable.specs.Step.{disk_after, MatchFault};
+    ghost use Rattle.sat_durable.specs.Step.{disk_after, MatchFault, MatchStep};
 
     /// How many bytes its records are.
     pub fn size(&self) -> u64
@@ -101,6 +102,12 @@ impl<D: Disk, M: Machine> Durable<D, M> {
         ensures faults { IfErr result (λ fault. MatchFault fault
             (λ disk. Rose (D.state (disk_of self)).faults (D.state disk).faults)
             (λ durable. (machine_of durable ≡ machine_of self) × (size_of durable ≡ size_of self) × Rests (D.state (disk_of self)) (D.state (disk_of durable)))) }
+
+        // Where it is known which call fails, so is whether the input is there.
+        ensures told { (fresh : M) (inputs : List M.Input) → Keeps M.meaning fresh (D.state (disk_of self)) (machine_of self) inputs
+            → MatchStep result (λ done. StepsTold (D.state (disk_of done.0)) true (λ c. Recovers M.meaning fresh c (inputs ++ input ∷ [])) (λ c. Recovers M.meaning fresh c inputs) (D.state (disk_of self)).told)
+            (λ disk. StepsTold (D.state disk) false (λ c. Recovers M.meaning fresh c (inputs ++ input ∷ [])) (λ c. Recovers M.meaning fresh c inputs) (D.state (disk_of self)).told)
+            (λ durable. (D.state (disk_of durable)).told ≡ (D.state (disk_of self)).told) }
     {
         let record = match record_for(alloc, &self.machine, &input) {
             Ok(record) => record,
@@ -144,6 +151,7 @@ impl<D: Disk, M: Machine> Durable<D, M> {
 impl<M: Machine> Durable<MemoryDisk, M> {
     ghost use Rattle.sat_durable.specs.Durables.{disk_of, machine_of, size_of};
     ghost use Rattle.sat_durable.specs.Memory.{memory_state, memory_synced, memory_armed, memory_keeps};
+    ghost use Rattle.sat_durable.specs.Told.{told as told_of};
 
     /// Arms the disk, as `MemoryDisk::arm` does. Nothing else changes.
     pub fn arm(&mut self, calls: u64, keep: bool)
@@ -152,6 +160,7 @@ impl<M: Machine> Durable<MemoryDisk, M> {
         ensures rests { Rests (memory_state (disk_of self.old)) (memory_state (disk_of self.new)) }
         ensures machine { machine_of self.new ≡ machine_of self.old }
         ensures size { size_of self.new ≡ size_of self.old }
+        ensures told { (memory_state (disk_of self.new)).told ≡ told_of (Some calls) keep (memory_synced (disk_of self.old)) }
     {
         self.disk.arm(calls, keep);
     }

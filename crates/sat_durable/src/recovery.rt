@@ -1,7 +1,8 @@
 //! How a machine is made again from what a stop has left.
-ghost use Rattle.std.specs.Prelude.{◌≡◌, ℕ, ◌+◌, ◌≤◌, List, length, replicate, Ok, Err, IfOk, IfErr, OnOk, IsErrOf, ⊤};
+ghost use Rattle.std.specs.Prelude.{◌≡◌, ℕ, ◌+◌, ◌≤◌, List, length, replicate, Ok, Err, IfOk, IfErr, MatchResult, OnOk, IsErrOf, ⊤};
 ghost use Rattle.sat_durable.specs.Causes.{Rose};
 ghost use Rattle.sat_durable.specs.Disk.{DiskState, IsSynced, LeavesNoMore, LeftOnly};
+ghost use Rattle.sat_durable.specs.Drills.{IsCalm};
 ghost use Rattle.sat_durable.specs.Machine.{recovered, Recovers, Keeps};
 ghost use Rattle.sat_durable.specs.Durables.{disk_of, machine_of};
 ghost use Rattle.sat_durable.specs.Fault.{MatchDurableFault};
@@ -50,6 +51,10 @@ pub fn recover<D: Disk, M: Machine>(
         (λ left. Rose (D.state disk).faults (D.state left).faults)
         (λ left at. recovered M.meaning fresh (D.state disk).content ≡ Err at)
         (λ left. ⊤)) }
+
+    // A disk that will not fail doesn't, and will not.
+    ensures calm { IsCalm (D.state disk) → MatchResult result (λ made. IsCalm (D.state (disk_of made.durable)))
+        (λ fault. MatchDurableFault fault (λ left. ⊥) (λ left at. ⊤) (λ left. ⊤)) }
 {
     let mut disk = disk;
     let bytes = match read_all(alloc, &mut disk) {
@@ -81,6 +86,8 @@ fn read_all<D: Disk>(alloc: Global, disk: &mut D) -> Result<Vec<u8>, ReadFault>
     ensures content { (D.state disk.new).content ≡ (D.state disk.old).content }
     ensures any_moment { LeftOnly (D.state disk.old) (D.state disk.new) (D.state disk.old).may_leave }
     ensures failed { IsErrOf result ReadFault.Failed → Rose (D.state disk.old).faults (D.state disk.new).faults }
+    ensures calm { IsCalm (D.state disk.old) → IsCalm (D.state disk.new) }
+    ensures fine { IsCalm (D.state disk.old) → IsErrOf result ReadFault.Failed → ⊥ }
 {
     if let Err(_) = disk.sync() {
         return Err(ReadFault::Failed);

@@ -49,10 +49,12 @@ all_heard s = list_all (was_heard s) (below (length s.heard))
 
 -- ---- why not
 
+-- why a site can't close an epoch: there is no later one, or its view has not come so far
 abbrev pub close_fault : Epochs → Option CloseFault
 close_fault s =
     if s.emission == length s.stamp then Some close.NoNextEpoch else (if s.emission == s.view + 1 then Some close.Behind else None)
 
+-- why a site can't fall back: it is in timestamp order, or has not closed the epoch that it views
 abbrev pub fall_fault : Epochs → Option FallFault
 fall_fault s = if in_stamp s then Some fall.StampOrder else (if s.emission == s.view then Some fall.NotClosed else None)
 
@@ -62,12 +64,15 @@ advance_fault s came = if s.emission == s.view then Some advance.NotClosed else 
 
 -- ---- what the calls make of it
 
+-- a close at a cut: the next epoch is emitted in, and the cut is kept
 abbrev pub after_close : Epochs → Point → Epochs
 after_close s cut = record s { emission = s.emission + 1; closes = s.closes ++ cut ∷ [] }
 
+-- a site that fell shows by timestamps until its view advances
 abbrev pub after_fall : Epochs → Epochs
 after_fall s = record s { fallen = true }
 
+-- the close of a site was heard in the view's tree
 abbrev pub after_hear : Epochs → ℕ → Epochs
 after_hear s from = record s { heard = slice_set s.heard from true }
 

@@ -30,9 +30,11 @@ pub record OpenedSeen : Type 0 where
 abbrev pub Lines : Type 0
 Lines = List (ℕ × Entry)
 
+-- the lines of a site's journal
 abbrev pub site_lines : SiteHeld → Lines
 site_lines h = map (kept_under (site_kept (number_of h.node.name))) h.node.entries
 
+-- the lines of a serializer's journal
 abbrev pub serial_lines : SerialHeld → Lines
 serial_lines h = map (kept_under (serial_kept (epoch_in h.node.name) (serial_in h.node.name))) h.node.entries
 
@@ -41,6 +43,7 @@ abbrev pub alone_line : Noted → Option NodeName → Lines
 alone_line n None = (n.lamport, n.entry) ∷ []
 alone_line n (Some name) = []
 
+-- the lines of a session's notes that no node keeps
 abbrev pub alone_lines : List Noted → Lines
 alone_lines [] = []
 alone_lines (n ∷ ns) = alone_line n n.at ++ alone_lines ns
@@ -58,6 +61,7 @@ node_lines sites serials = map site_lines sites ++ map serial_lines serials
 abbrev pub session_journal : ℕ → SessionSeen → Numbered Entry
 session_journal base x = (base + x.number, alone_lines x.noted)
 
+-- the journals that are merged: those of all sites, all serializers, and all sessions
 abbrev pub journals_of : List SiteHeld → List SerialHeld → List SessionSeen → List (Numbered Entry)
 journals_of sites serials xs = at_places 0 (node_lines sites serials) ++ map (session_journal (length sites + length serials)) xs
 

@@ -83,6 +83,7 @@ drained_of s = record { labels = s.fresh; promise = s.promise; counts = map coun
 abbrev pub lanes_from : Interested → Payload → ℕ → List (List Payload) → List (List Payload)
 lanes_from a p k lanes = lanes_where (is_for a p.label) p k lanes
 
+-- a tick: the promise rises to t, and never falls
 abbrev pub after_tick : GearSeen → ℕ → GearSeen
 after_tick s t = record s { promise = max s.promise t }
 
@@ -106,6 +107,7 @@ after_write s p = record s {
   lanes = lanes_from s.shape.interest p 0 s.lanes;
 }
 
+-- a gather took its fresh labels, and its promise with them
 abbrev pub after_drain : GearSeen → GearSeen
 after_drain s = record s { drained_promise = s.promise; fresh = [] }
 
@@ -165,6 +167,9 @@ pub record IsInLane (s : GearSeen) (j : ℕ) (p : Payload) : Type 0 where
   pub target : is_for s.shape.interest p.label j ≡ true
   pub upto : p.label.point.ts ≤ s.promise
 
+-- what holds of a gear at all times: its promise is within the range of timestamps and at or above the last one that
+-- a gather took, fresh labels rise and were not drained, a lane for each site holds payloads made for it, and there
+-- is a place for each version
 pub record IsGear (s : GearSeen) : Type 0 where
   pub shape : IsShape s.shape
   pub gear : s.gear < s.shape.gears

@@ -73,6 +73,17 @@ fn about_kinds(text: &mut String, line: &str, form: &str) -> Result<Option<Place
     Ok(None)
 }
 
+// The line has the form of an act, which the scripts of some commands lack.
+fn about_command(text: &mut String, word: &str) -> Result<(), AllocError> {
+    match word {
+        "enter" | "pass" | "apply" | "crash" => {
+            write!(text, "`{word}` is an act of scripts for `chain` alone")
+        }
+        "hop" | "kill" | "settle" => write!(text, "scripts for this command have no act `{word}`"),
+        _ => write!(text, "no act has this form"),
+    }
+}
+
 /// Why a line behind `begin` has no form of an act, and where.
 pub(crate) fn about_act(
     alloc: Global,
@@ -101,7 +112,7 @@ pub(crate) fn about_act(
     };
     let place = about_kinds(text, line, form)?;
     if place.is_none() {
-        text.push_str("no act has this form")?;
+        about_command(text, word)?;
     }
     Ok(place)
 }

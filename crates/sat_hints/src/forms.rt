@@ -1,6 +1,6 @@
 //! The forms of acts and of the header's lines, as docs/SCRIPTS.md writes them: a word, and for each word behind it a letter that says
-//! its kind. C is a client, X an item, V a value, I and J are sites, G is a gear, T a timestamp, N a number, E an epoch, U a node and
-//! Z a serializer.
+//! its kind. C is a client, X an item, V a value, I and J are sites, G is a gear, T a timestamp, N a number, E an epoch, U a node,
+//! Z a serializer and K a replica of one.
 
 use crate::line::{count_words, first_word};
 
@@ -32,6 +32,10 @@ pub(crate) fn act_forms() -> &'static [&'static str] {
         "advance J",
         "kill E Z",
         "settle",
+        "enter E U Z",
+        "pass E Z K",
+        "apply E Z",
+        "crash E Z K",
     ]
 }
 
@@ -40,7 +44,7 @@ pub(crate) fn act_words() -> &'static [&'static str] {
     &[
         "tick", "clock", "write", "writes", "read", "move", "leave", "attach", "gather", "emit",
         "pulse", "hop", "turn", "bulk", "beat", "beatin", "stamp", "close", "fall", "advance",
-        "kill", "settle", "end",
+        "kill", "settle", "enter", "pass", "apply", "crash", "end",
     ]
 }
 
@@ -104,6 +108,7 @@ pub(crate) fn kind_text(kind: &str) -> &'static str {
         "T" => "a timestamp is a number",
         "N" => "this is a number",
         "E" => "an epoch is named by its number",
+        "K" => "a replica is named by its number",
         "U" => "a node is `s` and a site's number or `z` and a serializer's, as `s0`",
         _ => "a serializer is `z` and its number, as `z0`",
     }

@@ -35,8 +35,13 @@ fn whole_lines(bytes: &[u8]) -> usize
     }
 }
 
+// How many lines end in some bytes. The whole input goes through this loop, so it has no branch.
 fn count_lines(bytes: &[u8]) -> usize {
-    bytes.iter().filter(|byte| **byte == b'\n').count()
+    let mut count = 0usize;
+    for byte in bytes {
+        count = count.wrapping_add((*byte == b'\n') as usize);
+    }
+    count
 }
 
 impl Kept {
@@ -60,8 +65,9 @@ impl Kept {
         let whole = whole_lines(self.recent.as_slice());
         let count = count_lines(&self.recent.as_slice()[..whole]);
         self.first = self.first.saturating_add(count as u64);
-        drop(self.recent.drain(..whole));
-        self.recent.truncate(MOST_BEGUN);
+        let length = self.recent.len();
+        self.recent.copy_within(whole..length, 0);
+        self.recent.truncate((length - whole).min(MOST_BEGUN));
         self.recent.extend_from_slice(piece)
     }
 

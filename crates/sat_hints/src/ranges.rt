@@ -162,6 +162,10 @@ fn about_act(
             text.push_str("a value has at most 256 bytes")?;
             return Ok(Some(place_of(line, index)));
         }
+        if kind == "K" {
+            text.push_str("replicas go from 0 to one less than the number behind `chain`")?;
+            return Ok(Some(place_of(line, index)));
+        }
         if let Some(range) = range_of(header, line, kind, word) {
             if index > 0 && is_outside(range, word) {
                 write_range(text, range)?;

@@ -8,13 +8,14 @@ use std::alloc::{AllocError, Global};
 use std::fmt::Write;
 
 // The commands, and what they are mistaken for.
-const COMMANDS: [&str; 9] = [
+const COMMANDS: [&str; 10] = [
     "run",
     "draw",
     "plan",
     "place",
     "live",
     "audit",
+    "chain",
     "load",
     "--help",
     "--version",
@@ -25,9 +26,13 @@ const FEWEST_LOADED: u64 = 2;
 
 const MOST_LOADED: u64 = 199000;
 
+// The most replicas of `chain`; the fewest are one.
+const MOST_REPLICAS: u64 = 5;
+
 const USAGE: &str = "usage: saturn COMMAND < INPUT
 
   run, draw, plan, place, live, audit   read standard input
+  chain R                               reads it too
   load SEED N                           makes its input
   --help                                says what each of these does
   --version
@@ -38,15 +43,30 @@ fn reads(word: &str) -> bool {
     matches!(word, "run" | "draw" | "plan" | "place" | "live" | "audit")
 }
 
+// Whether a word is a number of replicas.
+fn counts_replicas(word: &str) -> bool {
+    number(word).is_some_and(|count| 1 <= count && count <= MOST_REPLICAS)
+}
+
+// What a person is told whose script is awaited.
+const AWAITS_SCRIPT: &str =
+    "reading a script from the terminal; the line `end` and then Ctrl-D end it";
+
 /// What a person is told whose command waits for lines at a terminal, where the words are such a command.
 pub fn awaits(words: &[String]) -> Option<&'static str> {
-    let [word] = words else {
-        return None;
-    };
-    match word.as_str() {
-        "run" | "draw" | "live" => {
-            Some("reading a script from the terminal; the line `end` and then Ctrl-D end it")
+    match words {
+        [word] => awaits_alone(word.as_str()),
+        [word, replicas] if word.as_str() == "chain" && counts_replicas(replicas.as_str()) => {
+            Some(AWAITS_SCRIPT)
         }
+        _ => None,
+    }
+}
+
+// The same of one word.
+fn awaits_alone(word: &str) -> Option<&'static str> {
+    match word {
+        "run" | "draw" | "live" => Some(AWAITS_SCRIPT),
         "audit" => Some(
             "reading a history from the terminal; the line `end` and then Ctrl-D end it",
         ),
@@ -55,6 +75,14 @@ pub fn awaits(words: &[String]) -> Option<&'static str> {
             Some("reading a table of delays and a tree, as JSON, from the terminal; Ctrl-D ends it")
         }
         _ => None,
+    }
+}
+
+/// Whether these are the words that ask for the version.
+pub fn is_version(words: &[String]) -> bool {
+    match words {
+        [word] => word.as_str() == "--version",
+        _ => false,
     }
 }
 
@@ -154,6 +182,30 @@ fn about_load(text: &mut String, words: &[String]) -> Result<(), AllocError> {
     }
 }
 
+// Words behind `chain`, which takes one number.
+fn about_chain(text: &mut String, words: &[String]) -> Result<(), AllocError> {
+    match words {
+        [replicas, name] if counts_replicas(replicas.as_str()) => {
+            let shown = Shown::new(name.as_bytes());
+            writeln!(
+                text,
+                "saturn: `chain` takes no file name; type: saturn chain {replicas} < {shown}"
+            )
+        }
+        [replicas] => {
+            let shown = Shown::new(replicas.as_bytes());
+            writeln!(
+                text,
+                "saturn: chain R: R is a number from 1 to {MOST_REPLICAS} without a leading zero, and not `{shown}`"
+            )
+        }
+        _ => writeln!(
+            text,
+            "saturn: `chain` takes one number; type: saturn chain R < INPUT"
+        ),
+    }
+}
+
 // Words that begin with this one, and have these behind it.
 fn about_command(
     alloc: Global,
@@ -163,6 +215,9 @@ fn about_command(
 ) -> Result<(), AllocError> {
     if command == "load" {
         return about_load(text, rest);
+    }
+    if command == "chain" {
+        return about_chain(text, rest);
     }
     let is_known = reads(command) || command == "--help" || command == "--version";
     match rest.first() {

@@ -2,6 +2,7 @@
 use Rattle.std.specs.Prelude.{ℕ, Bool, ◌||◌, ◌==◌, if◌then◌else◌}
 use Rattle.sat_label.specs.declared.limits.Limits.{Limits}
 
+-- the numbers that formats of scripts have
 abbrev pub is_format : ℕ → Bool
 is_format format = (format == 1) || (format == 2)
 

@@ -28,9 +28,11 @@ point_lt p q =
 abbrev pub point_eq : Point → Point → Bool
 point_eq p q = (p.ts == q.ts) && ((p.site == q.site) && (p.gear == q.gear))
 
+-- whether a point is at or below another one
 abbrev pub point_le : Point → Point → Bool
 point_le p q = point_lt p q || point_eq p q
 
+-- the greater of two points
 abbrev pub greater_point : Point → Point → Point
 greater_point p q = if point_lt p q then q else p
 
@@ -71,15 +73,18 @@ kind_eq a b = (kind_rank a == kind_rank b) && numbers_eq (kind_numbers a) (kind_
 abbrev pub label_lt : Label → Label → Bool
 label_lt a b = point_lt a.point b.point || (point_eq a.point b.point && kind_lt a.kind b.kind)
 
+-- whether two labels are the same: point and kind
 abbrev pub label_eq : Label → Label → Bool
 label_eq a b = point_eq a.point b.point && kind_eq a.kind b.kind
 
+-- whether two nodes of a tree are the same
 abbrev pub node_eq : NodeId → NodeId → Bool
 node_eq (Site i) (Site k) = i == k
 node_eq (Serializer y) (Serializer z) = y == z
 node_eq (Site i) (Serializer z) = false
 node_eq (Serializer y) (Site k) = false
 
+-- whether two nodes' names are the same; of serializers, epoch and number
 abbrev pub name_eq : NodeName → NodeName → Bool
 name_eq (named.Site i) (named.Site k) = i == k
 name_eq (named.Serializer e y) (named.Serializer f z) = (e == f) && (y == z)

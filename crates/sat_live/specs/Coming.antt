@@ -54,6 +54,7 @@ IsEnded d xs (Whole journal) = IsOneRun d journal × HoldsSessions d xs journal
 IsEnded d xs (Apart node session) = (nodes : List Owned) × IsDifference nodes (session_notes d xs) node session
 IsEnded d xs Memory = Unit {0}
 
+-- what came back of the nodes: one journal of the script's acts, or two notes that tell one act apart
 abbrev pub IsCame : Deployed → List Act → Came → Type 0
 IsCame d acts (Whole journal) = IsJournalOf d acts journal
 IsCame d acts (Apart node session) = AreApart acts node session

@@ -27,6 +27,7 @@ pub record IsRunUnsettled (d : Deployed) (done : List Act) (text : List ℕ) : T
   pub some : rounds ≢ 0
   pub written : text ≡ unsettled_text rounds moves
 
+-- what is told of a journal of all acts: its script and report with 0, or what is left under way with 8
 abbrev pub IsRunTold : Deployed → List Act → List ℕ → ℕ → Type 0
 IsRunTold d done text status = ((status ≡ 0) × IsRunWhole d done text) ⊎ ((status ≡ 8) × IsRunUnsettled d done text)
 

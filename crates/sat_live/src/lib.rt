@@ -9,5 +9,5 @@ mod nodes;
 mod notes;
 mod telling;
 
-pub use launch::live;
+pub use launch::{live, live_over};
 pub use telling::Told;

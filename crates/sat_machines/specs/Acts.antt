@@ -4,6 +4,7 @@ use Rattle.sat_act.specs.Deployed.{Deployed}
 use Rattle.sat_site.specs.declared.input.SiteInput.{SiteInput}
 use Rattle.sat_site.specs.declared.input.SiteInput.TheVariants as input
 
+-- an act at a node of a site: the client that asked, if one did, and what the site is handed
 pub record ActSeen : Type 0 where
   pub by : Option ℕ
   pub input : SiteInput

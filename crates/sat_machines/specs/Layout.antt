@@ -69,6 +69,7 @@ links_of d (named.Serializer e z) = links_at (trees_of d) e z
 abbrev pub tree_links : Planted → List Link
 tree_links p = flat_map (serial_links p) (below (length p.tree.parents))
 
+-- all links of a deployment: between each two sites, and along the edges of each tree
 abbrev pub all_links : Deployed → List Link
 all_links d = flat_map (site_links d) (below d.sites) ++ flat_map tree_links (trees_of d)
 
@@ -84,6 +85,7 @@ out_places d name = map (place_of d) (links_of d name)
 abbrev pub place_back : Deployed → Link → ℕ
 place_back d l = place_of d (turned l)
 
+-- the places of the links into a node, in the order of those that lead out of it
 unfoldable pub in_places : Deployed → NodeName → List ℕ
 unfolding neighbours seat_of
 in_places d name = map (place_back d) (links_of d name)

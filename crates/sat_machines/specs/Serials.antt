@@ -148,6 +148,7 @@ abbrev pub serial_in : NodeName → ℕ
 serial_in (named.Site i) = 0
 serial_in (named.Serializer e z) = z
 
+-- what a serializer is as a node: its state is whether it is dead
 abbrev pub serial_meaning : Deployed → Meaning Bool SerialAct SerialAnswer
 serial_meaning d = record {
   fresh = λ name. false;

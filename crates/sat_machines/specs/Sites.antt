@@ -149,6 +149,8 @@ is_standing _ = true
 
 -- ---- all of it
 
+-- what a site is as a node: its state is the model's, and so are fits, answers and steps; and what its acts put on
+-- links and take off them
 abbrev pub site_meaning : Deployed → Meaning SiteState ActSeen SiteAnswer
 site_meaning d = record {
   fresh = λ name. fresh_site (number_of name);

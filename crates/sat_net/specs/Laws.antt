@@ -27,6 +27,7 @@ pub record StaysNet (n : NetSeen) : Type 0 where
   pub taken : (j : ℕ) → IsNet (after_take n j)
   pub killed : (z : ℕ) → IsNet (after_kill n z)
 
+-- a law: the links and serializers of an epoch stay well formed in each step
 abbrev pub NetsStayNets : Type 0
 NetsStayNets = (n : NetSeen) → IsNet n → StaysNet n
 

@@ -87,6 +87,7 @@ abbrev pub kept_front : Option InSeen → Option Envelope
 kept_front None = None
 kept_front (Some i) = i.front
 
+-- the message at the front of a link, if one is known to stand there
 abbrev pub front_at : List InSeen → ℕ → Option Envelope
 front_at ins link = kept_front (slice_get ins link)
 

@@ -40,6 +40,7 @@ module _ {S I A : Type 0} (m : Meaning S I A) (name : NodeName) where
   RunsFrom s [] = Unit {0}
   RunsFrom s (k ∷ ks) = m.fits name s k.input × m.answers name s k.input k.answer × RunsFrom (m.after name s k.input k.answer) ks
 
+  -- each entry of a node's journal has the answer that its state gives, from the fresh state on
   abbrev pub Runs : List (Kept I A) → Type 0
   Runs ks = RunsFrom (m.fresh name) ks
 

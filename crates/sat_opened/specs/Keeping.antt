@@ -72,10 +72,12 @@ owner_of None _ = None
 
 -- ---- serializers
 
+-- the act that an entry of a serializer's journal is
 abbrev pub serial_act : ℕ → ℕ → SerialAct → Act
 serial_act e z (serial.Hop u l) = act.Hop e u z
 serial_act e z serial.Kill = act.Kill e z
 
+-- what was given to it: the label that it handled
 abbrev pub serial_given : SerialAct → Given
 serial_given (serial.Hop u l) = OfFront (Some l)
 serial_given serial.Kill = Nothing
@@ -96,6 +98,7 @@ abbrev pub behind : {X : Type 0} → (X → Kept) → List Kept → List X → L
 behind of ks [] = ks
 behind of ks (x ∷ xs) = behind of (of x ∷ ks) xs
 
+-- the entries of a journal as kept, the newest first
 abbrev pub newest : {X : Type 0} → (X → Kept) → List X → List Kept
 newest of xs = behind of [] xs
 

@@ -34,6 +34,7 @@ name_in h = h.node.name
 abbrev pub tree_names : Planted → List NodeName
 tree_names p = map (named.Serializer p.epoch) (below (length p.tree.parents))
 
+-- the names of all serializers of a deployment
 abbrev pub serial_names : Deployed → List NodeName
 serial_names d = flat_map tree_names (trees_of d)
 
@@ -64,5 +65,6 @@ abbrev pub place_at : NodeName → Place
 place_at (named.Site i) = AtSite i
 place_at (named.Serializer e z) = AtSerializer e z
 
+-- the places of all nodes of a deployment
 abbrev pub node_places : Deployed → List Place
 node_places d = map place_at (map named.Site (below d.sites) ++ serial_names d)

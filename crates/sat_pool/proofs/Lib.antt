@@ -1,5 +1,6 @@
 pub mod Firsts
 pub mod Keyed
+pub mod Labels
 pub mod Members
 pub mod Parts
 pub mod Pools

@@ -64,6 +64,17 @@ place_within (s ∷ ss) q = go (point_lt (point_in s) q) (place_within ss q)
 pub place_front : (ss : List Slot) (x : Slot) (q : Point) → 0 < length ss → x ≡ get_or ss 0 x → point_lt (point_in x) q ≡ false → 0 ≡ place_of ss q
 place_front ss x q lt e b = let k : place_of ss q ≤ 0 = place_upto ss 0 x q lt e b in omega arith
 
+-- a payload at the front stands at the place of its point
+pub front_place : (ss : List Slot) (q : Point) → is_some (payload_at (slice_get ss 0) q) ≡ true → 0 ≡ place_of ss q
+front_place [] q e = absurd (cc)
+front_place (Gone r ∷ ss) q e = absurd (cc)
+front_place (Waits p ∷ ss) q e = go (point_eq p.label.point q) refl (point_lt p.label.point q) refl e
+  where
+    go : (a : Bool) → point_eq p.label.point q ≡ a → (b : Bool) → point_lt p.label.point q ≡ b → is_some (if a then Some p else None) ≡ true → 0 ≡ (if b then suc (place_of ss q) else zero)
+    go true x true y f = absurd (let z : point_eq p.label.point q ≡ false = lt-not_eq p.label.point q y in cc)
+    go true x false y f = refl
+    go false x b y f = absurd (cc)
+
 pub place_none : (ss : List Slot) (q : Point) → length ss ≡ 0 → 0 ≡ place_of ss q
 place_none ss q e = let k : place_of ss q ≤ length ss = place_within ss q in omega arith
 

@@ -27,6 +27,7 @@ TakeOfNone = (w : Waiting) (q : Point) → waiting_at w q ≡ None → after_tak
 abbrev pub FoundWaits : Type 0
 FoundWaits = (w : Waiting) (q : Point) (p : Payload) → waiting_at w q ≡ Some p → In (all_waiting w) p × (p.label.point ≡ q)
 
+-- what waits is found by the point of its label
 abbrev pub WaitingIsFound : Type 0
 WaitingIsFound = (w : Waiting) (p : Payload) → IsPool w → In (all_waiting w) p → waiting_at w p.label.point ≡ Some p
 

@@ -93,5 +93,6 @@ abbrev pub IsRow : ℕ → List Payload → Type 0
 IsRow k [] = Unit {0}
 IsRow k (p ∷ ps) = (p.label.point.site ≡ k) × ((q : Payload) → In ps q → point_lt p.label.point q.label.point ≡ true) × IsRow k ps
 
+-- what holds of what waits at all times: each site's row holds payloads of its own labels
 pub record IsPool (w : Waiting) : Type 0 where
   pub each : (k : ℕ) → IsRow k (row_of w k)

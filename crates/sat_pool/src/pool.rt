@@ -1,5 +1,6 @@
 //! What waits of all sites.
-ghost use Rattle.std.specs.Prelude.{◌≡◌, ◌<◌, [], length, map, replicate, option_copied, IfOk, IfErr, OnOk, OnErr};
+ghost use Rattle.std.specs.Prelude.{◌≡◌, ◌<◌, [], is_some, length, map, replicate, true, option_copied, IfOk, IfErr, OnOk, OnErr};
+ghost use Rattle.std.specs.Bool.{OnTrue};
 ghost use Rattle.sat_label.specs.Least.{least_label};
 ghost use Rattle.sat_pool.specs.Pool as waits;
 ghost use Rattle.sat_pool.specs.Rows.{first_label, OfOneSite};
@@ -153,13 +154,37 @@ impl Pool {
         Some(taken)
     }
 
+    // Whether a label is that of the first of its site.
+    fn is_first(&self, label: &Label) -> bool
+        ensures { OnTrue result (is_some (waits.waiting_of self.now label.now) ≡ true) }
+    {
+        match self.first(label.point.site) {
+            None => false,
+            Some(first) => first.is_same(label),
+        }
+    }
+
+    // Whether the payload of a label waits. Mostly it is the first of its site, which is at hand.
+    #[tactic(auto, using(crate::proofs::Labels::of_none, crate::proofs::Labels::of_some))]
+    fn has_label(&self, label: &Label) -> bool
+        ensures { result ≡ is_some (waits.waiting_of self.now label.now) }
+    {
+        if self.is_first(label) {
+            return true;
+        }
+        match self.get(&label.point) {
+            None => false,
+            Some(waiting) => waiting.label().is_same(label),
+        }
+    }
+
     /// Takes the payload of a label, if it waits. It takes no memory.
+    #[tactic(auto, using(crate::proofs::Labels::is_there, crate::proofs::Labels::not_there))]
     pub fn take_if(&mut self, label: &Label) -> Option<Payload>
         ensures found { result ≡ waits.waiting_of self.old label.now }
         ensures new { self.new ≡ waits.after_take_of self.old label.now (waits.waiting_of self.old label.now) }
     {
-        let waiting = self.get(&label.point)?;
-        if !waiting.label().is_same(label) {
+        if !self.has_label(label) {
             return None;
         }
         self.take(&label.point)

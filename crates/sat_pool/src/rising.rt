@@ -250,8 +250,20 @@ impl Rising {
         }
     }
 
-    /// Takes the payload that waits at a point. It takes no memory.
+    /// Takes the payload that waits at a point: mostly the first. It takes no memory.
+    #[tactic(auto, using(crate::proofs::Slots::front_place))]
     pub fn take(&mut self, point: &Point) -> Option<Payload>
+        ensures found { result ≡ at_point (waiting_in self.old) point.now }
+        ensures new { waiting_in self.new ≡ without (waiting_in self.old) point.now }
+    {
+        if waits_at(&self.slots, 0, point) {
+            return take_at(&mut self.slots, 0, point);
+        }
+        self.take_behind(point)
+    }
+
+    // Takes the payload that waits at a point, wherever it stands.
+    fn take_behind(&mut self, point: &Point) -> Option<Payload>
         ensures found { result ≡ at_point (waiting_in self.old) point.now }
         ensures new { waiting_in self.new ≡ without (waiting_in self.old) point.now }
     {

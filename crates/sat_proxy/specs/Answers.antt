@@ -35,6 +35,7 @@ came_answer came.New = ans.Taken
 came_answer came.Again = ans.Again
 came_answer came.Old = ans.Old
 
+-- the answer to a beat that came: whether it is new, and whether the best one moved
 abbrev pub beat_answer : ProxySeen → ℕ → ℕ → Answer
 beat_answer p from number = came_answer (beat_take p from number)
 
@@ -51,6 +52,7 @@ front_answer (Some (turn.NoPayload l)) front = ans.Refused (why.NoPayload l)
 front_answer None None = ans.Refused why.Empty
 front_answer None (Some l) = done_answer l l.kind
 
+-- the answer to a turn by tree at the front of the link
 abbrev pub turn_answer : Epochs → ProxySeen → Option Label → Answer
 turn_answer views p front = front_answer (turn_fault views p front) front
 
@@ -61,6 +63,7 @@ next_answer (Some stamp.NotYet) next = ans.Refused why.NotYet
 next_answer None None = ans.Refused why.NotYet
 next_answer None (Some l) = ans.Shown l
 
+-- the answer to a turn by timestamps
 abbrev pub stamp_answer : Epochs → ProxySeen → Answer
 stamp_answer views p = next_answer (stamp_fault views p) (stamp_label views p)
 
@@ -70,5 +73,6 @@ view_answer (Some advance.NotClosed) view = ans.Refused why.NotClosed
 view_answer (Some advance.NotYet) view = ans.Refused why.NotYet
 view_answer None view = ans.View (view + 1)
 
+-- the answer to an advance of the view
 abbrev pub advance_answer : Epochs → ProxySeen → Answer
 advance_answer views p = view_answer (advance_fault views (has_come views p)) views.view

@@ -53,6 +53,7 @@ pub record Answers (d : Deployed) (j : ℕ) (views : Epochs) (p : ProxySeen) (s 
   pub stamp : stamp_answer views p ≡ site_answer d j s given.Stamp
   pub advance : advance_answer views p ≡ site_answer d j s given.Advance
 
+-- a law: at each site of each history a proxy that sees what the model's state has gives the model's answers
 abbrev pub EachAnswers : Type 0
 EachAnswers = (d : Deployed) (j : ℕ) (views : Epochs) (p : ProxySeen) (s : SiteState) → Sees d j views p s → Answers d j views p s
 
@@ -69,5 +70,6 @@ pub record Follows (d : Deployed) (j : ℕ) (views : Epochs) (p : ProxySeen) (s 
   pub advance : is_done (advance_answer views p) ≡ false → proxy_next d j s given.Advance (advance_answer views p) ≡ s.proxy
   pub advanced : is_done (advance_answer views p) ≡ true → StandsProxy (advance_after views p) (proxy_next d j s given.Advance (advance_answer views p))
 
+-- a law: and what it keeps behind them is what the model's next state has
 abbrev pub EachFollows : Type 0
 EachFollows = (d : Deployed) (j : ℕ) (views : Epochs) (p : ProxySeen) (s : SiteState) → Sees d j views p s → Follows d j views p s

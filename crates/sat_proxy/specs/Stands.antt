@@ -37,6 +37,8 @@ pub record StandsBeats (t : TakenBeats) (taken : List (ℕ × BeatNote)) (best :
 abbrev pub is_reached_by : ℕ → ProxyState → ℕ → BeatNote → Bool
 is_reached_by gears q k note = list_all (λ g. nat_le (note.counts g) (front_in (q.taken k g))) (below gears)
 
+-- what a proxy keeps is that of a state of the model: the numbers taken of each lane, the payloads that wait, the
+-- beats with the best of those that were reached, and the last label taken of each site
 pub record StandsProxy (p : ProxySeen) (q : ProxyState) : Type 0 where
   pub taken : (k g n : ℕ) → k < p.sites → g < p.gears → has ◌==◌ (q.taken k g) n ≡ has_number (window_of p k g) n
   pub pool : SamePayloads (all_waiting p.pool) q.pool

@@ -50,6 +50,7 @@ with_best p from = record p { beats = with_taken p.beats from (refreshed (fronts
 abbrev pub brought : ProxySeen → ℕ → ℕ → ℕ → Payload → ProxySeen
 brought p from gear number payload = with_best (with_payload p from gear number payload) from
 
+-- a payload of a number that was taken changes nothing; else it is taken and waits
 abbrev pub after_bulk : ProxySeen → ℕ → ℕ → ℕ → Payload → ProxySeen
 after_bulk p from gear number payload = if has_number (window_of p from gear) number then p else brought p from gear number payload
 
@@ -68,6 +69,7 @@ with_beat t number beat = record { best = t.best; later = placed t.later number 
 abbrev pub beaten : ProxySeen → ℕ → ℕ → Beat → ProxySeen
 beaten p from number beat = record p { beats = with_taken p.beats from (refreshed (fronts_of p from) (with_beat (taken_of p.beats from) number beat)) }
 
+-- a beat that is old or was taken changes nothing; else it is taken
 abbrev pub after_beat : ProxySeen → ℕ → ℕ → Beat → ProxySeen
 after_beat p from number beat = if is_old (best_of p from) number || has_beat (taken_of p.beats from).later number then p else beaten p from number beat
 
@@ -138,6 +140,7 @@ abbrev pub link_after : ProxySeen → Option Label → ProxySeen
 link_after p None = p
 link_after p (Some l) = front_after p l l.kind
 
+-- after a turn by tree; by timestamps such a turn is refused and changes nothing
 abbrev pub turn_after : Epochs → ProxySeen → Option Label → ProxySeen
 turn_after views p front = if in_stamp views then p else link_after p front
 
@@ -178,6 +181,7 @@ abbrev pub left_after : ProxySeen → Option Payload → ProxySeen
 left_after p None = p
 left_after p (Some q) = record p { pool = pool.after_take p.pool q.label.point }
 
+-- after a turn by timestamps: what it shows waits no more
 abbrev pub stamp_after : Epochs → ProxySeen → ProxySeen
 stamp_after views p = left_after p (stamp_shows views p)
 

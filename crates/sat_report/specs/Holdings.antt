@@ -43,6 +43,7 @@ unfolding site_line item_lines
 site_lines d h zero = []
 site_lines d h (suc n) = site_lines d h n ++ (site_line d h n ++ item_lines d h n (length d.items))
 
+-- the end of a report: what each site holds, and the line `done`
 unfoldable pub holdings : Deployed → List Entry → List ℕ
 unfolding site_lines
 holdings d h = codes "holdings" ++ 10 ∷ (site_lines d h d.sites ++ (codes "done" ++ 10 ∷ []))

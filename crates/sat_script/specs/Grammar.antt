@@ -202,6 +202,7 @@ close_in stage.Ended [] = None
 close_in stage.Ended (byte ∷ rest) = Some AfterEnd
 close_in _ rest = if nat_lt LONGEST_LINE (length rest) then Some LongLine else Some NoEnd
 
+-- the cause, if any, at the end of a text whose last line has begun and not ended
 abbrev pub close_at : State → List ℕ → Option Cause
 close_at s rest = close_in s.stage rest
 

@@ -41,6 +41,7 @@ deployed_at stage.Body d = Some d
 deployed_at stage.Ended d = Some d
 deployed_at _ d = None
 
+-- the deployment that was read, once the line `begin` was
 abbrev pub deployment_of : State → Option Deployed
 deployment_of s = deployed_at s.stage s.header
 

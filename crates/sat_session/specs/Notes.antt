@@ -91,5 +91,6 @@ own_notes s (n ∷ ns) = at_node s n n.at ++ own_notes s ns
 abbrev pub notes_of : Deployed → SessionSeen → List Owned
 notes_of d x = own_notes (session_at d x.number) x.noted
 
+-- the notes of all sessions, each with its owner
 abbrev pub session_notes : Deployed → List SessionSeen → List Owned
 session_notes d xs = flat_map (notes_of d) xs

@@ -27,6 +27,7 @@ abbrev pub note_given : Deployed → Session → List Kept → Noted → Given
 note_given d (Owner c) before n = OfClient n.carried (seat d (history before) c)
 note_given d Operator before n = Nothing
 
+-- a note as kept, behind what its session kept before
 abbrev pub note_kept : Deployed → Session → List Kept → Noted → Kept
 note_kept d s before n = record { number = n.lamport; act = n.entry.act; given = note_given d s before n; answer = n.entry.answer }
 
@@ -35,6 +36,7 @@ abbrev pub kept_behind : Deployed → Session → List Kept → List Noted → L
 kept_behind d s before [] = before
 kept_behind d s before (n ∷ ns) = kept_behind d s (note_kept d s before n ∷ before) ns
 
+-- all notes of a session as kept, the newest first
 abbrev pub kept_notes : Deployed → Session → List Noted → List Kept
 kept_notes d s ns = kept_behind d s [] ns
 
@@ -48,6 +50,7 @@ abbrev pub alone_behind : Deployed → Session → List Kept → List Kept → L
 alone_behind d s before ks [] = ks
 alone_behind d s before ks (n ∷ ns) = alone_behind d s (note_kept d s before n ∷ before) (put_alone n.at (note_kept d s before n) ks) ns
 
+-- those that no node keeps, since the act was at none
 abbrev pub alone_notes : Deployed → Session → List Noted → List Kept
 alone_notes d s ns = alone_behind d s [] [] ns
 
@@ -60,6 +63,7 @@ notes_by d (x ∷ xs) s = if session_eq (session_at d x.number) s then x.noted e
 abbrev pub kept_by : Deployed → List SessionSeen → Session → List Kept
 kept_by d xs s = kept_notes d s (notes_by d xs s)
 
+-- those of client c among all sessions
 abbrev pub alone_in : Deployed → List SessionSeen → ℕ → List Kept
 alone_in d xs c = alone_notes d (Owner c) (notes_by d xs (Owner c))
 

@@ -71,8 +71,10 @@ pub record EndsRounds (d : Deployed) (h : List Entry) (m n : ℕ) (w : WorldSeen
   pub reaches : Reaches d h (rounds_from d h).1 n w
   pub rounds : m ≡ capped (rounds_from d h).0
 
+-- from each run that a world stood for, rounds were done until a quiet one; m counts them, and n their entries
 abbrev pub MakesRounds : WorldSeen → ℕ → ℕ → WorldSeen → Type 0
 MakesRounds v m n w = (h : List Entry) → IsRun v.deployment h → StandsFor v h → EndsRounds v.deployment h m n w
 
+-- whatever run a world stood for, it now stands for a front of what the rounds of a settle make of it
 abbrev pub StopsInRounds : WorldSeen → WorldSeen → Type 0
 StopsInRounds v w = (h : List Entry) → IsRun v.deployment h → StandsFor v h → StopsBefore v.deployment h (rounds_from v.deployment h).1 w

@@ -10,6 +10,7 @@ use Rattle.sat_settle.specs.declared.load_draft.Draft.TheVariants as draft
 abbrev pub drawn_value : ℕ → List ℕ
 drawn_value k = codes "v" ++ decimal k
 
+-- the act that a draft of numbers stands for
 abbrev pub drafted : Draft → Act
 drafted (draft.Write c x k) = act.Write c x (drawn_value k)
 drafted (draft.Read c x) = act.Read c x

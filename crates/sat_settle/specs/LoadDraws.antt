@@ -18,8 +18,10 @@ after_draws (suc n) x = next_state (after_draws n x)
 abbrev pub first : ℕ → ℕ → ℕ
 first x m = number_of (after_draws 1 x) m
 
+-- the second number below m that is drawn from x
 abbrev pub second : ℕ → ℕ → ℕ
 second x m = number_of (after_draws 2 x) m
 
+-- the third number below m that is drawn from x
 abbrev pub third : ℕ → ℕ → ℕ
 third x m = number_of (after_draws 3 x) m

@@ -6,6 +6,7 @@ ghost use Rattle.sat_act.specs.Settling.{tried};
 ghost use Rattle.sat_settle.specs.Going.{Makes, MakesUntil, StopsUntil, Tries, done_by};
 
 use sat_act::{Act, Answer};
+use sat_label::NodeId;
 use sat_world::World;
 use std::alloc::AllocError;
 
@@ -45,9 +46,68 @@ pub fn once(world: &mut World, act: &Act) -> Result<u64, AllocError>
     Ok(count_of(&answer))
 }
 
-/// Does an act again and again as long as it is done, and answers how often it was. For want of memory the world stands after some
-/// of these. No memory holds the entries of 2^64 - 1 acts.
-pub fn until_refused(world: &mut World, act: &Act) -> Result<u64, AllocError>
+// A hop, and how many acts were done: one or none.
+fn hop_once(world: &mut World, epoch: u16, from: NodeId, to: u16) -> Result<u64, AllocError>
+    requires { IsActOf world.old.deployment (Act.Hop epoch from to) }
+    ensures deployment { world.new.deployment ≡ world.old.deployment }
+    ensures ok { IfOk result (λ done. Makes world.old (tried world.old.deployment (Act.Hop epoch from to)) done world.new) }
+    ensures err { OnErr result (world.new ≡ world.old) }
+{
+    let answered = world.hop(epoch, from, to);
+    match &answered {
+        Ok(answer) => Ok(count_of(answer)),
+        Err(_) => Err(AllocError),
+    }
+}
+
+// Labels go over a link until none is left there.
+fn hops(world: &mut World, epoch: u16, from: NodeId, to: u16) -> Result<u64, AllocError>
+    requires { IsActOf world.old.deployment (Act.Hop epoch from to) }
+    ensures deployment { world.new.deployment ≡ world.old.deployment }
+    ensures ok { IfOk result (λ done. MakesUntil world.old (Act.Hop epoch from to) done world.new) }
+    ensures err { OnErr result (StopsUntil world.old (Act.Hop epoch from to) world.new) }
+{
+    for done in 0..u64::MAX {
+        let more = hop_once(world, epoch, from, to)?;
+        if more == 0 {
+            return Ok(done);
+        }
+    }
+    Err(AllocError)
+}
+
+// A turn, and how many acts were done: one or none.
+fn turn_once(world: &mut World, site: u16) -> Result<u64, AllocError>
+    requires { IsActOf world.old.deployment (Act.Turn site) }
+    ensures deployment { world.new.deployment ≡ world.old.deployment }
+    ensures ok { IfOk result (λ done. Makes world.old (tried world.old.deployment (Act.Turn site)) done world.new) }
+    ensures err { OnErr result (world.new ≡ world.old) }
+{
+    let answered = world.turn(site);
+    match &answered {
+        Ok(answer) => Ok(count_of(answer)),
+        Err(_) => Err(AllocError),
+    }
+}
+
+// Turns of a site until one is refused.
+fn turns(world: &mut World, site: u16) -> Result<u64, AllocError>
+    requires { IsActOf world.old.deployment (Act.Turn site) }
+    ensures deployment { world.new.deployment ≡ world.old.deployment }
+    ensures ok { IfOk result (λ done. MakesUntil world.old (Act.Turn site) done world.new) }
+    ensures err { OnErr result (StopsUntil world.old (Act.Turn site) world.new) }
+{
+    for done in 0..u64::MAX {
+        let more = turn_once(world, site)?;
+        if more == 0 {
+            return Ok(done);
+        }
+    }
+    Err(AllocError)
+}
+
+// The same of any act.
+fn again(world: &mut World, act: &Act) -> Result<u64, AllocError>
     requires act { IsActOf world.old.deployment act.now }
     requires plain { is_settle act.now ≡ false }
     ensures deployment { world.new.deployment ≡ world.old.deployment }
@@ -61,4 +121,21 @@ pub fn until_refused(world: &mut World, act: &Act) -> Result<u64, AllocError>
         }
     }
     Err(AllocError)
+}
+
+/// Does an act again and again as long as it is done, and answers how often it was. For want of memory the world stands after some
+/// of these. No memory holds the entries of 2^64 - 1 acts.
+// Most acts of a settle are hops and turns, so these are told apart once and not each time.
+pub fn until_refused(world: &mut World, act: &Act) -> Result<u64, AllocError>
+    requires act { IsActOf world.old.deployment act.now }
+    requires plain { is_settle act.now ≡ false }
+    ensures deployment { world.new.deployment ≡ world.old.deployment }
+    ensures ok { IfOk result (λ done. MakesUntil world.old act.now done world.new) }
+    ensures err { OnErr result (StopsUntil world.old act.now world.new) }
+{
+    match act {
+        Act::Hop { epoch, from, to } => hops(world, *epoch, *from, *to),
+        Act::Turn { site } => turns(world, *site),
+        _ => again(world, act),
+    }
 }

@@ -52,6 +52,8 @@ IsSentOf shape views None o = o ≡ None
 IsSentOf shape views (Some l) None = is_stamp views views.emission ≡ false → HasTarget shape l → ⊥
 IsSentOf shape views (Some l) (Some m) = (m ≡ l) × (is_stamp views views.emission ≡ false) × IsLeaving shape l
 
+-- the label that a site hands on beside an answer is the one that the answer says was sent, and to whom it may
+-- concern
 abbrev pub IsSent : Shape → Epochs → Answer → Option Label → Type 0
 IsSent shape views answer o = IsSentOf shape views (label_sent answer) o
 

@@ -96,6 +96,7 @@ pub record HasBeats (shape : Shape) (epochs : ℕ) (made : List (List Beat)) : T
   pub count : length made ≡ shape.sites
   pub each : (j n : ℕ) (beat : Beat) → slice_get (get_or made j []) n ≡ Some beat → IsBeatOf shape.gears epochs beat
 
+-- what holds of a site at all times: its parts are of one shape, with a row for each gear, site and epoch
 pub record IsSite (x : SiteSeen) : Type 0 where
   pub shape : IsShape x.shape
   pub gears : HasGears x.shape x.sink x.gears

@@ -75,6 +75,7 @@ abbrev pub shown_version : SiteSeen → ℕ → Option Version → SiteSeen
 shown_version x k None = x
 shown_version x k (Some v) = shown_part x v.label k (Some v.value)
 
+-- the site after it showed an update: each gear that has items of the label has their values
 abbrev pub shown_parts : SiteSeen → Label → Items → List (Option (List ℕ)) → SiteSeen
 shown_parts x l items ps = record x { gears = shown_each x.shape x.gears l (list_of items) ps }
 

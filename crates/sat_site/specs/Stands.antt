@@ -42,6 +42,8 @@ pub record StandsSink (d : Deployed) (sink : Sink) (counts : List (List ℕ)) (s
 
 -- ---- views: of the closes that were taken, those of the view by the other sites. None is of a later epoch
 
+-- the views of a site are those of a state of the model: view, emission, fall, cuts at closes, the closes heard in
+-- this view, and which plans are timestamp order
 pub record StandsViews (d : Deployed) (i : ℕ) (views : Epochs) (s : ViewState) : Type 0 where
   pub view : views.view ≡ s.view
   pub emission : views.emission ≡ s.emission

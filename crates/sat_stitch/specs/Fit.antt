@@ -10,7 +10,7 @@ use Rattle.sat_act.specs.Answers.{InRange}
 use Rattle.sat_bulk.specs.Payloads.{Payload}
 use Rattle.sat_machine.specs.Replay.{carrying}
 use Rattle.sat_label.specs.Members.{In}
-use Rattle.sat_stitch.specs.Kept.{OfPayload, OfBeat, OfClient, Kept, history, Each, Rising, Ordered, marks}
+use Rattle.sat_stitch.specs.Kept.{OfPayload, OfBeat, OfClient, Kept, history, Each, Rising, Ordered, Distinct, marks}
 use Rattle.sat_stitch.specs.Places.{Place, AtSite, places, stands_at, node_place, Session, Client, session_of}
 use Rattle.sat_stitch.specs.Nodes.{IsAnswerAt, stands, put_on, took_from, makes_payload, makes_beat, asked, site_after}
 
@@ -42,8 +42,25 @@ module _ (d : Deployed) (lists : Place → List Kept) where
     pub only : (k : Kept) → In ks k → (session_of k.act ≡ Some s) × ((p : Place) × In (lists p) k)
     pub whole : (p : Place) (k : Kept) → In (lists p) k → session_of k.act ≡ Some s → In ks k
 
+  -- what the lists of nodes and sessions have to agree on, so that merged they are one run: numbers rise, each act is
+  -- at its place with its place's answer, what was taken of a link, a lane or the beats was put there before, and
+  -- each client's list is one session
   pub record Fit (sessions : Session → List Kept) : Type 0 where
     pub rising : (p : Place) → Rising (lists p)
+    pub placed : (p : Place) (k : Kept) → In (lists p) k → places k.act k.given ≡ p ∷ []
+    pub ranges : (p : Place) (k : Kept) → In (lists p) k → InRange d k.act
+    pub answers : (p : Place) → Each (IsAnswerAt d p) (lists p)
+    pub links : (e : ℕ) (t : TreeShape) (u v : NodeId) → tree_of d e ≡ Some t → is_edge t u v ≡ true →
+        IsHanded (marks (took_from d e u v) (lists (node_place e v))) (marks (put_on d e t u v) (lists (node_place e u)))
+    pub payloads : (j : ℕ) → Each (PayloadsHanded j) (lists (AtSite j))
+    pub beats : (j : ℕ) → Each (BeatsHanded j) (lists (AtSite j))
+    pub kept : (s : Session) → IsSessionOf s (sessions s)
+    pub known : (c : ℕ) → Each (IsKnown c) (sessions (Client c))
+    pub standing : (p : Place) (k : Kept) → In (lists p) k → stands k.answer ≡ true
+
+  -- the same of lists whose numbers need not rise, as long as no entry stands twice: a list may be what several nodes kept
+  pub record LooseFit (sessions : Session → List Kept) : Type 0 where
+    pub single : (p : Place) → Distinct (lists p)
     pub placed : (p : Place) (k : Kept) → In (lists p) k → places k.act k.given ≡ p ∷ []
     pub ranges : (p : Place) (k : Kept) → In (lists p) k → InRange d k.act
     pub answers : (p : Place) → Each (IsAnswerAt d p) (lists p)

@@ -17,6 +17,7 @@ pub data Given : Type 0 where
   OfBeat : (note : BeatNote) → Given
   OfClient : (seen : Carried) (seat : Option ℕ) → Given
 
+-- what a node or a session kept of an act: its Lamport number, the act, what was given to it, and its answer
 pub record Kept : Type 0 where
   pub number : ℕ
   pub act : Act
@@ -41,6 +42,11 @@ abbrev pub Rising : List Kept → Type 0
 Rising [] = Unit {0}
 Rising (k ∷ ks) = Rising ks × ((x : Kept) → In ks x → x.number < k.number)
 
+-- no member stands twice
+abbrev pub Distinct : {X : Type 0} → List X → Type 0
+Distinct [] = Unit {0}
+Distinct (x ∷ xs) = Distinct xs × (In xs x → ⊥)
+
 -- the numbers rise or stay
 abbrev pub Ordered : List Kept → Type 0
 Ordered [] = Unit {0}
@@ -51,6 +57,7 @@ abbrev pub numbered : {X : Type 0} → ℕ → Option X → List (ℕ × X)
 numbered n None = []
 numbered n (Some x) = (n, x) ∷ []
 
+-- what each of the kept gives, with its Lamport number, the oldest first
 abbrev pub marks : {X : Type 0} → (List Kept → Kept → Option X) → List Kept → List (ℕ × X)
 marks f [] = []
 marks f (k ∷ ks) = marks f ks ++ numbered k.number (f ks k)

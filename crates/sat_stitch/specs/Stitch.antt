@@ -8,6 +8,7 @@ use Rattle.sat_act.specs.Runs.{IsRun}
 use Rattle.sat_act.specs.Settling.{run}
 use Rattle.sat_act.specs.Goals.{IsValid}
 use Rattle.sat_label.specs.Members.{In}
+pub use Rattle.sat_stitch.specs.Kept.{Distinct}
 use Rattle.sat_stitch.specs.Kept.{Kept, Rising, entry_of, history, acts_of}
 use Rattle.sat_stitch.specs.Places.{Place, Session, places, part_at, session_part}
 use Rattle.sat_stitch.specs.Fit.{Fit, IsMerge}
@@ -65,10 +66,6 @@ oldest (k ∷ ks) = oldest ks ++ (k.number, k) ∷ []
 abbrev pub journals_of : (Place → ℕ) → (Place → List Kept) → List Place → List (Numbered Kept)
 journals_of rank lists [] = []
 journals_of rank lists (p ∷ ps) = (rank p, oldest (lists p)) ∷ journals_of rank lists ps
-
-abbrev pub Distinct : {X : Type 0} → List X → Type 0
-Distinct [] = Unit {0}
-Distinct (x ∷ xs) = Distinct xs × (In xs x → ⊥)
 
 -- the journals of all places where something was kept, stitched, are their merge
 abbrev pub StitchesMerge : Type 0

@@ -97,6 +97,7 @@ behind acts r = record { deployment = r.deployment; acts = acts ++ r.acts; fault
 abbrev pub without_acts : WholeLines → WholeLines
 without_acts l = record { seen = l.seen; deployment = l.deployment; acts = [] }
 
+-- the same, once its acts were handed on
 abbrev pub drained : Came → Came
 drained r = record { lines = without_acts r.lines; begun = r.begun }
 

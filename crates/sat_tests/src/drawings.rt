@@ -7,48 +7,73 @@ use std::test::Fail;
 const PLAIN: &str =
     "saturn 1\nsites 2\ngears 1\nitem x 0,1\nclient a 0\nclient b 1\nplan tree - / 0 0\nbegin\nwrite a x <&>\"'\ngather 0\nemit 0\nhop 1 s0 z0\nturn 1\nbulk 0 0 1\nturn 1\nread b x\nend\n";
 
-// Four columns, 150 apart: what is outside, s0, z0, s1. The rows begin at 70 + (26 + 50) + 50, and are 24 apart.
-const PLAIN_LINES: &str = "<svg xmlns='http://www.w3.org/2000/svg' width='910' height='408'>
-<line class='edge' x1='700' y1='116' x2='550' y2='90'/>
-<circle class='done' cx='400' cy='196' r='4'/>
-<text class='act' x='8' y='200'>write a x &lt;&amp;&gt;&quot;&#39;</text>
-<text class='said' x='408' y='190'>1 wrote 1.0.0
-<line class='sink' x1='400' y1='196' x2='400' y2='244'/>
-<line class='label' x1='400' y1='244' x2='550' y2='268'/>
-<circle class='refused' cx='700' cy='292' r='4'/>
-<text class='denied' x='708' y='286'>5 refused NoPayload 1.0.0
-<line class='payload' x1='400' y1='196' x2='700' y2='316'/>
-<line class='label' x1='550' y1='268' x2='700' y2='340'/>
-<line class='store' x1='700' y1='316' x2='700' y2='340'/>
-<text class='said' x='708' y='358'>8 read 1.0.0 &lt;&amp;&gt;&quot;&#39;
-<text class='act' x='8' y='368'>read b x</text>
+// Four columns: what is outside at 204, and s0, z0, s1 from 262 on, 120 apart. The rows begin at 112 + (26 + 50) + 50, and are 22
+// apart. The answers stand 62 behind the last column. All ways of one label have one class.
+const PLAIN_LINES: &str =
+    "<svg xmlns='http://www.w3.org/2000/svg' viewBox='0 0 844 464' width='844' height='464' role='img' aria-labelledby='t'>
+<title id='t'>A run of Saturn: 8 acts, 2 sites, 2 clients</title>
+<text class='title' x='8' y='22'>A run of Saturn: 8 acts, 2 sites, 2 clients</text>
+<line class='edge' x1='502' y1='158' x2='382' y2='132'/>
+<circle class='done' cx='262' cy='238' r='4'><title>write a x &lt;&amp;&gt;&quot;&#39;
+<text class='act' x='8' y='242'>write a x &lt;&amp;&gt;&quot;&#39;</text>
+<text class='said' x='564' y='242'>1 wrote 1.0.0
+<style>svg:has(.w1-0-0-0:hover) .w1-0-0-0{stroke-width:4}</style>
+<line class='sink w1-0-0-0' x1='262' y1='238' x2='262' y2='282'><title>in its sink: 1.0.0</title></line>
+<line class='label w1-0-0-0' x1='262' y1='282' x2='382' y2='304'><title>update 1.0.0</title></line>
+<circle class='refused' cx='502' cy='326' r='4'><title>turn 1
+<text class='denied' x='564' y='330'>5 refused NoPayload 1.0.0
+<line class='payload w1-0-0-0' x1='262' y1='238' x2='502' y2='348'><title>payload of 1.0.0</title></line>
+<line class='label w1-0-0-0' x1='382' y1='304' x2='502' y2='370'><title>update 1.0.0</title></line>
+<line class='store w1-0-0-0' x1='502' y1='348' x2='502' y2='370'><title>waits: 1.0.0</title></line>
+<text class='said' x='564' y='396'>8 read 1.0.0 &lt;&amp;&gt;&quot;&#39;
+<text class='act' x='8' y='396'>read b x</text>
 ";
 
 const ASIDE: &str =
     "saturn 1\nsites 3\ngears 1\nitem x 0,1,2\nclient a 0\nplan tree - 0 / 0 1 1\nplan stamp\nbegin\ntick 1 0 5\nbeat 0 2\nbeatin 0 2 0\nbeatin 0 2 0\nkill 1 z1\nhop 1 z0 z1\nleave a\nread a x\nclock\nattach a 2\nread a x\nend\n";
 
-// Six columns: what is outside, s0, s1, z0 and z1 of epoch 1, s2. The rows begin at 70 + (52 + 50) + 50 + 50.
-const ASIDE_LINES: &str = "<svg xmlns='http://www.w3.org/2000/svg' width='1210' height='556'>
-<text class='epoch' x='8' y='94'>epoch 1</text>
-<line class='edge' x1='850' y1='116' x2='700' y2='90'/>
-<line class='edge' x1='400' y1='142' x2='700' y2='90'/>
-<line class='edge' x1='1000' y1='142' x2='850' y2='116'/>
-<text class='epoch' x='8' y='196'>epoch 2: by timestamps, without a tree</text>
-<text class='name' x='850' y='242'>1 z1</text>
-<line class='lane' x1='850' y1='248' x2='850' y2='536'/>
-<circle class='done' cx='550' cy='272' r='4'/>
-<line class='beat' x1='400' y1='296' x2='1000' y2='320'/>
-<circle class='refused' cx='1000' cy='344' r='4'/>
-<text class='denied' x='1008' y='338'>4 old
-<circle class='done' cx='850' cy='368' r='4'/>
-<circle class='refused' cx='850' cy='392' r='4'/>
-<text class='act' x='8' y='396'>hop 1 z0 z1</text>
-<circle class='done' cx='400' cy='416' r='4'/>
-<circle class='refused' cx='250' cy='440' r='4'/>
-<line class='rule' x1='250' y1='464' x2='1000' y2='464'/>
-<circle class='done' cx='1000' cy='488' r='4'/>
-<circle class='done' cx='1000' cy='512' r='4'/>
-<text class='said' x='1008' y='506'>11 read none
+// Six columns: what is outside, s0, s1, z0 and z1 of epoch 1, s2. The rows begin at 112 + (52 + 50) + 50 + 50.
+const ASIDE_LINES: &str =
+    "<svg xmlns='http://www.w3.org/2000/svg' viewBox='0 0 1084 606' width='1084' height='606' role='img' aria-labelledby='t'>
+<title id='t'>A run of Saturn: 11 acts, 3 sites, 1 client</title>
+<text class='epoch' x='8' y='136'>epoch 1</text>
+<line class='edge' x1='622' y1='158' x2='502' y2='132'/>
+<line class='edge' x1='262' y1='184' x2='502' y2='132'/>
+<line class='edge' x1='742' y1='184' x2='622' y2='158'/>
+<text class='epoch' x='8' y='238'>epoch 2: by timestamps, without a tree</text>
+<text class='name' x='622' y='284'>z1 of epoch 1</text>
+<line class='lane' x1='622' y1='290' x2='622' y2='556'/>
+<text class='name' x='622' y='574'>z1 of epoch 1</text>
+<circle class='done' cx='382' cy='314' r='4'>
+<line class='beat w0-0-0-4' x1='262' y1='336' x2='742' y2='358'><title>beat 0</title></line>
+<circle class='refused' cx='742' cy='380' r='4'>
+<text class='denied' x='804' y='384'>4 old
+<circle class='done' cx='622' cy='402' r='4'>
+<line class='dead' x1='615' y1='395' x2='629' y2='409'/>
+<line class='dead' x1='615' y1='409' x2='629' y2='395'/>
+<circle class='refused' cx='622' cy='424' r='4'>
+<text class='act' x='8' y='428'>hop 1 z0 z1</text>
+<circle class='done' cx='262' cy='446' r='4'>
+<circle class='refused' cx='204' cy='468' r='4'>
+<line class='rule' x1='204' y1='490' x2='742' y2='490'/>
+<circle class='done' cx='742' cy='512' r='4'>
+<line class='seat away w0-0-0-5' x1='262' y1='446' x2='742' y2='512'><title>on its way: client 0</title></line>
+<line class='seat w0-0-0-5' x1='742' y1='512' x2='742' y2='534'><title>client 0</title></line>
+<circle class='done' cx='742' cy='534' r='4'>
+<text class='said' x='804' y='538'>11 read none
+";
+
+const LOST: &str =
+    "saturn 1\nsites 2\ngears 1\nitem x 0,1\nclient a 0\nplan tree - / 0 0\nbegin\nwrite a x aaaaaaaaaaaaaaaaaabbbb\ngather 0\nemit 0\nkill 1 z0\nhop 1 s0 z0\nend\n";
+
+// The label went from s0 and was never taken, and of a long text the front is shown.
+const LOST_LINES: &str =
+    "<svg xmlns='http://www.w3.org/2000/svg' viewBox='0 0 844 398' width='844' height='398' role='img' aria-labelledby='t'>
+<text class='act' x='8' y='242'><title>write a x aaaaaaaaaaaaaaaaaabbbb</title>write a x aaaaaaaaaaaaaaaaa…</text>
+<line class='sink w1-0-0-0' x1='262' y1='238' x2='262' y2='282'><title>in its sink: 1.0.0</title></line>
+<line class='label lost w1-0-0-0' x1='262' y1='282' x2='302' y2='293'><title>never taken: 1.0.0</title></line>
+<line class='dead' x1='375' y1='297' x2='389' y2='311'/>
+<circle class='refused' cx='382' cy='326' r='4'>
 ";
 
 // The status and the drawing of a script.
@@ -83,9 +108,10 @@ fn missing<'a>(text: &str, lines: &'a str) -> &'a str {
 
 #[test]
 fn drawings_have_their_lines(rt: HostRuntime) -> Result<(), Fail> {
-    for (script, lines, done, refused) in [
-        (PLAIN, PLAIN_LINES, 7usize, 1usize),
-        (ASIDE, ASIDE_LINES, 8usize, 3usize),
+    for (script, lines, done, refused, lost) in [
+        (PLAIN, PLAIN_LINES, 7usize, 1usize, 0usize),
+        (ASIDE, ASIDE_LINES, 8usize, 3usize, 0usize),
+        (LOST, LOST_LINES, 4usize, 1usize, 1usize),
     ] {
         let (status, sink) = drawn(rt.alloc(), script)?;
         assert_eq!(rt; status, 0);
@@ -93,6 +119,7 @@ fn drawings_have_their_lines(rt: HostRuntime) -> Result<(), Fail> {
         assert_eq!(rt; missing(text, lines), "none");
         assert_eq!(rt; count(text, "<circle class='done' cx="), done);
         assert_eq!(rt; count(text, "<circle class='refused' cx="), refused);
+        assert_eq!(rt; count(text, "<line class='label lost w"), lost);
     }
     Ok(())
 }

@@ -5,6 +5,10 @@
 #[cfg(test)]
 mod broken;
 #[cfg(test)]
+mod bytes;
+#[cfg(test)]
+mod chained;
+#[cfg(test)]
 mod drawings;
 #[cfg(test)]
 mod gears;
@@ -22,6 +26,8 @@ mod program;
 mod rows;
 #[cfg(test)]
 mod sinks;
+#[cfg(test)]
+mod stores;
 #[cfg(test)]
 mod tables;
 #[cfg(test)]

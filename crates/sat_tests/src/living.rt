@@ -1,6 +1,8 @@
 //! Nodes on threads, through the program. What is expected holds of every schedule.
 use sat_label::NodeName;
+use sat_live::live_over;
 use sat_outside::{CleanSink, CleanSource, FreeGate, Gate};
+use sat_stream::{Script, read_script};
 use sat_top::{saturn, still_in_memory};
 use std::alloc::Global;
 use std::sync::Wait;
@@ -183,6 +185,21 @@ fn scripts_are_done_whole(rt: HostRuntime) -> Result<(), Fail> {
             rest = behind;
         }
     }
+    Ok(())
+}
+
+// Links on which one message stands: what comes behind it waits at its sender.
+#[test]
+fn full_links_come_to_an_end(rt: HostRuntime) -> Result<(), Fail> {
+    let alloc = rt.alloc();
+    let Ok(script) = read_script(alloc, THREE_SITES.as_bytes(), true) else {
+        return Err("the script is no script".into());
+    };
+    let Script { deployment, acts } = script;
+    let told = live_over(&rt, alloc, deployment, acts.as_slice(), &FreeGate, 1)?;
+    assert_eq!(rt; told.status, 0);
+    let report = report_of(alloc, told.text.as_slice())?;
+    assert!(rt; lines_hold(report, HOLDINGS));
     Ok(())
 }
 

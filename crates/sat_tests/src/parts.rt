@@ -1,9 +1,9 @@
-//! Parts by themselves: the first thing that is wrong of each, and the way of a label through a tree.
+//! Parts by themselves: the first thing that is wrong of each, the way of a label through a tree, and a version's copy.
 ghost use Rattle.std.specs.Prelude.{◌≡◌, [], ◌∷◌, None, Some};
 ghost use Rattle.sat_label.specs.declared.site_set.SiteSet.{SiteSet as SiteSetSeen};
 
 use sat_act::{Deployment, DeploymentFault};
-use sat_label::{Items, Kind, Label, Name, NodeId, Nodes, Point, SiteSet};
+use sat_label::{Items, Kind, Label, Name, NodeId, Nodes, Point, SiteSet, Value, Version};
 use sat_serial::Serializer;
 use sat_sites::{Interest, InterestFault};
 use sat_tree::{Tree, TreeFault};
@@ -13,6 +13,28 @@ use std::test::Fail;
 #[test]
 fn a_name_has_a_byte(rt: HostRuntime) -> Result<(), Fail> {
     assert!(rt; Name::of(rt.alloc(), b"")?.is_none());
+    Ok(())
+}
+
+#[test]
+fn a_version_is_copied(rt: HostRuntime) -> Result<(), Fail> {
+    let alloc = rt.alloc();
+    let Some(value) = Value::of(alloc, b"v")? else {
+        return Err("a value of one byte is none".into());
+    };
+    let label = Label {
+        point: Point {
+            ts: 7,
+            site: 1,
+            gear: 0,
+        },
+        kind: Kind::Update(Items::One(3)),
+    };
+    let version = Version::new(alloc, label, value)?;
+    let copy = version.copy()?;
+    drop(version);
+    assert_eq!(rt; copy.label(), label);
+    assert_eq!(rt; copy.value().bytes(), b"v".as_slice());
     Ok(())
 }
 

@@ -65,6 +65,11 @@ fn other_words_are_refused(rt: HostRuntime) -> Result<(), Fail> {
         "load 18446744073709551616 2",
         "load 7 2 3",
         "run 7 2",
+        "chain",
+        "chain 0",
+        "chain 6",
+        "chain 02",
+        "chain 2 3",
     ] {
         let words = words(alloc, line)?;
         let (status, sink) = still_in_memory(

@@ -27,6 +27,7 @@ told_of (ans.Moved l) = told.Moved l.point
 told_of (ans.Shown l) = told.Shown l.point
 told_of _ = told.Other
 
+-- an entry of a run as a line of a given history
 abbrev pub heard_of : Entry → Heard
 heard_of e = record { act = e.act; told = told_of e.answer }
 

@@ -9,9 +9,12 @@ pub mod Refused
 pub mod Ran
 pub mod Plans
 pub mod Placements
+pub mod Chained
 pub mod Done
 pub mod Streamed
 pub mod Meetings
+pub mod Followed
+pub mod ChainFollowed
 pub mod Entering
 pub mod Audits
 pub mod Drawings

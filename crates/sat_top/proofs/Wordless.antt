@@ -1,13 +1,6 @@
 -- The words of no command, by their number.
-use Rattle.std.proofs.Common.{◌≡◌, ◌<◌, ◌≤◌, ℕ, List, [], ◌∷◌, length, None, refl, arith}
+use Rattle.std.proofs.Common.{◌≡◌, ◌≤◌, ℕ, List, [], ◌∷◌, length, None, refl, arith}
 use Rattle.sat_top.specs.Words.{command_of}
-
-pub two_words : (words : List (List ℕ)) → 2 ≤ length words → length words < 3 → None ≡ command_of words
-unfolding command_of
-two_words [] least most = absurd (omega (arith, least))
-two_words (a ∷ []) least most = absurd (omega (arith, least))
-two_words (a ∷ b ∷ []) least most = refl
-two_words (a ∷ b ∷ c ∷ words) least most = absurd (omega (arith, most))
 
 pub many_words : (words : List (List ℕ)) → 4 ≤ length words → None ≡ command_of words
 unfolding command_of

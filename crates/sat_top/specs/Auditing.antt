@@ -38,10 +38,12 @@ abbrev pub judged_status : Result History ScriptFault → ℕ
 judged_status (Ok h) = verdict_status (is_yes (verdict_of h))
 judged_status (Err fault) = 1
 
+-- what `audit` writes of a text
 unfoldable pub audit_text : List ℕ → List ℕ
 unfolding heard_in verdict_of verdict_text fault_line
 audit_text text = judged_text (heard_in text)
 
+-- the status of `audit` on a text
 unfoldable pub audit_status : List ℕ → ℕ
 unfolding heard_in verdict_of
 audit_status text = judged_status (heard_in text)

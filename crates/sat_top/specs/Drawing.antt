@@ -29,6 +29,7 @@ drawn d acts (Some fault) = fault_line fault
 drawn None acts None = []
 drawn (Some d) acts None = drawing d (told_history d acts)
 
+-- what `draw` writes of what was read
 abbrev pub draw_text : Reading → List ℕ
 draw_text r = drawn r.deployment r.acts r.fault
 

@@ -3,6 +3,7 @@ pub mod Good
 pub mod Loading
 pub mod Placing
 pub mod Auditing
+pub mod Chaining
 pub mod Whole
 pub mod Streaming
 pub mod Living

@@ -5,12 +5,15 @@ use Rattle.sat_outside.specs.Streams.{Told, Takes}
 use Rattle.sat_act.specs.declared.act.Act.{Act}
 use Rattle.sat_act.specs.Deployed.{Deployed}
 use Rattle.sat_report.specs.Answers.{answers}
+use Rattle.sat_chain_runs.specs.ChainTexts.{chain_meaning}
+use Rattle.sat_follow.specs.Following.{StopsReading as FollowStops, HasFront as FollowFront, WasAnswering as FollowAnswering}
 use Rattle.sat_stream.specs.Reading.{reading}
 use Rattle.sat_stream.specs.Stream.{LacksOnlyItsEnd}
 use Rattle.sat_stream.specs.declared.stream.Reading.{Reading}
 use Rattle.sat_top.specs.declared.stream.TheConstants.{BUFFER_BYTES}
 use Rattle.sat_top.specs.declared.words.Command.{Command}
-use Rattle.sat_top.specs.declared.words.Command.TheVariants.{Run, Draw}
+use Rattle.sat_top.specs.declared.words.Command.TheVariants.{Run, Draw, Chain}
+use Rattle.sat_top.specs.Chaining.{HasChainAnswered}
 use Rattle.sat_top.specs.Good.{IsGoodFront}
 use Rattle.sat_runs.specs.Runs.{history, run_text}
 use Rattle.sat_top.specs.Whole.{IsTextOf, TakesFront}
@@ -61,19 +64,23 @@ pub record StopsReading (live : Bool) (left left_after : Option (List ℕ)) : Ty
 abbrev pub StopsReadingOf : Option Command → Option (List ℕ) → Option (List ℕ) → Type 0
 StopsReadingOf (Some Run) left left_after = StopsReading false left left_after
 StopsReadingOf (Some Draw) left left_after = StopsReading false left left_after
+StopsReadingOf (Some (Chain replicas)) left left_after = FollowStops (chain_meaning replicas) left left_after
 StopsReadingOf _ left left_after = Unit {0}
 
--- what was written when the source fails: only `run` writes before its whole input is read
+-- what was written when the source fails: only `run` and `chain` write before their whole input is read
 abbrev pub WroteBefore : Option Command → Option (List ℕ) → Option (List ℕ) → Told → Told → Type 0
 WroteBefore (Some Run) left left_after old new = HasAnswered left left_after old new
+WroteBefore (Some (Chain replicas)) left left_after old new = HasChainAnswered replicas left left_after old new
 WroteBefore _ left left_after old new = Takes old new []
 
 -- and when memory runs out
 abbrev pub GaveUp : Option Command → Option (List ℕ) → Option (List ℕ) → Told → Told → Type 0
 GaveUp (Some Run) left left_after old new = HasFront left old new × WasAnswering left left_after old new
+GaveUp (Some (Chain replicas)) left left_after old new = FollowFront (chain_meaning replicas) left old new × FollowAnswering (chain_meaning replicas) left left_after old new
 GaveUp _ left left_after old new = Takes old new []
 
 -- and when the sink fails
 abbrev pub BrokeOff : Option Command → Option (List ℕ) → Option (List ℕ) → Told → Told → Type 0
 BrokeOff (Some Run) left left_after old new = WasAnswering left left_after old new
+BrokeOff (Some (Chain replicas)) left left_after old new = FollowAnswering (chain_meaning replicas) left left_after old new
 BrokeOff _ left left_after old new = Unit {0}

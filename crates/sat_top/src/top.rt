@@ -1,6 +1,7 @@
 //! The top call.
-ghost use Rattle.std.specs.Prelude.{◌≡◌, ◌≢◌, false, map, string_bytes, Some};
-ghost use Rattle.sat_top.specs.declared.words.Command.TheVariants.{Place, Run};
+ghost use Rattle.std.specs.Prelude.{ℕ, ◌≡◌, ◌≢◌, ◌≤◌, false, map, string_bytes, Some};
+ghost use Rattle.sat_top.specs.declared.words.Command.TheVariants.{Chain, Place, Run};
+ghost use Rattle.sat_top.specs.declared.words.TheConstants.{MOST_REPLICAS};
 ghost use Rattle.sat_top.specs.Words.{command_of, is_live};
 ghost use Rattle.sat_top.specs.Whole.{reads};
 ghost use Rattle.sat_top.specs.Contract.{Meets, MeetsCommand};
@@ -9,14 +10,17 @@ use crate::living::lived;
 use crate::output::{make_output, place_wide};
 use crate::stream::{Halt, Stop, run_script, write_text};
 use crate::words::{Command, command_of, is_live};
+use sat_chain_runs::chain_follower;
+use sat_chain_script::good_chain_texts;
+use sat_follow::{Halt as FollowHalt, follow};
 use sat_outside::{Gate, Sink, Source};
 use std::alloc::Global;
 use std::sync::Wait;
 use std::thread::Threads;
 use std::time::Clock;
 
-/// Does the command that the words say, and answers its status. `run` reads a piece, does each whole line in it and writes its answer
-/// before it reads more; the other commands write nothing before they have read all. The statuses:
+/// Does the command that the words say, and answers its status. `run` and `chain` read a piece, do each whole line in it and write its
+/// answer before they read more; the other commands write nothing before they have read all. The statuses:
 /// 0, the command was done; 1, the input is refused; 2, the words are no command; 3, the source failed;
 /// 4, the sink failed; 5, memory ran out; 7, a history that was judged is not as it should be. It waits for nobody, and so `live` is none of its commands.
 pub fn still<S: Source, K: Sink>(
@@ -32,6 +36,7 @@ pub fn still<S: Source, K: Sink>(
 {
     match command_of(words) {
         Some(Command::Run) => streamed(alloc, source, sink),
+        Some(Command::Chain { replicas }) => chained(alloc, replicas, source, sink),
         _ => told(alloc, words, source, sink),
     }
 }
@@ -50,10 +55,30 @@ fn streamed<S: Source, K: Sink>(alloc: Global, source: &mut S, sink: &mut K) -> 
     }
 }
 
+// Runs a script whose serializers are chains of replicas, line by line, and answers the status.
+#[tactic(auto, using(crate::proofs::Done::is_done, crate::proofs::Done::is_refused, crate::proofs::Done::is_found, crate::proofs::Done::has_status))]
+fn chained<S: Source, K: Sink>(alloc: Global, replicas: u16, source: &mut S, sink: &mut K) -> u8
+    requires some { 1 ≤ replicas }
+    requires few { replicas ≤ MOST_REPLICAS }
+    ensures meets { MeetsCommand (Some (Chain replicas)) result (S.left source.old) (S.left source.new) (K.told sink.old) (K.told sink.new)
+        (S.faults source.old) (S.faults source.new) (K.faults sink.old) (K.faults sink.new) (S.ends source.old) (S.ends source.new) }
+{
+    // Brings this law into the proof; it does nothing when it runs.
+    good_chain_texts();
+    let mut follower = chain_follower(alloc, replicas);
+    match follow(alloc, &mut follower, source, sink) {
+        Ok(status) => status,
+        Err(FollowHalt::Source) => 3,
+        Err(FollowHalt::Sink) => 4,
+        Err(FollowHalt::Memory) => 5,
+    }
+}
+
 // Does another command: makes its whole output, writes it, and answers the status.
 #[tactic(auto, using(crate::proofs::Done::is_done, crate::proofs::Done::is_refused, crate::proofs::Done::is_found, crate::proofs::Done::has_status))]
 fn told<S: Source, K: Sink>(alloc: Global, words: &[String], source: &mut S, sink: &mut K) -> u8
-    requires { command_of (map string_bytes words.now) ≢ Some Run }
+    requires run { command_of (map string_bytes words.now) ≢ Some Run }
+    requires chain { (replicas : ℕ) → command_of (map string_bytes words.now) ≢ Some (Chain replicas) }
     ensures meets { MeetsCommand (command_of (map string_bytes words.now)) result (S.left source.old) (S.left source.new) (K.told sink.old) (K.told sink.new)
         (S.faults source.old) (S.faults source.new) (K.faults sink.old) (K.faults sink.new) (S.ends source.old) (S.ends source.new) }
     ensures unasked { reads (command_of (map string_bytes words.now)) ≡ false → source.new ≡ source.old }

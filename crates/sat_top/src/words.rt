@@ -2,10 +2,14 @@
 ghost use Rattle.std.specs.Prelude.{◌≡◌, ◌-◌, ◌^◌, [], ◌∷◌, map, string_bytes, IfSome};
 ghost use Rattle.sat_script.specs.Words.{number_up_to};
 ghost use Rattle.sat_settle.specs.declared.load_script.TheConstants.{MOST_LOADED};
-ghost use Rattle.sat_top.specs.Words.{command_named, load_of, command_of_three, command_of, is_live, IsCommand};
+ghost use Rattle.sat_top.specs.declared.words.TheConstants.{MOST_REPLICAS};
+ghost use Rattle.sat_top.specs.Words.{command_named, chain_of, command_of_two, load_of, command_of_three, command_of, is_live, IsCommand};
 
 use sat_script::number_up_to;
 use sat_settle::MOST_LOADED;
+
+/// The most replicas of which a serializer may be a chain.
+pub const MOST_REPLICAS: u16 = 5;
 
 /// What the program can do.
 #[derive(Clone, Copy, Debug, PartialEq, Eq)]
@@ -20,6 +24,8 @@ pub enum Command {
     Place,
     /// Reads a history and writes whether it is causal, shows each update once and is fresh.
     Audit,
+    /// Reads a script whose serializers are chains of so many replicas, and writes the report of its run.
+    Chain { replicas: u16 },
     /// Makes a script of so many acts and six more, runs it and writes a summary.
     Load { seed: u64, acts: u32 },
     /// Writes what the program can do.
@@ -66,6 +72,34 @@ fn load_of(seed: &str, acts: &str) -> Option<Command>
     })
 }
 
+// The chains of a number of replicas.
+fn chain_of(replicas: &str) -> Option<Command>
+    ensures command { result ≡ chain_of (number_up_to MOST_REPLICAS replicas.now) }
+    ensures within { IfSome result (λ c. IsCommand c) }
+{
+    let Some(replicas) = number_up_to(u64::from(MOST_REPLICAS), replicas.as_bytes()) else {
+        return None;
+    };
+    if replicas == 0 {
+        return None;
+    }
+    Some(Command::Chain {
+        replicas: replicas as u16,
+    })
+}
+
+// The command of two words.
+#[tactic(auto, unfolding(crate::specs::Words::command_of_two))]
+fn command_of_two(word: &str, replicas: &str) -> Option<Command>
+    ensures command { result ≡ command_of_two word.now replicas.now }
+    ensures within { IfSome result (λ c. IsCommand c) }
+{
+    match word {
+        "chain" => chain_of(replicas),
+        _ => None,
+    }
+}
+
 // The command of three words.
 #[tactic(auto, unfolding(crate::specs::Words::command_of_three))]
 fn command_of_three(word: &str, seed: &str, acts: &str) -> Option<Command>
@@ -98,7 +132,7 @@ pub(crate) fn command_of(words: &[String]) -> Option<Command>
     match words {
         [] => None,
         [word] => command_named(word.as_str()),
-        [_, _] => None,
+        [word, replicas] => command_of_two(word.as_str(), replicas.as_str()),
         [word, seed, acts] => command_of_three(word.as_str(), seed.as_str(), acts.as_str()),
         [_, _, _, _, ..] => None,
     }

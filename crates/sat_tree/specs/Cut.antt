@@ -42,6 +42,7 @@ unfolding over
 hangs_on t v (Site i) = false
 hangs_on t v (Serializer z) = has ◌==◌ (elim (over t v) [ None ↦ [] | Some p ↦ p ∷ [] ]) z
 
+-- whether two nodes are neighbours in a tree, in either direction
 unfoldable pub is_edge : TreeShape → NodeId → NodeId → Bool
 unfolding hangs_on
 is_edge t u v = hangs_on t u v || hangs_on t v u

@@ -50,6 +50,7 @@ is_not_yet _ = false
 abbrev pub has_to_wait : Act → Answer → Bool
 has_to_wait a r = is_attach a && is_not_yet r
 
+-- whether an entry is an attach that has to be tried again
 abbrev pub waits : Entry → Bool
 waits e = has_to_wait e.act e.answer
 
@@ -64,6 +65,7 @@ abbrev pub acts_behind : ℕ → Option Act → List Entry → List Act
 acts_behind n o [] = given_up n o
 acts_behind n o (e ∷ es) = if waits e then acts_behind (n + 1) (Some e.act) es else e.act ∷ acts_behind 0 None es
 
+-- the acts that these entries of one session do, where the tries of an attach count once
 abbrev pub acts_done : List Entry → List Act
 acts_done es = acts_behind 0 None es
 

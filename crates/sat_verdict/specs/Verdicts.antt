@@ -40,14 +40,18 @@ pub record IsFirstMiss (h : List Tale) (n m : ℕ) : Type 0 where
   pub made : MadeAt h missed m
   pub least : (a : Point) (o : ℕ) → Misses h before entry a → MadeAt h a o → m ≤ o
 
+-- none: the history is causal; else the first entry that shows an update before a cause, the cause and the site
 abbrev pub IsCausalVerdict : List SiteSet → List Tale → Option (ℕ × ℕ × ℕ) → Type 0
 IsCausalVerdict sets h None = Causal sets h
 IsCausalVerdict sets h (Some v) = IsFirstLack sets h v.0 v.1 v.2
 
+-- none: each update is shown once where it belongs; else the first entry that shows one again or where it does not
+-- belong
 abbrev pub IsOnceVerdict : List SiteSet → List Tale → Option ℕ → Type 0
 IsOnceVerdict sets h None = Once sets h
 IsOnceVerdict sets h (Some n) = IsFirstAgain sets h n
 
+-- none: no read is older than what its client saw; else the first such read and what it missed
 abbrev pub IsFreshVerdict : List Tale → Option (ℕ × ℕ) → Type 0
 IsFreshVerdict h None = Fresh h
 IsFreshVerdict h (Some v) = IsFirstMiss h v.0 v.1

@@ -14,6 +14,7 @@ use Rattle.sat_wire.specs.declared.fault.ReadFault.TheVariants as read_fault
 abbrev pub Read : Type 0 → Type 0
 Read A = Result (A × List ℕ) Stop
 
+-- how values of a type are spelled in bytes: spelling, reading, what fits, and the greatest length
 pub record Code (A : Type 0) : Type 0 where
   pub spell : A → List ℕ
   pub read : List ℕ → Read A

@@ -27,6 +27,7 @@ point_of x = record { ts = x.0; site = x.1.0; gear = x.1.1 }
 abbrev pub parts_of_point : Point → ℕ × (ℕ × ℕ)
 parts_of_point p = (p.ts, (p.site, p.gear))
 
+-- a point: timestamp, site and gear
 abbrev pub point : Code Point
 point = mapped point_of parts_of_point point_parts
 

@@ -56,5 +56,6 @@ pub record IsNew {M I A : Type 0} (h : HeldSeen M I A) : Type 0 where
   pub outs : Each h.outs (λ _ o. IsFreshOut o)
   pub ins : Each h.ins (λ _ i. IsFreshIn i)
 
+-- each node is new: nothing was done at it
 abbrev pub AllNew : {M I A : Type 0} → List (HeldSeen M I A) → Type 0
 AllNew hs = Each hs (λ _ h. IsNew h)

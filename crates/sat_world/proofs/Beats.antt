@@ -28,7 +28,7 @@ use Rattle.sat_world.proofs.Goes.{quiet-goes}
 use Rattle.sat_world.proofs.Hands.{site-at}
 
 -- the machine's note is that of the beat that the site made
-note-at : (d : Deployed) (i j n : ℕ) (x : SiteSeen) (s : SiteState) (o : Option Beat) → StandsSite d i x s → j < d.sites → o ≡ slice_get (made_for x j) n → slice_get (s.made_beats j) n ≡ option_map note_of o
+pub note-at : (d : Deployed) (i j n : ℕ) (x : SiteSeen) (s : SiteState) (o : Option Beat) → StandsSite d i x s → j < d.sites → o ≡ slice_get (made_for x j) n → slice_get (s.made_beats j) n ≡ option_map note_of o
 note-at d i j n x s o st lt e = ap (λ (bs : List BeatNote). slice_get bs n) (sym (st.made j lt)) ∙ (slice_get-map note_of (made_for x j) n ∙ ap (option_map note_of) (sym e))
 
 -- a beat that a site made has its size at each site of the world
@@ -49,7 +49,7 @@ beat-given d s i j n note e = record {
   answer = ap (λ (o : Option BeatNote). elim o [ None ↦ ans.Refused why.NoSuch | Some note ↦ site_answer d j (s.sites j) (given.BeatIn i n note) ]) e;
 }
 
-no-beat : (d : Deployed) (s : WorldState) (i j n : ℕ) → beat_from s i j n ≡ None → (ans.Refused why.NoSuch ≡ world_answer d s (act.BeatIn i j n)) × ((k : ℕ) → world_given d s (act.BeatIn i j n) k ≡ None)
+pub no-beat : (d : Deployed) (s : WorldState) (i j n : ℕ) → beat_from s i j n ≡ None → (ans.Refused why.NoSuch ≡ world_answer d s (act.BeatIn i j n)) × ((k : ℕ) → world_given d s (act.BeatIn i j n) k ≡ None)
 unfolding world_given world_answer
 no-beat d s i j n e = (
   sym (ap (λ (o : Option BeatNote). elim o [ None ↦ ans.Refused why.NoSuch | Some note ↦ site_answer d j (s.sites j) (given.BeatIn i n note) ]) e),

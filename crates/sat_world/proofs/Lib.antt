@@ -22,3 +22,4 @@ pub mod Fresh
 pub mod Shown
 pub mod Clocked
 pub mod Lefts
+pub mod Reaching

@@ -11,3 +11,4 @@ pub mod Starts
 pub mod Laws
 pub mod Underway
 pub mod Left
+pub mod Reaches

@@ -15,6 +15,7 @@ ghost use Rattle.sat_world.specs.Counts.{counted, shown_count};
 ghost use Rattle.sat_world.specs.Underway.{underway};
 ghost use Rattle.sat_world.specs.Applies.{Applies};
 ghost use Rattle.sat_world.specs.Steps.{act_at, is_quiet, WritesBy};
+ghost use Rattle.sat_world.specs.Reaches.{Reaches, HandsSome};
 ghost use Rattle.sat_world.specs.Worlds.{IsWorld};
 ghost use Rattle.sat_world.specs.Shows.{IsVersion};
 ghost use Rattle.sat_world.specs.Stands.{StandsFor};
@@ -540,5 +541,231 @@ impl World {
         ensures fine { IsOk result }
     {
         Ok(nets::kill_at(&mut self.nets, epoch as usize - 1, serializer))
+    }
+
+    /// What an act hands to the site that it is an act at, as `apply` would hand it. None exactly where it reaches no site: a leave,
+    /// a hop, a kill, a clock and a settle reach none, nor does an act that is refused as NoSession, Joined or NoSuch; every other
+    /// act, refused or not, reaches one. Nothing is done. It takes memory for the values, the payload or the beat that is handed.
+    pub fn handed(&self, act: &Act) -> Result<Option<SiteInput>, AllocError>
+        requires { IsActOf self.now.deployment act.now }
+        ensures { IfOk result (λ found. HandsSome self.now act.now found) }
+    {
+        let Some((_, input)) = self.handed_at(act)? else {
+            return Ok(None);
+        };
+        Ok(Some(input))
+    }
+
+    /// The same, with the number of the site.
+    pub fn handed_at(&self, act: &Act) -> Result<Option<(u16, SiteInput)>, AllocError>
+        requires { IsActOf self.now.deployment act.now }
+        ensures { IfOk result (λ found. Reaches self.now act.now found) }
+    {
+        let _ = &self.sites;
+        match act {
+            Act::Tick { site, gear, ts } => Ok(Some((
+                *site,
+                SiteInput::Tick {
+                    gear: *gear,
+                    ts: *ts,
+                },
+            ))),
+            Act::Clock => Ok(None),
+            Act::Write {
+                client,
+                item,
+                value,
+            } => self.handed_one(*client, *item, value),
+            Act::Writes {
+                client,
+                items,
+                values,
+            } => self.handed_many(*client, items, values),
+            Act::Read { client, item } => Ok(self.handed_read(*client, *item)),
+            Act::Move { client, site } => Ok(self.handed_move(*client, *site)),
+            Act::Leave { client: _ } => Ok(None),
+            Act::Attach { client, site } => Ok(self.handed_attach(*client, *site)),
+            Act::Gather { site } => Ok(Some((*site, SiteInput::Gather))),
+            Act::Emit { site } => Ok(Some((*site, SiteInput::Emit))),
+            Act::Pulse { site } => Ok(Some((*site, SiteInput::Pulse))),
+            Act::Hop {
+                epoch: _,
+                from: _,
+                to: _,
+            } => Ok(None),
+            Act::Turn { site } => Ok(self.handed_turn(*site)),
+            Act::Bulk {
+                from,
+                gear,
+                to,
+                number,
+            } => self.handed_bulk(*from, *gear, *to, *number),
+            Act::Beat { from, to } => Ok(Some((*from, SiteInput::Beat { to: *to }))),
+            Act::BeatIn { from, to, number } => self.handed_beat(*from, *to, *number),
+            Act::Stamp { site } => Ok(Some((*site, SiteInput::Stamp))),
+            Act::Close { site } => Ok(Some((*site, SiteInput::Close))),
+            Act::Fall { site } => Ok(Some((*site, SiteInput::Fall))),
+            Act::Advance { site } => Ok(Some((*site, SiteInput::Advance))),
+            Act::Kill {
+                epoch: _,
+                serializer: _,
+            } => Ok(None),
+            Act::Settle => Ok(None),
+        }
+    }
+
+    // What a client's write of one item hands to its seat.
+    fn handed_one(
+        &self,
+        client: u16,
+        item: u16,
+        value: &Value,
+    ) -> Result<Option<(u16, SiteInput)>, AllocError>
+        requires { IsActOf self.now.deployment (Act.Write client item value.now) }
+        ensures { IfOk result (λ found. Reaches self.now (Act.Write client item value.now) found) }
+    {
+        let copy = value.copy()?;
+        let values = Values::one(self.allocator(), copy)?;
+        Ok(self.handed_write(client, Items::One(item), values))
+    }
+
+    // What a client's write of several items hands to its seat.
+    fn handed_many(
+        &self,
+        client: u16,
+        items: &Items,
+        values: &Values,
+    ) -> Result<Option<(u16, SiteInput)>, AllocError>
+        requires { IsActOf self.now.deployment (Act.Writes client items.now values.now) }
+        ensures { IfOk result (λ found. Reaches self.now (Act.Writes client items.now values.now) found) }
+    {
+        let values = values.copy()?;
+        Ok(self.handed_write(client, *items, values))
+    }
+
+    // What a client's write of one item or several hands to its seat, by what the act writes.
+    fn handed_write(&self, client: u16, items: Items, values: Values) -> Option<(u16, SiteInput)>
+        requires { (a : ActSeen) × WritesBy self.now.deployment client items values a }
+        ensures { (a : ActSeen) → WritesBy self.now.deployment client items values a → Reaches self.now a result }
+    {
+        let known = self.clients[client as usize];
+        let Some(seat) = known.seat else {
+            return None;
+        };
+        let input = SiteInput::Write {
+            carried: known.carried,
+            items,
+            values,
+        };
+        Some((seat, input))
+    }
+
+    // What a client's read hands to its seat.
+    fn handed_read(&self, client: u16, item: u16) -> Option<(u16, SiteInput)>
+        requires { IsActOf self.now.deployment (Act.Read client item) }
+        ensures { Reaches self.now (Act.Read client item) result }
+    {
+        let known = self.clients[client as usize];
+        let Some(seat) = known.seat else {
+            return None;
+        };
+        let input = SiteInput::Read {
+            carried: known.carried,
+            item,
+        };
+        Some((seat, input))
+    }
+
+    // What a client's move hands to its seat.
+    fn handed_move(&self, client: u16, to: u16) -> Option<(u16, SiteInput)>
+        requires { IsActOf self.now.deployment (Act.Move client to) }
+        ensures { Reaches self.now (Act.Move client to) result }
+    {
+        let known = self.clients[client as usize];
+        let Some(seat) = known.seat else {
+            return None;
+        };
+        let input = SiteInput::Move {
+            carried: known.carried,
+            to,
+        };
+        Some((seat, input))
+    }
+
+    // What a client's attach hands to the site that it comes to.
+    fn handed_attach(&self, client: u16, site: u16) -> Option<(u16, SiteInput)>
+        requires { IsActOf self.now.deployment (Act.Attach client site) }
+        ensures { Reaches self.now (Act.Attach client site) result }
+    {
+        let known = self.clients[client as usize];
+        let None = known.seat else {
+            return None;
+        };
+        let input = SiteInput::Attach {
+            carried: known.carried,
+        };
+        Some((site, input))
+    }
+
+    // What a turn hands to its site.
+    fn handed_turn(&self, site: u16) -> Option<(u16, SiteInput)>
+        requires { IsActOf self.now.deployment (Act.Turn site) }
+        ensures { Reaches self.now (Act.Turn site) result }
+    {
+        let known = &self.sites[site as usize];
+        let place = known.view().view as usize - 1;
+        let front = nets::front_at(&self.nets, place, site);
+        Some((site, SiteInput::Turn { front }))
+    }
+
+    // What a bulk hands to the site that the payload comes to. No memory holds payloads whose number has more than 63 bits.
+    fn handed_bulk(
+        &self,
+        from: u16,
+        gear: u16,
+        to: u16,
+        asked: Option<u64>,
+    ) -> Result<Option<(u16, SiteInput)>, AllocError>
+        requires { IsActOf self.now.deployment (Act.Bulk from gear to asked) }
+        ensures { IfOk result (λ found. Reaches self.now (Act.Bulk from gear to asked) found) }
+    {
+        let receiver = &self.sites[to as usize];
+        let number = places::payload_number(receiver, from, gear, asked);
+        let sender = &self.sites[from as usize];
+        let Some(payload) = sender.payload(gear, to, number) else {
+            return Ok(None);
+        };
+        if number >= 1 << 63 {
+            return Err(AllocError);
+        }
+        let payload = payload.copy()?;
+        let input = SiteInput::Bulk {
+            from,
+            gear,
+            number,
+            payload,
+        };
+        Ok(Some((to, input)))
+    }
+
+    // What a beat that comes hands to its site. No memory holds beats whose number has more than 63 bits.
+    fn handed_beat(
+        &self,
+        from: u16,
+        to: u16,
+        number: u64,
+    ) -> Result<Option<(u16, SiteInput)>, AllocError>
+        requires { IsActOf self.now.deployment (Act.BeatIn from to number) }
+        ensures { IfOk result (λ found. Reaches self.now (Act.BeatIn from to number) found) }
+    {
+        let sender = &self.sites[from as usize];
+        let Some(beat) = sender.made_beat(to, number) else {
+            return Ok(None);
+        };
+        if number >= 1 << 63 {
+            return Err(AllocError);
+        }
+        let beat = beat.copy()?;
+        Ok(Some((to, SiteInput::BeatIn { from, number, beat })))
     }
 }

@@ -2,8 +2,9 @@
 #![tactic(auto)]
 
 use sat_hints::{
-    Followed, FollowingWriter, KeepingReader, KeepingWriter, Kept, Wrote, about_history,
-    about_input, about_refusals, about_stopped, about_words, awaits, is_audit, is_live, is_run,
+    Followed, FollowingWriter, KeepingReader, KeepingWriter, Kept, TellingReader, Wrote,
+    about_history, about_input, about_refusals, about_stopped, about_words, awaits, is_audit,
+    is_live, is_run, is_version, work_of,
 };
 use sat_outside::{FreeGate, StdSink, StdSource};
 use sat_top::saturn;
@@ -12,6 +13,9 @@ use std::io::{ErrorKind, IsTerminal};
 use std::process::ExitCode;
 use std::rt::Env;
 use std::{env, io};
+
+// The logic with which `rt ci` proves this program, as `rt version` prints it; .ci/checks compares.
+const LOGIC: &str = "dac8208d650f15bf";
 
 // The status of the top call for want of memory.
 const NO_MEMORY: u8 = 5;
@@ -108,8 +112,13 @@ fn main(rt: HostRuntime) -> ExitCode {
     {
         let _ = eprintln!(rt; "saturn: {text}");
     }
-    let counts = is_run(words) && rt.stderr().is_terminal();
-    let mut reader = KeepingReader::new(rt.alloc(), rt.stdin().reader(), is_audit(words));
+    if is_version(words) {
+        let _ = eprintln!(rt; "saturn: where rt ci built it, it is proved with logic {LOGIC}");
+    }
+    let is_watched = rt.stderr().is_terminal();
+    let counts = is_run(words) && is_watched;
+    let reader = KeepingReader::new(rt.alloc(), rt.stdin().reader(), is_audit(words));
+    let mut reader = TellingReader::new(&rt, reader, is_watched, work_of(words));
     let writer = KeepingWriter::new(rt.alloc(), rt.stdout(), counts);
     let mut writer = FollowingWriter::new(rt.alloc(), writer, is_live(words));
     let mut source = StdSource::new(&mut reader);
@@ -117,7 +126,13 @@ fn main(rt: HostRuntime) -> ExitCode {
     let status = saturn(&rt, words, &mut source, &mut sink, &FreeGate);
     drop(source);
     drop(sink);
-    tell(&rt, status, said, reader.kept(), writer.writer().wrote());
+    tell(
+        &rt,
+        status,
+        said,
+        reader.reader().kept(),
+        writer.writer().wrote(),
+    );
     if let Some(followed) = writer.followed() {
         tell_stopped(&rt, followed);
     }

@@ -1,7 +1,4 @@
-use Rattle.std.proofs.Common.{ℕ, List, reverse, ◌+◌, ◌*◌, ◌++◌, length, refl, ap, ◌∙◌}
-use Rattle.sat_draw.specs.declared.geometry.TheConstants.{RIGHT, ROW}
-use Rattle.sat_draw.specs.Columns.{column_x}
-use Rattle.sat_draw.specs.Drawing.{opening}
+use Rattle.std.proofs.Common.{List, ℕ, reverse, ◌++◌, length, refl, ap, ◌∙◌}
 use Rattle.sat_draw.proofs.Arrowed.{ways_told}
 use Rattle.sat_draw.proofs.Marks.{each_once}
 use Rattle.sat_draw.proofs.Whole.{whole}
@@ -9,13 +6,10 @@ use Rattle.sat_draw.proofs.picture.draw.Goals as goal
 
 pub returns-clause-text : goal.returns-clause-text
 returns-clause-text c =
-    let count = length c.args.entries.now in
-    let height = c.rows_top-top.result + count * ROW + 20 in
-    whole c.args.d.now c.args.entries.now count height c.in_ok-text.text.items c.extend_from_slice.new.self.items c.append_head.new.out.items c.append_rows.new.out.items c.extend_from_slice-2.new.self.items
-    refl (ap (λ (t : ℕ). t + count * ROW + 20) c.rows_top-top.ensures.top)
-    (c.in_ok-text.ensures ∙ ap (λ (x : ℕ). opening (x + RIGHT) height) (c.column_x.ensures.x ∙ ap column_x c.columns.ensures.columns))
+    whole c.args.d.now c.args.entries.now (length c.args.entries.now) c.in_ok-text.text.items c.extend_from_slice.new.self.items c.append_head.new.out.items c.append_rows.new.out.items c.extend_from_slice-2.new.self.items
+    refl c.in_ok-text.ensures
     (c.in_ok-extend_from_slice.ensures.items ∙ ap (λ (x : List ℕ). c.in_ok-text.text.items ++ x) (c.as_bytes.ensures.value ∙ c.legend.ensures))
-    c.in_ok-append_head.ensures c.in_ok-append_rows.ensures c.in_ok-extend_from_slice-2.ensures.items
+    c.in_ok-append_head.ensures c.in_ok-append_rows.ensures.added c.in_ok-extend_from_slice-2.ensures.items
 
 pub returns-clause-once : goal.returns-clause-once
 returns-clause-once c = each_once c.args.d.now (reverse c.args.entries.now)

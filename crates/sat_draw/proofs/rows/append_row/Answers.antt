@@ -9,4 +9,4 @@ returns c = λ earlier same drawn.
     drawn same c.mark_spot-here.ensures.spot
     (c.as_slice.ensures.value ∙ c.in_ok-ways.ensures) c.in_ok-append_elements.ensures.ok
     (c.as_slice-2.ensures.value ∙ c.in_ok-marks.ensures) c.in_ok-append_elements-2.ensures.ok
-    c.in_ok-follow.ensures.seats c.in_ok-follow.ensures.spots
+    c.in_ok-follow.ensures

@@ -1,18 +1,19 @@
-use Rattle.std.proofs.Common.{◌<◌, ◌^◌, arith, refl}
-use Rattle.sat_settle.proofs.Going.{on-err}
-use Rattle.sat_settle.proofs.Until.{repeats-more, repeats-end, repeats-stop}
 use Rattle.sat_settle.proofs.trying.until_refused.Goals as goal
 
-pub returns-in_err-more-clause-err : goal.returns-in_err-more-clause-err
-returns-in_err-more-clause-err c = on-err _ _ (repeats-stop _ _ _ _ _ c.loop-done.invariant c.in_err-more.ensures.err)
+pub hops-requires : goal.hops-requires
+hops-requires c = rw c.in-Hop.is at c.requires.act
 
-pub returns-then-more-eq0-clause-ok : goal.returns-then-more-eq0-clause-ok
-returns-then-more-eq0-clause-ok c =
-    let l : c.loop-done.done < 2 ^ 64 = omega arith in
-    repeats-end _ _ _ _ _ _ c.loop-done.invariant c.in_ok-more.ensures.ok c.if-more-eq0.true l
+pub turns-requires : goal.turns-requires
+turns-requires c = rw c.in-Turn.is at c.requires.act
 
-pub loop-done-preserved : goal.loop-done-preserved
-loop-done-preserved c = repeats-more _ _ _ _ _ _ c.loop-done.invariant c.in_ok-more.ensures.deployment c.in_ok-more.ensures.ok c.if-more-eq0.false
+pub returns-in-Hop-clause-ok : goal.returns-in-Hop-clause-ok
+returns-in-Hop-clause-ok c = rw c.in-Hop.is c.hops.ensures.ok
 
-pub returns-clause-err : goal.returns-clause-err
-returns-clause-err c = repeats-stop _ _ _ _ _ c.loop-done.invariant refl
+pub returns-in-Hop-clause-err : goal.returns-in-Hop-clause-err
+returns-in-Hop-clause-err c = rw c.in-Hop.is c.hops.ensures.err
+
+pub returns-in-Turn-clause-ok : goal.returns-in-Turn-clause-ok
+returns-in-Turn-clause-ok c = rw c.in-Turn.is c.turns.ensures.ok
+
+pub returns-in-Turn-clause-err : goal.returns-in-Turn-clause-err
+returns-in-Turn-clause-err c = rw c.in-Turn.is c.turns.ensures.err

@@ -1,0 +1,4 @@
+pub mod Reading
+pub mod Going
+pub mod Doing
+pub mod Ending

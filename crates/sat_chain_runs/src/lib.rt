@@ -1,0 +1,6 @@
+//! Scripts with chains, followed line by line: each act is done and answered before the next line is read.
+#![tactic(auto)]
+
+mod chain_lines;
+
+pub use chain_lines::{ChainLines, chain_follower};

@@ -1,0 +1,6 @@
+pub mod Slips
+pub mod Cursors
+pub mod Turning
+pub mod Bulking
+pub mod Locals
+pub mod Growing

@@ -1,0 +1,5 @@
+pub mod Turns
+pub mod Receptions
+pub mod Cursors
+pub mod Locals
+pub mod Fresh

@@ -1,0 +1,102 @@
+-- No node's name stands twice (copied of sat_opened, where it is private).
+use Rattle.std.proofs.Common.{◌≡◌, ◌<◌, ◌≤◌, ℕ, ◌+◌, zero, suc, List, [], ◌∷◌, ◌++◌, length, map, refl, sym, ap, ◌∙◌, subst, arith, inl, inr}
+use Rattle.std.specs.List.{flat_map}
+use Rattle.sat_label.proofs.Members.{In-parts}
+use Rattle.sat_label.specs.Members.{In}
+use Rattle.sat_label.specs.Words.{below}
+use Rattle.sat_label.specs.declared.node.NodeName.{NodeName}
+use Rattle.sat_label.specs.declared.node.NodeName.TheVariants as named
+use Rattle.sat_tree.specs.Shape.{TreeShape}
+use Rattle.sat_act.specs.declared.deployment.Plan.{Plan}
+use Rattle.sat_act.specs.declared.deployment.Plan.TheVariants as plan
+use Rattle.sat_act.specs.Deployed.{Deployed}
+use Rattle.sat_machines.specs.Layout.{planted}
+use Rattle.sat_stitch.specs.Kept.{Kept}
+use Rattle.sat_stitch.specs.Stitch.{Distinct}
+use Rattle.sat_opened.specs.Keeping.{site_kept, serial_kept, newest}
+use Rattle.sat_opened.specs.Opened.{tree_names, lists_of}
+use Rattle.sat_opened.proofs.Layouts.{in-mapped, in-less}
+use Rattle.std.specs.Prelude.{Some, slice_get}
+use Rattle.sat_stitch.specs.Places.{AtSite, AtSerializer}
+use Rattle.sat_opened.specs.Laws.{SiteHeld, SerialHeld}
+use Rattle.sat_opened.proofs.Found.{entries-of}
+use Rattle.sat_host_sessions.specs.Journals.{AreJournals}
+
+-- ---- lists
+
+distinct-join : {X : Type 0} (xs ys : List X) → Distinct xs → Distinct ys → ((x : X) → In xs x → In ys x → ⊥) → Distinct (xs ++ ys)
+distinct-join [] ys a b f = b
+distinct-join (x ∷ xs) ys a b f = (distinct-join xs ys a.0 b (λ y i j. f y (inr i) j), λ i. elim (In-parts xs ys x i) [ inl j ↦ a.1 j | inr j ↦ f x (inl refl) j ])
+
+distinct-map : {X Y : Type 0} (f : X → Y) (xs : List X) → ((x y : X) → f x ≡ f y → x ≡ y) → Distinct xs → Distinct (map f xs)
+distinct-map f [] one a = tt
+distinct-map {X} {Y} f (x ∷ xs) one a =
+    (distinct-map f xs one a.0, λ i. let w : (y : X) × In xs y × (f y ≡ f x) = in-mapped f xs (f x) i in a.1 (subst (λ (y : X). In xs y) (one w.0 x w.2) w.1))
+
+apart : (n k : ℕ) → k < n → n ≡ k → ⊥
+apart n k lt e = omega arith
+
+distinct-below : (n : ℕ) → Distinct (below n)
+distinct-below zero = tt
+distinct-below (suc n) = distinct-join (below n) (n ∷ []) (distinct-below n) (tt, λ i. absurd i) (λ k i j. elim j [ inl e ↦ apart n k (in-less n k i) e | inr z ↦ absurd z ])
+
+-- ---- names
+
+site-one : (i j : ℕ) → named.Site i ≡ named.Site j → i ≡ j
+site-one i j e = cc
+
+serial-one : (e y z : ℕ) → named.Serializer e y ≡ named.Serializer e z → y ≡ z
+serial-one e y z w = cc
+
+epoch-one : (e f y z : ℕ) → named.Serializer e y ≡ named.Serializer f z → e ≡ f
+epoch-one e f y z w = cc
+
+-- a name of a serializer, of an epoch from this one on
+record IsFrom (f : ℕ) (name : NodeName) : Type 0 where
+  epoch : ℕ
+  number : ℕ
+  is : name ≡ named.Serializer epoch number
+  from : f ≤ epoch
+
+self : (n : ℕ) → n ≤ n
+self n = omega arith
+
+one-less : (f e : ℕ) → f + 1 ≤ e → f ≤ e
+one-less f e lt = omega arith
+
+no-turn : (f e : ℕ) → f + 1 ≤ e → f ≡ e → ⊥
+no-turn f e lt w = omega arith
+
+of-tree : (f : ℕ) (t : TreeShape) (name : NodeName) → In (tree_names (record { epoch = f; tree = t })) name → (z : ℕ) × (name ≡ named.Serializer f z)
+of-tree f t name i = (let w : (z : ℕ) × In (below (length t.parents)) z × (named.Serializer f z ≡ name) = in-mapped (named.Serializer f) (below (length t.parents)) name i in (w.0, sym w.2))
+
+later-from : (f : ℕ) (name : NodeName) → IsFrom (f + 1) name → IsFrom f name
+later-from f name w = record { epoch = w.epoch; number = w.number; is = w.is; from = one-less f w.epoch w.from }
+
+first-from : (f : ℕ) (t : TreeShape) (name : NodeName) → In (tree_names (record { epoch = f; tree = t })) name → IsFrom f name
+first-from f t name i = (let w : (z : ℕ) × (name ≡ named.Serializer f z) = of-tree f t name i in record { epoch = f; number = w.0; is = w.1; from = self f })
+
+of-trees : (f : ℕ) (plans : List Plan) (name : NodeName) → In (flat_map tree_names (planted f plans)) name → IsFrom f name
+of-trees f [] name i = absurd i
+of-trees f (plan.Stamp ∷ plans) name i = later-from f name (of-trees (f + 1) plans name i)
+of-trees f (plan.Tree t ∷ plans) name i = elim (In-parts (tree_names (record { epoch = f; tree = t })) (flat_map tree_names (planted (f + 1) plans)) name i) [
+  | inl j ↦ first-from f t name j
+  | inr j ↦ later-from f name (of-trees (f + 1) plans name j)
+]
+
+distinct-trees : (f : ℕ) (plans : List Plan) → Distinct (flat_map tree_names (planted f plans))
+distinct-trees f [] = tt
+distinct-trees f (plan.Stamp ∷ plans) = distinct-trees (f + 1) plans
+distinct-trees f (plan.Tree t ∷ plans) =
+    distinct-join (tree_names (record { epoch = f; tree = t })) (flat_map tree_names (planted (f + 1) plans))
+    (distinct-map (named.Serializer f) (below (length t.parents)) (serial-one f) (distinct-below (length t.parents))) (distinct-trees (f + 1) plans)
+    (λ name i j. let w : (z : ℕ) × (name ≡ named.Serializer f z) = of-tree f t name i in let v : IsFrom (f + 1) name = of-trees (f + 1) plans name j in no-turn f v.epoch v.from (epoch-one f v.epoch w.0 v.number (sym w.1 ∙ v.is)))
+
+distinct-sites : (n : ℕ) → Distinct (map named.Site (below n))
+distinct-sites n = distinct-map named.Site (below n) site-one (distinct-below n)
+
+pub sites_kept : (d : Deployed) (sites : List SiteHeld) (serials : List SerialHeld) (alone : ℕ → List Kept) → AreJournals d sites serials → (n i : ℕ) (h : SiteHeld) → slice_get sites n ≡ Some h → h.node.name ≡ named.Site i → lists_of sites serials alone (AtSite i) ≡ newest (site_kept i) h.node.entries
+sites_kept d sites serials alone all n i h at name = ap (newest (site_kept i)) (entries-of (named.Site i) sites (subst Distinct (sym all.all_sites) (distinct-sites d.sites)) n h at name)
+
+pub serials_kept : (d : Deployed) (sites : List SiteHeld) (serials : List SerialHeld) (alone : ℕ → List Kept) → AreJournals d sites serials → (n e z : ℕ) (h : SerialHeld) → slice_get serials n ≡ Some h → h.node.name ≡ named.Serializer e z → lists_of sites serials alone (AtSerializer e z) ≡ newest (serial_kept e z) h.node.entries
+serials_kept d sites serials alone all n e z h at name = ap (newest (serial_kept e z)) (entries-of (named.Serializer e z) serials (subst Distinct (sym all.all_serials) (distinct-trees 1 d.plans)) n h at name)

@@ -1,0 +1,2 @@
+pub mod LinesSay
+pub mod Sound

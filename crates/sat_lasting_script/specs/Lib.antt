@@ -1,0 +1,3 @@
+pub mod Forms
+pub mod Histories
+pub mod Laws

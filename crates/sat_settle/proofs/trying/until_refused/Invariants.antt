@@ -1,5 +1,0 @@
-use Rattle.sat_settle.proofs.Until.{Repeats}
-use Rattle.sat_settle.proofs.trying.until_refused.Given as goal
-
-abbrev pub invariant-loop-done : goal.invariant-loop-done
-invariant-loop-done l = Repeats l.initial.world l.act l.done l.world
