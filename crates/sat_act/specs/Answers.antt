@@ -73,7 +73,8 @@ at_seat (Some i) answer = answer i
 -- client c comes to site j
 unfoldable pub attach_to : Deployed → List Entry → ℕ → ℕ → Answer
 unfolding seat may_attach
-attach_to d h c j = refused_if (is_some (seat d h c)) why.Joined (refused_if (not (may_attach d h c j)) why.NotYet ans.Attached)
+attach_to d h c j =
+    refused_if (is_some (seat d h c)) why.Joined (refused_if (not (may_attach d h c j)) why.NotYet ans.Attached)
 
 -- ---- the sink's acts
 
@@ -106,7 +107,8 @@ hop_to d h epoch u z =
       | None ↦ ans.Refused why.Empty
       | Some tree ↦ elim (link_front d h epoch tree u (Serializer z)) [
         | None ↦ ans.Refused why.Empty
-        | Some l ↦ ans.Hopped l (filter (λ v. not (node_eq u v) && goes_beyond d tree (Serializer z) v l) (neighbours tree z))
+        | Some l ↦
+            ans.Hopped l (filter (λ v. not (node_eq u v) && goes_beyond d tree (Serializer z) v l) (neighbours tree z))
       ]
     ])
 
@@ -195,7 +197,8 @@ is_close_of l i epoch = (l.point.site == i) && elim l.kind [ kind.Close closed �
 -- whether an entry is a Turn of j that took i's Close of the epoch
 abbrev pub takes_close : Entry → ℕ → ℕ → ℕ → Bool
 takes_close entry j i epoch =
-    elim entry.answer [ ans.Took l ↦ elim entry.act [ act.Turn k ↦ (k == j) && is_close_of l i epoch | _ ↦ false ] | _ ↦ false ]
+    elim entry.answer
+    [ ans.Took l ↦ elim entry.act [ act.Turn k ↦ (k == j) && is_close_of l i epoch | _ ↦ false ] | _ ↦ false ]
 
 -- whether a Turn of j took i's Close of the epoch
 unfoldable pub took_close : List Entry → ℕ → ℕ → ℕ → Bool
@@ -210,7 +213,8 @@ is_drained epoch waiting i note =
       | Some p ↦ not (list_any (λ l. (l.point.site == i) && point_le l.point p) waiting)
     ]
 
--- whether j has all of its view: in stamp mode the best beat of each other site says so, in tree mode each other site's Close
+-- whether j has all of its view: in stamp mode the best beat of each other site says so, in tree mode each other site's
+-- Close
 unfoldable pub may_advance : Deployed → List Entry → ℕ → Bool
 unfolding in_stamp_mode view took_close best waiting
 may_advance d h j =
@@ -222,21 +226,24 @@ may_advance d h j =
 unfoldable pub advance_of : Deployed → List Entry → ℕ → Answer
 unfolding emission view may_advance
 advance_of d h j =
-    refused_if (emission h j == view h j) why.NotClosed (refused_if (not (may_advance d h j)) why.NotYet (ans.View (view h j + 1)))
+    refused_if (emission h j == view h j) why.NotClosed
+    (refused_if (not (may_advance d h j)) why.NotYet (ans.View (view h j + 1)))
 
 -- the greatest promise of the first n gears of the first m sites
 unfoldable pub greatest_promise : List Entry → ℕ → ℕ → ℕ
 unfolding promise
 greatest_promise h m zero = 0
 greatest_promise h zero (suc n) = 0
-greatest_promise h (suc m) (suc n) = max (max (promise h m n) (greatest_promise h (suc m) n)) (greatest_promise h m (suc n))
+greatest_promise h (suc m) (suc n) =
+    max (max (promise h m n) (greatest_promise h (suc m) n)) (greatest_promise h m (suc n))
 
 -- ---- the answer
 
--- the answer of an act after a history, by one clause for each act. That of a settle stands in Settling: it counts inner
--- entries, which no clause here does, so its answer here is a stand-in that no run uses
+-- the answer of an act after a history, by one clause for each act. That of a settle stands in Settling: it counts
+-- inner entries, which no clause here does, so its answer here is a stand-in that no run uses
 unfoldable pub answer : Deployed → List Entry → Act → Answer
-unfolding promise write_at read_at move_from seat carried attach_to gather_of emit_of pulse_of hop_to turn_of bulk_to beat_to beat_in_to stamp_of close_of fall_of advance_of killed greatest_promise
+unfolding promise write_at read_at move_from seat carried attach_to gather_of emit_of pulse_of hop_to turn_of bulk_to
+    beat_to beat_in_to stamp_of close_of fall_of advance_of killed greatest_promise
 answer d h (act.Tick i g ts) = ans.Ticked (max (promise h i g) ts)
 answer d h act.Clock = ans.Clocked (greatest_promise h d.sites d.gears)
 answer d h (act.Write c x value) = at_seat (seat d h c) (λ i. write_at d h c (One x) i)
@@ -260,9 +267,9 @@ answer d h (act.Advance j) = advance_of d h j
 answer d h (act.Kill epoch z) = refused_if (killed h epoch z) why.Already ans.Killed
 answer d h act.Settle = ans.Settled 0 0
 
--- what the laws of histories need of an act's numbers. `IsActOf` (Ranges), by which acts have a line, asks for more: of clients,
--- of which items there are, of the spelling of values, of kills and of numbers of payloads and beats nothing is needed here, so
--- the laws hold of more histories than scripts have
+-- what the laws of histories need of an act's numbers. `IsActOf` (Ranges), by which acts have a line, asks for more: of
+-- clients, of which items there are, of the spelling of values, of kills and of numbers of payloads and beats nothing
+-- is needed here, so the laws hold of more histories than scripts have
 abbrev pub InRange : Deployed → Act → Type 0
 InRange d (act.Tick i g ts) = (i < d.sites) × (g < d.gears) × (ts ≤ TS_END)
 InRange d (act.Writes c items values) = (length values ≡ length (list_of items)) × (are_items (list_of items) ≡ true)
@@ -279,5 +286,6 @@ InRange d (act.Stamp i) = i < d.sites
 InRange d (act.Close i) = i < d.sites
 InRange d (act.Fall i) = i < d.sites
 InRange d (act.Advance i) = i < d.sites
-InRange d (act.Hop epoch u z) = (tree : TreeShape) × (tree_of d epoch ≡ Some tree) × (is_edge tree u (Serializer z) ≡ true)
+InRange d (act.Hop epoch u z) =
+    (tree : TreeShape) × (tree_of d epoch ≡ Some tree) × (is_edge tree u (Serializer z) ≡ true)
 InRange d _ = Unit {0}

@@ -20,7 +20,8 @@ LearnedBy _ a knew = ⊥
 -- what an entry teaches: its client by its answer, and the label that it made all that its client knew before
 abbrev pub Learned : Entry → Who → Label → (Who → Type 0) → Type 0
 Learned entry (Client c) a knew = (of_client entry.act ≡ Some c) × LearnedBy entry.answer a knew
-Learned entry (Maker b) a knew = (made_in entry.answer ≡ Some b) × ((c : ℕ) × (of_client entry.act ≡ Some c) × knew (Client c))
+Learned entry (Maker b) a knew =
+    (made_in entry.answer ≡ Some b) × ((c : ℕ) × (of_client entry.act ≡ Some c) × knew (Client c))
 
 -- a client or a label's maker knows update a
 unfoldable pub Knows : List Entry → Who → Label → Type 0

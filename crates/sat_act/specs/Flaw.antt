@@ -24,7 +24,8 @@ has_name names name = contains_by (λ k. bytes_eq name k.now) names
 abbrev pub is_within : ℕ → ℕ → ℕ → Bool
 is_within low high n = nat_le low n && nat_le n high
 
--- the first part of a wrong size: 5 for the format, 0 for the sites, 1 for the gears, 2 for the items, 3 for the clients, 4 for the plans
+-- the first part of a wrong size: 5 for the format, 0 for the sites, 1 for the gears, 2 for the items, 3 for the
+-- clients, 4 for the plans
 unfoldable pub wrong_size : Deployed → Option ℕ
 wrong_size d =
     if not (is_format d.format) then Some 5 else
@@ -41,7 +42,8 @@ item_fits sites items x =
     elim (slice_get items x) [
       | None ↦ true
       | Some item ↦
-          are_sites sites item.replicas.bits && not (list_any (λ (earlier : Item). bytes_eq earlier.name item.name) (take x items))
+          are_sites sites item.replicas.bits
+          && not (list_any (λ (earlier : Item). bytes_eq earlier.name item.name) (take x items))
     ]
 
 -- the client's site is one of the sites, and no earlier client has its name
@@ -49,13 +51,15 @@ unfoldable pub client_fits : ℕ → List ClientLine → ℕ → Bool
 client_fits sites clients c =
     elim (slice_get clients c) [
       | None ↦ true
-      | Some line ↦ nat_lt line.site sites && not (list_any (λ (earlier : ClientLine). bytes_eq earlier.name line.name) (take c clients))
+      | Some line ↦ nat_lt line.site sites
+          && not (list_any (λ (earlier : ClientLine). bytes_eq earlier.name line.name) (take c clients))
     ]
 
 -- a tree has a seat for each site
 unfoldable pub plan_fits : ℕ → List Plan → ℕ → Bool
 plan_fits sites plans n =
-    elim (slice_get plans n) [ None ↦ true | Some p ↦ elim p [ plan.Stamp ↦ true | plan.Tree tree ↦ length tree.seats == sites ] ]
+    elim (slice_get plans n)
+    [ None ↦ true | Some p ↦ elim p [ plan.Stamp ↦ true | plan.Tree tree ↦ length tree.seats == sites ] ]
 
 -- the first fault: of the sizes, then of an item, of a client, of a plan
 unfoldable pub flaw : Deployed → Option DeploymentFault
@@ -68,8 +72,10 @@ flaw d =
 
 -- a set has the names of some items, and no others
 abbrev pub HaveItemNames : {S : Type 0} → HashSet (Bor (List ℕ)) S → List Item → Type 0
-HaveItemNames names items = (name : List ℕ) → has_name names name ≡ list_any (λ (item : Item). bytes_eq item.name name) items
+HaveItemNames names items =
+    (name : List ℕ) → has_name names name ≡ list_any (λ (item : Item). bytes_eq item.name name) items
 
 -- a set has the names of some clients, and no others
 abbrev pub HaveClientLineNames : {S : Type 0} → HashSet (Bor (List ℕ)) S → List ClientLine → Type 0
-HaveClientLineNames names clients = (name : List ℕ) → has_name names name ≡ list_any (λ (client : ClientLine). bytes_eq client.name name) clients
+HaveClientLineNames names clients =
+    (name : List ℕ) → has_name names name ≡ list_any (λ (client : ClientLine). bytes_eq client.name name) clients

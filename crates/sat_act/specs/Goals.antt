@@ -33,7 +33,8 @@ IsKeptAt d k l = (x : ℕ) × (is_update_of l.kind x ≡ true) × (replicates d 
 -- whatever an entry shows at a site, each cause of it that the site keeps was shown there before
 abbrev pub ShowsCausesFirst : Deployed → List Entry → Entry → Type 0
 ShowsCausesFirst d before entry =
-    (k : ℕ) (b a : Label) → shown_entry k before entry ≡ Some b → Cause (entry ∷ before) b a → IsKeptAt d k a → Shows before k a
+    (k : ℕ) (b a : Label) → shown_entry k before entry ≡ Some b → Cause (entry ∷ before) b a → IsKeptAt d k a
+    → Shows before k a
 
 -- each update was shown at each site after each cause that the site keeps
 unfoldable pub Causal : Deployed → List Entry → Type 0
@@ -43,7 +44,8 @@ Causal d (entry ∷ before) = Causal d before × ShowsCausesFirst d before entry
 -- an entry is a write of this item, with others or alone, with this value for it, and made the label
 abbrev pub WritesNow : Entry → ℕ → List ℕ → Label → Type 0
 WritesNow entry x value l =
-    (w : Written) × (write_in entry.act ≡ Some w) × (has ◌==◌ (list_of w.items) x ≡ true) × (value_for (list_of w.items) w.values x ≡ value) × (entry.answer ≡ ans.Wrote l)
+    (w : Written) × (write_in entry.act ≡ Some w) × (has ◌==◌ (list_of w.items) x ≡ true)
+    × (value_for (list_of w.items) w.values x ≡ value) × (entry.answer ≡ ans.Wrote l)
 
 -- a write of this item with this value made the label
 unfoldable pub Writes : List Entry → ℕ → List ℕ → Label → Type 0
@@ -62,7 +64,8 @@ IsWriteKeptAt d h k b = (x : ℕ) × IsWriteOf h x b × (replicates d x k ≡ tr
 -- whatever an entry shows at a site was not shown there before, and a write of an item that the site keeps made it
 abbrev pub ShowsNew : Deployed → List Entry → Entry → Type 0
 ShowsNew d before entry =
-    (k : ℕ) (b : Label) → shown_entry k before entry ≡ Some b → (Shows before k b → ⊥) × IsWriteKeptAt d (entry ∷ before) k b
+    (k : ℕ) (b : Label) → shown_entry k before entry ≡ Some b → (Shows before k b → ⊥)
+    × IsWriteKeptAt d (entry ∷ before) k b
 
 -- no site shows a label twice, and each was made by a write of an item that the site keeps
 unfoldable pub Once : Deployed → List Entry → Type 0
@@ -71,7 +74,8 @@ Once d (entry ∷ before) = Once d before × ShowsNew d before entry
 
 -- what a client reads is not below any update of the item in its past, and it reads none only where its past has none
 abbrev pub IsFresh : Answer → ℕ → List Entry → ℕ → Type 0
-IsFresh (ans.ReadSome l v) c before x = (a : Label) → Past before c a → is_update_of a.kind x ≡ true → label_lt l a ≡ false
+IsFresh (ans.ReadSome l v) c before x =
+    (a : Label) → Past before c a → is_update_of a.kind x ≡ true → label_lt l a ≡ false
 IsFresh ans.ReadNone c before x = (a : Label) → Past before c a → is_update_of a.kind x ≡ true → ⊥
 IsFresh _ c before x = Unit {0}
 
@@ -90,24 +94,26 @@ abbrev pub ReadsAtLeast : Answer → Label → Type 0
 ReadsAtLeast (ans.ReadSome m v) l = label_lt m l ≡ false
 ReadsAtLeast _ l = ⊥
 
--- where the site at which a client reads an item has shown an update that has it, the client reads this update or a greater one
+-- where the site at which a client reads an item has shown an update that has it, the client reads this update or a
+-- greater one
 abbrev pub ReadsShown : Deployed → List Entry → Entry → Type 0
 ReadsShown d before entry =
-    (c k x : ℕ) (l : Label) → entry.act ≡ act.Read c x → seat d before c ≡ Some k → Shows before k l → is_update_of l.kind x ≡ true → replicates d x k ≡ true → ReadsAtLeast entry.answer l
+    (c k x : ℕ) (l : Label) → entry.act ≡ act.Read c x → seat d before c ≡ Some k → Shows before k l
+    → is_update_of l.kind x ≡ true → replicates d x k ≡ true → ReadsAtLeast entry.answer l
 
 -- each read is of all that its site has shown
 unfoldable pub ReadsWhole : Deployed → List Entry → Type 0
 ReadsWhole d [] = Unit {0}
 ReadsWhole d (entry ∷ before) = ReadsWhole d before × ReadsShown d before entry
 
--- A site shows an update at once, for each of its items that the site keeps: from then on each of them has this version or a greater
--- one, and so a client that reads one of these items there never reads, of another, what is older
+-- A site shows an update at once, for each of its items that the site keeps: from then on each of them has this version
+-- or a greater one, and so a client that reads one of these items there never reads, of another, what is older
 pub record Whole (d : Deployed) (h : List Entry) : Type 0 where
   pub versions : (k x : ℕ) (l : Label) → Shows h k l → is_update_of l.kind x ≡ true → IsAtLeast (version h k x) l
   pub reads : ReadsWhole d h
 
--- a deployment whose numbers fit one another, as far as the laws of histories need it. Of the grades of a deployment this asks
--- least: `IsDeployment` (Limits), which all that `Deployment::new` makes meets, asks for more
+-- a deployment whose numbers fit one another, as far as the laws of histories need it. Of the grades of a deployment
+-- this asks least: `IsDeployment` (Limits), which all that `Deployment::new` makes meets, asks for more
 pub record IsValid (d : Deployed) : Type 0 where
   pub some_gear : 0 < d.gears
   pub few_gears : d.gears ≤ 8
@@ -116,7 +122,8 @@ pub record IsValid (d : Deployed) : Type 0 where
 -- a version is the greatest update of the item that was made anywhere, with the value of its write
 abbrev pub IsGreatestMade : List Entry → ℕ → Option Label → Type 0
 IsGreatestMade h x None = (m : Label) → Made h m → is_update_of m.kind x ≡ true → ⊥
-IsGreatestMade h x (Some l) = IsWriteOf h x l × ((m : Label) → Made h m → is_update_of m.kind x ≡ true → label_lt l m ≡ false)
+IsGreatestMade h x (Some l) =
+    IsWriteOf h x l × ((m : Label) → Made h m → is_update_of m.kind x ≡ true → label_lt l m ≡ false)
 
 -- all that was made for a site was brought to it
 abbrev pub AllBrought : Deployed → List Entry → ℕ → Type 0
@@ -124,4 +131,5 @@ AllBrought d h k = (i g n : ℕ) (l : Label) → slice_get (lane d h i g k) n �
 
 -- where all that was made for a site was brought and shown, the site holds its items' greatest versions
 abbrev pub Settled : Deployed → List Entry → Type 0
-Settled d h = (k x : ℕ) → AllBrought d h k → waiting h k ≡ [] → replicates d x k ≡ true → IsGreatestMade h x (version h k x)
+Settled d h =
+    (k x : ℕ) → AllBrought d h k → waiting h k ≡ [] → replicates d x k ≡ true → IsGreatestMade h x (version h k x)

@@ -27,14 +27,16 @@ StandsBefore ls n a = (m : ℕ) × (m < n) × (slice_get ls m ≡ Some a)
 -- in what a site showed each kept cause of an update stands before it
 abbrev pub CausalAsListed : Deployed → List Entry → Type 0
 CausalAsListed d h =
-    (k n : ℕ) (b a : Label) → slice_get (shown h k) n ≡ Some b → Cause h b a → IsKeptAt d k a → StandsBefore (shown h k) n a
+    (k n : ℕ) (b a : Label) → slice_get (shown h k) n ≡ Some b → Cause h b a → IsKeptAt d k a
+    → StandsBefore (shown h k) n a
 
 -- in what a site showed no update stands twice
 abbrev pub OnceAsListed : List Entry → Type 0
 OnceAsListed h = (k m n : ℕ) (b : Label) → slice_get (shown h k) m ≡ Some b → slice_get (shown h k) n ≡ Some b → m ≡ n
 
--- the headline, which every run meets: sites show updates in causal order and each once, from writes of items that they keep;
--- no client reads what is older than its past; what a site shows it shows whole; and once all has come and was shown, each site holds the greatest versions
+-- the headline, which every run meets: sites show updates in causal order and each once, from writes of items that they
+-- keep; no client reads what is older than its past; what a site shows it shows whole; and once all has come and was
+-- shown, each site holds the greatest versions
 pub record IsGood (d : Deployed) (h : List Entry) : Type 0 where
   pub causal : Causal d h
   pub in_order : CausalAsListed d h

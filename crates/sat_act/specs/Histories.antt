@@ -22,4 +22,5 @@ up_to p (entry ∷ before) = elim (p entry) [ true ↦ entry ∷ before | false 
 -- the greatest of p and of what the entries give
 unfoldable pub highest : (List Entry → Entry → Option Point) → Point → List Entry → Point
 highest f p [] = p
-highest f p (entry ∷ before) = elim (f before entry) [ None ↦ highest f p before | Some q ↦ greater_point q (highest f p before) ]
+highest f p (entry ∷ before) =
+    elim (f before entry) [ None ↦ highest f p before | Some q ↦ greater_point q (highest f p before) ]

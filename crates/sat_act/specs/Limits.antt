@@ -13,9 +13,9 @@ use Rattle.sat_act.specs.declared.deployment.ClientLine.{ClientLine}
 use Rattle.sat_act.specs.Deployed.{Deployed}
 use Rattle.sat_act.specs.Parts.{tree_of}
 
--- what `Deployment::new` makes sure of: the limits of the numbers, those of its format and so those of any, each item kept
--- somewhere and only at sites, no name twice among the items or the clients, each client's site a site, and each epoch's tree, if any,
--- a tree that seats every site
+-- what `Deployment::new` makes sure of: the limits of the numbers, those of its format and so those of any, each item
+-- kept somewhere and only at sites, no name twice among the items or the clients, each client's site a site, and each
+-- epoch's tree, if any, a tree that seats every site
 pub record IsDeployment (d : Deployed) : Type 0 where
   pub format : is_format d.format ≡ true
   pub sites_allowed : d.sites ≤ (limits_of d.format).sites
@@ -29,12 +29,16 @@ pub record IsDeployment (d : Deployed) : Type 0 where
   pub some_plan : 0 < length d.plans
   pub few_plans : length d.plans ≤ MOST_EPOCHS
   pub kept : (x : ℕ) (item : Item) → slice_get d.items x ≡ Some item → (k : ℕ) × (bit item.replicas.bits k ≡ true)
-  pub replicas : (x k : ℕ) (item : Item) → slice_get d.items x ≡ Some item → bit item.replicas.bits k ≡ true → k < d.sites
-  pub item_names : (x y : ℕ) (one other : Item) → slice_get d.items x ≡ Some one → slice_get d.items y ≡ Some other → one.name ≡ other.name → x ≡ y
+  pub replicas : (x k : ℕ) (item : Item) → slice_get d.items x ≡ Some item → bit item.replicas.bits k ≡ true
+      → k < d.sites
+  pub item_names : (x y : ℕ) (one other : Item) → slice_get d.items x ≡ Some one → slice_get d.items y ≡ Some other
+      → one.name ≡ other.name → x ≡ y
   pub homes : (c : ℕ) (line : ClientLine) → slice_get d.clients c ≡ Some line → line.site < d.sites
-  pub client_names : (b c : ℕ) (one other : ClientLine) → slice_get d.clients b ≡ Some one → slice_get d.clients c ≡ Some other → one.name ≡ other.name → b ≡ c
+  pub client_names : (b c : ℕ) (one other : ClientLine) → slice_get d.clients b ≡ Some one
+      → slice_get d.clients c ≡ Some other → one.name ≡ other.name → b ≡ c
   pub trees : (epoch : ℕ) (tree : TreeShape) → tree_of d epoch ≡ Some tree → IsTree tree
-  pub few_serializers : (epoch : ℕ) (tree : TreeShape) → tree_of d epoch ≡ Some tree → length tree.parents ≤ MOST_SERIALIZERS
+  pub few_serializers : (epoch : ℕ) (tree : TreeShape) → tree_of d epoch ≡ Some tree
+      → length tree.parents ≤ MOST_SERIALIZERS
   pub all_seated : (epoch : ℕ) (tree : TreeShape) → tree_of d epoch ≡ Some tree → length tree.seats ≡ d.sites
 
 -- each tree among some plans is one, with few serializers

@@ -37,8 +37,8 @@ abbrev pub keeps_all : Deployed → List ℕ → ℕ → Bool
 keeps_all d [] k = false
 keeps_all d (x ∷ xs) k = replicates d x k && list_all (λ y. replicates d y k) xs
 
--- whether a site is a target of a label: of an Update the sites that keep one of its items but its own, of a Move the site that it
--- names, of a Pulse or a Close all sites but its own
+-- whether a site is a target of a label: of an Update the sites that keep one of its items but its own, of a Move the
+-- site that it names, of a Pulse or a Close all sites but its own
 unfoldable pub is_target : Deployed → Label → ℕ → Bool
 unfolding replicates
 is_target d l k =
@@ -63,7 +63,8 @@ tree_of d epoch = if epoch == 0 then None else planned_tree d.plans (epoch - 1)
 -- the label that an entry made at gear g of site i
 abbrev pub made_entry : ℕ → ℕ → List Entry → Entry → Option Label
 made_entry i g before entry =
-    elim (made_in entry.answer) [ None ↦ None | Some l ↦ if (l.point.site == i) && (l.point.gear == g) then Some l else None ]
+    elim (made_in entry.answer)
+    [ None ↦ None | Some l ↦ if (l.point.site == i) && (l.point.gear == g) then Some l else None ]
 
 -- the Updates and Moves that gear g of site i stamped, in order
 unfoldable pub made : List Entry → ℕ → ℕ → List Label
@@ -113,7 +114,8 @@ made_to h i (suc n) = made_to h i n ++ made h i n
 
 -- the label that an entry sent from the sink of site i
 abbrev pub sent_entry : ℕ → List Entry → Entry → Option Label
-sent_entry i before entry = elim (sent_in entry.answer) [ None ↦ None | Some l ↦ if is_at entry.act i then Some l else None ]
+sent_entry i before entry =
+    elim (sent_in entry.answer) [ None ↦ None | Some l ↦ if is_at entry.act i then Some l else None ]
 
 -- the labels that i sent, in order: emitted ones, pulses and closes
 unfoldable pub sent : List Entry → ℕ → List Label
@@ -168,7 +170,8 @@ last_pulse h i = latest (pulse_entry i) 0 h
 -- the cut at which an entry closed this epoch at site i
 abbrev pub close_cut_of_entry : ℕ → ℕ → List Entry → Entry → Option (Option Point)
 close_cut_of_entry i epoch before entry =
-    elim entry.answer [ ans.Closed closed p ↦ if is_at entry.act i && (closed == epoch) then Some (Some p) else None | _ ↦ None ]
+    elim entry.answer
+    [ ans.Closed closed p ↦ if is_at entry.act i && (closed == epoch) then Some (Some p) else None | _ ↦ None ]
 
 -- the epoch that an entry closed at site i
 abbrev pub closed_epoch_of_entry : ℕ → List Entry → Entry → Option ℕ
@@ -235,24 +238,31 @@ unfolding emission view seat_in
 handling d before entry =
     elim entry.answer [
       | ans.Emitted l ↦
-          elim entry.act [ act.Emit i ↦ Some (record { epoch = emission before i; node = Site i; from = None; label = l }) | _ ↦ None ]
+          elim entry.act
+          [ act.Emit i ↦ Some (record { epoch = emission before i; node = Site i; from = None; label = l }) | _ ↦ None ]
       | ans.Pulsed l ↦
-          elim entry.act [ act.Pulse i ↦ Some (record { epoch = emission before i; node = Site i; from = None; label = l }) | _ ↦ None ]
+          elim entry.act
+          [ act.Pulse i ↦ Some (record { epoch = emission before i; node = Site i; from = None; label = l }) | _ ↦ None ]
       | ans.Closed closed p ↦
           elim entry.act [
-            | act.Close i ↦ Some (record { epoch = closed; node = Site i; from = None; label = record { point = p; kind = kind.Close closed } })
+            | act.Close i ↦
+                Some
+                (record { epoch = closed; node = Site i; from = None; label = record { point = p; kind = kind.Close closed } })
             | _ ↦ None
           ]
       | ans.Hopped l to ↦
-          elim entry.act [ act.Hop epoch u z ↦ Some (record { epoch = epoch; node = Serializer z; from = Some u; label = l }) | _ ↦ None ]
+          elim entry.act
+          [ act.Hop epoch u z ↦ Some (record { epoch = epoch; node = Serializer z; from = Some u; label = l }) | _ ↦ None ]
       | ans.Shown l ↦
           elim entry.act [
-            | act.Turn j ↦ Some (record { epoch = view before j; node = Site j; from = seat_in d (view before j) j; label = l })
+            | act.Turn j ↦
+                Some (record { epoch = view before j; node = Site j; from = seat_in d (view before j) j; label = l })
             | _ ↦ None
           ]
       | ans.Took l ↦
           elim entry.act [
-            | act.Turn j ↦ Some (record { epoch = view before j; node = Site j; from = seat_in d (view before j) j; label = l })
+            | act.Turn j ↦
+                Some (record { epoch = view before j; node = Site j; from = seat_in d (view before j) j; label = l })
             | _ ↦ None
           ]
       | _ ↦ None
@@ -305,7 +315,8 @@ link_front d h epoch tree u v = slice_get (entered d h epoch tree u v) (taken d 
 unfoldable pub killed : List Entry → ℕ → ℕ → Bool
 unfolding latest
 killed h epoch z =
-    latest (λ before entry. elim entry.answer [ ans.Killed ↦ if is_kill entry.act epoch z then Some true else None | _ ↦ None ]) false h
+    latest (λ before entry.
+    elim entry.answer [ ans.Killed ↦ if is_kill entry.act epoch z then Some true else None | _ ↦ None ]) false h
 
 -- ---- stores
 
@@ -380,7 +391,8 @@ value_of h l x = value_for (items_of l.kind) (values_of h l) x
 -- the update for site j that an entry made at gear g of site i
 abbrev pub lane_entry : Deployed → ℕ → ℕ → ℕ → List Entry → Entry → Option Label
 lane_entry d i g j before entry =
-    elim (made_entry i g before entry) [ None ↦ None | Some l ↦ if is_update l.kind && is_target d l j then Some l else None ]
+    elim (made_entry i g before entry)
+    [ None ↦ None | Some l ↦ if is_update l.kind && is_target d l j then Some l else None ]
 
 -- the lane of gear g of site i to site j: the updates that it made for j, in order. Their places are their numbers
 unfoldable pub lane : Deployed → List Entry → ℕ → ℕ → ℕ → List Label
@@ -389,7 +401,8 @@ lane d h i g j = listed (lane_entry d i g j) h
 
 -- the update whose payload an entry brought to site j
 abbrev pub brought_entry : ℕ → List Entry → Entry → Option Label
-brought_entry j before entry = elim entry.answer [ ans.Brought l ↦ if is_at entry.act j then Some l else None | _ ↦ None ]
+brought_entry j before entry =
+    elim entry.answer [ ans.Brought l ↦ if is_at entry.act j then Some l else None | _ ↦ None ]
 
 -- the updates whose payloads came to j, in order
 unfoldable pub brought : List Entry → ℕ → List Label
@@ -416,7 +429,8 @@ pub record BeatNote : Type 0 where
 
 -- what a beat of i for j would say after a history
 abbrev pub note_for : Deployed → List Entry → ℕ → ℕ → BeatNote
-note_for d h i j = record { cut = cut d h i; closes = close_cut h i; counts = λ g. length (lane d (gathered h i) i g j) }
+note_for d h i j =
+    record { cut = cut d h i; closes = close_cut h i; counts = λ g. length (lane d (gathered h i) i g j) }
 
 -- what the beat says that an entry made at i for j
 abbrev pub beat_entry : Deployed → ℕ → ℕ → List Entry → Entry → Option BeatNote
@@ -524,7 +538,8 @@ known_by l = known_at l.kind l.point
 abbrev pub last_entry : Deployed → ℕ → ℕ → List Entry → Entry → Option Point
 last_entry d j i before entry =
     elim entry.answer [
-      | ans.Shown l ↦ elim entry.act [ act.Turn k ↦ if (k == j) && (l.point.site == i) then Some (known_by l) else None | _ ↦ None ]
+      | ans.Shown l ↦
+          elim entry.act [ act.Turn k ↦ if (k == j) && (l.point.site == i) then Some (known_by l) else None | _ ↦ None ]
       | ans.Took l ↦ if is_at entry.act j && (l.point.site == i) then Some (known_by l) else None
       | ans.View v ↦ if is_at entry.act j && in_stamp_mode d before j then close_cut before i (view before j) else None
       | _ ↦ None
@@ -562,8 +577,8 @@ abbrev pub reaches : ℕ → ℕ → ℕ → BeatNote → Bool
 reaches epoch ts i note =
     point_le (mark ts i) note.cut && elim (note.closes epoch) [ None ↦ true | Some p ↦ point_le (mark ts i) p ]
 
--- case 4: j is in stamp mode, the best beat of every other site reaches the client's timestamp within the view, and nothing
--- that waits at j has a timestamp up to it
+-- case 4: j is in stamp mode, the best beat of every other site reaches the client's timestamp within the view, and
+-- nothing that waits at j has a timestamp up to it
 abbrev pub case_beats : Deployed → List Entry → ℕ → ℕ → Bool
 case_beats d h c j =
     (in_stamp_mode d h j && all_others d j (λ i. best_passes (best d h j i) (reaches (view h j) (carried h c).ts i)))

@@ -136,7 +136,8 @@ sendings d h = listed (sending_entry d) h
 unfoldable pub nodes_of : Deployed → ℕ → List NodeId
 unfolding tree_of
 nodes_of d epoch =
-    elim (tree_of d epoch) [ None ↦ [] | Some tree ↦ map Site (below d.sites) ++ map Serializer (below (length tree.parents)) ]
+    elim (tree_of d epoch)
+    [ None ↦ [] | Some tree ↦ map Site (below d.sites) ++ map Serializer (below (length tree.parents)) ]
 
 -- a node has handled a label in an epoch
 abbrev pub was_handled : List Handling → ℕ → Label → NodeId → Bool
@@ -164,7 +165,8 @@ left d h =
 -- the bulk of each lane's next payload
 abbrev pub bulks : Deployed → List Act
 bulks d =
-    joined (λ i. joined (λ g. joined (λ j. if i == j then [] else act.Bulk i g j None ∷ []) (below d.sites)) (below d.gears)) (below d.sites)
+    joined (λ i. joined (λ g. joined (λ j. if i == j then [] else act.Bulk i g j None ∷ []) (below d.sites))
+    (below d.gears)) (below d.sites)
 
 -- a hop of each serializer of an epoch's tree from each of its neighbours
 unfoldable pub hops_of : ℕ → Option TreeShape → List Act
@@ -214,7 +216,8 @@ settle d h = let start = opening d h in rounds d (left d start) start
 abbrev pub capped : ℕ → ℕ
 capped n = min n (2 ^ 64 - 1)
 
--- the answer of an act after a history. A settle answers in how many rounds an act was done, and how many acts were done
+-- the answer of an act after a history. A settle answers in how many rounds an act was done, and how many acts were
+-- done
 unfoldable pub answer_of : Deployed → List Entry → Act → Answer
 unfolding answer settle
 answer_of d h act.Settle = ans.Settled (capped (settle d h).0) (capped (length (settle d h).1 - length h))

@@ -17,8 +17,8 @@ pub enum Refusal {
     SameSite,
     /// The client has a seat.
     Joined,
-    /// Something that has to come first has not come: for an attach the client's past, for a stamp what is below the next update,
-    /// for an advance the rest of the view.
+    /// Something that has to come first has not come: for an attach the client's past, for a stamp what is below the
+    /// next update, for an advance the rest of the view.
     NotYet,
     /// The sink has no label that is stable, or, for a pulse, it has one, or nothing new to tell.
     Idle,

@@ -20,7 +20,8 @@ use std::collections::HashSet;
 // Adds a name to those that were seen, and answers whether it is new.
 fn add_name<'a>(names: &mut HashSet<&'a [u8]>, name: &'a [u8]) -> Result<bool, AllocError>
     ensures added { IfOk result (λ new. new ≡ not (has_name names.old name.now)) }
-    ensures names { OnOk result ((other : List ℕ) → has_name names.new other ≡ (bytes_eq name.now other || has_name names.old other)) }
+    ensures names { OnOk result ((other : List ℕ) → has_name names.new other
+        ≡ (bytes_eq name.now other || has_name names.old other)) }
 {
     let new = names.insert(name)?;
     Ok(new)
@@ -218,7 +219,9 @@ fn wrong_size(
     clients: &[ClientLine],
     plans: &[Plan],
 ) -> Option<u16>
-    ensures part { result ≡ wrong_size (record { format = format; sites = sites; gears = gears; items = items.now; clients = clients.now; plans = plans.now }) }
+    ensures part { result
+        ≡ wrong_size
+        (record { format = format; sites = sites; gears = gears; items = items.now; clients = clients.now; plans = plans.now }) }
     ensures few_sites { result ≡ None → sites ≤ MOST_SITES }
     ensures few_items { result ≡ None → length items.now ≤ MOST_ITEMS }
 {
@@ -255,7 +258,9 @@ pub fn flaw_of(
     clients: &[ClientLine],
     plans: &[Plan],
 ) -> Option<DeploymentFault>
-    ensures flaw { result ≡ flaw (record { format = format; sites = sites; gears = gears; items = items.now; clients = clients.now; plans = plans.now }) }
+    ensures flaw { result
+        ≡ flaw
+        (record { format = format; sites = sites; gears = gears; items = items.now; clients = clients.now; plans = plans.now }) }
     ensures trees { result ≡ None → HaveTrees plans.now }
 {
     if let Some(part) = wrong_size(format, sites, gears, items, clients, plans) {

@@ -120,17 +120,19 @@ impl Model for Deployment {
 
     ghost view = { λ a. record { format = a.format; sites = a.sites; gears = a.gears; items = a.items.items; clients = a.clients.items; plans = a.plans.items } };
 
-    ghost invariant = { λ a. IsDeployment (record { format = a.format; sites = a.sites; gears = a.gears; items = a.items.items; clients = a.clients.items; plans = a.plans.items }) };
+    ghost invariant = { λ a.
+        IsDeployment
+        (record { format = a.format; sites = a.sites; gears = a.gears; items = a.items.items; clients = a.clients.items; plans = a.plans.items }) };
 }
 
 impl Deployment {
     ghost use Rattle.sat_act.specs.Limits.{IsDeployment};
     ghost use Rattle.sat_act.specs.Flaw.{flaw};
 
-    /// A deployment of format 1 or 2: 1 to 16 sites and at most 4,096 items, or 1 to 64 sites and at most 65,535 items; 1 to 8 gears
-    /// at each site, at most 1,024 clients, and the plans of 1 to 16 epochs. Its faults say what is wrong, the sizes first and of these
-    /// the format first, then the items, the clients and the plans, each in order. For want of memory it compares names pair by pair,
-    /// which takes none, so it never answers `Memory`.
+    /// A deployment of format 1 or 2: 1 to 16 sites and at most 4,096 items, or 1 to 64 sites and at most 65,535 items;
+    /// 1 to 8 gears at each site, at most 1,024 clients, and the plans of 1 to 16 epochs. Its faults say what is wrong,
+    /// the sizes first and of these the format first, then the items, the clients and the plans, each in order. For
+    /// want of memory it compares names pair by pair, which takes none, so it never answers `Memory`.
     pub fn new(
         alloc: Global,
         format: u16,
@@ -140,8 +142,12 @@ impl Deployment {
         clients: Vec<ClientLine>,
         plans: Vec<Plan>,
     ) -> Result<Self, DeploymentFault>
-        ensures deployment { IfOk result (λ d. d ≡ record { format = format; sites = sites; gears = gears; items = items.items; clients = clients.items; plans = plans.items }) }
-        ensures fault { MatchOption (flaw (record { format = format; sites = sites; gears = gears; items = items.items; clients = clients.items; plans = plans.items }))
+        ensures deployment { IfOk result
+            (λ d. d
+            ≡ record { format = format; sites = sites; gears = gears; items = items.items; clients = clients.items; plans = plans.items }) }
+        ensures fault { MatchOption
+            (flaw
+            (record { format = format; sites = sites; gears = gears; items = items.items; clients = clients.items; plans = plans.items }))
             (IsOk result)
             (λ fault. IsErrOf result fault) }
     {

@@ -59,17 +59,6 @@ capped format ws (suc m) inside = go (nat_le m 9) refl (capped format ws m (omeg
         let same : min m 10 ≡ min (suc m) 10 = omega (arith, much) in
         most_less format ws (suc m) (omega arith) lacks ∙ ap (most_with_form format ws) less ∙ later ∙ ap (most_with_form format ws) same
 
-pub most_inside : (format : ℕ) (ws : List (List ℕ)) (n : ℕ) → most_with_form format ws n ≤ n
-most_inside format ws zero = omega (arith, most_none format ws)
-most_inside format ws (suc m) = go (has_form format (take (suc m) ws)) refl (most_inside format ws m)
-  where
-    go : (b : Bool) → has_form format (take (suc m) ws) ≡ b → most_with_form format ws m ≤ m → most_with_form format ws (suc m) ≤ suc m
-    go true has later = omega (arith, most_here format ws (suc m) (omega arith) has)
-    go false lacks later =
-        let less : suc m - 1 ≡ m = omega arith in
-        let same : most_with_form format ws (suc m) ≡ most_with_form format ws m = most_less format ws (suc m) (omega arith) lacks ∙ ap (most_with_form format ws) less in
-        omega (arith, same, later)
-
 -- these words have a form, where there are any
 pub most_has : (format : ℕ) (ws : List (List ℕ)) (n : ℕ) → 0 < most_with_form format ws n → has_form format (take (most_with_form format ws n) ws) ≡ true
 most_has format ws zero some = absurd (omega (arith, some, most_none format ws))

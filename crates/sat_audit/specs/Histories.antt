@@ -42,7 +42,8 @@ AreHeardOf d heard = AllByRecursion (λ e. IsHeardOf d e) heard
 
 -- no entry makes a point that one before it made
 abbrev pub AreMadeOnce : List Heard → Type 0
-AreMadeOnce heard = (front rest : List Heard) (e : Heard) (p : Point) → heard ≡ front ++ e ∷ rest → made_in e.told ≡ Some p → was_made front p ≡ false
+AreMadeOnce heard = (front rest : List Heard) (e : Heard) (p : Point) → heard ≡ front ++ e ∷ rest
+    → made_in e.told ≡ Some p → was_made front p ≡ false
 
 -- a history that may be judged
 pub record IsHistory (h : History) : Type 0 where

@@ -38,7 +38,8 @@ has_form format (word ∷ words) = fits_form format (found_form word (length wor
 -- the most of the first words, up to so many, that have a form; 0 where none have
 unfoldable pub most_with_form : ℕ → List (List ℕ) → ℕ → ℕ
 most_with_form format words zero = 0
-most_with_form format words (suc n) = if has_form format (take (suc n) words) then suc n else most_with_form format words n
+most_with_form format words (suc n) =
+    if has_form format (take (suc n) words) then suc n else most_with_form format words n
 
 -- how many of the first words are the act: the most that have a form
 abbrev pub act_words_of : ℕ → List (List ℕ) → ℕ
@@ -69,12 +70,14 @@ makes_again heard told = elim (made_in told) [ None ↦ false | Some p ↦ was_m
 
 -- one entry more
 abbrev pub with_heard : Hearing → Act → Told → Hearing
-with_heard h a told = record { script = after h.script (parsed.Act a); heard = h.heard ++ record { act = a; told = told } ∷ [] }
+with_heard h a told =
+    record { script = after h.script (parsed.Act a); heard = h.heard ++ record { act = a; told = told } ∷ [] }
 
 -- what the words behind an act tell, or their cause
 unfoldable pub told_at : Hearing → Act → List (List ℕ) → Result Told Cause
 unfolding answered
-told_at h a words = given BadAnswer (answered h.script.header a words) (λ told. refused SamePoint (makes_again h.heard told) (Ok told))
+told_at h a words =
+    given BadAnswer (answered h.script.header a words) (λ told. refused SamePoint (makes_again h.heard told) (Ok told))
 
 -- one entry more, of what was told
 abbrev pub of_told : Hearing → Act → Result Told Cause → Result Hearing Cause
@@ -111,5 +114,6 @@ unfoldable pub history_line : Hearing → List ℕ → Result Hearing Cause
 unfolding heard_line line_at
 history_line h line =
     if is_of_act h.script.stage (words_of line)
-    then refused LongLine (nat_lt LONGEST_LINE (length line)) (needs NotText (is_text line) (heard_line h (words_of line)))
+    then refused LongLine (nat_lt LONGEST_LINE (length line))
+    (needs NotText (is_text line) (heard_line h (words_of line)))
     else as_script h (line_at h.script line)

@@ -15,7 +15,8 @@ closed h None = Ok (record { deployment = h.script.header; heard = h.heard })
 closed h (Some cause) = Err (fault_at h.script cause)
 
 -- what a line makes of it, where go_on says what the lines after it make
-abbrev pub after_line : Hearing → (Hearing → Result History ScriptFault) → Result Hearing Cause → Result History ScriptFault
+abbrev pub after_line : Hearing → (Hearing → Result History ScriptFault) → Result Hearing Cause
+    → Result History ScriptFault
 after_line h go_on (Ok later) = go_on later
 after_line h go_on (Err cause) = Err (fault_at h.script cause)
 

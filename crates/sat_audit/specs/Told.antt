@@ -28,7 +28,8 @@ point_with _ _ _ = None
 -- `TS.SITE.GEAR`, with a timestamp up to the last one, and a site and a gear of the deployment
 unfoldable pub point_of : Deployed → List (List ℕ) → Option Point
 unfolding number_up_to number_below
-point_of d (ts ∷ site ∷ gear ∷ []) = point_with (number_up_to TS_END ts) (number_below d.sites site) (number_below d.gears gear)
+point_of d (ts ∷ site ∷ gear ∷ []) =
+    point_with (number_up_to TS_END ts) (number_below d.sites site) (number_below d.gears gear)
 point_of d _ = None
 
 abbrev pub point_in : Deployed → List ℕ → Option Point
@@ -61,14 +62,17 @@ pointed d keyword _ = None
 -- `read none`, or `read L V`
 unfoldable pub read_words : Deployed → List (List ℕ) → Option Told
 unfolding point_of
-read_words d (word ∷ none ∷ []) = if bytes_eq word (codes "read") && bytes_eq none (codes "none") then Some told.ReadNone else None
-read_words d (word ∷ point ∷ value ∷ []) = if bytes_eq word (codes "read") && is_value value then option_map told.ReadSome (point_in d point) else None
+read_words d (word ∷ none ∷ []) =
+    if bytes_eq word (codes "read") && bytes_eq none (codes "none") then Some told.ReadNone else None
+read_words d (word ∷ point ∷ value ∷ []) =
+    if bytes_eq word (codes "read") && is_value value then option_map told.ReadSome (point_in d point) else None
 read_words d _ = None
 
 -- `shown X L`
 unfoldable pub shown_words : Deployed → List (List ℕ) → Option Told
 unfolding point_of are_written
-shown_words d (word ∷ names ∷ point ∷ []) = if bytes_eq word (codes "shown") && are_written d (parts_of names) then option_map told.Shown (point_in d point) else None
+shown_words d (word ∷ names ∷ point ∷ []) = if bytes_eq word (codes "shown") && are_written d (parts_of names)
+    then option_map told.Shown (point_in d point) else None
 shown_words d _ = None
 
 -- ---- the acts that have such an answer
@@ -103,14 +107,16 @@ abbrev pub begins : List ℕ → List (List ℕ) → Bool
 begins front [] = false
 begins front (word ∷ words) = starts_with ◌==◌ word front
 
--- what the text behind an act tells: one that begins as an answer of writes, reads, moves or shows has to be such an answer of that act,
--- and every other text is not read
+-- what the text behind an act tells: one that begins as an answer of writes, reads, moves or shows has to be such an
+-- answer of that act, and every other text is not read
 unfoldable pub told_in : Deployed → Act → List (List ℕ) → Option Told
 unfolding pointed read_words shown_words
 told_in d a words =
-    if begins (codes "wrote") words then only_if (is_write a) (option_map told.Wrote (pointed d (codes "wrote") words)) else
+    if begins (codes "wrote") words
+    then only_if (is_write a) (option_map told.Wrote (pointed d (codes "wrote") words)) else
     if begins (codes "read") words then only_if (is_read a) (read_words d words) else
-    if begins (codes "moved") words then only_if (is_move a) (option_map told.Moved (pointed d (codes "moved") words)) else
+    if begins (codes "moved") words
+    then only_if (is_move a) (option_map told.Moved (pointed d (codes "moved") words)) else
     if begins (codes "shown") words then only_if (is_show a) (shown_words d words) else
     Some told.Other
 

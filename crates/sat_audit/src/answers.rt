@@ -187,7 +187,8 @@ fn shown_words(
 
 // What the words of a write's answer tell.
 fn wrote_words(alloc: Global, d: &Deployment, words: &[&[u8]]) -> Result<Option<Told>, AllocError>
-    ensures { IfOk result (λ says. says ≡ option_map told.Wrote (pointed d.now (codes "wrote") (map (λ word. word.now) words.now))) }
+    ensures { IfOk result (λ says. says
+        ≡ option_map told.Wrote (pointed d.now (codes "wrote") (map (λ word. word.now) words.now))) }
 {
     match pointed(alloc, d, b"wrote", words)? {
         Some(point) => Ok(Some(Told::Wrote(point))),
@@ -197,7 +198,8 @@ fn wrote_words(alloc: Global, d: &Deployment, words: &[&[u8]]) -> Result<Option<
 
 // What the words of a move's answer tell.
 fn moved_words(alloc: Global, d: &Deployment, words: &[&[u8]]) -> Result<Option<Told>, AllocError>
-    ensures { IfOk result (λ says. says ≡ option_map told.Moved (pointed d.now (codes "moved") (map (λ word. word.now) words.now))) }
+    ensures { IfOk result (λ says. says
+        ≡ option_map told.Moved (pointed d.now (codes "moved") (map (λ word. word.now) words.now))) }
 {
     match pointed(alloc, d, b"moved", words)? {
         Some(point) => Ok(Some(Told::Moved(point))),
@@ -307,7 +309,8 @@ fn is_some_text(words: &[&[u8]]) -> bool
     }
 }
 
-/// What the words behind those of an act tell: an arrow, and a text that the act has. The header of the reader is this deployment.
+/// What the words behind those of an act tell: an arrow, and a text that the act has. The header of the reader is this
+/// deployment.
 #[tactic(auto, using(crate::proofs::Texting::answered_none, crate::proofs::Texting::answered_other, crate::proofs::Texting::answered_empty, crate::proofs::Texting::answered_text))]
 pub fn answered(
     alloc: Global,

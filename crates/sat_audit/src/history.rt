@@ -12,12 +12,13 @@ use std::alloc::Global;
 
 /// The history that a text spells, or the fault of its first bad line.
 ///
-/// A text is a header as of a script, of format 1 or 2; then at most [`AUDIT_ACTS`](sat_script::AUDIT_ACTS) lines, each an act but
-/// `settle`, ` -> ` and the text that it was answered; and `end`. The act is the most of a line's first words that have a form. An answer
-/// that begins with `wrote`, `read`, `moved` or `shown` has to be one that its act can have, else it is `BadAnswer`; any other text is not
-/// read. Of a line of an act the faults of the act come first, then `BadAnswer`, and then `SamePoint`, for a point that an earlier line was
-/// told as written or moved. `Memory` comes last and for want of memory alone, and promises nothing of its line. Time is about linear in
-/// the bytes.
+/// A text is a header as of a script, of format 1 or 2; then at most [`AUDIT_ACTS`](sat_script::AUDIT_ACTS) lines, each
+/// an act but
+/// `settle`, ` -> ` and the text that it was answered; and `end`. The act is the most of a line's first words that have
+/// a form. An answer that begins with `wrote`, `read`, `moved` or `shown` has to be one that its act can have, else it
+/// is `BadAnswer`; any other text is not read. Of a line of an act the faults of the act come first, then `BadAnswer`,
+/// and then `SamePoint`, for a point that an earlier line was told as written or moved. `Memory` comes last and for
+/// want of memory alone, and promises nothing of its line. Time is about linear in the bytes.
 #[tactic(auto, using(crate::proofs::Read::on_start, crate::proofs::Read::on_taken, crate::proofs::Read::on_refused, crate::proofs::Read::end_is, crate::proofs::Read::end_some, crate::proofs::Read::end_bad, crate::proofs::Read::closes_fresh))]
 pub fn read_history(alloc: Global, bytes: &[u8]) -> Result<History, ScriptFault>
     ensures ok { IfOk result (λ history. history_of bytes.now ≡ Ok history) }

@@ -111,10 +111,10 @@ fn sets_of(alloc: Global, items: &[Item]) -> Result<Vec<SiteSet>, AllocError>
     Ok(sets)
 }
 
-/// Judges a history: whether each site showed an update only after each cause of it that the site keeps, each update once and only
-/// such that has an item which the site keeps, and whether each client read what was no older than it had seen. Each part of the verdict
-/// is none exactly where that holds, else it names the first entry that offends, from 1. It takes memory for the entries and, for each
-/// entry of a client, a count of each client.
+/// Judges a history: whether each site showed an update only after each cause of it that the site keeps, each update
+/// once and only such that has an item which the site keeps, and whether each client read what was no older than it had
+/// seen. Each part of the verdict is none exactly where that holds, else it names the first entry that offends, from 1.
+/// It takes memory for the entries and, for each entry of a client, a count of each client.
 #[tactic(auto, using(crate::proofs::Judged::has_clients, crate::proofs::Judged::has_sites, crate::proofs::Judged::is_unique, crate::proofs::Judged::few_tales, crate::proofs::Judged::said_of, crate::proofs::Judged::one_of))]
 pub fn audit(alloc: Global, history: &History) -> Result<Verdict, AllocError>
     requires { IsHistory history.now }

@@ -33,8 +33,10 @@ fn act_in(reader: &Reader, line: &[u8], count: usize) -> Result<Act, Cause>
     requires short { length line.now ≤ LONGEST_LINE }
     requires text { is_text line.now ≡ true }
     requires count { count ≡ act_words_of reader.now.state.header.format (words_of line.now) }
-    ensures act { Gives result (act_line (bar reader.now.state) reader.now.state.header (take count (words_of line.now))) }
-    ensures reads { IfOk result (λ act. (0 < count) × (line_at reader.now.state (take (front_end count line.now) line.now) ≡ Ok (parsed.Act act))) }
+    ensures act { Gives result
+        (act_line (bar reader.now.state) reader.now.state.header (take count (words_of line.now))) }
+    ensures reads { IfOk result (λ act. (0 < count)
+        × (line_at reader.now.state (take (front_end count line.now) line.now) ≡ Ok (parsed.Act act))) }
 {
     if count == 0 {
         return Err(Cause::BadAct);

@@ -54,10 +54,6 @@ passed_stops n best (b ∷ bs) e = go (nat_le b.0 n) e
 
 -- ---- numbers ascend
 
-rises-later : (m n : ℕ) (bs : List (ℕ × Beat)) → m ≤ n → RisesFrom n bs → RisesFrom m bs
-rises-later m n [] le rises = tt
-rises-later m n (b ∷ bs) le rises = (let w : n ≤ b.0 = rises.0 in omega arith, rises.1)
-
 pub rises-in : (n : ℕ) (bs : List (ℕ × Beat)) (b : ℕ × Beat) → RisesFrom n bs → In bs b → n ≤ b.0
 rises-in n (c ∷ bs) b rises (inl e) = subst (λ (x : ℕ × Beat). n ≤ x.0) e rises.0
 rises-in n (c ∷ bs) b rises (inr m) =

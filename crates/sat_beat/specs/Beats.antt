@@ -7,7 +7,8 @@ use Rattle.sat_beat.specs.declared.Beat.{Beat}
 use Rattle.sat_beat.specs.declared.beats.BeatTake.{BeatTake}
 use Rattle.sat_beat.specs.declared.beats.BeatTake.TheVariants.{New, Again, Old}
 
--- the best beat of a site, if any, with its number, and the beats of greater numbers that were taken, each with its number
+-- the best beat of a site, if any, with its number, and the beats of greater numbers that were taken, each with its
+-- number
 pub record TakenBeats : Type 0 where
   pub best : Option (ℕ × Beat)
   pub later : List (ℕ × Beat)
@@ -34,7 +35,8 @@ is_complete fronts beat = are_reached beat.counts fronts
 -- the last complete one of some beats
 abbrev pub newest : List ℕ → List (ℕ × Beat) → Option (ℕ × Beat)
 newest fronts [] = None
-newest fronts (b ∷ bs) = elim (newest fronts bs) [ Some c ↦ Some c | None ↦ if is_complete fronts b.1 then Some b else None ]
+newest fronts (b ∷ bs) =
+    elim (newest fronts bs) [ Some c ↦ Some c | None ↦ if is_complete fronts b.1 then Some b else None ]
 
 -- the beats from the first on whose number is above n
 abbrev pub above : ℕ → List (ℕ × Beat) → List (ℕ × Beat)
@@ -85,9 +87,11 @@ has_beat (b ∷ bs) n = (b.0 == n) || has_beat bs n
 -- a beat at its place by its number
 abbrev pub placed : List (ℕ × Beat) → ℕ → Beat → List (ℕ × Beat)
 placed [] n beat = (n, beat) ∷ []
-placed (b ∷ bs) n beat = if nat_lt n b.0 then (n, beat) ∷ b ∷ bs else (if n == b.0 then (b.0, beat) ∷ bs else b ∷ placed bs n beat)
+placed (b ∷ bs) n beat =
+    if nat_lt n b.0 then (n, beat) ∷ b ∷ bs else (if n == b.0 then (b.0, beat) ∷ bs else b ∷ placed bs n beat)
 
--- what becomes of a beat that comes: it is old by the best as it is by these fronts; else it came before; else it is new
+-- what becomes of a beat that comes: it is old by the best as it is by these fronts; else it came before; else it is
+-- new
 abbrev pub take_answer : List ℕ → TakenBeats → ℕ → BeatTake
 take_answer fronts t n = if is_old (refreshed fronts t).best n then Old else (if has_beat t.later n then Again else New)
 
@@ -149,7 +153,8 @@ pub record IsBest (fronts : List ℕ) (t : TakenBeats) : Type 0 where
 abbrev pub NoneFell : List ℕ → List ℕ → Type 0
 NoneFell was fronts = (g : ℕ) → get_or was g 0 ≤ get_or fronts g 0
 
--- where the best beat, if any, was complete by fronts of which none has fallen since, the best is now the greatest complete one
+-- where the best beat, if any, was complete by fronts of which none has fallen since, the best is now the greatest
+-- complete one
 pub record KeepsBest (fronts : List ℕ) (old new : TakenBeats) : Type 0 where
   pub best : (was : List ℕ) → NoneFell was fronts → HasComplete was old → IsBest fronts new
 

@@ -18,9 +18,10 @@ pub enum BeatTake {
     Old,
 }
 
-/// The beats that a site took, by the site that sent them. A beat is complete once the front of each gear's lane from its site,
-/// the number of payloads that came without a gap, is at or above the beat's count; a gear without a front counts as 0. The best
-/// beat of a site is the complete one of the greatest number, and of the beats below it none is kept.
+/// The beats that a site took, by the site that sent them. A beat is complete once the front of each gear's lane from
+/// its site, the number of payloads that came without a gap, is at or above the beat's count; a gear without a front
+/// counts as 0. The best beat of a site is the complete one of the greatest number, and of the beats below it none is
+/// kept.
 #[derive(Drop)]
 pub struct Beats {
     gears: u16,
@@ -78,9 +79,9 @@ impl Beats {
         row.refresh(fronts);
     }
 
-    /// Takes a beat of a site, which has one count for each gear, and moves the best forward, by the front of each gear. It is
-    /// old where the best beat, so moved, has its number or a greater one; else it comes again where it was taken before. For
-    /// want of memory the beat comes back, and all is as before.
+    /// Takes a beat of a site, which has one count for each gear, and moves the best forward, by the front of each
+    /// gear. It is old where the best beat, so moved, has its number or a greater one; else it comes again where it was
+    /// taken before. For want of memory the beat comes back, and all is as before.
     #[tactic(auto, using(crate::proofs::Rows::taken_rows, crate::proofs::Rows::taken_best, crate::proofs::Rows::taken_more))]
     pub fn take(
         &mut self,
@@ -92,7 +93,8 @@ impl Beats {
         requires from { from < length self.old.rows }
         requires counts { length beat.counts ≡ self.old.gears }
         ensures answer { IfOk result (λ took. took ≡ take_answer fronts.now (taken_of self.old from) number) }
-        ensures new { OnOk result (self.new ≡ with_taken self.old from (after_take fronts.now (taken_of self.old from) number beat)) }
+        ensures new { OnOk result
+            (self.new ≡ with_taken self.old from (after_take fronts.now (taken_of self.old from) number beat)) }
         ensures best { OnOk result (KeepsBest fronts.now (taken_of self.old from) (taken_of self.new from)) }
         ensures numbers { OnOk result (HasOneMore (taken_of self.old from) number (taken_of self.new from)) }
         ensures back { IfErr result (λ back. back ≡ beat) }

@@ -10,8 +10,8 @@ pub use beats::{BeatTake, Beats};
 use sat_label::{Counts, Point, Points};
 use std::alloc::AllocError;
 
-/// A site's cut, its close cuts so far (of the epochs 1, 2 and so on), and for each of its gears the number of payloads that it
-/// made for the beat's target by its last gather.
+/// A site's cut, its close cuts so far (of the epochs 1, 2 and so on), and for each of its gears the number of payloads
+/// that it made for the beat's target by its last gather.
 #[derive(Drop)]
 pub struct Beat {
     pub cut: Point,

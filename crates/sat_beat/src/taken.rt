@@ -8,8 +8,9 @@ use std::alloc::Global;
 use std::collections::BTreeMap;
 use std::marker::Model;
 
-/// The best beat, with its number, and those of greater numbers, by number. A mark says that their counts rise with their
-/// numbers, as those of one sender do in whatever order they come; then the complete ones come first, and no other is looked at.
+/// The best beat, with its number, and those of greater numbers, by number. A mark says that their counts rise with
+/// their numbers, as those of one sender do in whatever order they come; then the complete ones come first, and no
+/// other is looked at.
 #[derive(Drop)]
 pub struct Taken {
     best: Option<(u64, Beat)>,
@@ -136,7 +137,8 @@ fn pass(best: &mut Option<(u64, Beat)>, later: &mut BTreeMap<u64, Beat>, number:
     }
 }
 
-// Fewer beats than these are taken out one by one: a map that is emptied at once gives its memory back, and asks for it anew.
+// Fewer beats than these are taken out one by one: a map that is emptied at once gives its memory back, and asks for it
+// anew.
 const MANY: usize = 16;
 
 // Whether there are many beats, and the last of them has a number up to this one.
@@ -165,7 +167,8 @@ fn pass_all(best: &mut Option<(u64, Beat)>, later: &mut BTreeMap<u64, Beat>, num
 // Takes the beats up to a number, if any, out; the last of them becomes the best.
 fn move_forward(best: &mut Option<(u64, Beat)>, later: &mut BTreeMap<u64, Beat>, to: Option<u64>)
     requires { RisesFrom (next_number best.old) later.old.entries }
-    ensures { record { best = best.new; later = later.new.entries } ≡ moved to (record { best = best.old; later = later.old.entries }) }
+    ensures { record { best = best.new; later = later.new.entries }
+        ≡ moved to (record { best = best.old; later = later.old.entries }) }
 {
     let Some(number) = to else {
         return;
@@ -177,7 +180,8 @@ fn move_forward(best: &mut Option<(u64, Beat)>, later: &mut BTreeMap<u64, Beat>,
     }
 }
 
-// Whether the counts of the next beat below a number are at or below those of a beat. Where counts rise, those of all below are.
+// Whether the counts of the next beat below a number are at or below those of a beat. Where counts rise, those of all
+// below are.
 #[tactic(auto, using(crate::proofs::Rising::none_below, crate::proofs::Rising::rises_from_last))]
 fn rises_to(later: &BTreeMap<u64, Beat>, number: u64, beat: &Beat) -> bool
     requires { CountsRise later.now.entries }
@@ -189,7 +193,8 @@ fn rises_to(later: &BTreeMap<u64, Beat>, number: u64, beat: &Beat) -> bool
     }
 }
 
-// Whether the counts of the next beat from a number on are at or above those of a beat. Where counts rise, those of all above are.
+// Whether the counts of the next beat from a number on are at or above those of a beat. Where counts rise, those of all
+// above are.
 #[tactic(auto, using(crate::proofs::Rising::none_above, crate::proofs::Rising::rises_to_first))]
 fn rises_on(later: &BTreeMap<u64, Beat>, number: u64, beat: &Beat) -> bool
     requires { CountsRise later.now.entries }
@@ -201,7 +206,8 @@ fn rises_on(later: &BTreeMap<u64, Beat>, number: u64, beat: &Beat) -> bool
     }
 }
 
-// Whether the counts of some beats, which rise or not, rise with one more. It looks at the two that it would stand between.
+// Whether the counts of some beats, which rise or not, rise with one more. It looks at the two that it would stand
+// between.
 fn goes_on(rising: bool, later: &BTreeMap<u64, Beat>, number: u64, beat: &Beat) -> bool
     requires { rising ≡ true → CountsRise later.now.entries }
     ensures rising { result ≡ true → rising ≡ true }

@@ -52,7 +52,9 @@ abbrev pub exact_turn : IsExact turn_code
 exact_turn = exact_optional label exact_label
 
 abbrev pub exact_bulk : IsExact bulk_code
-exact_bulk = exact_both number16 (both number16 (both number64 payload)) exact16 (exact_both number16 (both number64 payload) exact16 (exact_both number64 payload exact64 exact_payload))
+exact_bulk =
+    exact_both number16 (both number16 (both number64 payload)) exact16
+    (exact_both number16 (both number64 payload) exact16 (exact_both number64 payload exact64 exact_payload))
 
 abbrev pub exact_beat_in : IsExact beat_code
 exact_beat_in = exact_both number16 (both number64 beat) exact16 (exact_both number64 beat exact64 exact_beat)
@@ -154,7 +156,8 @@ input_fits given.Close = true
 input_fits given.Fall = true
 input_fits given.Advance = true
 
--- what the limits of a spelling allow: items that ascend, at most 255 values or parts, and at most 65,535 close cuts and counts
+-- what the limits of a spelling allow: items that ascend, at most 255 values or parts, and at most 65,535 close cuts
+-- and counts
 abbrev pub input_allows : SiteInput → Bool
 input_allows (given.Write seen written texts) = both_fit (ascend written) (nat_lt (length texts) 256)
 input_allows (given.Turn front) = allowed_if label_allows front
@@ -163,10 +166,14 @@ input_allows (given.BeatIn from number told) = beat_allows told
 input_allows _ = true
 
 abbrev pub input_forms : List (List ℕ → Read SiteInput)
-input_forms = (λ bytes. made tick_of (tick_code.read bytes)) ∷ (λ bytes. made write_of (write_code.read bytes)) ∷ (λ bytes. made read_of (client_code.read bytes)) ∷ (λ bytes. made move_of (client_code.read bytes))
-    ∷ (λ bytes. made given.Attach (carried.read bytes)) ∷ (λ bytes. made gather_of (nothing.read bytes)) ∷ (λ bytes. made emit_of (nothing.read bytes)) ∷ (λ bytes. made pulse_of (nothing.read bytes))
-    ∷ (λ bytes. made given.Turn (turn_code.read bytes)) ∷ (λ bytes. made bulk_of (bulk_code.read bytes)) ∷ (λ bytes. made given.Beat (number16.read bytes)) ∷ (λ bytes. made beat_in_of (beat_code.read bytes))
-    ∷ (λ bytes. made stamp_of (nothing.read bytes)) ∷ (λ bytes. made close_of (nothing.read bytes)) ∷ (λ bytes. made fall_of (nothing.read bytes)) ∷ (λ bytes. made advance_of (nothing.read bytes)) ∷ []
+input_forms = (λ bytes. made tick_of (tick_code.read bytes)) ∷ (λ bytes. made write_of (write_code.read bytes))
+    ∷ (λ bytes. made read_of (client_code.read bytes)) ∷ (λ bytes. made move_of (client_code.read bytes))
+    ∷ (λ bytes. made given.Attach (carried.read bytes)) ∷ (λ bytes. made gather_of (nothing.read bytes))
+    ∷ (λ bytes. made emit_of (nothing.read bytes)) ∷ (λ bytes. made pulse_of (nothing.read bytes))
+    ∷ (λ bytes. made given.Turn (turn_code.read bytes)) ∷ (λ bytes. made bulk_of (bulk_code.read bytes))
+    ∷ (λ bytes. made given.Beat (number16.read bytes)) ∷ (λ bytes. made beat_in_of (beat_code.read bytes))
+    ∷ (λ bytes. made stamp_of (nothing.read bytes)) ∷ (λ bytes. made close_of (nothing.read bytes))
+    ∷ (λ bytes. made fall_of (nothing.read bytes)) ∷ (λ bytes. made advance_of (nothing.read bytes)) ∷ []
 
 -- its number in a byte, and its fields in order
 abbrev pub input : Code SiteInput
@@ -180,33 +187,47 @@ are_inputs = (
   (
     form_of input_number input_fields input_fits write_of write_code exact_write 1 (λ x. refl) (λ x. refl) (λ x. refl),
     (
-      form_of input_number input_fields input_fits read_of client_code exact_client 2 (λ x. refl) (λ x. refl) (λ x. refl),
+      form_of input_number input_fields input_fits read_of client_code exact_client 2 (λ x. refl) (λ x. refl)
+          (λ x. refl),
       (
-        form_of input_number input_fields input_fits move_of client_code exact_client 3 (λ x. refl) (λ x. refl) (λ x. refl),
+        form_of input_number input_fields input_fits move_of client_code exact_client 3 (λ x. refl) (λ x. refl)
+            (λ x. refl),
         (
-          form_of input_number input_fields input_fits given.Attach carried exact_carried 4 (λ x. refl) (λ x. refl) (λ x. refl),
+          form_of input_number input_fields input_fits given.Attach carried exact_carried 4 (λ x. refl) (λ x. refl)
+              (λ x. refl),
           (
-            form_of input_number input_fields input_fits gather_of nothing exact_nothing 5 (λ x. refl) (λ x. refl) (λ x. refl),
+            form_of input_number input_fields input_fits gather_of nothing exact_nothing 5 (λ x. refl) (λ x. refl)
+                (λ x. refl),
             (
-              form_of input_number input_fields input_fits emit_of nothing exact_nothing 6 (λ x. refl) (λ x. refl) (λ x. refl),
+              form_of input_number input_fields input_fits emit_of nothing exact_nothing 6 (λ x. refl) (λ x. refl)
+                  (λ x. refl),
               (
-                form_of input_number input_fields input_fits pulse_of nothing exact_nothing 7 (λ x. refl) (λ x. refl) (λ x. refl),
+                form_of input_number input_fields input_fits pulse_of nothing exact_nothing 7 (λ x. refl) (λ x. refl)
+                    (λ x. refl),
                 (
-                  form_of input_number input_fields input_fits given.Turn turn_code exact_turn 8 (λ x. refl) (λ x. refl) (λ x. refl),
+                  form_of input_number input_fields input_fits given.Turn turn_code exact_turn 8 (λ x. refl) (λ x. refl)
+                      (λ x. refl),
                   (
-                    form_of input_number input_fields input_fits bulk_of bulk_code exact_bulk 9 (λ x. refl) (λ x. refl) (λ x. refl),
+                    form_of input_number input_fields input_fits bulk_of bulk_code exact_bulk 9 (λ x. refl) (λ x. refl)
+                        (λ x. refl),
                     (
-                      form_of input_number input_fields input_fits given.Beat number16 exact16 10 (λ x. refl) (λ x. refl) (λ x. refl),
+                      form_of input_number input_fields input_fits given.Beat number16 exact16 10 (λ x. refl)
+                          (λ x. refl) (λ x. refl),
                       (
-                        form_of input_number input_fields input_fits beat_in_of beat_code exact_beat_in 11 (λ x. refl) (λ x. refl) (λ x. refl),
+                        form_of input_number input_fields input_fits beat_in_of beat_code exact_beat_in 11 (λ x. refl)
+                            (λ x. refl) (λ x. refl),
                         (
-                          form_of input_number input_fields input_fits stamp_of nothing exact_nothing 12 (λ x. refl) (λ x. refl) (λ x. refl),
+                          form_of input_number input_fields input_fits stamp_of nothing exact_nothing 12 (λ x. refl)
+                              (λ x. refl) (λ x. refl),
                           (
-                            form_of input_number input_fields input_fits close_of nothing exact_nothing 13 (λ x. refl) (λ x. refl) (λ x. refl),
+                            form_of input_number input_fields input_fits close_of nothing exact_nothing 13 (λ x. refl)
+                                (λ x. refl) (λ x. refl),
                             (
-                              form_of input_number input_fields input_fits fall_of nothing exact_nothing 14 (λ x. refl) (λ x. refl) (λ x. refl),
+                              form_of input_number input_fields input_fits fall_of nothing exact_nothing 14 (λ x. refl)
+                                  (λ x. refl) (λ x. refl),
                               (
-                                form_of input_number input_fields input_fits advance_of nothing exact_nothing 15 (λ x. refl) (λ x. refl) (λ x. refl),
+                                form_of input_number input_fields input_fits advance_of nothing exact_nothing 15
+                                    (λ x. refl) (λ x. refl) (λ x. refl),
                                 tt,
                               ),
                             ),
@@ -225,19 +246,38 @@ are_inputs = (
   ),
 )
 
-input_again : (x : SiteInput) (rest : List ℕ) (left : ℕ) → input_fits x ≡ true → read_form cause.Form left (slice_get input_forms (input_number x)) (input_fields x ++ rest) ≡ Ok (x, rest)
-input_again (given.Tick gear ts) rest left fit = form_again input_number input_fields input_fits tick_of tick_code exact_tick 0 (λ x. refl) (λ x. refl) (λ x. refl) (gear, ts) rest fit
-input_again (given.Write seen written texts) rest left fit = form_again input_number input_fields input_fits write_of write_code exact_write 1 (λ x. refl) (λ x. refl) (λ x. refl) (seen, (written, texts)) rest fit
-input_again (given.Read seen item) rest left fit = form_again input_number input_fields input_fits read_of client_code exact_client 2 (λ x. refl) (λ x. refl) (λ x. refl) (seen, item) rest fit
-input_again (given.Move seen to) rest left fit = form_again input_number input_fields input_fits move_of client_code exact_client 3 (λ x. refl) (λ x. refl) (λ x. refl) (seen, to) rest fit
-input_again (given.Attach seen) rest left fit = form_again input_number input_fields input_fits given.Attach carried exact_carried 4 (λ x. refl) (λ x. refl) (λ x. refl) seen rest fit
+input_again : (x : SiteInput) (rest : List ℕ) (left : ℕ) → input_fits x ≡ true
+    → read_form cause.Form left (slice_get input_forms (input_number x)) (input_fields x ++ rest) ≡ Ok (x, rest)
+input_again (given.Tick gear ts) rest left fit =
+    form_again input_number input_fields input_fits tick_of tick_code exact_tick 0 (λ x. refl) (λ x. refl) (λ x. refl)
+    (gear, ts) rest fit
+input_again (given.Write seen written texts) rest left fit =
+    form_again input_number input_fields input_fits write_of write_code exact_write 1 (λ x. refl) (λ x. refl)
+    (λ x. refl) (seen, (written, texts)) rest fit
+input_again (given.Read seen item) rest left fit =
+    form_again input_number input_fields input_fits read_of client_code exact_client 2 (λ x. refl) (λ x. refl)
+    (λ x. refl) (seen, item) rest fit
+input_again (given.Move seen to) rest left fit =
+    form_again input_number input_fields input_fits move_of client_code exact_client 3 (λ x. refl) (λ x. refl)
+    (λ x. refl) (seen, to) rest fit
+input_again (given.Attach seen) rest left fit =
+    form_again input_number input_fields input_fits given.Attach carried exact_carried 4 (λ x. refl) (λ x. refl)
+    (λ x. refl) seen rest fit
 input_again given.Gather rest left fit = refl
 input_again given.Emit rest left fit = refl
 input_again given.Pulse rest left fit = refl
-input_again (given.Turn front) rest left fit = form_again input_number input_fields input_fits given.Turn turn_code exact_turn 8 (λ x. refl) (λ x. refl) (λ x. refl) front rest fit
-input_again (given.Bulk from gear number bulk) rest left fit = form_again input_number input_fields input_fits bulk_of bulk_code exact_bulk 9 (λ x. refl) (λ x. refl) (λ x. refl) (from, (gear, (number, bulk))) rest fit
-input_again (given.Beat to) rest left fit = form_again input_number input_fields input_fits given.Beat number16 exact16 10 (λ x. refl) (λ x. refl) (λ x. refl) to rest fit
-input_again (given.BeatIn from number told) rest left fit = form_again input_number input_fields input_fits beat_in_of beat_code exact_beat_in 11 (λ x. refl) (λ x. refl) (λ x. refl) (from, (number, told)) rest fit
+input_again (given.Turn front) rest left fit =
+    form_again input_number input_fields input_fits given.Turn turn_code exact_turn 8 (λ x. refl) (λ x. refl)
+    (λ x. refl) front rest fit
+input_again (given.Bulk from gear number bulk) rest left fit =
+    form_again input_number input_fields input_fits bulk_of bulk_code exact_bulk 9 (λ x. refl) (λ x. refl) (λ x. refl)
+    (from, (gear, (number, bulk))) rest fit
+input_again (given.Beat to) rest left fit =
+    form_again input_number input_fields input_fits given.Beat number16 exact16 10 (λ x. refl) (λ x. refl)
+    (λ x. refl) to rest fit
+input_again (given.BeatIn from number told) rest left fit =
+    form_again input_number input_fields input_fits beat_in_of beat_code exact_beat_in 11 (λ x. refl) (λ x. refl)
+    (λ x. refl) (from, (number, told)) rest fit
 input_again given.Stamp rest left fit = refl
 input_again given.Close rest left fit = refl
 input_again given.Fall rest left fit = refl
@@ -262,7 +302,8 @@ input_short given.Fall fit = omega arith
 input_short given.Advance fit = omega arith
 
 pub exact_input : IsExact input
-exact_input = exact_chosen input_number input_fields input_fits cause.Form 1310726 input_forms are_inputs input_again input_short
+exact_input =
+    exact_chosen input_number input_fields input_fits cause.Form 1310726 input_forms are_inputs input_again input_short
 
 -- ---- bodies
 
@@ -283,7 +324,8 @@ body_again x body fits is = ap ok_of (whole_again input exact_input body x fits 
 
 -- it is shorter than 2^32 bytes
 pub body_short : (x : SiteInput) (body : List ℕ) → input_fits x ≡ true → body ≡ body_of x → length body < 2 ^ 32
-body_short x body fits is = let few = exact_input.short x fits in let same : length body ≡ length (body_of x) = ap length is in omega (arith, few, same)
+body_short x body fits is = let few = exact_input.short x fits in let same : length body ≡ length (body_of x) =
+    ap length is in omega (arith, few, same)
 
 found_ok : (read : Result SiteInput Wrong) (x : SiteInput) → ok_of read ≡ Some x → read ≡ Ok x
 found_ok (Ok y) x is = let same : y ≡ x = cc in ap (λ (z : SiteInput). let r : Result SiteInput Wrong = Ok z in r) same

@@ -8,7 +8,8 @@ use sat_site::SiteInput;
 use sat_wire::{Cause, DecodeFault, ReadFault, Stop, Wrong};
 use std::alloc::{AllocError, Global};
 
-/// Puts the body of an input behind other bytes. It takes the room for all of it first; for want of it all is as before.
+/// Puts the body of an input behind other bytes. It takes the room for all of it first; for want of it all is as
+/// before.
 pub fn encode(given: &SiteInput, out: &mut Vec<u8>) -> Result<(), AllocError>
     requires { input_allows given.now ≡ true }
     ensures ok { OnOk result (out.new.items ≡ out.old.items ++ body_of given.now) }
@@ -62,7 +63,8 @@ pub fn decode(alloc: Global, bytes: &[u8]) -> Result<SiteInput, DecodeFault>
     ensures err { IfErr result (λ fault. Refuses fault (whole input bytes.now)) }
     ensures spelled { IfOk result (λ given. bytes.now ≡ body_of given) }
     ensures fits { IfOk result (λ given. input_fits given ≡ true) }
-    ensures found { (given : SiteInput) → input_fits given ≡ true → bytes.now ≡ body_of given → IfOk result (λ read. read ≡ given) }
+    ensures found { (given : SiteInput) → input_fits given ≡ true → bytes.now ≡ body_of given
+        → IfOk result (λ read. read ≡ given) }
     ensures refused { (given : SiteInput) → input_fits given ≡ true → bytes.now ≡ body_of given → IfErr result IsWant }
 {
     exactly(alloc, bytes)

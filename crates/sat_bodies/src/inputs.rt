@@ -10,7 +10,8 @@ use sat_site::SiteInput;
 use sat_wire::{Cause, ReadFault, Stop, Wire};
 use std::alloc::Global;
 
-/// Whether an input has a body: its items ascend, and its lists are within the counts of a spelling. It takes no memory.
+/// Whether an input has a body: its items ascend, and its lists are within the counts of a spelling. It takes no
+/// memory.
 pub fn is_allowed(input: &SiteInput) -> bool
     ensures { result ≡ input_allows input.now }
 {

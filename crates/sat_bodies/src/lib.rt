@@ -1,4 +1,5 @@
-//! The inputs of a site in bytes: the body of each, as a journal keeps it, read as it is written, and everything else refused.
+//! The inputs of a site in bytes: the body of each, as a journal keeps it, read as it is written, and everything else
+//! refused.
 #![tactic(auto)]
 
 mod bodies;

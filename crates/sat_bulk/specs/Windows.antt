@@ -29,7 +29,8 @@ placed (x ∷ xs) n = if nat_lt n x then n ∷ x ∷ xs else (if n == x then x �
 -- what is taken once a number was: it alone is new, and at the front the front moves on
 abbrev pub after_take : Numbers → ℕ → Numbers
 after_take w n =
-    if has_number w n then w else (if n == w.front then settled (n + 1) w.above else record { front = w.front; above = placed w.above n })
+    if has_number w n then w
+    else (if n == w.front then settled (n + 1) w.above else record { front = w.front; above = placed w.above n })
 
 -- numbers ascend, from one on, and none is the last of 64 bits
 abbrev pub RisesFrom : ℕ → List ℕ → Type 0

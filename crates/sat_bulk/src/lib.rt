@@ -11,7 +11,8 @@ use sat_label::{Counts, Labels};
 use std::alloc::AllocError;
 pub use window::{Take, Window};
 
-/// What a gather takes from a gear: its new labels, its promise, and for each site the number of payloads made for it so far.
+/// What a gather takes from a gear: its new labels, its promise, and for each site the number of payloads made for it
+/// so far.
 #[derive(Drop)]
 pub struct Drained {
     pub labels: Labels,

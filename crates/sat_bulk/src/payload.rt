@@ -20,8 +20,8 @@ enum Kept {
     Many(Box<Group>),
 }
 
-/// The bulk part of an update: its label, and for each of its items the value, which travel apart from the label. Copies share
-/// the versions that the update makes.
+/// The bulk part of an update: its label, and for each of its items the value, which travel apart from the label.
+/// Copies share the versions that the update makes.
 #[derive(Drop)]
 pub struct Payload {
     kept: Kept,
@@ -166,8 +166,8 @@ impl Payload {
         })
     }
 
-    /// The payload of an update with this label, which gives copies of these values to those of its items that have one here, as
-    /// it comes to a site that keeps only some of them.
+    /// The payload of an update with this label, which gives copies of these values to those of its items that have one
+    /// here, as it comes to a site that keeps only some of them.
     pub fn of_parts(
         alloc: Global,
         label: Label,
@@ -223,7 +223,8 @@ impl Payload {
     #[tactic(auto, using(crate::proofs::Payloads::only_value, crate::proofs::Payloads::value_there, crate::proofs::Payloads::value_away))]
     pub fn value(&self, place: usize) -> Option<&Value>
         requires { place < length self.now.values }
-        ensures { MatchOption result (get_or self.now.values place None ≡ None) (λ value. get_or self.now.values place None ≡ Some value.now) }
+        ensures { MatchOption result (get_or self.now.values place None ≡ None)
+            (λ value. get_or self.now.values place None ≡ Some value.now) }
     {
         match &self.kept {
             Kept::One(version) => Some(version.value()),

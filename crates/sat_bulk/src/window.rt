@@ -15,8 +15,8 @@ pub enum Take {
     Again,
 }
 
-/// The numbers of a lane that were taken, in any order: the front, below which all were, and those above it. A number costs
-/// memory only until the front has come to it.
+/// The numbers of a lane that were taken, in any order: the front, below which all were, and those above it. A number
+/// costs memory only until the front has come to it.
 #[derive(Drop)]
 pub struct Window {
     front: u64,
@@ -100,7 +100,8 @@ impl Window {
         Ok(Take::New)
     }
 
-    /// Takes a number below 2^64 - 1 that was not taken. At the front it takes no memory; for want of it all is as before.
+    /// Takes a number below 2^64 - 1 that was not taken. At the front it takes no memory; for want of it all is as
+    /// before.
     #[tactic(auto, using(crate::proofs::Windows::take_front, crate::proofs::Windows::take_above, crate::proofs::Windows::take_has, crate::proofs::Windows::take_window))]
     pub fn take_new(&mut self, number: u64) -> Result<(), AllocError>
         requires small { number + 1 < 2 ^ 64 }

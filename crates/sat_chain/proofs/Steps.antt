@@ -96,9 +96,6 @@ starts d r e z = record {
 
 -- ---- acts that leave all chains
 
-same-list : (d : Deployed) (r : ℕ) (c : List ChainEntry) (x : ChainEntry) (e z : ℕ) → plain r (x ∷ c) ≡ plain r c → hops (plain r (x ∷ c)) e z ≡ hops (plain r c) e z
-same-list d r c x e z same = ap (λ (h : List Entry). hops h e z) same
-
 pub refused-keeps : (d : Deployed) (r : ℕ) (c : List ChainEntry) (a : ChainAct) (reason : ChainRefusal) (e z : ℕ) (ch : ChainSeen) → StandsChain d r c e z ch → StandsChain d r (entry_of a (says.Refused reason) ∷ c) e z ch
 unfolding plain projected applied
 refused-keeps d r c a reason e z ch st = keeps d r c (entry_of a (says.Refused reason)) e z ch st refl refl refl

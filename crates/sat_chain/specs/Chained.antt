@@ -10,8 +10,9 @@ use Rattle.sat_chain_laws.specs.Rows.{Replica}
 use Rattle.sat_chain.specs.declared.by_node.TheConstants.{PLACES}
 use Rattle.sat_chain.specs.Tallies.{raised}
 
--- by number what each replica has, None where it has crashed; how many labels were put on the outgoing links, all together; how many
--- were taken from each neighbour, by its code; and how many pairs took effect, None where the tail has not looked yet
+-- by number what each replica has, None where it has crashed; how many labels were put on the outgoing links, all
+-- together; how many were taken from each neighbour, by its code; and how many pairs took effect, None where the tail
+-- has not looked yet
 pub record ChainSeen : Type 0 where
   pub rows : List (Option (List Pair))
   pub put : ℕ
@@ -45,7 +46,8 @@ after_look ch n = record ch { found = Some n }
 
 -- the pair at place n, which came from node u, took effect: so many labels were put on the outgoing links
 abbrev pub after_effect : ChainSeen → ℕ → NodeId → ℕ → ChainSeen
-after_effect ch n u count = record { rows = ch.rows; put = ch.put + count; taken = raised ch.taken u; found = Some (n + 1) }
+after_effect ch n u count =
+    record { rows = ch.rows; put = ch.put + count; taken = raised ch.taken u; found = Some (n + 1) }
 
 -- on how many outgoing links of serializer z a pair is put
 abbrev pub ways_on : Interested → TreeShape → ℕ → Pair → ℕ
@@ -56,8 +58,8 @@ pub record Accounts (a : Interested) (t : TreeShape) (z : ℕ) (xs : List Pair) 
   pub within : n ≤ length xs
   pub sum : sum_by (ways_on a t z) (take n xs) ≡ put
 
--- a list tells from what was put how many of its pairs took effect: their labels are of the deployment, each goes on somewhere, and some
--- of the first account for what was put
+-- a list tells from what was put how many of its pairs took effect: their labels are of the deployment, each goes on
+-- somewhere, and some of the first account for what was put
 pub record CanTell (a : Interested) (t : TreeShape) (z : ℕ) (xs : List Pair) (put : ℕ) : Type 0 where
   pub labels : (p : Pair) → In xs p → IsLabelOf a p.label
   pub each : (p : Pair) → In xs p → 0 < ways_on a t z p

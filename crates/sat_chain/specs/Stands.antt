@@ -14,8 +14,8 @@ use Rattle.sat_chain_laws.specs.ChainRuns.{IsChainRun}
 use Rattle.sat_chain.specs.Chained.{ChainSeen, row_of}
 use Rattle.sat_chain.specs.StandsChain.{StandsChain}
 
--- the world; which sites keep which items; the number of replicas of each serializer; and the chains, by epoch from 1 on and then by
--- serializer, none where an epoch's plan is stamp order
+-- the world; which sites keep which items; the number of replicas of each serializer; and the chains, by epoch from 1
+-- on and then by serializer, none where an epoch's plan is stamp order
 pub record ChainsSeen : Type 0 where
   pub world : WorldSeen
   pub interest : Interested
@@ -35,17 +35,21 @@ pub record HasChain (s : ChainsSeen) (epoch z : ℕ) (ch : ChainSeen) : Type 0 w
   pub epochs : 1 ≤ epoch
   pub at : chain_at s.chains (epoch - 1) z ≡ Some ch
 
--- chains stand for a history with chains: the world stands for the plain history, and what each chain keeps is its serializer's
+-- chains stand for a history with chains: the world stands for the plain history, and what each chain keeps is its
+-- serializer's
 pub record ChainsFor (s : ChainsSeen) (c : List ChainEntry) : Type 0 where
   pub world : StandsFor s.world (plain s.replicas c)
-  pub chains : (epoch z : ℕ) (ch : ChainSeen) → HasChain s epoch z ch → StandsChain s.world.deployment s.replicas c epoch z ch
+  pub chains : (epoch z : ℕ) (ch : ChainSeen) → HasChain s epoch z ch
+      → StandsChain s.world.deployment s.replicas c epoch z ch
 
--- the parts are those of the deployment: each serializer has a chain, and each pair in a list came over an edge of the tree
+-- the parts are those of the deployment: each serializer has a chain, and each pair in a list came over an edge of the
+-- tree
 pub record IsFrame (s : ChainsSeen) : Type 0 where
   pub deployment : IsDeployment s.world.deployment
   pub interest : s.interest ≡ interest_of s.world.deployment
   pub planned : (epoch z : ℕ) → IsActOf s.world.deployment (act.Kill epoch z) → (ch : ChainSeen) × HasChain s epoch z ch
-  pub near : (epoch z k : ℕ) (ch : ChainSeen) (xs : List Pair) (p : Pair) → HasChain s epoch z ch → row_of ch.rows k ≡ Some xs → In xs p → IsActOf s.world.deployment (act.Hop epoch p.from z)
+  pub near : (epoch z k : ℕ) (ch : ChainSeen) (xs : List Pair) (p : Pair) → HasChain s epoch z ch
+      → row_of ch.rows k ≡ Some xs → In xs p → IsActOf s.world.deployment (act.Hop epoch p.from z)
 
 -- and they stand for some history: what holds of all such histories holds of them
 pub record IsChains (s : ChainsSeen) : Type 0 where

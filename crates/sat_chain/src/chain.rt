@@ -82,12 +82,13 @@ impl Chain {
         self.replicas[k].lives()
     }
 
-    /// How many pairs of a replica's list came from a neighbour and did not take effect: those that took effect were taken from its
-    /// link. It takes no memory.
+    /// How many pairs of a replica's list came from a neighbour and did not take effect: those that took effect were
+    /// taken from its link. It takes no memory.
     pub fn ahead(&self, k: usize, from: NodeId) -> u64
         requires lives { IsSome (row_of self.now.rows k) }
         requires node { code from < PLACES }
-        ensures { (xs : List PairSeen) → row_of self.now.rows k ≡ Some xs → result ≡ length (labels_from from xs) - get_or self.now.taken (code from) 0 }
+        ensures { (xs : List PairSeen) → row_of self.now.rows k ≡ Some xs
+            → result ≡ length (labels_from from xs) - get_or self.now.taken (code from) 0 }
     {
         let count = self.replicas[k].count(from);
         count.saturating_sub(self.taken.of(from))
@@ -118,7 +119,8 @@ impl Chain {
     /// A replica that lives gains a pair. For want of memory all is as before.
     pub fn gain(&mut self, k: usize, pair: Pair) -> Result<(), AllocError>
         requires { IsSome (row_of self.old.rows k) }
-        ensures ok { OnOk result ((xs : List PairSeen) → row_of self.old.rows k ≡ Some xs → self.new ≡ after_change self.old k (xs ++ pair ∷ [])) }
+        ensures ok { OnOk result ((xs : List PairSeen) → row_of self.old.rows k ≡ Some xs
+            → self.new ≡ after_change self.old k (xs ++ pair ∷ [])) }
         ensures err { OnErr result (self.new ≡ self.old) }
     {
         self.replicas[k].gain(pair)?;
@@ -155,8 +157,8 @@ impl Chain {
         self.put
     }
 
-    /// The pair at a place of the tail's list, which came from a node, took effect: so many labels were put on the outgoing links. It
-    /// takes no memory.
+    /// The pair at a place of the tail's list, which came from a node, took effect: so many labels were put on the
+    /// outgoing links. It takes no memory.
     pub fn effect(&mut self, place: usize, from: NodeId, count: usize)
         requires place { place < 18446744073709551615 }
         requires from { get_or self.old.taken (code from) 0 < 18446744073709551615 }

@@ -26,8 +26,8 @@ use std::marker::Model;
 // What was put on the links of a serializer is counted up to here.
 const MOST_PUT: u64 = 1 << 63;
 
-/// A world whose serializers are chains of replicas. Each replica keeps a list of all labels that it ever had, so these lists grow
-/// with the history; nothing else does that the world does not keep.
+/// A world whose serializers are chains of replicas. Each replica keeps a list of all labels that it ever had, so these
+/// lists grow with the history; nothing else does that the world does not keep.
 #[derive(Drop)]
 pub struct Chains {
     world: World,
@@ -41,9 +41,11 @@ impl Model for Chains {
 
     ghost Value = { ChainsSeen };
 
-    ghost view = { λ s. record { world = s.world; interest = s.interest; replicas = s.replicas; chains = s.rows.items } };
+    ghost view = { λ s.
+        record { world = s.world; interest = s.interest; replicas = s.replicas; chains = s.rows.items } };
 
-    ghost invariant = { λ s. IsChains (record { world = s.world; interest = s.interest; replicas = s.replicas; chains = s.rows.items }) };
+    ghost invariant = { λ s.
+        IsChains (record { world = s.world; interest = s.interest; replicas = s.replicas; chains = s.rows.items }) };
 }
 
 // How many serializers a plan's tree has.
@@ -109,8 +111,9 @@ impl Chains {
         })
     }
 
-    /// Does an act and answers it. For want of memory all is as before. It asks for an act that has a line under the deployment's
-    /// header: `hop`, `kill` and `settle` have none here, since what serializers do stands in the acts of their chains.
+    /// Does an act and answers it. For want of memory all is as before. It asks for an act that has a line under the
+    /// deployment's header: `hop`, `kill` and `settle` have none here, since what serializers do stands in the acts of
+    /// their chains.
     pub fn apply(&mut self, act: &ChainAct) -> Result<ChainAnswer, AllocError>
         requires { IsChainActOf self.old.world.deployment self.old.replicas act.now }
         ensures applies { IfOk result (λ r. ChainApplies self.old act.now r self.new) }
@@ -136,8 +139,10 @@ impl Chains {
     /// The world, in which each label that took effect has hopped, and a serializer without replicas was killed.
     pub fn world(&self) -> &World
         ensures world { result.now ≡ self.now.world }
-        ensures stands { (c : List ChainEntry) → IsChainRun self.now.world.deployment self.now.replicas c → ChainsFor self.now c → StandsFor result.now (plain self.now.replicas c) }
-        ensures good { (c : List ChainEntry) → IsChainRun self.now.world.deployment self.now.replicas c → ChainsFor self.now c → IsChainGood self.now.world.deployment self.now.replicas c }
+        ensures stands { (c : List ChainEntry) → IsChainRun self.now.world.deployment self.now.replicas c
+            → ChainsFor self.now c → StandsFor result.now (plain self.now.replicas c) }
+        ensures good { (c : List ChainEntry) → IsChainRun self.now.world.deployment self.now.replicas c
+            → ChainsFor self.now c → IsChainGood self.now.world.deployment self.now.replicas c }
     {
         &self.world
     }
@@ -231,7 +236,8 @@ impl Chains {
         replica: u16,
     ) -> Result<ChainAnswer, AllocError>
         requires { IsChainActOf self.old.world.deployment self.old.replicas (ChainAct.Crash epoch serializer replica) }
-        ensures applies { IfOk result (λ r. ChainApplies self.old (ChainAct.Crash epoch serializer replica) r self.new) }
+        ensures applies { IfOk result
+            (λ r. ChainApplies self.old (ChainAct.Crash epoch serializer replica) r self.new) }
         ensures err { OnErr result (self.new ≡ self.old) }
     {
         let place = epoch as usize - 1;

@@ -29,7 +29,9 @@ pub fn gain_at(
 ) -> Result<(), AllocError>
     requires there { IsSome (chain_at rows.old.items place z) }
     requires lives { (ch : ChainSeen) → chain_at rows.old.items place z ≡ Some ch → IsSome (row_of ch.rows k) }
-    ensures ok { OnOk result ((ch : ChainSeen) (xs : List PairSeen) → chain_at rows.old.items place z ≡ Some ch → row_of ch.rows k ≡ Some xs → rows.new.items ≡ with_chain rows.old.items place z (after_change ch k (xs ++ pair ∷ []))) }
+    ensures ok { OnOk result ((ch : ChainSeen) (xs : List PairSeen) → chain_at rows.old.items place z ≡ Some ch
+        → row_of ch.rows k ≡ Some xs → rows.new.items
+        ≡ with_chain rows.old.items place z (after_change ch k (xs ++ pair ∷ []))) }
     ensures err { OnErr result (rows.new.items ≡ rows.old.items) }
 {
     rows[place].gain(z, k, pair)?;
@@ -40,7 +42,8 @@ pub fn gain_at(
 pub fn crash_at(rows: &mut Vec<Row>, place: usize, z: u16, k: usize)
     requires there { IsSome (chain_at rows.old.items place z) }
     requires replica { (ch : ChainSeen) → chain_at rows.old.items place z ≡ Some ch → k < length ch.rows }
-    ensures { (ch : ChainSeen) → chain_at rows.old.items place z ≡ Some ch → rows.new.items ≡ with_chain rows.old.items place z (after_crash ch k) }
+    ensures { (ch : ChainSeen) → chain_at rows.old.items place z ≡ Some ch
+        → rows.new.items ≡ with_chain rows.old.items place z (after_crash ch k) }
 {
     rows[place].crash(z, k);
 }
@@ -48,12 +51,14 @@ pub fn crash_at(rows: &mut Vec<Row>, place: usize, z: u16, k: usize)
 /// The tail of that chain knows how many pairs took effect. It takes no memory.
 pub fn look_at(rows: &mut Vec<Row>, place: usize, z: u16, count: usize)
     requires { IsSome (chain_at rows.old.items place z) }
-    ensures { (ch : ChainSeen) → chain_at rows.old.items place z ≡ Some ch → rows.new.items ≡ with_chain rows.old.items place z (after_look ch count) }
+    ensures { (ch : ChainSeen) → chain_at rows.old.items place z ≡ Some ch
+        → rows.new.items ≡ with_chain rows.old.items place z (after_look ch count) }
 {
     rows[place].look(z, count);
 }
 
-/// The pair at a place of its tail's list, which came from a node, took effect, and was put on so many links. It takes no memory.
+/// The pair at a place of its tail's list, which came from a node, took effect, and was put on so many links. It takes
+/// no memory.
 pub fn effect_at(
     rows: &mut Vec<Row>,
     place: usize,
@@ -64,9 +69,12 @@ pub fn effect_at(
 )
     requires there { IsSome (chain_at rows.old.items place z) }
     requires number { number < 18446744073709551615 }
-    requires from { (ch : ChainSeen) → chain_at rows.old.items place z ≡ Some ch → get_or ch.taken (code from) 0 < 18446744073709551615 }
-    requires put { (ch : ChainSeen) → chain_at rows.old.items place z ≡ Some ch → ch.put + count < 18446744073709551616 }
-    ensures { (ch : ChainSeen) → chain_at rows.old.items place z ≡ Some ch → rows.new.items ≡ with_chain rows.old.items place z (after_effect ch number from count) }
+    requires from { (ch : ChainSeen) → chain_at rows.old.items place z ≡ Some ch
+        → get_or ch.taken (code from) 0 < 18446744073709551615 }
+    requires put { (ch : ChainSeen) → chain_at rows.old.items place z ≡ Some ch
+        → ch.put + count < 18446744073709551616 }
+    ensures { (ch : ChainSeen) → chain_at rows.old.items place z ≡ Some ch
+        → rows.new.items ≡ with_chain rows.old.items place z (after_effect ch number from count) }
 {
     rows[place].effect(z, number, from, count);
 }

@@ -49,7 +49,8 @@ impl Row {
     pub fn gain(&mut self, z: u16, k: usize, pair: Pair) -> Result<(), AllocError>
         requires within { z < length self.old }
         requires lives { (ch : ChainSeen) → slice_get self.old z ≡ Some ch → IsSome (row_of ch.rows k) }
-        ensures ok { OnOk result ((ch : ChainSeen) (xs : List PairSeen) → slice_get self.old z ≡ Some ch → row_of ch.rows k ≡ Some xs → self.new ≡ set self.old z (after_change ch k (xs ++ pair ∷ []))) }
+        ensures ok { OnOk result ((ch : ChainSeen) (xs : List PairSeen) → slice_get self.old z ≡ Some ch
+            → row_of ch.rows k ≡ Some xs → self.new ≡ set self.old z (after_change ch k (xs ++ pair ∷ []))) }
         ensures err { OnErr result (self.new ≡ self.old) }
     {
         self.chains[z as usize].gain(k, pair)?;
@@ -77,9 +78,11 @@ impl Row {
     pub fn effect(&mut self, z: u16, place: usize, from: NodeId, count: usize)
         requires within { z < length self.old }
         requires place { place < 18446744073709551615 }
-        requires from { (ch : ChainSeen) → slice_get self.old z ≡ Some ch → get_or ch.taken (code from) 0 < 18446744073709551615 }
+        requires from { (ch : ChainSeen) → slice_get self.old z ≡ Some ch
+            → get_or ch.taken (code from) 0 < 18446744073709551615 }
         requires put { (ch : ChainSeen) → slice_get self.old z ≡ Some ch → ch.put + count < 18446744073709551616 }
-        ensures { (ch : ChainSeen) → slice_get self.old z ≡ Some ch → self.new ≡ set self.old z (after_effect ch place from count) }
+        ensures { (ch : ChainSeen) → slice_get self.old z ≡ Some ch
+            → self.new ≡ set self.old z (after_effect ch place from count) }
     {
         self.chains[z as usize].effect(place, from, count);
     }

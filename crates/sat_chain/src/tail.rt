@@ -18,7 +18,8 @@ use sat_tree::Tree;
 
 // Whether a label that came from a node goes on to a neighbour, by its targets and the sites beyond that.
 fn goes(targets: &SiteSet, from: NodeId, to: NodeId, side: &SiteSet) -> bool
-    ensures { (a : Interested) (t : TreeShape) (z : ℕ) (l : declared_label.Label) → a.sites ≡ length t.seats → IsFarSide t z to side.now →
+    ensures { (a : Interested) (t : TreeShape) (z : ℕ) (l : declared_label.Label) → a.sites ≡ length t.seats
+        → IsFarSide t z to side.now →
         ((k : ℕ) → bit targets.now.bits k ≡ is_for a l k) → result ≡ goes a t z from l to }
 {
     !from.is_same(&to) && targets.meets(side)
@@ -42,17 +43,19 @@ fn ways(pair: &Pair, tree: &Tree, z: u16, interest: &Interest) -> u64
     count
 }
 
-/// How many pairs of its list took effect before a replica became the tail. It is not told: it finds this from how many labels
-/// were put on the outgoing links of its serializer, all together, since each pair that took effect was put on those that it goes on
-/// to. Each pair goes on to one at least, and some number of pairs accounts for what was put; there is no other such number. It
-/// takes no memory.
+/// How many pairs of its list took effect before a replica became the tail. It is not told: it finds this from how many
+/// labels were put on the outgoing links of its serializer, all together, since each pair that took effect was put on
+/// those that it goes on to. Each pair goes on to one at least, and some number of pairs accounts for what was put;
+/// there is no other such number. It takes no memory.
 pub fn applied_by_links(list: &[Pair], put: u64, tree: &Tree, z: u16, interest: &Interest) -> usize
     requires serializer { z < length tree.now.parents }
     requires sites { interest.now.sites ≡ length tree.now.seats }
     requires labels { (p : PairSeen) → In list.now p → IsLabelOf interest.now p.label }
     requires each { (p : PairSeen) → In list.now p → 0 < ways_on interest.now tree.now z p }
-    requires some { (n : ℕ) × (n ≤ length list.now) × (sum_by (ways_on interest.now tree.now z) (take n list.now) ≡ put) }
-    ensures tells { (n : ℕ) → n ≤ length list.now → sum_by (ways_on interest.now tree.now z) (take n list.now) ≡ put → result ≡ n }
+    requires some { (n : ℕ) × (n ≤ length list.now)
+        × (sum_by (ways_on interest.now tree.now z) (take n list.now) ≡ put) }
+    ensures tells { (n : ℕ) → n ≤ length list.now → sum_by (ways_on interest.now tree.now z) (take n list.now) ≡ put
+        → result ≡ n }
 {
     let mut left = put;
     for (place, pair) in list.iter().enumerate() {
@@ -64,15 +67,17 @@ pub fn applied_by_links(list: &[Pair], put: u64, tree: &Tree, z: u16, interest: 
     list.len()
 }
 
-/// How many pairs of a tail's list took effect, as it knows, or else by what was put on the outgoing links of its serializer. It takes
-/// no memory.
+/// How many pairs of a tail's list took effect, as it knows, or else by what was put on the outgoing links of its
+/// serializer. It takes no memory.
 pub fn applied(chain: &Chain, tail: usize, tree: &Tree, z: u16, interest: &Interest) -> usize
     requires lives { IsSome (row_of chain.now.rows tail) }
     requires serializer { z < length tree.now.parents }
     requires sites { interest.now.sites ≡ length tree.now.seats }
-    requires tells { (xs : List PairSeen) → row_of chain.now.rows tail ≡ Some xs → CanTell interest.now tree.now z xs chain.now.put }
+    requires tells { (xs : List PairSeen) → row_of chain.now.rows tail ≡ Some xs
+        → CanTell interest.now tree.now z xs chain.now.put }
     ensures { (n : ℕ) → ((m : ℕ) → chain.now.found ≡ Some m → m ≡ n) →
-        ((xs : List PairSeen) → row_of chain.now.rows tail ≡ Some xs → Accounts interest.now tree.now z xs chain.now.put n) → result ≡ n }
+        ((xs : List PairSeen) → row_of chain.now.rows tail ≡ Some xs
+        → Accounts interest.now tree.now z xs chain.now.put n) → result ≡ n }
 {
     match chain.found() {
         Some(count) => count,

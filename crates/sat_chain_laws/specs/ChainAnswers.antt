@@ -20,7 +20,8 @@ use Rattle.sat_chain_laws.specs.declared.chain_answer.ChainRefusal.TheVariants a
 use Rattle.sat_chain_laws.specs.Rows.{Pair, Replica, head, next_after, tail, labels_from}
 use Rattle.sat_chain_laws.specs.Chains.{ChainEntry, seq, applied, plain}
 
--- whether a pair of serializer z's list goes on to its neighbour v: it did not come from there, and a target lies beyond
+-- whether a pair of serializer z's list goes on to its neighbour v: it did not come from there, and a target lies
+-- beyond
 abbrev pub goes_on : Deployed → TreeShape → ℕ → NodeId → Pair → Bool
 goes_on d tree z v p = not (node_eq p.from v) && goes_beyond d tree (Serializer z) v p.label
 
@@ -58,7 +59,8 @@ apply_at d epoch z n None = says.Refused why.Dead
 apply_at d epoch z n (Some last) =
     elim (slice_get last.list n) [
       | None ↦ says.Refused why.Empty
-      | Some p ↦ elim (tree_of d epoch) [ None ↦ says.Refused why.Empty | Some tree ↦ says.Plain (ans.Hopped p.label (goes_to d tree z p)) ]
+      | Some p ↦ elim (tree_of d epoch)
+          [ None ↦ says.Refused why.Empty | Some tree ↦ says.Plain (ans.Hopped p.label (goes_to d tree z p)) ]
     ]
 
 -- a replica stops
@@ -71,7 +73,8 @@ unfoldable pub chain_answer : Deployed → ℕ → List ChainEntry → ChainAct 
 unfolding answer plain seq applied head tail next_after enter_at pass_at apply_at
 chain_answer d r c (chain.Plain a) = says.Plain (answer d (plain r c) a)
 chain_answer d r c (chain.Enter epoch u z) = enter_at d (plain r c) epoch u z (head r (seq r c epoch z))
-chain_answer d r c (chain.Pass epoch z k) = pass_at (head r (seq r c epoch z)) (seq r c epoch z k) (next_after r (seq r c epoch z) k)
+chain_answer d r c (chain.Pass epoch z k) =
+    pass_at (head r (seq r c epoch z)) (seq r c epoch z k) (next_after r (seq r c epoch z) k)
 chain_answer d r c (chain.Apply epoch z) = apply_at d epoch z (applied c epoch z) (tail r (seq r c epoch z))
 chain_answer d r c (chain.Crash epoch z k) = crash_at (seq r c epoch z k)
 
@@ -85,7 +88,8 @@ is_allowed _ = true
 -- what the laws need of an act's numbers
 abbrev pub IsChainInRange : Deployed → ℕ → ChainAct → Type 0
 IsChainInRange d r (chain.Plain a) = InRange d a × (is_allowed a ≡ true)
-IsChainInRange d r (chain.Enter epoch u z) = (tree : TreeShape) × (tree_of d epoch ≡ Some tree) × (is_edge tree u (Serializer z) ≡ true)
+IsChainInRange d r (chain.Enter epoch u z) =
+    (tree : TreeShape) × (tree_of d epoch ≡ Some tree) × (is_edge tree u (Serializer z) ≡ true)
 IsChainInRange d r (chain.Pass epoch z k) = k < r
 IsChainInRange d r (chain.Apply epoch z) = Unit {0}
 IsChainInRange d r (chain.Crash epoch z k) = k < r

@@ -1,4 +1,5 @@
--- Histories with chains, the newest entry first: what each replica has, how many labels took effect, and the plain history.
+-- Histories with chains, the newest entry first: what each replica has, how many labels took effect, and the plain
+-- history.
 use Rattle.std.specs.Prelude.{ℕ, ◌+◌, Bool, false, ◌&&◌, ◌==◌, nat_lt, List, [], ◌∷◌, ◌++◌, length, Option, Some, None, is_some, slice_get, if◌then◌else◌}
 use Rattle.sat_label.specs.declared.label.Label.{Label}
 use Rattle.sat_act.specs.declared.act.Act.{Act}
@@ -33,15 +34,20 @@ handed_on row k n = elim (row k) [ None ↦ None | Some xs ↦ slice_get xs (len
 -- the living replica after k has one pair more, from k's list
 abbrev pub next_gains : ℕ → Row → ℕ → Option Change
 next_gains r row k =
-    elim (next_after r row k) [ None ↦ None | Some n ↦ elim (handed_on row k n) [ None ↦ None | Some p ↦ Some (n.number, Some (n.list ++ p ∷ [])) ] ]
+    elim (next_after r row k)
+    [ None ↦ None | Some n ↦ elim (handed_on row k n) [ None ↦ None | Some p ↦ Some (n.number, Some (n.list ++ p ∷ [])) ] ]
 
 -- how an entry changes the row of serializer z of an epoch's tree
 abbrev pub change : ℕ → ChainEntry → Row → ℕ → ℕ → Option Change
 change r x row epoch z =
     elim x.answer [
-      | says.Entered l ↦ elim x.act [ chain.Enter e u y ↦ if (e == epoch) && (y == z) then head_gains r row (record { from = u; label = l }) else None | _ ↦ None ]
-      | says.Passed l ↦ elim x.act [ chain.Pass e y k ↦ if (e == epoch) && (y == z) then next_gains r row k else None | _ ↦ None ]
-      | says.Crashed ↦ elim x.act [ chain.Crash e y k ↦ if (e == epoch) && (y == z) then Some (k, None) else None | _ ↦ None ]
+      | says.Entered l ↦
+          elim x.act
+          [ chain.Enter e u y ↦ if (e == epoch) && (y == z) then head_gains r row (record { from = u; label = l }) else None | _ ↦ None ]
+      | says.Passed l ↦
+          elim x.act [ chain.Pass e y k ↦ if (e == epoch) && (y == z) then next_gains r row k else None | _ ↦ None ]
+      | says.Crashed ↦
+          elim x.act [ chain.Crash e y k ↦ if (e == epoch) && (y == z) then Some (k, None) else None | _ ↦ None ]
       | _ ↦ None
     ]
 
@@ -58,7 +64,8 @@ seq r (x ∷ c) epoch z k = changed (seq r c epoch z) (change r x (seq r c epoch
 -- whether an entry is a done apply of serializer z
 abbrev pub is_applied : ChainEntry → ℕ → ℕ → Bool
 is_applied x epoch z =
-    elim x.answer [ says.Plain answer ↦ elim x.act [ chain.Apply e y ↦ (e == epoch) && (y == z) | _ ↦ false ] | _ ↦ false ]
+    elim x.answer
+    [ says.Plain answer ↦ elim x.act [ chain.Apply e y ↦ (e == epoch) && (y == z) | _ ↦ false ] | _ ↦ false ]
 
 -- how many applies of serializer z were done
 unfoldable pub applied : List ChainEntry → ℕ → ℕ → ℕ
@@ -78,8 +85,8 @@ abbrev pub hop_of_pair : ℕ → ℕ → Answer → Option Pair → Option Entry
 hop_of_pair epoch z answer None = None
 hop_of_pair epoch z answer (Some p) = Some (plain_entry (act.Hop epoch p.from z) answer)
 
--- what an entry is in the plain history: a plain act is itself, a done apply is the hop of its pair, the crash of the last
--- living replica is the kill of the serializer. All else is left out
+-- what an entry is in the plain history: a plain act is itself, a done apply is the hop of its pair, the crash of the
+-- last living replica is the kill of the serializer. All else is left out
 unfoldable pub projected : ℕ → List ChainEntry → ChainEntry → Option Entry
 unfolding next_pair seq head
 projected r c x =
@@ -92,7 +99,8 @@ projected r c x =
           ]
       | says.Crashed ↦
           elim x.act [
-            | chain.Crash e z k ↦ if is_some (head r (row_with (seq r c e z) k None)) then None else Some (plain_entry (act.Kill e z) ans.Killed)
+            | chain.Crash e z k ↦ if is_some (head r (row_with (seq r c e z) k None)) then None
+                else Some (plain_entry (act.Kill e z) ans.Killed)
             | _ ↦ None
           ]
       | _ ↦ None

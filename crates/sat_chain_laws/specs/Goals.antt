@@ -19,7 +19,8 @@ use Rattle.sat_chain_laws.specs.ChainRuns.{IsChainRun}
 -- the list of each living replica begins with that of each later living one
 abbrev pub BeginsWithLater : ℕ → List ChainEntry → Type 0
 BeginsWithLater r c =
-    (epoch z j k : ℕ) (xs ys : List Pair) → j < k → seq r c epoch z j ≡ Some xs → seq r c epoch z k ≡ Some ys → IsPrefix ys xs
+    (epoch z j k : ℕ) (xs ys : List Pair) → j < k → seq r c epoch z j ≡ Some xs → seq r c epoch z k ≡ Some ys
+    → IsPrefix ys xs
 
 -- how many pairs of a list go on to neighbour v
 abbrev pub going : Deployed → TreeShape → ℕ → NodeId → List Pair → ℕ
@@ -28,10 +29,11 @@ going d tree z v xs = length (filter (λ p. goes_on d tree z v p) xs)
 -- after n pairs of the list, each outgoing link has had just the labels that were put on it
 abbrev pub AccountsFor : Deployed → List Entry → ℕ → TreeShape → ℕ → List Pair → ℕ → Type 0
 AccountsFor d h epoch tree z xs n =
-    (v : NodeId) → is_edge tree (Serializer z) v ≡ true → going d tree z v (take n xs) ≡ length (entered d h epoch tree (Serializer z) v)
+    (v : NodeId) → is_edge tree (Serializer z) v ≡ true → going d tree z v (take n xs)
+    ≡ length (entered d h epoch tree (Serializer z) v)
 
--- whatever living replica becomes the tail: how many of its pairs took effect is that number, and that number alone, for
--- which each outgoing link has had just the labels that were put on it
+-- whatever living replica becomes the tail: how many of its pairs took effect is that number, and that number alone,
+-- for which each outgoing link has had just the labels that were put on it
 abbrev pub LinksTellApplied : Deployed → ℕ → List ChainEntry → Type 0
 LinksTellApplied d r c =
     (epoch z k : ℕ) (tree : TreeShape) (xs : List Pair) → tree_of d epoch ≡ Some tree → seq r c epoch z k ≡ Some xs →
@@ -51,15 +53,16 @@ put_in_all d h epoch tree z = sum_by (λ v. length (entered d h epoch tree (Seri
 abbrev pub SeatsAll : Deployed → Type 0
 SeatsAll d = (epoch : ℕ) (tree : TreeShape) → tree_of d epoch ≡ Some tree → length tree.seats ≡ d.sites
 
--- the sum of what was put on all links tells it too: each pair goes on to some neighbour, and the pairs that took effect went on
--- to as many neighbours as labels were put
+-- the sum of what was put on all links tells it too: each pair goes on to some neighbour, and the pairs that took
+-- effect went on to as many neighbours as labels were put
 abbrev pub TotalsTellApplied : Deployed → ℕ → List ChainEntry → Type 0
 TotalsTellApplied d r c =
     (epoch z k : ℕ) (tree : TreeShape) (xs : List Pair) → tree_of d epoch ≡ Some tree → seq r c epoch z k ≡ Some xs →
     ((p : Pair) → In xs p → 0 < ways d tree z p) ×
     (sum_by (ways d tree z) (take (applied c epoch z) xs) ≡ put_in_all d (plain r c) epoch tree z)
 
--- what took effect at a serializer is how the list of each of its living replicas begins, and is as much as there were done applies
+-- what took effect at a serializer is how the list of each of its living replicas begins, and is as much as there were
+-- done applies
 abbrev pub BeginsWithApplied : ℕ → List ChainEntry → Type 0
 BeginsWithApplied r c =
     (epoch z : ℕ) → (length (hops (plain r c) epoch z) ≡ applied c epoch z) ×
@@ -67,10 +70,11 @@ BeginsWithApplied r c =
 
 -- a serializer with a living replica was not killed
 abbrev pub LivesWithReplica : ℕ → List ChainEntry → Type 0
-LivesWithReplica r c = (epoch z k : ℕ) (xs : List Pair) → seq r c epoch z k ≡ Some xs → killed (plain r c) epoch z ≡ false
+LivesWithReplica r c =
+    (epoch z k : ℕ) (xs : List Pair) → seq r c epoch z k ≡ Some xs → killed (plain r c) epoch z ≡ false
 
--- what a history with chains promises: its plain history is a run, with the answers that its plain acts and done applies
--- have, and so is good
+-- what a history with chains promises: its plain history is a run, with the answers that its plain acts and done
+-- applies have, and so is good
 pub record IsChainGood (d : Deployed) (r : ℕ) (c : List ChainEntry) : Type 0 where
   pub begins : BeginsWithLater r c
   pub effect : BeginsWithApplied r c
@@ -81,4 +85,5 @@ pub record IsChainGood (d : Deployed) (r : ℕ) (c : List ChainEntry) : Type 0 w
   pub good : IsGood d (plain r c)
 
 abbrev pub EveryChainIsGood : Type 0
-EveryChainIsGood = (d : Deployed) (r : ℕ) (c : List ChainEntry) → IsValid d → HasTrees d → SeatsAll d → IsChainRun d r c → IsChainGood d r c
+EveryChainIsGood = (d : Deployed) (r : ℕ) (c : List ChainEntry) → IsValid d → HasTrees d → SeatsAll d → IsChainRun d r c
+    → IsChainGood d r c

@@ -44,7 +44,8 @@ told_with t d r c (Some a) = numbered (length c + 1) (t.answer d a (chain_answer
 
 -- the state behind a line that says this
 abbrev pub state_after : ℕ → ChainState → ChainParsed → ChainState
-state_after r s p = record { script = chain_after s.script p; entries = entries_with s.script.header r s.entries (act_in p) }
+state_after r s p =
+    record { script = chain_after s.script p; entries = entries_with s.script.header r s.entries (act_in p) }
 
 -- what a line comes to
 abbrev pub outcome : ChainTexts → ℕ → ChainState → Result ChainParsed Cause → Outcome ChainState
@@ -54,7 +55,8 @@ outcome t r s (Err cause) = stops (t.fault (fault_at s.script cause))
 -- what the end comes to, where the text may not end so
 abbrev pub closing : ChainTexts → ChainState → Option Cause → Closing
 closing t s None = record { may_go_on = may_go_on None; text = t.holdings s.script.header s.entries; status = 0 }
-closing t s (Some cause) = record { may_go_on = may_go_on (Some cause); text = t.fault (fault_at s.script cause); status = 1 }
+closing t s (Some cause) =
+    record { may_go_on = may_go_on (Some cause); text = t.fault (fault_at s.script cause); status = 1 }
 
 -- no good line has more than 4,097 bytes, with its byte 10
 unfoldable pub bytes_before : State → ℕ

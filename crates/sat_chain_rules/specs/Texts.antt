@@ -33,7 +33,8 @@ unfoldable pub chain_answers : ChainTexts → Deployed → List ChainEntry → L
 chain_answers t d [] = []
 chain_answers t d (x ∷ c) = chain_answers t d c ++ numbered (length c + 1) (t.answer d x.act x.answer)
 
--- the answers of the acts that a text's lines say, before its first bad line; where there is no deployment there are none
+-- the answers of the acts that a text's lines say, before its first bad line; where there is no deployment there are
+-- none
 abbrev pub told_under : ChainTexts → ℕ → Option Deployed → List ChainAct → List ℕ
 told_under t r None acts = []
 told_under t r (Some d) acts = chain_answers t d (chain_history d r acts)
@@ -68,13 +69,15 @@ unfoldable pub good_from : ℕ → State → List (List ℕ) → Bool
 unfolding chain_line
 good_from r s [] = may_go_on (close_at s [])
 good_from r s (rest ∷ []) = may_go_on (close_at s rest)
-good_from r s (line ∷ part ∷ parts) = elim (chain_line r s line) [ Err cause ↦ false | Ok p ↦ good_from r (chain_after s p) (part ∷ parts) ]
+good_from r s (line ∷ part ∷ parts) =
+    elim (chain_line r s line) [ Err cause ↦ false | Ok p ↦ good_from r (chain_after s p) (part ∷ parts) ]
 
 unfoldable pub chain_good : ℕ → List ℕ → Bool
 unfolding good_from
 chain_good r text = good_from r (start dialect.Chain) (slice_split is_newline text)
 
--- no text has more bytes without a bad line: 205,200 lines, each of 4,096 bytes and the byte 10, and the beginning of one more
+-- no text has more bytes without a bad line: 205,200 lines, each of 4,096 bytes and the byte 10, and the beginning of
+-- one more
 abbrev pub MOST_CHAIN_BYTES : ℕ
 MOST_CHAIN_BYTES = 840704400 + 4096
 

@@ -24,7 +24,6 @@ use Rattle.sat_script.specs.declared.line.Stage.TheVariants as stage
 use Rattle.sat_script.proofs.Stands.{limits_few}
 use Rattle.sat_chain_runs.specs.ChainTexts.{texts_of}
 use Rattle.sat_chain_runs.specs.Held.{HeldSeen, AreChainsOf, StandFor, IsHeld, StandsAt, StaysKnown, KeepsHistories, HasAnswer, GoesBy}
-use Rattle.sat_chain_runs.proofs.Reading.{deployed_is}
 use Rattle.sat_chain_runs.proofs.Going.{fit_at, chains_of, header_at}
 
 -- ---- chains to which nothing has happened
@@ -50,22 +49,6 @@ made_held old new x held reader chains replicas deployment size fresh = record {
 }
 
 -- ---- an act
-
-pub known_same : (old new : ChainsSeen) → new ≡ old → StaysKnown (Some old) (Some new)
-known_same old new is = λ c had. (c, subst (λ (x : ChainsSeen). StandFor (Some x) c) (sym is) had)
-
-pub known_next : (old new : ChainsSeen) (a : ChainAct) (r : ChainAnswer) → ChainApplies old a r new → StaysKnown (Some old) (Some new)
-known_next old new a r does = λ c had. (record { act = a; answer = r } ∷ c, (does.run c had.0 had.1, does.stands c had.0 had.1))
-
-pub has_answer : {T E : Type 0} (result : Result T E) (old new : ChainsSeen) (a : ChainAct) (r : ChainAnswer) (d : Deployed) (before now : Option ℕ) (text longer : List ℕ) → ChainApplies old a r new → d ≡ new.world.deployment → now ≡ next_front before
-    → OnOk result (longer ≡ text ++ framed now (chain_answer_text d a r)) → OnOk result (HasAnswer old before a new now text longer)
-has_answer (Ok t) old new a r d before now text longer does is number written = record {
-  answer = r;
-  applies = does;
-  number = number;
-  longer_by = written ∙ ap (λ (e : Deployed). text ++ framed now (chain_answer_text e a r)) is;
-}
-has_answer (Err e) old new a r d before now text longer does is number written = tt
 
 -- the chains of a follower that stands for a state
 has_stood : (mid : HeldSeen) (x : ChainsSeen) (c : List ChainEntry) → mid.chains ≡ Some x → StandFor mid.chains c → StandFor (Some x) c
@@ -131,13 +114,6 @@ held_act mid new x y a held body room fits is counted chains replicas deployment
       some = subst (λ (n : ℕ). 1 ≤ n) (sym replicas) held.some;
       few = subst (λ (n : ℕ). n ≤ 5) (sym replicas) held.few;
     }
-
--- what is asked of the act, of the chains that do it
-pub asks_chains : (mid : HeldSeen) (x : ChainsSeen) (a : ChainAct) → IsHeld mid → mid.reader.state.stage ≡ stage.Body → mid.chains ≡ Some x → IsChainActOf mid.reader.state.header mid.replicas a → IsChainActOf x.world.deployment x.replicas a
-asks_chains mid x a held body is fits =
-    let of = chains_of mid x held is in
-    subst (λ (k : ℕ). IsChainActOf x.world.deployment k a) (sym of.1)
-    (subst (λ (d : Deployed). IsChainActOf d mid.replicas a) (deployed_is mid.reader.state.stage mid.reader.state.header x.world.deployment of.0) fits)
 
 -- the same of a follower whose chains were made
 pub fits_mid : (old mid : HeldSeen) (a : ChainAct) → mid.reader ≡ old.reader → mid.replicas ≡ old.replicas → IsChainActOf old.reader.state.header old.replicas a → IsChainActOf mid.reader.state.header mid.replicas a

@@ -8,24 +8,18 @@ use Rattle.sat_chain.specs.Stands.{ChainsSeen, ChainsFor}
 use Rattle.sat_chain_laws.specs.Chains.{ChainEntry, plain}
 use Rattle.sat_chain_laws.specs.ChainRuns.{IsChainRun}
 use Rattle.sat_chain_laws.specs.Goals.{IsChainGood}
-use Rattle.sat_chain_rules.specs.Steps.{ChainState, closing, chain_rules}
 use Rattle.sat_chain_script.proofs.Sound.{close_ends}
-use Rattle.sat_follow.specs.ByLines.{EndsText}
-use Rattle.sat_report.specs.Faults.{fault_line}
 use Rattle.sat_report.specs.Holdings.{holdings}
 use Rattle.sat_script.specs.Grammar.{close_at}
 use Rattle.sat_script.specs.Lines.{Closes, running}
-use Rattle.sat_script.specs.State.{State, Seen, deployment_of, number_of}
-use Rattle.sat_script.specs.declared.fault.Cause.{Cause}
+use Rattle.sat_script.specs.State.{State, Seen, deployment_of}
 use Rattle.sat_script.specs.declared.fault.ScriptFault.{ScriptFault}
 use Rattle.sat_script.specs.declared.line.Stage.TheVariants as stage
 use Rattle.sat_world.specs.Seen.{WorldSeen}
 use Rattle.sat_world.specs.Stands.{StandsFor}
-use Rattle.sat_chain_runs.specs.ChainTexts.{texts_of}
-use Rattle.sat_chain_runs.specs.Held.{HeldSeen, StandFor, IsHeld, StandsAt, KeepsHistories, HasHoldings}
+use Rattle.sat_chain_runs.specs.Held.{HeldSeen, StandFor, IsHeld, HasHoldings}
 use Rattle.sat_chain_runs.proofs.Reading.{begun_at}
-use Rattle.sat_chain_runs.proofs.Going.{state_is, chains_of, header_at}
-use Rattle.sat_chain_runs.proofs.Doing.{stands_mid}
+use Rattle.sat_chain_runs.proofs.Going.{chains_of, header_at}
 
 -- ---- what the sites hold
 
@@ -53,30 +47,6 @@ module _ (v : HeldSeen) (x : ChainsSeen) (w : WorldSeen) (text longer : List ℕ
 
 -- ---- the end
 
-closed_as : (o : Option ScriptFault) (s : State) (new : Seen) (result now : Result (Unit {0}) ScriptFault) (rest : List ℕ) → o ≡ None → result ≡ now → Closes o s new result rest → Closes None s new now rest
-closed_as o s new result now rest fresh is closes =
-    subst (λ (x : Result (Unit {0}) ScriptFault). Closes None s new x rest) is (subst (λ (f : Option ScriptFault). Closes f s new result rest) fresh closes)
-
-fault_none : (v : HeldSeen) (s : ChainState) → StandsAt v s → v.reader.fault ≡ None
-fault_none v s st = ap (λ (x : Seen). x.fault) st.reader
-
--- the text may not end so
-pub fault_ends : (old : HeldSeen) (rest text longer : List ℕ) (new : Seen) (result : Result (Unit {0}) ScriptFault) (fault : ScriptFault) → result ≡ Err fault → Closes old.reader.fault old.reader.state new result rest → longer ≡ text ++ fault_line fault
-    → EndsText (chain_rules (texts_of old.replicas) old.replicas) (StandsAt old) rest text longer 1
-fault_ends old rest text longer new result fault is closes by = record {
-  added = fault_line fault;
-  longer_by = by;
-  text_is = λ s st.
-      let had = closed_as old.reader.fault old.reader.state new result (Err fault) rest (fault_none old s st) is closes in
-      let close : close_at s.script rest ≡ Some fault.cause = ap (λ (x : State). close_at x rest) (sym (state_is old s st)) ∙ had.1 in
-      let line : number_of s.script ≡ fault.line = ap number_of (sym (state_is old s st)) ∙ sym had.0 in
-      ap (λ (o : Option Cause). (closing (texts_of old.replicas) s o).text) close ∙ ap (λ (n : ℕ). fault_line (record { line = n; cause = fault.cause })) line;
-  status_is = λ s st.
-      let had = closed_as old.reader.fault old.reader.state new result (Err fault) rest (fault_none old s st) is closes in
-      let close : close_at s.script rest ≡ Some fault.cause = ap (λ (x : State). close_at x rest) (sym (state_is old s st)) ∙ had.1 in
-      ap (λ (o : Option Cause). (closing (texts_of old.replicas) s o).status) close;
-}
-
 -- it ends well
 closed_well : (o : Option ScriptFault) (s : State) (new : Seen) (result : Result (Unit {0}) ScriptFault) (rest : List ℕ) (u : Unit {0}) → result ≡ Ok u → Closes o s new result rest → (close_at s rest ≡ None) × (new ≡ running s)
 closed_well None s new (Ok t) rest u is closes = (closes.0, closes.1)
@@ -87,25 +57,3 @@ pub has_begun : (o : Option ScriptFault) (s : State) (new : Seen) (result : Resu
 has_begun o s new result rest u is closes =
     let well = closed_well o s new result rest u is closes in
     begun_at new.state stage.Ended (ap (λ (x : Seen). x.state.stage) well.1 ∙ close_ends s.stage rest well.0) refl
-
-pub closes_still : (o : Option ScriptFault) (s : State) (new : Seen) (result : Result (Unit {0}) ScriptFault) (rest : List ℕ) → Closes o s new result rest → new.state ≡ s
-closes_still None s new (Ok t) rest closes = ap (λ (x : Seen). x.state) closes.1
-closes_still None s new (Err f) rest closes = ap (λ (x : Seen). x.state) closes.2
-closes_still (Some f) s new result rest closes = ap (λ (x : Seen). x.state) closes.1
-
-pub well_ends : (old mid : HeldSeen) (rest text longer : List ℕ) (new : Seen) (result : Result (Unit {0}) ScriptFault) (u : Unit {0}) → result ≡ Ok u → Closes old.reader.fault old.reader.state new result rest
-    → mid.reader ≡ new → mid.replicas ≡ old.replicas → mid.number ≡ old.number → KeepsHistories old.chains mid.chains → HasHoldings mid text longer
-    → EndsText (chain_rules (texts_of old.replicas) old.replicas) (StandsAt old) rest text longer 0
-well_ends old mid rest text longer new result u is closes reader replicas number keeps has =
-    let well = closed_well old.reader.fault old.reader.state new result rest u is closes in record {
-      added = has.added;
-      longer_by = has.longer_by;
-      text_is = λ s st.
-          let same : running old.reader.state ≡ old.reader = ap (λ (x : State). running x) (state_is old s st) ∙ sym st.reader in
-          let now = stands_mid old mid s (reader ∙ well.1 ∙ same) number keeps st in
-          let close : close_at s.script rest ≡ None = ap (λ (x : State). close_at x rest) (sym (state_is old s st)) ∙ well.0 in
-          ap (λ (o : Option Cause). (closing (texts_of old.replicas) s o).text) close ∙ ap (λ (k : ℕ). (texts_of k).holdings s.script.header s.entries) (sym replicas) ∙ has.each s now;
-      status_is = λ s st.
-          let close : close_at s.script rest ≡ None = ap (λ (x : State). close_at x rest) (sym (state_is old s st)) ∙ well.0 in
-          ap (λ (o : Option Cause). (closing (texts_of old.replicas) s o).status) close;
-    }

@@ -13,29 +13,27 @@ use Rattle.sat_chain_script.specs.declared.form.ChainForm.{ChainForm}
 use Rattle.sat_chain_script.specs.declared.line.ChainParsed.{ChainParsed}
 use Rattle.sat_chain_script.specs.declared.line.ChainParsed.TheVariants as says
 use Rattle.sat_chain_script.proofs.Sound.{IsChainLine, chain_line_is, chain_fit, script_said}
-use Rattle.sat_follow.specs.ByLines.{Begins, GoodLine, BadLine, IsStuck, IsOpen}
-use Rattle.sat_follow.specs.Rules.{goes, stops}
-use Rattle.sat_report.specs.Faults.{fault_line}
+use Rattle.sat_follow.specs.ByLines.{Begins, GoodLine, IsStuck, IsOpen}
+use Rattle.sat_follow.specs.Rules.{goes}
 use Rattle.sat_script.specs.Grammar.{line_at, after, is_ended}
 use Rattle.sat_script.specs.Kept.{IsFit}
-use Rattle.sat_script.specs.Lines.{Takes, IsGoodLine, running}
-use Rattle.sat_script.specs.State.{State, Seen, start, deployment_of, fault_at, with_one_act}
+use Rattle.sat_script.specs.Lines.{Takes, running}
+use Rattle.sat_script.specs.State.{State, Seen, start, deployment_of, with_one_act}
 use Rattle.sat_script.specs.Words.{is_text, words_of}
 use Rattle.sat_script.specs.declared.dialect.Dialect.TheVariants as dialect
 use Rattle.sat_script.specs.declared.fault.Cause.{Cause}
-use Rattle.sat_script.specs.declared.fault.Cause.TheVariants.{Memory}
 use Rattle.sat_script.specs.declared.fault.ScriptFault.{ScriptFault}
 use Rattle.sat_script.specs.declared.limits.TheConstants.{LONGEST_LINE}
 use Rattle.sat_script.specs.declared.line.Line.{Line}
 use Rattle.sat_script.specs.declared.line.Parsed.{Parsed}
 use Rattle.sat_script.specs.declared.line.Stage.{Stage}
 use Rattle.sat_script.specs.declared.line.Stage.TheVariants as stage
-use Rattle.sat_script.proofs.Choices.{passed, skipped, same_ok}
+use Rattle.sat_script.proofs.Choices.{passed, skipped}
 use Rattle.sat_script.proofs.Fits.{fit_start, line_is, stands_after}
 use Rattle.sat_script.proofs.Stands.{Stands}
 use Rattle.sat_chain_runs.specs.ChainTexts.{texts_of}
 use Rattle.sat_chain_runs.specs.Held.{HeldSeen, AreChainsOf, StandFor, IsHeld, StandsAt, KeepsHistories, KeepsLine, GoesBy}
-use Rattle.sat_chain_runs.proofs.Reading.{not_ended, deployed_is, deployed_after, IsActLine, act_line_is, acts_grow, reader_moves}
+use Rattle.sat_chain_runs.proofs.Reading.{not_ended, deployed_is, deployed_after, IsActLine, act_line_is, reader_moves}
 
 -- ---- what holds of each state that it stands for
 
@@ -63,28 +61,6 @@ begins r v reader chains number = record {
   few = bytes_few (start dialect.Chain) (fit_start dialect.Chain) refl;
   may_go_on = open_none (texts_of r) (record { script = start dialect.Chain; entries = [] });
   bounded = omega arith;
-}
-
-pub held_start : (v : HeldSeen) → v.reader ≡ running (start dialect.Chain) → v.chains ≡ None → 1 ≤ v.replicas → v.replicas ≤ 5 → IsHeld v
-held_start v reader chains some few = record {
-  fit = subst (λ (x : Seen). IsFit x.state) (sym reader) (fit_start dialect.Chain);
-  dialect_is = ap (λ (x : Seen). x.state.dialect) reader;
-  chains_are = subst (λ (o : Option ChainsSeen). AreChainsOf (deployment_of v.reader.state) o v.replicas) (sym chains) tt;
-  known = ([], subst (λ (o : Option ChainsSeen). StandFor o []) (sym chains) refl);
-  some = some;
-  few = few;
-}
-
--- ---- a bad line
-
-pub bad_line : (old : HeldSeen) (line : List ℕ) (cause : Cause) (text longer : List ℕ) → (cause ≢ Memory) → (cause ≢ Memory → chain_line old.replicas old.reader.state line ≡ Err cause)
-    → longer ≡ text ++ fault_line (fault_at old.reader.state cause) → BadLine (chain_rules (texts_of old.replicas) old.replicas) (StandsAt old) line text longer
-bad_line old line cause text longer other refused is = record {
-  added = fault_line (fault_at old.reader.state cause);
-  longer_by = is;
-  each = λ s st.
-      ap (outcome (texts_of old.replicas) old.replicas s) (ap (λ (x : State). chain_line old.replicas x line) (sym (state_is old s st)) ∙ refused other)
-      ∙ ap (λ (x : State). stops (fault_line (fault_at x cause))) (sym (state_is old s st));
 }
 
 -- ---- a good line
@@ -202,22 +178,6 @@ held_line old new line result held takes chains replicas = elim (reader_moves ol
   | inl same ↦ held_same old new held same chains replicas
   | inr moved ↦ held_after old new line moved.0 held moved.1 moved.2 chains replicas
 ]
-
-taken_fresh : (o : Option ScriptFault) (s : State) (new : Seen) (result : Result Line ScriptFault) (l : Line) (line : List ℕ) → o ≡ None → result ≡ Ok l → Takes o s new result line → IsGoodLine s line l new
-taken_fresh o s new result l line fresh is takes =
-    subst (λ (x : Result Line ScriptFault). Takes None s new x line) is (subst (λ (f : Option ScriptFault). Takes f s new result line) fresh takes)
-
-pub keeps_line : (old new : HeldSeen) (line : List ℕ) (result : Result Line ScriptFault) (l : Line) → result ≡ Ok l → Takes old.reader.fault old.reader.state new.reader result line
-    → new.chains ≡ old.chains → new.number ≡ old.number → KeepsLine old line new
-keeps_line old new line result l is takes chains number = λ p good s st.
-    let fresh = taken_fresh old.reader.fault old.reader.state new.reader result l line (ap (λ (x : Seen). x.fault) st.reader) is takes in
-    let same : fresh.says ≡ p = same_ok fresh.says p (sym fresh.good ∙ good) in
-    record {
-      reader = fresh.goes ∙ ap (λ (q : Parsed). running (after old.reader.state q)) same ∙ ap (λ (x : State). running (after x p)) (state_is old s st);
-      number = number ∙ st.number;
-      counted = let grows = acts_grow s.script.acts p in omega (arith, st.counted, grows);
-      chains = subst (λ (o : Option ChainsSeen). StandFor o s.entries) (sym chains) st.chains;
-    }
 
 -- ---- a line that has begun
 

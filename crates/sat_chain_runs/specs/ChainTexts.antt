@@ -9,7 +9,8 @@ use Rattle.sat_follow.specs.Meaning.{Meaning}
 use Rattle.sat_report.specs.Faults.{fault_line}
 use Rattle.sat_report.specs.Holdings.{holdings}
 
--- an answer and a fault as they are told, and what the sites hold after the plain history, where each serializer has r replicas
+-- an answer and a fault as they are told, and what the sites hold after the plain history, where each serializer has r
+-- replicas
 abbrev pub texts_of : ℕ → ChainTexts
 texts_of r = record { answer = chain_answer_text; fault = fault_line; holdings = λ d c. holdings d (plain r c) }
 

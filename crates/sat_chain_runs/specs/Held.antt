@@ -18,8 +18,8 @@ use Rattle.sat_script.specs.State.{Seen, deployment_of, with_one_act}
 use Rattle.sat_script.specs.declared.dialect.Dialect.TheVariants as dialect
 use Rattle.sat_script.specs.declared.line.Parsed.{Parsed}
 
--- the reader of lines, the chains once an act or the end has needed them, how many replicas each serializer has, and the number of the
--- last answer
+-- the reader of lines, the chains once an act or the end has needed them, how many replicas each serializer has, and
+-- the number of the last answer
 pub record HeldSeen : Type 0 where
   pub reader : Seen
   pub chains : Option ChainsSeen
@@ -61,7 +61,8 @@ abbrev pub KeepsHistories : Option ChainsSeen → Option ChainsSeen → Type 0
 KeepsHistories old new = (c : List ChainEntry) → StandFor old c → StandFor new c
 
 -- an act was done and answered: its answer's line stands behind what the text was
-pub record HasAnswer (old : ChainsSeen) (before : Option ℕ) (a : ChainAct) (new : ChainsSeen) (now : Option ℕ) (text longer : List ℕ) : Type 0 where
+pub record HasAnswer (old : ChainsSeen) (before : Option ℕ) (a : ChainAct) (new : ChainsSeen) (now : Option ℕ)
+    (text longer : List ℕ) : Type 0 where
   pub answer : ChainAnswer
   pub applies : ChainApplies old a answer new
   pub number : now ≡ next_front before
@@ -71,13 +72,17 @@ pub record HasAnswer (old : ChainsSeen) (before : Option ℕ) (a : ChainAct) (ne
 pub record GoesBy (old : HeldSeen) (a : ChainAct) (new : HeldSeen) (text longer : List ℕ) : Type 0 where
   pub added : List ℕ
   pub longer_by : longer ≡ text ++ added
-  pub each : (s : ChainState) → StandsAt old s → added ≡ told_with (texts_of old.replicas) s.script.header old.replicas s.entries (Some a)
-  pub stands : (s : ChainState) → StandsAt old s → StandsAt new (record { script = with_one_act s.script; entries = entries_with s.script.header old.replicas s.entries (Some a) })
+  pub each : (s : ChainState) → StandsAt old s
+      → added ≡ told_with (texts_of old.replicas) s.script.header old.replicas s.entries (Some a)
+  pub stands : (s : ChainState) → StandsAt old s
+      → StandsAt new
+      (record { script = with_one_act s.script; entries = entries_with s.script.header old.replicas s.entries (Some a) })
 
 -- the next line, which says no act, is taken
 abbrev pub KeepsLine : HeldSeen → List ℕ → HeldSeen → Type 0
 KeepsLine old line new =
-    (p : Parsed) → line_at old.reader.state line ≡ Ok p → (s : ChainState) → StandsAt old s → StandsAt new (record { script = after s.script p; entries = s.entries })
+    (p : Parsed) → line_at old.reader.state line ≡ Ok p → (s : ChainState) → StandsAt old s
+    → StandsAt new (record { script = after s.script p; entries = s.entries })
 
 -- what the sites hold stands behind what the text was
 pub record HasHoldings (v : HeldSeen) (text longer : List ℕ) : Type 0 where

@@ -21,8 +21,8 @@ use sat_script::{Cause, Dialect, LONGEST_LINE, Parsed, Reader};
 use std::alloc::{AllocError, Global};
 use std::marker::Model;
 
-/// Takes the lines of a script with chains, does their acts, and answers them. It keeps the chains and the world, and of the script its
-/// header alone.
+/// Takes the lines of a script with chains, does their acts, and answers them. It keeps the chains and the world, and
+/// of the script its header alone.
 #[derive(Drop)]
 pub struct ChainLines {
     alloc: Global,
@@ -39,7 +39,8 @@ impl Model for ChainLines {
 
     ghost view = { λ v. record { reader = v.reader; chains = v.chains; replicas = v.replicas; number = v.number } };
 
-    ghost invariant = { λ v. IsHeld (record { reader = v.reader; chains = v.chains; replicas = v.replicas; number = v.number }) };
+    ghost invariant = { λ v.
+        IsHeld (record { reader = v.reader; chains = v.chains; replicas = v.replicas; number = v.number }) };
 }
 
 impl ChainLines {
@@ -105,9 +106,9 @@ impl LineFollower for ChainLines {
     }
 }
 
-/// A follower of scripts with chains, before the first line, where each serializer has 1 to 5 replicas. What it makes of a text is what
-/// the whole text says: the answers of the acts before the first bad line, in their one history, and then what the sites hold, or that
-/// line's fault.
+/// A follower of scripts with chains, before the first line, where each serializer has 1 to 5 replicas. What it makes
+/// of a text is what the whole text says: the answers of the acts before the first bad line, in their one history, and
+/// then what the sites hold, or that line's fault.
 pub fn chain_follower(alloc: Global, replicas: u16) -> Lines<ChainLines>
     requires some { 1 ≤ replicas }
     requires few { replicas ≤ 5 }
@@ -141,7 +142,8 @@ fn answer_act(
     ensures deployment { chains.new.world.deployment ≡ chains.old.world.deployment }
     ensures replicas { chains.new.replicas ≡ chains.old.replicas }
     ensures known { StaysKnown (Some chains.old) (Some chains.new) }
-    ensures ok { OnOk result (HasAnswer chains.old number.old act.now chains.new number.new text.old.items text.new.items) }
+    ensures ok { OnOk result
+        (HasAnswer chains.old number.old act.now chains.new number.new text.old.items text.new.items) }
 {
     let answer = chains.apply(act)?;
     number.advance();
@@ -158,7 +160,8 @@ impl ChainLines {
     ) -> Result<(), AllocError>
         requires says { chain_line self.old.replicas self.old.reader.state line.now ≡ Ok parsed }
         ensures replicas { self.new.replicas ≡ self.old.replicas }
-        ensures ok { OnOk result (GoodLine (chain_rules (texts_of self.old.replicas) self.old.replicas) (StandsAt self.old) (StandsAt self.new) line.now text.old.items text.new.items) }
+        ensures ok { OnOk result (GoodLine (chain_rules (texts_of self.old.replicas) self.old.replicas)
+            (StandsAt self.old) (StandsAt self.new) line.now text.old.items text.new.items) }
     {
         let _ = &self.replicas;
         match act_of(parsed) {
@@ -171,7 +174,8 @@ impl ChainLines {
     fn refuse(&mut self, cause: Cause, text: &mut Vec<u8>) -> Result<(), AllocError>
         ensures replicas { self.new.replicas ≡ self.old.replicas }
         ensures cause { OnOk result (cause ≢ Cause.Memory) }
-        ensures ok { OnOk result (text.new.items ≡ text.old.items ++ fault_line (fault_at self.old.reader.state cause)) }
+        ensures ok { OnOk result (text.new.items ≡ text.old.items
+            ++ fault_line (fault_at self.old.reader.state cause)) }
     {
         if cause == Cause::Memory {
             return Err(AllocError);

@@ -42,8 +42,8 @@ line_as r s line (Some f) =
     refused LongLine (nat_lt LONGEST_LINE (length line))
     (needs NotText (is_text line) (of_step (step_words r s f (words_after (words_of line)))))
 
--- what a line says, without its byte 10, or why it is refused: an act of a chain where its words have the form of one, and else what it
--- says as a line of any script
+-- what a line says, without its byte 10, or why it is refused: an act of a chain where its words have the form of one,
+-- and else what it says as a line of any script
 unfoldable pub chain_line : ℕ → State → List ℕ → Result ChainParsed Cause
 unfolding line_at step_words
 chain_line r s line = line_as r s line (form_at s.stage (words_of line))

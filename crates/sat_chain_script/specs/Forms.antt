@@ -1,4 +1,5 @@
--- The lines of the acts of chains as one table: the word that an act begins with, the kinds of the words after it, and the act that they say.
+-- The lines of the acts of chains as one table: the word that an act begins with, the kinds of the words after it, and
+-- the act that they say.
 use Rattle.std.specs.Prelude.{ℕ, List, [], ◌∷◌, Bool, ◌&&◌, ◌==◌, nat_lt, length, Option, Some, None, Result, Ok, Err, codes, if◌then◌else◌}
 use Rattle.std.specs.Str.{bytes_eq}
 use Rattle.sat_act.specs.Deployed.{Deployed}
@@ -22,7 +23,8 @@ word_of form.Pass = codes "pass"
 word_of form.Apply = codes "apply"
 word_of form.Crash = codes "crash"
 
--- what the words after it stand for: an epoch, a neighbour and a serializer as of a hop, or an epoch, a serializer and a replica
+-- what the words after it stand for: an epoch, a neighbour and a serializer as of a hop, or an epoch, a serializer and
+-- a replica
 abbrev pub kinds_of : ChainForm → List Kind
 kinds_of form.Enter = kind.Epoch ∷ kind.Node ∷ kind.Serializer ∷ []
 kinds_of form.Pass = kind.Epoch ∷ kind.Serializer ∷ kind.Count ∷ []
@@ -70,6 +72,7 @@ abbrev pub said_step : ℕ → Deployed → ChainForm → Result (List Said) Cau
 said_step r d f (Err cause) = Err cause
 said_step r d f (Ok xs) = barred (misfit r d (step_of f xs)) (Ok (step_of f xs))
 
--- the words after the first of an act of a chain: the causes are those of a hop, in their order, and then that of a replica
+-- the words after the first of an act of a chain: the causes are those of a hop, in their order, and then that of a
+-- replica
 unfoldable pub step_words : ℕ → State → ChainForm → List (List ℕ) → Result ChainAct Cause
 step_words r s f words = said_step r s.header f (kinds_say (full s) s.header (kinds_of f) words)

@@ -19,8 +19,8 @@ pub record IsGoodChain (d : Deployed) (r : ℕ) (acts : List ChainAct) : Type 0 
   pub run : IsChainRun d r (chain_history d r acts)
   pub good : IsChainGood d r (chain_history d r acts)
 
--- what is read of a text, also of one with a fault, is a deployment and acts of it, whose history is good; no acts where there is no
--- deployment; and a deployment where there is no fault
+-- what is read of a text, also of one with a fault, is a deployment and acts of it, whose history is good; no acts
+-- where there is no deployment; and a deployment where there is no fault
 pub record IsGoodChainText (r : ℕ) (x : ChainReading) : Type 0 where
   pub whole : IfSome x.deployment (λ d. IsDeployment d × AreChainActs d r x.acts × IsGoodChain d r x.acts)
   pub none : x.deployment ≡ None → x.acts ≡ []

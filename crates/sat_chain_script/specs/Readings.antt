@@ -1,4 +1,5 @@
--- What a text with chains is: the deployment and the acts of the lines before the first bad line, and that line with its cause.
+-- What a text with chains is: the deployment and the acts of the lines before the first bad line, and that line with
+-- its cause.
 use Rattle.std.specs.Prelude.{ℕ, List, [], ◌∷◌, ◌++◌, Option, Some, None, Result, Ok, Err}
 use Rattle.std.specs.List.{slice_split}
 use Rattle.sat_act.specs.Deployed.{Deployed}
@@ -52,7 +53,8 @@ chain_closed s x None = x
 chain_closed s x (Some cause) = chain_bad s x cause
 
 -- what a line makes of it, where go_on says what the lines after it make
-abbrev pub after_chain_line : State → ChainReading → (State → ChainReading → ChainReading) → Result ChainParsed Cause → ChainReading
+abbrev pub after_chain_line : State → ChainReading → (State → ChainReading → ChainReading) → Result ChainParsed Cause
+    → ChainReading
 after_chain_line s x go_on (Ok p) = go_on (chain_after s p) (with_chain_line s.header x p)
 after_chain_line s x go_on (Err cause) = chain_bad s x cause
 
@@ -61,7 +63,8 @@ unfoldable pub chain_script_from : ℕ → State → ChainReading → List (List
 unfolding chain_line number_of
 chain_script_from r s x [] = chain_closed s x (close_at s [])
 chain_script_from r s x (rest ∷ []) = chain_closed s x (close_at s rest)
-chain_script_from r s x (line ∷ part ∷ parts) = after_chain_line s x (λ later more. chain_script_from r later more (part ∷ parts)) (chain_line r s line)
+chain_script_from r s x (line ∷ part ∷ parts) =
+    after_chain_line s x (λ later more. chain_script_from r later more (part ∷ parts)) (chain_line r s line)
 
 -- what a text is
 unfoldable pub chain_reading : ℕ → List ℕ → ChainReading

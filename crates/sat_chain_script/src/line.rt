@@ -65,8 +65,8 @@ fn words_line(
     }
 }
 
-/// What the next line says, without its byte 10, where each serializer has so many replicas. `Memory` comes last, and for want of
-/// memory alone.
+/// What the next line says, without its byte 10, where each serializer has so many replicas. `Memory` comes last, and
+/// for want of memory alone.
 pub fn chain_line(reader: &Reader, replicas: u16, line: &[u8]) -> Result<ChainParsed, Cause>
     ensures { Gives result (chain_line replicas reader.now.state line.now) }
 {

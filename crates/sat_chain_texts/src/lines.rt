@@ -18,7 +18,8 @@ fn append_plain(
     answer: &Answer,
     out: &mut Vec<u8>,
 ) -> Result<(), AllocError>
-    ensures ok { OnOk result (out.new.items ≡ out.old.items ++ framed number.now (answer_text d.now (plain_act act.now) answer.now)) }
+    ensures ok { OnOk result (out.new.items ≡ out.old.items
+        ++ framed number.now (answer_text d.now (plain_act act.now) answer.now)) }
     ensures err { OnErr result (Keeps out.old.items out.new.items) }
 {
     match act {
@@ -36,7 +37,8 @@ fn append_chain_refusal(
     refusal: ChainRefusal,
     out: &mut Vec<u8>,
 ) -> Result<(), AllocError>
-    ensures ok { OnOk result (out.new.items ≡ out.old.items ++ framed number.now (codes "refused " ++ chain_refusal_text refusal)) }
+    ensures ok { OnOk result (out.new.items ≡ out.old.items
+        ++ framed number.now (codes "refused " ++ chain_refusal_text refusal)) }
     ensures err { OnErr result (Keeps out.old.items out.new.items) }
 {
     match refusal {
@@ -56,7 +58,8 @@ fn append_chain_framed(
     answer: &ChainAnswer,
     out: &mut Vec<u8>,
 ) -> Result<(), AllocError>
-    ensures ok { OnOk result (out.new.items ≡ out.old.items ++ framed number.now (chain_answer_text d.now act.now answer.now)) }
+    ensures ok { OnOk result (out.new.items ≡ out.old.items
+        ++ framed number.now (chain_answer_text d.now act.now answer.now)) }
     ensures err { OnErr result (Keeps out.old.items out.new.items) }
 {
     match answer {
@@ -68,8 +71,8 @@ fn append_chain_framed(
     }
 }
 
-/// Appends the line of the answer to an act with chains: its number and a space, if it has one, the answer's text and then a newline.
-/// No memory is taken but what `out` grows by. For want of memory `out` is as before.
+/// Appends the line of the answer to an act with chains: its number and a space, if it has one, the answer's text and
+/// then a newline. No memory is taken but what `out` grows by. For want of memory `out` is as before.
 pub fn write_chain_numbered(
     d: &Deployment,
     number: &LineFront,
@@ -77,7 +80,8 @@ pub fn write_chain_numbered(
     answer: &ChainAnswer,
     out: &mut Vec<u8>,
 ) -> Result<(), AllocError>
-    ensures ok { OnOk result (out.new.items ≡ out.old.items ++ framed number.now (chain_answer_text d.now act.now answer.now)) }
+    ensures ok { OnOk result (out.new.items ≡ out.old.items
+        ++ framed number.now (chain_answer_text d.now act.now answer.now)) }
     ensures err { OnErr result (out.new.items ≡ out.old.items) }
 {
     let length = out.len();

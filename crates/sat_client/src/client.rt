@@ -5,7 +5,8 @@ ghost use Rattle.sat_client.specs.Clients.{after_join, after_leave, after_move, 
 
 use sat_label::{Carried, Kind, Label, Point};
 
-/// A client carries one point instead of its whole past: the greatest that it wrote, read or moved with (Saturn, EuroSys
+/// A client carries one point instead of its whole past: the greatest that it wrote, read or moved with (Saturn,
+/// EuroSys
 /// 2017). It sits at a site, or at none while it moves and after it left.
 #[derive(Clone, Copy, Debug, PartialEq, Eq)]
 pub struct Client {
@@ -46,7 +47,8 @@ impl Client {
         self.carried.point = self.carried.point.greater(point);
     }
 
-    /// Notes the label of the client's move, which is above all that it saw. It has no seat until it joins the next site.
+    /// Notes the label of the client's move, which is above all that it saw. It has no seat until it joins the next
+    /// site.
     pub fn moved(&mut self, label: Label)
         requires kind { is_move label.kind ≡ true }
         requires above { point_lt self.old.carried.point label.point ≡ true }

@@ -43,16 +43,19 @@ is_of_seat (ans.Refused why.NoSession) = true
 is_of_seat (ans.Refused why.Joined) = true
 is_of_seat _ = false
 
--- A call of a session. After Ok it noted this one thing more: the act with the answer, at its node, with what its client carried before,
--- under a greater number. After an error it is as before. An act that touches no node has the session's own answer, and Worn comes of it
--- exactly where the session's number is the greatest; an act at a node is never refused for the seat
+-- A call of a session. After Ok it noted this one thing more: the act with the answer, at its node, with what its
+-- client carried before, under a greater number. After an error it is as before. An act that touches no node has the
+-- session's own answer, and Worn comes of it exactly where the session's number is the greatest; an act at a node is
+-- never refused for the seat
 pub record Did (a : Act) (result : Result Answer CallFault) (old new : SessionSeen) : Type 0 where
-  pub noted : IfOk result (λ r. new.noted ≡ old.noted ++ note new.lamport (node_of a old.client.seat) old.client.carried a r ∷ [])
+  pub noted : IfOk result (λ r. new.noted ≡ old.noted
+      ++ note new.lamport (node_of a old.client.seat) old.client.carried a r ∷ [])
   pub rises : OnOk result (old.lamport < new.lamport)
   pub client : IfOk result (λ r. new.client ≡ told a r old.client)
   pub same : new.number ≡ old.number
   pub err : OnErr result (new ≡ old)
   pub only : IfErr result IsFault
-  pub alone : node_of a old.client.seat ≡ None → IfOk result (λ r. IsSessionAnswer a (OfClient old.client.carried old.client.seat) r)
+  pub alone : node_of a old.client.seat ≡ None
+      → IfOk result (λ r. IsSessionAnswer a (OfClient old.client.carried old.client.seat) r)
   pub worn : node_of a old.client.seat ≡ None → (IsErrOf result (fault.Worn last_number) ↔ (old.lamport ≡ last_number))
   pub asked : IfOk result (λ r. is_of_seat r ≡ true → node_of a old.client.seat ≡ None)

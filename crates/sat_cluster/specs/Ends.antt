@@ -9,8 +9,10 @@ use Rattle.sat_finish.specs.Ends.{IsEnd, IsFault}
 use Rattle.sat_finish.specs.Finishing.{OpenedSeen}
 use Rattle.sat_cluster.specs.Clusters.{count_given}
 
--- the nodes that were opened, of a cluster that gave these sessions, and the sessions that came back made one journal, or none
-pub record Ends {N : Type 0} (d : Deployed) (given : List Bool) (xs : List SessionSeen) (result : Result Ended (FinishFault N)) : Type 0 where
+-- the nodes that were opened, of a cluster that gave these sessions, and the sessions that came back made one journal,
+-- or none
+pub record Ends {N : Type 0} (d : Deployed) (given : List Bool) (xs : List SessionSeen)
+    (result : Result Ended (FinishFault N)) : Type 0 where
   pub opened : OpenedSeen
   pub all_sites : length opened.sites ≡ d.sites
   pub all_serials : length opened.serials ≡ length (serial_names d)

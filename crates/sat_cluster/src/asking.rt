@@ -58,7 +58,8 @@ pub(crate) fn write_alone<N: Laid>(
     )
 }
 
-/// A write of several items by a client without a seat. That the session has no number left comes before want of memory for the values.
+/// A write of several items by a client without a seat. That the session has no number left comes before want of memory
+/// for the values.
 #[tactic(auto, using(crate::proofs::Doing::did_worn, crate::proofs::Doing::did_stop, crate::proofs::Doing::as_writes))]
 pub(crate) fn writes_alone<N: Laid>(
     session: &mut Session<N>,

@@ -124,9 +124,9 @@ impl<N: Laid + Names> Cluster<N> {
         attach_at(session, watched, site)
     }
 
-    /// A client writes an item at the site where it is seated: `NoSession` exactly where it has no seat, which the session answers
-    /// alone. `Worn`, with the greatest u64, comes there exactly where the session's number is that, and at a site only where its number
-    /// or the session's is; `Memory`. After an error the session is as before.
+    /// A client writes an item at the site where it is seated: `NoSession` exactly where it has no seat, which the
+    /// session answers alone. `Worn`, with the greatest u64, comes there exactly where the session's number is that,
+    /// and at a site only where its number or the session's is; `Memory`. After an error the session is as before.
     pub fn write<R: Wait>(
         &self,
         rt: &R,
@@ -144,8 +144,8 @@ impl<N: Laid + Names> Cluster<N> {
         }
     }
 
-    /// A client writes several items under one label at the site where it is seated, in a deployment whose format allows it. Refusals and
-    /// errors come as in `write`.
+    /// A client writes several items under one label at the site where it is seated, in a deployment whose format
+    /// allows it. Refusals and errors come as in `write`.
     pub fn writes<R: Wait>(
         &self,
         rt: &R,
@@ -205,7 +205,8 @@ impl<N: Laid + Names> Cluster<N> {
         }
     }
 
-    /// A client leaves its seat, which no node is told. `NoSession` exactly where it has none; errors come as in `write` without a seat.
+    /// A client leaves its seat, which no node is told. `NoSession` exactly where it has none; errors come as in
+    /// `write` without a seat.
     #[tactic(auto, using(crate::proofs::Doing::as_leave))]
     pub fn leave(&self, session: &mut Session<N>) -> Result<Answer, CallFault>
         requires client { session.old.number < length N.deployment.clients }
@@ -215,7 +216,8 @@ impl<N: Laid + Names> Cluster<N> {
         alone(session, Act::Leave { client })
     }
 
-    /// A client asks a site for a seat. `Joined` exactly where it has one, which the session answers alone; errors come as in `write`.
+    /// A client asks a site for a seat. `Joined` exactly where it has one, which the session answers alone; errors come
+    /// as in `write`.
     #[tactic(auto, using(crate::proofs::Doing::as_attach))]
     pub fn attach<R: Wait>(
         &self,
@@ -236,8 +238,8 @@ impl<N: Laid + Names> Cluster<N> {
         }
     }
 
-    /// The operator closes the emission epoch of a site. `Worn`, with the greatest u64, comes only where the site's number or the
-    /// session's is that; `Memory`. After an error the session is as before.
+    /// The operator closes the emission epoch of a site. `Worn`, with the greatest u64, comes only where the site's
+    /// number or the session's is that; `Memory`. After an error the session is as before.
     #[tactic(auto, using(crate::proofs::Doing::did_not))]
     pub fn close_epoch<R: Wait>(
         &self,

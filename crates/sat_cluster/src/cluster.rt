@@ -22,8 +22,8 @@ use std::alloc::{AllocError, Global};
 use std::marker::Model;
 use std::sync::{Mutex, MutexGuard, Wait};
 
-/// The sites and serializers of N's deployment, each under its lock, and which sessions were given. Contracts see the latter: by the
-/// number of its client, the operator's last. With each site lies what its passes have looked at.
+/// The sites and serializers of N's deployment, each under its lock, and which sessions were given. Contracts see the
+/// latter: by the number of its client, the operator's last. With each site lies what its passes have looked at.
 #[derive(Drop)]
 pub struct Cluster<N: Laid + Names> {
     d: Deployment,
@@ -63,8 +63,8 @@ fn count_marks(marks: &[bool]) -> u64
 }
 
 impl<N: Laid + Names> Cluster<N> {
-    /// Puts each site and each serializer of N's deployment under a lock of its own, with its ends of the links. It asks that the links
-    /// were made for that deployment, and that N's list of wires is theirs. No session was given.
+    /// Puts each site and each serializer of N's deployment under a lock of its own, with its ends of the links. It
+    /// asks that the links were made for that deployment, and that N's list of wires is theirs. No session was given.
     pub fn new(alloc: Global, d: Deployment, wires: Wires) -> Result<Cluster<N>, AllocError>
         requires deployment { N.deployment ≡ d }
         requires made { wires.deployment ≡ d }
@@ -113,8 +113,8 @@ impl<N: Laid + Names> Cluster<N> {
         }
     }
 
-    // Takes the lock of a serializer of an epoch's tree. `None` where there is none of this name, or its node has another one, which
-    // never is.
+    // Takes the lock of a serializer of an epoch's tree. `None` where there is none of this name, or its node has
+    // another one, which never is.
     pub(crate) fn serial<R: Wait>(
         &self,
         rt: &R,
@@ -151,7 +151,8 @@ impl<N: Laid + Names> Cluster<N> {
     // Gives the session of this number, which wasn't given before.
     fn give(&mut self, number: usize) -> Result<u16, SessionFault>
         requires { number < length self.old.given }
-        ensures fault { MatchOption (session_fault (Some number) self.old.given) (IsOk result) (λ fault. IsErrOf result fault) }
+        ensures fault { MatchOption (session_fault (Some number) self.old.given) (IsOk result)
+            (λ fault. IsErrOf result fault) }
         ensures ok { IfOk result (λ n. (n ≡ number) × (self.new.given ≡ set self.old.given number true)) }
         ensures err { OnErr result (self.new ≡ self.old) }
     {
@@ -178,7 +179,8 @@ impl<N: Laid + Names> Cluster<N> {
 
     // Gives the session of the client of a name, by its number.
     fn give_client(&mut self, name: &Name) -> Result<u16, SessionFault>
-        ensures fault { MatchOption (session_fault (client_of N.deployment name.now) self.old.given) (IsOk result) (λ fault. IsErrOf result fault) }
+        ensures fault { MatchOption (session_fault (client_of N.deployment name.now) self.old.given) (IsOk result)
+            (λ fault. IsErrOf result fault) }
         ensures client { IfOk result (λ n. client_of N.deployment name.now ≡ Some n) }
         ensures inside { IfOk result (λ n. n < length N.deployment.clients) }
         ensures given { IfOk result (λ n. self.new.given ≡ set self.old.given n true) }
@@ -192,18 +194,21 @@ impl<N: Laid + Names> Cluster<N> {
 
     // Gives the operator's session, by its number.
     fn give_operator(&mut self) -> Result<u16, SessionFault>
-        ensures fault { MatchOption (session_fault (Some (operator_number N.deployment)) self.old.given) (IsOk result) (λ fault. IsErrOf result fault) }
-        ensures given { IfOk result (λ n. (n ≡ operator_number N.deployment) × (self.new.given ≡ set self.old.given n true)) }
+        ensures fault { MatchOption (session_fault (Some (operator_number N.deployment)) self.old.given) (IsOk result)
+            (λ fault. IsErrOf result fault) }
+        ensures given { IfOk result (λ n. (n ≡ operator_number N.deployment)
+            × (self.new.given ≡ set self.old.given n true)) }
         ensures err { OnErr result (self.new ≡ self.old) }
     {
         let number = self.d.clients().len();
         self.give(number)
     }
 
-    /// Gives the session of the client of a name, which did nothing yet. `NoSuch` exactly where no client has the name, `Taken` exactly
-    /// where its session was given before. After an error nothing changed.
+    /// Gives the session of the client of a name, which did nothing yet. `NoSuch` exactly where no client has the name,
+    /// `Taken` exactly where its session was given before. After an error nothing changed.
     pub fn session(&mut self, alloc: Global, name: &Name) -> Result<Session<N>, SessionFault>
-        ensures fault { MatchOption (session_fault (client_of N.deployment name.now) self.old.given) (IsOk result) (λ fault. IsErrOf result fault) }
+        ensures fault { MatchOption (session_fault (client_of N.deployment name.now) self.old.given) (IsOk result)
+            (λ fault. IsErrOf result fault) }
         ensures client { IfOk result (λ s. client_of N.deployment name.now ≡ Some s.number) }
         ensures inside { IfOk result (λ s. s.number < length N.deployment.clients) }
         ensures fresh { IfOk result (λ s. (s.noted ≡ []) × (s.lamport ≡ 0)) }
@@ -216,9 +221,11 @@ impl<N: Laid + Names> Cluster<N> {
         }
     }
 
-    /// Gives the operator's session, which did nothing yet. `Taken` exactly where it was given before, and then nothing changed.
+    /// Gives the operator's session, which did nothing yet. `Taken` exactly where it was given before, and then nothing
+    /// changed.
     pub fn operator(&mut self, alloc: Global) -> Result<Session<N>, SessionFault>
-        ensures fault { MatchOption (session_fault (Some (operator_number N.deployment)) self.old.given) (IsOk result) (λ fault. IsErrOf result fault) }
+        ensures fault { MatchOption (session_fault (Some (operator_number N.deployment)) self.old.given) (IsOk result)
+            (λ fault. IsErrOf result fault) }
         ensures number { IfOk result (λ s. s.number ≡ operator_number N.deployment) }
         ensures fresh { IfOk result (λ s. (s.noted ≡ []) × (s.lamport ≡ 0)) }
         ensures given { IfOk result (λ s. self.new.given ≡ set self.old.given s.number true) }
@@ -254,8 +261,9 @@ impl<N: Laid + Names> Cluster<N> {
         )
     }
 
-    /// Takes all locks apart, and merges what nodes and sessions kept into one journal. `SessionsOut` exactly where not as many sessions
-    /// came back as were given, and else `Differ` where nodes and sessions did not keep the same of acts at nodes.
+    /// Takes all locks apart, and merges what nodes and sessions kept into one journal. `SessionsOut` exactly where not
+    /// as many sessions came back as were given, and else `Differ` where nodes and sessions did not keep the same of
+    /// acts at nodes.
     #[tactic(auto, using(crate::proofs::Ending::ends_of))]
     pub fn finish(self, alloc: Global, sessions: Vec<Session<N>>) -> Result<Ended, FinishFault<N>>
         ensures { Ends N.deployment self.given sessions.items result }

@@ -42,8 +42,9 @@ impl<N: Laid + Names> Cluster<N> {
         relay(rt, held, gate)
     }
 
-    /// Takes a node's lock and makes one pass there: how many entries the node kept. Contracts can't see what happens under a lock; what
-    /// a pass does is said by `pass` of a site and `relay` of a serializer. `Worn`, with the greatest u64, where these answered it;
+    /// Takes a node's lock and makes one pass there: how many entries the node kept. Contracts can't see what happens
+    /// under a lock; what a pass does is said by `pass` of a site and `relay` of a serializer. `Worn`, with the
+    /// greatest u64, where these answered it;
     /// `Memory`, as where the cluster has no such node, for which no caller asks.
     pub fn round<R: Wait, G: Gate>(
         &self,

@@ -6,8 +6,9 @@ use sat_machines::{Laid, SerialNode, SiteNode};
 use sat_node::{Held, Names};
 use std::alloc::{AllocError, Global};
 
-/// Room for all sites and all serializers of N's deployment, made before any is locked. It has to lie under a lock itself: a node has
-/// ends of links, which threads can't share, so that a `Vec` of nodes can't be shared either, not even an empty one.
+/// Room for all sites and all serializers of N's deployment, made before any is locked. It has to lie under a lock
+/// itself: a node has ends of links, which threads can't share, so that a `Vec` of nodes can't be shared either, not
+/// even an empty one.
 #[derive(Drop)]
 pub(crate) struct Room<N: Laid + Names> {
     pub(crate) sites: Vec<Held<SiteNode<N>, N>>,

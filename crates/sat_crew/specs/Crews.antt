@@ -22,7 +22,8 @@ IsFresh x = x.noted ≡ []
 abbrev pub own_acts : Deployed → List Act → SessionSeen → List Act
 own_acts d acts x = acts_of (session_at d x.number) acts
 
--- a session that came back: it is the same one, and by what it noted it did a front of its acts in the script, each in its turn
+-- a session that came back: it is the same one, and by what it noted it did a front of its acts in the script, each in
+-- its turn
 pub record CameBack (d : Deployed) (acts : List Act) (x y : SessionSeen) : Type 0 where
   pub same : y.number ≡ x.number
   pub front : DoesFront (own_acts d acts x) (entries_in y)
@@ -34,9 +35,12 @@ pub record CameThrough (d : Deployed) (acts : List Act) (x y : SessionSeen) : Ty
 
 -- a journal, the oldest entry first, has of these sessions what they noted, and of no other session anything
 pub record HoldsSessions (d : Deployed) (ys : List SessionSeen) (journal : List Entry) : Type 0 where
-  pub parts : (y : SessionSeen) → In ys y → session_part (reverse journal) (session_at d y.number) ≡ noted_entries y.noted
-  pub no_others : (s : Session) → ((y : SessionSeen) → In ys y → session_at d y.number ≡ s → ⊥) → session_part (reverse journal) s ≡ []
+  pub parts : (y : SessionSeen) → In ys y → session_part (reverse journal) (session_at d y.number)
+      ≡ noted_entries y.noted
+  pub no_others : (s : Session) → ((y : SessionSeen) → In ys y → session_at d y.number ≡ s → ⊥)
+      → session_part (reverse journal) s ≡ []
 
 -- in such a journal of sessions that came back, each session of the deployment did a front of its acts
 abbrev pub GiveFronts : Type 0
-GiveFronts = (d : Deployed) (acts : List Act) (xs ys : List SessionSeen) (journal : List Entry) → AllZip (CameBack d acts) xs ys → HoldsSessions d ys journal → AreFronts journal acts
+GiveFronts = (d : Deployed) (acts : List Act) (xs ys : List SessionSeen) (journal : List Entry)
+    → AllZip (CameBack d acts) xs ys → HoldsSessions d ys journal → AreFronts journal acts

@@ -17,8 +17,8 @@ abbrev pub with_tried : List Act → Option Act → List Act
 with_tried acts None = acts
 with_tried acts (Some a) = acts ++ a ∷ []
 
--- by these entries these acts were done, and behind them stand so many attaches in a row that had to wait, the last of which is this:
--- whatever comes behind the entries is read so. Each entry is of the act that came next
+-- by these entries these acts were done, and behind them stand so many attaches in a row that had to wait, the last of
+-- which is this: whatever comes behind the entries is read so. Each entry is of the act that came next
 pub record Stood (done : List Act) (n : ℕ) (o : Option Act) (es : List Entry) : Type 0 where
   pub reads : (more : List Entry) → acts_behind 0 None (es ++ more) ≡ done ++ acts_behind n o more
   pub count : (tally_from no_tally es).done ≡ length done
@@ -32,12 +32,14 @@ pub record OneMore (a : Act) (b : Bool) (old new : List Entry) : Type 0 where
   pub waiting : waits entry ≡ b
   pub more : new ≡ old ++ entry ∷ []
 
--- a try: the act has to wait, or it was done; or a call failed, of the act or of the passes behind an entry that has to wait
+-- a try: the act has to wait, or it was done; or a call failed, of the act or of the passes behind an entry that has to
+-- wait
 abbrev pub Tried : Act → Result Bool CallFault → List Entry → List Entry → Type 0
 Tried a (Ok b) old new = OneMore a b old new
 Tried a (Err f) old new = IsFault f × ((new ≡ old) ⊎ OneMore a true old new)
 
--- tries of one act in a row, behind these acts: it was done; its client gave up, behind the most of them; or a call failed
+-- tries of one act in a row, behind these acts: it was done; its client gave up, behind the most of them; or a call
+-- failed
 abbrev pub Came : List Act → Act → Result Bool CallFault → List Entry → Type 0
 Came done a (Ok true) es = Stood (done ++ a ∷ []) 0 None es
 Came done a (Ok false) es = Stood done MOST_TRIES (Some a) es

@@ -12,7 +12,8 @@ use Rattle.sat_crew.specs.declared.worker.Worker.TheVariants as worker
 use Rattle.sat_crew.specs.Crews.{entries_in, own_acts}
 use Rattle.sat_crew.specs.Standing.{Worked}
 
--- a session's worker before and after: it holds the same session. Where this had noted nothing, it did what the worker says of its acts
+-- a session's worker before and after: it holds the same session. Where this had noted nothing, it did what the worker
+-- says of its acts
 pub record Serves {N : Type 0} (d : Deployed) (acts : List Act) (x y : Caller N) : Type 0 where
   pub same : y.session.number ≡ x.session.number
   pub worked : x.session.noted ≡ [] → Worked (own_acts d acts x.session) y.fault (entries_in y.session)

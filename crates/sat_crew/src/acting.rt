@@ -121,8 +121,8 @@ fn try_act<N: Laid + Names, R: Wait, G: Gate>(
     }
 }
 
-/// Does the act: an attach that has to wait is tried again, `MOST_TRIES` times in a row at the most. False where the client gave up,
-/// after exactly so many.
+/// Does the act: an attach that has to wait is tried again, `MOST_TRIES` times in a row at the most. False where the
+/// client gave up, after exactly so many.
 #[tactic(auto, using(crate::proofs::Trying::trying_start, crate::proofs::Trying::trying_more, crate::proofs::Trying::trying_done, crate::proofs::Trying::trying_failed, crate::proofs::Trying::trying_given_up, crate::proofs::Owning::own_still))]
 pub(crate) fn do_act<N: Laid + Names, R: Wait + Clock, G: Gate>(
     rt: &R,
@@ -134,7 +134,8 @@ pub(crate) fn do_act<N: Laid + Names, R: Wait + Clock, G: Gate>(
     requires range { IsActOf N.deployment act.now }
     requires own { is_of (session_at N.deployment session.old.number) act.now ≡ true }
     ensures number { session.new.number ≡ session.old.number }
-    ensures came { (done : List Deed) → Stood done 0 None (entries_in session.old) → Came done act.now result (entries_in session.new) }
+    ensures came { (done : List Deed) → Stood done 0 None (entries_in session.old)
+        → Came done act.now result (entries_in session.new) }
     ensures fault { IfErr result IsFault }
 {
     'trying: for tries in 0..MOST_TRIES {

@@ -1,4 +1,5 @@
-//! A crew: each session of a cluster does its acts of a script, in a thread of its own, and each node makes its passes in one.
+//! A crew: each session of a cluster does its acts of a script, in a thread of its own, and each node makes its passes
+//! in one.
 #![tactic(auto)]
 
 mod acting;
@@ -15,8 +16,8 @@ ghost use Rattle.sat_crew.specs.Crews.{GiveFronts};
 pub use fault::CrewFault;
 pub use together::crew;
 
-/// Where a journal has of the sessions that came back what they noted, and of no other session anything, what each session did in it is a
-/// front of its acts, each in its turn.
+/// Where a journal has of the sessions that came back what they noted, and of no other session anything, what each
+/// session did in it is a front of its acts, each in its turn.
 pub fn fronts()
     ensures fronts { GiveFronts }
 {}

@@ -15,7 +15,8 @@ use std::time::Clock;
 /// How many passes over all nodes are made at the end, at the most.
 pub const MOST_PASSES: u64 = 1_000;
 
-/// Behind so many passes of one node in a row during which no session's worker was at work, some two seconds, its own makes no more.
+/// Behind so many passes of one node in a row during which no session's worker was at work, some two seconds, its own
+/// makes no more.
 pub const IDLE_PASSES: u64 = 2_000;
 
 /// Behind so many passes over all nodes in a row that added no entry, no more are made.
@@ -79,9 +80,9 @@ fn in_row(before: u64, again: bool) -> u64 {
     if again { before.saturating_add(1) } else { 0 }
 }
 
-/// Passes of one node, until all sessions' workers have returned, with a pause behind each, longer behind several that added no entry.
-/// Where threads are few, some sessions' workers begin only once this returns: so it also does after `IDLE_PASSES` during which none was
-/// at work, and from then on each other node's does once it finds none at work.
+/// Passes of one node, until all sessions' workers have returned, with a pause behind each, longer behind several that
+/// added no entry. Where threads are few, some sessions' workers begin only once this returns: so it also does after
+/// `IDLE_PASSES` during which none was at work, and from then on each other node's does once it finds none at work.
 pub(crate) fn pass_until<N: Laid + Names, R: Wait + Clock, G: Gate>(
     rt: &R,
     cluster: &Cluster<N>,

@@ -1,7 +1,8 @@
 //! Which sessions' workers have returned, and which are at work.
 use std::sync::atomic::{AtomicBool, AtomicU64, Ordering};
 
-/// How many sessions' workers have not returned, how many of these have begun, and whether a node's worker gave up waiting for one.
+/// How many sessions' workers have not returned, how many of these have begun, and whether a node's worker gave up
+/// waiting for one.
 #[derive(Drop)]
 pub(crate) struct Roll {
     left: AtomicU64,

@@ -32,7 +32,8 @@ fn serve<N: Laid + Names, R: Wait + Clock, G: Gate>(
 ) -> Result<(), CallFault>
     requires acts { AllByRecursion (IsActOf N.deployment) acts.now }
     ensures number { session.new.number ≡ session.old.number }
-    ensures worked { session.old.noted ≡ [] → Worked (own_acts N.deployment acts.now session.old) (result_err result) (entries_in session.new) }
+    ensures worked { session.old.noted ≡ []
+        → Worked (own_acts N.deployment acts.now session.old) (result_err result) (entries_in session.new) }
     ensures fault { IfErr result IsFault }
 {
     for (place, act) in acts.iter().enumerate() {

@@ -223,8 +223,8 @@ fn first_fault<N: Laid>(workers: &[Worker<N>]) -> Option<CallFault>
     }
 }
 
-// Each worker works in a thread of its own. Where the system refuses threads, some work one after another in one, in no order that
-// anything says: a node's worker then does not wait for a session's that cannot begin.
+// Each worker works in a thread of its own. Where the system refuses threads, some work one after another in one, in no
+// order that anything says: a node's worker then does not wait for a session's that cannot begin.
 #[tactic(auto, using(crate::proofs::Hiring::zip_each))]
 fn work_all<N: Laid + Names + Send + Sync, R: Threads + Wait + Clock + Sync, G: Gate>(
     rt: &R,
@@ -261,7 +261,8 @@ fn work_whole<N: Laid + Names + Send + Sync, R: Threads + Wait + Clock + Sync, G
     work_all(rt, cluster, acts, workers.as_mut_slice(), gate, roll);
 }
 
-// All workers work, and then the nodes make passes until nothing is left to do. Where a worker stopped at a fault, no passes are made.
+// All workers work, and then the nodes make passes until nothing is left to do. Where a worker stopped at a fault, no
+// passes are made.
 #[tactic(auto, using(crate::proofs::Hiring::back, crate::proofs::Hiring::through))]
 fn run<N: Laid + Names + Send + Sync, R: Threads + Wait + Clock + Sync, G: Gate>(
     rt: &R,
@@ -274,8 +275,10 @@ fn run<N: Laid + Names + Send + Sync, R: Threads + Wait + Clock + Sync, G: Gate>
     requires acts { AllByRecursion (IsActOf N.deployment) acts.now }
     requires fresh { AllByRecursion IsFresh (sessions_in workers.old.items) }
     ensures many { vec_len workers.new ≡ vec_len workers.old }
-    ensures back { AllZip (CameBack N.deployment acts.now) (sessions_in workers.old.items) (sessions_in workers.new.items) }
-    ensures through { OnOk result (AllZip (CameThrough N.deployment acts.now) (sessions_in workers.old.items) (sessions_in workers.new.items)) }
+    ensures back { AllZip (CameBack N.deployment acts.now) (sessions_in workers.old.items)
+        (sessions_in workers.new.items) }
+    ensures through { OnOk result
+        (AllZip (CameThrough N.deployment acts.now) (sessions_in workers.old.items) (sessions_in workers.new.items)) }
     ensures fault { IfErr result IsFault }
 {
     let roll = Roll::new(count);
@@ -286,13 +289,14 @@ fn run<N: Laid + Names + Send + Sync, R: Threads + Wait + Clock + Sync, G: Gate>
     }
 }
 
-/// Does a script at the nodes of a cluster, on threads: one for each session, which does its acts in their order, and one for each
-/// serializer and each site, which makes its passes until all sessions' threads have returned, or until for many passes none was at
-/// work, as where the system refuses threads. A client whose attach has to wait tries again, `MOST_TRIES` times in a row at the most,
-/// and then leaves out its further acts. At the end the nodes make passes until nothing is left to do. After Ok each session did all
-/// its acts, or its client gave up at the end of what it did, after exactly so many tries; after an error each did a front of its acts.
-/// Each try is of the act that comes next. `Worn`, with the greatest u64, where a worker's call answered it; `Memory`. All sessions
-/// come back, in their order.
+/// Does a script at the nodes of a cluster, on threads: one for each session, which does its acts in their order, and
+/// one for each serializer and each site, which makes its passes until all sessions' threads have returned, or until
+/// for many passes none was at work, as where the system refuses threads. A client whose attach has to wait tries
+/// again, `MOST_TRIES` times in a row at the most, and then leaves out its further acts. At the end the nodes make
+/// passes until nothing is left to do. After Ok each session did all its acts, or its client gave up at the end of what
+/// it did, after exactly so many tries; after an error each did a front of its acts. Each try is of the act that comes
+/// next. `Worn`, with the greatest u64, where a worker's call answered it; `Memory`. All sessions come back, in their
+/// order.
 #[tactic(auto, using(crate::proofs::Hiring::untouched, crate::proofs::Hiring::back_as, crate::proofs::Hiring::through_as))]
 pub fn crew<N: Laid + Names + Send + Sync, R: Threads + Wait + Clock + Sync, G: Gate>(
     rt: &R,
@@ -305,7 +309,8 @@ pub fn crew<N: Laid + Names + Send + Sync, R: Threads + Wait + Clock + Sync, G: 
     requires acts { AllByRecursion (IsActOf N.deployment) acts.now }
     requires fresh { AllByRecursion IsFresh sessions.items }
     ensures ok { IfOk result (λ back. AllZip (CameThrough N.deployment acts.now) sessions.items back.items) }
-    ensures err { IfErr result (λ f. IsFault f.fault × AllZip (CameBack N.deployment acts.now) sessions.items f.sessions.items) }
+    ensures err { IfErr result (λ f. IsFault f.fault
+        × AllZip (CameBack N.deployment acts.now) sessions.items f.sessions.items) }
 {
     let Some(rooms) = make_rooms(alloc, cluster, sessions.len()) else {
         return Err(CrewFault {

@@ -68,7 +68,8 @@ cell_at form r row c = number_at (place_at form.key r c) form.most (item_at c ro
 -- the numbers of a row of a table's matrix, or its first fault
 unfoldable pub row_of : Form → ℕ → Option Data → Result (List ℕ) DelayFault
 unfolding gathered cell_at
-row_of form r row = ended (place_at form.key r form.columns) (item_at form.columns row) (gathered (cell_at form r row) form.columns)
+row_of form r row =
+    ended (place_at form.key r form.columns) (item_at form.columns row) (gathered (cell_at form r row) form.columns)
 
 unfoldable pub row_at : Form → Option Data → ℕ → Result (List ℕ) DelayFault
 unfolding row_of
@@ -77,7 +78,8 @@ row_at form matrix r = row_of form r (item_at r matrix)
 -- A matrix that is missing or is no list has no first row.
 unfoldable pub matrix_of : Form → Option Data → Result (List (List ℕ)) DelayFault
 unfolding gathered row_at
-matrix_of form matrix = ended (place_at form.key form.rows 0) (item_at form.rows matrix) (gathered (row_at form matrix) form.rows)
+matrix_of form matrix =
+    ended (place_at form.key form.rows 0) (item_at form.rows matrix) (gathered (row_at form matrix) form.rows)
 
 abbrev pub form_of : ℕ → ℕ → ℕ → ℕ → Form
 form_of key rows columns most = record { key = key; rows = rows; columns = columns; most = most }
@@ -88,7 +90,8 @@ some_of place n = if n == 0 then Err (BadShape place) else Ok n
 
 unfoldable pub size_of : ℕ → ℕ → Data → Result ℕ DelayFault
 unfolding key_name number_at
-size_of key most input = and_then (number_at (place_at key 0 0) most (get (key_name key) input)) (some_of (place_at key 0 0))
+size_of key most input =
+    and_then (number_at (place_at key 0 0) most (get (key_name key) input)) (some_of (place_at key 0 0))
 
 unfoldable pub keyed : Form → Data → Result (List (List ℕ)) DelayFault
 unfolding key_name matrix_of

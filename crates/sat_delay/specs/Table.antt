@@ -3,8 +3,8 @@ use Rattle.std.specs.Prelude.{ℕ, ◌≡◌, ◌<◌, ◌≤◌, List, [], leng
 use Rattle.std.specs.List.{slice_index_or}
 use Rattle.sat_delay.specs.declared.read.TheConstants.{MOST_TABLE_SITES}
 
--- The numbers of sites and places; milliseconds between a site and a place, from a place to a place and at best from site to
--- site; and how much each pair of sites weighs. Each matrix is a list of rows.
+-- The numbers of sites and places; milliseconds between a site and a place, from a place to a place and at best from
+-- site to site; and how much each pair of sites weighs. Each matrix is a list of rows.
 pub record DelayTable : Type 0 where
   pub sites : ℕ
   pub places : ℕ

@@ -5,8 +5,8 @@ ghost use Rattle.sat_delay.specs.Table.{entry, IsWithinLimits};
 use crate::rows::Rows;
 use std::marker::Model;
 
-/// A table of delays: 1 to 16 sites and 1 to 32 places, with milliseconds of at most 100,000 and weights of at most 1,000,000.
-/// Contracts see its numbers of sites and places and its matrices as lists of rows.
+/// A table of delays: 1 to 16 sites and 1 to 32 places, with milliseconds of at most 100,000 and weights of at most
+/// 1,000,000. Contracts see its numbers of sites and places and its matrices as lists of rows.
 #[derive(Drop)]
 pub struct Delays {
     sites: u16,
@@ -24,7 +24,9 @@ impl Model for Delays {
 
     ghost view = { λ a. record { sites = a.sites; places = a.places; reach = a.reach; between = a.between; optimal = a.optimal; weight = a.weight } };
 
-    ghost invariant = { λ a. IsWithinLimits (record { sites = a.sites; places = a.places; reach = a.reach; between = a.between; optimal = a.optimal; weight = a.weight }) };
+    ghost invariant = { λ a.
+        IsWithinLimits
+        (record { sites = a.sites; places = a.places; reach = a.reach; between = a.between; optimal = a.optimal; weight = a.weight }) };
 }
 
 impl Delays {
@@ -37,7 +39,8 @@ impl Delays {
         optimal: Rows,
         weight: Rows,
     ) -> Delays
-        requires { IsWithinLimits (record { sites = sites; places = places; reach = reach; between = between; optimal = optimal; weight = weight }) }
+        requires { IsWithinLimits
+            (record { sites = sites; places = places; reach = reach; between = between; optimal = optimal; weight = weight }) }
         ensures { result ≡ record { sites = sites; places = places; reach = reach; between = between; optimal = optimal; weight = weight } }
     {
         Delays {

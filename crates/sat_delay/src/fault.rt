@@ -8,8 +8,8 @@ use thiserror::Error;
 /// A place in a text of delays.
 #[derive(Clone, Copy, Debug, PartialEq, Eq)]
 pub struct Place {
-    /// 0 for `sites`, 1 `places`, 2 `reach`, 3 `between`, 4 `optimal`, 5 `weight`, and in a text that has a tree too 6 `parents`
-    /// and 7 `seats`.
+    /// 0 for `sites`, 1 `places`, 2 `reach`, 3 `between`, 4 `optimal`, 5 `weight`, and in a text that has a tree too 6
+    /// `parents` and 7 `seats`.
     pub key: u8,
     /// The row, from 0; 0 for `sites` and `places`.
     pub row: u16,

@@ -38,7 +38,8 @@ fn cells_of(
     row: u16,
     cells: Option<&Value>,
 ) -> Result<Counts, DelayFault>
-    ensures { Gives result (gathered (cell_at form.now row (option_map (λ v. view v.now) cells.entry)) form.now.columns) }
+    ensures { Gives result (gathered (cell_at form.now row (option_map (λ v. view v.now) cells.entry))
+        form.now.columns) }
 {
     let mut numbers = Counts::new(alloc);
     for column in 0..form.columns {

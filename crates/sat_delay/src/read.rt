@@ -28,7 +28,8 @@ const MOST_WEIGHT: u64 = 1_000_000;
 #[tactic(auto, unfolding(crate::specs::Reading::json_of))]
 pub fn json_of(alloc: Global, bytes: &[u8]) -> Result<Value, DelayFault>
     ensures ok { IfOk result (λ value. json_of bytes.now ≡ Some (view value)) }
-    ensures err { IfErr result (λ fault. fault ≢ DelayFault.Memory → (json_of bytes.now ≡ None) × (fault ≡ DelayFault.NotJson)) }
+    ensures err { IfErr result (λ fault. fault ≢ DelayFault.Memory
+        → (json_of bytes.now ≡ None) × (fault ≡ DelayFault.NotJson)) }
 {
     match Value::from_slice(alloc, bytes) {
         Ok(value) => Ok(value),
@@ -94,9 +95,10 @@ pub fn table_of(alloc: Global, input: &Value) -> Result<Delays, DelayFault>
     Ok(Delays::new(sites, places, reach, between, optimal, weight))
 }
 
-/// Reads a table of delays from JSON of at most [`MOST_BYTES`] bytes: an object with the keys `sites` and `places`, whole numbers,
-/// and `reach`, `between`, `optimal` and `weight`, lists of rows of whole numbers; other keys are ignored, and of equal keys the
-/// last counts. `Err` is the first fault, in the order of these keys, then of rows, then of columns, or `Memory`.
+/// Reads a table of delays from JSON of at most [`MOST_BYTES`] bytes: an object with the keys `sites` and `places`,
+/// whole numbers, and `reach`, `between`, `optimal` and `weight`, lists of rows of whole numbers; other keys are
+/// ignored, and of equal keys the last counts. `Err` is the first fault, in the order of these keys, then of rows, then
+/// of columns, or `Memory`.
 #[tactic(auto, unfolding(crate::specs::Reading::reading))]
 pub fn read_delays(alloc: Global, bytes: &[u8]) -> Result<Delays, DelayFault>
     ensures ok { IfOk result (λ d. reading bytes.now ≡ Ok d) }

@@ -33,8 +33,8 @@ fn cause_text(alloc: Global, fault: &DelayFault) -> Result<String, AllocError>
     }
 }
 
-/// Appends the line of a fault, `WORD: CAUSE`, where the word is a command's, and BadShape and TooBig have the key, row and column
-/// after them. For want of memory `out` is as before.
+/// Appends the line of a fault, `WORD: CAUSE`, where the word is a command's, and BadShape and TooBig have the key, row
+/// and column after them. For want of memory `out` is as before.
 #[tactic(auto, unfolding(crate::specs::Texts::fault_line))]
 pub fn write_fault(word: &str, fault: &DelayFault, out: &mut Vec<u8>) -> Result<(), AllocError>
     ensures ok { OnOk result (out.new.items ≡ out.old.items ++ fault_line word.now fault.now) }

@@ -1,5 +1,5 @@
--- Where the columns of a drawing stand: first what is outside of all nodes, then half of the sites, the serializers of each epoch, and the
--- other sites. So the way of a label through a tree leads over the columns between its sites.
+-- Where the columns of a drawing stand: first what is outside of all nodes, then half of the sites, the serializers of
+-- each epoch, and the other sites. So the way of a label through a tree leads over the columns between its sites.
 use Rattle.std.specs.Prelude.{ℕ, ◌+◌, ◌-◌, ◌*◌, ◌/◌, ◌==◌, nat_le, nat_lt, List, [], ◌∷◌, length, take, Option, Some, None, slice_get, if◌then◌else◌}
 use Rattle.sat_act.specs.declared.deployment.Plan.{Plan}
 use Rattle.sat_act.specs.declared.deployment.Plan.TheVariants as plan
@@ -49,8 +49,8 @@ abbrev pub seat_column : Deployed → Option ℕ → ℕ
 seat_column d None = 0
 seat_column d (Some i) = site_column d i
 
--- the column of an act, by the seats of the clients: an act of a client is at its seat, an attach at the site that is asked, a bulk and a beat
--- that comes in at the site that takes it; a clock and a settle are outside
+-- the column of an act, by the seats of the clients: an act of a client is at its seat, an attach at the site that is
+-- asked, a bulk and a beat that comes in at the site that takes it; a clock and a settle are outside
 abbrev pub act_column : Deployed → (ℕ → Option ℕ) → Act → ℕ
 act_column d seat (act.Tick i g ts) = site_column d i
 act_column d seat act.Clock = 0

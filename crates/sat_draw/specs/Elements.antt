@@ -136,7 +136,8 @@ front_of most text =
 
 abbrev pub word_start : List ℕ → Spot → List ℕ
 word_start class at =
-    codes "<text class='" ++ (class ++ (codes "' x='" ++ (decimal at.x ++ (codes "' y='" ++ (decimal at.y ++ codes "'>")))))
+    codes "<text class='"
+    ++ (class ++ (codes "' x='" ++ (decimal at.x ++ (codes "' y='" ++ (decimal at.y ++ codes "'>")))))
 
 abbrev pub word_text : List ℕ → Spot → ℕ → List ℕ → List ℕ
 word_text class at most text =

@@ -43,7 +43,8 @@ unfolding node_text names
 site_lanes d top bottom zero = []
 site_lanes d top bottom (suc i) = site_lanes d top bottom i ++ lane top bottom (site_column d i) (node_text (Site i))
 
--- ---- an epoch's tree, drawn from y downwards: the root above, each serializer below the one it hangs on, the sites at the bottom
+-- ---- an epoch's tree, drawn from y downwards: the root above, each serializer below the one it hangs on, the sites at
+-- the bottom
 
 abbrev pub tree_y : ℕ → ℕ → ℕ
 tree_y y place = y + 20 + place * STEP
@@ -83,7 +84,8 @@ serializers_elements d top bottom epoch y tree (suc z) =
 -- what is drawn of a site in a tree: its edge and its node
 abbrev pub seat_elements : Deployed → ℕ → ℕ → TreeShape → ℕ → List Element
 seat_elements d epoch y tree i =
-    Line ink.Edge (site_spot d y tree i) (serializer_spot d epoch y (seat_of tree i)) ∷ node (site_spot d y tree i) (node_text (Site i))
+    Line ink.Edge (site_spot d y tree i) (serializer_spot d epoch y (seat_of tree i))
+    ∷ node (site_spot d y tree i) (node_text (Site i))
 
 unfoldable pub seats_elements : Deployed → ℕ → ℕ → TreeShape → ℕ → List Element
 unfolding node_text seat_of
@@ -98,7 +100,8 @@ epoch_name epoch (plan.Tree tree) = codes "epoch " ++ decimal epoch
 abbrev pub tree_elements : Deployed → ℕ → ℕ → ℕ → ℕ → Plan → List Element
 tree_elements d top bottom epoch y plan.Stamp = []
 tree_elements d top bottom epoch y (plan.Tree tree) =
-    serializers_elements d top bottom epoch y tree (length tree.parents) ++ seats_elements d epoch y tree (length tree.seats)
+    serializers_elements d top bottom epoch y tree (length tree.parents)
+    ++ seats_elements d epoch y tree (length tree.seats)
 
 abbrev pub plan_elements : Deployed → ℕ → ℕ → ℕ → ℕ → Plan → List Element
 plan_elements d top bottom epoch y p =

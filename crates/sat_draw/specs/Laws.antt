@@ -1,4 +1,5 @@
--- What holds of every drawing: each act is drawn once, an act that was done as done, and each arrow begins where what it brings was left.
+-- What holds of every drawing: each act is drawn once, an act that was done as done, and each arrow begins where what
+-- it brings was left.
 use Rattle.std.specs.Prelude.{◌≡◌, ℕ, Bool, true, false, List, [], ◌∷◌, ◌++◌, ◌||◌, length, filter, Option, Some, None, if◌then◌else◌}
 use Rattle.std.specs.List.{list_any}
 use Rattle.sat_label.specs.Members.{In}
@@ -36,7 +37,8 @@ abbrev pub is_refused_mark : Element → Bool
 is_refused_mark (Dot ink at text) = is_refused_ink ink
 is_refused_mark _ = false
 
--- the mark that an entry is to have: in the column of its act and in its own row, with its act and its answer as a title
+-- the mark that an entry is to have: in the column of its act and in its own row, with its act and its answer as a
+-- title
 abbrev pub title_of : Deployed → List Entry → Entry → List ℕ
 title_of d before entry = mark_title d (length before) entry
 
@@ -48,8 +50,8 @@ abbrev pub refused_mark : Deployed → List Entry → Entry → Option Element
 refused_mark d before entry =
     if is_done entry.answer then None else Some (Dot ink.Refused (spot_of d before entry) (title_of d before entry))
 
--- the marks of acts that were done are just those of the entries that were done, each once and in their order; and so are the marks of acts
--- that changed nothing
+-- the marks of acts that were done are just those of the entries that were done, each once and in their order; and so
+-- are the marks of acts that changed nothing
 pub record EachIsDrawnOnce (d : Deployed) (h : List Entry) : Type 0 where
   pub done : filter is_done_mark (elements d h) ≡ listed (done_mark d) h
   pub refused : filter is_refused_mark (elements d h) ≡ listed (refused_mark d) h

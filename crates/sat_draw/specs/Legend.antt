@@ -1,7 +1,8 @@
 -- The looks of the inks, and what stands above each drawing.
 use Rattle.std.specs.Prelude.{ℕ, List, codes, ◌++◌}
 
--- what it shows in words, the style of each class by day and by night, the heads of the arrows, the ground, and a sample of each ink
+-- what it shows in words, the style of each class by day and by night, the heads of the arrows, the ground, and a
+-- sample of each ink
 unfoldable pub legend : List ℕ
 legend =
     codes "<desc>Time goes downwards, and each act has a row. A full mark is an act that was done, an empty one an act\n"

@@ -28,7 +28,8 @@ abbrev pub takes : List Coming → Trail → Bool
 takes [] t = false
 takes (c ∷ cs) t = trail_eq c.trail t || takes cs t
 
--- what is then known of a label under way, by whether a settle was done, and by what was taken: a settle may have taken any label
+-- what is then known of a label under way, by whether a settle was done, and by what was taken: a settle may have taken
+-- any label
 abbrev pub after_taking : Bool → List Coming → Option Spot → Trail → Option Spot
 after_taking settled cs before t = if settled || takes cs t then None else before
 

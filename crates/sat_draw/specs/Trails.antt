@@ -68,12 +68,16 @@ closing i = record { stop = CLOSING; at = i; ts = i; site = 0; gear = 0; rank = 
 -- two trails are the same
 abbrev pub trail_eq : Trail → Trail → Bool
 trail_eq s t =
-    (s.stop == t.stop) && ((s.at == t.at) && ((s.ts == t.ts) && ((s.site == t.site) && ((s.gear == t.gear) && ((s.rank == t.rank) && (s.number == t.number))))))
+    (s.stop == t.stop)
+    && ((s.at == t.at)
+    && ((s.ts == t.ts)
+    && ((s.site == t.site) && ((s.gear == t.gear) && ((s.rank == t.rank) && (s.number == t.number))))))
 
 -- how trails compare, as a map compares them
 abbrev pub trail_cmp : Trail → Trail → Ordering
 trail_cmp s t =
-    ordering_then (nat_cmp s.stop t.stop) (ordering_then (nat_cmp s.at t.at) (ordering_then (nat_cmp s.ts t.ts) (ordering_then (nat_cmp s.site t.site)
+    ordering_then (nat_cmp s.stop t.stop)
+    (ordering_then (nat_cmp s.at t.at) (ordering_then (nat_cmp s.ts t.ts) (ordering_then (nat_cmp s.site t.site)
     (ordering_then (nat_cmp s.gear t.gear) (ordering_then (nat_cmp s.rank t.rank) (nat_cmp s.number t.number))))))
 
 -- ---- what an entry leaves
@@ -104,8 +108,8 @@ abbrev pub client_trail : ℕ → Option ℕ → List Trail
 client_trail stop None = []
 client_trail stop (Some c) = client_at stop c ∷ []
 
--- the trails that an act with this answer leaves: a label that was made, sent or handed on, a payload that was brought, a beat; its client
--- at its seat or on its way; its site, that has closed
+-- the trails that an act with this answer leaves: a label that was made, sent or handed on, a payload that was brought,
+-- a beat; its client at its seat or on its way; its site, that has closed
 unfoldable pub left_by : Act → Answer → List Trail
 left_by a (ans.Wrote l) = made l ∷ client_trail SEATED (of_client a)
 left_by a ans.ReadNone = client_trail SEATED (of_client a)
@@ -166,9 +170,10 @@ abbrev pub client_coming : Ink → ℕ → Option ℕ → List Coming
 client_coming ink stop None = []
 client_coming ink stop (Some c) = comes ink (client_at stop c) ∷ []
 
--- the trails on which an act with this answer ends, and how each is drawn: a label waits in the sink from its making to its sending, and then
--- goes over links; a payload goes from its write to its site, and waits there until its update is shown; a beat goes from site to site; a
--- client comes from its last act, and without a seat from its leave, over the attaches that were refused; a site from its close to its advance
+-- the trails on which an act with this answer ends, and how each is drawn: a label waits in the sink from its making to
+-- its sending, and then goes over links; a payload goes from its write to its site, and waits there until its update is
+-- shown; a beat goes from site to site; a client comes from its last act, and without a seat from its leave, over the
+-- attaches that were refused; a site from its close to its advance
 unfoldable pub comes_from : Act → Answer → List Coming
 comes_from a (ans.Wrote l) = client_coming ink.Seat SEATED (of_client a)
 comes_from a ans.ReadNone = client_coming ink.Seat SEATED (of_client a)

@@ -112,7 +112,8 @@ pub enum Element {
         from: Spot,
         to: Spot,
     },
-    /// The way of a label, a payload or a beat, with a title that says what it is. One that moves has an arrow's head at its end.
+    /// The way of a label, a payload or a beat, with a title that says what it is. One that moves has an arrow's head
+    /// at its end.
     Way {
         ink: Ink,
         trail: Trail,

@@ -283,7 +283,8 @@ fn push_serializers(
     requires low { top ≤ 40000000 }
     requires bottom { bottom ≤ 2 ^ 40 }
     requires y { y ≤ 40000000 }
-    ensures { OnOk result (out.new.items ≡ out.old.items ++ serializers_elements d.now top bottom epoch y tree.now (length tree.now.parents)) }
+    ensures { OnOk result (out.new.items ≡ out.old.items
+        ++ serializers_elements d.now top bottom epoch y tree.now (length tree.now.parents)) }
 {
     for z in 0..tree.serializers() {
         push_serializer(alloc, d, top, bottom, epoch, y, tree, z, out)?;
@@ -325,7 +326,8 @@ fn push_seats(
     out: &mut Vec<Element>,
 ) -> Result<(), AllocError>
     requires { y ≤ 40000000 }
-    ensures { OnOk result (out.new.items ≡ out.old.items ++ seats_elements d.now epoch y tree.now (length tree.now.seats)) }
+    ensures { OnOk result (out.new.items ≡ out.old.items
+        ++ seats_elements d.now epoch y tree.now (length tree.now.seats)) }
 {
     for site in 0..tree.sites() {
         push_seat(alloc, d, epoch, y, tree, site, out)?;

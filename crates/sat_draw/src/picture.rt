@@ -124,8 +124,8 @@ fn append_rows(
     Ok(())
 }
 
-/// The drawing of a history as an SVG. The entries stand in their order, the oldest first, and are at most 2^32; those that a
-/// settle made are drawn like all others, and may be left out.
+/// The drawing of a history as an SVG. The entries stand in their order, the oldest first, and are at most 2^32; those
+/// that a settle made are drawn like all others, and may be left out.
 #[tactic(auto, unfolding(crate::specs::Drawing::drawing, crate::specs::Drawing::elements))]
 pub fn draw(alloc: Global, d: &Deployment, entries: &[Entry]) -> Result<Vec<u8>, AllocError>
     requires { length entries.now ≤ 4294967296 }

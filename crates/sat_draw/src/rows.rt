@@ -377,7 +377,8 @@ fn ways_at(
     Ok(all)
 }
 
-/// Appends what leads to the mark of an entry to one text, and the mark and its words to another, and follows the entry.
+/// Appends what leads to the mark of an entry to one text, and the mark and its words to another, and follows the
+/// entry.
 pub(crate) fn append_row(
     alloc: Global,
     d: &Deployment,
@@ -392,7 +393,8 @@ pub(crate) fn append_row(
     requires low { top ≤ 40000000 }
     requires few { row < 2 ^ 32 }
     ensures { OnOk result ((earlier : List Entry) → row ≡ length earlier
-        → IsDrawn d.now lines.old.items words.old.items tracks.old earlier → IsDrawn d.now lines.new.items words.new.items tracks.new (earlier ++ entry.now ∷ [])) }
+        → IsDrawn d.now lines.old.items words.old.items tracks.old earlier
+        → IsDrawn d.now lines.new.items words.new.items tracks.new (earlier ++ entry.now ∷ [])) }
 {
     let here = mark_spot(d, &tracks.seats, top, row, entry);
     let ways = ways_at(alloc, d, &tracks.spots, here, entry)?;

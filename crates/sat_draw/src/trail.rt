@@ -57,7 +57,8 @@ pub struct Trail {
     pub stop: u16,
     /// The number of the node that it is at or for, where there is one.
     pub at: u16,
-    /// The point and the kind of the label, of an update its first item. Of a beat the number and the site that made it.
+    /// The point and the kind of the label, of an update its first item. Of a beat the number and the site that made
+    /// it.
     pub ts: u64,
     pub site: u16,
     pub gear: u16,
@@ -351,7 +352,8 @@ fn hopped_from(alloc: Global, act: &Act, label: Label) -> Result<Vec<Coming>, Al
 
 // A label and a payload.
 fn both_coming(alloc: Global, label: Label, site: u16) -> Result<Vec<Coming>, AllocError>
-    ensures { IfOk result (λ all. all.items ≡ comes (kind_ink label.kind) (toward label (Site site)) ∷ comes ink.Store (brought label site) ∷ []) }
+    ensures { IfOk result (λ all. all.items ≡ comes (kind_ink label.kind) (toward label (Site site))
+        ∷ comes ink.Store (brought label site) ∷ []) }
 {
     let mut all = one_coming(alloc, kind_ink(label.kind), label_at(TO_SITE, site, label))?;
     all.push(Coming {

@@ -5,6 +5,6 @@ use Rattle.std.specs.declared.option.Option.{Option}
 pub data Told : Type 0 where
   -- nothing is known of when it fails
   untold : Told
-  -- so many writes and syncs pass and the next one fails, or none fails; whether a crash keeps what isn't synced; and what the disk
-  -- held when it was synced last
+  -- so many writes and syncs pass and the next one fails, or none fails; whether a crash keeps what isn't synced; and
+  -- what the disk held when it was synced last
   told : (calls : Option ℕ) (keep : Bool) (synced : List ℕ) → Told

@@ -12,7 +12,8 @@ use crate::{Disk, Durable, DurableFault, Failed, Machine};
 /// Starts a machine that has taken no input on a disk that is empty.
 pub fn create<D: Disk, M: Machine>(disk: D, fresh: M) -> Result<Durable<D, M>, DurableFault<D>>
     requires { (D.state disk).content ≡ [] }
-    ensures created { IfOk result (λ durable. Keeps M.meaning fresh (D.state (disk_of durable)) (machine_of durable) []) }
+    ensures created { IfOk result
+        (λ durable. Keeps M.meaning fresh (D.state (disk_of durable)) (machine_of durable) []) }
     ensures machine { IfOk result (λ durable. machine_of durable ≡ fresh) }
     ensures faults { IfErr result (λ fault. MatchDurableFault fault
         (λ left. Rose (D.state disk).faults (D.state left).faults)

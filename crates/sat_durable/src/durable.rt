@@ -78,8 +78,8 @@ impl<D: Disk, M: Machine> Durable<D, M> {
         disk
     }
 
-    /// Takes an input that fits, puts it on the disk, and answers it. After `Disk` what the disk holds is to be recovered;
-    /// after `Memory` all is as before.
+    /// Takes an input that fits, puts it on the disk, and answers it. After `Disk` what the disk holds is to be
+    /// recovered; after `Memory` all is as before.
     pub fn step(
         self,
         alloc: Global,
@@ -90,23 +90,30 @@ impl<D: Disk, M: Machine> Durable<D, M> {
 
         // The answer is the machine's, and from then on the input is on the disk.
         ensures output { IfOk result (λ done. done.1 ≡ M.meaning.output (machine_of self) input) }
-        ensures answered { IfOk result (λ done. (fresh : M) (inputs : List M.Input) → Keeps M.meaning fresh (D.state (disk_of self)) (machine_of self) inputs
+        ensures answered { IfOk result (λ done. (fresh : M) (inputs : List M.Input)
+            → Keeps M.meaning fresh (D.state (disk_of self)) (machine_of self) inputs
             → Keeps M.meaning fresh (D.state (disk_of done.0)) (machine_of done.0) (inputs ++ input ∷ [])) }
 
         // A stop at any moment leaves a journal of the inputs from before, and of this one or not.
-        ensures any_moment { (fresh : M) (inputs : List M.Input) → Keeps M.meaning fresh (D.state (disk_of self)) (machine_of self) inputs
+        ensures any_moment { (fresh : M) (inputs : List M.Input)
+            → Keeps M.meaning fresh (D.state (disk_of self)) (machine_of self) inputs
             → LeftOnly (D.state (disk_of self)) (D.state (disk_after result))
             (λ c. Recovers M.meaning fresh c inputs ⊎ Recovers M.meaning fresh c (inputs ++ input ∷ [])) }
 
         // Why it gave no answer.
         ensures faults { IfErr result (λ fault. MatchFault fault
             (λ disk. Rose (D.state (disk_of self)).faults (D.state disk).faults)
-            (λ durable. (machine_of durable ≡ machine_of self) × (size_of durable ≡ size_of self) × Rests (D.state (disk_of self)) (D.state (disk_of durable)))) }
+            (λ durable. (machine_of durable ≡ machine_of self) × (size_of durable ≡ size_of self)
+            × Rests (D.state (disk_of self)) (D.state (disk_of durable)))) }
 
         // Where it is known which call fails, so is whether the input is there.
-        ensures told { (fresh : M) (inputs : List M.Input) → Keeps M.meaning fresh (D.state (disk_of self)) (machine_of self) inputs
-            → MatchStep result (λ done. StepsTold (D.state (disk_of done.0)) true (λ c. Recovers M.meaning fresh c (inputs ++ input ∷ [])) (λ c. Recovers M.meaning fresh c inputs) (D.state (disk_of self)).told)
-            (λ disk. StepsTold (D.state disk) false (λ c. Recovers M.meaning fresh c (inputs ++ input ∷ [])) (λ c. Recovers M.meaning fresh c inputs) (D.state (disk_of self)).told)
+        ensures told { (fresh : M) (inputs : List M.Input)
+            → Keeps M.meaning fresh (D.state (disk_of self)) (machine_of self) inputs
+            → MatchStep result
+            (λ done. StepsTold (D.state (disk_of done.0)) true (λ c. Recovers M.meaning fresh c (inputs ++ input ∷ []))
+            (λ c. Recovers M.meaning fresh c inputs) (D.state (disk_of self)).told)
+            (λ disk. StepsTold (D.state disk) false (λ c. Recovers M.meaning fresh c (inputs ++ input ∷ []))
+            (λ c. Recovers M.meaning fresh c inputs) (D.state (disk_of self)).told)
             (λ durable. (D.state (disk_of durable)).told ≡ (D.state (disk_of self)).told) }
     {
         let record = match record_for(alloc, &self.machine, &input) {
@@ -160,7 +167,8 @@ impl<M: Machine> Durable<MemoryDisk, M> {
         ensures rests { Rests (memory_state (disk_of self.old)) (memory_state (disk_of self.new)) }
         ensures machine { machine_of self.new ≡ machine_of self.old }
         ensures size { size_of self.new ≡ size_of self.old }
-        ensures told { (memory_state (disk_of self.new)).told ≡ told_of (Some calls) keep (memory_synced (disk_of self.old)) }
+        ensures told { (memory_state (disk_of self.new)).told
+            ≡ told_of (Some calls) keep (memory_synced (disk_of self.old)) }
     {
         self.disk.arm(calls, keep);
     }

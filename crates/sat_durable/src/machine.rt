@@ -5,7 +5,8 @@ ghost use Rattle.sat_durable.specs.Machine.{Meaning};
 
 use std::alloc::{AllocError, Global};
 
-/// A machine that takes inputs one by one. What it answers and what it becomes are functions of the machine and the input.
+/// A machine that takes inputs one by one. What it answers and what it becomes are functions of the machine and the
+/// input.
 pub trait Machine: Drop {
     type Input: Drop;
 
@@ -37,5 +38,6 @@ pub trait Machine: Drop {
         ensures { IfOk result (λ input. input ≡ meaning.input_of body.now) };
 
     /// Bytes stand for an input only if they are its body: no other spelling is read.
-    ghost exact: { (body : List ℕ) (input : Self.Input) → AreBytes body → meaning.input_of body ≡ Some input → body ≡ meaning.body input };
+    ghost exact: { (body : List ℕ) (input : Self.Input) → AreBytes body → meaning.input_of body ≡ Some input
+        → body ≡ meaning.body input };
 }

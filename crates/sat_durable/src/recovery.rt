@@ -26,18 +26,20 @@ enum ReadFault {
     Memory,
 }
 
-/// Makes a machine again, from one that has taken no input and the disk of a journal: it has just the inputs whose records
-/// are whole. The disk's content stays as it is.
+/// Makes a machine again, from one that has taken no input and the disk of a journal: it has just the inputs whose
+/// records are whole. The disk's content stays as it is.
 pub fn recover<D: Disk, M: Machine>(
     alloc: Global,
     disk: D,
     fresh: M,
 ) -> Result<Recovered<D, M>, DurableFault<D>>
     // What it makes of the content, whatever that is.
-    ensures recovered { IfOk result (λ made. recovered M.meaning fresh (D.state disk).content ≡ Ok (record { machine = machine_of made.durable; inputs = made.inputs; last = made.last })) }
+    ensures recovered { IfOk result (λ made. recovered M.meaning fresh (D.state disk).content
+        ≡ Ok (record { machine = machine_of made.durable; inputs = made.inputs; last = made.last })) }
 
     // Of a journal of inputs that fit it makes the machine after just these, and is never torn.
-    ensures keeps { IfOk result (λ made. (inputs : List M.Input) → Recovers M.meaning fresh (D.state disk).content inputs
+    ensures keeps { IfOk result (λ made. (inputs : List M.Input)
+        → Recovers M.meaning fresh (D.state disk).content inputs
         → Keeps M.meaning fresh (D.state (disk_of made.durable)) (machine_of made.durable) inputs) }
     ensures never_torn { (inputs : List M.Input) → Recovers M.meaning fresh (D.state disk).content inputs
         → IfErr result (λ fault. MatchDurableFault fault (λ left. ⊤) (λ left at. ⊥) (λ left. ⊤)) }

@@ -25,7 +25,8 @@ pub record Epochs : Type 0 where
 
 -- before the first close
 abbrev pub first_epochs : ℕ → ℕ → List Bool → Epochs
-first_epochs sites site stamp = record { site = site; stamp = stamp; view = 1; emission = 1; fallen = false; closes = []; heard = replicate sites false }
+first_epochs sites site stamp =
+    record { site = site; stamp = stamp; view = 1; emission = 1; fallen = false; closes = []; heard = replicate sites false }
 
 -- whether the plan of an epoch is stamp order
 abbrev pub is_stamp : Epochs → ℕ → Bool
@@ -52,7 +53,8 @@ all_heard s = list_all (was_heard s) (below (length s.heard))
 -- why a site can't close an epoch: there is no later one, or its view has not come so far
 abbrev pub close_fault : Epochs → Option CloseFault
 close_fault s =
-    if s.emission == length s.stamp then Some close.NoNextEpoch else (if s.emission == s.view + 1 then Some close.Behind else None)
+    if s.emission == length s.stamp then Some close.NoNextEpoch
+    else (if s.emission == s.view + 1 then Some close.Behind else None)
 
 -- why a site can't fall back: it is in timestamp order, or has not closed the epoch that it views
 abbrev pub fall_fault : Epochs → Option FallFault
@@ -60,7 +62,8 @@ fall_fault s = if in_stamp s then Some fall.StampOrder else (if s.emission == s.
 
 -- by whether all labels of the view came
 abbrev pub advance_fault : Epochs → Bool → Option AdvanceFault
-advance_fault s came = if s.emission == s.view then Some advance.NotClosed else (if came then None else Some advance.NotYet)
+advance_fault s came =
+    if s.emission == s.view then Some advance.NotClosed else (if came then None else Some advance.NotYet)
 
 -- ---- what the calls make of it
 
@@ -82,7 +85,8 @@ after_advance s = record s { view = s.view + 1; fallen = false; heard = replicat
 
 -- ---- what is true of each
 
--- it emits in its view or in the next epoch, and each epoch before that one is closed; it fell only after it closed its view
+-- it emits in its view or in the next epoch, and each epoch before that one is closed; it fell only after it closed its
+-- view
 pub record IsEpochs (s : Epochs) : Type 0 where
   pub own : s.site < length s.heard
   pub few_epochs : length s.stamp ≤ MOST_EPOCHS

@@ -34,8 +34,8 @@ pub enum AdvanceFault {
     NotYet,
 }
 
-/// The epochs of one site. Each has a flag that says whether its plan is stamp order. The site views one epoch and emits in it
-/// or in the next. All memory is taken when it is made.
+/// The epochs of one site. Each has a flag that says whether its plan is stamp order. The site views one epoch and
+/// emits in it or in the next. All memory is taken when it is made.
 #[derive(Drop)]
 pub struct Views {
     site: u16,
@@ -55,7 +55,9 @@ impl Model for Views {
 
     ghost view = { λ a. record { site = a.site; stamp = a.stamp.items; view = a.view; emission = a.emission; fallen = a.fallen; closes = a.closes.items; heard = a.heard.items } };
 
-    ghost invariant = { λ a. HasRoom (record { site = a.site; stamp = a.stamp.items; view = a.view; emission = a.emission; fallen = a.fallen; closes = a.closes.items; heard = a.heard.items }) (vec_capacity a.closes) };
+    ghost invariant = { λ a.
+        HasRoom
+        (record { site = a.site; stamp = a.stamp.items; view = a.view; emission = a.emission; fallen = a.fallen; closes = a.closes.items; heard = a.heard.items }) (vec_capacity a.closes) };
 }
 
 impl Views {
@@ -143,7 +145,8 @@ impl Views {
 
     /// Closes the emission epoch at a cut, and answers its number.
     pub fn close(&mut self, cut: Point) -> Result<u16, CloseFault>
-        ensures fault { MatchResult result (λ _. close_fault self.old ≡ None) (λ fault. close_fault self.old ≡ Some fault) }
+        ensures fault { MatchResult result (λ _. close_fault self.old ≡ None)
+            (λ fault. close_fault self.old ≡ Some fault) }
         ensures epoch { IfOk result (λ epoch. epoch ≡ self.old.emission) }
         ensures ok { OnOk result (self.new ≡ after_close self.old cut) }
         ensures err { OnErr result (self.new ≡ self.old) }
@@ -159,7 +162,8 @@ impl Views {
 
     /// Falls back to stamp order until the next epoch.
     pub fn fall(&mut self) -> Result<(), FallFault>
-        ensures fault { MatchResult result (λ _. fall_fault self.old ≡ None) (λ fault. fall_fault self.old ≡ Some fault) }
+        ensures fault { MatchResult result (λ _. fall_fault self.old ≡ None)
+            (λ fault. fall_fault self.old ≡ Some fault) }
         ensures ok { OnOk result (self.new ≡ after_fall self.old) }
         ensures err { OnErr result (self.new ≡ self.old) }
     {
@@ -207,7 +211,8 @@ impl Views {
 
     // Goes on to the next epoch, where the view is closed and its labels all came.
     fn advance(&mut self, came: bool) -> Result<u16, AdvanceFault>
-        ensures fault { MatchResult result (λ _. advance_fault self.old came ≡ None) (λ fault. advance_fault self.old came ≡ Some fault) }
+        ensures fault { MatchResult result (λ _. advance_fault self.old came ≡ None)
+            (λ fault. advance_fault self.old came ≡ Some fault) }
         ensures view { IfOk result (λ view. view ≡ self.old.view + 1) }
         ensures ok { OnOk result (self.new ≡ after_advance self.old) }
         ensures err { OnErr result (self.new ≡ self.old) }
@@ -227,7 +232,8 @@ impl Views {
     /// Goes on to the next epoch, by the closes that came through the tree, and answers the new view.
     pub fn advance_by_tree(&mut self) -> Result<u16, AdvanceFault>
         requires { in_stamp self.old ≡ false }
-        ensures fault { MatchResult result (λ _. advance_fault self.old (all_heard self.old) ≡ None) (λ fault. advance_fault self.old (all_heard self.old) ≡ Some fault) }
+        ensures fault { MatchResult result (λ _. advance_fault self.old (all_heard self.old) ≡ None)
+            (λ fault. advance_fault self.old (all_heard self.old) ≡ Some fault) }
         ensures view { IfOk result (λ view. view ≡ self.old.view + 1) }
         ensures ok { OnOk result (self.new ≡ after_advance self.old) }
         ensures err { OnErr result (self.new ≡ self.old) }
@@ -239,7 +245,8 @@ impl Views {
     /// Goes on to the next epoch, where all labels of the view were shown by their stamps, and answers the new view.
     pub fn advance_by_stamps(&mut self, drained: bool) -> Result<u16, AdvanceFault>
         requires { in_stamp self.old ≡ true }
-        ensures fault { MatchResult result (λ _. advance_fault self.old drained ≡ None) (λ fault. advance_fault self.old drained ≡ Some fault) }
+        ensures fault { MatchResult result (λ _. advance_fault self.old drained ≡ None)
+            (λ fault. advance_fault self.old drained ≡ Some fault) }
         ensures view { IfOk result (λ view. view ≡ self.old.view + 1) }
         ensures ok { OnOk result (self.new ≡ after_advance self.old) }
         ensures err { OnErr result (self.new ≡ self.old) }

@@ -55,10 +55,6 @@ before-from-right a b c lt e = pass-right (rank_of a.0) a.1.lamport (rank_of b.0
 
 -- ---- lists in order
 
-pub ascending-back : (xs ys : List Owned) → Ascending (xs ++ ys) → Ascending ys
-ascending-back [] ys a = a
-ascending-back (x ∷ xs) ys a = ascending-back xs ys a.0
-
 in-back : (xs ys : List Owned) (y : Owned) → In ys y → In (xs ++ ys) y
 in-back [] ys y i = i
 in-back (x ∷ xs) ys y i = inr (in-back xs ys y i)

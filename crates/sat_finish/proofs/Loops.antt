@@ -7,10 +7,9 @@ use Rattle.std.proofs.lemmas.Grind.{flat_map-append}
 use Rattle.sat_label.specs.declared.node.NodeName.{NodeName}
 use Rattle.sat_label.specs.declared.node.NodeName.TheVariants as named
 use Rattle.sat_label.specs.Members.{In}
-use Rattle.sat_label.specs.Order.{name_eq}
 use Rattle.sat_label.specs.Words.{below}
 use Rattle.sat_label.proofs.Members.{In-parts}
-use Rattle.std.proofs.lemmas.Bool.{and_parts, eqb-true}
+use Rattle.std.proofs.lemmas.Bool.{eqb-true}
 use Rattle.sat_act.specs.declared.entry.Entry.{Entry}
 use Rattle.sat_act.specs.Deployed.{Deployed}
 use Rattle.sat_node.specs.declared.kept.Kept.{Kept as Line}
@@ -96,14 +95,6 @@ places-long k (m ∷ lines) = ap suc (places-long (k + 1) lines)
 pub below-more : (n : ℕ) → below (n + 1) ≡ below n ++ n ∷ []
 below-more n = rw add-one refl
 
-pub name-is : (m n : NodeName) → name_eq m n ≡ true → m ≡ n
-name-is (named.Site i) (named.Site k) e = ap named.Site (eqb-true i k e)
-name-is (named.Serializer e y) (named.Serializer f z) w =
-    let k : ((e == f) ≡ true) × ((y == z) ≡ true) = and_parts (e == f) (y == z) w in
-    ap (λ (n : ℕ). named.Serializer n y) (eqb-true e f k.0) ∙ ap (named.Serializer f) (eqb-true y z k.1)
-name-is (named.Site i) (named.Serializer f z) e = absurd (cc)
-name-is (named.Serializer e y) (named.Site k) w = absurd (cc)
-
 -- ---- marks of numbers
 
 -- these are sessions, none of them is there twice, and each has its mark
@@ -155,9 +146,6 @@ mark-more d xs i x n marks b lt is e session read free m =
     let open_mark : get_or marks x.number false ≡ false = ap (λ (k : ℕ). get_or marks k false) (sym e) ∙ (sym (get_or_read marks n b there read false) ∙ free) in
     subst (λ (ys : List SessionSeen). Marked d ys (set marks n true)) (sym (take_more xs i x lt ∙ ap (λ (y : SessionSeen). take i xs ++ y ∷ []) (sym is)))
     (subst (λ (k : ℕ). Marked d (take i xs ++ x ∷ []) (set marks k true)) (sym e) (one-marked d (take i xs) x marks session here open_mark m))
-
-pub all-marked : (d : Deployed) (xs : List SessionSeen) (marks : List Bool) → Marked d xs marks → AreSessions d xs
-all-marked d xs marks m = record { each = m.each; apart = m.apart }
 
 -- ---- journals, one by one
 

@@ -1,5 +1,5 @@
 -- Two lists of notes, in order, that begin alike: what the next notes of both tell.
-use Rattle.std.proofs.Common.{◌≡◌, ◌⊎◌, ◌≤◌, ℕ, ◌+◌, zero, suc, Bool, true, false, List, [], ◌∷◌, ◌++◌, length, take, drop, Option, Some, None, slice_get, refl, sym, ap, ◌∙◌, subst, arith, inl, inr}
+use Rattle.std.proofs.Common.{◌≡◌, ◌⊎◌, ◌≤◌, ℕ, ◌+◌, zero, suc, Bool, true, false, List, [], ◌∷◌, ◌++◌, take, drop, Option, Some, None, slice_get, refl, sym, ap, ◌∙◌, subst, arith, inl, inr}
 use Rattle.sat_label.specs.Members.{In}
 use Rattle.sat_label.proofs.Members.{In-left, In-right, In-parts, In-get}
 use Rattle.sat_laws.proofs.Labels.{some_is}
@@ -12,7 +12,7 @@ use Rattle.sat_finish.specs.Differences.{IsKeptUnder, IsDifference}
 use Rattle.sat_finish.specs.declared.compare.Difference.{Difference}
 use Rattle.sat_finish.specs.Ending.{IsCompared, IsPair}
 use Rattle.std.proofs.lemmas.List.{take-append-drop}
-use Rattle.sat_finish.proofs.Keys.{not-before-same, before-from-left, before-from-right, ascending-back, ascending-across}
+use Rattle.sat_finish.proofs.Keys.{not-before-same, before-from-left, before-from-right, ascending-across}
 
 -- ---- lists at a place
 
@@ -79,18 +79,6 @@ behind-first (y ∷ xs) zero x a asc e lt z (inl w) = subst (λ (v : Owned). com
 behind-first (y ∷ xs) zero x a asc e lt z (inr i) = before-from-right a x z lt (subst (λ (v : Owned). comes_before z v ≡ false) (some_is y x e) (asc.1 z i))
 behind-first (y ∷ xs) (suc n) x a asc e lt z i = behind-first xs n x a asc.0 e lt z i
 
-pub behind-none : (xs : List Owned) (n : ℕ) (a : Owned) → length xs ≤ n → AllBehind (drop n xs) a
-behind-none [] zero a le z i = absurd i
-behind-none [] (suc n) a le z i = absurd i
-behind-none (y ∷ xs) zero a le z i = absurd (omega arith)
-behind-none (y ∷ xs) (suc n) a le z i = behind-none xs n a (let lt : length xs ≤ n = omega arith in lt) z i
-
-pub all-taken : {X : Type 0} (xs : List X) (n : ℕ) → length xs ≤ n → take n xs ≡ xs
-all-taken [] zero le = refl
-all-taken [] (suc n) le = refl
-all-taken (y ∷ xs) zero le = absurd (omega arith)
-all-taken (y ∷ xs) (suc n) le = ap (λ zs. y ∷ zs) (all-taken xs n (let lt : length xs ≤ n = omega arith in lt))
-
 -- none of what stands in front of a place comes behind the note there
 pub front-before : (xs : List Owned) (n : ℕ) (x : Owned) → Ascending xs → slice_get xs n ≡ Some x → (y : Owned) → In (take n xs) y → comes_before x y ≡ false
 front-before xs n x asc e y i = ascending-across (take n xs) (x ∷ drop (suc n) xs) (subst Ascending (cut-at xs n x e) asc) y x i (inl refl)
@@ -101,10 +89,6 @@ last-before xs n p a asc e lt y i = elim (In-parts (take n xs) (p ∷ []) y (sub
   | inl j ↦ before-from-left y p a (front-before xs n p asc e y j) lt
   | inr j ↦ elim j [ inl w ↦ subst (λ (v : Owned). comes_before v a ≡ true) w lt | inr z ↦ absurd z ]
 ]
-
-pub nothing-before : (xs : List Owned) (a : Owned) → AllBefore (take 0 xs) a
-nothing-before [] a y i = absurd i
-nothing-before (x ∷ xs) a y i = absurd i
 
 -- ---- lists with the same members
 

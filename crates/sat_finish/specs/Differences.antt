@@ -10,8 +10,8 @@ abbrev pub IsKeptUnder : List Owned → Session → ℕ → Option Noted → Typ
 IsKeptUnder xs s number None = (n : Noted) → In xs (s, n) → n.lamport ≡ number → ⊥
 IsKeptUnder xs s number (Some n) = In xs (s, n) × (n.lamport ≡ number)
 
--- for one session and one number, these are what nodes kept and what the session kept, and they are not the same. Where nodes kept two
--- notes there, the one is told that the session did not keep
+-- for one session and one number, these are what nodes kept and what the session kept, and they are not the same. Where
+-- nodes kept two notes there, the one is told that the session did not keep
 pub record IsDifference (nodes sessions : List Owned) (node session : Option Noted) : Type 0 where
   pub owner : Session
   pub number : ℕ

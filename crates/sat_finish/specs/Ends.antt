@@ -14,9 +14,11 @@ pub record IsEnd (d : Deployed) (o : OpenedSeen) (xs : List SessionSeen) (e : En
   pub same_deployment : e.deployment ≡ d
   pub one_journal : IsJournal d o.sites o.serials xs e.journal
 
--- not as many sessions came back as were given: both numbers are told, and all comes back. As many did, and nodes and sessions differ. Or
--- there was no memory, and all comes back
+-- not as many sessions came back as were given: both numbers are told, and all comes back. As many did, and nodes and
+-- sessions differ. Or there was no memory, and all comes back
 abbrev pub IsFault : {N : Type 0} → Deployed → OpenedSeen → List SessionSeen → FinishFault N → Type 0
-IsFault d o xs (SessionsOut given returned opened sessions) = (given ≡ o.given) × (returned ≡ length xs) × (given ≡ returned → ⊥) × (opened ≡ o) × (sessions.items ≡ xs)
-IsFault d o xs (Differ node session) = (o.given ≡ length xs) × IsDifference (node_notes o.sites o.serials) (session_notes d xs) node session
+IsFault d o xs (SessionsOut given returned opened sessions) =
+    (given ≡ o.given) × (returned ≡ length xs) × (given ≡ returned → ⊥) × (opened ≡ o) × (sessions.items ≡ xs)
+IsFault d o xs (Differ node session) =
+    (o.given ≡ length xs) × IsDifference (node_notes o.sites o.serials) (session_notes d xs) node session
 IsFault d o xs (Memory opened sessions) = (o.given ≡ length xs) × (opened ≡ o) × (sessions.items ≡ xs)

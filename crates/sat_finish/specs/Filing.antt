@@ -19,7 +19,8 @@ key_of o = (rank_of o.0, o.1.lamport)
 
 -- the order of notes: the operator's first, then those of clients by number, and those of one session by Lamport number
 abbrev pub comes_before : Owned → Owned → Bool
-comes_before a b = nat_lt (rank_of a.0) (rank_of b.0) || ((rank_of a.0 == rank_of b.0) && nat_lt a.1.lamport b.1.lamport)
+comes_before a b =
+    nat_lt (rank_of a.0) (rank_of b.0) || ((rank_of a.0 == rank_of b.0) && nat_lt a.1.lamport b.1.lamport)
 
 -- no note comes before one that stands in front of it
 abbrev pub Ascending : List Owned → Type 0

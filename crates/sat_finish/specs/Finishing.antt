@@ -63,7 +63,8 @@ session_journal base x = (base + x.number, alone_lines x.noted)
 
 -- the journals that are merged: those of all sites, all serializers, and all sessions
 abbrev pub journals_of : List SiteHeld → List SerialHeld → List SessionSeen → List (Numbered Entry)
-journals_of sites serials xs = at_places 0 (node_lines sites serials) ++ map (session_journal (length sites + length serials)) xs
+journals_of sites serials xs =
+    at_places 0 (node_lines sites serials) ++ map (session_journal (length sites + length serials)) xs
 
 -- ---- the one journal
 
@@ -74,15 +75,20 @@ note_entry n = n.entry
 abbrev pub noted_entries : List Noted → List Entry
 noted_entries ns = reverse (map note_entry ns)
 
--- this journal, the oldest entry first, is the merge of all journals, where nodes and sessions kept the same. The newest first, it is a run,
--- and the run of its acts; each node's part of it is that node's journal; each session's entries are what the session noted; and it has no
--- other entry of a client or of the operator
-pub record IsJournal (d : Deployed) (sites : List SiteHeld) (serials : List SerialHeld) (xs : List SessionSeen) (journal : List Entry) : Type 0 where
+-- this journal, the oldest entry first, is the merge of all journals, where nodes and sessions kept the same. The
+-- newest first, it is a run, and the run of its acts; each node's part of it is that node's journal; each session's
+-- entries are what the session noted; and it has no other entry of a client or of the operator
+pub record IsJournal (d : Deployed) (sites : List SiteHeld) (serials : List SerialHeld) (xs : List SessionSeen)
+    (journal : List Entry) : Type 0 where
   pub same_notes : SameNotes (node_notes sites serials) (session_notes d xs)
   pub merged : journal ≡ stitched (journals_of sites serials xs)
   pub is_run : IsRun d (reverse journal)
   pub of_acts : run d (acts_of (reverse journal)) ≡ reverse journal
-  pub site_parts : (n i : ℕ) (h : SiteHeld) → slice_get sites n ≡ Some h → h.node.name ≡ named.Site i → part_at d (reverse journal) (AtSite i) ≡ history (newest (site_kept i) h.node.entries)
-  pub serial_parts : (n e z : ℕ) (h : SerialHeld) → slice_get serials n ≡ Some h → h.node.name ≡ named.Serializer e z → part_at d (reverse journal) (AtSerializer e z) ≡ history (newest (serial_kept e z) h.node.entries)
-  pub session_parts : (x : SessionSeen) → In xs x → session_part (reverse journal) (session_at d x.number) ≡ noted_entries x.noted
-  pub no_others : (s : Session) → ((x : SessionSeen) → In xs x → session_at d x.number ≡ s → ⊥) → session_part (reverse journal) s ≡ []
+  pub site_parts : (n i : ℕ) (h : SiteHeld) → slice_get sites n ≡ Some h → h.node.name ≡ named.Site i
+      → part_at d (reverse journal) (AtSite i) ≡ history (newest (site_kept i) h.node.entries)
+  pub serial_parts : (n e z : ℕ) (h : SerialHeld) → slice_get serials n ≡ Some h → h.node.name ≡ named.Serializer e z
+      → part_at d (reverse journal) (AtSerializer e z) ≡ history (newest (serial_kept e z) h.node.entries)
+  pub session_parts : (x : SessionSeen) → In xs x → session_part (reverse journal) (session_at d x.number)
+      ≡ noted_entries x.noted
+  pub no_others : (s : Session) → ((x : SessionSeen) → In xs x → session_at d x.number ≡ s → ⊥)
+      → session_part (reverse journal) s ≡ []

@@ -70,7 +70,8 @@ fn add_site_note<N: Laid>(
     entry: &Entry,
 ) -> Result<(), AllocError>
     requires { entry.now ≡ entry_of (site_kept (number_of name) kept.now) }
-    ensures { OnOk result (list.new.items ≡ list.old.items ++ owned_by (owner_of kept.now.input.by kept.now.input.input) (site_note name kept.now)) }
+    ensures { OnOk result (list.new.items ≡ list.old.items
+        ++ owned_by (owner_of kept.now.input.by kept.now.input.input) (site_note name kept.now)) }
 {
     let Some(client) = site_owner(kept.input.by(), kept.input.input()) else {
         return Ok(());
@@ -188,7 +189,8 @@ fn add_serial_note(
     entry: &Entry,
 ) -> Result<(), AllocError>
     requires { entry.now ≡ entry_of (serial_kept (epoch_in name) (serial_in name) kept.now) }
-    ensures { OnOk result (list.new.items ≡ list.old.items ++ owned_by (serial_owner kept.now.input) (serial_note name kept.now)) }
+    ensures { OnOk result (list.new.items ≡ list.old.items
+        ++ owned_by (serial_owner kept.now.input) (serial_note name kept.now)) }
 {
     match kept.input {
         SerialAct::Hop { .. } => Ok(()),

@@ -33,7 +33,8 @@ pub(crate) fn compare<N: Laid, W: Names>(
     sessions: &[Session<N>],
 ) -> Result<Option<Difference>, AllocError>
     requires { N.deployment ≡ d.now }
-    ensures { IfOk result (λ o. IsCompared (node_notes sites.now serials.now) (session_notes N.deployment sessions.now) o) }
+    ensures { IfOk result
+        (λ o. IsCompared (node_notes sites.now serials.now) (session_notes N.deployment sessions.now) o) }
 {
     let mut nodes = node_notes(alloc, sites, serials)?;
     let mut noted = session_notes(alloc, d, sessions)?;
@@ -86,7 +87,8 @@ fn common(nodes: &[Filed], sessions: &[Filed]) -> usize
 
 // Whether the same note stands at a place of both.
 fn is_same_at(nodes: &[Filed], sessions: &[Filed], place: usize) -> bool
-    ensures { result ≡ true → take place nodes.now ≡ take place sessions.now → take (place + 1) nodes.now ≡ take (place + 1) sessions.now }
+    ensures { result ≡ true → take place nodes.now ≡ take place sessions.now
+        → take (place + 1) nodes.now ≡ take (place + 1) sessions.now }
 {
     let Some(node) = filed_at(nodes, place) else {
         return false;
@@ -205,7 +207,8 @@ fn session_alone(
 fn same_before<'a>(list: &'a [Filed], place: usize, filed: &Filed) -> Option<&'a Filed>
     requires order { Ascending list.now }
     requires here { slice_get list.now place ≡ Some filed.now }
-    ensures { MatchOption result (AllBefore (take place list.now) filed.now) (λ f. In (take place list.now) f.now × IsUnderSame filed.now f.now) }
+    ensures { MatchOption result (AllBefore (take place list.now) filed.now)
+        (λ f. In (take place list.now) f.now × IsUnderSame filed.now f.now) }
 {
     if place == 0 {
         return None;

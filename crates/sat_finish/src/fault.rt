@@ -22,8 +22,8 @@ pub enum FinishFault<N: Laid + Names> {
         opened: Opened<N>,
         sessions: Vec<Session<N>>,
     },
-    /// What nodes and a session kept of an act at a node under one number is not the same. None stands for nothing kept, or for no
-    /// session.
+    /// What nodes and a session kept of an act at a node under one number is not the same. None stands for nothing
+    /// kept, or for no session.
     Differ {
         node: Option<Noted>,
         session: Option<Noted>,

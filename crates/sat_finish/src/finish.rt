@@ -11,10 +11,11 @@ use sat_session::Session;
 use std::alloc::Global;
 
 impl<N: Laid + Names> Opened<N> {
-    /// Merges what all nodes and sessions kept into one journal. `SessionsOut` exactly where not as many sessions came back as were
-    /// given, and else `Differ` exactly where nodes and sessions did not keep the same of acts at nodes.
+    /// Merges what all nodes and sessions kept into one journal. `SessionsOut` exactly where not as many sessions came
+    /// back as were given, and else `Differ` exactly where nodes and sessions did not keep the same of acts at nodes.
     pub fn finish(self, alloc: Global, sessions: Vec<Session<N>>) -> Result<Ended, FinishFault<N>>
-        ensures { MatchResult result (IsEnd N.deployment self sessions.items) (IsFault N.deployment self sessions.items) }
+        ensures { MatchResult result (IsEnd N.deployment self sessions.items)
+            (IsFault N.deployment self sessions.items) }
     {
         let returned = sessions.len() as u64;
         let given = self.given;

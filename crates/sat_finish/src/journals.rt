@@ -10,7 +10,8 @@ use sat_session::{Noted, Session};
 use sat_stitch::{Journal, KeptEntries};
 use std::alloc::{AllocError, Global};
 
-/// The journals of sites by number, then of serializers by epoch and number, then of sessions by number, each with its place.
+/// The journals of sites by number, then of serializers by epoch and number, then of sessions by number, each with its
+/// place.
 pub(crate) fn journals<N: Laid, W: Names>(
     alloc: Global,
     sites: &[Held<SiteNode<N>, W>],
@@ -66,7 +67,8 @@ fn add_serials<N: Laid, W: Names>(
     list: &mut Vec<Journal>,
     serials: &[Held<SerialNode<N>, W>],
 ) -> Result<(), AllocError>
-    ensures { OnOk result ((lines : List Lines) → map seen list.old.items ≡ at_places 0 lines → map seen list.new.items ≡ at_places 0 (lines ++ map serial_lines serials.now)) }
+    ensures { OnOk result ((lines : List Lines) → map seen list.old.items ≡ at_places 0 lines
+        → map seen list.new.items ≡ at_places 0 (lines ++ map serial_lines serials.now)) }
 {
     for serial in serials {
         let kept = serial_journal(alloc, serial)?;
@@ -81,7 +83,8 @@ fn add_sessions<N: Laid>(
     base: u32,
     sessions: &[Session<N>],
 ) -> Result<(), AllocError>
-    ensures { OnOk result (map seen list.new.items ≡ map seen list.old.items ++ map (session_journal base) sessions.now) }
+    ensures { OnOk result (map seen list.new.items ≡ map seen list.old.items
+        ++ map (session_journal base) sessions.now) }
 {
     for session in sessions {
         add_session(alloc, list, base, session)?;

@@ -4,20 +4,16 @@ use Rattle.std.proofs.lemmas.List.{append-nil, append_assoc, take-append-drop, d
 use Rattle.std.specs.Prelude.{◌==◌, ◌≢◌, ◌-◌, ◌^◌, min, if◌then◌else◌, Ok, Err, IfOk, OnErr, IsErrOf}
 use Rattle.std.specs.declared.result.Result.{Result}
 use Rattle.std.proofs.lemmas.Bool.Decides.{nat_tests}
-use Rattle.std.specs.Io.KnownBytes.{Consumes, Keeps, IsAtEnd}
+use Rattle.std.specs.Io.KnownBytes.{Consumes, IsAtEnd}
 use Rattle.sat_outside.specs.Streams.{Told, Takes}
-use Rattle.sat_follow.specs.Meaning.{Meaning, IsAnswered, GoesOn, StopsAt, EndsAt}
-use Rattle.sat_follow.specs.Following.{IsTextOf, TakesFront, IsOutput, HasAnswered, HasFront, StopsReading, WasAnswering}
+use Rattle.sat_follow.specs.Meaning.{Meaning, IsAnswered, GoesOn, StopsAt}
+use Rattle.sat_follow.specs.Following.{IsTextOf, TakesFront, IsOutput, HasFront, StopsReading, WasAnswering}
 use Rattle.sat_follow.specs.UnderWay.{Answers, Stops, Ends, Broke, EndedBefore}
 use Rattle.sat_follow.specs.declared.pieces.Halt.{Halt}
 use Rattle.sat_follow.specs.declared.pieces.Halt.TheVariants.{Source, Sink, Memory}
 use Rattle.sat_follow.specs.declared.pieces.TheConstants.{BUFFER_BYTES}
 
 -- ---- a source
-
-pub consumes_none : (left : Option (List ℕ)) → Consumes left left []
-consumes_none None = tt
-consumes_none (Some xs) = refl
 
 pub consumes_more : (a b c : Option (List ℕ)) (xs ys : List ℕ) → Consumes a b xs → Consumes b c ys → Consumes a c (xs ++ ys)
 consumes_more None b c xs ys h k = tt
@@ -33,13 +29,6 @@ rest_of (Some ws) (Some bs) taken h = (bs, h)
 -- the count behind a read that gave so many bytes
 abbrev Counted : Bool → ℕ → ℕ
 Counted b before = if b then min (before + 1) (2 ^ 64 - 1) else before
-
-pub ends_once : (first before now count : ℕ) → before ≡ first → now ≡ (if count == 0 then min (before + 1) (2 ^ 64 - 1) else before) → now ≤ first + 1
-ends_once first before now count same is = go (count == 0) is
-  where
-    go : (b : Bool) → now ≡ Counted b before → now ≤ first + 1
-    go true e = omega (arith, same, e)
-    go false e = omega (arith, same, e)
 
 pub ends_same : (first before now count : ℕ) → count ≢ 0 → before ≡ first → now ≡ (if count == 0 then min (before + 1) (2 ^ 64 - 1) else before) → now ≡ first
 ends_same first before now count some same is =
@@ -87,24 +76,12 @@ front_longer a b xs ys h = let k = front_more h.0 xs ys in (k.0, subst (λ (byte
 
 -- ---- a piece
 
-pub answers_of : (m : Meaning) (before now : List ℕ → Type 0) (piece text : List ℕ) (good : Bool) (old new : Told) → (good ≡ true → GoesOn m before now piece text) → Takes old new text → good ≡ true → Answers m before now piece old new
-answers_of m before now piece text good old new goes took is = let on = goes is in record { text = text; written = took; follows = on.follows; answers = on.answers }
-
-pub stops_of : (m : Meaning) (before : List ℕ → Type 0) (piece text : List ℕ) (good : Bool) (old new : Told) → (good ≡ false → StopsAt m before piece text) → Takes old new text → good ≡ false → Stops m before piece old new
-stops_of m before piece text good old new bad took is = let at = bad is in record { text = text; written = took; output = at.output; status = at.status }
-
 pub broke_of : (m n : Meaning) (before now : List ℕ → Type 0) (piece text : List ℕ) (good : Bool) (old new : Told) → n ≡ m → ((front : List ℕ) → now front → IsAnswered n front) → (good ≡ true → GoesOn m before now piece text) → (good ≡ false → StopsAt m before piece text) → TakesFront old new text → Broke m before piece old new
 broke_of m n before now piece text true old new same told goes bad took = record { text = text; written = took; output = λ front more had. begins front more (subst (λ (x : Meaning). IsAnswered x (front ++ piece)) same (told (front ++ piece) ((goes refl).follows front had))) ((goes refl).answers front had) }
   where
     begins : (front more : List ℕ) → IsAnswered m (front ++ piece) → m.answers (front ++ piece) ≡ m.answers front ++ text → (tail : List ℕ) × (m.output (front ++ piece ++ more) ≡ m.answers front ++ text ++ tail)
     begins front more is e = let tail = is.begins more in (tail.0, tail.1 ∙ ap (λ (bytes : List ℕ). bytes ++ tail.0) e)
 broke_of m n before now piece text false old new same told goes bad took = record { text = text; written = took; output = λ front more had. ([], (bad refl).output front more had ∙ sym (append-nil (m.answers front ++ text))) }
-
-pub ends_of : (m : Meaning) (before : List ℕ → Type 0) (text : List ℕ) (status : ℕ) (old new : Told) → EndsAt m before text status → Takes old new text → Ends m before old new status
-ends_of m before text status old new is took = record { text = text; written = took; output = is.output; status_is = is.status_is }
-
-pub ended_before_of : (m : Meaning) (before : List ℕ → Type 0) (text : List ℕ) (status : ℕ) (old new : Told) → EndsAt m before text status → TakesFront old new text → EndedBefore m before old new
-ended_before_of m before text status old new is took = record { text = text; written = took; output = is.output }
 
 -- ---- what was followed so far
 
@@ -120,16 +97,6 @@ pub record HasFollowed (m : Meaning) (follows : List ℕ → Type 0) (before now
 -- what holds of each state of a follower with this meaning
 abbrev pub IsTold : Meaning → (List ℕ → Type 0) → Type 0
 IsTold n follows = (front : List ℕ) → follows front → IsAnswered n front
-
-pub starts : (m : Meaning) (follows : List ℕ → Type 0) (left : Option (List ℕ)) (told : Told) → IsTold m follows → follows [] → HasFollowed m follows left left told told 0
-starts m follows left told law fresh = record {
-  taken = [];
-  consumed = consumes_none left;
-  stands = fresh;
-  is = law [] fresh;
-  counted = refl;
-  written = subst (λ (bytes : List ℕ). Takes told told bytes) (sym (law [] fresh).from_nothing) (λ more. refl);
-}
 
 goes_on : (m : Meaning) (before after : List ℕ → Type 0) (a b c : Option (List ℕ)) (old mid new : Told) (k count : ℕ) (piece : List ℕ) → HasFollowed m before a b old mid k → IsTold m after → Answers m before after piece mid new → Consumes b c piece → count ≡ length piece
     → HasFollowed m after a c old new (k + count)
@@ -161,16 +128,8 @@ bounded m follows a b c old new k piece had took one =
 still : (m : Meaning) (follows : List ℕ → Type 0) (a b c : Option (List ℕ)) (old new : Told) (k : ℕ) (had : HasFollowed m follows a b old new k) → Consumes b c [] → Consumes a c had.taken
 still m follows a b c old new k had took = subst (λ (bytes : List ℕ). Consumes a c bytes) (append-nil had.taken) (consumes_more a b c had.taken [] had.consumed took)
 
-pub keeps : (n m : Option (List ℕ)) → Keeps n m → Consumes n m []
-keeps None m is = tt
-keeps (Some xs) None is = absurd is
-keeps (Some xs) (Some ys) is = sym is
-
 pub zero_bytes : (n m : Option (List ℕ)) (count : ℕ) (bytes : List ℕ) → count ≡ 0 → Consumes n m (take count bytes) → Consumes n m []
 zero_bytes n m count bytes none took = subst (λ (k : ℕ). Consumes n m (take k bytes)) none took
-
-pub has_answered : (m : Meaning) (follows : List ℕ → Type 0) (a b c : Option (List ℕ)) (old new : Told) (k : ℕ) → HasFollowed m follows a b old new k → Consumes b c [] → HasAnswered m a c old new
-has_answered m follows a b c old new k had took = record { taken = had.taken; consumed = still m follows a b c old new k had took; good = had.is.good; written = had.written }
 
 -- what was written is a front of what is made of the whole text
 pub front_of : (m : Meaning) (follows : List ℕ → Type 0) (a b : Option (List ℕ)) (old mid new : Told) (k : ℕ) → HasFollowed m follows a b old mid k → Takes mid new [] → HasFront m a old new
@@ -192,9 +151,6 @@ was_answering m follows a b c old mid new k piece rest had took one wrote = reco
   rest = rest;
   written = takes_on old mid new (m.answers had.taken) rest had.written wrote;
 }
-
-pub still_answering : (m : Meaning) (follows : List ℕ → Type 0) (a b c : Option (List ℕ)) (old new : Told) (k : ℕ) → HasFollowed m follows a b old new k → Consumes b c [] → WasAnswering m a c old new
-still_answering m follows a b c old new k had took = was_answering m follows a b c old new new k [] [] had took (omega arith) (λ more. refl)
 
 -- ---- no more comes
 

@@ -97,17 +97,6 @@ adds_part {S} r n stands begun longer part text count same none is size short = 
   answers = λ front had. part_told r stands begun front part had none;
 }
 
-pub adds_none : {S : Type 0} → (r : Rules S) (stands : S → Type 0) (begun part text : List ℕ) → part ≡ [] → Adds r (Follows r stands begun) (Follows r stands begun) part text text
-adds_none {S} r stands begun part text is = record {
-  added = [];
-  longer_by = sym (append-nil text);
-  follows = λ front had. subst (Follows r stands begun) (same front) had;
-  answers = λ front had. ap (λ (text : List ℕ). (made r text).answers) (sym (same front)) ∙ sym (append-nil (made r front).answers);
-}
-  where
-    same : (front : List ℕ) → front ≡ front ++ part
-    same front = sym (append-nil front) ∙ ap (λ (bytes : List ℕ). front ++ bytes) (sym is)
-
 -- ---- a line that is stuck
 
 stuck_made : {S : Type 0} → (r : Rules S) (s : S) (line : List ℕ) (parts : List (List ℕ)) (count : ℕ) (stuck : IsStuck r s count) → count ≤ length line → made_from r s (onto_front line parts) ≡ at_fault stuck.text
@@ -282,9 +271,6 @@ pub record HasTaken {S : Type 0} (r : Rules S) (old now : List ℕ → Type 0) (
   pub front : List ℕ
   pub whole : piece ≡ front ++ rest
   pub adds : Adds r old now front text longer
-
-pub taken_start : {S : Type 0} → (r : Rules S) (stands : S → Type 0) (begun piece text : List ℕ) → HasTaken r (Follows r stands begun) (Follows r stands begun) piece piece text text
-taken_start r stands begun piece text = record { front = []; whole = refl; adds = adds_none r stands begun [] text refl }
 
 pub taken_line : {S : Type 0} → (r : Rules S) (a b c : List ℕ → Type 0) (piece rest line more text mid longer : List ℕ) → HasTaken r a b piece rest text mid → IsLine rest line more → Adds r b c (line ++ 10 ∷ []) mid longer → HasTaken r a c piece more text longer
 taken_line r a b c piece rest line more text mid longer had cut adds = record {

@@ -7,16 +7,20 @@ use Rattle.sat_follow.specs.Rules.{Rules, Made, made, made_from, meaning_of, beh
 use Rattle.sat_follow.specs.ByLines.{Follows, onto_front}
 
 -- where no more comes
-pub ended : {S : Type 0} → (r : Rules S) (stands : S → Type 0) (begun front : List ℕ) (had : Follows r stands begun front) → made r front ≡ behind had.told (at_end (r.close had.state begun))
+pub ended : {S : Type 0} → (r : Rules S) (stands : S → Type 0) (begun front : List ℕ)
+    (had : Follows r stands begun front) → made r front ≡ behind had.told (at_end (r.close had.state begun))
 unfolding made_from
 ended r stands begun front had =
-    ap (made r) (sym (append-nil front)) ∙ had.goes_on [] ∙ ap (λ (rest : List ℕ). behind had.told (at_end (r.close had.state rest))) (append-nil begun)
+    ap (made r) (sym (append-nil front)) ∙ had.goes_on []
+    ∙ ap (λ (rest : List ℕ). behind had.told (at_end (r.close had.state rest))) (append-nil begun)
 
 -- what was answered are the answers of its lines
-pub told_is : {S : Type 0} → (r : Rules S) (stands : S → Type 0) (begun front : List ℕ) (had : Follows r stands begun front) → (made r front).answers ≡ had.told
+pub told_is : {S : Type 0} → (r : Rules S) (stands : S → Type 0) (begun front : List ℕ)
+    (had : Follows r stands begun front) → (made r front).answers ≡ had.told
 told_is r stands begun front had = ap (λ (m : Made). m.answers) (ended r stands begun front had) ∙ append-nil had.told
 
-pub answered : {S : Type 0} → (r : Rules S) (stands : S → Type 0) (begun front : List ℕ) → Follows r stands begun front → IsAnswered (meaning_of r) front
+pub answered : {S : Type 0} → (r : Rules S) (stands : S → Type 0) (begun front : List ℕ) → Follows r stands begun front
+    → IsAnswered (meaning_of r) front
 unfolding made made_from
 answered r stands begun front had = record {
   good = ap (λ (m : Made). m.good) (ended r stands begun front had) ∙ had.may_go_on;

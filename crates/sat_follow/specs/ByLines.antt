@@ -37,7 +37,8 @@ pub record BadLine {S : Type 0} (r : Rules S) (old : S → Type 0) (line text lo
   pub each : (s : S) → old s → r.line s line ≡ stops added
 
 -- no more comes, and what the end makes stands behind what the text was
-pub record EndsText {S : Type 0} (r : Rules S) (old : S → Type 0) (rest text longer : List ℕ) (status : ℕ) : Type 0 where
+pub record EndsText {S : Type 0} (r : Rules S) (old : S → Type 0) (rest text longer : List ℕ)
+    (status : ℕ) : Type 0 where
   pub added : List ℕ
   pub longer_by : longer ≡ text ++ added
   pub text_is : (s : S) → old s → (r.close s rest).text ≡ added
@@ -49,7 +50,8 @@ pub record EndsText {S : Type 0} (r : Rules S) (old : S → Type 0) (rest text l
 pub record IsStuck {S : Type 0} (r : Rules S) (s : S) (count : ℕ) : Type 0 where
   pub text : List ℕ
   pub line : (line : List ℕ) → count ≤ length line → r.line s line ≡ stops text
-  pub close : (rest : List ℕ) → count ≤ length rest → r.close s rest ≡ record { may_go_on = false; text = text; status = 1 }
+  pub close : (rest : List ℕ) → count ≤ length rest → r.close s rest
+      ≡ record { may_go_on = false; text = text; status = 1 }
 
 -- or it may be good
 pub record IsOpen {S : Type 0} (r : Rules S) (s : S) (count : ℕ) : Type 0 where
@@ -74,13 +76,14 @@ abbrev pub onto_front : List ℕ → List (List ℕ) → List (List ℕ)
 onto_front front [] = front ∷ []
 onto_front front (part ∷ parts) = (front ++ part) ∷ parts
 
--- These bytes came: whole lines that were answered by this, and the beginning of a line. Whatever comes, it is made of the state behind
--- these lines.
+-- These bytes came: whole lines that were answered by this, and the beginning of a line. Whatever comes, it is made of
+-- the state behind these lines.
 pub record Follows {S : Type 0} (r : Rules S) (stands : S → Type 0) (begun front : List ℕ) : Type 0 where
   pub state : S
   pub stands_for : stands state
   pub told : List ℕ
-  pub goes_on : (more : List ℕ) → made r (front ++ more) ≡ behind told (made_from r state (onto_front begun (slice_split is_newline more)))
+  pub goes_on : (more : List ℕ) → made r (front ++ more)
+      ≡ behind told (made_from r state (onto_front begun (slice_split is_newline more)))
   pub counted : length front ≤ r.bytes state + length begun
   pub few : r.bytes state ≤ r.most
   pub short : length begun ≤ r.longest
@@ -98,5 +101,6 @@ pub record Adds {S : Type 0} (r : Rules S) (old new : List ℕ → Type 0) (piec
 pub record Breaks {S : Type 0} (r : Rules S) (old : List ℕ → Type 0) (piece text longer : List ℕ) : Type 0 where
   pub added : List ℕ
   pub longer_by : longer ≡ text ++ added
-  pub output : (front more : List ℕ) → old front → (made r (front ++ piece ++ more)).output ≡ (made r front).answers ++ added
+  pub output : (front more : List ℕ) → old front → (made r (front ++ piece ++ more)).output
+      ≡ (made r front).answers ++ added
   pub status : (front more : List ℕ) → old front → (made r (front ++ piece ++ more)).status ≡ 1

@@ -20,8 +20,8 @@ pub record IsOutput (m : Meaning) (left : Option (List ℕ)) (text : List ℕ) (
   pub output : text ≡ m.output input
   pub status_is : status ≡ m.status input
 
--- The source failed after these bytes. None of the whole lines in them is bad, and the sink took the answers of these lines, and
--- nothing else: each answer was written before more was read.
+-- The source failed after these bytes. None of the whole lines in them is bad, and the sink took the answers of these
+-- lines, and nothing else: each answer was written before more was read.
 pub record HasAnswered (m : Meaning) (left left_after : Option (List ℕ)) (old new : Told) : Type 0 where
   pub taken : List ℕ
   pub consumed : Consumes left left_after taken
@@ -34,8 +34,8 @@ pub record HasFront (m : Meaning) (left : Option (List ℕ)) (old new : Told) : 
   pub whole : IsTextOf left text
   pub front : TakesFront old new (m.output text)
 
--- It stopped while the answers of one piece of the text were made or written: those of each whole line before that piece were written
--- before the piece was read.
+-- It stopped while the answers of one piece of the text were made or written: those of each whole line before that
+-- piece were written before the piece was read.
 pub record WasAnswering (m : Meaning) (left left_after : Option (List ℕ)) (old new : Told) : Type 0 where
   pub before : List ℕ
   pub piece : List ℕ
@@ -44,8 +44,9 @@ pub record WasAnswering (m : Meaning) (left left_after : Option (List ℕ)) (old
   pub rest : List ℕ
   pub written : Takes old new (m.answers before ++ rest)
 
--- None of the whole lines of what was read is bad, but in its last bytes, which are at most a piece. So behind a first bad line less than a
--- piece is read. That nothing is read once this line is known is more, and isn't said: a further call could still fill the piece.
+-- None of the whole lines of what was read is bad, but in its last bytes, which are at most a piece. So behind a first
+-- bad line less than a piece is read. That nothing is read once this line is known is more, and isn't said: a further
+-- call could still fill the piece.
 pub record StopsReading (m : Meaning) (left left_after : Option (List ℕ)) : Type 0 where
   pub before : List ℕ
   pub piece : List ℕ

@@ -14,8 +14,8 @@ pub record Meaning : Type 0 where
   -- where none of its whole lines is bad, it has at most as many bytes
   pub most : ℕ
 
--- Of these bytes none of the whole lines is bad. They are not too many, and what is written of a text that begins with them begins with
--- the answers of these lines. Of no bytes nothing is answered.
+-- Of these bytes none of the whole lines is bad. They are not too many, and what is written of a text that begins with
+-- them begins with the answers of these lines. Of no bytes nothing is answered.
 pub record IsAnswered (m : Meaning) (front : List ℕ) : Type 0 where
   pub good : m.good front ≡ true
   pub few : length front ≤ m.most

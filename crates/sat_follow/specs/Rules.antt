@@ -8,8 +8,8 @@ pub data Outcome (S : Type 0) : Type 0 where
   goes : S → List ℕ → Outcome S
   stops : List ℕ → Outcome S
 
--- what the end of a text comes to: whether what stands behind its last byte 10 may be the beginning of a good line, what is written, and
--- the text's status
+-- what the end of a text comes to: whether what stands behind its last byte 10 may be the beginning of a good line,
+-- what is written, and the text's status
 pub record Closing : Type 0 where
   pub may_go_on : Bool
   pub text : List ℕ
@@ -28,8 +28,8 @@ pub record Rules (S : Type 0) : Type 0 where
   -- a line that has begun may be good while it has no more bytes
   pub longest : ℕ
 
--- what is made of a text: whether none of its lines is bad, the answers of its lines before the first bad one, all that is written, and
--- the status
+-- what is made of a text: whether none of its lines is bad, the answers of its lines before the first bad one, all that
+-- is written, and the status
 pub record Made : Type 0 where
   pub good : Bool
   pub answers : List ℕ

@@ -29,7 +29,8 @@ pub record Ends (m : Meaning) (before : List ℕ → Type 0) (old new : Told) (s
 pub record Broke (m : Meaning) (before : List ℕ → Type 0) (piece : List ℕ) (old new : Told) : Type 0 where
   pub text : List ℕ
   pub written : TakesFront old new text
-  pub output : (front more : List ℕ) → before front → (tail : List ℕ) × (m.output (front ++ piece ++ more) ≡ m.answers front ++ text ++ tail)
+  pub output : (front more : List ℕ) → before front → (tail : List ℕ)
+      × (m.output (front ++ piece ++ more) ≡ m.answers front ++ text ++ tail)
 
 -- and of what the end made of it
 pub record EndedBefore (m : Meaning) (before : List ℕ → Type 0) (old new : Told) : Type 0 where

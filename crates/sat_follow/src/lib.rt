@@ -1,4 +1,5 @@
-//! A text that is answered as it comes: what answers it, and the one loop that reads from a source and writes to a sink.
+//! A text that is answered as it comes: what answers it, and the one loop that reads from a source and writes to a
+//! sink.
 #![tactic(auto)]
 
 mod follower;

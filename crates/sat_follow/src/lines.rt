@@ -19,22 +19,26 @@ pub trait LineFollower {
     /// It has taken lines that say this.
     ghost stands_for: { Self → State → Type 0 };
 
-    /// Takes a line, without its byte 10, and appends its answer, or the text of its fault where it is bad. Whether it is good. After a
-    /// bad line and after want of memory nothing is known of it.
+    /// Takes a line, without its byte 10, and appends its answer, or the text of its fault where it is bad. Whether it
+    /// is good. After a bad line and after want of memory nothing is known of it.
     fn line(&mut self, line: &[u8], text: &mut Vec<u8>) -> Result<bool, AllocError>
         ensures same { rules self.new ≡ rules self.old }
-        ensures good { IfOk result (λ good. good ≡ true → GoodLine (rules self.old) (stands_for self.old) (stands_for self.new) line.now text.old.items text.new.items) }
-        ensures bad { IfOk result (λ good. good ≡ false → BadLine (rules self.old) (stands_for self.old) line.now text.old.items text.new.items) };
+        ensures good { IfOk result (λ good. good ≡ true
+            → GoodLine (rules self.old) (stands_for self.old) (stands_for self.new) line.now text.old.items
+            text.new.items) }
+        ensures bad { IfOk result (λ good. good ≡ false
+            → BadLine (rules self.old) (stands_for self.old) line.now text.old.items text.new.items) };
 
     /// Whether the next line is bad with so many bytes, whatever they are and whatever stands behind them.
     fn is_stuck(&self, count: usize) -> bool
         requires { 0 < count }
         ensures { (s : State) → stands_for self.now s → IsStuckAt (rules self.now) s count result };
 
-    /// Says that no more comes, and that these bytes, none of them 10, stood after the last line. It appends the rest of the output, and
-    /// answers the text's status.
+    /// Says that no more comes, and that these bytes, none of them 10, stood after the last line. It appends the rest
+    /// of the output, and answers the text's status.
     fn finish(&mut self, rest: &[u8], text: &mut Vec<u8>) -> Result<u8, AllocError>
-        ensures { IfOk result (λ status. EndsText (rules self.old) (stands_for self.old) rest.now text.old.items text.new.items status) };
+        ensures { IfOk result
+            (λ status. EndsText (rules self.old) (stands_for self.old) rest.now text.old.items text.new.items status) };
 }
 
 // A text before and behind its first byte 10, where it has one.
@@ -72,8 +76,14 @@ impl<L: LineFollower + Drop> Lines<L> {
     fn front(&mut self, part: &[u8], text: &mut Vec<u8>) -> Result<bool, AllocError>
         requires { HasNoEnd part.now }
         ensures same { L.rules self.new.each ≡ L.rules self.old.each }
-        ensures good { (r : Rules L.State) → L.rules self.old.each ≡ r → IfOk result (λ good. good ≡ true → Adds r (Follows r (L.stands_for self.old.each) self.old.begun.items) (Follows r (L.stands_for self.new.each) self.new.begun.items) part.now text.old.items text.new.items) }
-        ensures bad { (r : Rules L.State) → L.rules self.old.each ≡ r → IfOk result (λ good. good ≡ false → Breaks r (Follows r (L.stands_for self.old.each) self.old.begun.items) part.now text.old.items text.new.items) }
+        ensures good { (r : Rules L.State) → L.rules self.old.each ≡ r
+            → IfOk result (λ good. good ≡ true
+            → Adds r (Follows r (L.stands_for self.old.each) self.old.begun.items)
+            (Follows r (L.stands_for self.new.each) self.new.begun.items) part.now text.old.items text.new.items) }
+        ensures bad { (r : Rules L.State) → L.rules self.old.each ≡ r
+            → IfOk result (λ good. good ≡ false
+            → Breaks r (Follows r (L.stands_for self.old.each) self.old.begun.items) part.now text.old.items
+            text.new.items) }
     {
         if part.is_empty() {
             return Ok(true);
@@ -91,8 +101,15 @@ impl<L: LineFollower + Drop> Lines<L> {
     fn begun_line(&mut self, part: &[u8], text: &mut Vec<u8>) -> Result<bool, AllocError>
         requires { HasNoEnd part.now }
         ensures same { L.rules self.new.each ≡ L.rules self.old.each }
-        ensures good { (r : Rules L.State) → L.rules self.old.each ≡ r → IfOk result (λ good. good ≡ true → Adds r (Follows r (L.stands_for self.old.each) self.old.begun.items) (Follows r (L.stands_for self.new.each) self.new.begun.items) (part.now ++ 10 ∷ []) text.old.items text.new.items) }
-        ensures bad { (r : Rules L.State) → L.rules self.old.each ≡ r → IfOk result (λ good. good ≡ false → Breaks r (Follows r (L.stands_for self.old.each) self.old.begun.items) (part.now ++ 10 ∷ []) text.old.items text.new.items) }
+        ensures good { (r : Rules L.State) → L.rules self.old.each ≡ r
+            → IfOk result (λ good. good ≡ true
+            → Adds r (Follows r (L.stands_for self.old.each) self.old.begun.items)
+            (Follows r (L.stands_for self.new.each) self.new.begun.items) (part.now ++ 10 ∷ []) text.old.items
+            text.new.items) }
+        ensures bad { (r : Rules L.State) → L.rules self.old.each ≡ r
+            → IfOk result (λ good. good ≡ false
+            → Breaks r (Follows r (L.stands_for self.old.each) self.old.begun.items) (part.now ++ 10 ∷ [])
+            text.old.items text.new.items) }
     {
         self.begun.extend_from_slice(part)?;
         let good = self.each.line(self.begun.as_slice(), text)?;
@@ -104,8 +121,15 @@ impl<L: LineFollower + Drop> Lines<L> {
     fn end_of_line(&mut self, part: &[u8], text: &mut Vec<u8>) -> Result<bool, AllocError>
         requires { HasNoEnd part.now }
         ensures same { L.rules self.new.each ≡ L.rules self.old.each }
-        ensures good { (r : Rules L.State) → L.rules self.old.each ≡ r → IfOk result (λ good. good ≡ true → Adds r (Follows r (L.stands_for self.old.each) self.old.begun.items) (Follows r (L.stands_for self.new.each) self.new.begun.items) (part.now ++ 10 ∷ []) text.old.items text.new.items) }
-        ensures bad { (r : Rules L.State) → L.rules self.old.each ≡ r → IfOk result (λ good. good ≡ false → Breaks r (Follows r (L.stands_for self.old.each) self.old.begun.items) (part.now ++ 10 ∷ []) text.old.items text.new.items) }
+        ensures good { (r : Rules L.State) → L.rules self.old.each ≡ r
+            → IfOk result (λ good. good ≡ true
+            → Adds r (Follows r (L.stands_for self.old.each) self.old.begun.items)
+            (Follows r (L.stands_for self.new.each) self.new.begun.items) (part.now ++ 10 ∷ []) text.old.items
+            text.new.items) }
+        ensures bad { (r : Rules L.State) → L.rules self.old.each ≡ r
+            → IfOk result (λ good. good ≡ false
+            → Breaks r (Follows r (L.stands_for self.old.each) self.old.begun.items) (part.now ++ 10 ∷ [])
+            text.old.items text.new.items) }
     {
         if self.begun.as_slice().is_empty() {
             return self.each.line(part, text);
@@ -116,8 +140,14 @@ impl<L: LineFollower + Drop> Lines<L> {
     // Takes a piece, line by line.
     fn take(&mut self, piece: &[u8], text: &mut Vec<u8>) -> Result<bool, AllocError>
         ensures same { L.rules self.new.each ≡ L.rules self.old.each }
-        ensures good { IfOk result (λ good. good ≡ true → Adds (L.rules self.old.each) (Follows (L.rules self.old.each) (L.stands_for self.old.each) self.old.begun.items) (Follows (L.rules self.old.each) (L.stands_for self.new.each) self.new.begun.items) piece.now text.old.items text.new.items) }
-        ensures bad { IfOk result (λ good. good ≡ false → Breaks (L.rules self.old.each) (Follows (L.rules self.old.each) (L.stands_for self.old.each) self.old.begun.items) piece.now text.old.items text.new.items) }
+        ensures good { IfOk result (λ good. good ≡ true
+            → Adds (L.rules self.old.each)
+            (Follows (L.rules self.old.each) (L.stands_for self.old.each) self.old.begun.items)
+            (Follows (L.rules self.old.each) (L.stands_for self.new.each) self.new.begun.items) piece.now text.old.items
+            text.new.items) }
+        ensures bad { IfOk result (λ good. good ≡ false
+            → Breaks (L.rules self.old.each) (Follows (L.rules self.old.each) (L.stands_for self.old.each)
+            self.old.begun.items) piece.now text.old.items text.new.items) }
     {
         let mut rest = piece;
         'lines: while let Some((line, more)) = cut_line(rest) {

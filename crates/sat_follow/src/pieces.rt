@@ -31,9 +31,13 @@ fn answer_piece<F: Follower, K: Sink>(
     sink: &mut K,
 ) -> Result<bool, Halt>
     ensures same { F.meaning follower.new ≡ F.meaning follower.old }
-    ensures good { IfOk result (λ good. good ≡ true → Answers (F.meaning follower.old) (F.follows follower.old) (F.follows follower.new) piece.now (K.told sink.old) (K.told sink.new)) }
-    ensures bad { IfOk result (λ good. good ≡ false → Stops (F.meaning follower.old) (F.follows follower.old) piece.now (K.told sink.old) (K.told sink.new)) }
-    ensures broke { IsErrOf result Halt.Sink → Broke (F.meaning follower.old) (F.follows follower.old) piece.now (K.told sink.old) (K.told sink.new) }
+    ensures good { IfOk result (λ good. good ≡ true
+        → Answers (F.meaning follower.old) (F.follows follower.old) (F.follows follower.new) piece.now (K.told sink.old)
+        (K.told sink.new)) }
+    ensures bad { IfOk result (λ good. good ≡ false
+        → Stops (F.meaning follower.old) (F.follows follower.old) piece.now (K.told sink.old) (K.told sink.new)) }
+    ensures broke { IsErrOf result Halt.Sink
+        → Broke (F.meaning follower.old) (F.follows follower.old) piece.now (K.told sink.old) (K.told sink.new) }
     ensures refused { IsErrOf result Halt.Sink → Rose (K.faults sink.old) (K.faults sink.new) }
     ensures nothing { IsErrOf result Halt.Memory → Takes (K.told sink.old) (K.told sink.new) [] }
     ensures causes { result ≢ Err Halt.Source }
@@ -54,8 +58,10 @@ fn end_text<F: Follower, K: Sink>(
     text: &mut Vec<u8>,
     sink: &mut K,
 ) -> Result<u8, Halt>
-    ensures whole { IfOk result (λ status. Ends (F.meaning follower.old) (F.follows follower.old) (K.told sink.old) (K.told sink.new) status) }
-    ensures broke { IsErrOf result Halt.Sink → EndedBefore (F.meaning follower.old) (F.follows follower.old) (K.told sink.old) (K.told sink.new) }
+    ensures whole { IfOk result
+        (λ status. Ends (F.meaning follower.old) (F.follows follower.old) (K.told sink.old) (K.told sink.new) status) }
+    ensures broke { IsErrOf result Halt.Sink
+        → EndedBefore (F.meaning follower.old) (F.follows follower.old) (K.told sink.old) (K.told sink.new) }
     ensures refused { IsErrOf result Halt.Sink → Rose (K.faults sink.old) (K.faults sink.new) }
     ensures nothing { IsErrOf result Halt.Memory → Takes (K.told sink.old) (K.told sink.new) [] }
     ensures causes { result ≢ Err Halt.Source }
@@ -70,8 +76,9 @@ fn end_text<F: Follower, K: Sink>(
     }
 }
 
-/// Follows a text: reads a piece, has the lines in it answered, writes that, and reads on; at the end it writes the rest of the output.
-/// It keeps no more of the text than a piece. It answers the text's status, which is 0, or 1 where a line is bad.
+/// Follows a text: reads a piece, has the lines in it answered, writes that, and reads on; at the end it writes the
+/// rest of the output. It keeps no more of the text than a piece. It answers the text's status, which is 0, or 1 where
+/// a line is bad.
 pub fn follow<F: Follower, S: Source, K: Sink>(
     alloc: Global,
     follower: &mut F,
@@ -79,17 +86,24 @@ pub fn follow<F: Follower, S: Source, K: Sink>(
     sink: &mut K,
 ) -> Result<u8, Halt>
     requires fresh { F.follows follower.old [] }
-    ensures whole { IfOk result (λ status. (text : List ℕ) × IsOutput (F.meaning follower.old) (S.left source.old) text status × Takes (K.told sink.old) (K.told sink.new) text) }
+    ensures whole { IfOk result (λ status. (text : List ℕ)
+        × IsOutput (F.meaning follower.old) (S.left source.old) text status
+        × Takes (K.told sink.old) (K.told sink.new) text) }
     ensures end { IfOk result (λ status. status ≡ 0 → IsAtEnd (S.left source.new)) }
     // The bytes taken have a bound, however much the source has.
-    ensures bounded { (taken : List ℕ) × Consumes (S.left source.old) (S.left source.new) taken × (length taken ≤ (F.meaning follower.old).most + BUFFER_BYTES) }
+    ensures bounded { (taken : List ℕ) × Consumes (S.left source.old) (S.left source.new) taken
+        × (length taken ≤ (F.meaning follower.old).most + BUFFER_BYTES) }
     // All that is read but the last bytes, at most a piece, has no bad line in it.
     ensures stops { StopsReading (F.meaning follower.old) (S.left source.old) (S.left source.new) }
     ensures failed { IsErrOf result Halt.Source → Rose (S.faults source.old) (S.faults source.new) }
-    ensures answered { IsErrOf result Halt.Source → HasAnswered (F.meaning follower.old) (S.left source.old) (S.left source.new) (K.told sink.old) (K.told sink.new) }
+    ensures answered { IsErrOf result Halt.Source
+        → HasAnswered (F.meaning follower.old) (S.left source.old) (S.left source.new) (K.told sink.old)
+        (K.told sink.new) }
     ensures refused { IsErrOf result Halt.Sink → Rose (K.faults sink.old) (K.faults sink.new) }
-    ensures front { OnErr result (HasFront (F.meaning follower.old) (S.left source.old) (K.told sink.old) (K.told sink.new)) }
-    ensures stopped { OnErr result (WasAnswering (F.meaning follower.old) (S.left source.old) (S.left source.new) (K.told sink.old) (K.told sink.new)) }
+    ensures front { OnErr result
+        (HasFront (F.meaning follower.old) (S.left source.old) (K.told sink.old) (K.told sink.new)) }
+    ensures stopped { OnErr result (WasAnswering (F.meaning follower.old) (S.left source.old) (S.left source.new)
+        (K.told sink.old) (K.told sink.new)) }
     ensures once { S.ends source.new ≤ S.ends source.old + 1 }
     ensures later { S.faults source.old ≤ S.faults source.new }
     ensures kept { K.faults sink.old ≤ K.faults sink.new }

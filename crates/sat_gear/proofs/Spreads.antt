@@ -3,13 +3,12 @@ use Rattle.std.specs.Prelude.{◌≡◌, ◌<◌, ◌+◌, ◌==◌, ℕ, zero, 
 use Rattle.std.proofs.Common.{arith, ap, subst, sym, ◌∙◌, inl, inr, zero-add, ◌⊎◌}
 use Rattle.std.proofs.Math.Nat.{eq-or-lt_of_le}
 use Rattle.std.specs.Prelude.{IsTrue, ◌↔◌}
-use Rattle.std.proofs.lemmas.Bool.{eqb-true, false_from_ne_true}
+use Rattle.std.proofs.lemmas.Bool.{false_from_ne_true}
 use Rattle.std.proofs.lemmas.Option.{slice_get-get_or}
-use Rattle.std.proofs.lemmas.List.{take_more, map-append, map-set, set-get_or, get_or-map, get_or-set_same, get_or-set_other, length-map, length-set, append-nil, append_assoc, same_lists, get_or_default, length-append}
-use Rattle.std.specs.List.{AllWithin}
+use Rattle.std.proofs.lemmas.List.{take_more, map-append, map-set, get_or-map, get_or-set_same, get_or-set_other, length-map, length-set, append-nil, append_assoc, same_lists, get_or_default, length-append}
 use Rattle.std.specs.Option.{option_to_list}
 use Rattle.sat_label.proofs.Numbers.{get-front}
-use Rattle.sat_queue.specs.Queued.{Queued, members_of, HasRoom}
+use Rattle.sat_queue.specs.Queued.{Queued, members_of}
 use Rattle.sat_gear.specs.Lanes.{count_of, lanes_where, numbers_where, picked, AllBelow, Spread}
 
 -- ---- a place put into the lanes of some sites
@@ -34,14 +33,6 @@ spread-more test place i old lanes q r h s passes e =
     subst (λ (now : List (List ℕ)). Spread test place (i + 1) old now) (sym (map-set members_of lanes i r))
     (spread-set test place i old (map members_of lanes) r.members (subst (λ (n : ℕ). i < n) (sym (length-map lanes members_of)) h) s
     (e ∙ (ap (λ (ns : List ℕ). ns ++ place ∷ []) was ∙ sym (ap (λ (b : Bool). if b then get_or old i [] ++ place ∷ [] else get_or old i []) passes))))
-
-pub spread-left : (test : ℕ → Bool) (place i : ℕ) (old : List (List ℕ)) (lanes : List (Queued ℕ)) → i < length lanes → Spread test place i old (map members_of lanes) →
-    test i ≡ false → Spread test place (i + 1) old (map members_of lanes)
-spread-left test place i old lanes h s fails =
-    let here : get_or (map members_of lanes) i [] ≡ get_or old i [] = s.after i (λ low. absurd (omega arith)) in
-    subst (λ (now : List (List ℕ)). Spread test place (i + 1) old now) (set-get_or (map members_of lanes) i [])
-    (spread-set test place i old (map members_of lanes) (get_or (map members_of lanes) i []) (subst (λ (n : ℕ). i < n) (sym (length-map lanes members_of)) h) s
-    (here ∙ sym (ap (λ (b : Bool). if b then get_or old i [] ++ place ∷ [] else get_or old i []) fails)))
 
 -- ---- how much the lanes hold
 
@@ -85,16 +76,6 @@ pub numbers-failed : (test : ℕ → Bool) (lanes : List (Queued ℕ)) (i : ℕ)
     ns ≡ numbers_where test 0 (map members_of (take i lanes)) → ns ≡ numbers_where test 0 (map members_of (take (i + 1) lanes))
 numbers-failed test lanes i q ns h fails is =
     is ∙ sym (numbers-more test lanes i q h ∙ (ap (λ (b : Bool). numbers_where test 0 (map members_of (take i lanes)) ++ (if b then length (get_or lanes i q).members ∷ [] else [])) fails ∙ append-nil _))
-
--- ---- room
-
-pub room-after : (lanes : List (Queued ℕ)) (i : ℕ) (r : Queued ℕ) → AllWithin HasRoom lanes i (length lanes) → AllWithin HasRoom (set lanes i r) (i + 1) (length (set lanes i r))
-room-after lanes i r room k d low high =
-    subst (λ (l : Queued ℕ). HasRoom l) (sym (get_or-set_other lanes i k r d (λ same. absurd (let e : k ≡ i = same in omega arith))))
-    (room k d (omega arith) (subst (λ (n : ℕ). k < n) (length-set lanes i r) high))
-
-pub room-left : (lanes : List (Queued ℕ)) (i : ℕ) → AllWithin HasRoom lanes i (length lanes) → AllWithin HasRoom lanes (i + 1) (length lanes)
-room-left lanes i room k d low high = room k d (omega arith) high
 
 -- ---- members by their places
 
@@ -218,21 +199,6 @@ numbers_picked {X} made test k (lane ∷ lanes) within =
     ap (λ (n : ℕ). if test k then n ∷ numbers_where test (k + 1) (map (picked made) lanes) else numbers_where test (k + 1) (map (picked made) lanes)) here
     ∙ ap (λ (ns : List ℕ). if test k then length lane ∷ ns else ns) rest
 
-pub no-members : {X : Type 0} (xs : List X) → (length xs == 0) ≡ true → xs ≡ []
-no-members [] e = refl
-no-members (x ∷ xs) e = let none : suc (length xs) ≡ 0 = eqb-true _ _ e in absurd (omega arith)
-
--- where no lane passes, each stays
-pub none_spread : {X : Type 0} (test : ℕ → Bool) (x : X) (k : ℕ) (lanes : List (List X)) → numbers_where test k lanes ≡ [] → lanes ≡ lanes_where test x k lanes
-none_spread test x k [] none = refl
-none_spread {X} test x k (lane ∷ lanes) none = go (test k) refl none (none_spread test x (k + 1) lanes)
-  where
-    go : (b : Bool) → test k ≡ b → (if b then length lane ∷ numbers_where test (k + 1) lanes else numbers_where test (k + 1) lanes) ≡ [] →
-        (numbers_where test (k + 1) lanes ≡ [] → lanes ≡ lanes_where test x (k + 1) lanes) →
-        lane ∷ lanes ≡ (if test k then lane ++ x ∷ [] else lane) ∷ lanes_where test x (k + 1) lanes
-    go true passes e rest = absurd (cc)
-    go false fails e rest = rw fails (ap (λ (ls : List (List X)). lane ∷ ls) (rest e))
-
 -- where the set has no site, each stays
 pub none_passes : {X : Type 0} (test : ℕ → Bool) (x : X) (k : ℕ) (lanes : List (List X)) → ((n : ℕ) → test n ≡ true → ⊥) → lanes ≡ lanes_where test x k lanes
 none_passes test x k [] none = refl
@@ -343,12 +309,3 @@ picked-empty (suc n) = ap (λ (ls : List (List _)). [] ∷ ls) (picked-empty n)
 
 pub new-lanes : {X : Type 0} (made : List X) (places : List (List ℕ)) (n : ℕ) → made ≡ [] → places ≡ replicate n [] → map (picked made) places ≡ replicate n []
 new-lanes {X} made places n none empty = ap (λ (xs : List X). map (picked xs) places) none ∙ (ap (λ (ls : List (List ℕ)). map (picked {X = X} []) ls) empty ∙ picked-empty n)
-
--- as many payloads were made for a site as its queue has places
-pub counted-at : {X : Type 0} (made : List X) (lanes : List (Queued ℕ)) (view : List (List X)) (k : ℕ) (q : Queued ℕ) → k < length lanes → map (picked made) (map members_of lanes) ≡ view →
-    AllBelow (length made) (map members_of lanes) → q ≡ get_or lanes k q → length q.members ≡ length (get_or view k [])
-counted-at {X} made lanes view k q low is below here =
-    ap (λ (r : Queued ℕ). length r.members) here
-    ∙ (ap (λ (ns : List ℕ). length ns) (sym (get_or-map members_of lanes k q [] low))
-    ∙ (sym (picked-length made (get_or (map members_of lanes) k []) (below k))
-    ∙ (ap (λ (xs : List X). length xs) (sym (map-get made (map members_of lanes) k)) ∙ ap (λ (ls : List (List X)). length (get_or ls k [])) is)))

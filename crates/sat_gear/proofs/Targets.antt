@@ -6,7 +6,7 @@ use Rattle.std.proofs.Math.Nat.{div-div-eq-div-mul, eq-or-lt_of_le}
 use Rattle.std.proofs.Math.ListN.{get_or-eq_default}
 use Rattle.std.proofs.lemmas.Nat.{pow-add}
 use Rattle.std.proofs.lemmas.Nat.Bits.{bit_at-zero, bit_at-trailing_zeros}
-use Rattle.std.proofs.lemmas.List.{map-set, set-get_or, get_or-map, get_or-set_same, get_or-set_other, length-map, length-set}
+use Rattle.std.proofs.lemmas.List.{map-set, set-get_or, get_or-map, get_or-set_same, get_or-set_other, length-set}
 use Rattle.sat_label.specs.Words.{bit}
 use Rattle.sat_queue.specs.Queued.{Queued, members_of, HasRoom}
 use Rattle.sat_gear.specs.Lanes.{count_of, picked, HaveRoomWhere, IsLaid, Spread}
@@ -126,9 +126,6 @@ no-counts lanes counts n empty zeros = zeros ∙ (sym (count-none n) ∙ ap (λ 
 pub counts-are : {X : Type 0} (made : List X) (places : List (List ℕ)) (counts : List ℕ) (view : List (List X)) → IsLaid (length made) places counts → map (picked made) places ≡ view →
     counts ≡ map count_of view
 counts-are {X} made places counts view laid is = laid.counted ∙ (sym (counts_picked made places laid.below) ∙ ap (λ (ls : List (List X)). map count_of ls) is)
-
-pub counts-length : {X : Type 0} (counts : List ℕ) (view : List (List X)) → counts ≡ map count_of view → length counts ≡ length view
-counts-length {X} counts view is = ap (λ (ns : List ℕ). length ns) is ∙ length-map view count_of
 
 pub count-at : {X : Type 0} (counts : List ℕ) (view : List (List X)) (k n : ℕ) → counts ≡ map count_of view → k < length view → n ≡ get_or counts k n → n ≡ length (get_or view k [])
 count-at {X} counts view k n is low here =

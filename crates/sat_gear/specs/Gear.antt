@@ -19,8 +19,8 @@ use Rattle.sat_label.specs.Versions.{Version}
 use Rattle.sat_gear.specs.Lanes.{lanes_where, numbers_where, count_of}
 use Rattle.sat_store.specs.Stored.{version_at, newer}
 
--- what the gear was made from; its promise, and what that was at the last drain; the labels made since then; for each site the
--- payloads made for it, in their order; and the versions of its items: that of item x at place x / gears
+-- what the gear was made from; its promise, and what that was at the last drain; the labels made since then; for each
+-- site the payloads made for it, in their order; and the versions of its items: that of item x at place x / gears
 pub record GearSeen : Type 0 where
   pub shape : Shape
   pub gear : ℕ
@@ -99,7 +99,8 @@ after_show s x v = record s { versions = slice_set s.versions (x / s.shape.gears
 abbrev pub payload_with : Label → List (List ℕ) → Payload
 payload_with l values = record { label = l; values = map Some values }
 
--- an update: it is made, and joins the lanes of its targets. What it shows here, `after_show` says for each of its items
+-- an update: it is made, and joins the lanes of its targets. What it shows here, `after_show` says for each of its
+-- items
 abbrev pub after_write : GearSeen → Payload → GearSeen
 after_write s p = record s {
   promise = p.label.point.ts;
@@ -117,8 +118,8 @@ is_due s = nat_lt 0 (length s.fresh) || nat_lt s.drained_promise s.promise
 
 -- ---- what it asks for
 
--- a shape of at least one gear, whose interest is one of its sites and of so many items as 16 bits number, and whose site is
--- among these sites
+-- a shape of at least one gear, whose interest is one of its sites and of so many items as 16 bits number, and whose
+-- site is among these sites
 pub record IsShape (shape : Shape) : Type 0 where
   pub interest : IsInterest shape.interest
   pub sites : shape.interest.sites ≡ shape.sites
@@ -163,7 +164,8 @@ pub record IsInLane (s : GearSeen) (j : ℕ) (p : Payload) : Type 0 where
   pub site : p.label.point.site ≡ s.shape.site
   pub gear : p.label.point.gear ≡ s.gear
   pub kind : (items : Items) × (p.label.kind ≡ Update items) × AreItemsOf s (list_of items)
-  pub values : (values : List (List ℕ)) × (p.values ≡ map Some values) × (length values ≡ length (kind_numbers p.label.kind))
+  pub values : (values : List (List ℕ)) × (p.values ≡ map Some values)
+      × (length values ≡ length (kind_numbers p.label.kind))
   pub target : is_for s.shape.interest p.label j ≡ true
   pub upto : p.label.point.ts ≤ s.promise
 
@@ -185,5 +187,7 @@ pub record IsGear (s : GearSeen) : Type 0 where
 
 pub record EachLane : Type 0 where
   pub lanes : (a : Interested) (p : Payload) (lanes : List (List Payload)) (j : ℕ) → j < length lanes →
-      get_or (lanes_from a p 0 lanes) j [] ≡ (if is_for a p.label j then get_or lanes j [] ++ p ∷ [] else get_or lanes j [])
-  pub count : (a : Interested) (p : Payload) (lanes : List (List Payload)) → length (lanes_from a p 0 lanes) ≡ length lanes
+      get_or (lanes_from a p 0 lanes) j []
+      ≡ (if is_for a p.label j then get_or lanes j [] ++ p ∷ [] else get_or lanes j [])
+  pub count : (a : Interested) (p : Payload) (lanes : List (List Payload))
+      → length (lanes_from a p 0 lanes) ≡ length lanes

@@ -15,7 +15,8 @@ lanes_where test x k (lane ∷ lanes) = (if test k then lane ++ x ∷ [] else la
 -- of the lanes from that of site k on, those of the sites that pass: how much each holds
 abbrev pub numbers_where : {X : Type 0} → (ℕ → Bool) → ℕ → List (List X) → List ℕ
 numbers_where test k [] = []
-numbers_where test k (lane ∷ lanes) = if test k then length lane ∷ numbers_where test (k + 1) lanes else numbers_where test (k + 1) lanes
+numbers_where test k (lane ∷ lanes) =
+    if test k then length lane ∷ numbers_where test (k + 1) lanes else numbers_where test (k + 1) lanes
 
 -- what stands at these places
 abbrev pub picked : {X : Type 0} → List X → List ℕ → List X
@@ -24,7 +25,8 @@ picked made (n ∷ ns) = option_to_list (slice_get made n) ++ picked made ns
 
 -- there is something at each place
 abbrev pub AllBelow : ℕ → List (List ℕ) → Type 0
-AllBelow count lanes = (k n : ℕ) (place : ℕ) → slice_get (get_or lanes k []) n ≡ Rattle.std.specs.Prelude.Some place → place < count
+AllBelow count lanes =
+    (k n : ℕ) (place : ℕ) → slice_get (get_or lanes k []) n ≡ Rattle.std.specs.Prelude.Some place → place < count
 
 -- what is kept of the lanes: each place is one of so many, and each lane is counted
 pub record IsLaid (made : ℕ) (lanes : List (List ℕ)) (counts : List ℕ) : Type 0 where
@@ -33,7 +35,8 @@ pub record IsLaid (made : ℕ) (lanes : List (List ℕ)) (counts : List ℕ) : T
 
 -- below n the lanes of the sites that pass have room for one place more
 abbrev pub HaveRoomWhere : (ℕ → Bool) → ℕ → List (Queued ℕ) → Type 0
-HaveRoomWhere test n lanes = (k : ℕ) (d : Queued ℕ) → k < n → k < length lanes → test k ≡ true → HasRoom (get_or lanes k d)
+HaveRoomWhere test n lanes =
+    (k : ℕ) (d : Queued ℕ) → k < n → k < length lanes → test k ≡ true → HasRoom (get_or lanes k d)
 
 -- the first n lanes have x behind those of the sites that pass, and the others are as before
 pub record Spread {X : Type 0} (test : ℕ → Bool) (x : X) (n : ℕ) (old new : List (List X)) : Type 0 where

@@ -16,8 +16,8 @@ use sat_store::{Put, Store};
 use std::alloc::{AllocError, Global};
 use std::marker::Model;
 
-/// One gear of a site. Contracts see what it was made from; its promise, and what that was at the last drain; the labels that
-/// it made since then; for each site the payloads that it made for it; and the versions of its items.
+/// One gear of a site. Contracts see what it was made from; its promise, and what that was at the last drain; the
+/// labels that it made since then; for each site the payloads that it made for it; and the versions of its items.
 #[derive(Drop)]
 pub struct Gear {
     alloc: Global,
@@ -35,9 +35,12 @@ impl Model for Gear {
 
     ghost Value = { GearSeen };
 
-    ghost view = { λ a. record { shape = a.shape; gear = a.gear; promise = a.promise; drained_promise = a.drained_promise; fresh = a.fresh.items; lanes = a.lanes; versions = a.store } };
+    ghost view = { λ a.
+        record { shape = a.shape; gear = a.gear; promise = a.promise; drained_promise = a.drained_promise; fresh = a.fresh.items; lanes = a.lanes; versions = a.store } };
 
-    ghost invariant = { λ a. IsGear (record { shape = a.shape; gear = a.gear; promise = a.promise; drained_promise = a.drained_promise; fresh = a.fresh.items; lanes = a.lanes; versions = a.store }) };
+    ghost invariant = { λ a.
+        IsGear
+        (record { shape = a.shape; gear = a.gear; promise = a.promise; drained_promise = a.drained_promise; fresh = a.fresh.items; lanes = a.lanes; versions = a.store }) };
 }
 
 // How many of so many items one of so many gears may have.
@@ -51,8 +54,8 @@ fn places(items: usize, gears: u16) -> u16
 }
 
 impl Gear {
-    /// The gear with this number of a site, which has promised and made nothing. It asks for a shape of at least one gear
-    /// whose site is one of the sites that its interest is for, and for less than 65,536 items.
+    /// The gear with this number of a site, which has promised and made nothing. It asks for a shape of at least one
+    /// gear whose site is one of the sites that its interest is for, and for less than 65,536 items.
     pub fn new(alloc: Global, shape: &Shape, gear: u16) -> Result<Gear, AllocError>
         requires shape { IsShape shape.now }
         requires gear { gear < shape.now.gears }
@@ -113,10 +116,12 @@ impl Gear {
         Some(base + 1)
     }
 
-    /// Stamps an update of items for a client that saw a point: its timestamp is the one above the gear's promise and the client's
-    /// point, and is the new promise. The update joins the lanes of its targets, with a copy of each value; what it shows here,
-    /// `show` puts for each item. `Spent` says that no timestamp is left; then, and for want of memory, all is as before. It asks
-    /// that the least item is one of this gear, that the site keeps all of them, and that there is a value for each.
+    /// Stamps an update of items for a client that saw a point: its timestamp is the one above the gear's promise and
+    /// the client's point, and is the new promise. The update joins the lanes of its targets, with a copy of each
+    /// value; what it shows here,
+    /// `show` puts for each item. `Spent` says that no timestamp is left; then, and for want of memory, all is as
+    /// before. It asks that the least item is one of this gear, that the site keeps all of them, and that there is a
+    /// value for each.
     pub fn write(
         &mut self,
         seen: Point,
@@ -213,7 +218,8 @@ impl Gear {
         Ok(payload)
     }
 
-    /// Stamps a move to a site for a client that saw a point, as `write` does. It asks for gear 0, which stamps the moves.
+    /// Stamps a move to a site for a client that saw a point, as `write` does. It asks for gear 0, which stamps the
+    /// moves.
     pub fn stamp_move(&mut self, seen: Point, to: u16) -> Result<Label, GearFault>
         requires gear { self.old.gear ≡ 0 }
         requires site { to < self.old.shape.sites }
@@ -243,8 +249,8 @@ impl Gear {
         Ok(())
     }
 
-    /// Shows the version that an update makes of an item of this gear: the one with the greater label stays. The promise stays.
-    /// It takes no memory.
+    /// Shows the version that an update makes of an item of this gear: the one with the greater label stays. The
+    /// promise stays. It takes no memory.
     pub fn show(&mut self, item: u16, version: Version) -> Put
         requires { IsItemOf self.old item }
         ensures new { self.new ≡ after_show self.old item version }
@@ -257,7 +263,8 @@ impl Gear {
     /// The version of an item of this gear, None exactly where it shows none.
     pub fn read(&self, item: u16) -> Option<&Version>
         requires { IsItemOf self.now item }
-        ensures { MatchOption result (version_of self.now item ≡ None) (λ version. version_of self.now item ≡ Some version.now) }
+        ensures { MatchOption result (version_of self.now item ≡ None)
+            (λ version. version_of self.now item ≡ Some version.now) }
     {
         let place = self.place(item);
         self.store.get(place)
@@ -266,7 +273,8 @@ impl Gear {
     /// The payload with this number of those made for a site, None exactly where there is none.
     pub fn payload(&self, to: u16, number: u64) -> Option<&Payload>
         requires { to < self.now.shape.sites }
-        ensures payload { MatchOption result (slice_get (lane_to self.now to) number ≡ None) (λ payload. slice_get (lane_to self.now to) number ≡ Some payload.now) }
+        ensures payload { MatchOption result (slice_get (lane_to self.now to) number ≡ None)
+            (λ payload. slice_get (lane_to self.now to) number ≡ Some payload.now) }
         ensures limits { IsGear self.now }
     {
         self.lanes.at(to, number)
@@ -281,8 +289,8 @@ impl Gear {
         self.lanes.count(to)
     }
 
-    /// Whether a drain would take something: a label that was not drained, or a promise above the last drained one. It takes no
-    /// memory.
+    /// Whether a drain would take something: a label that was not drained, or a promise above the last drained one. It
+    /// takes no memory.
     pub fn is_due(&self) -> bool
         ensures { result ≡ is_due self.now }
     {
@@ -296,8 +304,8 @@ impl Gear {
         self.fresh.as_slice()
     }
 
-    /// Makes a list that of how many payloads were made for each site, in its own room where that is enough. For want of memory
-    /// the list is empty.
+    /// Makes a list that of how many payloads were made for each site, in its own room where that is enough. For want
+    /// of memory the list is empty.
     pub fn count_into(&self, counts: &mut Vec<u64>) -> Result<(), AllocError>
         ensures ok { OnOk result (counts.new.items ≡ (drained_of self.now).counts) }
         ensures err { OnErr result (counts.new.items ≡ []) }
@@ -334,8 +342,8 @@ impl Gear {
         self.fresh.clear();
     }
 
-    /// The labels made since the last drain, the promise, and how many payloads were made for each site. For want of memory all
-    /// is as before.
+    /// The labels made since the last drain, the promise, and how many payloads were made for each site. For want of
+    /// memory all is as before.
     pub fn drain(&mut self) -> Result<Drained, AllocError>
         ensures drained { IfOk result (λ drained. drained ≡ drained_of self.old) }
         ensures new { IfOk result (λ drained. self.new ≡ after_drain self.old) }

@@ -44,7 +44,8 @@ pub fn spread(lanes: &mut [Queue<u32>], counts: &mut [u64], targets: SiteSet, pl
     requires room { HaveRoomWhere (bit targets.bits) (length lanes.old) lanes.old }
     requires few { length lanes.old ≤ 64 }
     requires counted { counts.old ≡ map count_of (map members_of lanes.old) }
-    ensures spread { Spread (bit targets.bits) place (length lanes.old) (map members_of lanes.old) (map members_of lanes.new) }
+    ensures spread { Spread (bit targets.bits) place (length lanes.old) (map members_of lanes.old)
+        (map members_of lanes.new) }
     ensures counted { counts.new ≡ map count_of (map members_of lanes.new) }
 {
     let mut site = site_from(targets, 0);

@@ -59,8 +59,8 @@ impl Lanes {
         })
     }
 
-    /// Puts a payload at the end of the lane of each site of a set; it is copied only where there is one. For want of memory the
-    /// lanes are as before.
+    /// Puts a payload at the end of the lane of each site of a set; it is copied only where there is one. For want of
+    /// memory the lanes are as before.
     pub fn add(&mut self, targets: SiteSet, payload: &Payload) -> Result<(), AllocError>
         requires { length self.old ≤ 64 }
         ensures ok { OnOk result (self.new ≡ lanes_where (bit targets.bits) payload.now 0 self.old) }
@@ -100,7 +100,8 @@ impl Lanes {
     /// The payload with this number of the lane of a site, None where there is none.
     pub fn at(&self, site: u16, number: u64) -> Option<&Payload>
         requires { site < length self.now }
-        ensures { MatchOption result (slice_get (get_or self.now site []) number ≡ None) (λ payload. slice_get (get_or self.now site []) number ≡ Some payload.now) }
+        ensures { MatchOption result (slice_get (get_or self.now site []) number ≡ None)
+            (λ payload. slice_get (get_or self.now site []) number ≡ Some payload.now) }
     {
         let place = self.lanes[site as usize].get(number as usize)?;
         Some(&self.made[place as usize])

@@ -1,5 +1,5 @@
-//! A gear of a site: it stamps the updates of its items, keeps their versions, and holds what it made for other sites (Bravo,
-//! Rodrigues and Van Roy, EuroSys 2017).
+//! A gear of a site: it stamps the updates of its items, keeps their versions, and holds what it made for other sites
+//! (Bravo, Rodrigues and Van Roy, EuroSys 2017).
 #![tactic(auto)]
 
 mod gear;

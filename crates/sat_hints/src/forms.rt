@@ -1,6 +1,6 @@
-//! The forms of acts and of the header's lines, as docs/SCRIPTS.md writes them: a word, and for each word behind it a letter that says
-//! its kind. C is a client, X an item, V a value, I and J are sites, G is a gear, T a timestamp, N a number, E an epoch, U a node,
-//! Z a serializer and K a replica of one.
+//! The forms of acts and of the header's lines, as docs/SCRIPTS.md writes them: a word, and for each word behind it a
+//! letter that says its kind. C is a client, X an item, V a value, I and J are sites, G is a gear, T a timestamp, N a
+//! number, E an epoch, U a node, Z a serializer and K a replica of one.
 
 use crate::line::{count_words, first_word};
 

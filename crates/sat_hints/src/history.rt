@@ -208,8 +208,8 @@ fn about_law(text: &mut String, entries: Entries<'_>, line: &str) -> Result<(), 
     }
 }
 
-/// What is said of a history with a no, by what was read and what was written; nothing where that does not tell it, as where more was
-/// read than is kept.
+/// What is said of a history with a no, by what was read and what was written; nothing where that does not tell it, as
+/// where more was read than is kept.
 pub fn about_history(
     alloc: Global,
     kept: &Kept,

@@ -1,6 +1,7 @@
-//! What is said to a person at a terminal, on standard error: of words that are no command, of a line at fault, of acts that were
-//! refused, of a history that is not as it should be, of how far a command has come. Nothing depends on these texts: no status and no
-//! byte of standard output, and no call above trusts them. So the functions here owe that they are safe and end, and no more.
+//! What is said to a person at a terminal, on standard error: of words that are no command, of a line at fault, of acts
+//! that were refused, of a history that is not as it should be, of how far a command has come. Nothing depends on these
+//! texts: no status and no byte of standard output, and no call above trusts them. So the functions here owe that they
+//! are safe and end, and no more.
 #![tactic(auto)]
 
 mod act;

@@ -60,7 +60,8 @@ impl Progress {
     }
 }
 
-/// A reader that tells on standard error, each time many bytes more were read, how many they are, and at the input's end what begins.
+/// A reader that tells on standard error, each time many bytes more were read, how many they are, and at the input's
+/// end what begins.
 #[derive(Drop)]
 pub struct TellingReader<'a, E: Eprint, R: Read + Drop> {
     rt: &'a E,

@@ -1,4 +1,5 @@
-//! Acts and lines of the header whose words are of the right kinds and name nothing, or a number that is out of its range.
+//! Acts and lines of the header whose words are of the right kinds and name nothing, or a number that is out of its
+//! range.
 
 use crate::forms::form_of;
 use crate::header::{Header, count_serializers};

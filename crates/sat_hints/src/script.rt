@@ -151,7 +151,8 @@ fn about_line(
     Ok(text)
 }
 
-/// What is said of an input that is refused, by what was read and what was written; nothing where that does not tell it.
+/// What is said of an input that is refused, by what was read and what was written; nothing where that does not tell
+/// it.
 pub fn about_input(
     alloc: Global,
     kept: &Kept,

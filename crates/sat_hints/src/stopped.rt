@@ -22,7 +22,8 @@ enum Part {
     Report,
 }
 
-// The last act of a client so far: its number, the site where it is an attach, and whether it was answered that it has to wait.
+// The last act of a client so far: its number, the site where it is an attach, and whether it was answered that it has
+// to wait.
 #[derive(Drop)]
 struct Last {
     client: String,

@@ -226,8 +226,8 @@ fn about_command(
     }
 }
 
-/// What is said of words that are no command: of none the usage, and of others what may have been meant. There are no words where one
-/// of them is no UTF-8.
+/// What is said of words that are no command: of none the usage, and of others what may have been meant. There are no
+/// words where one of them is no UTF-8.
 pub fn about_words(alloc: Global, words: Option<&[String]>) -> Result<String, AllocError> {
     let mut text = String::new(alloc);
     let Some(words) = words else {

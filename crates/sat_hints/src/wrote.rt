@@ -93,7 +93,8 @@ impl Tally {
     }
 }
 
-/// The end of what a writer took, a count of refused acts where one is wanted, and whether a pipe was closed at its other end.
+/// The end of what a writer took, a count of refused acts where one is wanted, and whether a pipe was closed at its
+/// other end.
 #[derive(Drop)]
 pub struct Wrote {
     last: Vec<u8>,

@@ -13,8 +13,10 @@ is_local (input.Bulk from gear number payload) = false
 is_local (input.BeatIn from number beat) = false
 is_local _ = true
 
--- one entry more, of this input, under one above the node's number and the one heard, with the machine's answer; nothing of messages
-pub record ActsOne {S M I A : Type 0} (m : Meaning S I A) (heard : ℕ) (i : I) (a : A) (old new : HostSeen M I A) : Type 0 where
+-- one entry more, of this input, under one above the node's number and the one heard, with the machine's answer;
+-- nothing of messages
+pub record ActsOne {S M I A : Type 0} (m : Meaning S I A) (heard : ℕ) (i : I) (a : A)
+    (old new : HostSeen M I A) : Type 0 where
   pub entry : new.node.entries ≡ old.node.entries ++ entry (max old.node.number heard + 1) i a ∷ []
   pub answer : m.answers old.node.name (replay m old.node.name old.node.entries) i a
   pub name : new.node.name ≡ old.node.name
@@ -23,6 +25,7 @@ pub record ActsOne {S M I A : Type 0} (m : Meaning S I A) (heard : ℕ) (i : I) 
   pub cursors : new.cursors ≡ old.cursors
 
 -- it was taken where it may be, and else nothing changed
-abbrev pub Acts : {S M I A : Type 0} → Meaning S I A → ℕ → I → Bool → HostSeen M I A → HostSeen M I A → Option A → Type 0
+abbrev pub Acts : {S M I A : Type 0} → Meaning S I A → ℕ → I → Bool → HostSeen M I A → HostSeen M I A
+    → Option A → Type 0
 Acts m heard i may old new None = (may ≡ false) × (new ≡ old)
 Acts m heard i may old new (Some a) = (may ≡ true) × ActsOne m heard i a old new

@@ -35,9 +35,11 @@ hop_reception d x link b = if x.serial.killed then Unfit else if_hop (hop_with d
 -- at a serializer. A dead one takes none
 abbrev pub serial_reception : Deployed → SerialHost → ℕ → Message → Received
 serial_reception d h link m =
-    if is_taken (turn_of (get_or h.wanted link 0) m.number m.sent.body) then hop_reception d h.node.machine link m.sent.body else turn_of (get_or h.wanted link 0) m.number m.sent.body
+    if is_taken (turn_of (get_or h.wanted link 0) m.number m.sent.body)
+    then hop_reception d h.node.machine link m.sent.body else turn_of (get_or h.wanted link 0) m.number m.sent.body
 
--- a message at a site as what the site is handed: a label is turned, and comes from the tree; a payload and a beat are another site's
+-- a message at a site as what the site is handed: a label is turned, and comes from the tree; a payload and a beat are
+-- another site's
 abbrev pub act_with : NodeName → ℕ → Body → ActSeen
 act_with name link (body.Label l) = of_site (input.Turn (Some l))
 act_with name link (body.Payload g n p) = of_site (input.Bulk (peer (number_of name) link) g n p)
@@ -49,11 +51,14 @@ if_fits x (Some given) = if fits_in x given then Taken else Unfit
 
 -- what came from another site
 abbrev pub bulk_reception : Deployed → SiteHost → ℕ → Body → Received
-bulk_reception d h link b = if nat_lt link (d.sites - 1) then if_fits h.node.machine (input_from (peer (number_of h.node.name) link) b) else Unfit
+bulk_reception d h link b =
+    if nat_lt link (d.sites - 1) then if_fits h.node.machine (input_from (peer (number_of h.node.name) link) b)
+    else Unfit
 
 -- a label that came from the tree of an epoch: that of the view, where the site would show or take it now
 abbrev pub label_reception : Deployed → SiteSeen → ℕ → Label → Received
-label_reception d x link l = if in_stamp x.views then Early else if link == label_link d x.views.view then (if would_do x (input.Turn (Some l)) then Taken else Early) else Early
+label_reception d x link l = if in_stamp x.views then Early else if link == label_link d x.views.view
+    then (if would_do x (input.Turn (Some l)) then Taken else Early) else Early
 
 abbrev pub body_reception : Deployed → SiteHost → ℕ → Body → Received
 body_reception d h link (body.Label l) = label_reception d h.node.machine link l
@@ -63,4 +68,5 @@ body_reception d h link (body.Beat n b) = bulk_reception d h link (body.Beat n b
 -- at a site
 abbrev pub site_reception : Deployed → SiteHost → ℕ → Message → Received
 site_reception d h link m =
-    if is_taken (turn_of (get_or h.wanted link 0) m.number m.sent.body) then body_reception d h link m.sent.body else turn_of (get_or h.wanted link 0) m.number m.sent.body
+    if is_taken (turn_of (get_or h.wanted link 0) m.number m.sent.body) then body_reception d h link m.sent.body
+    else turn_of (get_or h.wanted link 0) m.number m.sent.body

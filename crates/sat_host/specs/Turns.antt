@@ -19,7 +19,8 @@ is_taken Unfit = false
 
 -- a label's turn comes once all before it were taken. The greatest number is none's
 abbrev pub label_turn : ℕ → ℕ → Received
-label_turn wanted number = if nat_lt number wanted then Again else if nat_lt wanted number then Early else if number == (2 ^ 64 - 1) then Unfit else Taken
+label_turn wanted number = if nat_lt number wanted then Again else if nat_lt wanted number then Early
+    else if number == (2 ^ 64 - 1) then Unfit else Taken
 
 -- a payload and a beat may come at any time
 abbrev pub turn_of : ℕ → ℕ → Body → Received
@@ -31,10 +32,12 @@ turn_of wanted number (body.Beat n b) = Taken
 abbrev pub message_at : ℕ → Message → ℕ → List Message
 message_at link m j = if link == j then m ∷ [] else []
 
--- one entry more took the message, as this input, under one above the node's number and the message's. It is the one message more that was
--- taken of its link, and no other link has one more
-pub record TakesOne {S M I A : Type 0} (m : Meaning S I A) (link : ℕ) (x : Message) (given : Option I) (old new : HostSeen M I A) : Type 0 where
-  pub entry : (i : I) × (a : A) × (given ≡ Some i) × (new.node.entries ≡ old.node.entries ++ entry (max old.node.number x.sent.lamport + 1) i a ∷ [])
+-- one entry more took the message, as this input, under one above the node's number and the message's. It is the one
+-- message more that was taken of its link, and no other link has one more
+pub record TakesOne {S M I A : Type 0} (m : Meaning S I A) (link : ℕ) (x : Message) (given : Option I)
+    (old new : HostSeen M I A) : Type 0 where
+  pub entry : (i : I) × (a : A) × (given ≡ Some i)
+      × (new.node.entries ≡ old.node.entries ++ entry (max old.node.number x.sent.lamport + 1) i a ∷ [])
   pub name : new.node.name ≡ old.node.name
   pub slips : new.slips ≡ old.slips ++ slip link x.number x.sent.lamport ∷ []
   pub wanted : (j : ℕ) → get_or new.wanted j 0 ≡ wanted_then link x.sent.body j (get_or old.wanted j 0)
@@ -42,7 +45,8 @@ pub record TakesOne {S M I A : Type 0} (m : Meaning S I A) (link : ℕ) (x : Mes
   pub cursors : new.cursors ≡ old.cursors
 
 -- an entry took it; or nothing changed
-abbrev pub Receives : {S M I A : Type 0} → Meaning S I A → ℕ → Message → Option I → HostSeen M I A → HostSeen M I A → Received → Type 0
+abbrev pub Receives : {S M I A : Type 0} → Meaning S I A → ℕ → Message → Option I → HostSeen M I A → HostSeen M I A
+    → Received → Type 0
 Receives m link x given old new Taken = TakesOne m link x given old new
 Receives m link x given old new Early = new ≡ old
 Receives m link x given old new Again = (new ≡ old) × (x.number < get_or old.wanted link 0)

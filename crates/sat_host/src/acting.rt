@@ -56,16 +56,18 @@ fn take_local<N: Laid>(
     host.act(heard, act, copy)
 }
 
-/// Hands a site what no message brings: a client's act, an operator's, or what the site does by itself. The number heard is that of
-/// whoever asks, 0 for the site itself. `None`, and nothing changed, exactly where it is a turn, a payload or a beat of another site, or
-/// does not fit the site. `Worn` only where the node's number or the one heard is the greatest, and `Memory`; then all is as before.
+/// Hands a site what no message brings: a client's act, an operator's, or what the site does by itself. The number
+/// heard is that of whoever asks, 0 for the site itself. `None`, and nothing changed, exactly where it is a turn, a
+/// payload or a beat of another site, or does not fit the site. `Worn` only where the node's number or the one heard is
+/// the greatest, and `Memory`; then all is as before.
 #[tactic(auto, using(crate::proofs::Locals::not_first, crate::proofs::Locals::not_second, crate::proofs::Locals::both_are))]
 pub fn act_at_site<N: Laid>(
     host: &mut Host<SiteNode<N>>,
     heard: u64,
     act: SiteAct<N>,
 ) -> Result<Option<SiteAnswer>, CallFault>
-    ensures acts { IfOk result (Acts (site_meaning N.deployment) heard act (is_local act.input && fits_in host.old.node.machine act.input) host.old host.new) }
+    ensures acts { IfOk result (Acts (site_meaning N.deployment) heard act
+        (is_local act.input && fits_in host.old.node.machine act.input) host.old host.new) }
     ensures err { OnErr result (SameHost host.old host.new) }
     ensures fault { IfErr result (FailsBy host.old heard) }
 {

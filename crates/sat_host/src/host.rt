@@ -14,10 +14,10 @@ use sat_node::{Body, CallFault, Machine, Node};
 use std::alloc::{AllocError, Global};
 use std::marker::Model;
 
-/// A node, with what it keeps of the messages that its entries took (24 bytes a message), the number of the label that it wants next of
-/// each incoming link, and how far it went through its journal for each outgoing one. What carries its messages may lose, delay, double
-/// and reorder them. Links are numbered as a node's ends are: at a site first the other sites in order, then the trees of the epochs; at
-/// a serializer its neighbours.
+/// A node, with what it keeps of the messages that its entries took (24 bytes a message), the number of the label that
+/// it wants next of each incoming link, and how far it went through its journal for each outgoing one. What carries its
+/// messages may lose, delay, double and reorder them. Links are numbered as a node's ends are: at a site first the
+/// other sites in order, then the trees of the epochs; at a serializer its neighbours.
 #[derive(Drop)]
 pub struct Host<M: Machine> {
     node: Node<M>,
@@ -33,9 +33,12 @@ impl<M: Machine> Model for Host<M> {
 
     ghost Value = { HostSeen M M.Input M.Answer };
 
-    ghost view = { λ h. record { node = h.node; slips = h.slips.items; wanted = h.wanted.items; cursors = map next_of h.cursors.items } };
+    ghost view = { λ h.
+        record { node = h.node; slips = h.slips.items; wanted = h.wanted.items; cursors = map next_of h.cursors.items } };
 
-    ghost invariant = { λ h. Slipped M.meaning (record { node = h.node; slips = h.slips.items; wanted = h.wanted.items; cursors = map next_of h.cursors.items })
+    ghost invariant = { λ h.
+        Slipped M.meaning
+        (record { node = h.node; slips = h.slips.items; wanted = h.wanted.items; cursors = map next_of h.cursors.items })
         × AreAt M.meaning h.node.name h.node.entries h.cursors.items };
 }
 
@@ -71,7 +74,8 @@ impl<M: Machine> Host<M> {
         self.slips.as_slice()
     }
 
-    /// The number of the label that is wanted next of an incoming link, which is how many were taken. A sender may begin there.
+    /// The number of the label that is wanted next of an incoming link, which is how many were taken. A sender may
+    /// begin there.
     pub fn wanted(&self, link: usize) -> u64
         ensures { result ≡ get_or self.now.wanted link 0 }
     {
@@ -81,7 +85,8 @@ impl<M: Machine> Host<M> {
         }
     }
 
-    /// Takes an input that takes nothing from a link, as `Node::take` does. `Worn` and `Memory` as there; then all is as before.
+    /// Takes an input that takes nothing from a link, as `Node::take` does. `Worn` and `Memory` as there; then all is
+    /// as before.
     pub fn act(
         &mut self,
         heard: u64,
@@ -91,8 +96,10 @@ impl<M: Machine> Host<M> {
         requires fits { M.takes_in self.old.node.machine input ≡ true }
         requires copy { copy ≡ input }
         requires local { IsLocal M.meaning self.old.node input }
-        ensures taken { IfOk result (λ a. self.new.node.entries ≡ self.old.node.entries ++ entry (max self.old.node.number heard + 1) input a ∷ []) }
-        ensures answer { IfOk result (λ a. M.meaning.answers self.old.node.name (replay M.meaning self.old.node.name self.old.node.entries) input a) }
+        ensures taken { IfOk result (λ a. self.new.node.entries ≡ self.old.node.entries
+            ++ entry (max self.old.node.number heard + 1) input a ∷ []) }
+        ensures answer { IfOk result (λ a. M.meaning.answers self.old.node.name
+            (replay M.meaning self.old.node.name self.old.node.entries) input a) }
         ensures name { self.new.node.name ≡ self.old.node.name }
         ensures slips { self.new.slips ≡ self.old.slips }
         ensures wanted { self.new.wanted ≡ self.old.wanted }
@@ -103,8 +110,9 @@ impl<M: Machine> Host<M> {
         self.node.take(heard, input, copy)
     }
 
-    /// Takes an input that takes what a message of a link carries: a label where its number is the one that is wanted. The number heard
-    /// is the message's. After an error all is as before; `Worn` comes only where the node's number or the message's is the greatest.
+    /// Takes an input that takes what a message of a link carries: a label where its number is the one that is wanted.
+    /// The number heard is the message's. After an error all is as before; `Worn` comes only where the node's number or
+    /// the message's is the greatest.
     pub fn handle(
         &mut self,
         link: usize,
@@ -117,12 +125,17 @@ impl<M: Machine> Host<M> {
         requires carries { IsOf M.meaning self.old.node link message.now.sent.body input }
         requires wanted { IsWanted (get_or self.old.wanted link 0) message.now.number message.now.sent.body }
         requires bound { IsBounded message.now.number message.now.sent.body }
-        ensures taken { IfOk result (λ a. self.new.node.entries ≡ self.old.node.entries ++ entry (max self.old.node.number message.now.sent.lamport + 1) input a ∷ []) }
-        ensures answer { IfOk result (λ a. M.meaning.answers self.old.node.name (replay M.meaning self.old.node.name self.old.node.entries) input a) }
+        ensures taken { IfOk result (λ a. self.new.node.entries ≡ self.old.node.entries
+            ++ entry (max self.old.node.number message.now.sent.lamport + 1) input a ∷ []) }
+        ensures answer { IfOk result (λ a. M.meaning.answers self.old.node.name
+            (replay M.meaning self.old.node.name self.old.node.entries) input a) }
         ensures name { self.new.node.name ≡ self.old.node.name }
-        ensures slips { OnOk result (self.new.slips ≡ self.old.slips ++ slip link message.now.number message.now.sent.lamport ∷ []) }
-        ensures wanted { OnOk result ((j : ℕ) → get_or self.new.wanted j 0 ≡ wanted_then link message.now.sent.body j (get_or self.old.wanted j 0)) }
-        ensures messages { OnOk result ((j : ℕ) → messages_on M.meaning self.new j ≡ messages_on M.meaning self.old j ++ message_at link message.now j) }
+        ensures slips { OnOk result (self.new.slips ≡ self.old.slips
+            ++ slip link message.now.number message.now.sent.lamport ∷ []) }
+        ensures wanted { OnOk result ((j : ℕ) → get_or self.new.wanted j 0
+            ≡ wanted_then link message.now.sent.body j (get_or self.old.wanted j 0)) }
+        ensures messages { OnOk result ((j : ℕ) → messages_on M.meaning self.new j ≡ messages_on M.meaning self.old j
+            ++ message_at link message.now j) }
         ensures cursors { self.new.cursors ≡ self.old.cursors }
         ensures err { OnErr result (SameHost self.old self.new) }
         ensures fault { IfErr result (FailsBy self.old message.now.sent.lamport) }
@@ -138,16 +151,21 @@ impl<M: Machine> Host<M> {
         result
     }
 
-    /// The next message of an outgoing link, as the journal put it there; `None` where all were given. Each is given once, in the order
-    /// of the entries, until `rewind`. It may be sent as often as wanted, and lost. `AllocError` where there is no memory for a copy:
-    /// then no message was passed.
+    /// The next message of an outgoing link, as the journal put it there; `None` where all were given. Each is given
+    /// once, in the order of the entries, until `rewind`. It may be sent as often as wanted, and lost. `AllocError`
+    /// where there is no memory for a copy: then no message was passed.
     pub fn next_message(&mut self, link: usize) -> Result<Option<Message>, AllocError>
-        ensures gives { IfOk result (Gives (M.meaning.puts self.old.node.name link) self.old.node.entries (get_or self.old.cursors link 0) (get_or self.new.cursors link 0)) }
-        ensures sent { IfOk result (λ found. IfSome found (λ m. IsSent (put_by (M.meaning.puts self.old.node.name link) self.old.node.entries) m)) }
+        ensures gives { IfOk result (Gives (M.meaning.puts self.old.node.name link) self.old.node.entries
+            (get_or self.old.cursors link 0) (get_or self.new.cursors link 0)) }
+        ensures sent { IfOk result (λ found.
+            IfSome found (λ m. IsSent (put_by (M.meaning.puts self.old.node.name link) self.old.node.entries) m)) }
         ensures node { self.new.node ≡ self.old.node }
         ensures kept { (self.new.slips ≡ self.old.slips) × (self.new.wanted ≡ self.old.wanted) }
         ensures others { (k : ℕ) → (link == k) ≡ false → get_or self.new.cursors k 0 ≡ get_or self.old.cursors k 0 }
-        ensures err { OnErr result (put_before (M.meaning.puts self.old.node.name link) self.old.node.entries (get_or self.new.cursors link 0) ≡ put_before (M.meaning.puts self.old.node.name link) self.old.node.entries (get_or self.old.cursors link 0)) }
+        ensures err { OnErr result
+            (put_before (M.meaning.puts self.old.node.name link) self.old.node.entries (get_or self.new.cursors link 0)
+            ≡ put_before (M.meaning.puts self.old.node.name link) self.old.node.entries
+            (get_or self.old.cursors link 0)) }
     {
         let alloc = *self.slips.allocator();
         if make_cursors(&mut self.cursors, alloc, link).is_err() {
@@ -203,7 +221,8 @@ fn note(slips: &mut Vec<Slip>, wanted: &mut Vec<u64>, link: usize, message: &Mes
     requires asked { IsWanted (get_or wanted.old.items link 0) message.now.number message.now.sent.body }
     requires bound { IsBounded message.now.number message.now.sent.body }
     ensures slips { slips.new.items ≡ slips.old.items ++ slip link message.now.number message.now.sent.lamport ∷ [] }
-    ensures wanted { (j : ℕ) → get_or wanted.new.items j 0 ≡ wanted_then link message.now.sent.body j (get_or wanted.old.items j 0) }
+    ensures wanted { (j : ℕ) → get_or wanted.new.items j 0
+        ≡ wanted_then link message.now.sent.body j (get_or wanted.old.items j 0) }
 {
     slips.push_reserved(Slip {
         link,
@@ -259,9 +278,12 @@ fn give<M: Machine>(
     requires at { AreAt M.meaning node.now.name node.now.entries cursors.old.items }
     requires row { link < length cursors.old.items }
     ensures at { AreAt M.meaning node.now.name node.now.entries cursors.new.items }
-    ensures gives { IfOk result (Gives (M.meaning.puts node.now.name link) node.now.entries (place_of cursors.old.items link) (place_of cursors.new.items link)) }
+    ensures gives { IfOk result (Gives (M.meaning.puts node.now.name link) node.now.entries
+        (place_of cursors.old.items link) (place_of cursors.new.items link)) }
     ensures others { (k : ℕ) → (link == k) ≡ false → place_of cursors.new.items k ≡ place_of cursors.old.items k }
-    ensures err { OnErr result (put_before (M.meaning.puts node.now.name link) node.now.entries (place_of cursors.new.items link) ≡ put_before (M.meaning.puts node.now.name link) node.now.entries (place_of cursors.old.items link)) }
+    ensures err { OnErr result
+        (put_before (M.meaning.puts node.now.name link) node.now.entries (place_of cursors.new.items link)
+        ≡ put_before (M.meaning.puts node.now.name link) node.now.entries (place_of cursors.old.items link)) }
 {
     let name = node.name();
     let cursor = &mut cursors[link];

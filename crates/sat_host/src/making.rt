@@ -21,8 +21,8 @@ use sat_node::{Machine, Node};
 use sat_tree::Tree;
 use std::alloc::{AllocError, Global};
 
-/// A host for each site of a deployment, in order, and for each serializer, tree by tree. A process of a store takes out the one that it
-/// is; a program for tests keeps all.
+/// A host for each site of a deployment, in order, and for each serializer, tree by tree. A process of a store takes
+/// out the one that it is; a program for tests keeps all.
 #[derive(Drop)]
 pub struct Hosts<N: Laid> {
     pub sites: Vec<Host<SiteNode<N>>>,
@@ -98,7 +98,8 @@ fn add_tree<N: Laid>(
     requires deployment { N.deployment ≡ d.now }
     requires tree { tree_of d.now epoch ≡ Some tree.now }
     requires fresh { AllNew (serial_meaning N.deployment) serials.old.items }
-    ensures names { OnOk result (map host_name serials.new.items ≡ map host_name serials.old.items ++ tree_names (record { epoch = epoch; tree = tree.now })) }
+    ensures names { OnOk result (map host_name serials.new.items ≡ map host_name serials.old.items
+        ++ tree_names (record { epoch = epoch; tree = tree.now })) }
     ensures fresh { OnOk result (AllNew (serial_meaning N.deployment) serials.new.items) }
 {
     for number in 0..tree.serializers() {
@@ -121,7 +122,8 @@ fn add_trees<N: Laid>(
     requires epochs { (0 < epoch) × (epoch + length plans.now < 2 ^ 16) }
     requires plans { drop (epoch - 1) d.now.plans ≡ plans.now }
     requires fresh { AllNew (serial_meaning N.deployment) serials.old.items }
-    ensures names { OnOk result (map host_name serials.new.items ≡ map host_name serials.old.items ++ flat_map tree_names (planted epoch plans.now)) }
+    ensures names { OnOk result (map host_name serials.new.items ≡ map host_name serials.old.items
+        ++ flat_map tree_names (planted epoch plans.now)) }
     ensures fresh { OnOk result (AllNew (serial_meaning N.deployment) serials.new.items) }
 {
     let Some((plan, rest)) = plans.split_first() else {
@@ -143,7 +145,8 @@ impl<N: Laid> Hosts<N> {
         requires { N.deployment ≡ d.now }
         ensures sites { IfOk result (λ all. map host_name all.sites.items ≡ map AtSite (below N.deployment.sites)) }
         ensures serials { IfOk result (λ all. map host_name all.serials.items ≡ serial_names N.deployment) }
-        ensures fresh { IfOk result (λ all. AllNew (site_meaning N.deployment) all.sites.items × AllNew (serial_meaning N.deployment) all.serials.items) }
+        ensures fresh { IfOk result (λ all. AllNew (site_meaning N.deployment) all.sites.items
+            × AllNew (serial_meaning N.deployment) all.serials.items) }
     {
         let sites = make_sites(alloc, d)?;
         let mut serials = Vec::new(alloc);
@@ -152,8 +155,9 @@ impl<N: Laid> Hosts<N> {
     }
 }
 
-/// What all hosts of a deployment keep true at any time, whatever they were handed: the first premise of the laws on stores. It asks for
-/// a host of each site and of each serializer, once and in order, as `Hosts::new` makes them; no call changes a name.
+/// What all hosts of a deployment keep true at any time, whatever they were handed: the first premise of the laws on
+/// stores. It asks for a host of each site and of each serializer, once and in order, as `Hosts::new` makes them; no
+/// call changes a name.
 pub fn hosts_keep<N: Laid>(sites: &[Host<SiteNode<N>>], serials: &[Host<SerialNode<N>>])
     requires sites { map host_name sites.now ≡ map AtSite (below N.deployment.sites) }
     requires serials { map host_name serials.now ≡ serial_names N.deployment }

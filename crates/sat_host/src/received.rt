@@ -6,8 +6,8 @@ ghost use Rattle.sat_host.specs.Turns.{is_taken, label_turn, turn_of};
 
 use sat_node::Body;
 
-/// What became of a message: an entry took it; its turn comes later, so hand it again; it was taken before; or it doesn't fit. Nothing
-/// changed where none took it.
+/// What became of a message: an entry took it; its turn comes later, so hand it again; it was taken before; or it
+/// doesn't fit. Nothing changed where none took it.
 #[derive(Clone, Copy, Debug, PartialEq, Eq)]
 pub enum Received {
     Taken,

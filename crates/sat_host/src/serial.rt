@@ -17,7 +17,8 @@ use sat_node::{Body, CallFault, Machine};
 
 // The machine stands for the replay of the journal.
 fn sound<N: Laid>(host: &Host<SerialNode<N>>)
-    ensures { SerialStands N.deployment host.now.node.name host.now.node.machine (replay (serial_meaning N.deployment) host.now.node.name host.now.node.entries) }
+    ensures { SerialStands N.deployment host.now.node.name host.now.node.machine
+        (replay (serial_meaning N.deployment) host.now.node.name host.now.node.entries) }
 {
     let _ = host.node().machine();
 }
@@ -64,7 +65,8 @@ fn take_hop<N: Laid>(
     requires hop { hop_with N.deployment host.old.node.machine link message.now.sent.body ≡ Some hop }
     requires turn { turn_of (get_or host.old.wanted link 0) message.now.number message.now.sent.body ≡ became.Taken }
     requires bound { IsBounded message.now.number message.now.sent.body }
-    ensures taken { OnOk result (Receives (serial_meaning N.deployment) link message.now (hop_with N.deployment host.old.node.machine link message.now.sent.body) host.old host.new became.Taken) }
+    ensures taken { OnOk result (Receives (serial_meaning N.deployment) link message.now
+        (hop_with N.deployment host.old.node.machine link message.now.sent.body) host.old host.new became.Taken) }
     ensures err { OnErr result (SameHost host.old host.new) }
     ensures fault { IfErr result (FailsBy host.old message.now.sent.lamport) }
 {
@@ -75,9 +77,9 @@ fn take_hop<N: Laid>(
     }
 }
 
-/// What a serializer's host does with a message that came over one of its links, from a neighbour: it takes a label where all before it
-/// on the link were taken and it fits the serializer, which is alive. `Worn` only where the node's number or the message's is the
-/// greatest, and `Memory`; then all is as before.
+/// What a serializer's host does with a message that came over one of its links, from a neighbour: it takes a label
+/// where all before it on the link were taken and it fits the serializer, which is alive. `Worn` only where the node's
+/// number or the message's is the greatest, and `Memory`; then all is as before.
 #[tactic(auto, using(crate::proofs::Turning::taken_is, crate::proofs::Turning::not_taken))]
 pub fn receive_at_serializer<N: Laid>(
     host: &mut Host<SerialNode<N>>,
@@ -85,7 +87,8 @@ pub fn receive_at_serializer<N: Laid>(
     message: &Message,
 ) -> Result<Received, CallFault>
     ensures received { IfOk result (λ r. r ≡ serial_reception N.deployment host.old link message.now) }
-    ensures receives { IfOk result (λ r. Receives (serial_meaning N.deployment) link message.now (hop_with N.deployment host.old.node.machine link message.now.sent.body) host.old host.new r) }
+    ensures receives { IfOk result (λ r. Receives (serial_meaning N.deployment) link message.now
+        (hop_with N.deployment host.old.node.machine link message.now.sent.body) host.old host.new r) }
     ensures err { OnErr result (SameHost host.old host.new) }
     ensures fault { IfErr result (FailsBy host.old message.now.sent.lamport) }
 {

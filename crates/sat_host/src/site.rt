@@ -28,7 +28,8 @@ use std::alloc::AllocError;
 
 // The machine stands for the replay of the journal; what is true of it, and what it does.
 fn sound<N: Laid>(host: &Host<SiteNode<N>>)
-    ensures stands { Stands N.deployment host.now.node.name host.now.node.machine (replay (site_meaning N.deployment) host.now.node.name host.now.node.entries) }
+    ensures stands { Stands N.deployment host.now.node.name host.now.node.machine
+        (replay (site_meaning N.deployment) host.now.node.name host.now.node.entries) }
     ensures deployment { IsDeployment N.deployment }
     ensures site { IsSite host.now.node.machine }
     ensures steps { EachStep }
@@ -60,8 +61,10 @@ fn peer(site: u16, link: u16) -> u16
 
 // The same, where the link is one between sites.
 fn peer_at<N: Laid>(host: &Host<SiteNode<N>>, link: usize) -> Option<u16>
-    ensures none { MatchOption result (nat_lt link (N.deployment.sites - 1) ≡ false) (λ from. nat_lt link (N.deployment.sites - 1) ≡ true) }
-    ensures some { MatchOption result (nat_lt link (N.deployment.sites - 1) ≡ false) (λ from. from ≡ peer (number_of host.now.node.name) link) }
+    ensures none { MatchOption result (nat_lt link (N.deployment.sites - 1) ≡ false)
+        (λ from. nat_lt link (N.deployment.sites - 1) ≡ true) }
+    ensures some { MatchOption result (nat_lt link (N.deployment.sites - 1) ≡ false)
+        (λ from. from ≡ peer (number_of host.now.node.name) link) }
 {
     let sites = host.node().machine().sites();
     if link >= usize::from(sites.saturating_sub(1)) {
@@ -113,7 +116,8 @@ fn take_bulk<N: Laid>(
     requires fits { fits_in host.old.node.machine act.input ≡ true }
     requires turn { turn_of (get_or host.old.wanted link 0) message.now.number message.now.sent.body ≡ became.Taken }
     requires bound { IsBounded message.now.number message.now.sent.body }
-    ensures taken { OnOk result (Receives (site_meaning N.deployment) link message.now (Some (act_with host.old.node.name link message.now.sent.body)) host.old host.new became.Taken) }
+    ensures taken { OnOk result (Receives (site_meaning N.deployment) link message.now
+        (Some (act_with host.old.node.name link message.now.sent.body)) host.old host.new became.Taken) }
     ensures err { OnErr result (SameHost host.old host.new) }
     ensures fault { IfErr result (FailsBy host.old message.now.sent.lamport) }
 {
@@ -137,7 +141,8 @@ fn receive_bulk<N: Laid>(
     requires turn { turn_of (get_or host.old.wanted link 0) message.now.number message.now.sent.body ≡ became.Taken }
     requires bound { IsBounded message.now.number message.now.sent.body }
     ensures received { IfOk result (λ r. r ≡ bulk_reception N.deployment host.old link message.now.sent.body) }
-    ensures receives { IfOk result (λ r. Receives (site_meaning N.deployment) link message.now (Some (act_with host.old.node.name link message.now.sent.body)) host.old host.new r) }
+    ensures receives { IfOk result (λ r. Receives (site_meaning N.deployment) link message.now
+        (Some (act_with host.old.node.name link message.now.sent.body)) host.old host.new r) }
     ensures err { OnErr result (SameHost host.old host.new) }
     ensures fault { IfErr result (FailsBy host.old message.now.sent.lamport) }
 {
@@ -199,7 +204,8 @@ fn take_label<N: Laid>(
     requires done { would_do host.old.node.machine (given.Turn (Some label)) ≡ true }
     requires turn { turn_of (get_or host.old.wanted link 0) message.now.number message.now.sent.body ≡ became.Taken }
     requires bound { IsBounded message.now.number message.now.sent.body }
-    ensures taken { OnOk result (Receives (site_meaning N.deployment) link message.now (Some (act_with host.old.node.name link message.now.sent.body)) host.old host.new became.Taken) }
+    ensures taken { OnOk result (Receives (site_meaning N.deployment) link message.now
+        (Some (act_with host.old.node.name link message.now.sent.body)) host.old host.new became.Taken) }
     ensures err { OnErr result (SameHost host.old host.new) }
     ensures fault { IfErr result (FailsBy host.old message.now.sent.lamport) }
 {
@@ -226,7 +232,8 @@ fn receive_label<N: Laid>(
     requires turn { turn_of (get_or host.old.wanted link 0) message.now.number message.now.sent.body ≡ became.Taken }
     requires bound { IsBounded message.now.number message.now.sent.body }
     ensures received { IfOk result (λ r. r ≡ label_reception N.deployment host.old.node.machine link label) }
-    ensures receives { IfOk result (λ r. Receives (site_meaning N.deployment) link message.now (Some (act_with host.old.node.name link message.now.sent.body)) host.old host.new r) }
+    ensures receives { IfOk result (λ r. Receives (site_meaning N.deployment) link message.now
+        (Some (act_with host.old.node.name link message.now.sent.body)) host.old host.new r) }
     ensures err { OnErr result (SameHost host.old host.new) }
     ensures fault { IfErr result (FailsBy host.old message.now.sent.lamport) }
 {
@@ -247,9 +254,10 @@ fn receive_label<N: Laid>(
     }
 }
 
-/// What a site's host does with a message that came over one of its links: it takes a payload or a beat of another site that fits, and a
-/// label of the tree of its view where all before it on the link were taken and the site shows or takes it now. `Worn` only where the
-/// node's number or the message's is the greatest, and `Memory`; then all is as before.
+/// What a site's host does with a message that came over one of its links: it takes a payload or a beat of another site
+/// that fits, and a label of the tree of its view where all before it on the link were taken and the site shows or
+/// takes it now. `Worn` only where the node's number or the message's is the greatest, and `Memory`; then all is as
+/// before.
 #[tactic(auto, using(crate::proofs::Turning::taken_is, crate::proofs::Turning::not_taken))]
 pub fn receive_at_site<N: Laid>(
     host: &mut Host<SiteNode<N>>,
@@ -259,7 +267,8 @@ pub fn receive_at_site<N: Laid>(
 ) -> Result<Received, CallFault>
     requires { N.deployment ≡ d.now }
     ensures received { IfOk result (λ r. r ≡ site_reception N.deployment host.old link message.now) }
-    ensures receives { IfOk result (λ r. Receives (site_meaning N.deployment) link message.now (Some (act_with host.old.node.name link message.now.sent.body)) host.old host.new r) }
+    ensures receives { IfOk result (λ r. Receives (site_meaning N.deployment) link message.now
+        (Some (act_with host.old.node.name link message.now.sent.body)) host.old host.new r) }
     ensures err { OnErr result (SameHost host.old host.new) }
     ensures fault { IfErr result (FailsBy host.old message.now.sent.lamport) }
 {

@@ -29,7 +29,8 @@ pub record IsHost {S M I A : Type 0} (m : Meaning S I A) (h : HeldSeen M I A) : 
   pub standing : Each h.node.entries (λ _ k. m.stands k.input k.answer ≡ true)
 
 -- each site and each serializer once, in order, and what each took from a link was put there by the other end's journal
-pub record AllHosts {M K : Type 0} (d : Deployed) (sites : List (HeldSeen M ActSeen SiteAnswer)) (serials : List (HeldSeen K SerialAct SerialAnswer)) : Type 0 where
+pub record AllHosts {M K : Type 0} (d : Deployed) (sites : List (HeldSeen M ActSeen SiteAnswer))
+    (serials : List (HeldSeen K SerialAct SerialAnswer)) : Type 0 where
   pub all_sites : map name_in sites ≡ map named.Site (below d.sites)
   pub all_serials : map name_in serials ≡ serial_names d
   pub each_site : Each sites (λ _ h. IsHost (site_meaning d) h)
@@ -39,39 +40,50 @@ pub record AllHosts {M K : Type 0} (d : Deployed) (sites : List (HeldSeen M ActS
   pub from_sites : DeliveredAll (site_meaning d) (serial_meaning d) sites serials
   pub from_serials : DeliveredAll (serial_meaning d) (site_meaning d) serials sites
 
-module _ {M K : Type 0} (d : Deployed) (sites : List (HeldSeen M ActSeen SiteAnswer)) (serials : List (HeldSeen K SerialAct SerialAnswer)) where
+module _ {M K : Type 0} (d : Deployed) (sites : List (HeldSeen M ActSeen SiteAnswer))
+    (serials : List (HeldSeen K SerialAct SerialAnswer)) where
   -- the journals fit, whatever the sessions kept
   abbrev pub HostsFitOf : Type 0
   HostsFitOf = (alone : ℕ → List Kept) → FitsNodes d (lists_of sites serials alone)
 
   -- with what sessions kept that fits, they are kept lists that fit
   abbrev pub HostsJoinOf : Type 0
-  HostsJoinOf = (alone : ℕ → List Kept) (sessions : Session → List Kept) → FitsSessions d (lists_of sites serials alone) sessions → Fit d (lists_of sites serials alone) sessions
+  HostsJoinOf = (alone : ℕ → List Kept) (sessions : Session → List Kept)
+      → FitsSessions d (lists_of sites serials alone) sessions → Fit d (lists_of sites serials alone) sessions
 
   -- which, merged, are one run
   abbrev pub HostsRunOf : Type 0
-  HostsRunOf = (alone : ℕ → List Kept) (sessions : Session → List Kept) (all : List Kept) → FitsSessions d (lists_of sites serials alone) sessions → IsMerge (lists_of sites serials alone) all → IsRun d (history all)
+  HostsRunOf = (alone : ℕ → List Kept) (sessions : Session → List Kept) (all : List Kept)
+      → FitsSessions d (lists_of sites serials alone) sessions → IsMerge (lists_of sites serials alone) all
+      → IsRun d (history all)
 
   -- and the headline holds of it
   abbrev pub HostsGoodOf : Type 0
-  HostsGoodOf = (alone : ℕ → List Kept) (sessions : Session → List Kept) (all : List Kept) → HasTrees d → FitsSessions d (lists_of sites serials alone) sessions → IsMerge (lists_of sites serials alone) all → IsGood d (history all)
+  HostsGoodOf = (alone : ℕ → List Kept) (sessions : Session → List Kept) (all : List Kept) → HasTrees d
+      → FitsSessions d (lists_of sites serials alone) sessions → IsMerge (lists_of sites serials alone) all
+      → IsGood d (history all)
 
 -- of a deployment's hosts: their journals fit, whatever sessions kept
 abbrev pub HostsFit : Type 0
-HostsFit = (d : Deployed) (sites : List SiteHeld) (serials : List SerialHeld) → IsDeployment d → AllHosts d sites serials → HostsFitOf d sites serials
+HostsFit = (d : Deployed) (sites : List SiteHeld) (serials : List SerialHeld) → IsDeployment d
+    → AllHosts d sites serials → HostsFitOf d sites serials
 
 -- with sessions that fit them, they are kept lists that fit
 abbrev pub HostsJoin : Type 0
-HostsJoin = (d : Deployed) (sites : List SiteHeld) (serials : List SerialHeld) → IsDeployment d → AllHosts d sites serials → HostsJoinOf d sites serials
+HostsJoin = (d : Deployed) (sites : List SiteHeld) (serials : List SerialHeld) → IsDeployment d
+    → AllHosts d sites serials → HostsJoinOf d sites serials
 
 -- and these, merged, are one run
 abbrev pub HostsAreRuns : Type 0
-HostsAreRuns = (d : Deployed) (sites : List SiteHeld) (serials : List SerialHeld) → IsDeployment d → AllHosts d sites serials → HostsRunOf d sites serials
+HostsAreRuns = (d : Deployed) (sites : List SiteHeld) (serials : List SerialHeld) → IsDeployment d
+    → AllHosts d sites serials → HostsRunOf d sites serials
 
 -- of which the five properties hold
 abbrev pub HostsAreGood : Type 0
-HostsAreGood = (d : Deployed) (sites : List SiteHeld) (serials : List SerialHeld) → IsDeployment d → AllHosts d sites serials → HostsGoodOf d sites serials
+HostsAreGood = (d : Deployed) (sites : List SiteHeld) (serials : List SerialHeld) → IsDeployment d
+    → AllHosts d sites serials → HostsGoodOf d sites serials
 
 -- nodes whose links keep order are such hosts
 abbrev pub OpenedAreHosts : Type 0
-OpenedAreHosts = (d : Deployed) (sites : List SiteHeld) (serials : List SerialHeld) → AllOpened d sites serials → AllHosts d sites serials
+OpenedAreHosts = (d : Deployed) (sites : List SiteHeld) (serials : List SerialHeld) → AllOpened d sites serials
+    → AllHosts d sites serials

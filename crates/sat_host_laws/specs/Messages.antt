@@ -32,7 +32,8 @@ use Rattle.sat_host_laws.specs.Hosts.{HostsJoinOf, HostsRunOf, HostsGoodOf}
 -- what was put on a link has this, under this Lamport number; a label under this number of its own
 abbrev pub WasPut : List Envelope → ℕ → ℕ → Body → Type 0
 WasPut put number lamport (body.Label l) = slice_get (labels_in put) number ≡ Some (lamport, l)
-WasPut put number lamport (body.Payload g n p) = (k : ℕ) × (slice_get put k ≡ Some (envelope lamport (body.Payload g n p)))
+WasPut put number lamport (body.Payload g n p) =
+    (k : ℕ) × (slice_get put k ≡ Some (envelope lamport (body.Payload g n p)))
 WasPut put number lamport (body.Beat n b) = (k : ℕ) × (slice_get put k ≡ Some (envelope lamport (body.Beat n b)))
 
 -- a message was put on its link, with this number, this Lamport number and this body
@@ -93,8 +94,8 @@ messages [] ss = []
 messages (t ∷ ts) [] = []
 messages (t ∷ ts) (s ∷ ss) = message t s ∷ messages ts ss
 
--- a node with the slips of all messages that its entries took, in order, which label it wants next of each incoming link, and through how
--- many entries of its journal it went for each outgoing one
+-- a node with the slips of all messages that its entries took, in order, which label it wants next of each incoming
+-- link, and through how many entries of its journal it went for each outgoing one
 pub record HostSeen (M I A : Type 0) : Type 0 where
   pub node : NodeSeen M I A
   pub slips : List Slip
@@ -137,19 +138,23 @@ abbrev pub held_of : {M I A : Type 0} → HostSeen M I A → HeldSeen M I A
 held_of h = record { node = h.node; outs = []; ins = [] }
 
 module _ {S T M K I A J B : Type 0} (m : Meaning S I A) (n : Meaning T J B) where
-  -- what the receiver took from a link with the sender was put there by the sender's journal, with this number, Lamport number and body
+  -- what the receiver took from a link with the sender was put there by the sender's journal, with this number, Lamport
+  -- number and body
   abbrev pub CarriedTo : HostSeen M I A → HostSeen K J B → Type 0
   CarriedTo sender receiver =
-      (k j place : ℕ) → slice_get (m.outs sender.node.name) k ≡ Some place → slice_get (n.ins receiver.node.name) j ≡ Some place
+      (k j place : ℕ) → slice_get (m.outs sender.node.name) k ≡ Some place
+      → slice_get (n.ins receiver.node.name) j ≡ Some place
       → Each (messages_on n receiver j) (λ _ x. IsSent (put_by (m.puts sender.node.name k) sender.node.entries) x)
 
   abbrev pub CarriedAll : List (HostSeen M I A) → List (HostSeen K J B) → Type 0
   CarriedAll senders receivers =
-      (a b : ℕ) (sender : HostSeen M I A) (receiver : HostSeen K J B) → slice_get senders a ≡ Some sender → slice_get receivers b ≡ Some receiver → CarriedTo sender receiver
+      (a b : ℕ) (sender : HostSeen M I A) (receiver : HostSeen K J B) → slice_get senders a ≡ Some sender
+      → slice_get receivers b ≡ Some receiver → CarriedTo sender receiver
 
 abbrev pub CarriedWithin : {S M I A : Type 0} → Meaning S I A → List (HostSeen M I A) → Type 0
 CarriedWithin {S} {M} {I} {A} m nodes =
-    (a b : ℕ) (sender receiver : HostSeen M I A) → a ≢ b → slice_get nodes a ≡ Some sender → slice_get nodes b ≡ Some receiver → CarriedTo m m sender receiver
+    (a b : ℕ) (sender receiver : HostSeen M I A) → a ≢ b → slice_get nodes a ≡ Some sender
+    → slice_get nodes b ≡ Some receiver → CarriedTo m m sender receiver
 
 abbrev pub SiteHost : Type 0
 SiteHost = HostSeen SiteSeen ActSeen SiteAnswer
@@ -174,26 +179,32 @@ pub record AllKept (d : Deployed) (sites : List SiteHost) (serials : List Serial
 -- of hosts that keep what hosts keep, where the transport makes nothing up: with sessions that fit them, they are
 -- kept lists that fit
 abbrev pub StoresFit : Type 0
-StoresFit = (d : Deployed) (sites : List SiteHost) (serials : List SerialHost) → IsDeployment d → AllKept d sites serials → Carried d sites serials → HostsJoinOf d (map held_of sites) (map held_of serials)
+StoresFit = (d : Deployed) (sites : List SiteHost) (serials : List SerialHost) → IsDeployment d
+    → AllKept d sites serials → Carried d sites serials → HostsJoinOf d (map held_of sites) (map held_of serials)
 
 -- and these, merged, are one run
 abbrev pub StoresAreRuns : Type 0
-StoresAreRuns = (d : Deployed) (sites : List SiteHost) (serials : List SerialHost) → IsDeployment d → AllKept d sites serials → Carried d sites serials → HostsRunOf d (map held_of sites) (map held_of serials)
+StoresAreRuns = (d : Deployed) (sites : List SiteHost) (serials : List SerialHost) → IsDeployment d
+    → AllKept d sites serials → Carried d sites serials → HostsRunOf d (map held_of sites) (map held_of serials)
 
 -- of which the five properties hold
 abbrev pub StoresAreGood : Type 0
-StoresAreGood = (d : Deployed) (sites : List SiteHost) (serials : List SerialHost) → IsDeployment d → AllKept d sites serials → Carried d sites serials → HostsGoodOf d (map held_of sites) (map held_of serials)
+StoresAreGood = (d : Deployed) (sites : List SiteHost) (serials : List SerialHost) → IsDeployment d
+    → AllKept d sites serials → Carried d sites serials → HostsGoodOf d (map held_of sites) (map held_of serials)
 
 -- ---- one more
 
 -- what fits what is wanted is one more that was taken
 abbrev pub OneMore : Type 0
-OneMore = (wanted : ℕ) (ts : List Envelope) (ss : List Slip) (t : Envelope) (s : Slip) → TookFrom wanted ts ss → TakenBy (wanted_behind wanted ts) t s → TookFrom wanted (ts ++ t ∷ []) (ss ++ s ∷ [])
+OneMore = (wanted : ℕ) (ts : List Envelope) (ss : List Slip) (t : Envelope) (s : Slip) → TookFrom wanted ts ss
+    → TakenBy (wanted_behind wanted ts) t s → TookFrom wanted (ts ++ t ∷ []) (ss ++ s ∷ [])
 
 -- what a journal sent it has sent also once it is longer
 abbrev pub StaysSentBy : {I A : Type 0} → (I → A → Option Made) → Type 0
-StaysSentBy {I} {A} of = (ks more : List (Kept I A)) (m : Message) → IsSent (put_by of ks) m → IsSent (put_by of (ks ++ more)) m
+StaysSentBy {I} {A} of =
+    (ks more : List (Kept I A)) (m : Message) → IsSent (put_by of ks) m → IsSent (put_by of (ks ++ more)) m
 
 -- what a site or a serializer sent stays sent while it goes on
 abbrev pub StaysSent : Type 0
-StaysSent = ((name : NodeName) (link : ℕ) → StaysSentBy (site_puts name link)) × ((link : ℕ) → StaysSentBy (λ (act : SerialAct) (a : SerialAnswer). serial_puts link a))
+StaysSent = ((name : NodeName) (link : ℕ) → StaysSentBy (site_puts name link))
+    × ((link : ℕ) → StaysSentBy (λ (act : SerialAct) (a : SerialAnswer). serial_puts link a))

@@ -4,8 +4,8 @@
 ghost use Rattle.sat_host_laws.specs.Hosts.{HostsFit, HostsJoin, HostsAreRuns, HostsAreGood, OpenedAreHosts};
 ghost use Rattle.sat_host_laws.specs.Messages.{StoresFit, StoresAreRuns, StoresAreGood, OneMore, StaysSent};
 
-/// Journals whose nodes took nothing from a link but what the other end's journal put there are kept lists that fit, and with what
-/// sessions kept one run.
+/// Journals whose nodes took nothing from a link but what the other end's journal put there are kept lists that fit,
+/// and with what sessions kept one run.
 pub fn hosting()
     ensures fit { HostsFit }
     ensures join { HostsJoin }

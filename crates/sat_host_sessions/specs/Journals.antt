@@ -20,8 +20,11 @@ pub record AreJournals (d : Deployed) (sites : List SiteHeld) (serials : List Se
 
 -- what sessions kept fits such journals, where nodes and sessions noted the same acts at nodes
 abbrev pub NotesFit : Type 0
-NotesFit = (d : Deployed) (sites : List SiteHeld) (serials : List SerialHeld) (xs : List SessionSeen) → AreJournals d sites serials → AreSessions d xs →
-    SameNotes (node_notes sites serials) (session_notes d xs) → FitsSessions d (lists_of sites serials (alone_in d xs)) (kept_by d xs)
+NotesFit = (d : Deployed) (sites : List SiteHeld) (serials : List SerialHeld) (xs : List SessionSeen)
+    → AreJournals d sites serials → AreSessions d xs →
+    SameNotes (node_notes sites serials) (session_notes d xs)
+    → FitsSessions d (lists_of sites serials (alone_in d xs)) (kept_by d xs)
 
 abbrev pub OpenedAreJournals : Type 0
-OpenedAreJournals = (d : Deployed) (sites : List SiteHeld) (serials : List SerialHeld) → AllOpened d sites serials → AreJournals d sites serials
+OpenedAreJournals = (d : Deployed) (sites : List SiteHeld) (serials : List SerialHeld) → AllOpened d sites serials
+    → AreJournals d sites serials

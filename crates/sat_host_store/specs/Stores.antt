@@ -11,9 +11,10 @@ use Rattle.sat_session.specs.Notes.{SessionSeen, node_notes, session_notes}
 use Rattle.sat_session.specs.Sessions.{AreSessions, SameNotes, alone_in}
 use Rattle.sat_host_laws.specs.Messages.{SiteHost, SerialHost, AllKept, Carried, held_of}
 
--- what is known of all of a store: its hosts, each with what it keeps true; that the transport made nothing up; its sessions; and that hosts
--- and sessions noted the same acts
-pub record IsStore (d : Deployed) (sites : List SiteHost) (serials : List SerialHost) (xs : List SessionSeen) : Type 0 where
+-- what is known of all of a store: its hosts, each with what it keeps true; that the transport made nothing up; its
+-- sessions; and that hosts and sessions noted the same acts
+pub record IsStore (d : Deployed) (sites : List SiteHost) (serials : List SerialHost)
+    (xs : List SessionSeen) : Type 0 where
   pub hosts : AllKept d sites serials
   pub carried : Carried d sites serials
   pub sessions : AreSessions d xs
@@ -21,10 +22,14 @@ pub record IsStore (d : Deployed) (sites : List SiteHost) (serials : List Serial
 
 -- then the journals, merged, are one run
 abbrev pub StoresAreOneRun : Type 0
-StoresAreOneRun = (d : Deployed) (sites : List SiteHost) (serials : List SerialHost) (xs : List SessionSeen) (all : List Kept) → IsDeployment d → IsStore d sites serials xs →
+StoresAreOneRun =
+    (d : Deployed) (sites : List SiteHost) (serials : List SerialHost) (xs : List SessionSeen) (all : List Kept)
+    → IsDeployment d → IsStore d sites serials xs →
     IsMerge (lists_of (map held_of sites) (map held_of serials) (alone_in d xs)) all → IsRun d (history all)
 
 -- and the headline holds of it
 abbrev pub StoresHold : Type 0
-StoresHold = (d : Deployed) (sites : List SiteHost) (serials : List SerialHost) (xs : List SessionSeen) (all : List Kept) → IsDeployment d → HasTrees d → IsStore d sites serials xs →
+StoresHold =
+    (d : Deployed) (sites : List SiteHost) (serials : List SerialHost) (xs : List SessionSeen) (all : List Kept)
+    → IsDeployment d → HasTrees d → IsStore d sites serials xs →
     IsMerge (lists_of (map held_of sites) (map held_of serials) (alone_in d xs)) all → IsGood d (history all)

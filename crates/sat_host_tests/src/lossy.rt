@@ -1,5 +1,5 @@
-//! Three sites and two serializers, each a host. What carries their messages is a list that is gone through in an order of its own: some
-//! are passed over, some are handed twice, and all are asked for again.
+//! Three sites and two serializers, each a host. What carries their messages is a list that is gone through in an order
+//! of its own: some are passed over, some are handed twice, and all are asked for again.
 ghost use Rattle.std.specs.Prelude.{◌≡◌, ◌<◌, false, length, IfOk};
 ghost use Rattle.sat_machines.specs.Acts.{is_clients};
 
@@ -72,7 +72,8 @@ fn deployment(alloc: Global) -> Result<Deployment, Fail>
 
 // ---- the transport
 
-// A way from one node to another, with the number of its link at each: the nodes 0 to 2 are the sites, 3 and 4 the serializers.
+// A way from one node to another, with the number of its link at each: the nodes 0 to 2 are the sites, 3 and 4 the
+// serializers.
 #[derive(Clone, Copy)]
 struct Way {
     from: usize,
@@ -459,8 +460,8 @@ fn run<N: Laid>(alloc: Global, d: &Deployment) -> Result<([bool; 4], Vec<u64>, T
     Ok(([came, photos, albums, killed], counts, tally))
 }
 
-// Three photos go to site 1 and one album to site 2: each label is taken once, by the serializer 0, the album's by the serializer 1
-// too, and then by its site. A payload that comes again is taken again, and the site says so.
+// Three photos go to site 1 and one album to site 2: each label is taken once, by the serializer 0, the album's by the
+// serializer 1 too, and then by its site. A payload that comes again is taken again, and the site says so.
 #[test]
 fn what_is_lost_doubled_and_out_of_order_comes_at_last(rt: HostRuntime) -> Result<(), Fail> {
     let alloc = rt.alloc();

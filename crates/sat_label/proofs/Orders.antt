@@ -61,9 +61,6 @@ marks-le t u i h = grind (arith, nat_tests)
 pub mark-lt : (t i : ℕ) (p : Point) → t < p.ts → point_lt (mark t i) p ≡ true
 mark-lt t i p h = grind (arith, nat_tests)
 
-pub mark-before : (i : ℕ) (p : Point) → 0 < p.ts → point_lt (mark (p.ts - 1) i) p ≡ true
-mark-before i p h = let k : p.ts - 1 < p.ts = omega arith in mark-lt (p.ts - 1) i p k
-
 pub apart : (p q : Point) → point_lt p q ≡ false → (p.gear ≡ q.gear → ⊥) → point_lt q p ≡ true
 apart p q h ne = grind (arith, nat_tests)
 
@@ -198,12 +195,6 @@ label_lt-trans a b c p q =
             (kind_lt-trans a.kind b.kind c.kind (and_parts _ _ x).1 (and_parts _ _ y).1)
       ]
     ]
-
-points-back : (p q : Point) → point_lt p q ≡ false → point_le q p ≡ true
-points-back p q h = grind (arith, nat_tests)
-
-points-le : (p q r : Point) → point_le p q ≡ true → point_le q r ≡ true → point_lt p r ≡ false → point_eq p q ≡ true
-points-le p q r a b h = grind (arith, nat_tests)
 
 points-chain : (p q r : Point) → point_lt p q ≡ false → point_lt q r ≡ false → point_lt p r ≡ false
 points-chain p q r a b = grind (arith, nat_tests)

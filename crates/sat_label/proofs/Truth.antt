@@ -34,7 +34,3 @@ or-assoc false b c = refl
 pub some_if : {X : Type 0} (test : Bool) (x : X) → test ≡ true → (if test then Some x else None) ≡ Some x
 some_if true x e = refl
 some_if false x e = absurd (cc)
-
-pub none_if : {X : Type 0} (test : Bool) (x : X) → test ≡ false → (if test then Some x else None) ≡ None
-none_if true x e = absurd (cc)
-none_if false x e = refl

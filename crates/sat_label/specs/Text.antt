@@ -13,7 +13,9 @@ is_between low high byte = nat_le low byte && nat_le byte high
 
 -- a letter, a digit, `_`, `-` or `.`
 abbrev pub is_name_byte : ℕ → Bool
-is_name_byte byte = is_between 48 57 byte || (is_between 65 90 byte || (is_between 97 122 byte || (byte == 95 || (byte == 45 || byte == 46))))
+is_name_byte byte =
+    is_between 48 57 byte
+    || (is_between 65 90 byte || (is_between 97 122 byte || (byte == 95 || (byte == 45 || byte == 46))))
 
 -- one such byte or more, and at most as many as a name has
 abbrev pub is_name : List ℕ → Bool

@@ -8,8 +8,8 @@ ghost use Rattle.sat_label.specs.Words.{has};
 use crate::limits::MOST_WRITTEN;
 use std::cmp::Ordering;
 
-/// The items that one update writes: 1 to 4 numbers, which [`Items::of`] makes sure ascend strictly. Items come in the order of the
-/// lists of their numbers: by the first that differs, and the front of a list before the whole.
+/// The items that one update writes: 1 to 4 numbers, which [`Items::of`] makes sure ascend strictly. Items come in the
+/// order of the lists of their numbers: by the first that differs, and the front of a list before the whole.
 #[derive(Clone, Copy, Debug)]
 pub enum Items {
     /// One item.

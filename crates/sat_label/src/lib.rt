@@ -1,6 +1,8 @@
-//! Points, labels, nodes and sets of sites, the names and values of a script, the versions of items, and small lists of these.
+//! Points, labels, nodes and sets of sites, the names and values of a script, the versions of items, and small lists of
+//! these.
 //!
-//! A label is Saturn's metadata for one event: a source, a timestamp and a kind (Bravo, Rodrigues and Van Roy, EuroSys 2017).
+//! A label is Saturn's metadata for one event: a source, a timestamp and a kind (Bravo, Rodrigues and Van Roy, EuroSys
+//! 2017).
 #![tactic(auto)]
 
 mod carried;

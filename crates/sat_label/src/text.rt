@@ -137,8 +137,8 @@ struct Inline {
     bytes: [u8; SHORT_BYTES],
 }
 
-// The bytes of a short value lie in the value itself, so that it takes no memory of its own; those of a long one lie elsewhere, once
-// for all its copies.
+// The bytes of a short value lie in the value itself, so that it takes no memory of its own; those of a long one lie
+// elsewhere, once for all its copies.
 #[derive(Drop)]
 enum Kept {
     Short(Inline),

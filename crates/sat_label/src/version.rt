@@ -12,7 +12,8 @@ struct Written {
     value: Value,
 }
 
-/// The version that an update makes of an item: the label of the update, and the value. Copies share it, on any threads.
+/// The version that an update makes of an item: the label of the update, and the value. Copies share it, on any
+/// threads.
 #[derive(Drop)]
 pub struct Version {
     written: Arc<Written>,

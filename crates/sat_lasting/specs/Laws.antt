@@ -11,4 +11,5 @@ use Rattle.sat_site.specs.Stands.{StandsSite}
 
 -- what fits a site of a deployment has a body
 abbrev pub AllHaveBodies : Type 0
-AllHaveBodies = (d : Deployed) (i : ℕ) (x : SiteSeen) (s : SiteState) (given : SiteInput) → IsDeployment d → StandsSite d i x s → fits_in x given ≡ true → input_allows given ≡ true
+AllHaveBodies = (d : Deployed) (i : ℕ) (x : SiteSeen) (s : SiteState) (given : SiteInput) → IsDeployment d
+    → StandsSite d i x s → fits_in x given ≡ true → input_allows given ≡ true

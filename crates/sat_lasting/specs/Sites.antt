@@ -18,13 +18,15 @@ site_of kept = kept.site
 abbrev pub fresh_kept : Deployed → ℕ → KeptSite
 fresh_kept d i = record { site = new_site d i }
 
--- It does what the site does with an input that fits, and writes an input as its body. An input that fits a site of a deployment has
--- a body (`kept_sites`).
+-- It does what the site does with an input that fits, and writes an input as its body. An input that fits a site of a
+-- deployment has a body (`kept_sites`).
 abbrev pub site_meaning : Meaning KeptSite SiteInput SiteOutput
 site_meaning = record {
   body = body_of;
   input_of = input_of;
   fits = λ kept given. fits_in kept.site given && input_allows given;
   after = λ kept given. record { site = site_after kept.site given };
-  output = λ kept given. record { answer = site_answers kept.site given; sent = site_sends kept.site given; epoch = site_epoch kept.site given; beat = site_beat kept.site given };
+  output =
+      λ kept given.
+      record { answer = site_answers kept.site given; sent = site_sends kept.site given; epoch = site_epoch kept.site given; beat = site_beat kept.site given };
 }

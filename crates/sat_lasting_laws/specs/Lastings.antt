@@ -39,7 +39,8 @@ unfoldable pub kept : List LastingEntry → List Entry
 kept [] = []
 kept (x ∷ c) = with_entry (kept_entry x.act x.answer) (kept c)
 
--- a cut: so many calls of the disk pass, and the next one fails; and whether what wasn't synced is still there afterwards
+-- a cut: so many calls of the disk pass, and the next one fails; and whether what wasn't synced is still there
+-- afterwards
 pub record Cut : Type 0 where
   pub calls : ℕ
   pub keep : Bool
@@ -48,8 +49,8 @@ pub record Cut : Type 0 where
 abbrev pub keeps_input : Cut → Bool
 keeps_input cut = (cut.calls == MOST_CALLS) && cut.keep
 
--- the cut that waits at site i after an act, by the one before it. A plain act at the site uses it up, a stop takes it away,
--- and another cut takes its place
+-- the cut that waits at site i after an act, by the one before it. A plain act at the site uses it up, a stop takes it
+-- away, and another cut takes its place
 abbrev pub armed_after : Deployed → List Entry → ℕ → LastingAct → Option Cut → Option Cut
 armed_after d h i (lasting.Plain a) cut = if is_at d h a i then None else cut
 armed_after d h i (lasting.Stop k) cut = if k == i then None else cut

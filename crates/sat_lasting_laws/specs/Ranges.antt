@@ -7,8 +7,8 @@ use Rattle.sat_lasting_laws.specs.declared.lasting_act.LastingAct.TheVariants as
 use Rattle.sat_lasting_laws.specs.declared.lasting_act.TheConstants.{MOST_CALLS}
 use Rattle.sat_lasting_laws.specs.LastingAnswers.{is_allowed}
 
--- the act has a line under the deployment's header: a plain act is one that scripts for sites that last may have, and a stop and
--- a cut name a site. A history with stops asks for less, `IsLastingInRange` (LastingAnswers)
+-- the act has a line under the deployment's header: a plain act is one that scripts for sites that last may have, and a
+-- stop and a cut name a site. A history with stops asks for less, `IsLastingInRange` (LastingAnswers)
 abbrev pub IsLastingActOf : Deployed → LastingAct → Type 0
 IsLastingActOf d (lasting.Plain a) = IsActOf d a × (is_allowed a ≡ true)
 IsLastingActOf d (lasting.Stop i) = i < d.sites

@@ -4,8 +4,8 @@ use sat_act::Act;
 /// The most calls of a disk that a cut lets pass: those behind which an input's last sync comes.
 pub const MOST_CALLS: u64 = 3;
 
-/// One event: a plain act, or a stop of a site. A site keeps its inputs on a disk, and each input takes four calls of that disk,
-/// a write and a sync of its record and a write and a sync of the byte before it.
+/// One event: a plain act, or a stop of a site. A site keeps its inputs on a disk, and each input takes four calls of
+/// that disk, a write and a sync of its record and a write and a sync of the byte before it.
 #[derive(Drop, PartialEq, Eq)]
 pub enum LastingAct {
     /// An act that is no `clock` and no `settle`.

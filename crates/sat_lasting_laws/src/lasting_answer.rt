@@ -10,7 +10,8 @@ pub enum LastingAnswer {
     Recovered(u64),
     /// The cut waits for the next act at its site.
     Armed,
-    /// The site stopped in the middle of the act, with the act's input on its disk, and was made again: the act has this answer.
+    /// The site stopped in the middle of the act, with the act's input on its disk, and was made again: the act has
+    /// this answer.
     Stopped(Answer),
     /// The site stopped in the middle of the act, was made again without its input, and is as before the act.
     StoppedWithout,

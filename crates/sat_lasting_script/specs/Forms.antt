@@ -1,4 +1,5 @@
--- The lines of stops and cuts as one table: the word that an act begins with, the kinds of the words after it, and the act that they say.
+-- The lines of stops and cuts as one table: the word that an act begins with, the kinds of the words after it, and the
+-- act that they say.
 use Rattle.std.specs.Prelude.{ℕ, List, [], ◌∷◌, Bool, ◌&&◌, ◌==◌, nat_lt, length, drop, Option, Some, None, Result, Ok, Err, codes, if◌then◌else◌}
 use Rattle.std.specs.Str.{bytes_eq}
 use Rattle.sat_lasting_laws.specs.declared.lasting_act.LastingAct.{LastingAct}
@@ -21,7 +22,8 @@ abbrev pub word_of : LastingForm → List ℕ
 word_of form.Stop = codes "stop"
 word_of form.Cut = codes "cut"
 
--- what the words after it stand for: a site; how many calls of its disk pass, and whether what wasn't synced stays, as 1 or 0
+-- what the words after it stand for: a site; how many calls of its disk pass, and whether what wasn't synced stays, as
+-- 1 or 0
 abbrev pub kinds_of : LastingForm → List Kind
 kinds_of form.Stop = kind.Site ∷ []
 kinds_of form.Cut = kind.Site ∷ kind.Count ∷ kind.Count ∷ []
@@ -61,8 +63,8 @@ abbrev pub said_step : LastingForm → Result (List Said) Cause → Result Lasti
 said_step f (Err cause) = Err cause
 said_step f (Ok xs) = barred (misfit f xs) (Ok (step_of f xs))
 
--- the words after the first of a stop or cut: the causes are those of a plain act with such words, in their order, and then that of a
--- number out of its range
+-- the words after the first of a stop or cut: the causes are those of a plain act with such words, in their order, and
+-- then that of a number out of its range
 unfoldable pub step_words : State → LastingForm → List (List ℕ) → Result LastingAct Cause
 step_words s f words = said_step f (kinds_say (full s) s.header (kinds_of f) words)
 

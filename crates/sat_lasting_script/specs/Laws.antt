@@ -31,8 +31,8 @@ pub record IsGoodLasting (d : Deployed) (acts : List LastingAct) : Type 0 where
   pub run : IsLastingRun d (lasting_history d acts)
   pub good : IsLastingGood d (lasting_history d acts)
 
--- what is read of a text, also of one with a fault, is a deployment and acts of it, whose history is good; no acts where there is no
--- deployment; and a deployment where there is no fault
+-- what is read of a text, also of one with a fault, is a deployment and acts of it, whose history is good; no acts
+-- where there is no deployment; and a deployment where there is no fault
 pub record IsGoodLastingText (x : LastingReading) : Type 0 where
   pub whole : IfSome x.deployment (λ d. IsDeployment d × AreLastingActs d x.acts × IsGoodLasting d x.acts)
   pub none : x.deployment ≡ None → x.acts ≡ []
@@ -43,4 +43,5 @@ EveryLastingTextIsGood = (text : List ℕ) → IsGoodLastingText (lasting_readin
 
 -- what is made of a text line by line is what is made of the whole, however answers, faults and the end are told
 abbrev pub LinesMakeTexts : Type 0
-LinesMakeTexts = (tell : Telling LastingAct LastingEntry) → meaning_of (own_rules lasting_acts tell) ≡ own_meaning lasting_acts tell
+LinesMakeTexts =
+    (tell : Telling LastingAct LastingEntry) → meaning_of (own_rules lasting_acts tell) ≡ own_meaning lasting_acts tell

@@ -57,7 +57,8 @@ fn append_stopped(
     answer: &Answer,
     out: &mut Vec<u8>,
 ) -> Result<(), AllocError>
-    ensures ok { OnOk result (out.new.items ≡ out.old.items ++ (word.now ++ answer_text d.now (plain_act act.now) answer.now)) }
+    ensures ok { OnOk result (out.new.items ≡ out.old.items
+        ++ (word.now ++ answer_text d.now (plain_act act.now) answer.now)) }
     ensures err { OnErr result (Keeps out.old.items out.new.items) }
 {
     out.extend_from_slice(word)?;
@@ -101,7 +102,8 @@ fn append_line(
     answer: &LastingAnswer,
     out: &mut Vec<u8>,
 ) -> Result<(), AllocError>
-    ensures ok { OnOk result (out.new.items ≡ out.old.items ++ lasting_line_text number (lasting_answer_text d.now act.now answer.now)) }
+    ensures ok { OnOk result (out.new.items ≡ out.old.items
+        ++ lasting_line_text number (lasting_answer_text d.now act.now answer.now)) }
     ensures err { OnErr result (Keeps out.old.items out.new.items) }
 {
     append_front(number, out)?;
@@ -109,8 +111,8 @@ fn append_line(
     out.extend_from_slice(b"\n")
 }
 
-/// Appends the line of the answer to an act for sites that last: its number and a space, the answer's text and then a newline. No memory is
-/// taken but what `out` grows by. For want of memory `out` is as before.
+/// Appends the line of the answer to an act for sites that last: its number and a space, the answer's text and then a
+/// newline. No memory is taken but what `out` grows by. For want of memory `out` is as before.
 pub fn write_lasting_line(
     d: &Deployment,
     number: u64,
@@ -118,7 +120,8 @@ pub fn write_lasting_line(
     answer: &LastingAnswer,
     out: &mut Vec<u8>,
 ) -> Result<(), AllocError>
-    ensures ok { OnOk result (out.new.items ≡ out.old.items ++ lasting_line_text number (lasting_answer_text d.now act.now answer.now)) }
+    ensures ok { OnOk result (out.new.items ≡ out.old.items
+        ++ lasting_line_text number (lasting_answer_text d.now act.now answer.now)) }
     ensures err { OnErr result (out.new.items ≡ out.old.items) }
 {
     let length = out.len();

@@ -114,9 +114,6 @@ self-ahead d (x ∷ h) e t u (Some w) l cuts run k (inr m) =
 pub site_is : (i j : ℕ) → Site i ≡ Site j → i ≡ j
 site_is i j e = cc
 
-node_of : (y : Handling) → NodeId
-node_of y = y.node
-
 shown_if : (k j : ℕ) (l : Label) → k ≡ j → (if (k == j) then Some l else None) ≡ Some l
 shown_if k j l e = go (k == j) (equal k j e)
   where

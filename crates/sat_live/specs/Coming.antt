@@ -39,16 +39,16 @@ pub record IsJournalOf (d : Deployed) (acts : List Act) (journal : List Entry) :
   pub one : IsOneRun d journal
   pub fronts : AreFronts journal acts
 
--- What nodes kept of an act of a session, and what the session kept of it, which are not the same. All that sessions kept is of their acts
--- in the script
+-- What nodes kept of an act of a session, and what the session kept of it, which are not the same. All that sessions
+-- kept is of their acts in the script
 pub record AreApart (acts : List Act) (node session : Option Noted) : Type 0 where
   pub nodes : List Owned
   pub sessions : List Owned
   pub each : (s : Session) (n : Noted) → In sessions (s, n) → IsTried s acts n.entry
   pub difference : IsDifference nodes sessions node session
 
--- a journal that has of these sessions what they noted, and of no other session anything; or what nodes kept and what these sessions
--- kept, which is not the same
+-- a journal that has of these sessions what they noted, and of no other session anything; or what nodes kept and what
+-- these sessions kept, which is not the same
 abbrev pub IsEnded : Deployed → List SessionSeen → Came → Type 0
 IsEnded d xs (Whole journal) = IsOneRun d journal × HoldsSessions d xs journal
 IsEnded d xs (Apart node session) = (nodes : List Owned) × IsDifference nodes (session_notes d xs) node session

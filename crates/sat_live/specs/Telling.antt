@@ -31,7 +31,8 @@ pub record IsRunUnsettled (d : Deployed) (done : List Act) (text : List ℕ) : T
 abbrev pub IsRunTold : Deployed → List Act → List ℕ → ℕ → Type 0
 IsRunTold d done text status = ((status ≡ 0) × IsRunWhole d done text) ⊎ ((status ≡ 8) × IsRunUnsettled d done text)
 
--- two notes that can be told: each is of an act at a node of the deployment; and where there is only a node's, its act is one of these
+-- two notes that can be told: each is of an act at a node of the deployment; and where there is only a node's, its act
+-- is one of these
 pub record CanBeTold (d : Deployed) (acts : List Act) (node session : Option Noted) : Type 0 where
   pub at_node : IfSome node (IsAtNode d)
   pub at_session : IfSome session (IsAtNode d)

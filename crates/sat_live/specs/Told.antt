@@ -23,16 +23,17 @@ use Rattle.sat_stitch.specs.Places.{Session, session_of}
 use Rattle.sat_undone.specs.Undone.{AreDone, AreFronts, acts_of, undone}
 use Rattle.sat_outcome.specs.Texts.{differ_text, undone_text, unsettled_text}
 
--- These are the acts of the one journal of nodes and sessions that did this script. Each of them has a line under the deployment's
--- header, their history is good, and what each session did in it is a front of its acts in the script
+-- These are the acts of the one journal of nodes and sessions that did this script. Each of them has a line under the
+-- deployment's header, their history is good, and what each session did in it is a front of its acts in the script
 pub record AreActsDone (d : Deployed) (acts done : List Act) : Type 0 where
   pub each : AreActsOf d done
   pub good : IsGoodRun d done
   pub fronts : AreFronts (reverse (history d done)) acts
 
--- 0: the text is the script of the acts of the journal, and behind it the report of their history. Each session did all its acts, in
--- their order, or a front of them at whose end its client gave up; and a settle behind them has nothing left to do. And the text has one
--- reading: no other script is spelled at its beginning, so that who reads it finds these acts
+-- 0: the text is the script of the acts of the journal, and behind it the report of their history. Each session did all
+-- its acts, in their order, or a front of them at whose end its client gave up; and a settle behind them has nothing
+-- left to do. And the text has one reading: no other script is spelled at its beginning, so that who reads it finds
+-- these acts
 pub record HasLived (d : Deployed) (acts : List Act) (text : List ℕ) : Type 0 where
   pub done : List Act
   pub journal : AreActsDone d acts done
@@ -41,7 +42,8 @@ pub record HasLived (d : Deployed) (acts : List Act) (text : List ℕ) : Type 0 
   pub settled : answer_of d (history d done) Settle ≡ Settled 0 moves
   pub written : text ≡ spelling d done ++ report d (history d done)
   pub readable : CanBeSpelled d done
-  pub only : (e : Deployed) (others : List Act) (rest : List ℕ) → CanBeSpelled e others → text ≡ spelling e others ++ rest
+  pub only : (e : Deployed) (others : List Act) (rest : List ℕ) → CanBeSpelled e others
+      → text ≡ spelling e others ++ rest
       → (d ≡ e) × (done ≡ others) × (report d (history d done) ≡ rest)
 
 -- a site of the deployment, or a serializer of an epoch's tree
@@ -59,15 +61,15 @@ pub record IsTried (s : Session) (acts : List Act) (e : Entry) : Type 0 where
   pub own : session_of e.act ≡ Some s
   pub act : In (acts_of s acts) e.act
 
--- one of the two notes at least is there, and tells of the script: what the session kept is of an act of its own in it; where it kept
--- nothing, what a node kept is of an act of the script
+-- one of the two notes at least is there, and tells of the script: what the session kept is of an act of its own in it;
+-- where it kept nothing, what a node kept is of an act of the script
 abbrev pub TellsAct : List Act → Session → Option Noted → Option Noted → Type 0
 TellsAct acts owner kept (Some n) = IsTried owner acts n.entry
 TellsAct acts owner (Some n) None = In acts n.entry.act
 TellsAct acts owner None None = ⊥
 
--- 6: the text tells what a node kept of an act of a session, and what the session kept of it. They are not the same. What sessions kept
--- is of their acts in the script
+-- 6: the text tells what a node kept of an act of a session, and what the session kept of it. They are not the same.
+-- What sessions kept is of their acts in the script
 pub record HasDiffered (d : Deployed) (acts : List Act) (text : List ℕ) : Type 0 where
   pub nodes : List Owned
   pub sessions : List Owned
@@ -87,7 +89,8 @@ pub record LacksAct (d : Deployed) (acts done : List Act) (text : List ℕ) : Ty
   pub first : undone (reverse (history d done)) acts ≡ Some act
   pub written : text ≡ undone_text d act
 
--- it lacks none, but a settle behind it has something left to do: the text tells in how many rounds, and how many acts it did
+-- it lacks none, but a settle behind it has something left to do: the text tells in how many rounds, and how many acts
+-- it did
 pub record IsUnsettled (d : Deployed) (acts done : List Act) (text : List ℕ) : Type 0 where
   pub none : undone (reverse (history d done)) acts ≡ None
   pub rounds : ℕ

@@ -17,9 +17,10 @@ use std::time::Clock;
 // The most messages that stand on a link.
 const LINK_ROOM: usize = 64;
 
-/// Does a script at the nodes of its deployment, each under a lock of its own: the acts of each client and those of the operator are done
-/// in their order on a thread for each, and each node makes its passes on one. The text is the script of their one journal and the
-/// report of its run, with status 0; else what is missing, with 6 or 8. Acts of no client and not of the operator are not done.
+/// Does a script at the nodes of its deployment, each under a lock of its own: the acts of each client and those of the
+/// operator are done in their order on a thread for each, and each node makes its passes on one. The text is the script
+/// of their one journal and the report of its run, with status 0; else what is missing, with 6 or 8. Acts of no client
+/// and not of the operator are not done.
 pub fn live<R: Threads + Wait + Clock + Sync, G: Gate>(
     rt: &R,
     alloc: Global,
@@ -34,7 +35,8 @@ pub fn live<R: Threads + Wait + Clock + Sync, G: Gate>(
     live_over(rt, alloc, d, acts, gate, LINK_ROOM)
 }
 
-/// `live` over links on each of which at most `capacity` messages stand. What it promises is the same at every capacity from 1 on.
+/// `live` over links on each of which at most `capacity` messages stand. What it promises is the same at every capacity
+/// from 1 on.
 #[tactic(auto, using(crate::proofs::Outcomes::told_apart, crate::proofs::Outcomes::told_status))]
 pub fn live_over<R: Threads + Wait + Clock + Sync, G: Gate>(
     rt: &R,

@@ -155,8 +155,8 @@ fn has_line(d: &Deployment, act: &Act) -> bool
     }
 }
 
-/// The acts of a journal, each of which has a line under the deployment's header. What nodes and sessions keep are such acts, so that
-/// one without a line, which is answered as want of memory, stands in no journal.
+/// The acts of a journal, each of which has a line under the deployment's header. What nodes and sessions keep are such
+/// acts, so that one without a line, which is answered as want of memory, stands in no journal.
 #[tactic(auto, using(crate::proofs::Journals::acts_more, crate::proofs::Journals::each_more))]
 pub(crate) fn acts_in(
     alloc: Global,

@@ -21,8 +21,8 @@ use std::sync::Wait;
 use std::thread::Threads;
 use std::time::Clock;
 
-/// The one journal of nodes and sessions, the oldest entry first; or what a node and a session kept of an act, where this is not the
-/// same; or that there was no memory.
+/// The one journal of nodes and sessions, the oldest entry first; or what a node and a session kept of an act, where
+/// this is not the same; or that there was no memory.
 #[derive(Drop)]
 pub(crate) enum Came {
     Whole(Entries),
@@ -122,8 +122,8 @@ fn ended<N: Laid + Names>(alloc: Global, cluster: Cluster<N>, sessions: Vec<Sess
     }
 }
 
-/// Does a script at the nodes of N's deployment, on threads, and tells what came of it. The sessions are those of these clients, which
-/// are the deployment's, and of the operator.
+/// Does a script at the nodes of N's deployment, on threads, and tells what came of it. The sessions are those of these
+/// clients, which are the deployment's, and of the operator.
 #[tactic(auto, using(crate::proofs::Coming::none_are, crate::proofs::Coming::as_many, crate::proofs::Coming::came_of))]
 pub(crate) fn come<N: Laid + Names + Send + Sync, R: Threads + Wait + Clock + Sync, G: Gate>(
     rt: &R,

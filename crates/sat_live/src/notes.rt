@@ -70,8 +70,9 @@ fn is_of_script(acts: &[Act], node: &Option<Noted>, session: &Option<Noted>) -> 
     }
 }
 
-/// Whether two notes can be told: each is of an act at a node of the deployment; and where only the node's is there, its act is one of
-/// these. All that nodes and sessions keep is so: a session does only acts of the script, and nodes do no others for it.
+/// Whether two notes can be told: each is of an act at a node of the deployment; and where only the node's is there,
+/// its act is one of these. All that nodes and sessions keep is so: a session does only acts of the script, and nodes
+/// do no others for it.
 pub(crate) fn can_be_told(
     d: &Deployment,
     acts: &[Act],

@@ -26,9 +26,9 @@ use sat_undone::{doing, undone};
 use sat_world::World;
 use std::alloc::{AllocError, Global};
 
-/// What is printed of a script that nodes on threads did, and the status that says what it is: 0 for the script of their journal and its
-/// report, 6 for a difference between a node and a session, 8 for the first act that is lacking, or for a settle with something left to
-/// do.
+/// What is printed of a script that nodes on threads did, and the status that says what it is: 0 for the script of
+/// their journal and its report, 6 for a difference between a node and a session, 8 for the first act that is lacking,
+/// or for a settle with something left to do.
 #[derive(Drop)]
 pub struct Told {
     pub text: Vec<u8>,
@@ -57,7 +57,8 @@ fn run_again(
 // A settle: in how many rounds it did something, and how many acts it did.
 fn settled(world: &mut World) -> Result<(u64, u64), AllocError>
     requires { (h : List Entry) × IsRun world.old.deployment h × StandsFor world.old h }
-    ensures { IfOk result (λ r. (h : List Entry) → IsRun world.old.deployment h → StandsFor world.old h → answer_of world.old.deployment h Act.Settle ≡ Answer.Settled r.0 r.1) }
+    ensures { IfOk result (λ r. (h : List Entry) → IsRun world.old.deployment h → StandsFor world.old h
+        → answer_of world.old.deployment h Act.Settle ≡ Answer.Settled r.0 r.1) }
 {
     let answer = settle(world)?;
     match answer {
@@ -86,8 +87,8 @@ fn tell_undone(alloc: Global, d: &Deployment, act: &Act) -> Result<Told, AllocEr
     Ok(Told { text, status: 8 })
 }
 
-/// What is told where a node and a session did not keep the same of an act of a script. Notes that can't be told, which no node and no
-/// session keeps, are answered as want of memory.
+/// What is told where a node and a session did not keep the same of an act of a script. Notes that can't be told, which
+/// no node and no session keeps, are answered as want of memory.
 pub(crate) fn tell_apart(
     alloc: Global,
     d: &Deployment,
@@ -123,7 +124,8 @@ fn tell_script(
     Ok(Told { text, status: 0 })
 }
 
-// Runs the acts again, and tells of their run: its script and report, or that a settle behind them has something left to do.
+// Runs the acts again, and tells of their run: its script and report, or that a settle behind them has something left
+// to do.
 #[tactic(auto, using(crate::proofs::Reruns::script_told, crate::proofs::Reruns::unsettled_told, crate::proofs::Reruns::stands_for))]
 fn tell_run(alloc: Global, d: &Deployment, done: &[Act]) -> Result<Told, AllocError>
     requires { AreActsOf d.now done.now }

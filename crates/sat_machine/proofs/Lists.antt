@@ -34,9 +34,6 @@ pub filter-join : {X : Type 0} (p : X → Bool) (xs ys : List X) → filter p (x
 filter-join p [] ys = refl
 filter-join p (x ∷ xs) ys = cond-join (p x) x (filter p (xs ++ ys)) (filter p xs) (filter p ys) (filter-join p xs ys)
 
-cond-same : {X : Type 0} (b c : Bool) (x : X) (xs ys : List X) → b ≡ c → xs ≡ ys → cond b (x ∷ xs) xs ≡ cond c (x ∷ ys) ys
-cond-same b c x xs ys e k = ap (λ (a : Bool). cond a (x ∷ xs) xs) e ∙ ap (λ zs. cond c (x ∷ zs) zs) k
-
 cond-all : {X : Type 0} (b : Bool) (x : X) (xs ys : List X) → b ≡ true → xs ≡ ys → cond b (x ∷ xs) xs ≡ x ∷ ys
 cond-all true x xs ys e k = ap (λ zs. x ∷ zs) k
 cond-all false x xs ys e k = absurd (cc)

@@ -59,10 +59,6 @@ shown-brought d (x ∷ h) j l run (inr s) k = inl (go (showing d h j l x.act x.a
 abbrev Pool : List Entry → List Label → List Payload → Type 0
 Pool h ls ps = ps ≡ map (valued h) ls
 
-shown-grows : (h : List Entry) (x : Entry) (j : ℕ) → shown (x ∷ h) j ≡ shown h j ++ tail_of (shown_entry j h x)
-unfolding shown
-shown-grows h x j = refl
-
 waiting-is : (h : List Entry) (j : ℕ) → waiting h j ≡ without (shown h j) (brought h j)
 unfolding waiting
 waiting-is h j = refl

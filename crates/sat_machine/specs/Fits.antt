@@ -1,4 +1,5 @@
--- What fits a site: tests of an input by the deployment and the site's state, which all that a world hands to it passes.
+-- What fits a site: tests of an input by the deployment and the site's state, which all that a world hands to it
+-- passes.
 use Rattle.std.specs.Prelude.{ℕ, ◌+◌, Bool, true, false, ◌&&◌, ◌||◌, not, ◌==◌, nat_le, nat_lt, List, [], ◌∷◌, length, Option, Some, None, is_some}
 use Rattle.std.specs.List.{list_all, list_any}
 use Rattle.sat_label.specs.declared.carried.Carried.{Carried}
@@ -92,12 +93,13 @@ has_parts d i (x ∷ xs) (p ∷ ps) = (not (replicates d x i) || is_some p) && h
 abbrev pub is_new_point : List Label → Point → Bool
 is_new_point labels p = not (list_any (λ l. point_eq l.point p) labels)
 
--- a payload of a lane of another site for site i: an update that it made, of which site i keeps an item, with a value for each
--- item that site i keeps. Where its number was not taken before, its point is that of no update that waits
+-- a payload of a lane of another site for site i: an update that it made, of which site i keeps an item, with a value
+-- for each item that site i keeps. Where its number was not taken before, its point is that of no update that waits
 abbrev pub is_bulk : Deployed → ℕ → SiteState → ℕ → ℕ → ℕ → Payload → Bool
 is_bulk d i s from gear number p =
     (is_other d i from && is_gear d gear)
-    && ((((is_time p.label.point.ts && (p.label.point.site == from)) && is_kept_kind d i p.label.kind) && has_parts d i (items_of p.label.kind) p.values)
+    && ((((is_time p.label.point.ts && (p.label.point.site == from)) && is_kept_kind d i p.label.kind)
+    && has_parts d i (items_of p.label.kind) p.values)
     && (has ◌==◌ (s.proxy.taken from gear) number || is_new_point (waiting_of s) p.label.point))
 
 -- ---- beats
@@ -112,12 +114,13 @@ is_note d note = is_point d note.cut && list_all (λ n. is_close_cut d (note.clo
 
 -- ---- inputs
 
--- whether an input fits a site in this state. Nothing is asked of the number of a payload or of a beat, of a value, or of whom the
--- front of a link is for
+-- whether an input fits a site in this state. Nothing is asked of the number of a payload or of a beat, of a value, or
+-- of whom the front of a link is for
 unfoldable pub fits : Deployed → ℕ → SiteState → SiteInput → Bool
 fits d i s (given.Tick g ts) = is_gear d g && is_time ts
 fits d i s (given.Clock ts) = is_time ts
-fits d i s (given.Write seen items values) = is_carried d seen && (is_group d items && (length values == length (list_of items)))
+fits d i s (given.Write seen items values) =
+    is_carried d seen && (is_group d items && (length values == length (list_of items)))
 fits d i s (given.Read seen x) = is_carried d seen && is_item d x
 fits d i s (given.Move seen j) = is_carried d seen && is_site d j
 fits d i s (given.Attach seen) = is_carried d seen

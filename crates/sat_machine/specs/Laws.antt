@@ -35,10 +35,11 @@ SitesStep =
 -- every other site stays
 abbrev pub OthersStay : Type 0
 OthersStay =
-    (d : Deployed) (h : List Entry) (e : Entry) (i : ℕ) → handed d h e.act i ≡ None → site_state d (e ∷ h) i ≡ site_state d h i
+    (d : Deployed) (h : List Entry) (e : Entry) (i : ℕ) → handed d h e.act i ≡ None
+    → site_state d (e ∷ h) i ≡ site_state d h i
 
--- what is handed by an act whose numbers name what they should fits: a run alone doesn't ask that the items of writes and reads are
--- the deployment's
+-- what is handed by an act whose numbers name what they should fits: a run alone doesn't ask that the items of writes
+-- and reads are the deployment's
 abbrev pub InputsFit : Type 0
 InputsFit =
     (d : Deployed) (h : List Entry) (a : Act) (i : ℕ) (input : SiteInput) →
@@ -60,7 +61,8 @@ JournalsReplay =
     (d : Deployed) (h : List Entry) (i : ℕ) → IsValid d → IsRun d h →
     (replay d i (journal d h i) ≡ site_state d h i) × IsJournal d i (journal d h i)
 
--- an entry whose answer is that of a node's machine, replayed from its journal and handed what the history hands, goes on a run
+-- an entry whose answer is that of a node's machine, replayed from its journal and handed what the history hands, goes
+-- on a run
 abbrev pub RunsGoOn : Type 0
 RunsGoOn =
     (d : Deployed) (h : List Entry) (e : Entry) (i : ℕ) (input : SiteInput) →
@@ -95,7 +97,8 @@ flagged inner e = record { act = e.act; answer = e.answer; inner = inner }
 -- a world doesn't know which entries a settle made
 abbrev pub FlagsAreFree : Type 0
 FlagsAreFree =
-    (d : Deployed) (h : List Entry) (e : Entry) (inner : Bool) → world_state d (flagged inner e ∷ h) ≡ world_state d (e ∷ h)
+    (d : Deployed) (h : List Entry) (e : Entry) (inner : Bool)
+    → world_state d (flagged inner e ∷ h) ≡ world_state d (e ∷ h)
 
 -- each part of the world that stands for a history is what the history says
 abbrev pub EachPartAgrees : Type 0

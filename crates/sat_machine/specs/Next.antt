@@ -49,7 +49,8 @@ payload_at l values = record { label = l; values = map (λ v. Some v) values }
 abbrev pub lane_next : Deployed → ℕ → ℕ → List Payload → SiteInput → Answer → List Payload
 lane_next d g j ps input answer =
     elim answer [
-      | ans.Wrote l ↦ if (l.point.gear == g) && is_target d l j then ps ++ payload_at l (values_given input) ∷ [] else ps
+      | ans.Wrote l ↦ if (l.point.gear == g) && is_target d l j
+          then ps ++ payload_at l (values_given input) ∷ [] else ps
       | _ ↦ ps
     ]
 
@@ -132,7 +133,8 @@ views_next s answer = record {
 abbrev pub taken_next : ℕ → ℕ → List ℕ → SiteInput → Answer → List ℕ
 taken_next i g ns input answer =
     elim answer [
-      | ans.Brought l ↦ elim input [ given.Bulk from gear n p ↦ if (from == i) && (gear == g) then ns ++ n ∷ [] else ns | _ ↦ ns ]
+      | ans.Brought l ↦
+          elim input [ given.Bulk from gear n p ↦ if (from == i) && (gear == g) then ns ++ n ∷ [] else ns | _ ↦ ns ]
       | _ ↦ ns
     ]
 
@@ -161,14 +163,17 @@ raised p o = elim o [ None ↦ p | Some q ↦ greater_point q p ]
 abbrev pub passed_cut : Deployed → ℕ → SiteState → ℕ → Option Point
 passed_cut d j s i =
     if mode_of d s
-    then (if i == j then s.views.closes s.views.view else elim (best_of d s i) [ None ↦ None | Some b ↦ b.1.closes s.views.view ])
+    then (if i == j then s.views.closes s.views.view
+    else elim (best_of d s i) [ None ↦ None | Some b ↦ b.1.closes s.views.view ])
     else None
 
 -- what it makes of the point up to which the site knows site i
 abbrev pub last_next : Deployed → ℕ → SiteState → ℕ → SiteInput → Answer → Point
 last_next d j s i input answer =
     elim answer [
-      | ans.Shown l ↦ elim input [ given.Turn front ↦ if l.point.site == i then greater_point (known_by l) (s.proxy.last i) else s.proxy.last i | _ ↦ s.proxy.last i ]
+      | ans.Shown l ↦
+          elim input
+          [ given.Turn front ↦ if l.point.site == i then greater_point (known_by l) (s.proxy.last i) else s.proxy.last i | _ ↦ s.proxy.last i ]
       | ans.Took l ↦ if l.point.site == i then greater_point (known_by l) (s.proxy.last i) else s.proxy.last i
       | ans.View v ↦ raised (s.proxy.last i) (passed_cut d j s i)
       | _ ↦ s.proxy.last i
@@ -203,8 +208,10 @@ part_for (y ∷ ys) (p ∷ ps) x = if y == x then unwrap_or p [] else part_for y
 abbrev pub store_next : ℕ → Option Version → List Payload → SiteInput → Answer → Option Version
 store_next x old pool input answer =
     elim answer [
-      | ans.Wrote l ↦ if is_update_of l.kind x then put old (version_at l (value_for (items_of l.kind) (values_given input) x)) else old
-      | ans.Shown l ↦ if is_update_of l.kind x then put old (version_at l (part_for (items_of l.kind) (payload_in pool l) x)) else old
+      | ans.Wrote l ↦ if is_update_of l.kind x
+          then put old (version_at l (value_for (items_of l.kind) (values_given input) x)) else old
+      | ans.Shown l ↦ if is_update_of l.kind x
+          then put old (version_at l (part_for (items_of l.kind) (payload_in pool l) x)) else old
       | _ ↦ old
     ]
 

@@ -40,7 +40,8 @@ given_seat o i input = elim o [ None ↦ None | Some k ↦ given_at k i input ]
 -- what site k is handed of the payload of this number of the lane of gear g of i to j
 abbrev pub given_bulk : Deployed → List Entry → ℕ → ℕ → ℕ → ℕ → ℕ → Option SiteInput
 given_bulk d h i g j n k =
-    elim (slice_get (lane d h i g j) n) [ None ↦ None | Some l ↦ given_at j k (given.Bulk i g n (payload_at l (values_of h l))) ]
+    elim (slice_get (lane d h i g j) n)
+    [ None ↦ None | Some l ↦ given_at j k (given.Bulk i g n (payload_at l (values_of h l))) ]
 
 -- the number of a bulk: the one that it names, or the front of the lane
 abbrev pub given_number : Deployed → List Entry → ℕ → ℕ → ℕ → Option ℕ → ℕ
@@ -62,7 +63,8 @@ handed d h (act.Pulse i) k = given_at i k given.Pulse
 handed d h (act.Turn j) k = given_at j k (given.Turn (turn_front d h j))
 handed d h (act.Bulk i g j o) k = given_bulk d h i g j (given_number d h i g j o) k
 handed d h (act.Beat i j) k = given_at i k (given.Beat j)
-handed d h (act.BeatIn i j n) k = elim (slice_get (beats d h i j) n) [ None ↦ None | Some note ↦ given_at j k (given.BeatIn i n note) ]
+handed d h (act.BeatIn i j n) k =
+    elim (slice_get (beats d h i j) n) [ None ↦ None | Some note ↦ given_at j k (given.BeatIn i n note) ]
 handed d h (act.Stamp j) k = given_at j k given.Stamp
 handed d h (act.Close i) k = given_at i k given.Close
 handed d h (act.Fall j) k = given_at j k given.Fall

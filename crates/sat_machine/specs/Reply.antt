@@ -53,8 +53,8 @@ move_by i j promise seen =
 
 -- ---- what the proxy reads: mode, view, last points, best beats, waiting labels
 
--- what a site reads of the others: whether it goes by timestamp order, its view, the point up to which it knows each site, the
--- best beat of each, and the updates that wait
+-- what a site reads of the others: whether it goes by timestamp order, its view, the point up to which it knows each
+-- site, the best beat of each, and the updates that wait
 pub record Outlook : Type 0 where
   pub stamp : Bool
   pub view : ℕ
@@ -64,7 +64,8 @@ pub record Outlook : Type 0 where
 
 -- what it reads off its state
 abbrev pub outlook_of : Deployed → SiteState → Outlook
-outlook_of d s = record { stamp = mode_of d s; view = s.views.view; last = s.proxy.last; best = best_of d s; waiting = waiting_of s }
+outlook_of d s =
+    record { stamp = mode_of d s; view = s.views.view; last = s.proxy.last; best = best_of d s; waiting = waiting_of s }
 
 -- a client that is moving to j finds its point known there
 abbrev pub comes_moving : Outlook → Carried → ℕ → Bool
@@ -102,7 +103,8 @@ own_passed o l = best_passes (o.best l.point.site) (passed_label o.view l)
 
 -- the update that j shows next in timestamp order
 abbrev pub stamp_next : Deployed → Outlook → ℕ → Option Label
-stamp_next d o j = elim (candidate_by o) [ None ↦ None | Some l ↦ if sites_passed d o j l && own_passed o l then Some l else None ]
+stamp_next d o j =
+    elim (candidate_by o) [ None ↦ None | Some l ↦ if sites_passed d o j l && own_passed o l then Some l else None ]
 
 -- whether j has all of its view, where `heard` tells which closes it took from its tree
 abbrev pub may_pass : Deployed → Outlook → (ℕ → ℕ → Bool) → ℕ → Bool
@@ -117,17 +119,20 @@ may_pass d o heard j =
 unfoldable pub site_answer : Deployed → ℕ → SiteState → SiteInput → Answer
 site_answer d i s (given.Tick g ts) = ans.Ticked (max (s.gears g).promise ts)
 site_answer d i s (given.Clock p) = ans.Clocked p
-site_answer d i s (given.Write seen items values) = write_by d i items (s.gears (gear_for d items)).promise seen.point.ts
+site_answer d i s (given.Write seen items values) =
+    write_by d i items (s.gears (gear_for d items)).promise seen.point.ts
 site_answer d i s (given.Read seen x) = read_by d i x (s.store x)
 site_answer d i s (given.Move seen j) = move_by i j (s.gears 0).promise seen.point.ts
 site_answer d i s (given.Attach seen) = refused_if (not (may_come d (outlook_of d s) seen i)) why.NotYet ans.Attached
-site_answer d i s given.Gather = ans.Gathered (length (rows (λ g. (s.gears g).fresh) d.gears)) (least_row (λ g. (s.gears g).promise) d.gears)
+site_answer d i s given.Gather =
+    ans.Gathered (length (rows (λ g. (s.gears g).fresh) d.gears)) (least_row (λ g. (s.gears g).promise) d.gears)
 site_answer d i s given.Emit = elim (ready_of d s) [ None ↦ ans.Refused why.Idle | Some l ↦ ans.Emitted l ]
 site_answer d i s given.Pulse =
     refused_if (is_some (ready_of d s) || nat_le (stable_of d s) s.sink.pulse) why.Idle
     (ans.Pulsed (record { point = point_at (stable_of d s) i PULSE_GEAR; kind = kind.Pulse }))
 site_answer d i s (given.Turn front) =
-    refused_if (mode_of d s) why.StampOrder (elim front [ None ↦ ans.Refused why.Empty | Some l ↦ turned (waiting_of s) l ])
+    refused_if (mode_of d s) why.StampOrder
+    (elim front [ None ↦ ans.Refused why.Empty | Some l ↦ turned (waiting_of s) l ])
 site_answer d i s (given.Bulk from g n p) = if has ◌==◌ (s.proxy.taken from g) n then ans.Again else ans.Brought p.label
 site_answer d i s (given.Beat j) = ans.Beat (length (s.made_beats j))
 site_answer d i s (given.BeatIn from n note) =
@@ -136,12 +141,14 @@ site_answer d i s (given.BeatIn from n note) =
       | Some b ↦ if nat_le n b.0 then ans.Old else (if has ◌==◌ (numbers_of s from) n then ans.Again else ans.Taken)
     ]
 site_answer d i s given.Stamp =
-    refused_if (not (mode_of d s)) why.TreeOrder (elim (stamp_next d (outlook_of d s) i) [ None ↦ ans.Refused why.NotYet | Some l ↦ ans.Shown l ])
+    refused_if (not (mode_of d s)) why.TreeOrder
+    (elim (stamp_next d (outlook_of d s) i) [ None ↦ ans.Refused why.NotYet | Some l ↦ ans.Shown l ])
 site_answer d i s given.Close =
     refused_if (s.views.emission == length d.plans) why.NoNextEpoch (
     refused_if (s.views.emission == s.views.view + 1) why.Behind (
     ans.Closed s.views.emission (cut_of d i s)))
-site_answer d i s given.Fall = refused_if (mode_of d s) why.StampOrder (refused_if (s.views.emission == s.views.view) why.NotClosed ans.Fallen)
+site_answer d i s given.Fall =
+    refused_if (mode_of d s) why.StampOrder (refused_if (s.views.emission == s.views.view) why.NotClosed ans.Fallen)
 site_answer d i s given.Advance =
     refused_if (s.views.emission == s.views.view) why.NotClosed (
     refused_if (not (may_pass d (outlook_of d s) s.views.heard i)) why.NotYet (ans.View (s.views.view + 1)))

@@ -1,4 +1,5 @@
--- What a site keeps. A table is a function of the number of its row; the code keeps the rows below the deployment's numbers.
+-- What a site keeps. A table is a function of the number of its row; the code keeps the rows below the deployment's
+-- numbers.
 use Rattle.std.specs.Prelude.{ℕ, Bool, false, List, [], Option, None}
 use Rattle.sat_label.specs.declared.point.Point.{Point}
 use Rattle.sat_label.specs.declared.label.Label.{Label}
@@ -12,8 +13,8 @@ pub record GearState : Type 0 where
   pub fresh : List Label
   pub lanes : ℕ → List Payload
 
--- a sink. By gear: the gathered promise, the gathered labels that were not emitted, and how much of each lane was gathered.
--- Beside these the point that it sent last and the timestamp of its last pulse
+-- a sink. By gear: the gathered promise, the gathered labels that were not emitted, and how much of each lane was
+-- gathered. Beside these the point that it sent last and the timestamp of its last pulse
 pub record SinkState : Type 0 where
   pub promises : ℕ → ℕ
   pub pending : ℕ → List Label
@@ -21,8 +22,8 @@ pub record SinkState : Type 0 where
   pub last : Point
   pub pulse : ℕ
 
--- a site's epochs: its view, the epoch in which it sends, whether it has fallen, its close cuts by epoch, and the closes that it
--- took from its tree, by site and epoch
+-- a site's epochs: its view, the epoch in which it sends, whether it has fallen, its close cuts by epoch, and the
+-- closes that it took from its tree, by site and epoch
 pub record ViewState : Type 0 where
   pub view : ℕ
   pub emission : ℕ
@@ -30,7 +31,8 @@ pub record ViewState : Type 0 where
   pub closes : ℕ → Option Point
   pub heard : ℕ → ℕ → Bool
 
--- what a site has of others: taken numbers by site and gear, what waits, the taken beats by site with their numbers, and what is known of each site
+-- what a site has of others: taken numbers by site and gear, what waits, the taken beats by site with their numbers,
+-- and what is known of each site
 pub record ProxyState : Type 0 where
   pub taken : ℕ → ℕ → List ℕ
   pub pool : List Payload
@@ -42,7 +44,8 @@ pub record Version : Type 0 where
   pub label : Label
   pub value : List ℕ
 
--- a site: its gears, its sink, its views, what it has of other sites, its version of each item, and by site the beats that it made
+-- a site: its gears, its sink, its views, what it has of other sites, its version of each item, and by site the beats
+-- that it made
 pub record SiteState : Type 0 where
   pub gears : ℕ → GearState
   pub sink : SinkState

@@ -8,8 +8,8 @@ use Rattle.sat_act.specs.Deployed.{Deployed}
 use Rattle.sat_act.specs.Parts.{promise, stable, sent, cut, carried}
 use Rattle.sat_act.specs.Goals.{Made}
 
--- no timestamp of a history is past the last: of a gear's promise, of what is made, stable or sent, of a cut, and of what a
--- client carries
+-- no timestamp of a history is past the last: of a gear's promise, of what is made, stable or sent, of a cut, and of
+-- what a client carries
 pub record HasTimes (d : Deployed) (h : List Entry) : Type 0 where
   pub promises : (i g : ℕ) → promise h i g ≤ TS_END
   pub labels : (l : Label) → Made h l → l.point.ts ≤ TS_END

@@ -33,8 +33,8 @@ pub record ClientState : Type 0 where
   pub carried : Carried
   pub seat : Option ℕ
 
--- a world: its sites; its links, by epoch and edge, with what entered and was not taken; which serializers are dead, by epoch; and
--- its clients
+-- a world: its sites; its links, by epoch and edge, with what entered and was not taken; which serializers are dead, by
+-- epoch; and its clients
 pub record WorldState : Type 0 where
   pub sites : ℕ → SiteState
   pub links : ℕ → NodeId → NodeId → List Label
@@ -58,7 +58,9 @@ first xs = slice_get xs 0
 
 -- the front of the link to site j from its serializer, in the tree of its view
 abbrev pub front_at : Deployed → WorldState → ℕ → Option Label
-front_at d w j = elim (seat_in d (w.sites j).views.view j) [ None ↦ None | Some z ↦ first (w.links (w.sites j).views.view z (Site j)) ]
+front_at d w j =
+    elim (seat_in d (w.sites j).views.view j)
+    [ None ↦ None | Some z ↦ first (w.links (w.sites j).views.view z (Site j)) ]
 
 -- the greatest of the first n promises of the first m sites
 unfoldable pub greatest_row : (ℕ → ℕ → ℕ) → ℕ → ℕ → ℕ
@@ -86,18 +88,24 @@ beat_from w i j n = slice_get ((w.sites i).made_beats j) n
 unfoldable pub world_given : Deployed → WorldState → Act → ℕ → Option SiteInput
 world_given d w (act.Tick i g ts) k = given_at i k (given.Tick g ts)
 world_given d w act.Clock k = Some (given.Clock (clock_of d w))
-world_given d w (act.Write c x value) k = given_seat (w.clients c).seat k (given.Write (w.clients c).carried (One x) (value ∷ []))
-world_given d w (act.Writes c items values) k = given_seat (w.clients c).seat k (given.Write (w.clients c).carried items values)
+world_given d w (act.Write c x value) k =
+    given_seat (w.clients c).seat k (given.Write (w.clients c).carried (One x) (value ∷ []))
+world_given d w (act.Writes c items values) k =
+    given_seat (w.clients c).seat k (given.Write (w.clients c).carried items values)
 world_given d w (act.Read c x) k = given_seat (w.clients c).seat k (given.Read (w.clients c).carried x)
 world_given d w (act.Move c j) k = given_seat (w.clients c).seat k (given.Move (w.clients c).carried j)
-world_given d w (act.Attach c j) k = elim (w.clients c).seat [ None ↦ given_at j k (given.Attach (w.clients c).carried) | Some i ↦ None ]
+world_given d w (act.Attach c j) k =
+    elim (w.clients c).seat [ None ↦ given_at j k (given.Attach (w.clients c).carried) | Some i ↦ None ]
 world_given d w (act.Gather i) k = given_at i k given.Gather
 world_given d w (act.Emit i) k = given_at i k given.Emit
 world_given d w (act.Pulse i) k = given_at i k given.Pulse
 world_given d w (act.Turn j) k = given_at j k (given.Turn (front_at d w j))
-world_given d w (act.Bulk i g j o) k = elim (payload_from w i g j (number_of w i g j o)) [ None ↦ None | Some p ↦ given_at j k (given.Bulk i g (number_of w i g j o) p) ]
+world_given d w (act.Bulk i g j o) k =
+    elim (payload_from w i g j (number_of w i g j o))
+    [ None ↦ None | Some p ↦ given_at j k (given.Bulk i g (number_of w i g j o) p) ]
 world_given d w (act.Beat i j) k = given_at i k (given.Beat j)
-world_given d w (act.BeatIn i j n) k = elim (beat_from w i j n) [ None ↦ None | Some note ↦ given_at j k (given.BeatIn i n note) ]
+world_given d w (act.BeatIn i j n) k =
+    elim (beat_from w i j n) [ None ↦ None | Some note ↦ given_at j k (given.BeatIn i n note) ]
 world_given d w (act.Stamp j) k = given_at j k given.Stamp
 world_given d w (act.Close i) k = given_at i k given.Close
 world_given d w (act.Fall j) k = given_at j k given.Fall
@@ -114,29 +122,40 @@ nodes_for d t u z l = filter (λ v. not (node_eq u v) && goes_beyond d t (Serial
 abbrev pub hop_by : Deployed → TreeShape → NodeId → ℕ → Option Label → Answer
 hop_by d t u z o = elim o [ None ↦ ans.Refused why.Empty | Some l ↦ ans.Hopped l (nodes_for d t u z l) ]
 
--- what a world answers to an act, one clause for each act. For a settle it is a stand-in: the world doesn't take it as one act
+-- what a world answers to an act, one clause for each act. For a settle it is a stand-in: the world doesn't take it as
+-- one act
 unfoldable pub world_answer : Deployed → WorldState → Act → Answer
 unfolding site_answer
 world_answer d w (act.Tick i g ts) = site_answer d i (w.sites i) (given.Tick g ts)
 world_answer d w act.Clock = ans.Clocked (clock_of d w)
-world_answer d w (act.Write c x value) = at_seat (w.clients c).seat (λ i. site_answer d i (w.sites i) (given.Write (w.clients c).carried (One x) (value ∷ [])))
-world_answer d w (act.Writes c items values) = at_seat (w.clients c).seat (λ i. site_answer d i (w.sites i) (given.Write (w.clients c).carried items values))
-world_answer d w (act.Read c x) = at_seat (w.clients c).seat (λ i. site_answer d i (w.sites i) (given.Read (w.clients c).carried x))
-world_answer d w (act.Move c j) = at_seat (w.clients c).seat (λ i. site_answer d i (w.sites i) (given.Move (w.clients c).carried j))
+world_answer d w (act.Write c x value) =
+    at_seat (w.clients c).seat
+    (λ i. site_answer d i (w.sites i) (given.Write (w.clients c).carried (One x) (value ∷ [])))
+world_answer d w (act.Writes c items values) =
+    at_seat (w.clients c).seat (λ i. site_answer d i (w.sites i) (given.Write (w.clients c).carried items values))
+world_answer d w (act.Read c x) =
+    at_seat (w.clients c).seat (λ i. site_answer d i (w.sites i) (given.Read (w.clients c).carried x))
+world_answer d w (act.Move c j) =
+    at_seat (w.clients c).seat (λ i. site_answer d i (w.sites i) (given.Move (w.clients c).carried j))
 world_answer d w (act.Leave c) = at_seat (w.clients c).seat (λ i. ans.Left (w.clients c).carried.point)
 world_answer d w (act.Attach c j) =
-    elim (w.clients c).seat [ None ↦ site_answer d j (w.sites j) (given.Attach (w.clients c).carried) | Some i ↦ ans.Refused why.Joined ]
+    elim (w.clients c).seat
+    [ None ↦ site_answer d j (w.sites j) (given.Attach (w.clients c).carried) | Some i ↦ ans.Refused why.Joined ]
 world_answer d w (act.Gather i) = site_answer d i (w.sites i) given.Gather
 world_answer d w (act.Emit i) = site_answer d i (w.sites i) given.Emit
 world_answer d w (act.Pulse i) = site_answer d i (w.sites i) given.Pulse
 world_answer d w (act.Hop epoch u z) =
     refused_if (w.dead epoch z) why.Dead (
-    elim (tree_of d epoch) [ None ↦ ans.Refused why.Empty | Some tree ↦ hop_by d tree u z (first (w.links epoch u (Serializer z))) ])
+    elim (tree_of d epoch)
+    [ None ↦ ans.Refused why.Empty | Some tree ↦ hop_by d tree u z (first (w.links epoch u (Serializer z))) ])
 world_answer d w (act.Turn j) = site_answer d j (w.sites j) (given.Turn (front_at d w j))
 world_answer d w (act.Bulk i g j o) =
-    elim (payload_from w i g j (number_of w i g j o)) [ None ↦ ans.Refused why.NoSuch | Some p ↦ site_answer d j (w.sites j) (given.Bulk i g (number_of w i g j o) p) ]
+    elim (payload_from w i g j (number_of w i g j o))
+    [ None ↦ ans.Refused why.NoSuch | Some p ↦ site_answer d j (w.sites j) (given.Bulk i g (number_of w i g j o) p) ]
 world_answer d w (act.Beat i j) = site_answer d i (w.sites i) (given.Beat j)
-world_answer d w (act.BeatIn i j n) = elim (beat_from w i j n) [ None ↦ ans.Refused why.NoSuch | Some note ↦ site_answer d j (w.sites j) (given.BeatIn i n note) ]
+world_answer d w (act.BeatIn i j n) =
+    elim (beat_from w i j n)
+    [ None ↦ ans.Refused why.NoSuch | Some note ↦ site_answer d j (w.sites j) (given.BeatIn i n note) ]
 world_answer d w (act.Stamp j) = site_answer d j (w.sites j) given.Stamp
 world_answer d w (act.Close i) = site_answer d i (w.sites i) given.Close
 world_answer d w (act.Fall j) = site_answer d j (w.sites j) given.Fall
@@ -150,12 +169,21 @@ world_answer d w act.Settle = ans.Settled 0 0
 unfoldable pub handled_by : Deployed → (ℕ → ℕ) → (ℕ → ℕ) → Act → Answer → Option Handling
 handled_by d emission view a r =
     elim r [
-      | ans.Emitted l ↦ elim a [ act.Emit i ↦ Some (record { epoch = emission i; node = Site i; from = None; label = l }) | _ ↦ None ]
-      | ans.Pulsed l ↦ elim a [ act.Pulse i ↦ Some (record { epoch = emission i; node = Site i; from = None; label = l }) | _ ↦ None ]
-      | ans.Closed f p ↦ elim a [ act.Close i ↦ Some (record { epoch = f; node = Site i; from = None; label = record { point = p; kind = kind.Close f } }) | _ ↦ None ]
-      | ans.Hopped l to ↦ elim a [ act.Hop f u z ↦ Some (record { epoch = f; node = Serializer z; from = Some u; label = l }) | _ ↦ None ]
-      | ans.Shown l ↦ elim a [ act.Turn j ↦ Some (record { epoch = view j; node = Site j; from = seat_in d (view j) j; label = l }) | _ ↦ None ]
-      | ans.Took l ↦ elim a [ act.Turn j ↦ Some (record { epoch = view j; node = Site j; from = seat_in d (view j) j; label = l }) | _ ↦ None ]
+      | ans.Emitted l ↦
+          elim a [ act.Emit i ↦ Some (record { epoch = emission i; node = Site i; from = None; label = l }) | _ ↦ None ]
+      | ans.Pulsed l ↦ elim a
+          [ act.Pulse i ↦ Some (record { epoch = emission i; node = Site i; from = None; label = l }) | _ ↦ None ]
+      | ans.Closed f p ↦
+          elim a
+          [ act.Close i ↦ Some (record { epoch = f; node = Site i; from = None; label = record { point = p; kind = kind.Close f } }) | _ ↦ None ]
+      | ans.Hopped l to ↦ elim a
+          [ act.Hop f u z ↦ Some (record { epoch = f; node = Serializer z; from = Some u; label = l }) | _ ↦ None ]
+      | ans.Shown l ↦
+          elim a
+          [ act.Turn j ↦ Some (record { epoch = view j; node = Site j; from = seat_in d (view j) j; label = l }) | _ ↦ None ]
+      | ans.Took l ↦
+          elim a
+          [ act.Turn j ↦ Some (record { epoch = view j; node = Site j; from = seat_in d (view j) j; label = l }) | _ ↦ None ]
       | _ ↦ None
     ]
 
@@ -166,7 +194,8 @@ link_next d o epoch u v ls =
       | None ↦ []
       | Some tree ↦ elim o [
         | None ↦ ls
-        | Some x ↦ (if is_taken epoch u v x then drop 1 ls else ls) ++ (if is_put d epoch tree u v x then x.label ∷ [] else [])
+        | Some x ↦ (if is_taken epoch u v x then drop 1 ls else ls)
+            ++ (if is_put d epoch tree u v x then x.label ∷ [] else [])
       ]
     ]
 
@@ -206,14 +235,17 @@ seat_next c o a r =
 
 -- client c after an act
 abbrev pub client_next : ℕ → ClientState → Act → Answer → ClientState
-client_next c s a r = record { carried = record { point = point_next c s.carried.point a r; moving = moving_next c s.carried.moving a r }; seat = seat_next c s.seat a r }
+client_next c s a r =
+    record { carried = record { point = point_next c s.carried.point a r; moving = moving_next c s.carried.moving a r }; seat = seat_next c s.seat a r }
 
 -- what an act and its answer make of a world
 unfoldable pub world_next : Deployed → WorldState → Act → Answer → WorldState
 unfolding after world_given handled_by
 world_next d w a r = record {
   sites = λ k. after d k (w.sites k) (world_given d w a k) r;
-  links = λ epoch u v. link_next d (handled_by d (λ i. (w.sites i).views.emission) (λ i. (w.sites i).views.view) a r) epoch u v (w.links epoch u v);
+  links =
+      λ epoch u v. link_next d (handled_by d (λ i. (w.sites i).views.emission) (λ i. (w.sites i).views.view) a r) epoch
+      u v (w.links epoch u v);
   dead = λ epoch z. dead_next epoch z (w.dead epoch z) a r;
   clients = λ c. client_next c (w.clients c) a r;
 }
@@ -227,7 +259,8 @@ world_step d w a = (world_answer d w a, world_next d w a (world_answer d w a))
 
 -- what stands on a link after a history: what was put there and not taken
 abbrev pub link_left : Deployed → List Entry → ℕ → NodeId → NodeId → List Label
-link_left d h epoch u v = elim (tree_of d epoch) [ None ↦ [] | Some tree ↦ drop (taken d h epoch u v) (entered d h epoch tree u v) ]
+link_left d h epoch u v =
+    elim (tree_of d epoch) [ None ↦ [] | Some tree ↦ drop (taken d h epoch u v) (entered d h epoch tree u v) ]
 
 -- the world that stands for a history
 unfoldable pub world_state : Deployed → List Entry → WorldState

@@ -10,7 +10,7 @@ use Rattle.sat_label.specs.Grouped.{list_of}
 use Rattle.sat_sites.specs.Interested.{Interested, IsLabelOf, IsKindOf}
 use Rattle.sat_sites.proofs.Below.{below_is}
 use Rattle.sat_tree.specs.Shape.{TreeShape}
-use Rattle.sat_tree.specs.Cut.{is_edge, hangs_on, neighbours, IsNode}
+use Rattle.sat_tree.specs.Cut.{is_edge, hangs_on, IsNode}
 use Rattle.sat_serial.specs.Routes.{leads, Arrives}
 use Rattle.sat_serial.specs.Routes.{routes}
 use Rattle.sat_serial.specs.Outboxes.{SerializerSeen}
@@ -22,12 +22,10 @@ use Rattle.sat_act.specs.declared.answer.Refusal.TheVariants as why
 use Rattle.sat_act.specs.Answers.{refused_if}
 use Rattle.sat_act.specs.Deployed.{Deployed}
 use Rattle.sat_machine.specs.Interests.{interest_of}
-use Rattle.sat_machine.specs.World.{nodes_for}
 use Rattle.sat_net.proofs.Targets.{routes-are}
 use Rattle.sat_machines.specs.declared.serial_act.SerialAct.{SerialAct}
 use Rattle.sat_machines.specs.declared.serial_act.SerialAct.TheVariants as given
-use Rattle.sat_machines.specs.declared.serial_act.SerialAnswer.{SerialAnswer}
-use Rattle.sat_machines.specs.Serials.{arrives, is_label_of, is_kind_of, is_node, IsSerial, SerialSeen, SerialStands, SerialAnswers, SerialFits, answer_in, dead_after, epoch_in, serial_in, serial_after, serial_answer, serial_takes_in}
+use Rattle.sat_machines.specs.Serials.{arrives, is_label_of, is_kind_of, is_node, IsSerial, SerialSeen, SerialStands, SerialFits, answer_in, dead_after, epoch_in, serial_in, serial_answer, serial_takes_in}
 
 or-turned : (b c : Bool) → (b || c) ≡ (c || b)
 or-turned true true = refl
@@ -107,16 +105,6 @@ kill_alive d s e = sym (ap (λ (b : Bool). serial_answer d s.tree s.number b giv
 
 -- ---- at the states that it stands for
 
-pub serial-answers : (d : Deployed) (name : NodeName) (x : SerialSeen) (dead : Bool) (act : SerialAct) (a : SerialAnswer) → a.answer ≡ answer_in d x.serial act → a.ends ≡ neighbours x.serial.tree x.serial.number →
-    SerialStands d name x dead → SerialAnswers d (epoch_in name) (serial_in name) dead act a
-serial-answers d (named.Site i) x dead act a e f st = absurd st
-serial-answers d (named.Serializer g z) x dead act a e f st = record {
-  tree = x.serial.tree;
-  is_tree = st.tree;
-  answer = e ∙ (λ n. serial_answer d x.serial.tree (st.number n) (st.killed n) act);
-  ends = f ∙ ap (neighbours x.serial.tree) st.number;
-}
-
 pub serial-fits : (d : Deployed) (name : NodeName) (x : SerialSeen) (dead : Bool) (act : SerialAct) → (e z : ℕ) → IsSerial d e z x.serial x.serial.tree (interest_of d) → serial_takes_in d x act ≡ true → SerialStands d name x dead →
     SerialFits d (epoch_in name) (serial_in name) act
 serial-fits d (named.Site i) x dead act e z k f st = absurd st
@@ -126,28 +114,6 @@ serial-fits d (named.Serializer g y) x dead given.Kill e z k f st = tt
 hop-lives : (b : Bool) (r : Answer) (u : List NodeId) (l : Label) → r ≡ refused_if b why.Dead (ans.Hopped l u) → b ≡ dead_after b r
 hop-lives true r u l e = sym (ap (dead_after true) e)
 hop-lives false r u l e = sym (ap (dead_after false) e)
-
-kill-kills : (b : Bool) (r : Answer) → r ≡ refused_if b why.Already ans.Killed → true ≡ dead_after b r
-kill-kills true r e = sym (ap (dead_after true) e)
-kill-kills false r e = sym (ap (dead_after false) e)
-
-pub serial-hops : (d : Deployed) (name : NodeName) (x : SerialSeen) (dead : Bool) (u : NodeId) (l : Label) (r : Answer) → r ≡ answer_in d x.serial (given.Hop u l) → SerialStands d name x dead → SerialStands d name x (dead_after dead r)
-serial-hops d (named.Site i) x dead u l r e st = absurd st
-serial-hops d (named.Serializer g z) x dead u l r e st = record {
-  epoch = st.epoch;
-  number = st.number;
-  tree = st.tree;
-  killed = st.killed ∙ hop-lives dead r (nodes_for d x.serial.tree u x.serial.number l) l (e ∙ ap (λ (b : Bool). serial_answer d x.serial.tree x.serial.number b (given.Hop u l)) st.killed);
-}
-
-pub serial-kills : (d : Deployed) (name : NodeName) (x : SerialSeen) (dead : Bool) (r : Answer) → r ≡ answer_in d x.serial given.Kill → SerialStands d name x dead → SerialStands d name (serial_after x given.Kill) (dead_after dead r)
-serial-kills d (named.Site i) x dead r e st = absurd st
-serial-kills d (named.Serializer g z) x dead r e st = record {
-  epoch = st.epoch;
-  number = st.number;
-  tree = st.tree;
-  killed = kill-kills dead r (e ∙ ap (λ (b : Bool). serial_answer d x.serial.tree x.serial.number b given.Kill) st.killed);
-}
 
 pub arrives_held : (d : Deployed) (e z : ℕ) (s : SerializerSeen) (t : TreeShape) (a : Interested) (u : NodeId) (l : Label) → IsSerial d e z s t a → arrives (interest_of d) s.tree s.number u l ≡ true → Arrives a s.tree s.number u l
 arrives_held d e z s t a u l k f = arrives-here a s.tree s.number u l (same_sites d e z s t a k ∙ ap (λ (t : TreeShape). length t.seats) k.tree_is) (ap (λ (a : Interested). arrives a s.tree s.number u l) k.interest ∙ f)

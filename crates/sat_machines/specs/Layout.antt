@@ -49,7 +49,8 @@ trees_of d = planted 1 d.plans
 -- the links out of a site: to each other site, in order, and then of each tree
 abbrev pub site_links : Deployed → ℕ → List Link
 site_links d i =
-    map (λ k. Bulk i (peer i k)) (below (d.sites - 1)) ++ map (λ p. Edge p.epoch (Site i) (Serializer (seat_of p.tree i))) (trees_of d)
+    map (λ k. Bulk i (peer i k)) (below (d.sites - 1))
+    ++ map (λ p. Edge p.epoch (Site i) (Serializer (seat_of p.tree i))) (trees_of d)
 
 -- the links out of a serializer of a tree: to each neighbour, in their order
 abbrev pub serial_links : Planted → ℕ → List Link
@@ -90,7 +91,8 @@ unfoldable pub in_places : Deployed → NodeName → List ℕ
 unfolding neighbours seat_of
 in_places d name = map (place_back d) (links_of d name)
 
--- the number of the end for each epoch's tree, from the end of this number on. An epoch without a tree has that of the next one
+-- the number of the end for each epoch's tree, from the end of this number on. An epoch without a tree has that of the
+-- next one
 abbrev pub label_links : ℕ → List Plan → List ℕ
 label_links n [] = []
 label_links n (plan.Stamp ∷ plans) = n ∷ label_links n plans

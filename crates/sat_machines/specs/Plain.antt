@@ -22,7 +22,8 @@ is_spare (input.Beat j) = false
 is_spare _ = true
 
 -- what a step gives, and copies of its answer and of its beat
-pub record IsTwice (x : SiteSeen) (given : SiteInput) (out : SiteOutput) (copy : Answer) (beat_copy : Option Beat) : Type 0 where
+pub record IsTwice (x : SiteSeen) (given : SiteInput) (out : SiteOutput) (copy : Answer)
+    (beat_copy : Option Beat) : Type 0 where
   pub answers : out.answer ≡ site_answers x given
   pub sends : out.sent ≡ site_sends x given
   pub epoch : out.epoch ≡ site_epoch x given

@@ -51,7 +51,8 @@ SerialStands d (named.Site i) x dead = ⊥
 SerialStands d (named.Serializer e z) x dead = StandsAt d e z x dead
 
 -- what the machine keeps beside its serializer
-pub record IsSerial (d : Deployed) (epoch number : ℕ) (serial : SerializerSeen) (tree : TreeShape) (a : Interested) : Type 0 where
+pub record IsSerial (d : Deployed) (epoch number : ℕ) (serial : SerializerSeen) (tree : TreeShape)
+    (a : Interested) : Type 0 where
   pub deployment : IsDeployment d
   pub tree_is : tree ≡ serial.tree
   pub number_is : number ≡ serial.number
@@ -95,10 +96,6 @@ serial_answer d t z dead given.Kill = refused_if dead why.Already ans.Killed
 -- by what the serializer is
 abbrev pub answer_in : Deployed → SerializerSeen → SerialAct → Answer
 answer_in d s act = serial_answer d s.tree s.number s.killed act
-
-abbrev pub serial_after : SerialSeen → SerialAct → SerialSeen
-serial_after x (given.Hop u l) = x
-serial_after x given.Kill = record x { serial = record x.serial { killed = true } }
 
 -- the answer of the model's serializer, with its neighbours
 pub record SerialAnswers (d : Deployed) (e z : ℕ) (dead : Bool) (act : SerialAct) (a : SerialAnswer) : Type 0 where

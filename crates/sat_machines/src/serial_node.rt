@@ -9,7 +9,7 @@ ghost use Rattle.sat_act.specs.Parts.{tree_of};
 ghost use Rattle.sat_machine.specs.Interests.{interest_of};
 ghost use Rattle.sat_serial.specs.Routes.{leads};
 ghost use Rattle.sat_machines.specs.declared.serial_act.SerialAct.TheVariants as given;
-ghost use Rattle.sat_machines.specs.Serials.{SerialStands, IsSerial, answer_in, arrives, goes_to, is_label_of, is_node, serial_after};
+ghost use Rattle.sat_machines.specs.Serials.{SerialStands, IsSerial, answer_in, arrives, goes_to, is_label_of, is_node};
 
 use crate::{Laid, SerialAct, SerialAnswer};
 use sat_act::{Answer, Deployment, Refusal};
@@ -22,8 +22,8 @@ use sat_tree::Tree;
 use std::alloc::{AllocError, Global};
 use std::marker::{Model, PhantomData};
 
-/// A serializer of a tree of N's deployment as the machine of its node. It puts nothing into the outboxes of its serializer: what a
-/// hop sends stands in its answer.
+/// A serializer of a tree of N's deployment as the machine of its node. It puts nothing into the outboxes of its
+/// serializer: what a hop sends stands in its answer.
 #[derive(Drop)]
 pub struct SerialNode<N: Laid> {
     alloc: Global,
@@ -165,7 +165,8 @@ impl<N: Laid> SerialNode<N> {
 
     // What is true of it.
     fn sound(&self)
-        ensures deployment { IsSerial N.deployment self.now.epoch self.now.serial.number self.now.serial self.now.serial.tree (interest_of N.deployment) }
+        ensures deployment { IsSerial N.deployment self.now.epoch self.now.serial.number self.now.serial
+            self.now.serial.tree (interest_of N.deployment) }
     {
         let _ = &self.tree;
     }
@@ -173,7 +174,8 @@ impl<N: Laid> SerialNode<N> {
     // Whether it may be handed a label by a node.
     #[tactic(auto, using(crate::proofs::Serials::same_sites))]
     fn arrives(&self, from: NodeId, label: &Label) -> bool
-        ensures { result ≡ arrives (interest_of N.deployment) self.now.serial.tree self.now.serial.number from label.now }
+        ensures { result ≡ arrives (interest_of N.deployment) self.now.serial.tree self.now.serial.number
+            from label.now }
     {
         arrives(&self.tree, &self.interest, self.number, from, label)
     }
@@ -201,7 +203,8 @@ impl<N: Laid> SerialNode<N> {
 
     // An answer with the neighbours, twice.
     fn twice(&self, answer: Answer) -> Result<(SerialAnswer, SerialAnswer), AllocError>
-        ensures first { IfOk result (λ two. (two.0.answer ≡ answer) × (two.0.ends ≡ neighbours self.now.serial.tree self.now.serial.number)) }
+        ensures first { IfOk result (λ two. (two.0.answer ≡ answer)
+            × (two.0.ends ≡ neighbours self.now.serial.tree self.now.serial.number)) }
         ensures second { IfOk result (λ two. two.0 ≡ two.1) }
     {
         let copy = answer.copy()?;

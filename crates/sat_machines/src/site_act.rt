@@ -9,7 +9,8 @@ use sat_site::SiteInput;
 use std::alloc::AllocError;
 use std::marker::{Model, PhantomData};
 
-/// An input of a site, with the client whose act it is. A write, a read, a move and an attach are a client's, and nothing else is.
+/// An input of a site, with the client whose act it is. A write, a read, a move and an attach are a client's, and
+/// nothing else is.
 #[derive(Drop)]
 pub struct SiteAct<N: Laid> {
     by: Option<u16>,

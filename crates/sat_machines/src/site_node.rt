@@ -49,7 +49,8 @@ impl<N: Laid> Model for SiteNode<N> {
 
     ghost view = { λ n. n.site };
 
-    ghost invariant = { λ n. IsDeployment N.deployment × (n.interest ≡ interest_of N.deployment) × (n.links ≡ label_links (N.deployment.sites - 1) N.deployment.plans) × (n.sites ≡ N.deployment.sites) };
+    ghost invariant = { λ n. IsDeployment N.deployment × (n.interest ≡ interest_of N.deployment)
+        × (n.links ≡ label_links (N.deployment.sites - 1) N.deployment.plans) × (n.sites ≡ N.deployment.sites) };
 }
 
 impl<N: Laid> SiteNode<N> {
@@ -78,7 +79,8 @@ impl<N: Laid> SiteNode<N> {
         &self.site
     }
 
-    /// How many sites the deployment has. The first ends of a site's node, one less than these, are for the other sites in order.
+    /// How many sites the deployment has. The first ends of a site's node, one less than these, are for the other sites
+    /// in order.
     pub fn sites(&self) -> u16
         ensures sites { result ≡ N.deployment.sites }
         ensures limits { IsDeployment N.deployment }

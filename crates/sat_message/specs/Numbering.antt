@@ -48,7 +48,8 @@ pub record IsAt {I A : Type 0} (of : I → A → Option Made) (ks : List (Kept I
 
 -- from place a of a journal to place b one thing was put, which is this message
 abbrev pub GivesOne : {I A : Type 0} → (I → A → Option Made) → List (Kept I A) → ℕ → ℕ → Message → Type 0
-GivesOne of ks a b m = (p : Putting) × (put_before of ks b ≡ put_before of ks a ++ p ∷ []) × (m ≡ message_of (put_before of ks a) p)
+GivesOne of ks a b m =
+    (p : Putting) × (put_before of ks b ≡ put_before of ks a ++ p ∷ []) × (m ≡ message_of (put_before of ks a) p)
 
 -- from place a on nothing is put, and b is the end
 abbrev pub EndsAt : {I A : Type 0} → (I → A → Option Made) → List (Kept I A) → ℕ → ℕ → Type 0
@@ -94,7 +95,8 @@ abbrev pub HasNumbers : CursorSeen → Type 0
 HasNumbers c = ((gear : ℕ) → get_or c.payloads gear 0 + 1 < 2 ^ 64) × (c.labels + 1 < 2 ^ 64) × (c.beats + 1 < 2 ^ 64)
 
 -- the entry at place a puts nothing, and b is the place behind it
-pub record Passes {I A : Type 0} (of : I → A → Option Made) (ks : List (Kept I A)) (a b : ℕ) (found : Option Message) : Type 0 where
+pub record Passes {I A : Type 0} (of : I → A → Option Made) (ks : List (Kept I A)) (a b : ℕ)
+    (found : Option Message) : Type 0 where
   pub next : b ≡ a + 1
   pub within : a < length ks
   pub same : put_before of ks b ≡ put_before of ks a

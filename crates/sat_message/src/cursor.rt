@@ -11,8 +11,9 @@ use sat_node::{Body, Envelope, Kept, Machine, Made};
 use std::alloc::{AllocError, Global};
 use std::marker::Model;
 
-/// How far a sender went through its node's journal for one outgoing link: how many entries, and how many labels, payloads of each gear
-/// and beats these put there, which are the numbers of the next ones. It holds no entry, so it may be dropped and begun anew.
+/// How far a sender went through its node's journal for one outgoing link: how many entries, and how many labels,
+/// payloads of each gear and beats these put there, which are the numbers of the next ones. It holds no entry, so it
+/// may be dropped and begun anew.
 #[derive(Drop)]
 pub struct Cursor {
     next: usize,
@@ -150,7 +151,9 @@ impl Cursor {
         requires at { IsAt (M.meaning.puts name link) journal.now self.old }
         requires none { found.old ≡ None }
         ensures at { IsAt (M.meaning.puts name link) journal.now self.new }
-        ensures looked { IfOk result (λ more. MatchBool more (Passes (M.meaning.puts name link) journal.now self.old.next self.new.next found.new) (Gives (M.meaning.puts name link) journal.now self.old.next self.new.next found.new)) }
+        ensures looked { IfOk result
+            (λ more. MatchBool more (Passes (M.meaning.puts name link) journal.now self.old.next self.new.next
+            found.new) (Gives (M.meaning.puts name link) journal.now self.old.next self.new.next found.new)) }
         ensures next { self.old.next ≤ self.new.next }
         ensures err { OnErr result (self.new.next ≡ self.old.next) }
     {
@@ -168,9 +171,10 @@ impl Cursor {
         Ok(false)
     }
 
-    /// What the journal puts next on the link of this number, as a message; `None` where it puts nothing more. Messages come in the
-    /// order of the entries, each once. It asks that the cursor is one of this link of this journal, which stays so while the journal
-    /// grows. `AllocError` where there is no memory for a copy: no message was passed by then, so ask again.
+    /// What the journal puts next on the link of this number, as a message; `None` where it puts nothing more. Messages
+    /// come in the order of the entries, each once. It asks that the cursor is one of this link of this journal, which
+    /// stays so while the journal grows. `AllocError` where there is no memory for a copy: no message was passed by
+    /// then, so ask again.
     #[tactic(auto, using(crate::proofs::Numbering::gives_from))]
     pub fn next_message<M: Machine>(
         &mut self,
@@ -182,7 +186,8 @@ impl Cursor {
         ensures at { IsAt (M.meaning.puts name link) journal.now self.new }
         ensures gives { IfOk result (Gives (M.meaning.puts name link) journal.now self.old.next self.new.next) }
         ensures next { self.old.next ≤ self.new.next }
-        ensures err { OnErr result (put_before (M.meaning.puts name link) journal.now self.new.next ≡ put_before (M.meaning.puts name link) journal.now self.old.next) }
+        ensures err { OnErr result (put_before (M.meaning.puts name link) journal.now self.new.next
+            ≡ put_before (M.meaning.puts name link) journal.now self.old.next) }
     {
         let mut found = None;
         'looking: while self.look::<M>(name, journal, link, &mut found)? {}

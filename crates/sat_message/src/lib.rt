@@ -1,4 +1,5 @@
-//! What a journal puts on a link, as messages with numbers: they may be lost, late, doubled and out of order on their way.
+//! What a journal puts on a link, as messages with numbers: they may be lost, late, doubled and out of order on their
+//! way.
 #![tactic(auto)]
 
 mod cursor;

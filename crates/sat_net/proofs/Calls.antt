@@ -4,11 +4,10 @@ use Rattle.std.proofs.Common.{sym, subst, ap, ◌∙◌}
 use Rattle.sat_label.specs.declared.label.Label.{Label}
 use Rattle.sat_label.specs.declared.node.NodeId.{NodeId}
 use Rattle.sat_label.specs.declared.node.NodeId.TheVariants.{Serializer}
-use Rattle.sat_laws.proofs.Labels.{some_is}
-use Rattle.sat_sites.specs.Interested.{Interested, IsLabelOf}
+use Rattle.sat_sites.specs.Interested.{Interested}
 use Rattle.sat_tree.specs.Shape.{TreeShape}
 use Rattle.sat_tree.specs.Cut.{is_edge, IsNode}
-use Rattle.sat_serial.specs.Routes.{leads, routes, Arrives, IsNeighbour}
+use Rattle.sat_serial.specs.Routes.{routes, Arrives, IsNeighbour}
 use Rattle.sat_serial.specs.Outboxes.{SerializerSeen, outbox}
 use Rattle.sat_net.specs.Nets.{NetSeen, IsPlaced, IsNet, MayHop, link_of, is_dead}
 use Rattle.sat_net.proofs.Lists.{there-is}
@@ -57,17 +56,6 @@ routes-at m n a z u l r same k less read =
     let s : (s : SerializerSeen) × (slice_get m.serializers z ≡ Some s) = within-at m n z same k less in
     let p : IsPlaced m.tree z s.0 = k.placed z s.0 s.1 in
     read s.0 s.1 ∙ ((λ i. routes a (p.tree i) (p.number i) u l) ∙ (λ i. routes a (same i).tree z u l))
-
--- what a hop asks for, by the label that was found on the link
-pub may_hop : (n : NetSeen) (a : Interested) (u : NodeId) (z : ℕ) (l : Label) → a.sites ≡ length n.tree.seats → IsNode n.tree u → is_edge n.tree u (Serializer z) ≡ true →
-    Some l ≡ slice_get (link_of n u (Serializer z)) 0 → IsLabelOf a l → leads a n.tree u (Serializer z) l ≡ true → MayHop n a u z
-may_hop n a u z l sites node edge front label target = record {
-  sites = sites;
-  node = node;
-  edge = edge;
-  label = λ m alive at. subst (IsLabelOf a) (some_is l m (front ∙ at)) label;
-  target = λ m alive at. subst (λ (m : Label). leads a n.tree u (Serializer z) m ≡ true) (some_is l m (front ∙ at)) target;
-}
 
 -- as many labels are read from a serializer's outbox as stand on the link
 pub many-at : (m n : NetSeen) (z : ℕ) (v : NodeId) (r : ℕ) (ss : List SerializerSeen) → m ≡ n → IsNet m → z < length n.tree.parents → ss ≡ m.serializers →

@@ -11,8 +11,8 @@ use Rattle.sat_tree.specs.Cut.{neighbours, seat_of, is_edge, IsNode, IsTree}
 use Rattle.sat_serial.specs.Routes.{leads, routes}
 use Rattle.sat_serial.specs.Outboxes.{SerializerSeen, fresh, outbox, after_handle, after_ship}
 
--- a tree; its serializers, in whose outboxes stands what goes to their neighbours; and what stands on the link from each site to
--- its serializer, the oldest first
+-- a tree; its serializers, in whose outboxes stands what goes to their neighbours; and what stands on the link from
+-- each site to its serializer, the oldest first
 pub record NetSeen : Type 0 where
   pub tree : TreeShape
   pub serializers : List SerializerSeen
@@ -37,7 +37,8 @@ underway_from n z = sum_by (λ v. length (link_of n (Serializer z) v)) (neighbou
 abbrev pub underway_on : NetSeen → ℕ
 underway_on n = sum_by (underway_from n) (below (length n.tree.parents))
 
--- on all: each edge of the tree is one of a site and its serializer, or of two serializers, each a neighbour of the other
+-- on all: each edge of the tree is one of a site and its serializer, or of two serializers, each a neighbour of the
+-- other
 abbrev pub underway_in : NetSeen → ℕ
 underway_in n = underway_up n + underway_on n
 
@@ -64,7 +65,8 @@ pub record IsNet (n : NetSeen) : Type 0 where
 
 -- all serializers alive, and nothing on any link
 abbrev pub fresh_net : TreeShape → NetSeen
-fresh_net t = record { tree = t; serializers = map (fresh t) (below (length t.parents)); up = replicate (length t.seats) [] }
+fresh_net t =
+    record { tree = t; serializers = map (fresh t) (below (length t.parents)); up = replicate (length t.seats) [] }
 
 -- a list after a change of what stands at one place
 abbrev pub change_at : {X : Type 0} → (X → X) → ℕ → List X → List X
@@ -108,14 +110,15 @@ after_kill n z = record n { serializers = change_at (λ s. record s { killed = t
 
 -- ---- a hop
 
--- what a hop from u to serializer z asks for: an interest of the tree's sites, an edge of the tree, and, where the serializer
--- is alive, that the oldest label on the link has a target beyond the edge
+-- what a hop from u to serializer z asks for: an interest of the tree's sites, an edge of the tree, and, where the
+-- serializer is alive, that the oldest label on the link has a target beyond the edge
 pub record MayHop (n : NetSeen) (a : Interested) (u : NodeId) (z : ℕ) : Type 0 where
   pub sites : a.sites ≡ length n.tree.seats
   pub node : IsNode n.tree u
   pub edge : is_edge n.tree u (Serializer z) ≡ true
   pub label : (l : Label) → is_dead n z ≡ false → slice_get (link_of n u (Serializer z)) 0 ≡ Some l → IsLabelOf a l
-  pub target : (l : Label) → is_dead n z ≡ false → slice_get (link_of n u (Serializer z)) 0 ≡ Some l → leads a n.tree u (Serializer z) l ≡ true
+  pub target : (l : Label) → is_dead n z ≡ false → slice_get (link_of n u (Serializer z)) 0 ≡ Some l
+      → leads a n.tree u (Serializer z) l ≡ true
 
 -- a hop from u found nothing on the link to serializer z, and changed nothing
 pub record FindsNothing (n : NetSeen) (u : NodeId) (z : ℕ) (m : NetSeen) : Type 0 where
@@ -123,7 +126,8 @@ pub record FindsNothing (n : NetSeen) (u : NodeId) (z : ℕ) (m : NetSeen) : Typ
   pub after : m ≡ n
 
 -- a hop from u took the oldest label on the link to serializer z, which handed it on to these nodes
-pub record HandsOn (n : NetSeen) (a : Interested) (u : NodeId) (z : ℕ) (l : Label) (nodes : List NodeId) (m : NetSeen) : Type 0 where
+pub record HandsOn (n : NetSeen) (a : Interested) (u : NodeId) (z : ℕ) (l : Label) (nodes : List NodeId)
+    (m : NetSeen) : Type 0 where
   pub front : slice_get (link_of n u (Serializer z)) 0 ≡ Some l
   pub routed : nodes ≡ routes a n.tree z u l
   pub after : m ≡ after_hop n a u z l

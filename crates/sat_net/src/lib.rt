@@ -1,5 +1,5 @@
-//! The serializers and links of one epoch's tree: labels go up from their sites, on from serializer to serializer, and down to the
-//! sites that they are for, each link first-in-first-out (Bravo, Rodrigues and Van Roy, EuroSys 2017).
+//! The serializers and links of one epoch's tree: labels go up from their sites, on from serializer to serializer, and
+//! down to the sites that they are for, each link first-in-first-out (Bravo, Rodrigues and Van Roy, EuroSys 2017).
 #![tactic(auto)]
 
 mod fault;
@@ -11,9 +11,9 @@ ghost use Rattle.sat_net.specs.Laws.{TreesGiveNets, NetsStayNets, NetsStart, Sen
 pub use fault::HopFault;
 pub use net::Net;
 
-/// What a net becomes stands for what the links of a history become, in the epoch that has the net's tree: by a label that a site
-/// sent or took, or that a serializer handed on, by a kill, and by what happens elsewhere. What a site or a hop finds on a link,
-/// and the ways of a label in a net, are those of the history.
+/// What a net becomes stands for what the links of a history become, in the epoch that has the net's tree: by a label
+/// that a site sent or took, or that a serializer handed on, by a kill, and by what happens elsewhere. What a site or a
+/// hop finds on a link, and the ways of a label in a net, are those of the history.
 pub fn net_laws()
     ensures fresh { TreesGiveNets }
     ensures nets { NetsStayNets }

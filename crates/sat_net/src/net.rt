@@ -17,8 +17,8 @@ use sat_tree::Tree;
 use std::alloc::{AllocError, Global};
 use std::marker::Model;
 
-/// The serializers of a tree and its links. Contracts see the tree, the serializers, in whose outboxes stands what goes to their
-/// neighbours, and what stands on the link from each site to its serializer, the oldest first.
+/// The serializers of a tree and its links. Contracts see the tree, the serializers, in whose outboxes stands what goes
+/// to their neighbours, and what stands on the link from each site to its serializer, the oldest first.
 #[derive(Drop)]
 pub struct Net {
     tree: Tree,
@@ -35,7 +35,8 @@ impl Model for Net {
 
     ghost view = { λ n. record { tree = n.tree; serializers = n.serializers.items; up = map members_of n.up.items } };
 
-    ghost invariant = { λ n. IsNet (record { tree = n.tree; serializers = n.serializers.items; up = map members_of n.up.items }) };
+    ghost invariant = { λ n.
+        IsNet (record { tree = n.tree; serializers = n.serializers.items; up = map members_of n.up.items }) };
 }
 
 // All serializers of a tree, with nothing in their outboxes.
@@ -75,15 +76,16 @@ impl Net {
     /// The oldest label that a site's serializer has for it, None where there is none. It stays there.
     pub fn front_to(&self, site: u16) -> Option<Label>
         requires { site < length self.now.tree.seats }
-        ensures front { result ≡ slice_get (link_of self.now (SerializerNode (seat_of self.now.tree site)) (SiteNode site)) 0 }
+        ensures front { result
+            ≡ slice_get (link_of self.now (SerializerNode (seat_of self.now.tree site)) (SiteNode site)) 0 }
         ensures limits { IsNet self.now }
     {
         let seat = self.seat(site);
         self.front(NodeId::Serializer(seat), NodeId::Site(site))
     }
 
-    /// Takes the oldest label that a site's serializer has for it, if there is one. It takes no memory, and works after a kill
-    /// too.
+    /// Takes the oldest label that a site's serializer has for it, if there is one. It takes no memory, and works after
+    /// a kill too.
     pub fn take_to(&mut self, site: u16)
         requires { site < length self.old.tree.seats }
         ensures take { self.new ≡ after_take self.old site }
@@ -104,10 +106,10 @@ impl Net {
         Ok(())
     }
 
-    /// Takes the oldest label from the link to a serializer, which hands it on, and answers it with the nodes that got a copy, sites
-    /// ascending and then serializers ascending; None where nothing stands on the link. `Dead` says that the serializer was
-    /// killed, `Memory` that there was no room for the copies; then all is as before. It asks for an edge of the tree, for an
-    /// interest of the tree's sites, and for a label of it with a target beyond the edge.
+    /// Takes the oldest label from the link to a serializer, which hands it on, and answers it with the nodes that got
+    /// a copy, sites ascending and then serializers ascending; None where nothing stands on the link. `Dead` says that
+    /// the serializer was killed, `Memory` that there was no room for the copies; then all is as before. It asks for an
+    /// edge of the tree, for an interest of the tree's sites, and for a label of it with a target beyond the edge.
     pub fn hop(
         &mut self,
         interest: &Interest,
@@ -136,8 +138,8 @@ impl Net {
         Ok(Some((label, nodes)))
     }
 
-    /// Kills a serializer: it hands nothing on from now on, and what it had put on its links stays there. `Already` says that it was
-    /// killed before. It takes no memory.
+    /// Kills a serializer: it hands nothing on from now on, and what it had put on its links stays there. `Already`
+    /// says that it was killed before. It takes no memory.
     pub fn kill(&mut self, z: u16) -> Result<(), KillFault>
         requires { z < length self.old.tree.parents }
         ensures ok { is_dead self.old z ≡ false → IsOk result }
@@ -194,8 +196,8 @@ impl Net {
         count
     }
 
-    /// The label at a place of the link from a node to a serializer, counted from the oldest one, None where there is none. It asks for
-    /// an edge of the tree. It takes no memory, and works after a kill too.
+    /// The label at a place of the link from a node to a serializer, counted from the oldest one, None where there is
+    /// none. It asks for an edge of the tree. It takes no memory, and works after a kill too.
     pub fn ahead(&self, from: NodeId, to: u16, count: usize) -> Option<Label>
         requires from { IsNode self.now.tree from }
         requires to { to < length self.now.tree.parents }

@@ -1,4 +1,5 @@
-//! Changes at one place: a serializer that hands a label on, gives one or is killed, a link that takes a label or gives one.
+//! Changes at one place: a serializer that hands a label on, gives one or is killed, a link that takes a label or gives
+//! one.
 ghost use Rattle.std.specs.Prelude.{◌≡◌, ◌<◌, ◌++◌, [], ◌∷◌, false, true, length, drop, map, get_or, slice_get, Some, IfOk, OnOk, OnErr, IsOk};
 ghost use Rattle.sat_queue.specs.Queued.{members_of};
 ghost use Rattle.sat_serial.specs.Routes.{routes, Arrives, IsNeighbour};
@@ -20,7 +21,8 @@ pub fn is_dead(serializers: &[Serializer], place: u16) -> bool
     serializer.is_dead()
 }
 
-/// Hands a label that came from a neighbour to a serializer that is alive. For want of memory the serializers are as before.
+/// Hands a label that came from a neighbour to a serializer that is alive. For want of memory the serializers are as
+/// before.
 pub fn hand_on(
     serializers: &mut Vec<Serializer>,
     interest: &Interest,
@@ -29,10 +31,13 @@ pub fn hand_on(
     place: u16,
 ) -> Result<Nodes, AllocError>
     requires within { place < length serializers.old.items }
-    requires arrives { (s : SerializerSeen) → slice_get serializers.old.items place ≡ Some s → Arrives interest.now s.tree s.number from label }
+    requires arrives { (s : SerializerSeen) → slice_get serializers.old.items place ≡ Some s
+        → Arrives interest.now s.tree s.number from label }
     requires alive { (s : SerializerSeen) → slice_get serializers.old.items place ≡ Some s → s.killed ≡ false }
-    ensures nodes { IfOk result (λ nodes. (s : SerializerSeen) → slice_get serializers.old.items place ≡ Some s → nodes ≡ routes interest.now s.tree s.number from label) }
-    ensures ok { OnOk result (serializers.new.items ≡ change_at (λ s. after_handle s interest.now from label) place serializers.old.items) }
+    ensures nodes { IfOk result (λ nodes. (s : SerializerSeen) → slice_get serializers.old.items place ≡ Some s
+        → nodes ≡ routes interest.now s.tree s.number from label) }
+    ensures ok { OnOk result (serializers.new.items
+        ≡ change_at (λ s. after_handle s interest.now from label) place serializers.old.items) }
     ensures err { OnErr result (serializers.new.items ≡ serializers.old.items) }
 {
     let serializer = &mut serializers[place as usize];
@@ -46,7 +51,8 @@ pub fn hand_on(
 /// The oldest label that a serializer has for a neighbour.
 pub fn front(serializers: &[Serializer], place: u16, to: NodeId) -> Option<Label>
     requires within { place < length serializers.now }
-    requires neighbour { (s : SerializerSeen) → slice_get serializers.now place ≡ Some s → IsNeighbour s.tree s.number to }
+    requires neighbour { (s : SerializerSeen) → slice_get serializers.now place ≡ Some s
+        → IsNeighbour s.tree s.number to }
     ensures { (s : SerializerSeen) → slice_get serializers.now place ≡ Some s → result ≡ slice_get (outbox s to) 0 }
 {
     let serializer = &serializers[place as usize];
@@ -56,7 +62,8 @@ pub fn front(serializers: &[Serializer], place: u16, to: NodeId) -> Option<Label
 /// The label at a place of those that a serializer has for a neighbour.
 pub fn ahead(serializers: &[Serializer], place: u16, to: NodeId, count: usize) -> Option<Label>
     requires within { place < length serializers.now }
-    requires neighbour { (s : SerializerSeen) → slice_get serializers.now place ≡ Some s → IsNeighbour s.tree s.number to }
+    requires neighbour { (s : SerializerSeen) → slice_get serializers.now place ≡ Some s
+        → IsNeighbour s.tree s.number to }
     ensures { (s : SerializerSeen) → slice_get serializers.now place ≡ Some s → result ≡ slice_get (outbox s to) count }
 {
     let serializer = &serializers[place as usize];
@@ -66,7 +73,8 @@ pub fn ahead(serializers: &[Serializer], place: u16, to: NodeId, count: usize) -
 /// Takes the oldest label that a serializer has for a neighbour.
 pub fn ship(serializers: &mut Vec<Serializer>, place: u16, to: NodeId)
     requires within { place < length serializers.old.items }
-    requires neighbour { (s : SerializerSeen) → slice_get serializers.old.items place ≡ Some s → IsNeighbour s.tree s.number to }
+    requires neighbour { (s : SerializerSeen) → slice_get serializers.old.items place ≡ Some s
+        → IsNeighbour s.tree s.number to }
     ensures { serializers.new.items ≡ change_at (λ s. after_ship s to) place serializers.old.items }
 {
     let serializer = &mut serializers[place as usize];
@@ -127,7 +135,8 @@ pub fn take_oldest(links: &mut Vec<Queue<Label>>, place: u16)
 /// Puts a label behind those of a link. For want of memory the links are as before.
 pub fn send(links: &mut Vec<Queue<Label>>, place: u16, label: Label) -> Result<(), AllocError>
     requires { place < length links.old.items }
-    ensures ok { OnOk result (map members_of links.new.items ≡ change_at (λ link. link ++ label ∷ []) place (map members_of links.old.items)) }
+    ensures ok { OnOk result (map members_of links.new.items
+        ≡ change_at (λ link. link ++ label ∷ []) place (map members_of links.old.items)) }
     ensures err { OnErr result (map members_of links.new.items ≡ map members_of links.old.items) }
 {
     let link = &mut links[place as usize];

@@ -9,7 +9,8 @@ use Rattle.sat_node.specs.Meanings.{Meaning, replay}
 use Rattle.sat_node.specs.Seen.{NodeSeen}
 use Rattle.sat_node.specs.Puts.{OutSeen, Sends, envelope}
 
--- the receiving end of a link: its place in the list of wires, the link's own end, and the envelope that was popped and not yet taken, if any
+-- the receiving end of a link: its place in the list of wires, the link's own end, and the envelope that was popped and
+-- not yet taken, if any
 pub record InSeen : Type 0 where
   pub place : ℕ
   pub link : Receiver Envelope
@@ -42,12 +43,14 @@ may_pass (body.Label label) = false
 may_pass (body.Payload gear number payload) = true
 may_pass (body.Beat number beat) = true
 
--- what was taken (first) is what came (second), in order, but for what was passed over; each was taken under a number above its envelope's
+-- what was taken (first) is what came (second), in order, but for what was passed over; each was taken under a number
+-- above its envelope's
 abbrev pub Passes : List Envelope → List Envelope → Type 0
 Passes [] [] = Unit {0}
 Passes (t ∷ ts) [] = ⊥
 Passes [] (e ∷ es) = (may_pass e.body ≡ true) × Passes [] es
-Passes (t ∷ ts) (e ∷ es) = ((t.body ≡ e.body) × (e.lamport < t.lamport) × Passes ts es) ⊎ ((may_pass e.body ≡ true) × Passes (t ∷ ts) es)
+Passes (t ∷ ts) (e ∷ es) =
+    ((t.body ≡ e.body) × (e.lamport < t.lamport) × Passes ts es) ⊎ ((may_pass e.body ≡ true) × Passes (t ∷ ts) es)
 
 -- what was received is what entries took or passed over, and then the front, if there is one
 abbrev pub Took : List Envelope → InSeen → Type 0
@@ -61,10 +64,12 @@ Handed took put = (before : List Envelope) × (rest : List Envelope) × (put ≡
 abbrev pub Each : {X : Type 0} → List X → (ℕ → X → Type 0) → Type 0
 Each {X} xs P = (k : ℕ) (x : X) → slice_get xs k ≡ Some x → P k x
 
--- there are as many as before, and each new member comes from the old one of its number; the one of this number changed so, and no other did
+-- there are as many as before, and each new member comes from the old one of its number; the one of this number changed
+-- so, and no other did
 abbrev pub OnlyAt : {X : Type 0} → ℕ → (X → X → Type 0) → List X → List X → Type 0
 OnlyAt {X} link R old new =
-    (length new ≡ length old) × ((k : ℕ) (y : X) → slice_get new k ≡ Some y → (x : X) × (slice_get old k ≡ Some x) × ((k ≢ link → y ≡ x) × (k ≡ link → R x y)))
+    (length new ≡ length old) × ((k : ℕ) (y : X) → slice_get new k ≡ Some y
+    → (x : X) × (slice_get old k ≡ Some x) × ((k ≢ link → y ≡ x) × (k ≡ link → R x y)))
 
 -- the places of ends in the list of wires
 abbrev pub out_places : List OutSeen → List ℕ
@@ -73,8 +78,8 @@ out_places outs = map (λ o. o.place) outs
 abbrev pub in_places : List InSeen → List ℕ
 in_places ins = map (λ i. i.place) ins
 
--- what ties a journal to its links: what was sent on each outgoing one is what the entries put there; what was received on each incoming
--- one is what they took; all entries stand; and the ends are those of a node of this name
+-- what ties a journal to its links: what was sent on each outgoing one is what the entries put there; what was received
+-- on each incoming one is what they took; all entries stand; and the ends are those of a node of this name
 pub record Tied {S M I A : Type 0} (m : Meaning S I A) (h : HeldSeen M I A) : Type 0 where
   pub sending : Each h.outs (λ k o. Sends (m.puts h.node.name k) h.node.entries o)
   pub receiving : Each h.ins (λ k i. Took (takings (m.takes h.node.name k) h.node.entries) i)
@@ -99,18 +104,24 @@ number_of (Some e) = e.lamport
 -- each answer that the machine has for this input stands, and it takes nothing from a link
 pub record IsLocal {S M I A : Type 0} (m : Meaning S I A) (node : NodeSeen M I A) (input : I) : Type 0 where
   pub stands : (a : A) → m.answers node.name (replay m node.name node.entries) input a → m.stands input a ≡ true
-  pub takes : (a : A) (k : ℕ) → m.answers node.name (replay m node.name node.entries) input a → m.takes node.name k input a ≡ None
+  pub takes : (a : A) (k : ℕ) → m.answers node.name (replay m node.name node.entries) input a
+      → m.takes node.name k input a ≡ None
 
 -- each answer that the machine has for this input stands, and it takes this from this link and nothing from another
-pub record IsOf {S M I A : Type 0} (m : Meaning S I A) (node : NodeSeen M I A) (link : ℕ) (b : Body) (input : I) : Type 0 where
+pub record IsOf {S M I A : Type 0} (m : Meaning S I A) (node : NodeSeen M I A) (link : ℕ) (b : Body)
+    (input : I) : Type 0 where
   pub stands : (a : A) → m.answers node.name (replay m node.name node.entries) input a → m.stands input a ≡ true
-  pub takes : (a : A) → m.answers node.name (replay m node.name node.entries) input a → m.takes node.name link input a ≡ Some b
-  pub others : (a : A) (k : ℕ) → m.answers node.name (replay m node.name node.entries) input a → k ≢ link → m.takes node.name k input a ≡ None
+  pub takes : (a : A) → m.answers node.name (replay m node.name node.entries) input a
+      → m.takes node.name link input a ≡ Some b
+  pub others : (a : A) (k : ℕ) → m.answers node.name (replay m node.name node.entries) input a → k ≢ link
+      → m.takes node.name k input a ≡ None
 
--- what a pop answers: the envelope, which is one more of what was received, or None where the link was empty, which is counted
+-- what a pop answers: the envelope, which is one more of what was received, or None where the link was empty, which is
+-- counted
 abbrev pub Popped : Option Envelope → Receiver Envelope → Receiver Envelope → Type 0
 Popped None j i = (i.wire ≡ j.wire) × (i.told ≡ j.told) × (i.received ≡ j.received) × (i.empties ≡ rise j.empties)
-Popped (Some e) j i = (i.wire ≡ j.wire) × (i.told ≡ j.told) × (i.received ≡ j.received ++ e ∷ []) × (i.empties ≡ j.empties)
+Popped (Some e) j i =
+    (i.wire ≡ j.wire) × (i.told ≡ j.told) × (i.received ≡ j.received ++ e ∷ []) × (i.empties ≡ j.empties)
 
 -- a front that is kept stays, and nothing changes; else the front is what a pop gives
 abbrev pub Pulled : InSeen → InSeen → Type 0

@@ -5,7 +5,8 @@ use Rattle.sat_node.specs.declared.kept.Kept.{Kept}
 use Rattle.sat_node.specs.declared.kept.Made.{Made}
 use Rattle.sat_node.specs.declared.kept.Body.{Body}
 
--- S is what the model keeps of such a machine. Each meaning knows the node's name, and those of an entry its input and its answer
+-- S is what the model keeps of such a machine. Each meaning knows the node's name, and those of an entry its input and
+-- its answer
 pub record Meaning (S I A : Type 0) : Type 1 where
   -- a new machine's state
   pub fresh : NodeName → S
@@ -38,7 +39,8 @@ module _ {S I A : Type 0} (m : Meaning S I A) (name : NodeName) where
   -- each input fitted the state that it met, and has its answer
   abbrev pub RunsFrom : S → List (Kept I A) → Type 0
   RunsFrom s [] = Unit {0}
-  RunsFrom s (k ∷ ks) = m.fits name s k.input × m.answers name s k.input k.answer × RunsFrom (m.after name s k.input k.answer) ks
+  RunsFrom s (k ∷ ks) =
+      m.fits name s k.input × m.answers name s k.input k.answer × RunsFrom (m.after name s k.input k.answer) ks
 
   -- each entry of a node's journal has the answer that its state gives, from the fresh state on
   abbrev pub Runs : List (Kept I A) → Type 0

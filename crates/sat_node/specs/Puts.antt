@@ -8,8 +8,8 @@ use Rattle.sat_node.specs.declared.kept.Body.{Body}
 use Rattle.sat_node.specs.declared.kept.Body.TheVariants as body
 use Rattle.sat_node.specs.declared.kept.Envelope.{Envelope}
 
--- the sending end of a link: its place in the list of wires, the link's own end, how many entries of the journal it went through, and
--- how many payloads of each gear and how many beats it sent
+-- the sending end of a link: its place in the list of wires, the link's own end, how many entries of the journal it
+-- went through, and how many payloads of each gear and how many beats it sent
 pub record OutSeen : Type 0 where
   pub place : ℕ
   pub link : Sender Envelope
@@ -67,7 +67,8 @@ abbrev pub sealed : List Putting → List Putting → List Envelope
 sealed before [] = []
 sealed before (p ∷ ps) = envelope p.number (numbered before p.made) ∷ sealed (before ++ p ∷ []) ps
 
--- what these entries put on a link, as it travels: each thing under the number of its entry, each payload and beat the one of its own number
+-- what these entries put on a link, as it travels: each thing under the number of its entry, each payload and beat the
+-- one of its own number
 abbrev pub put_by : {I A : Type 0} → (I → A → Option Made) → List (Kept I A) → List Envelope
 put_by of ks = sealed [] (puttings of ks)
 

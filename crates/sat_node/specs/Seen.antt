@@ -23,11 +23,13 @@ entry number input answer = record { lamport = number; input = input; answer = a
 
 -- nothing but the room differs
 abbrev pub SameNode : {M I A : Type 0} → NodeSeen M I A → NodeSeen M I A → Type 0
-SameNode old new = (new.name ≡ old.name) × (new.machine ≡ old.machine) × (new.entries ≡ old.entries) × (new.number ≡ old.number)
+SameNode old new =
+    (new.name ≡ old.name) × (new.machine ≡ old.machine) × (new.entries ≡ old.entries) × (new.number ≡ old.number)
 
--- an input was taken: one entry more, under one above the node's number and the one heard, with the answer that comes back. Worn comes
--- exactly where one of these two is the greatest number. After an error the node is as before
-pub record Takes {M I A : Type 0} (heard : ℕ) (input : I) (may_fail : Bool) (result : Result A CallFault) (old new : NodeSeen M I A) : Type 0 where
+-- an input was taken: one entry more, under one above the node's number and the one heard, with the answer that comes
+-- back. Worn comes exactly where one of these two is the greatest number. After an error the node is as before
+pub record Takes {M I A : Type 0} (heard : ℕ) (input : I) (may_fail : Bool) (result : Result A CallFault)
+    (old new : NodeSeen M I A) : Type 0 where
   pub taken : IfOk result (λ a. new.entries ≡ old.entries ++ entry (max old.number heard + 1) input a ∷ [])
   pub number : OnOk result (new.number ≡ max old.number heard + 1)
   pub name : new.name ≡ old.name

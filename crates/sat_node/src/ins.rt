@@ -9,8 +9,8 @@ use sat_link::{LinkOut, compare};
 use std::marker::{Model, PhantomData};
 use std::sync::Wait;
 
-/// The receiving end of a link at its place in the list of wires, with the envelope that was popped and not yet taken, if any. It serves
-/// labels, payloads and beats.
+/// The receiving end of a link at its place in the list of wires, with the envelope that was popped and not yet taken,
+/// if any. It serves labels, payloads and beats.
 #[derive(Drop)]
 pub struct In<N: Names> {
     place: usize,

@@ -33,8 +33,8 @@ impl From<AllocError> for CallFault {
     }
 }
 
-/// What travels between two nodes. A payload's number is how many payloads of its gear were put on that link before it, a beat's how
-/// many beats.
+/// What travels between two nodes. A payload's number is how many payloads of its gear were put on that link before it,
+/// a beat's how many beats.
 #[derive(Drop)]
 pub enum Body {
     Label(Label),

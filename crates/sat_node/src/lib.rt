@@ -17,9 +17,10 @@ pub use node::{Machine, Node};
 pub use opened::{agree_all, agree_two, agree_within};
 pub use outs::{Names, Out};
 
-/// Of what entries took from a link and of what entries put there, as `agree_two` tells: each thing that was taken was put, in this order,
-/// and under a smaller number; of a link of labels alone the k-th taken is the k-th put; and each payload and each beat that was put is the
-/// one of its number among those of its sort that the entries put there before.
+/// Of what entries took from a link and of what entries put there, as `agree_two` tells: each thing that was taken was
+/// put, in this order, and under a smaller number; of a link of labels alone the k-th taken is the k-th put; and each
+/// payload and each beat that was put is the one of its number among those of its sort that the entries put there
+/// before.
 pub fn link_laws()
     ensures came { TakenCame }
     ensures labels { LabelsInOrder }

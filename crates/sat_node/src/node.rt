@@ -9,8 +9,8 @@ use std::alloc::{AllocError, Global};
 use std::cmp::max;
 use std::marker::Model;
 
-/// A part of the cluster that takes inputs one by one and answers each. It stands for a state of a model, and its law speaks of that
-/// state: a machine may keep more, or keep it otherwise.
+/// A part of the cluster that takes inputs one by one and answers each. It stands for a state of a model, and its law
+/// speaks of that state: a machine may keep more, or keep it otherwise.
 pub trait Machine {
     type Input: Drop;
 
@@ -43,9 +43,12 @@ pub trait Machine {
     fn step(&mut self, input: Self::Input) -> Result<(Self::Answer, Self::Answer), AllocError>
         requires { takes_in self.old input ≡ true }
         ensures same { IfOk result (λ two. two.0 ≡ two.1) }
-        ensures fits { IfOk result (λ two. (name : NodeName) (s : State) → stands_for name self.old s → meaning.fits name s input) }
-        ensures answers { IfOk result (λ two. (name : NodeName) (s : State) → stands_for name self.old s → meaning.answers name s input two.0) }
-        ensures after { IfOk result (λ two. (name : NodeName) (s : State) → stands_for name self.old s → stands_for name self.new (meaning.after name s input two.0)) }
+        ensures fits { IfOk result (λ two. (name : NodeName) (s : State) → stands_for name self.old s
+            → meaning.fits name s input) }
+        ensures answers { IfOk result (λ two. (name : NodeName) (s : State) → stands_for name self.old s
+            → meaning.answers name s input two.0) }
+        ensures after { IfOk result (λ two. (name : NodeName) (s : State) → stands_for name self.old s
+            → stands_for name self.new (meaning.after name s input two.0)) }
         ensures err { OnErr result ((self.new ≡ self.old) × (may_fail self.old input ≡ true)) };
 
     /// What an entry puts on the outgoing link of this number.
@@ -113,8 +116,8 @@ impl<M: Machine> Node<M> {
         self.lamport
     }
 
-    /// All that it took, in order, each with its answer. The machine always stands for the replay of it; each input fitted the state
-    /// that it met, and each answer is the machine's.
+    /// All that it took, in order, each with its answer. The machine always stands for the replay of it; each input
+    /// fitted the state that it met, and each answer is the machine's.
     pub fn journal(&self) -> &[Kept<M::Input, M::Answer>]
         ensures entries { result.now ≡ self.now.entries }
         ensures stands { M.stands_for self.now.name self.now.machine (replay M.meaning self.now.name self.now.entries) }
@@ -131,9 +134,9 @@ impl<M: Machine> Node<M> {
         &self.machine
     }
 
-    /// Takes the room for one entry, and answers the number that it would have: one above the node's own and the one heard
-    /// (Lamport, 1978). Once there is room, the next `take` with at most this heard number fails for memory only where the
-    /// machine's step does. `Worn` as in `take`; `Memory`.
+    /// Takes the room for one entry, and answers the number that it would have: one above the node's own and the one
+    /// heard (Lamport, 1978). Once there is room, the next `take` with at most this heard number fails for memory only
+    /// where the machine's step does. `Worn` as in `take`; `Memory`.
     pub fn reserve(&mut self, heard: u64) -> Result<u64, CallFault>
         ensures number { IfOk result (λ n. n ≡ max self.old.number heard + 1) }
         ensures room { OnOk result (0 < self.new.room) }
@@ -151,9 +154,9 @@ impl<M: Machine> Node<M> {
         Ok(greater + 1)
     }
 
-    /// Steps the machine, and keeps the entry, under a number one above the node's own and the one heard (Lamport, 1978). The copy
-    /// is of the input. `Worn`, with the greatest u64, exactly where the node's number or the one heard is that; `Memory`. After an
-    /// error the node is as before.
+    /// Steps the machine, and keeps the entry, under a number one above the node's own and the one heard (Lamport,
+    /// 1978). The copy is of the input. `Worn`, with the greatest u64, exactly where the node's number or the one heard
+    /// is that; `Memory`. After an error the node is as before.
     pub fn take(
         &mut self,
         heard: u64,
@@ -163,7 +166,8 @@ impl<M: Machine> Node<M> {
         requires fits { M.takes_in self.old.machine input ≡ true }
         requires copy { copy ≡ input }
         ensures takes { Takes heard input (M.may_fail self.old.machine input) result self.old self.new }
-        ensures answer { IfOk result (λ a. M.meaning.answers self.old.name (replay M.meaning self.old.name self.old.entries) input a) }
+        ensures answer { IfOk result
+            (λ a. M.meaning.answers self.old.name (replay M.meaning self.old.name self.old.entries) input a) }
     {
         let most = max(self.lamport, heard);
         if most == u64::MAX {

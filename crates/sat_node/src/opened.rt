@@ -7,9 +7,9 @@ use crate::ins::compare_ends;
 use crate::node::Machine;
 use crate::outs::Names;
 
-/// Each link from a node of the first list to one of the second: what the receiver's entries took is what the sender's entries put
-/// there, from the first on and in order, each under a greater number; payloads and beats may have been passed over. The nodes stay
-/// as they are.
+/// Each link from a node of the first list to one of the second: what the receiver's entries took is what the sender's
+/// entries put there, from the first on and in order, each under a greater number; payloads and beats may have been
+/// passed over. The nodes stay as they are.
 pub fn agree_all<M: Machine, K: Machine, N: Names>(
     senders: &mut Vec<Held<M, N>>,
     receivers: &mut Vec<Held<K, N>>,

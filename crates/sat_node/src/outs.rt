@@ -27,9 +27,9 @@ impl Names for Brand {
     ghost wires = { [] };
 }
 
-/// The sending end of a link at its place in the list of wires. It serves labels, payloads and beats: what the first `next` entries of
-/// its node's journal put on the link was sent, and what the others put there waits. It counts the payloads of each gear and the beats
-/// that it sent, which are the numbers of the next ones.
+/// The sending end of a link at its place in the list of wires. It serves labels, payloads and beats: what the first
+/// `next` entries of its node's journal put on the link was sent, and what the others put there waits. It counts the
+/// payloads of each gear and the beats that it sent, which are the numbers of the next ones.
 #[derive(Drop)]
 pub struct Out<N: Names> {
     pub(crate) place: usize,
@@ -76,7 +76,8 @@ impl<N: Names> Out<N> {
 
     // Sends a label. False where the link was full.
     fn send_label<R: Wait>(&mut self, rt: &R, lamport: u64, label: Label) -> bool
-        ensures { MatchBool result (SentOne lamport (made.Label label) self.old self.new) (FoundFull self.old self.new) }
+        ensures { MatchBool result (SentOne lamport (made.Label label) self.old self.new)
+            (FoundFull self.old self.new) }
     {
         let body = Body::Label(label);
         self.link.push(rt, Envelope { lamport, body }).is_ok()
@@ -107,7 +108,9 @@ impl<N: Names> Out<N> {
         payload: Payload,
     ) -> Result<bool, AllocError>
         requires { get_or self.old.payloads gear 0 + 1 < 2 ^ 64 }
-        ensures sent { IfOk result (λ sent. MatchBool sent (SentOne lamport (made.Payload gear payload) self.old self.new) (FoundFull self.old self.new)) }
+        ensures sent { IfOk result
+            (λ sent. MatchBool sent (SentOne lamport (made.Payload gear payload) self.old self.new)
+            (FoundFull self.old self.new)) }
         ensures err { OnErr result (SameOut self.old self.new × (self.new.link.fulls ≡ self.old.link.fulls)) }
     {
         make_row(&mut self.payloads, gear)?;
@@ -132,7 +135,8 @@ impl<N: Names> Out<N> {
         thing: Option<Made>,
     ) -> Result<bool, AllocError>
         requires { HasNumbers self.old }
-        ensures sent { IfOk result (λ sent. MatchBool sent (SentThing lamport thing self.old self.new) (FoundFull self.old self.new)) }
+        ensures sent { IfOk result
+            (λ sent. MatchBool sent (SentThing lamport thing self.old self.new) (FoundFull self.old self.new)) }
         ensures err { OnErr result (SameOut self.old self.new × (self.new.link.fulls ≡ self.old.link.fulls)) }
     {
         match thing {
@@ -153,8 +157,12 @@ impl<N: Names> Out<N> {
     ) -> Result<bool, AllocError>
         requires { Sends (M.meaning.puts name link) journal.now self.old }
         ensures sends { Sends (M.meaning.puts name link) journal.now self.new }
-        ensures end { (self.new.place ≡ self.old.place) × (self.new.link.wire ≡ self.old.link.wire) × (self.new.link.acked ≡ self.old.link.acked) }
-        ensures next { IfOk result (λ more. MatchBool more ((self.new.next ≡ self.old.next + 1) × (self.old.next < length journal.now) × (self.new.link.fulls ≡ self.old.link.fulls)) ((self.new.next ≡ self.old.next) × Stopped journal.now self.old self.new)) }
+        ensures end { (self.new.place ≡ self.old.place) × (self.new.link.wire ≡ self.old.link.wire)
+            × (self.new.link.acked ≡ self.old.link.acked) }
+        ensures next { IfOk result
+            (λ more. MatchBool more ((self.new.next ≡ self.old.next + 1) × (self.old.next < length journal.now)
+            × (self.new.link.fulls ≡ self.old.link.fulls)) ((self.new.next ≡ self.old.next)
+            × Stopped journal.now self.old self.new)) }
         ensures err { OnErr result ((self.new.next ≡ self.old.next) × (self.new.link.fulls ≡ self.old.link.fulls)) }
     {
         let Some(kept) = journal.get(self.next) else {

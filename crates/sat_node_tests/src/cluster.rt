@@ -30,7 +30,8 @@ fn name(alloc: Global, text: &[u8]) -> Result<Name, AllocError> {
 
 // A serializer at which both sites sit, and then timestamp order.
 fn plans(alloc: Global) -> Result<Vec<Plan>, AllocError>
-    ensures { IfOk result (λ plans. (tree : TreeShape) × (plans.items ≡ plan.Tree tree ∷ plan.Stamp ∷ []) × (length tree.parents ≡ 1)) }
+    ensures { IfOk result (λ plans. (tree : TreeShape) × (plans.items ≡ plan.Tree tree ∷ plan.Stamp ∷ [])
+        × (length tree.parents ≡ 1)) }
 {
     let parents: [Option<u16>; 1] = [None];
     let seats: [u16; 2] = [0, 0];

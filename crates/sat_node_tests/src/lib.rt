@@ -1,5 +1,5 @@
-//! Tests of running nodes: clusters, how they end, and what is told of histories that are not whole. A crate that has tests is proved twice,
-//! so these stand in one of their own.
+//! Tests of running nodes: clusters, how they end, and what is told of histories that are not whole. A crate that has
+//! tests is proved twice, so these stand in one of their own.
 #![tactic(auto)]
 
 #[cfg(test)]

@@ -157,8 +157,8 @@ fn put<N: Names>(
     Ok(held.node().lamport())
 }
 
-// Keeps an entry that takes the front, if there is one. A label's time, 100 and a payload's number, or 200 and a beat's; 0 where nothing
-// came.
+// Keeps an entry that takes the front, if there is one. A label's time, 100 and a payload's number, or 200 and a
+// beat's; 0 where nothing came.
 fn take<N: Names>(rt: &impl Wait, held: &mut Held<Depot, N>) -> Result<u64, CallFault> {
     if held.ins().len() == 0 {
         return Ok(0);
@@ -278,7 +278,8 @@ fn take_labels<N: Names>(rt: &impl Wait, shared: &Mutex<Held<Depot, N>>, count: 
     true
 }
 
-// Two nodes with one link between them, each in a thread, are taken out of their locks and compared. The receiver's number.
+// Two nodes with one link between them, each in a thread, are taken out of their locks and compared. The receiver's
+// number.
 fn two_nodes<N: Names + Send + Sync, R: Threads + Wait + Sync>(
     rt: &R,
     alloc: Global,
@@ -334,7 +335,8 @@ fn note<T: Drop>(found: &mut Vec<T>, member: T) -> Result<(), AllocError> {
     Ok(())
 }
 
-// What waits behind a link of one place comes, one after the other: what the sender has sent, what came, and the receiver's number.
+// What waits behind a link of one place comes, one after the other: what the sender has sent, what came, and the
+// receiver's number.
 fn one_by_one<N: Names>(
     rt: &impl Wait,
     alloc: Global,
@@ -401,7 +403,8 @@ fn an_outbox_that_waits(rt: HostRuntime) -> Result<(), Fail> {
     Ok(())
 }
 
-// The greatest number is worn at either node, and what can't be taken stays in front. A payload may be passed over, a label not.
+// The greatest number is worn at either node, and what can't be taken stays in front. A payload may be passed over, a
+// label not.
 fn worn_at_last<N: Names>(
     rt: &impl Wait,
     alloc: Global,

@@ -61,7 +61,8 @@ site_given i _ = Nothing
 
 -- an entry of site i's journal
 abbrev pub site_kept : ℕ → Line ActSeen SiteAnswer → Kept
-site_kept i k = record { number = k.lamport; act = site_act i (client_in k.input.by) k.input.input; given = site_given i k.input.input; answer = k.answer.answer }
+site_kept i k =
+    record { number = k.lamport; act = site_act i (client_in k.input.by) k.input.input; given = site_given i k.input.input; answer = k.answer.answer }
 
 -- whose session keeps it too: its client's, and the operator's where a site closes or falls
 abbrev pub owner_of : Option ℕ → SiteInput → Option Session
@@ -84,7 +85,8 @@ serial_given serial.Kill = Nothing
 
 -- an entry of the journal of serializer z of an epoch's tree
 abbrev pub serial_kept : ℕ → ℕ → Line SerialAct SerialAnswer → Kept
-serial_kept e z k = record { number = k.lamport; act = serial_act e z k.input; given = serial_given k.input; answer = k.answer.answer }
+serial_kept e z k =
+    record { number = k.lamport; act = serial_act e z k.input; given = serial_given k.input; answer = k.answer.answer }
 
 -- a kill is the operator's
 abbrev pub serial_owner : SerialAct → Option Session

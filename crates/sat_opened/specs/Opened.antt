@@ -38,8 +38,10 @@ tree_names p = map (named.Serializer p.epoch) (below (length p.tree.parents))
 abbrev pub serial_names : Deployed → List NodeName
 serial_names d = flat_map tree_names (trees_of d)
 
--- all nodes: each site and each serializer once, in order; each is opened; and each link between two of them carried what its sender put there
-pub record AllOpened {M K : Type 0} (d : Deployed) (sites : List (HeldSeen M ActSeen SiteAnswer)) (serials : List (HeldSeen K SerialAct SerialAnswer)) : Type 0 where
+-- all nodes: each site and each serializer once, in order; each is opened; and each link between two of them carried
+-- what its sender put there
+pub record AllOpened {M K : Type 0} (d : Deployed) (sites : List (HeldSeen M ActSeen SiteAnswer))
+    (serials : List (HeldSeen K SerialAct SerialAnswer)) : Type 0 where
   pub all_sites : map name_in sites ≡ map named.Site (below d.sites)
   pub all_serials : map name_in serials ≡ serial_names d
   pub each_site : Each sites (λ _ h. IsOpened (site_meaning d) h)
@@ -55,7 +57,8 @@ entries_at name [] = []
 entries_at name (h ∷ hs) = if name_eq h.node.name name then h.node.entries else entries_at name hs
 
 -- what was kept at each place: the journals of the nodes, and what each client's session kept alone
-abbrev pub lists_of : {M K : Type 0} → List (HeldSeen M ActSeen SiteAnswer) → List (HeldSeen K SerialAct SerialAnswer) → (ℕ → List Kept) → Place → List Kept
+abbrev pub lists_of : {M K : Type 0} → List (HeldSeen M ActSeen SiteAnswer) → List (HeldSeen K SerialAct SerialAnswer)
+    → (ℕ → List Kept) → Place → List Kept
 lists_of sites serials alone (AtSite i) = newest (site_kept i) (entries_at (named.Site i) sites)
 lists_of sites serials alone (AtSerializer e z) = newest (serial_kept e z) (entries_at (named.Serializer e z) serials)
 lists_of sites serials alone (InSession c) = alone c

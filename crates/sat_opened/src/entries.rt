@@ -20,7 +20,8 @@ pub fn site_journal<N: Laid, W: Names>(
     alloc: Global,
     held: &Held<SiteNode<N>, W>,
 ) -> Result<KeptEntries, AllocError>
-    ensures { IfOk result (λ list. list ≡ map (kept_under (site_kept (number_of held.now.node.name))) held.now.node.entries) }
+    ensures { IfOk result (λ list. list ≡ map (kept_under (site_kept (number_of held.now.node.name)))
+        held.now.node.entries) }
 {
     let node = held.node();
     let site = site_number(node.name());
@@ -34,7 +35,9 @@ pub fn serial_journal<N: Laid, W: Names>(
     alloc: Global,
     held: &Held<SerialNode<N>, W>,
 ) -> Result<KeptEntries, AllocError>
-    ensures { IfOk result (λ list. list ≡ map (kept_under (serial_kept (epoch_in held.now.node.name) (serial_in held.now.node.name))) held.now.node.entries) }
+    ensures { IfOk result (λ list. list
+        ≡ map (kept_under (serial_kept (epoch_in held.now.node.name) (serial_in held.now.node.name)))
+        held.now.node.entries) }
 {
     let node = held.node();
     let epoch = epoch_number(node.name());

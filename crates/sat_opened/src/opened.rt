@@ -11,8 +11,8 @@ use sat_act::Deployment;
 use sat_machines::{Laid, SerialNode, SiteNode};
 use sat_node::{Held, Machine, Names, agree_all, agree_within};
 
-/// Every site of a deployment, and every serializer of its trees, each once and in order. Their journals fit together. The nodes stay
-/// as they are.
+/// Every site of a deployment, and every serializer of its trees, each once and in order. Their journals fit together.
+/// The nodes stay as they are.
 pub fn open_nodes<N: Laid, W: Names>(
     d: &Deployment,
     sites: &mut Vec<Held<SiteNode<N>, W>>,

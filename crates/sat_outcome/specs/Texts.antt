@@ -46,7 +46,9 @@ known_text d n = number_text (place_of d n.at) ++ 32 ∷ (point_text n.carried.p
 
 -- a note: its number, that, the act's line, and the answer
 abbrev pub note_text : Deployed → Noted → List ℕ
-note_text d n = decimal n.lamport ++ 32 ∷ (known_text d n ++ 32 ∷ (act_text d n.entry.act ++ codes " -> " ++ answer_text d n.entry.act n.entry.answer))
+note_text d n =
+    decimal n.lamport ++ 32
+    ∷ (known_text d n ++ 32 ∷ (act_text d n.entry.act ++ codes " -> " ++ answer_text d n.entry.act n.entry.answer))
 
 -- what was kept of an act, if anything was
 abbrev pub kept_text : Deployed → Option Noted → List ℕ

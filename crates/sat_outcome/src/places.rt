@@ -14,7 +14,8 @@ fn serials_in(plan: &Plan) -> u16
     }
 }
 
-// How many serializers the plans before that of an epoch have, the first of which is of epoch `first`, and so many more.
+// How many serializers the plans before that of an epoch have, the first of which is of epoch `first`, and so many
+// more.
 fn add_serials(more: u64, first: u64, epoch: u16, plans: &[Plan]) -> u64
     requires more { more + 65536 * length plans.now < 2 ^ 64 }
     requires first { first + length plans.now < 2 ^ 64 }

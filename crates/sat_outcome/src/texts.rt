@@ -63,7 +63,8 @@ fn append_act(d: &Deployment, act: &Act, out: &mut Vec<u8>) -> Result<(), AllocE
 
 // An act's line, and its answer.
 fn append_entry(d: &Deployment, entry: &Entry, out: &mut Vec<u8>) -> Result<(), AllocError>
-    ensures { OnOk result (out.new.items ≡ out.old.items ++ (act_text d.now entry.now.act ++ codes " -> " ++ answer_text d.now entry.now.act entry.now.answer)) }
+    ensures { OnOk result (out.new.items ≡ out.old.items
+        ++ (act_text d.now entry.now.act ++ codes " -> " ++ answer_text d.now entry.now.act entry.now.answer)) }
 {
     append_act(d, &entry.act, out)?;
     out.extend_from_slice(b" -> ")?;
@@ -105,8 +106,8 @@ fn append_kept(d: &Deployment, note: &Option<Noted>, out: &mut Vec<u8>) -> Resul
     }
 }
 
-/// Appends what a node kept of an act and what a session kept of it, where they are not the same. For want of memory a front of it may
-/// stand there.
+/// Appends what a node kept of an act and what a session kept of it, where they are not the same. For want of memory a
+/// front of it may stand there.
 pub fn write_differ(
     d: &Deployment,
     node: &Option<Noted>,
@@ -130,8 +131,8 @@ pub fn write_undone(d: &Deployment, act: &Act, out: &mut Vec<u8>) -> Result<(), 
     Ok(())
 }
 
-/// Appends what a settle behind a history had still to do: the rounds in which something was done, and how much. For want of memory a
-/// front of it may stand there.
+/// Appends what a settle behind a history had still to do: the rounds in which something was done, and how much. For
+/// want of memory a front of it may stand there.
 pub fn write_unsettled(rounds: u64, done: u64, out: &mut Vec<u8>) -> Result<(), AllocError>
     ensures { OnOk result (out.new.items ≡ out.old.items ++ unsettled_text rounds done) }
 {

@@ -17,4 +17,5 @@ CountsFaults before now result = MatchResult result (λ _. now ≡ before) (λ _
 
 -- A count of ends rises by one at each read that gives no byte, up to the last value of a u64, and at nothing else.
 abbrev pub CountsEnds : {E : Type 0} → ℕ → ℕ → Result ℕ E → Type 0
-CountsEnds before now result = MatchResult result (λ n. now ≡ (if n == 0 then min (before + 1) (2 ^ 64 - 1) else before)) (λ _. now ≡ before)
+CountsEnds before now result =
+    MatchResult result (λ n. now ≡ (if n == 0 then min (before + 1) (2 ^ 64 - 1) else before)) (λ _. now ≡ before)

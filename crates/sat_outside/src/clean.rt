@@ -70,12 +70,14 @@ impl Source for CleanSource {
     fn read(&mut self, into: &mut [u8]) -> Result<usize, Failed>
         requires { 0 < length into.old }
         ensures count { ReadsAtMost result into.new }
-        ensures bytes { ReadConsumes (Some (drop self.old.at self.old.bytes.items)) (Some (drop self.new.at self.new.bytes.items)) result into.new }
+        ensures bytes { ReadConsumes (Some (drop self.old.at self.old.bytes.items))
+            (Some (drop self.new.at self.new.bytes.items)) result into.new }
         ensures cause { HasCause 0 0 result }
         ensures ends { CountsEnds self.old.ends self.new.ends result }
 
         // It gives a whole piece, where there is room for it and as much is left.
-        ensures most { IfOk result (λ n. n ≡ min (min (length into.old) (source_piece self.old)) (length (drop self.old.at self.old.bytes.items))) }
+        ensures most { IfOk result (λ n. n
+            ≡ min (min (length into.old) (source_piece self.old)) (length (drop self.old.at self.old.bytes.items))) }
         ensures piece { source_piece self.new ≡ source_piece self.old }
     {
         let most = into.len().min(self.piece);
@@ -118,11 +120,12 @@ impl CleanSink {
         }
     }
 
-    /// A sink that keeps the first `room` bytes, and takes at most `piece` bytes at each call. A piece is at least one byte.
-    /// It takes no memory from now on.
+    /// A sink that keeps the first `room` bytes, and takes at most `piece` bytes at each call. A piece is at least one
+    /// byte. It takes no memory from now on.
     pub fn with_room(alloc: Global, piece: usize, room: usize) -> Result<CleanSink, AllocError>
         requires { 0 < piece }
-        ensures told { IfOk result (λ s. (given : List ℕ) → ⟦<CleanSink as Sink>⟧.told s given ≡ told_within room [] given) }
+        ensures told { IfOk result (λ s. (given : List ℕ) → ⟦<CleanSink as Sink>⟧.told s given
+            ≡ told_within room [] given) }
         ensures kept { IfOk result (λ s. sink_kept s ≡ []) }
         ensures piece { IfOk result (λ s. sink_piece s ≡ piece) }
         ensures room { IfOk result (λ s. sink_room s ≡ room) }
@@ -158,13 +161,16 @@ impl Sink for CleanSink {
         requires { 0 < length piece.now }
         ensures count { IfOk result (λ n. (0 < n) × (n ≤ length piece.now)) }
         ensures bytes { MatchResult result
-            (λ n. Takes (if self.old.past then none_told else told_within self.old.room self.old.kept.items) (if self.new.past then none_told else told_within self.new.room self.new.kept.items) (take n piece.now))
-            (λ _. Takes (if self.old.past then none_told else told_within self.old.room self.old.kept.items) (if self.new.past then none_told else told_within self.new.room self.new.kept.items) []) }
+            (λ n. Takes (if self.old.past then none_told else told_within self.old.room self.old.kept.items)
+            (if self.new.past then none_told else told_within self.new.room self.new.kept.items) (take n piece.now))
+            (λ _. Takes (if self.old.past then none_told else told_within self.old.room self.old.kept.items)
+            (if self.new.past then none_told else told_within self.new.room self.new.kept.items) []) }
         ensures cause { HasCause 0 0 result }
 
         // It takes a whole piece, and keeps of it what the room holds.
         ensures most { IfOk result (λ n. n ≡ min (length piece.now) (sink_piece self.old)) }
-        ensures kept { IfOk result (λ n. sink_kept self.new ≡ take (sink_room self.old) (sink_kept self.old ++ take n piece.now)) }
+        ensures kept { IfOk result (λ n. sink_kept self.new
+            ≡ take (sink_room self.old) (sink_kept self.old ++ take n piece.now)) }
         ensures piece { sink_piece self.new ≡ sink_piece self.old }
         ensures room { sink_room self.new ≡ sink_room self.old }
     {

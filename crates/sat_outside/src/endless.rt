@@ -45,10 +45,13 @@ impl Source for LoopSource {
         ensures cause { HasCause 0 0 result }
         ensures ends { CountsEnds 0 0 result }
 
-        // It gives what it has from its place on, as far as there is room, and goes on behind that, from the last byte to the first.
-        ensures most { IfOk result (λ n. n ≡ min (length into.old) (length (drop (loop_at self.old) (loop_bytes self.old)))) }
+        // It gives what it has from its place on, as far as there is room, and goes on behind that, from the last byte
+        // to the first.
+        ensures most { IfOk result
+            (λ n. n ≡ min (length into.old) (length (drop (loop_at self.old) (loop_bytes self.old)))) }
         ensures given { IfOk result (λ n. take n into.new ≡ take n (drop (loop_at self.old) (loop_bytes self.old))) }
-        ensures goes { IfOk result (λ n. loop_at self.new ≡ (if loop_at self.old + n == length (loop_bytes self.old) then 0 else loop_at self.old + n)) }
+        ensures goes { IfOk result (λ n. loop_at self.new
+            ≡ (if loop_at self.old + n == length (loop_bytes self.old) then 0 else loop_at self.old + n)) }
         ensures stays { loop_bytes self.new ≡ loop_bytes self.old }
         ensures fine { IsOk result }
     {

@@ -26,9 +26,9 @@ pub struct MemorySource {
 impl MemorySource {
     ghost use Rattle.sat_outside.specs.Memory.{source_failing, source_calls, source_piece};
 
-    /// A source of these bytes, which gives at most `piece` of them at each call, and fails at the calls whose numbers are
-    /// listed, counted from 0. A piece is at least one byte; the number of calls stays at its last value, 2^64 - 1, so that
-    /// none of the list is as high.
+    /// A source of these bytes, which gives at most `piece` of them at each call, and fails at the calls whose numbers
+    /// are listed, counted from 0. A piece is at least one byte; the number of calls stays at its last value, 2^64 - 1,
+    /// so that none of the list is as high.
     pub fn new(bytes: Vec<u8>, piece: usize, failing: Vec<u64>) -> MemorySource
         requires moves { 0 < piece }
         requires counted { All (λ call. call < 2 ^ 64 - 1) failing.items }
@@ -63,7 +63,8 @@ impl Source for MemorySource {
     fn read(&mut self, into: &mut [u8]) -> Result<usize, Failed>
         requires { 0 < length into.old }
         ensures count { ReadsAtMost result into.new }
-        ensures bytes { ReadConsumes (Some (drop self.old.at self.old.bytes.items)) (Some (drop self.new.at self.new.bytes.items)) result into.new }
+        ensures bytes { ReadConsumes (Some (drop self.old.at self.old.bytes.items))
+            (Some (drop self.new.at self.new.bytes.items)) result into.new }
         ensures cause { HasCause self.old.faults self.new.faults result }
         ensures ends { CountsEnds self.old.ends self.new.ends result }
 
@@ -72,7 +73,8 @@ impl Source for MemorySource {
         ensures faults { CountsFaults self.old.faults self.new.faults result }
 
         // It gives a whole piece, where there is room for it and as much is left.
-        ensures most { IfOk result (λ n. n ≡ min (min (length into.old) (source_piece self.old)) (length (drop self.old.at self.old.bytes.items))) }
+        ensures most { IfOk result (λ n. n
+            ≡ min (min (length into.old) (source_piece self.old)) (length (drop self.old.at self.old.bytes.items))) }
         ensures calls { source_calls self.new ≡ min (source_calls self.old + 1) (2 ^ 64 - 1) }
         ensures failing { source_failing self.new ≡ source_failing self.old }
         ensures piece { source_piece self.new ≡ source_piece self.old }
@@ -108,9 +110,10 @@ pub struct MemorySink {
 impl MemorySink {
     ghost use Rattle.sat_outside.specs.Memory.{sink_failing, sink_calls, sink_kept, sink_piece, sink_room};
 
-    /// A sink with room for this many bytes, which takes at most `piece` of them at each call, and fails at the calls whose
-    /// numbers are listed, counted from 0, and at those that find its room full. A piece is at least one byte; the number of
-    /// calls stays at its last value, 2^64 - 1, so that none of the list is as high. It takes no memory from now on.
+    /// A sink with room for this many bytes, which takes at most `piece` of them at each call, and fails at the calls
+    /// whose numbers are listed, counted from 0, and at those that find its room full. A piece is at least one byte;
+    /// the number of calls stays at its last value, 2^64 - 1, so that none of the list is as high. It takes no memory
+    /// from now on.
     pub fn new(
         alloc: Global,
         piece: usize,
@@ -159,16 +162,19 @@ impl Sink for MemorySink {
     fn write(&mut self, piece: &[u8]) -> Result<usize, Failed>
         requires { 0 < length piece.now }
         ensures count { IfOk result (λ n. (0 < n) × (n ≤ length piece.now)) }
-        ensures bytes { MatchResult result (λ n. Takes (all_told self.old.kept.items) (all_told self.new.kept.items) (take n piece.now))
+        ensures bytes { MatchResult result
+            (λ n. Takes (all_told self.old.kept.items) (all_told self.new.kept.items) (take n piece.now))
             (λ _. Takes (all_told self.old.kept.items) (all_told self.new.kept.items) []) }
         ensures cause { HasCause self.old.faults self.new.faults result }
 
         // It fails at the calls that are listed and where its room is full, and at no others.
-        ensures fails { IsErr result ↔ (Contains (sink_failing self.old) (sink_calls self.old) ⊎ (length (sink_kept self.old) ≡ sink_room self.old)) }
+        ensures fails { IsErr result ↔ (Contains (sink_failing self.old) (sink_calls self.old)
+            ⊎ (length (sink_kept self.old) ≡ sink_room self.old)) }
         ensures faults { CountsFaults self.old.faults self.new.faults result }
 
         // It takes a whole piece, where there is room for it.
-        ensures most { IfOk result (λ n. n ≡ min (min (length piece.now) (sink_piece self.old)) (sink_room self.old - length (sink_kept self.old))) }
+        ensures most { IfOk result (λ n. n
+            ≡ min (min (length piece.now) (sink_piece self.old)) (sink_room self.old - length (sink_kept self.old))) }
         ensures piece { sink_piece self.new ≡ sink_piece self.old }
         ensures calls { sink_calls self.new ≡ min (sink_calls self.old + 1) (2 ^ 64 - 1) }
         ensures failing { sink_failing self.new ≡ sink_failing self.old }

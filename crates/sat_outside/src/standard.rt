@@ -67,8 +67,8 @@ pub struct StdSink<W: Write + Drop> {
 }
 
 impl<W: Write + Drop> StdSink<W> {
-    /// A sink over a writer, as that of standard output. Its count of faults rises at each error, and where the writer takes
-    /// nothing, up to 2^64 - 1.
+    /// A sink over a writer, as that of standard output. Its count of faults rises at each error, and where the writer
+    /// takes nothing, up to 2^64 - 1.
     pub fn new(writer: W) -> StdSink<W>
         ensures { ⟦<StdSink<W> as Sink>⟧.faults result ≡ 0 }
     {
@@ -86,7 +86,8 @@ impl<W: Write + Drop> Sink for StdSink<W> {
     fn write(&mut self, piece: &[u8]) -> Result<usize, Failed>
         requires { 0 < length piece.now }
         ensures count { IfOk result (λ n. (0 < n) × (n ≤ length piece.now)) }
-        ensures bytes { MatchResult result (λ n. Takes none_told none_told (take n piece.now)) (λ _. Takes none_told none_told []) }
+        ensures bytes { MatchResult result (λ n. Takes none_told none_told (take n piece.now))
+            (λ _. Takes none_told none_told []) }
         ensures cause { HasCause self.old.faults self.new.faults result }
         ensures faults { CountsFaults self.old.faults self.new.faults result }
         ensures written { WriteAppends (W.contents self.old.writer) (W.contents self.new.writer) result piece.now }

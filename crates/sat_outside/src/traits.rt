@@ -21,8 +21,9 @@ pub trait Source {
     /// How often it has said that none are left.
     ghost ends: { Self → ℕ };
 
-    /// Puts some of the bytes that are left, the first ones, into the front of a slice that isn't empty, and answers how many.
-    /// 0 means that none are left. `Failed` comes only where the count of faults rose in this call, or stands at 2^64 - 1.
+    /// Puts some of the bytes that are left, the first ones, into the front of a slice that isn't empty, and answers
+    /// how many. 0 means that none are left. `Failed` comes only where the count of faults rose in this call, or stands
+    /// at 2^64 - 1.
     fn read(&mut self, into: &mut [u8]) -> Result<usize, Failed>
         requires { 0 < length into.old }
         ensures count { ReadsAtMost result into.new }
@@ -39,8 +40,8 @@ pub trait Sink {
     /// How often it has failed. It never falls.
     ghost faults: { Self → ℕ };
 
-    /// Takes some of the bytes of a piece that isn't empty, the first ones and at least one, and answers how many. `Failed`
-    /// comes only where the count of faults rose in this call, or stands at 2^64 - 1.
+    /// Takes some of the bytes of a piece that isn't empty, the first ones and at least one, and answers how many.
+    /// `Failed` comes only where the count of faults rose in this call, or stands at 2^64 - 1.
     fn write(&mut self, piece: &[u8]) -> Result<usize, Failed>
         requires { 0 < length piece.now }
         ensures count { IfOk result (λ n. (0 < n) × (n ≤ length piece.now)) }

@@ -32,10 +32,11 @@ in_body _ said = None
 -- what a line says by what its words say as an act of the command's own, where they have the form of one
 abbrev pub line_as : {A : Type 0} → State → List ℕ → Option (Result A Cause) → Result (OwnParsed A) Cause
 line_as s line None = of_script (line_at s line)
-line_as s line (Some said) = refused LongLine (nat_lt LONGEST_LINE (length line)) (needs NotText (is_text line) (of_own said))
+line_as s line (Some said) =
+    refused LongLine (nat_lt LONGEST_LINE (length line)) (needs NotText (is_text line) (of_own said))
 
--- what a line says, without its byte 10, or why it is refused: an act of the command's own where its words have the form of one, and else
--- what it says as a line of any script
+-- what a line says, without its byte 10, or why it is refused: an act of the command's own where its words have the
+-- form of one, and else what it says as a line of any script
 unfoldable pub own_line : {A : Type 0} → OwnActs A → State → List ℕ → Result (OwnParsed A) Cause
 unfolding line_at
 own_line these s line = line_as s line (in_body s.stage (these.own s (words_of line)))

@@ -22,10 +22,12 @@ pub record OwnActs (A : Type 0) : Type 0 where
   -- a plain act as one of the script's
   pub plain : Act → A
 
--- Each act that a line says is one of the deployment's, as P has it, and there is room for it. The limits are those of scripts for `run`,
--- and no `settle` is among the acts.
+-- Each act that a line says is one of the deployment's, as P has it, and there is room for it. The limits are those of
+-- scripts for `run`, and no `settle` is among the acts.
 pub record AreSound {A : Type 0} (these : OwnActs A) (P : Deployed → A → Type 0) : Type 0 where
   pub limits : (format : ℕ) → limits_of these.dialect format ≡ limits_of Run format
   pub no_settle : has_form these.dialect Settle ≡ false
-  pub plain_fits : (d : Deployed) (a : Act) → has_form these.dialect (form_of a) ≡ true → IsActOf d a → P d (these.plain a)
-  pub own_fits : (s : State) (words : List (List ℕ)) (a : A) → IsDeployment s.header → these.own s words ≡ Some (Ok a) → (full s ≡ None) × P s.header a
+  pub plain_fits : (d : Deployed) (a : Act) → has_form these.dialect (form_of a) ≡ true → IsActOf d a
+      → P d (these.plain a)
+  pub own_fits : (s : State) (words : List (List ℕ)) (a : A) → IsDeployment s.header → these.own s words ≡ Some (Ok a)
+      → (full s ≡ None) × P s.header a

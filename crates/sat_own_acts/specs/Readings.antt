@@ -1,5 +1,5 @@
--- What a text with acts of the command's own is: the deployment and the acts of the lines before the first bad line, and that line with its
--- cause.
+-- What a text with acts of the command's own is: the deployment and the acts of the lines before the first bad line,
+-- and that line with its cause.
 use Rattle.std.specs.Prelude.{ℕ, ◌≡◌, List, [], ◌∷◌, ◌++◌, Option, Some, None, Result, Ok, Err, IfSome, IsSome}
 use Rattle.std.specs.List.{AllByRecursion, slice_split}
 use Rattle.sat_act.specs.Deployed.{Deployed}
@@ -52,7 +52,8 @@ closed s x None = x
 closed s x (Some cause) = bad_at s x cause
 
 -- what a line makes of it, where go_on says what the lines after it make
-abbrev pub after_line : {A : Type 0} → OwnActs A → State → OwnReading A → (State → OwnReading A → OwnReading A) → Result (OwnParsed A) Cause → OwnReading A
+abbrev pub after_line : {A : Type 0} → OwnActs A → State → OwnReading A → (State → OwnReading A → OwnReading A)
+    → Result (OwnParsed A) Cause → OwnReading A
 after_line these s x go_on (Ok p) = go_on (own_after s p) (with_line these s.header x p)
 after_line these s x go_on (Err cause) = bad_at s x cause
 
@@ -61,15 +62,16 @@ unfoldable pub script_from : {A : Type 0} → OwnActs A → State → OwnReading
 unfolding own_line number_of
 script_from these s x [] = closed s x (close_at s [])
 script_from these s x (rest ∷ []) = closed s x (close_at s rest)
-script_from these s x (line ∷ part ∷ parts) = after_line these s x (λ later more. script_from these later more (part ∷ parts)) (own_line these s line)
+script_from these s x (line ∷ part ∷ parts) =
+    after_line these s x (λ later more. script_from these later more (part ∷ parts)) (own_line these s line)
 
 -- what a text is
 unfoldable pub own_reading : {A : Type 0} → OwnActs A → List ℕ → OwnReading A
 unfolding script_from
 own_reading these text = script_from these (start these.dialect) nothing (slice_split is_newline text)
 
--- what is read of a text, also of one with a fault, is a deployment and acts of it, as P has it; no acts where there is no deployment; and a
--- deployment where there is no fault
+-- what is read of a text, also of one with a fault, is a deployment and acts of it, as P has it; no acts where there is
+-- no deployment; and a deployment where there is no fault
 pub record IsReadSound {A : Type 0} (P : Deployed → A → Type 0) (x : OwnReading A) : Type 0 where
   pub whole : IfSome x.deployment (λ d. IsDeployment d × AllByRecursion (λ a. P d a) x.acts)
   pub none : x.deployment ≡ None → x.acts ≡ []

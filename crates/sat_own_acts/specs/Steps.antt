@@ -39,17 +39,21 @@ told_with tell d c (Some a) = numbered (length c + 1) (tell.answer d (tell.entry
 
 -- the state behind a line that says this
 abbrev pub state_after : {A E : Type 0} → OwnActs A → Telling A E → OwnState E → OwnParsed A → OwnState E
-state_after these tell s p = record { script = own_after s.script p; entries = entries_with tell s.script.header s.entries (act_in these p) }
+state_after these tell s p =
+    record { script = own_after s.script p; entries = entries_with tell s.script.header s.entries (act_in these p) }
 
 -- what a line comes to
-abbrev pub outcome : {A E : Type 0} → OwnActs A → Telling A E → OwnState E → Result (OwnParsed A) Cause → Outcome (OwnState E)
-outcome these tell s (Ok p) = goes (state_after these tell s p) (told_with tell s.script.header s.entries (act_in these p))
+abbrev pub outcome : {A E : Type 0} → OwnActs A → Telling A E → OwnState E → Result (OwnParsed A) Cause
+    → Outcome (OwnState E)
+outcome these tell s (Ok p) =
+    goes (state_after these tell s p) (told_with tell s.script.header s.entries (act_in these p))
 outcome these tell s (Err cause) = stops (tell.fault (fault_at s.script cause))
 
 -- what the end comes to, where the text may not end so
 abbrev pub closing : {A E : Type 0} → Telling A E → OwnState E → Option Cause → Closing
 closing tell s None = record { may_go_on = may_go_on None; text = tell.holdings s.script.header s.entries; status = 0 }
-closing tell s (Some cause) = record { may_go_on = may_go_on (Some cause); text = tell.fault (fault_at s.script cause); status = 1 }
+closing tell s (Some cause) =
+    record { may_go_on = may_go_on (Some cause); text = tell.fault (fault_at s.script cause); status = 1 }
 
 -- no good line has more than 4,097 bytes, with its byte 10
 unfoldable pub bytes_before : State → ℕ

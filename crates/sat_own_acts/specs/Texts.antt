@@ -1,4 +1,5 @@
--- What is made of a text, where it is given how an act is entered, how its answer is told, a fault, and what stands at the end.
+-- What is made of a text, where it is given how an act is entered, how its answer is told, a fault, and what stands at
+-- the end.
 use Rattle.std.specs.Prelude.{ℕ, ◌+◌, Bool, true, false, List, [], ◌∷◌, ◌++◌, length, Option, Some, None, Ok, Err}
 use Rattle.std.specs.Fmt.{decimal}
 use Rattle.std.specs.List.{slice_split}
@@ -31,7 +32,8 @@ unfoldable pub answers_of : {A E : Type 0} → Telling A E → Deployed → List
 answers_of tell d [] = []
 answers_of tell d (x ∷ c) = answers_of tell d c ++ numbered (length c + 1) (tell.answer d x)
 
--- the answers of the acts that a text's lines say, before its first bad line; where there is no deployment there are none
+-- the answers of the acts that a text's lines say, before its first bad line; where there is no deployment there are
+-- none
 abbrev pub told_under : {A E : Type 0} → Telling A E → Option Deployed → List A → List ℕ
 told_under tell None acts = []
 told_under tell (Some d) acts = answers_of tell d (history_of tell.entry d acts)
@@ -66,13 +68,15 @@ unfoldable pub good_from : {A : Type 0} → OwnActs A → State → List (List �
 unfolding own_line
 good_from these s [] = may_go_on (close_at s [])
 good_from these s (rest ∷ []) = may_go_on (close_at s rest)
-good_from these s (line ∷ part ∷ parts) = elim (own_line these s line) [ Err cause ↦ false | Ok p ↦ good_from these (own_after s p) (part ∷ parts) ]
+good_from these s (line ∷ part ∷ parts) =
+    elim (own_line these s line) [ Err cause ↦ false | Ok p ↦ good_from these (own_after s p) (part ∷ parts) ]
 
 unfoldable pub is_good : {A : Type 0} → OwnActs A → List ℕ → Bool
 unfolding good_from
 is_good these text = good_from these (start these.dialect) (slice_split is_newline text)
 
--- no text has more bytes without a bad line: 205,200 lines, each of 4,096 bytes and the byte 10, and the beginning of one more
+-- no text has more bytes without a bad line: 205,200 lines, each of 4,096 bytes and the byte 10, and the beginning of
+-- one more
 abbrev pub MOST_OWN_BYTES : ℕ
 MOST_OWN_BYTES = 840704400 + 4096
 

@@ -6,4 +6,3 @@ pub mod Drains
 pub mod Hearing
 pub mod Sendings
 pub mod Following
-pub mod Small

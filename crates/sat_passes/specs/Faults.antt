@@ -8,7 +8,8 @@ use Rattle.sat_node.specs.Links.{HeldSeen, InSeen}
 
 -- it is in the received list of one of these ends
 abbrev pub IsReceived : List InSeen → Envelope → Type 0
-IsReceived ins e = (k : ℕ) × (i : InSeen) × (slice_get ins k ≡ Some i) × (before : List Envelope) × (after : List Envelope) × (i.link.received ≡ before ++ e ∷ after)
+IsReceived ins e = (k : ℕ) × (i : InSeen) × (slice_get ins k ≡ Some i) × (before : List Envelope)
+    × (after : List Envelope) × (i.link.received ≡ before ++ e ∷ after)
 
 -- the greatest number is that of the node, or of an envelope that it received
 abbrev pub IsWorn : {M I A : Type 0} → HeldSeen M I A → Type 0

@@ -52,7 +52,8 @@ is_small d given = true
 
 -- whether the site may be handed it, in the state after these entries
 abbrev pub may_take : Deployed → NodeName → List SiteKept → SiteInput → Bool
-may_take d name ks given = fits d (number_of name) (replay (site_meaning d) name ks) (input_of given) && is_small d given
+may_take d name ks given =
+    fits d (number_of name) (replay (site_meaning d) name ks) (input_of given) && is_small d given
 
 abbrev pub if_taken : Deployed → NodeName → List SiteKept → Option SiteInput → Option SiteInput
 if_taken d name ks None = None
@@ -72,7 +73,8 @@ abbrev pub Hears : Deployed → NodeName → List SiteKept → List Came → Lis
 Hears d name ks [] more = more ≡ []
 Hears d name ks (c ∷ cs) more =
     MatchOption (taken_as d name ks c) (Hears d name ks cs more)
-    (λ given. (k : SiteKept) × (rest : List SiteKept) × (more ≡ k ∷ rest) × (k.input ≡ of_site given) × Hears d name (ks ++ k ∷ []) cs rest)
+    (λ given. (k : SiteKept) × (rest : List SiteKept) × (more ≡ k ∷ rest) × (k.input ≡ of_site given)
+    × Hears d name (ks ++ k ∷ []) cs rest)
 
 -- ---- which messages came
 
@@ -124,20 +126,23 @@ pub record Heard (old new : SiteHeld) : Type 0 where
 -- the entries that it kept are those of what came over its links from the other sites, link by link
 abbrev pub HearsAll : Deployed → SiteHeld → SiteHeld → Type 0
 HearsAll d old new =
-    (more : List SiteKept) × (new.node.entries ≡ old.node.entries ++ more) × Hears d old.node.name old.node.entries (came_over (d.sites - 1) old.ins new.ins) more
+    (more : List SiteKept) × (new.node.entries ≡ old.node.entries ++ more)
+    × Hears d old.node.name old.node.entries (came_over (d.sites - 1) old.ins new.ins) more
 
 -- ---- its parts
 
 -- these messages were popped or kept before, and dealt with
 pub record Passed (cs : List Envelope) (old new : InSeen) : Type 0 where
   pub empties : new.link.empties ≡ old.link.empties
-  pub popped : (more : List Envelope) × (new.link.received ≡ old.link.received ++ more) × (front_list old.front ++ more ≡ cs ++ front_list new.front)
+  pub popped : (more : List Envelope) × (new.link.received ≡ old.link.received ++ more)
+      × (front_list old.front ++ more ≡ cs ++ front_list new.front)
 
 -- these messages of a link were dealt with
 pub record HeardAt (d : Deployed) (k : ℕ) (cs : List Envelope) (old new : SiteHeld) : Type 0 where
   pub name : new.node.name ≡ old.node.name
   pub outs : new.outs ≡ old.outs
-  pub added : (more : List SiteKept) × (new.node.entries ≡ old.node.entries ++ more) × Hears d old.node.name old.node.entries (map (on_link k) cs) more
+  pub added : (more : List SiteKept) × (new.node.entries ≡ old.node.entries ++ more)
+      × Hears d old.node.name old.node.entries (map (on_link k) cs) more
   pub ins : OnlyAt k (Passed cs) old.ins new.ins
 
 -- a pop gave nothing
@@ -156,7 +161,8 @@ pub record FoundEmpty (k : ℕ) (old new : SiteHeld) : Type 0 where
 pub record HeardLink (d : Deployed) (k : ℕ) (old new : SiteHeld) : Type 0 where
   pub name : new.node.name ≡ old.node.name
   pub outs : new.outs ≡ old.outs
-  pub added : (more : List SiteKept) × (new.node.entries ≡ old.node.entries ++ more) × Hears d old.node.name old.node.entries (came_at k (slice_get old.ins k) (slice_get new.ins k)) more
+  pub added : (more : List SiteKept) × (new.node.entries ≡ old.node.entries ++ more)
+      × Hears d old.node.name old.node.entries (came_at k (slice_get old.ins k) (slice_get new.ins k)) more
   pub ins : OnlyAt k IsEmptied old.ins new.ins
 
 -- the front of a link is this input of its site

@@ -65,4 +65,5 @@ SameEmpties old new = new.link.empties ≡ old.link.empties
 -- the link was found empty and no front is kept, or a front is kept that doesn't fit the machine
 abbrev pub IsDrained : Deployed → SerialSeen → ℕ → InSeen → InSeen → Type 0
 IsDrained d x k old new =
-    ((new.front ≡ None) × (new.link.empties ≡ rise old.link.empties)) ⊎ ((e : Envelope) × (new.front ≡ Some e) × (hop_with d x k e.body ≡ None))
+    ((new.front ≡ None) × (new.link.empties ≡ rise old.link.empties))
+    ⊎ ((e : Envelope) × (new.front ≡ Some e) × (hop_with d x k e.body ≡ None))

@@ -32,7 +32,8 @@ IsTold x j = j ≢ x.shape.site → last_made (made_for x j) ≡ Some (beat_for 
 abbrev pub AreTold : ℕ → SiteSeen → Type 0
 AreTold n x = (j : ℕ) → j < n → IsTold x j
 
--- nothing is left to emit, no pulse is left to send, and the last beat that was made for each other site is the one that would be made
+-- nothing is left to emit, no pulse is left to send, and the last beat that was made for each other site is the one
+-- that would be made
 pub record IsIdle (x : SiteSeen) : Type 0 where
   pub emit : would_do x input.Emit ≡ false
   pub pulse : would_do x input.Pulse ≡ false

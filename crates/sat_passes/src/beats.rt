@@ -39,7 +39,8 @@ fn same_beats(a: &Beat, b: &Beat) -> bool
             && same_numbers(a.counts.as_slice(), b.counts.as_slice()))
 }
 
-// How many beats the site made for another one, by halving. No memory holds 2^64 - 1 beats: `None` where there are so many.
+// How many beats the site made for another one, by halving. No memory holds 2^64 - 1 beats: `None` where there are so
+// many.
 fn beats_made(site: &Site, to: u16) -> Option<u64>
     requires { to < site.now.shape.sites }
     ensures { IfSome result (λ n. n ≡ length (made_for site.now to)) }

@@ -72,7 +72,8 @@ fn act_from<N: Laid + Names>(
     link: usize,
 ) -> Result<Option<SiteAct<N>>, CallFault>
     requires { from ≡ peer (number_of held.now.node.name) link }
-    ensures act { IfOk result (λ o. MatchOption o (front_at held.now.ins link ≡ None) (λ act. (e : Sent) × IsMessage held.now link e act)) }
+    ensures act { IfOk result
+        (λ o. MatchOption o (front_at held.now.ins link ≡ None) (λ act. (e : Sent) × IsMessage held.now link e act)) }
     ensures fault { IfErr result (λ f. f ≡ Memory) }
 {
     let Some(front) = held.front(link) else {
@@ -158,7 +159,9 @@ fn hear_front<N: Laid + Names, R: Wait>(
     requires from { from ≡ peer (number_of held.old.node.name) link }
     ensures heard { Heard held.old held.new }
     ensures outs { held.new.outs ≡ held.old.outs }
-    ensures dealt { IfOk result (λ more. MatchBool more ((e : Sent) × HeardAt N.deployment link (e ∷ []) held.old held.new) (FoundEmpty link held.old held.new)) }
+    ensures dealt { IfOk result
+        (λ more. MatchBool more ((e : Sent) × HeardAt N.deployment link (e ∷ []) held.old held.new)
+        (FoundEmpty link held.old held.new)) }
     ensures fault { IfErr result (Fails held.new) }
 {
     held.pull(rt, link);
@@ -226,7 +229,8 @@ fn hear_all<N: Laid + Names, R: Wait>(
     ensures heard { Heard held.old held.new }
     ensures outs { held.new.outs ≡ held.old.outs }
     ensures all { OnOk result (HearsAll N.deployment held.old held.new) }
-    ensures emptied { OnOk result (Both (λ k j i. IsHeard (nat_lt k (N.deployment.sites - 1)) j i) held.old.ins held.new.ins) }
+    ensures emptied { OnOk result
+        (Both (λ k j i. IsHeard (nat_lt k (N.deployment.sites - 1)) j i) held.old.ins held.new.ins) }
     ensures fault { IfErr result (Fails held.new) }
 {
     let site = site_of(held);
@@ -241,10 +245,10 @@ fn hear_all<N: Laid + Names, R: Wait>(
     Ok(())
 }
 
-/// What a site's node hears from the other sites: each payload and each beat that came over their links is taken where it fits the
-/// site, and else passed over. How many entries the node kept. `Worn`, with the greatest u64, only where that is the node's number
-/// or a received envelope's after the call; `Memory`, also for a label on such a link, which no site puts there. After an error, what
-/// was kept by then stays.
+/// What a site's node hears from the other sites: each payload and each beat that came over their links is taken where
+/// it fits the site, and else passed over. How many entries the node kept. `Worn`, with the greatest u64, only where
+/// that is the node's number or a received envelope's after the call; `Memory`, also for a label on such a link, which
+/// no site puts there. After an error, what was kept by then stays.
 pub fn receive<N: Laid + Names, R: Wait>(
     rt: &R,
     held: &mut Held<SiteNode<N>, N>,
@@ -253,7 +257,8 @@ pub fn receive<N: Laid + Names, R: Wait>(
     ensures outs { held.new.outs ≡ held.old.outs }
     ensures count { IfOk result (λ n. length held.new.node.entries ≡ length held.old.node.entries + n) }
     ensures all { OnOk result (HearsAll N.deployment held.old held.new) }
-    ensures emptied { OnOk result (Both (λ k j i. IsHeard (nat_lt k (N.deployment.sites - 1)) j i) held.old.ins held.new.ins) }
+    ensures emptied { OnOk result
+        (Both (λ k j i. IsHeard (nat_lt k (N.deployment.sites - 1)) j i) held.old.ins held.new.ins) }
     ensures fault { IfErr result (Fails held.new) }
 {
     let before = held.node().journal().len();

@@ -57,7 +57,8 @@ fn next_hop<N: Laid + Names>(held: &Held<SerialNode<N>, N>, link: usize) -> Opti
 
 // The machine stands for the replay of the journal.
 fn sound<N: Laid + Names>(held: &Held<SerialNode<N>, N>)
-    ensures stands { SerialStands N.deployment held.now.node.name held.now.node.machine (replay (serial_meaning N.deployment) held.now.node.name held.now.node.entries) }
+    ensures stands { SerialStands N.deployment held.now.node.name held.now.node.machine
+        (replay (serial_meaning N.deployment) held.now.node.name held.now.node.entries) }
     ensures tied { Tied (serial_meaning N.deployment) held.now }
 {
     let _ = held.node().machine();
@@ -101,7 +102,8 @@ fn take_unanswered<N: Laid + Names>(
     }
 }
 
-// Pulls the next envelope of a link, and takes it as a hop. False where the link was empty, or the front doesn't fit the machine.
+// Pulls the next envelope of a link, and takes it as a hop. False where the link was empty, or the front doesn't fit
+// the machine.
 #[tactic(auto, using(crate::proofs::Drains::pulled_drained, crate::proofs::Drains::pulled_taken, crate::proofs::Hops::hops_none, crate::proofs::Hops::hops_then))]
 fn handle_front<N: Laid + Names, R: Wait, G: Gate>(
     rt: &R,
@@ -113,7 +115,8 @@ fn handle_front<N: Laid + Names, R: Wait, G: Gate>(
     requires link { link < length held.old.ins }
     ensures hops { Hops held.old held.new }
     ensures outs { held.new.outs ≡ held.old.outs }
-    ensures handled { IfOk result (λ more. MatchBool more (OnlyAt link SameEmpties held.old.ins held.new.ins) (OnlyAt link (IsDrained N.deployment held.new.node.machine link) held.old.ins held.new.ins)) }
+    ensures handled { IfOk result (λ more. MatchBool more (OnlyAt link SameEmpties held.old.ins held.new.ins)
+        (OnlyAt link (IsDrained N.deployment held.new.node.machine link) held.old.ins held.new.ins)) }
     ensures fault { IfErr result (Fails held.new) }
 {
     held.pull(rt, link);
@@ -139,7 +142,8 @@ fn drain<N: Laid + Names, R: Wait, G: Gate>(
     requires link { link < length held.old.ins }
     ensures hops { Hops held.old held.new }
     ensures outs { held.new.outs ≡ held.old.outs }
-    ensures drained { OnOk result (OnlyAt link (IsDrained N.deployment held.new.node.machine link) held.old.ins held.new.ins) }
+    ensures drained { OnOk result
+        (OnlyAt link (IsDrained N.deployment held.new.node.machine link) held.old.ins held.new.ins) }
     ensures fault { IfErr result (Fails held.new) }
 {
     'draining: for _ in rt.forever() {
@@ -162,7 +166,8 @@ fn drain_all<N: Laid + Names, R: Wait, G: Gate>(
     requires alive { held.old.node.machine.serial.killed ≡ false }
     ensures hops { Hops held.old held.new }
     ensures outs { held.new.outs ≡ held.old.outs }
-    ensures drained { OnOk result (Both (λ k j i. IsDrained N.deployment held.new.node.machine k j i) held.old.ins held.new.ins) }
+    ensures drained { OnOk result
+        (Both (λ k j i. IsDrained N.deployment held.new.node.machine k j i) held.old.ins held.new.ins) }
     ensures fault { IfErr result (Fails held.new) }
 {
     let links = held.ins().len();
@@ -182,7 +187,8 @@ fn drain_alive<N: Laid + Names, R: Wait, G: Gate>(
 ) -> Result<(), CallFault>
     ensures hops { Hops held.old held.new }
     ensures outs { held.new.outs ≡ held.old.outs }
-    ensures drained { OnOk result (held.old.node.machine.serial.killed ≡ false → Both (λ k j i. IsDrained N.deployment held.new.node.machine k j i) held.old.ins held.new.ins) }
+    ensures drained { OnOk result (held.old.node.machine.serial.killed ≡ false
+        → Both (λ k j i. IsDrained N.deployment held.new.node.machine k j i) held.old.ins held.new.ins) }
     ensures killed { held.old.node.machine.serial.killed ≡ true → held.new ≡ held.old }
     ensures fault { IfErr result (Fails held.new) }
 {
@@ -192,9 +198,10 @@ fn drain_alive<N: Laid + Names, R: Wait, G: Gate>(
     drain_all(rt, held, gate)
 }
 
-/// A serializer's pass: takes what came over each link, and sends what waits. A killed serializer only sends. The gate is called
-/// while a label is handled. How many entries the node kept. `Worn`, with the greatest u64, only where that is the node's number or
-/// a received envelope's after the call; `Memory`. After an error, what was kept and sent by then stays.
+/// A serializer's pass: takes what came over each link, and sends what waits. A killed serializer only sends. The gate
+/// is called while a label is handled. How many entries the node kept. `Worn`, with the greatest u64, only where that
+/// is the node's number or a received envelope's after the call; `Memory`. After an error, what was kept and sent by
+/// then stays.
 pub fn relay<N: Laid + Names, R: Wait, G: Gate>(
     rt: &R,
     held: &mut Held<SerialNode<N>, N>,
@@ -202,8 +209,10 @@ pub fn relay<N: Laid + Names, R: Wait, G: Gate>(
 ) -> Result<u64, CallFault>
     ensures hops { Hops held.old held.new }
     ensures count { IfOk result (λ n. length held.new.node.entries ≡ length held.old.node.entries + n) }
-    ensures drained { OnOk result (held.new.node.machine.serial.killed ≡ false → Both (λ k j i. IsDrained N.deployment held.new.node.machine k j i) held.old.ins held.new.ins) }
-    ensures killed { held.old.node.machine.serial.killed ≡ true → (held.new.node ≡ held.old.node) × (held.new.ins ≡ held.old.ins) }
+    ensures drained { OnOk result (held.new.node.machine.serial.killed ≡ false
+        → Both (λ k j i. IsDrained N.deployment held.new.node.machine k j i) held.old.ins held.new.ins) }
+    ensures killed { held.old.node.machine.serial.killed ≡ true
+        → (held.new.node ≡ held.old.node) × (held.new.ins ≡ held.old.ins) }
     ensures sent { OnOk result (Both (λ k p o. Stopped held.new.node.entries p o) held.old.outs held.new.outs) }
     ensures fault { IfErr result (Fails held.new) }
 {

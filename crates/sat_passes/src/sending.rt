@@ -28,7 +28,8 @@ fn act<N: Laid + Names>(
     ensures sent { Sent held.old held.new }
     ensures outs { held.new.outs ≡ held.old.outs }
     ensures ins { held.new.ins ≡ held.old.ins }
-    ensures follows { OnOk result (Follows N.deployment (number_of held.old.node.name) input held.old.node.machine held.new.node.machine) }
+    ensures follows { OnOk result
+        (Follows N.deployment (number_of held.old.node.name) input held.old.node.machine held.new.node.machine) }
     ensures fault { IfErr result (FailsAlone held.new) }
 {
     sound(held);
@@ -43,7 +44,8 @@ fn emit<N: Laid + Names>(held: &mut Held<SiteNode<N>, N>) -> Result<bool, CallFa
     ensures sent { Sent held.old held.new }
     ensures outs { held.new.outs ≡ held.old.outs }
     ensures ins { held.new.ins ≡ held.old.ins }
-    ensures less { IfOk result (λ done. done ≡ true → pending_count held.new.node.machine < pending_count held.old.node.machine) }
+    ensures less { IfOk result (λ done. done ≡ true → pending_count held.new.node.machine
+        < pending_count held.old.node.machine) }
     ensures none { IfOk result (λ done. done ≡ false → would_do held.new.node.machine given.Emit ≡ false) }
     ensures fault { IfErr result (FailsAlone held.new) }
 {
@@ -112,7 +114,8 @@ fn make_beat<N: Laid + Names>(held: &mut Held<SiteNode<N>, N>, to: u16) -> Resul
     Ok(())
 }
 
-// Makes a beat for a site, if it is another one and the beat would differ from the last one made. What was sent to others stays.
+// Makes a beat for a site, if it is another one and the beat would differ from the last one made. What was sent to
+// others stays.
 #[tactic(auto, using(crate::proofs::Sendings::sent_same, crate::proofs::Sendings::told_is, crate::proofs::Sendings::shape_sites, crate::proofs::Sendings::shape_site, crate::proofs::Following::stays_same))]
 fn beat<N: Laid + Names>(held: &mut Held<SiteNode<N>, N>, to: u16) -> Result<(), CallFault>
     requires { to < N.deployment.sites }
@@ -174,9 +177,9 @@ fn make_all<N: Laid + Names>(held: &mut Held<SiteNode<N>, N>) -> Result<(), Call
     Ok(())
 }
 
-/// What a site's node sends: it emits what is ready and then a pulse, makes a beat for each other site for which it would differ from
-/// the last one made, and sends what waits. How many entries the node kept. `Worn`, with the greatest u64, only where that is the
-/// node's number; `Memory`. After an error, what was kept and sent by then stays.
+/// What a site's node sends: it emits what is ready and then a pulse, makes a beat for each other site for which it
+/// would differ from the last one made, and sends what waits. How many entries the node kept. `Worn`, with the greatest
+/// u64, only where that is the node's number; `Memory`. After an error, what was kept and sent by then stays.
 pub fn send<N: Laid + Names, R: Wait>(
     rt: &R,
     held: &mut Held<SiteNode<N>, N>,

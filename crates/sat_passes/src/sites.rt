@@ -12,10 +12,11 @@ use sat_machines::{Laid, SiteNode};
 use sat_node::{Held, Names};
 use sat_site::site_laws;
 
-/// It does nothing. Its contract says of a site's node that its machine stands for the replay of its journal, what is true of it, and
-/// what it takes and does.
+/// It does nothing. Its contract says of a site's node that its machine stands for the replay of its journal, what is
+/// true of it, and what it takes and does.
 pub fn sound<N: Laid + Names>(held: &Held<SiteNode<N>, N>)
-    ensures stands { Stands N.deployment held.now.node.name held.now.node.machine (replay (site_meaning N.deployment) held.now.node.name held.now.node.entries) }
+    ensures stands { Stands N.deployment held.now.node.name held.now.node.machine
+        (replay (site_meaning N.deployment) held.now.node.name held.now.node.entries) }
     ensures tied { Tied (site_meaning N.deployment) held.now }
     ensures deployment { IsDeployment N.deployment }
     ensures site { IsSite held.now.node.machine }

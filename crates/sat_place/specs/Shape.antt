@@ -21,7 +21,8 @@ row_number key most list r = number_at (place_at key r 0) (most r) (item_at r li
 -- so many rows, and none after them
 unfoldable pub rows_of : ℕ → (ℕ → ℕ) → ℕ → Option Data → Result (List ℕ) DelayFault
 unfolding gathered row_number
-rows_of key most count list = ended (place_at key count 0) (item_at count list) (gathered (row_number key most list) count)
+rows_of key most count list =
+    ended (place_at key count 0) (item_at count list) (gathered (row_number key most list) count)
 
 -- how many of the first so many rows a list has
 unfoldable pub rows_among : Option Data → ℕ → ℕ

@@ -45,7 +45,8 @@ no_hop = record { from = 0; to = 0 }
 -- the highest serializer of two and of the first so many hops
 unfoldable pub highest : ℕ → ℕ → List Hop → ℕ → ℕ
 highest near far hops zero = max near far
-highest near far hops (suc n) = max (highest near far hops n) (max (slice_index_or hops n no_hop).from (slice_index_or hops n no_hop).to)
+highest near far hops (suc n) =
+    max (highest near far hops n) (max (slice_index_or hops n no_hop).from (slice_index_or hops n no_hop).to)
 
 -- what is kept of a pair of sites
 unfoldable pub way_of : DelayTable → TreeShape → Pair → Way
@@ -74,7 +75,9 @@ hops_span d places hops = sum_by (hop_span d places) hops
 -- milliseconds that metadata takes on the way
 unfoldable pub way_latency : DelayTable → List ℕ → Way → ℕ
 unfolding hops_span
-way_latency d places w = entry d.reach w.from (slice_index places w.near) + hops_span d places w.hops + entry d.reach w.to (slice_index places w.far)
+way_latency d places w =
+    entry d.reach w.from (slice_index places w.near) + hops_span d places w.hops
+    + entry d.reach w.to (slice_index places w.far)
 
 -- what the pair adds to the mismatch
 unfoldable pub way_cost : DelayTable → List ℕ → Way → ℕ

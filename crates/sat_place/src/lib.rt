@@ -1,5 +1,6 @@
-//! The best placement of a tree that is given: where each serializer stands, so that each site hears of the others as near to the
-//! best time as can be without delays (after the mismatch of Saturn; Bravo, Rodrigues and Van Roy, EuroSys 2017).
+//! The best placement of a tree that is given: where each serializer stands, so that each site hears of the others as
+//! near to the best time as can be without delays (after the mismatch of Saturn; Bravo, Rodrigues and Van Roy, EuroSys
+//! 2017).
 #![tactic(auto)]
 
 mod known;

@@ -11,9 +11,9 @@ use sat_label::Counts;
 use sat_tree::Tree;
 use std::alloc::{AllocError, Global};
 
-/// The least placement of a tree at the places of a table: of all lists with one place for each serializer none has a lower
-/// mismatch with all delays 0, and none that comes before it in lexicographic order an equal one. It asks for one seat for each
-/// site of the table, at most 6 serializers and at most 8 places. `Err` is want of memory.
+/// The least placement of a tree at the places of a table: of all lists with one place for each serializer none has a
+/// lower mismatch with all delays 0, and none that comes before it in lexicographic order an equal one. It asks for one
+/// seat for each site of the table, at most 6 serializers and at most 8 places. `Err` is want of memory.
 pub fn least(alloc: Global, d: &Delays, tree: &Tree) -> Result<Placed, AllocError>
     requires seats { length tree.now.seats ≡ d.now.sites }
     requires serializers { length tree.now.parents ≤ 6 }

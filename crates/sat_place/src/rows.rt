@@ -90,7 +90,8 @@ fn first_seats(
     parents: u16,
     count: u16,
 ) -> Result<Numbers, DelayFault>
-    ensures { Gives result (gathered (row_number 7 (seat_bound parents) (option_map (λ v. view v.now) list.entry)) count) }
+    ensures { Gives result
+        (gathered (row_number 7 (seat_bound parents) (option_map (λ v. view v.now) list.entry)) count) }
 {
     let mut numbers = Numbers::new(alloc);
     for row in 0..count {

@@ -19,8 +19,8 @@ fn with_place(front: &Counts, place: u16) -> Result<Counts, AllocError>
     Ok(list)
 }
 
-// The best of what was found and of all lists that begin with these places and go on with so many more. What the known places
-// cost already is a lower bound of all of these.
+// The best of what was found and of all lists that begin with these places and go on with so many more. What the known
+// places cost already is a lower bound of all of these.
 fn search(
     d: &Delays,
     ways: &[Way],
@@ -32,7 +32,8 @@ fn search(
     requires ways { AreWays d.now ways.now }
     requires within { (z : ℕ) → z < length front.now → slice_index front.now z < d.now.places }
     requires cost { cost ≡ known d.now ways.now front.now }
-    ensures { IfOk result (λ best. best ≡ lower_of found (best_from (known d.now ways.now) d.now.places left front.now)) }
+    ensures { IfOk result (λ best. best
+        ≡ lower_of found (best_from (known d.now ways.now) d.now.places left front.now)) }
 {
     if cost >= found.mismatch {
         return Ok(found);

@@ -66,9 +66,10 @@ fn tree_in(alloc: Global, d: &Delays, input: &Value) -> Result<Tree, DelayFault>
     Ok(tree)
 }
 
-/// Reads a table of delays with a tree from JSON: an object as [`read_delays`](sat_delay::read_delays) reads it, with at most 8
-/// places, and with `parents`, a list of at most 5 numbers, of which the r-th, from 0, is the parent of serializer r + 1 and at most
-/// r, and `seats`, the serializer of each site. `Err` is the first fault of the table, then of the number of places, then of
+/// Reads a table of delays with a tree from JSON: an object as [`read_delays`](sat_delay::read_delays) reads it, with
+/// at most 8 places, and with `parents`, a list of at most 5 numbers, of which the r-th, from 0, is the parent of
+/// serializer r + 1 and at most r, and `seats`, the serializer of each site. `Err` is the first fault of the table,
+/// then of the number of places, then of
 /// `parents`, then of `seats`, by rows, or `Memory`.
 #[tactic(auto, unfolding(crate::specs::Shape::shape_reading, sat_delay::specs::Reading::reading))]
 pub fn read_shape(alloc: Global, bytes: &[u8]) -> Result<Shaped, DelayFault>

@@ -8,12 +8,14 @@ use sat_plan::{mismatch_line, place_lines, tree_line};
 use sat_tree::Tree;
 use std::alloc::AllocError;
 
-/// Appends the text of a placement: the tree's line as a plan of a script, a line `place zK P` for each serializer, and the line
+/// Appends the text of a placement: the tree's line as a plan of a script, a line `place zK P` for each serializer, and
+/// the line
 /// `mismatch M`. It asks for one place for each serializer. For want of memory `out` is as before.
 #[tactic(auto, unfolding(crate::specs::Texts::placed_text))]
 pub fn write_placed(tree: &Tree, placed: &Placed, out: &mut Vec<u8>) -> Result<(), AllocError>
     requires { length placed.now.places ≡ length tree.now.parents }
-    ensures ok { OnOk result (out.new.items ≡ out.old.items ++ placed_text tree.now placed.now.places placed.now.mismatch) }
+    ensures ok { OnOk result (out.new.items ≡ out.old.items
+        ++ placed_text tree.now placed.now.places placed.now.mismatch) }
     ensures err { OnErr result (out.new.items ≡ out.old.items) }
 {
     let alloc = *out.allocator();

@@ -25,8 +25,8 @@ pub struct Hop {
 /// Steps of a way.
 pub type Hops = List<Hop>;
 
-/// A pair of sites: the serializers that they are seated at, the hops between these, the highest number of these serializers, how
-/// much the pair weighs, and its best latency.
+/// A pair of sites: the serializers that they are seated at, the hops between these, the highest number of these
+/// serializers, how much the pair weighs, and its best latency.
 #[derive(Drop)]
 pub struct Way {
     pub from: u16,

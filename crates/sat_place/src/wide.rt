@@ -33,8 +33,8 @@ fn block(
     Ok(best)
 }
 
-// For each place of the first serializer the best, in order, from as many threads as there are processors. Each place is worth a
-// thread.
+// For each place of the first serializer the best, in order, from as many threads as there are processors. Each place
+// is worth a thread.
 fn blocks<R: Threads + Sync>(
     rt: &R,
     alloc: Global,
@@ -43,7 +43,8 @@ fn blocks<R: Threads + Sync>(
     left: u16,
 ) -> Result<Vec<Result<Placed, AllocError>>, AllocError>
     requires { AreWays d.now ways.now }
-    ensures { IfOk result (λ found. AllZip (λ place best. IfOk best (λ b. b ≡ best_from (known d.now ways.now) d.now.places left (place ∷ [])))
+    ensures { IfOk result (λ found.
+        AllZip (λ place best. IfOk best (λ b. b ≡ best_from (known d.now ways.now) d.now.places left (place ∷ [])))
         (range_with_len 0 d.now.places) found.items) }
 {
     let places = d.places() as usize;
@@ -53,14 +54,15 @@ fn blocks<R: Threads + Sync>(
         .map(
             |place: usize| -> Result<Placed, AllocError>
                 requires { AreWays d.now ways.now × (place < d.now.places) }
-                ensures { IfOk result (λ best. best ≡ best_from (known d.entry.now ways.entry.now) d.entry.now.places left (place ∷ [])) }
+                ensures { IfOk result (λ best. best
+                    ≡ best_from (known d.entry.now ways.entry.now) d.entry.now.places left (place ∷ [])) }
             { block(alloc, d, ways, place, left) },
         )
         .collect(rt, alloc)
 }
 
-/// The least placement of a tree, as [`least`](crate::least) answers it, with the places of the first serializer divided among
-/// threads. It asks for the same.
+/// The least placement of a tree, as [`least`](crate::least) answers it, with the places of the first serializer
+/// divided among threads. It asks for the same.
 pub fn least_wide<R: Threads + Sync>(
     rt: &R,
     alloc: Global,

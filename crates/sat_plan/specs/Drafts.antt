@@ -65,7 +65,8 @@ pub record IsSmallTerm (t : Term) : Type 0 where
 
 -- whether an edge lies on the way of a pair
 unfoldable pub crosses : Routes → ℕ → Pair → Bool
-crosses r e p = bit (slice_index_or r.legs.items e no_leg).far.bits p.to && not (bit (slice_index_or r.legs.items e no_leg).far.bits p.from)
+crosses r e p = bit (slice_index_or r.legs.items e no_leg).far.bits p.to
+    && not (bit (slice_index_or r.legs.items e no_leg).far.bits p.from)
 
 -- a pair of sites, with its latency without the edge's delay
 unfoldable pub term_of : DelayTable → Routes → List ℕ → ℕ → Pair → Term

@@ -17,11 +17,13 @@ LeastIsLeast = (f : ℕ → ℕ) (n : ℕ) → 0 < n → IsLeastBelow f n (least
 
 -- a tree is grown until no pair of a serializer and a place is lower, or there are 15 serializers
 abbrev pub GrowsToTheEnd : Type 0
-GrowsToTheEnd = (d : DelayTable) → (mismatch d (grown d) ≤ mismatch d (best_hung d (grown d))) ⊎ (length (grown d).tree.parents ≡ 15)
+GrowsToTheEnd = (d : DelayTable) → (mismatch d (grown d) ≤ mismatch d (best_hung d (grown d)))
+    ⊎ (length (grown d).tree.parents ≡ 15)
 
 -- the best delay of an edge is the best of all whole numbers, and the lowest of those that are as good
 abbrev pub BestDelayIsBest : Type 0
-BestDelayIsBest = (d : DelayTable) (c : Config) (e : ℕ) → IsWithinLimits d → Fits d c → e < length (edges c.tree) → IsLeast (delay_cost d c e) (best_delay d c e)
+BestDelayIsBest = (d : DelayTable) (c : Config) (e : ℕ) → IsWithinLimits d → Fits d c → e < length (edges c.tree)
+    → IsLeast (delay_cost d c e) (best_delay d c e)
 
 -- a pass over the tree that is built changes nothing
 abbrev pub SettlesToTheEnd : Type 0
@@ -35,4 +37,6 @@ Follows u v (x ∷ y ∷ nodes) = ((u ≡ x) × (v ≡ y)) ⊎ Follows u v (y �
 
 -- an edge lies on the way between two sites just where it is a step of the path between them
 abbrev pub OnWayIsOnPath : Type 0
-OnWayIsOnPath = (t : TreeShape) (i k z : ℕ) (n : NodeId) (nodes : List NodeId) → IsTree t → Path t (Site i) (Site k) nodes → is_edge t (Serializer z) n ≡ true → (on_way t (edge_of z n) i k ≡ true) ↔ Follows (Serializer z) n nodes
+OnWayIsOnPath = (t : TreeShape) (i k z : ℕ) (n : NodeId) (nodes : List NodeId) → IsTree t
+    → Path t (Site i) (Site k) nodes → is_edge t (Serializer z) n ≡ true → (on_way t (edge_of z n) i k ≡ true)
+    ↔ Follows (Serializer z) n nodes

@@ -11,7 +11,8 @@ use Rattle.sat_plan.specs.declared.pairs.Pair.{Pair}
 use Rattle.sat_plan.specs.Sums.{sum_to, gap}
 use Rattle.sat_plan.specs.Config.{Config, edges, edge_at}
 
--- A directed edge lies on the path from site i to site k where, with the edge cut, i stands on its near side and k on its far side.
+-- A directed edge lies on the path from site i to site k where, with the edge cut, i stands on its near side and k on
+-- its far side.
 unfoldable pub on_way : TreeShape → Edge → ℕ → ℕ → Bool
 on_way t e i k = beyond t (Serializer e.from) e.to (Site k) && not (beyond t (Serializer e.from) e.to (Site i))
 
@@ -27,15 +28,16 @@ span d places e = span_to d places e.from e.to
 -- what the edge with a number adds on the way from i to k
 unfoldable pub leg : DelayTable → Config → ℕ → ℕ → ℕ → ℕ
 unfolding on_way edge_at
-leg d c i k e = if on_way c.tree (edge_at c.tree e) i k then span d c.places (edge_at c.tree e) + slice_index c.delays e else 0
+leg d c i k e =
+    if on_way c.tree (edge_at c.tree e) i k then span d c.places (edge_at c.tree e) + slice_index c.delays e else 0
 
 -- milliseconds between a site and the place of its serializer
 unfoldable pub access : DelayTable → Config → ℕ → ℕ
 unfolding seat_of
 access d c i = entry d.reach i (slice_index c.places (seat_of c.tree i))
 
--- Milliseconds that metadata takes from site i to site k: to the place of i's serializer, over the edges on the path with their
--- delays, and from the place of k's serializer.
+-- Milliseconds that metadata takes from site i to site k: to the place of i's serializer, over the edges on the path
+-- with their delays, and from the place of k's serializer.
 unfoldable pub latency : DelayTable → Config → ℕ → ℕ → ℕ
 unfolding access sum_to leg edges
 latency d c i k = access d c i + sum_to (leg d c i k) (length (edges c.tree)) + access d c k

@@ -30,7 +30,9 @@ routed_leg legs delays i k e = leg_way (slice_index_or legs e no_leg) (slice_ind
 -- the latency from i to k
 unfoldable pub routed : Routes → List ℕ → ℕ → ℕ → ℕ
 unfolding sum_to routed_leg
-routed r delays i k = slice_index r.access.items i + sum_to (routed_leg r.legs.items delays i k) (length r.legs.items) + slice_index r.access.items k
+routed r delays i k =
+    slice_index r.access.items i + sum_to (routed_leg r.legs.items delays i k) (length r.legs.items)
+    + slice_index r.access.items k
 
 -- what a pair adds to the mismatch
 unfoldable pub routed_cost : DelayTable → Routes → List ℕ → Pair → ℕ

@@ -78,7 +78,8 @@ unfoldable pub best_parent : DelayTable → Config → ℕ
 unfolding parent_cost least_of
 best_parent d c = least_of (parent_cost d c) (length c.tree.parents)
 
--- of all pairs of a serializer and a place the one of least mismatch, first by serializer and then by place among equals
+-- of all pairs of a serializer and a place the one of least mismatch, first by serializer and then by place among
+-- equals
 unfoldable pub best_hung : DelayTable → Config → Config
 unfolding hung best_parent best_place
 best_hung d c = hung d c (best_parent d c) (best_place d c (best_parent d c))
@@ -100,7 +101,8 @@ grown d = grow d 14 (start d)
 unfoldable pub delay_cost : DelayTable → Config → ℕ → ℕ → ℕ
 delay_cost d c e delay = mismatch d (delayed c e delay)
 
--- The least delay of an edge among those that give the least mismatch while all others stay. None above 100,000 gives a lower one.
+-- The least delay of an edge among those that give the least mismatch while all others stay. None above 100,000 gives a
+-- lower one.
 unfoldable pub best_delay : DelayTable → Config → ℕ → ℕ
 best_delay d c e = least_of (delay_cost d c e) 100001
 

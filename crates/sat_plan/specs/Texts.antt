@@ -46,7 +46,8 @@ mismatch_line cost = codes "mismatch " ++ (decimal cost ++ 10 ∷ [])
 unfoldable pub config_text : Config → ℕ → List ℕ
 unfolding tree_line place_lines delay_lines mismatch_line edges
 config_text c cost =
-    tree_line c.tree ++ (place_lines c.places (length c.tree.parents) ++ (delay_lines c.tree c.delays (length (edges c.tree)) ++ mismatch_line cost))
+    tree_line c.tree ++ (place_lines c.places (length c.tree.parents)
+    ++ (delay_lines c.tree c.delays (length (edges c.tree)) ++ mismatch_line cost))
 
 -- ---- what comes of a text
 

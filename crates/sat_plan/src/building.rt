@@ -11,8 +11,8 @@ use sat_label::Counts;
 use sat_tree::Tree;
 use std::alloc::{AllocError, Global};
 
-/// A tree that was built: the place of each serializer, the milliseconds of delay of each directed edge that leaves a serializer,
-/// by serializer and then in the order of its neighbours, and its mismatch.
+/// A tree that was built: the place of each serializer, the milliseconds of delay of each directed edge that leaves a
+/// serializer, by serializer and then in the order of its neighbours, and its mismatch.
 #[derive(Drop)]
 pub struct Built {
     pub tree: Tree,
@@ -31,9 +31,10 @@ fn counts_of(alloc: Global, numbers: &[u64]) -> Result<Counts, AllocError>
     Ok(list)
 }
 
-/// Builds a tree from a table of delays: one serializer at its best place; then, as long as the mismatch falls and there are at
-/// most 15, one more at the best place under the best parent, with each site at the serializer nearest to it; then a delay for
-/// each edge, again and again, until none changes. Among equals the lowest number is taken. `Err` is want of memory.
+/// Builds a tree from a table of delays: one serializer at its best place; then, as long as the mismatch falls and
+/// there are at most 15, one more at the best place under the best parent, with each site at the serializer nearest to
+/// it; then a delay for each edge, again and again, until none changes. Among equals the lowest number is taken. `Err`
+/// is want of memory.
 pub fn build(alloc: Global, d: &Delays) -> Result<Built, AllocError>
     ensures steps { IfOk result (λ b. config_of b.tree b.places b.delays ≡ built d.now) }
     ensures mismatch { IfOk result (λ b. b.mismatch ≡ mismatch d.now (built d.now)) }

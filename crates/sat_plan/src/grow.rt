@@ -187,7 +187,8 @@ fn best_place(alloc: Global, d: &Delays, draft: &Draft, parent: u16) -> Result<B
     requires fits { Fits d.now (draft_config draft.now) }
     requires room { length draft.now.tree.parents ≤ 14 }
     requires parent { parent < length draft.now.tree.parents }
-    ensures best { IfOk result (λ best. best ≡ best_below (hung_cost d.now (draft_config draft.now) parent) d.now.places) }
+    ensures best { IfOk result (λ best. best
+        ≡ best_below (hung_cost d.now (draft_config draft.now) parent) d.now.places) }
     ensures within { IfOk result (λ best. best.number < d.now.places) }
 {
     let places = d.places();
@@ -218,7 +219,8 @@ fn parent_cost(alloc: Global, d: &Delays, draft: &Draft, parent: u16) -> Result<
 fn best_parent(alloc: Global, d: &Delays, draft: &Draft) -> Result<Best, AllocError>
     requires fits { Fits d.now (draft_config draft.now) }
     requires room { length draft.now.tree.parents ≤ 14 }
-    ensures best { IfOk result (λ best. best ≡ best_below (parent_cost d.now (draft_config draft.now)) (length draft.now.tree.parents)) }
+    ensures best { IfOk result (λ best. best
+        ≡ best_below (parent_cost d.now (draft_config draft.now)) (length draft.now.tree.parents)) }
     ensures within { IfOk result (λ best. best.number < length draft.now.tree.parents) }
 {
     let serializers = draft.tree.serializers();

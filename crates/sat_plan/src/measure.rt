@@ -55,10 +55,10 @@ fn total(d: &Delays, routes: &Routes, delays: &[u64], pairs: &[Pair]) -> u64
     total
 }
 
-/// The mismatch of a tree with a place for each serializer and milliseconds of delay for each directed edge that leaves a
-/// serializer: the sum, over all ordered pairs of different sites, of the pair's weight times the milliseconds between its
-/// latency and the best one. It asks for one seat for each site of the table, one place of the table for each serializer, and a
-/// delay of at most 100,000 for each edge. `Err` is want of memory.
+/// The mismatch of a tree with a place for each serializer and milliseconds of delay for each directed edge that leaves
+/// a serializer: the sum, over all ordered pairs of different sites, of the pair's weight times the milliseconds
+/// between its latency and the best one. It asks for one seat for each site of the table, one place of the table for
+/// each serializer, and a delay of at most 100,000 for each edge. `Err` is want of memory.
 #[tactic(auto, using(crate::proofs::Legs::routes_seated, crate::proofs::Lists::pairs_are, crate::proofs::Lists::pairs_few, crate::proofs::Measured::mismatch_is))]
 pub fn mismatch(
     alloc: Global,

@@ -14,7 +14,8 @@ pub struct Pair {
 
 // Adds the pairs of a site with each other one.
 fn add_pairs(pairs: &mut Vec<Pair>, sites: u16, from: u16) -> Result<(), AllocError>
-    ensures { OnOk result (pairs.new.items ≡ pairs.old.items ++ map (pair_of from) (filter (is_other from) (below sites))) }
+    ensures { OnOk result (pairs.new.items ≡ pairs.old.items
+        ++ map (pair_of from) (filter (is_other from) (below sites))) }
 {
     for to in 0..sites {
         if to != from {

@@ -120,7 +120,8 @@ fn access(alloc: Global, d: &Delays, tree: &Tree, places: &[u64]) -> Result<Vec<
     requires placed { (z : ℕ) → z < length places.now → slice_index places.now z < d.now.places }
     requires one_each { length places.now ≡ length tree.now.parents }
     requires seats { length tree.now.seats ≡ d.now.sites }
-    ensures access { IfOk result (λ list. list.items ≡ map (site_access d.now tree.now places.now) (below (length tree.now.seats))) }
+    ensures access { IfOk result (λ list. list.items
+        ≡ map (site_access d.now tree.now places.now) (below (length tree.now.seats))) }
     ensures small { IsSmallTree tree.now }
 {
     let mut list = Vec::new(alloc);

@@ -11,7 +11,8 @@ use crate::routes::Routes;
 use sat_delay::Delays;
 use std::alloc::{AllocError, Global};
 
-/// A pair of sites: how much it weighs, its latency without the edge's delay, the best one, and whether the edge lies on its way.
+/// A pair of sites: how much it weighs, its latency without the edge's delay, the best one, and whether the edge lies
+/// on its way.
 #[derive(Clone, Copy)]
 pub struct Term {
     pub weight: u64,
@@ -83,8 +84,8 @@ pub fn terms_cost(terms: &[Term], delay: u64) -> u64
     total
 }
 
-/// The least delay among those of least cost. The cost is linear between the delays at which some pair's latency is the best one,
-/// so one of these is the least, or 0.
+/// The least delay among those of least cost. The cost is linear between the delays at which some pair's latency is the
+/// best one, so one of these is the least, or 0.
 #[tactic(auto, using(crate::proofs::Chosen::best_start, crate::proofs::Chosen::best_next, crate::proofs::Chosen::best_is_least))]
 pub fn best_delay(terms: &[Term]) -> Choice
     requires small { All IsSmallTerm terms.now }

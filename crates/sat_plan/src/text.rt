@@ -138,14 +138,16 @@ pub fn mismatch_line(alloc: Global, mismatch: u64) -> Result<String, AllocError>
     format!(in alloc; "mismatch {mismatch}\n")
 }
 
-/// Appends the text of a tree that was built: its line as a plan of a script, a line `place zK P` for each serializer, a line
-/// `delay zK NODE D` for each directed edge with a delay above 0, in order, and the line `mismatch M`. It asks for one place for
-/// each serializer and one delay for each edge. For want of memory `out` is as before.
+/// Appends the text of a tree that was built: its line as a plan of a script, a line `place zK P` for each serializer,
+/// a line
+/// `delay zK NODE D` for each directed edge with a delay above 0, in order, and the line `mismatch M`. It asks for one
+/// place for each serializer and one delay for each edge. For want of memory `out` is as before.
 #[tactic(auto, unfolding(crate::specs::Texts::config_text))]
 pub fn write_built(b: &Built, out: &mut Vec<u8>) -> Result<(), AllocError>
     requires places { length b.now.places ≡ length b.now.tree.parents }
     requires delays { length b.now.delays ≡ length (edges b.now.tree) }
-    ensures ok { OnOk result (out.new.items ≡ out.old.items ++ config_text (config_of b.now.tree b.now.places b.now.delays) b.now.mismatch) }
+    ensures ok { OnOk result (out.new.items ≡ out.old.items
+        ++ config_text (config_of b.now.tree b.now.places b.now.delays) b.now.mismatch) }
     ensures err { OnErr result (out.new.items ≡ out.old.items) }
 {
     let alloc = *out.allocator();

@@ -29,7 +29,8 @@ fn tuned_delay(
     requires short { AreShort routes.now }
     requires pairs { ways.now ≡ pairs d.now.sites }
     requires edge { edge < length (edges draft.now.tree) }
-    ensures tuned { IfOk result (λ delay. delayed (draft_config draft.now) edge delay ≡ tuned d.now (draft_config draft.now) edge) }
+    ensures tuned { IfOk result (λ delay. delayed (draft_config draft.now) edge delay
+        ≡ tuned d.now (draft_config draft.now) edge) }
     ensures prompt { IfOk result (λ delay. delay ≤ 100000) }
 {
     let delays = draft.delays.as_slice();
@@ -95,7 +96,8 @@ fn pass(
 /// Goes through the edges until no delay changes.
 pub fn settle(alloc: Global, d: &Delays, mut draft: Draft) -> Result<Draft, AllocError>
     requires fits { Fits d.now (draft_config draft) }
-    ensures settled { IfOk result (λ c. draft_config c ≡ settled d.now (mismatch d.now (draft_config draft)) (draft_config draft)) }
+    ensures settled { IfOk result (λ c. draft_config c
+        ≡ settled d.now (mismatch d.now (draft_config draft)) (draft_config draft)) }
     ensures last { IfOk result (λ c. pass d.now (draft_config c) ≡ draft_config c) }
     ensures fits { IfOk result (λ c. Fits d.now (draft_config c)) }
     ensures limits { IsWithinLimits d.now }

@@ -448,17 +448,6 @@ more_queues queues old new same e =
       each = λ g. ap (λ (qs : List (List Payload)). get_or qs g []) m ∙ (end-none (map waiting_in old) g ∙ same.each g);
     }
 
-pub same_parts : (queues after : List (List Payload)) (others : List Payload) → SameQueues queues after → IsParts queues others → IsParts after others
-same_parts queues after others same is = record {
-  gears = λ g x i. is.gears g x (subst (λ (ps : List Payload). In ps x) (same.each g) i);
-  rises = λ g. subst (λ (ps : List Payload). Ascends ps) (sym (same.each g)) (is.rises g);
-  aside = is.aside;
-  apart = λ g x y i j. is.apart g x y (subst (λ (ps : List Payload). In ps x) (same.each g) i) j;
-}
-
-pub same_view : (queues after : List (List Payload)) (others : List Payload) → SameQueues queues after → row_view after others ≡ row_view queues others
-same_view queues after others same = ap (λ (ps : List Payload). placed_all ps others) same.all
-
 -- ---- the first
 
 pub first_set : (ps : List Payload) (p : Payload) → sets_first (first_label ps) p.label ≡ first_label (placed ps p)

@@ -13,8 +13,8 @@ use Rattle.sat_bulk.specs.Payloads.{Payload}
 use Rattle.sat_pool.specs.declared.rising.Slot.{Slot}
 use Rattle.sat_pool.specs.declared.rising.Slot.TheVariants.{Waits, Gone}
 use Rattle.sat_pool.specs.Pool.{at_point, without}
-use Rattle.sat_pool.specs.Rows.{first_label, Ascends}
-use Rattle.sat_pool.specs.Slots.{point_in, with_slot, waiting_in, payload_in, payload_at, place_of, trimmed, starts_gone, Climbs, WaitsFirst, IsRising, AreBelow, Took}
+use Rattle.sat_pool.specs.Rows.{Ascends}
+use Rattle.sat_pool.specs.Slots.{point_in, with_slot, waiting_in, payload_in, payload_at, place_of, trimmed, Climbs, WaitsFirst, IsRising, AreBelow, Took}
 use Rattle.sat_pool.proofs.Keyed.{without-none, without-others}
 use Rattle.sat_pool.proofs.Members.{none-at, point-self}
 
@@ -202,17 +202,6 @@ trimmed-front [] = tt
 trimmed-front (Waits p ∷ ss) = tt
 trimmed-front (Gone r ∷ ss) = trimmed-front ss
 
--- one more that was taken goes
-pub trim_more : (ss rest : List Slot) (s : Slot) → ss ≡ s ∷ rest → starts_gone ss ≡ true → trimmed rest ≡ trimmed ss
-trim_more [] rest s e b = absurd (cc)
-trim_more (Waits p ∷ ss) rest s e b = absurd (cc)
-trim_more (Gone r ∷ ss) rest s e b = ap trimmed (let z : rest ≡ ss = cc in z)
-
-pub trim_stops : (ss : List Slot) → starts_gone ss ≡ false → ss ≡ trimmed ss
-trim_stops [] b = refl
-trim_stops (Waits p ∷ ss) b = refl
-trim_stops (Gone r ∷ ss) b = absurd (cc)
-
 rest-climbs : (ss : List Slot) → Climbs ss → Climbs (drop 1 ss)
 rest-climbs [] up = tt
 rest-climbs (s ∷ ss) up = up.1
@@ -295,26 +284,6 @@ last_below ss (suc m) x q up e lt is b = record {
     | inr c ↦ point_lt-trans (point_in s) (point_in x) q c b
   ];
 }
-
-pub none_below : (ss : List Slot) (q : Point) → length ss ≡ 0 → AreBelow ss q
-none_below [] q e = record { each = λ s i. absurd i }
-none_below (s ∷ ss) q e = absurd (omega arith)
-
--- ---- the first
-
-pub front_label : (ss : List Slot) (p : Payload) → 0 < length ss → Waits p ≡ get_or ss 0 (Waits p) → Some p.label ≡ first_label (waiting_in ss)
-front_label [] p lt e = absurd (omega arith)
-front_label (Waits x ∷ ss) p lt e = let z : p ≡ x = cc in ap (λ (y : Payload). Some y.label) z
-front_label (Gone r ∷ ss) p lt e = absurd (cc)
-
-pub front_none : (ss : List Slot) → length ss ≡ 0 → None ≡ first_label (waiting_in ss)
-front_none [] e = refl
-front_none (s ∷ ss) e = absurd (omega arith)
-
-pub front_gone : (ss : List Slot) (q : Point) → IsRising ss → 0 < length ss → Gone q ≡ get_or ss 0 (Gone q) → None ≡ first_label (waiting_in ss)
-front_gone [] q is lt e = refl
-front_gone (Waits x ∷ ss) q is lt e = absurd (cc)
-front_gone (Gone r ∷ ss) q is lt e = absurd is.front
 
 -- ---- the calls
 

@@ -67,7 +67,8 @@ has_up_to k p w = list_any (λ l. (l.point.site == k) && point_le l.point p) (la
 -- a payload at its place by its point
 abbrev pub placed : List Payload → Payload → List Payload
 placed [] p = p ∷ []
-placed (q ∷ qs) p = if point_lt p.label.point q.label.point then p ∷ q ∷ qs else (if point_eq p.label.point q.label.point then p ∷ qs else q ∷ placed qs p)
+placed (q ∷ qs) p = if point_lt p.label.point q.label.point then p ∷ q ∷ qs
+    else (if point_eq p.label.point q.label.point then p ∷ qs else q ∷ placed qs p)
 
 -- those without this point
 abbrev pub without : List Payload → Point → List Payload
@@ -91,7 +92,8 @@ after_take_of w l (Some p) = after_take w l.point
 -- points ascend, and each is of this site
 abbrev pub IsRow : ℕ → List Payload → Type 0
 IsRow k [] = Unit {0}
-IsRow k (p ∷ ps) = (p.label.point.site ≡ k) × ((q : Payload) → In ps q → point_lt p.label.point q.label.point ≡ true) × IsRow k ps
+IsRow k (p ∷ ps) =
+    (p.label.point.site ≡ k) × ((q : Payload) → In ps q → point_lt p.label.point q.label.point ≡ true) × IsRow k ps
 
 -- what holds of what waits at all times: each site's row holds payloads of its own labels
 pub record IsPool (w : Waiting) : Type 0 where

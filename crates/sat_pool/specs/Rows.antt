@@ -1,5 +1,5 @@
--- What is kept of the updates that wait: queues of those that came in order, a map from points to payloads of the others, the first
--- label, and how many there are.
+-- What is kept of the updates that wait: queues of those that came in order, a map from points to payloads of the
+-- others, the first label, and how many there are.
 use Rattle.std.specs.Prelude.{ℕ, ◌≡◌, ◌<◌, Bool, true, false, List, [], ◌∷◌, get_or, length, map, Option, Some, None, if◌then◌else◌}
 use Rattle.std.specs.List.{flat_map}
 use Rattle.std.specs.Map.{values_of}
@@ -61,7 +61,8 @@ pub record IsParts (queues : List (List Payload)) (others : List Payload) : Type
   pub gears : (g : ℕ) (x : Payload) → In (get_or queues g []) x → x.label.point.gear ≡ g
   pub rises : (g : ℕ) → Ascends (get_or queues g [])
   pub aside : Ascends others
-  pub apart : (g : ℕ) (x y : Payload) → In (get_or queues g []) x → In others y → point_eq x.label.point y.label.point ≡ false
+  pub apart : (g : ℕ) (x y : Payload) → In (get_or queues g []) x → In others y
+      → point_eq x.label.point y.label.point ≡ false
 
 -- the first label is kept
 pub record IsKept (queues : List (List Payload)) (others : List Payload) (kept : Option Label) : Type 0 where

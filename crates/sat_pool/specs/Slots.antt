@@ -1,5 +1,5 @@
--- A queue of the payloads of one gear, whose points rise: each of its slots has a payload that waits, or the point of one that was
--- taken from among others.
+-- A queue of the payloads of one gear, whose points rise: each of its slots has a payload that waits, or the point of
+-- one that was taken from among others.
 use Rattle.std.specs.Prelude.{ℕ, zero, suc, ◌≡◌, Bool, true, false, List, [], ◌∷◌, Option, Some, None, if◌then◌else◌}
 use Rattle.sat_label.specs.declared.point.Point.{Point}
 use Rattle.sat_label.specs.Order.{point_lt, point_eq}

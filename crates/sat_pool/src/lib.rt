@@ -10,8 +10,8 @@ mod row;
 
 pub use pool::Pool;
 
-/// Which updates wait, and how many, after one comes or is taken: a payload of a new point is one more, a taken one is gone,
-/// and all others wait on. Points are all different: what waits is found by its point.
+/// Which updates wait, and how many, after one comes or is taken: a payload of a new point is one more, a taken one is
+/// gone, and all others wait on. Points are all different: what waits is found by its point.
 pub fn pool_laws()
     ensures add_members { AddMembers }
     ensures add_counts { AddCounts }

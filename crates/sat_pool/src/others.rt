@@ -30,11 +30,13 @@ impl Model for Others {
     ghost invariant = { λ a. IsKeptRow a.waiting.entries };
 }
 
-// Puts a payload under its point; one that was there comes back. For want of memory the payload itself does, and the map is as
-// before.
+// Puts a payload under its point; one that was there comes back. For want of memory the payload itself does, and the
+// map is as before.
 fn put(waiting: &mut BTreeMap<Point, Payload>, payload: Payload) -> Result<Option<Payload>, Payload>
-    ensures before { IfOk result (λ before. before ≡ lookup (is_at (point_cmp payload.label.point)) waiting.old.entries) }
-    ensures ok { OnOk result (waiting.new.entries ≡ insert_entry point_cmp waiting.old.entries payload.label.point payload) }
+    ensures before { IfOk result (λ before. before
+        ≡ lookup (is_at (point_cmp payload.label.point)) waiting.old.entries) }
+    ensures ok { OnOk result (waiting.new.entries
+        ≡ insert_entry point_cmp waiting.old.entries payload.label.point payload) }
     ensures back { IfErr result (λ back. back ≡ payload) }
     ensures err { OnErr result (waiting.new.entries ≡ waiting.old.entries) }
 {
@@ -55,8 +57,8 @@ impl Others {
         }
     }
 
-    /// One payload more waits; one that waited at its point comes back. For want of memory the payload itself does, and all is
-    /// as before.
+    /// One payload more waits; one that waited at its point comes back. For want of memory the payload itself does, and
+    /// all is as before.
     pub fn insert(&mut self, payload: Payload) -> Result<Option<Payload>, Payload>
         ensures before { IfOk result (λ before. before ≡ at_point self.old payload.label.point) }
         ensures ok { OnOk result (self.new ≡ placed self.old payload) }

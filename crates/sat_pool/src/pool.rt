@@ -11,8 +11,8 @@ use sat_label::{Label, Point};
 use std::alloc::{AllocError, Global};
 use std::marker::Model;
 
-/// The updates that wait at a site for their turn, by the site that made them and their points. No call walks what waits:
-/// the least of a site is its first, and a count is kept.
+/// The updates that wait at a site for their turn, by the site that made them and their points. No call walks what
+/// waits: the least of a site is its first, and a count is kept.
 #[derive(Drop)]
 pub struct Pool {
     rows: Vec<Row>,
@@ -100,8 +100,8 @@ impl Pool {
         Ok(Pool { rows, count: 0 })
     }
 
-    /// One payload more waits, in the place of one with its point, if any. For want of memory, or where `usize::MAX` wait, it
-    /// comes back, and all is as before.
+    /// One payload more waits, in the place of one with its point, if any. For want of memory, or where `usize::MAX`
+    /// wait, it comes back, and all is as before.
     pub fn add(&mut self, payload: Payload) -> Result<(), Payload>
         requires site { payload.label.point.site < length self.old.rows }
         ensures ok { OnOk result (self.new ≡ waits.after_add self.old payload) }
@@ -190,8 +190,8 @@ impl Pool {
         self.take(&label.point)
     }
 
-    /// The least waiting label that is not past the close cut of its site. `closes` has a place for each site; where it is
-    /// shorter, or the place is empty, no label of that site is past. It looks at the first of each site alone.
+    /// The least waiting label that is not past the close cut of its site. `closes` has a place for each site; where it
+    /// is shorter, or the place is empty, no label of that site is past. It looks at the first of each site alone.
     pub fn least_before(&self, closes: &[Option<Point>]) -> Option<Label>
         ensures { result ≡ waits.least_before closes.now self.now }
     {

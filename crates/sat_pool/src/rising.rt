@@ -24,8 +24,8 @@ pub enum Slot {
     Gone(Point),
 }
 
-/// The payloads of a gear that came in the order of their points. One that is taken from among others leaves its slot, so that
-/// none has to move; the first one waits.
+/// The payloads of a gear that came in the order of their points. One that is taken from among others leaves its slot,
+/// so that none has to move; the first one waits.
 #[derive(Drop)]
 pub struct Rising {
     slots: VecDeque<Slot>,

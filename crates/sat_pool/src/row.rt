@@ -15,8 +15,8 @@ use sat_label::{Label, MOST_GEARS, Point};
 use std::alloc::{AllocError, Global};
 use std::marker::Model;
 
-/// The payloads of one site's updates that wait, by their points: for each gear those that came in order, beside them the others,
-/// and the first label of all. Contracts see the list of the payloads.
+/// The payloads of one site's updates that wait, by their points: for each gear those that came in order, beside them
+/// the others, and the first label of all. Contracts see the list of the payloads.
 #[derive(Drop)]
 pub struct Row {
     rising: Vec<Rising>,
@@ -98,7 +98,8 @@ fn make_queues(rising: &mut Vec<Rising>, gear: u16) -> Result<(), AllocError>
     Ok(())
 }
 
-// Whether a payload may stand at the end of its gear's queue: its point is above all there, and none of the others has it.
+// Whether a payload may stand at the end of its gear's queue: its point is above all there, and none of the others has
+// it.
 #[tactic(auto, using(crate::proofs::Parts::may_stand))]
 fn goes_on(rising: &Vec<Rising>, others: &Others, point: &Point) -> bool
     ensures { OnTrue result (MayStand rising.now.items others.now point.now) }
@@ -121,7 +122,8 @@ fn queued_at<'a>(rising: &'a Vec<Rising>, point: &Point) -> Option<&'a Payload>
 // Takes the payload at a point out of its gear's queue.
 fn take_rising(rising: &mut Vec<Rising>, point: &Point) -> Option<Payload>
     ensures found { result ≡ at_point (get_or (map waiting_in rising.old.items) point.now.gear []) point.now }
-    ensures new { map waiting_in rising.new.items ≡ set (map waiting_in rising.old.items) point.now.gear (without (get_or (map waiting_in rising.old.items) point.now.gear []) point.now) }
+    ensures new { map waiting_in rising.new.items ≡ set (map waiting_in rising.old.items) point.now.gear
+        (without (get_or (map waiting_in rising.old.items) point.now.gear []) point.now) }
 {
     if point.gear as usize >= rising.len() {
         return None;
@@ -136,9 +138,11 @@ fn push(rising: &mut Vec<Rising>, others: &Others, payload: Payload) -> Result<(
     requires may { MayStand rising.old.items others.now payload.label.point }
     ensures parts { IsParts (map waiting_in rising.new.items) others.now }
     ensures before { at_point (row_view (map waiting_in rising.old.items) others.now) payload.label.point ≡ None }
-    ensures ok { OnOk result (row_view (map waiting_in rising.new.items) others.now ≡ placed (row_view (map waiting_in rising.old.items) others.now) payload) }
+    ensures ok { OnOk result (row_view (map waiting_in rising.new.items) others.now
+        ≡ placed (row_view (map waiting_in rising.old.items) others.now) payload) }
     ensures back { IfErr result (λ back. back ≡ payload) }
-    ensures err { OnErr result (row_view (map waiting_in rising.new.items) others.now ≡ row_view (map waiting_in rising.old.items) others.now) }
+    ensures err { OnErr result (row_view (map waiting_in rising.new.items) others.now
+        ≡ row_view (map waiting_in rising.old.items) others.now) }
 {
     let queue = &mut rising[payload.label().point.gear as usize];
     queue.push(payload)
@@ -152,10 +156,13 @@ fn put_aside(
 ) -> Result<Option<Payload>, Payload>
     requires { IsParts (map waiting_in rising.old.items) others.old }
     ensures parts { IsParts (map waiting_in rising.new.items) others.new }
-    ensures before { IfOk result (λ before. before ≡ at_point (row_view (map waiting_in rising.old.items) others.old) payload.label.point) }
-    ensures ok { OnOk result (row_view (map waiting_in rising.new.items) others.new ≡ placed (row_view (map waiting_in rising.old.items) others.old) payload) }
+    ensures before { IfOk result (λ before. before
+        ≡ at_point (row_view (map waiting_in rising.old.items) others.old) payload.label.point) }
+    ensures ok { OnOk result (row_view (map waiting_in rising.new.items) others.new
+        ≡ placed (row_view (map waiting_in rising.old.items) others.old) payload) }
     ensures back { IfErr result (λ back. back ≡ payload) }
-    ensures err { OnErr result (row_view (map waiting_in rising.new.items) others.new ≡ row_view (map waiting_in rising.old.items) others.old) }
+    ensures err { OnErr result (row_view (map waiting_in rising.new.items) others.new
+        ≡ row_view (map waiting_in rising.old.items) others.old) }
 {
     let point = payload.label().point;
     let aside = others.insert(payload)?;
@@ -171,10 +178,13 @@ fn store(
 ) -> Result<Option<Payload>, Payload>
     requires { IsParts (map waiting_in rising.old.items) others.old }
     ensures parts { IsParts (map waiting_in rising.new.items) others.new }
-    ensures before { IfOk result (λ before. before ≡ at_point (row_view (map waiting_in rising.old.items) others.old) payload.label.point) }
-    ensures ok { OnOk result (row_view (map waiting_in rising.new.items) others.new ≡ placed (row_view (map waiting_in rising.old.items) others.old) payload) }
+    ensures before { IfOk result (λ before. before
+        ≡ at_point (row_view (map waiting_in rising.old.items) others.old) payload.label.point) }
+    ensures ok { OnOk result (row_view (map waiting_in rising.new.items) others.new
+        ≡ placed (row_view (map waiting_in rising.old.items) others.old) payload) }
     ensures back { IfErr result (λ back. back ≡ payload) }
-    ensures err { OnErr result (row_view (map waiting_in rising.new.items) others.new ≡ row_view (map waiting_in rising.old.items) others.old) }
+    ensures err { OnErr result (row_view (map waiting_in rising.new.items) others.new
+        ≡ row_view (map waiting_in rising.old.items) others.old) }
 {
     if goes_on(rising, others, &payload.label().point) {
         push(rising, others, payload)?;
@@ -191,10 +201,13 @@ fn put(
 ) -> Result<Option<Payload>, Payload>
     requires { IsParts (map waiting_in rising.old.items) others.old }
     ensures parts { IsParts (map waiting_in rising.new.items) others.new }
-    ensures before { IfOk result (λ before. before ≡ at_point (row_view (map waiting_in rising.old.items) others.old) payload.label.point) }
-    ensures ok { OnOk result (row_view (map waiting_in rising.new.items) others.new ≡ placed (row_view (map waiting_in rising.old.items) others.old) payload) }
+    ensures before { IfOk result (λ before. before
+        ≡ at_point (row_view (map waiting_in rising.old.items) others.old) payload.label.point) }
+    ensures ok { OnOk result (row_view (map waiting_in rising.new.items) others.new
+        ≡ placed (row_view (map waiting_in rising.old.items) others.old) payload) }
     ensures back { IfErr result (λ back. back ≡ payload) }
-    ensures err { OnErr result (row_view (map waiting_in rising.new.items) others.new ≡ row_view (map waiting_in rising.old.items) others.old) }
+    ensures err { OnErr result (row_view (map waiting_in rising.new.items) others.new
+        ≡ row_view (map waiting_in rising.old.items) others.old) }
 {
     if make_queues(rising, payload.label().point.gear).is_err() {
         return Err(payload);
@@ -207,7 +220,8 @@ fn take_out(rising: &mut Vec<Rising>, others: &mut Others, point: &Point) -> Opt
     requires { IsParts (map waiting_in rising.old.items) others.old }
     ensures parts { IsParts (map waiting_in rising.new.items) others.new }
     ensures found { result ≡ at_point (row_view (map waiting_in rising.old.items) others.old) point.now }
-    ensures new { row_view (map waiting_in rising.new.items) others.new ≡ without (row_view (map waiting_in rising.old.items) others.old) point.now }
+    ensures new { row_view (map waiting_in rising.new.items) others.new
+        ≡ without (row_view (map waiting_in rising.old.items) others.old) point.now }
 {
     let queued = take_rising(rising, point);
     if queued.is_some() {
@@ -237,7 +251,8 @@ fn first_left(
     point: &Point,
 ) -> Option<Label>
     requires { IsParts (map waiting_in rising.now.items) others.now }
-    ensures { result ≡ (if stands_at first point.now then first_label (row_view (map waiting_in rising.now.items) others.now) else first) }
+    ensures { result ≡ (if stands_at first point.now
+        then first_label (row_view (map waiting_in rising.now.items) others.now) else first) }
 {
     if stands_at(first, point) {
         return first_of(rising.as_slice(), others);
@@ -257,8 +272,8 @@ impl Row {
         }
     }
 
-    /// One payload more waits; one that waited at its point comes back. For want of memory the payload itself does, and all is
-    /// as before.
+    /// One payload more waits; one that waited at its point comes back. For want of memory the payload itself does, and
+    /// all is as before.
     pub fn insert(&mut self, payload: Payload) -> Result<Option<Payload>, Payload>
         ensures before { IfOk result (λ before. before ≡ at_point self.old payload.label.point) }
         ensures ok { OnOk result (self.new ≡ placed self.old payload) }

@@ -45,29 +45,7 @@ set_numbers xs place w each is lt n = elim (cases_eq n place) [
   | inr ne ↦ subst (λ (v : Numbers). IsWindow v) (sym (get_or-set_other xs place n w no_numbers ne)) (each n)
 ]
 
--- ---- what waits, and the points
-
-pub shown-sound : (p : ProxySeen) (w : Waiting) (last : List Point) → IsProxy p → IsPool w → length w.rows ≡ p.sites → length last ≡ p.sites → IsProxy (record p { pool = w; last = last })
-shown-sound p w last is sound rows many = record {
-  site = is.site;
-  windows = is.windows;
-  numbers = is.numbers;
-  pool = sound;
-  rows = rows;
-  beats = is.beats;
-  counted = is.counted;
-  senders = is.senders;
-  best = is.best;
-  last = many;
-}
-
-pub taken-rows : (w : Waiting) (q : Point) → length (pool.after_take w q).rows ≡ length w.rows
-taken-rows w q = length-set w.rows q.site (pool.without (pool.row_of w q.site) q)
-
 -- ---- beats
-
-pub same-row : (b : BeatsSeen) (i : ℕ) (t : TakenBeats) → i < length b.rows → taken_of (with_taken b i t) i ≡ t
-same-row b i t lt = get_or-set_same b.rows i t none_taken lt
 
 abbrev or-last : Option (ℕ × Beat) → Option (ℕ × Beat) → Option (ℕ × Beat)
 or-last o x = elim o [ Some c ↦ Some c | None ↦ x ]

@@ -23,7 +23,8 @@ use Rattle.sat_proxy.specs.Steps.{beat_take, turn_fault, stamp_fault, stamp_labe
 
 -- a client that wants to attach
 abbrev pub attach_answer : Epochs → ProxySeen → Carried → Answer
-attach_answer views p c = if may_come_at p.sites (outlook_here views p) c p.site then ans.Attached else ans.Refused why.NotYet
+attach_answer views p c =
+    if may_come_at p.sites (outlook_here views p) c p.site then ans.Attached else ans.Refused why.NotYet
 
 -- a payload of a label
 abbrev pub bulk_answer : ProxySeen → ℕ → ℕ → ℕ → Label → Answer

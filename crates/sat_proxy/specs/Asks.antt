@@ -1,5 +1,5 @@
--- What a site asks of what it reads of the others, among so many sites: the words of the machine of the model, whose deployment
--- gives them the number of its sites.
+-- What a site asks of what it reads of the others, among so many sites: the words of the machine of the model, whose
+-- deployment gives them the number of its sites.
 use Rattle.std.specs.Prelude.{ℕ, Bool, ◌&&◌, ◌||◌, not, ◌==◌, nat_le, Option, Some, None, if◌then◌else◌}
 use Rattle.std.specs.List.{list_all, list_any}
 use Rattle.sat_label.specs.declared.carried.Carried.{Carried}
@@ -26,7 +26,8 @@ is_reached sites o c j =
 
 -- whether a client may come to j, in one of the four cases of attach
 abbrev pub may_come_at : ℕ → Outlook → Carried → ℕ → Bool
-may_come_at sites o c j = point_le c.point zero_point || (comes_moving o c j || (is_known sites o c j || is_reached sites o c j))
+may_come_at sites o c j =
+    point_le c.point zero_point || (comes_moving o c j || (is_known sites o c j || is_reached sites o c j))
 
 -- the best beat of each other site has passed the timestamp of a label
 abbrev pub all_passed : ℕ → Outlook → ℕ → Label → Bool
@@ -34,7 +35,8 @@ all_passed sites o j l = others sites j (λ i. best_passes (o.best i) (passed_ts
 
 -- the update that j shows next in timestamp order
 abbrev pub stamp_next_at : ℕ → Outlook → ℕ → Option Label
-stamp_next_at sites o j = elim (candidate_by o) [ None ↦ None | Some l ↦ if all_passed sites o j l && own_passed o l then Some l else None ]
+stamp_next_at sites o j =
+    elim (candidate_by o) [ None ↦ None | Some l ↦ if all_passed sites o j l && own_passed o l then Some l else None ]
 
 -- whether j has all of its view, where `heard` tells whose close it took from its tree
 abbrev pub may_pass_at : ℕ → Outlook → (ℕ → Bool) → ℕ → Bool

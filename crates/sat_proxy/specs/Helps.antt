@@ -36,7 +36,8 @@ lane_fronts fronts from gears = take gears (drop (from * gears) fronts)
 
 -- the close cut of an epoch: a site's own, or that in the best beat of another
 abbrev pub cut_of : BeatsSeen → ℕ → Option Point → ℕ → ℕ → Option Point
-cut_of b own close epoch k = if k == own then close else elim (taken_of b k).best [ None ↦ None | Some c ↦ close_in c.1 epoch ]
+cut_of b own close epoch k =
+    if k == own then close else elim (taken_of b k).best [ None ↦ None | Some c ↦ close_in c.1 epoch ]
 
 -- a site is known up to its cut, if there is one
 abbrev pub raised_to : List Point → (ℕ → Option Point) → ℕ → Point
@@ -52,7 +53,9 @@ comes_here p c = elim c.moving [ None ↦ false | Some k ↦ (k == p.site) && po
 
 -- in stamp mode each other site's best beat reaches a timestamp, and nothing waits up to it
 abbrev pub is_reached_here : Epochs → ProxySeen → ℕ → Bool
-is_reached_here views p ts = (in_stamp views && others p.sites p.site (λ i. best_passes (told_by p.beats i) (reaches views.view ts i))) && not (has_ts_to ts p.pool)
+is_reached_here views p ts =
+    (in_stamp views && others p.sites p.site (λ i. best_passes (told_by p.beats i) (reaches views.view ts i)))
+    && not (has_ts_to ts p.pool)
 
 -- each other site is known up to the mark of a timestamp
 abbrev pub is_known_here : ProxySeen → ℕ → Bool

@@ -11,8 +11,9 @@ use Rattle.sat_epoch.specs.Epochs.{Epochs, in_stamp}
 use Rattle.sat_act.specs.Parts.{BeatNote}
 use Rattle.sat_machine.specs.Reply.{Outlook}
 
--- how many sites there are, how many gears each has, and which of them this one is; by sending site and gear, which numbers of that
--- lane it took; the updates that wait here; the beats that it took; and by site the point up to which that one is known here
+-- how many sites there are, how many gears each has, and which of them this one is; by sending site and gear, which
+-- numbers of that lane it took; the updates that wait here; the beats that it took; and by site the point up to which
+-- that one is known here
 pub record ProxySeen : Type 0 where
   pub sites : ℕ
   pub gears : ℕ
@@ -97,8 +98,8 @@ outlook_here views p = record {
 
 -- ---- what is true of it
 
--- one window a lane, whose front is the least number that was not taken; one row of updates, one of beats and one point a site; and
--- the best beat of each site is the greatest complete one by the fronts as they are
+-- one window a lane, whose front is the least number that was not taken; one row of updates, one of beats and one point
+-- a site; and the best beat of each site is the greatest complete one by the fronts as they are
 pub record IsProxy (p : ProxySeen) : Type 0 where
   pub site : p.site < p.sites
   pub windows : length p.windows ≡ p.sites * p.gears

@@ -25,8 +25,8 @@ pub record IsLater (t : TakenBeats) (n : ℕ) (note : BeatNote) : Type 0 where
   pub there : In t.later (n, beat)
   pub tells : note_of beat ≡ note
 
--- what is kept of a site's beats, where all that were taken are given, each number once, and the best of them: the best one, and
--- those of greater numbers
+-- what is kept of a site's beats, where all that were taken are given, each number once, and the best of them: the best
+-- one, and those of greater numbers
 pub record StandsBeats (t : TakenBeats) (taken : List (ℕ × BeatNote)) (best : Option (ℕ × BeatNote)) : Type 0 where
   pub kept : best ≡ option_map noted t.best
   pub later : (n : ℕ) (beat : Beat) → In t.later (n, beat) → In taken (n, note_of beat)
@@ -42,5 +42,6 @@ is_reached_by gears q k note = list_all (λ g. nat_le (note.counts g) (front_in 
 pub record StandsProxy (p : ProxySeen) (q : ProxyState) : Type 0 where
   pub taken : (k g n : ℕ) → k < p.sites → g < p.gears → has ◌==◌ (q.taken k g) n ≡ has_number (window_of p k g) n
   pub pool : SamePayloads (all_waiting p.pool) q.pool
-  pub beats : (k : ℕ) → k < p.sites → StandsBeats (taken_of p.beats k) (q.beats k) (best_in (is_reached_by p.gears q k) (q.beats k))
+  pub beats : (k : ℕ) → k < p.sites
+      → StandsBeats (taken_of p.beats k) (q.beats k) (best_in (is_reached_by p.gears q k) (q.beats k))
   pub last : (k : ℕ) → k < p.sites → last_of p k ≡ q.last k

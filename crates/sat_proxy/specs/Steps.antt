@@ -52,14 +52,16 @@ brought p from gear number payload = with_best (with_payload p from gear number 
 
 -- a payload of a number that was taken changes nothing; else it is taken and waits
 abbrev pub after_bulk : ProxySeen → ℕ → ℕ → ℕ → Payload → ProxySeen
-after_bulk p from gear number payload = if has_number (window_of p from gear) number then p else brought p from gear number payload
+after_bulk p from gear number payload =
+    if has_number (window_of p from gear) number then p else brought p from gear number payload
 
 -- ---- a beat
 
 -- it is old where the best one has its number or a greater one; else it came before, or is new
 abbrev pub beat_take : ProxySeen → ℕ → ℕ → BeatTake
 beat_take p from number =
-    if is_old (best_of p from) number then came.Old else (if has_beat (taken_of p.beats from).later number then came.Again else came.New)
+    if is_old (best_of p from) number then came.Old
+    else (if has_beat (taken_of p.beats from).later number then came.Again else came.New)
 
 -- one beat more of a site
 abbrev pub with_beat : TakenBeats → ℕ → Beat → TakenBeats
@@ -67,11 +69,13 @@ with_beat t number beat = record { best = t.best; later = placed t.later number 
 
 -- a new beat came
 abbrev pub beaten : ProxySeen → ℕ → ℕ → Beat → ProxySeen
-beaten p from number beat = record p { beats = with_taken p.beats from (refreshed (fronts_of p from) (with_beat (taken_of p.beats from) number beat)) }
+beaten p from number beat =
+    record p { beats = with_taken p.beats from (refreshed (fronts_of p from) (with_beat (taken_of p.beats from) number beat)) }
 
 -- a beat that is old or was taken changes nothing; else it is taken
 abbrev pub after_beat : ProxySeen → ℕ → ℕ → Beat → ProxySeen
-after_beat p from number beat = if is_old (best_of p from) number || has_beat (taken_of p.beats from).later number then p else beaten p from number beat
+after_beat p from number beat = if is_old (best_of p from) number || has_beat (taken_of p.beats from).later number
+    then p else beaten p from number beat
 
 -- ---- a turn: the front of the link to the site
 
@@ -197,7 +201,8 @@ has_come views p = may_pass_at p.sites (outlook_here views p) (heard_of views) p
 
 -- the close cut of the view in the best beat of a site, or the site's own
 abbrev pub cut_passed : Epochs → ProxySeen → ℕ → Option Point
-cut_passed views p k = if k == p.site then close_cut views views.view else elim (best_of p k) [ None ↦ None | Some b ↦ close_in b.1 views.view ]
+cut_passed views p k = if k == p.site then close_cut views views.view
+    else elim (best_of p k) [ None ↦ None | Some b ↦ close_in b.1 views.view ]
 
 abbrev pub known_after : Epochs → ProxySeen → ℕ → Point
 known_after views p k = raised (last_of p k) (cut_passed views p k)

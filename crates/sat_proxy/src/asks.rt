@@ -98,7 +98,8 @@ pub fn are_passed(beats: &Beats, sites: u16, own: u16, view: u16, ts: u64) -> bo
 // Whether it is the own site, or closed the view by its best beat, and of that nothing waits.
 fn is_left(beats: &Beats, pool: &Pool, own: u16, view: u16, site: u16) -> bool
     requires { site < length beats.now.rows }
-    ensures { result ≡ ((site == own) || best_passes (told_by beats.now site) (is_drained view (labels_waiting pool.now) site)) }
+    ensures { result
+        ≡ ((site == own) || best_passes (told_by beats.now site) (is_drained view (labels_waiting pool.now) site)) }
 {
     if site == own {
         return true;
@@ -113,7 +114,8 @@ fn is_left(beats: &Beats, pool: &Pool, own: u16, view: u16, site: u16) -> bool
 #[tactic(auto, using(crate::proofs::Others::all_start, crate::proofs::Others::all_more, crate::proofs::Others::all_stops))]
 pub fn are_drained(beats: &Beats, pool: &Pool, sites: u16, own: u16, view: u16) -> bool
     requires { sites ≡ length beats.now.rows }
-    ensures { result ≡ others sites own (λ i. best_passes (told_by beats.now i) (is_drained view (labels_waiting pool.now) i)) }
+    ensures { result
+        ≡ others sites own (λ i. best_passes (told_by beats.now i) (is_drained view (labels_waiting pool.now) i)) }
 {
     for site in 0..sites {
         if !is_left(beats, pool, own, view, site) {

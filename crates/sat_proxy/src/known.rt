@@ -41,7 +41,8 @@ fn known_by(label: &Label) -> Point
 /// A label's site is known up to it.
 pub fn know(last: &mut [Point], label: &Label)
     requires { label.now.point.site < length last.old }
-    ensures { last.new ≡ set last.old label.now.point.site (greater_point (known_by label.now) (known_to last.old label.now.point.site)) }
+    ensures { last.new ≡ set last.old label.now.point.site
+        (greater_point (known_by label.now) (known_to last.old label.now.point.site)) }
 {
     let place = label.point.site as usize;
     let before = last[place];

@@ -10,8 +10,8 @@ mod tells;
 
 pub use proxy::{Proxy, StampFault, TurnFault, Turned};
 
-/// What a site has of the others answers what the machine of the model answers in each state that it stands for, and each call
-/// makes of it what the machine makes of that state.
+/// What a site has of the others answers what the machine of the model answers in each state that it stands for, and
+/// each call makes of it what the machine makes of that state.
 pub fn proxy_laws()
     ensures starts { Starts }
     ensures answers { EachAnswers }

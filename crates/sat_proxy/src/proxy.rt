@@ -1,5 +1,5 @@
-//! The remote proxy of a site (Bravo, Rodrigues and Van Roy, EuroSys 2017): it takes what the other sites send, in any order, and
-//! tells what the site may show next.
+//! The remote proxy of a site (Bravo, Rodrigues and Van Roy, EuroSys 2017): it takes what the other sites send, in any
+//! order, and tells what the site may show next.
 ghost use Rattle.std.specs.Prelude.{ℕ, ◌≡◌, ◌≢◌, ◌<◌, ◌^◌, ◌+◌, ◌*◌, ◌&&◌, ◌||◌, false, true, None, Option, Some, is_none, is_some, length, option_copied, option_map, replicate, MatchResult, IfErr, IfOk, OnErr, OnOk};
 ghost use Rattle.sat_label.specs.declared.label.Kind.TheVariants.{Close as CloseKind};
 ghost use Rattle.sat_label.specs.declared.label.Label.{Label as LabelSeen};
@@ -54,8 +54,8 @@ pub enum StampFault {
     NotYet,
 }
 
-/// What a site has of the others: the numbers of each lane that came, the updates that wait, the best beat of each site, and the
-/// point up to which each site is known.
+/// What a site has of the others: the numbers of each lane that came, the updates that wait, the best beat of each
+/// site, and the point up to which each site is known.
 #[derive(Drop)]
 pub struct Proxy {
     sites: u16,
@@ -76,7 +76,9 @@ impl Model for Proxy {
 
     ghost view = { λ a. record { sites = a.sites; gears = a.gears; site = a.site; windows = a.windows.items; pool = a.pool; beats = a.beats; last = a.last.items } };
 
-    ghost invariant = { λ a. (a.fronts.items ≡ map front_in a.windows.items) × IsProxy (record { sites = a.sites; gears = a.gears; site = a.site; windows = a.windows.items; pool = a.pool; beats = a.beats; last = a.last.items }) };
+    ghost invariant = { λ a. (a.fronts.items ≡ map front_in a.windows.items)
+        × IsProxy
+        (record { sites = a.sites; gears = a.gears; site = a.site; windows = a.windows.items; pool = a.pool; beats = a.beats; last = a.last.items }) };
 }
 
 // So many lanes of which no payload was taken.
@@ -287,8 +289,8 @@ impl Proxy {
         self.pool.get(point)
     }
 
-    /// Takes a payload of a lane, in any order; again it changes nothing. For want of memory the payload comes back, and all is as
-    /// before.
+    /// Takes a payload of a lane, in any order; again it changes nothing. For want of memory the payload comes back,
+    /// and all is as before.
     pub fn bulk(
         &mut self,
         from: u16,
@@ -300,7 +302,8 @@ impl Proxy {
         requires gear { gear < self.old.gears }
         requires small { number < 2 ^ 63 }
         requires made { payload.label.point.site ≡ from }
-        requires alone { has_number (window_of self.old from gear) number ≡ false → waiting_at self.old.pool payload.label.point ≡ None }
+        requires alone { has_number (window_of self.old from gear) number ≡ false
+            → waiting_at self.old.pool payload.label.point ≡ None }
         ensures answer { IfOk result (λ took. took ≡ bulk_take self.old from gear number) }
         ensures new { OnOk result (self.new ≡ after_bulk self.old from gear number payload) }
         ensures back { IfErr result (λ back. back ≡ payload) }
@@ -335,8 +338,8 @@ impl Proxy {
         Ok(())
     }
 
-    /// Takes a beat of a site, which has one count for each gear, in any order; again, or old, it changes nothing. For want of memory
-    /// the beat comes back, and all is as before.
+    /// Takes a beat of a site, which has one count for each gear, in any order; again, or old, it changes nothing. For
+    /// want of memory the beat comes back, and all is as before.
     pub fn beat_in(&mut self, from: u16, number: u64, beat: Beat) -> Result<BeatTake, Beat>
         requires from { from < self.old.sites }
         requires counts { length beat.counts ≡ self.old.gears }
@@ -351,15 +354,17 @@ impl Proxy {
         Ok(took)
     }
 
-    /// Takes the front of the link from the site's serializer, by its tree: an update is to be shown, where its payload waits, any
-    /// other label is taken, and a close is heard. It takes no memory; where it answers a fault nothing changes.
+    /// Takes the front of the link from the site's serializer, by its tree: an update is to be shown, where its payload
+    /// waits, any other label is taken, and a close is heard. It takes no memory; where it answers a fault nothing
+    /// changes.
     #[tactic(auto, using(crate::proofs::Turns::front_stays, crate::proofs::Turns::still_here))]
     pub fn turn(&mut self, views: &mut Views, front: Option<Label>) -> Result<Turned, TurnFault>
         requires views { AreViewsOf self.old views.old }
         requires from { (l : LabelSeen) → front ≡ Some l → l.point.site < self.old.sites }
         requires other { (l : LabelSeen) → front ≡ Some l → l.point.site ≢ self.old.site }
         requires close { (l : LabelSeen) (e : ℕ) → front ≡ Some l → l.kind ≡ CloseKind e → e ≡ views.old.view }
-        ensures fault { MatchResult result (λ _. turn_fault views.old self.old front ≡ None) (λ fault. turn_fault views.old self.old front ≡ Some fault) }
+        ensures fault { MatchResult result (λ _. turn_fault views.old self.old front ≡ None)
+            (λ fault. turn_fault views.old self.old front ≡ Some fault) }
         ensures gives { IfOk result (λ turned. turn_gives views.old self.old front ≡ Some turned) }
         ensures new { OnOk result (self.new ≡ turn_after views.old self.old front) }
         ensures heard { OnOk result (views.new ≡ turn_views views.old front) }
@@ -382,7 +387,8 @@ impl Proxy {
         requires from { label.point.site < self.old.sites }
         requires other { label.point.site ≢ self.old.site }
         requires close { (e : ℕ) → label.kind ≡ CloseKind e → e ≡ views.old.view }
-        ensures fault { MatchResult result (λ _. front_fault self.old.pool label label.kind ≡ None) (λ fault. front_fault self.old.pool label label.kind ≡ Some fault) }
+        ensures fault { MatchResult result (λ _. front_fault self.old.pool label label.kind ≡ None)
+            (λ fault. front_fault self.old.pool label label.kind ≡ Some fault) }
         ensures gives { IfOk result (λ turned. front_gives self.old.pool label label.kind ≡ Some turned) }
         ensures new { OnOk result (self.new ≡ front_after self.old label label.kind) }
         ensures heard { OnOk result (views.new ≡ front_views views.old label label.kind) }
@@ -414,7 +420,8 @@ impl Proxy {
     #[tactic(auto, using(crate::proofs::Turns::taken_if, crate::proofs::Turns::stays_if))]
     fn show(&mut self, label: Label) -> Result<Turned, TurnFault>
         requires { label.point.site < self.old.sites }
-        ensures fault { MatchResult result (λ _. missing label (waiting_of self.old.pool label) ≡ None) (λ fault. missing label (waiting_of self.old.pool label) ≡ Some fault) }
+        ensures fault { MatchResult result (λ _. missing label (waiting_of self.old.pool label) ≡ None)
+            (λ fault. missing label (waiting_of self.old.pool label) ≡ Some fault) }
         ensures gives { IfOk result (λ turned. option_map Turned.Show (waiting_of self.old.pool label) ≡ Some turned) }
         ensures new { OnOk result (self.new ≡ shown_after self.old label (waiting_of self.old.pool label)) }
         ensures err { OnErr result (self.new ≡ self.old) }
@@ -471,17 +478,21 @@ impl Proxy {
     // Whether nothing below a label can come any more.
     fn is_passed(&self, view: u16, label: &Label) -> bool
         requires { label.now.point.site < self.now.sites }
-        ensures { result ≡ (others self.now.sites self.now.site (λ i. best_passes (told_by self.now.beats i) (passed_ts view label.now.point.ts i)) && best_passes (told_by self.now.beats label.now.point.site) (passed_label view label.now)) }
+        ensures { result
+            ≡ (others self.now.sites self.now.site
+            (λ i. best_passes (told_by self.now.beats i) (passed_ts view label.now.point.ts i))
+            && best_passes (told_by self.now.beats label.now.point.site) (passed_label view label.now)) }
     {
         are_passed(&self.beats, self.sites, self.site, view, label.point.ts)
             && own_passed(&self.beats, view, label)
     }
 
-    /// Gives the update that is next in timestamp order, once nothing below it can come any more. It takes no memory; where it
-    /// answers a fault nothing changes.
+    /// Gives the update that is next in timestamp order, once nothing below it can come any more. It takes no memory;
+    /// where it answers a fault nothing changes.
     pub fn stamp(&mut self, views: &Views) -> Result<Payload, StampFault>
         requires { AreViewsOf self.old views.now }
-        ensures fault { MatchResult result (λ _. stamp_fault views.now self.old ≡ None) (λ fault. stamp_fault views.now self.old ≡ Some fault) }
+        ensures fault { MatchResult result (λ _. stamp_fault views.now self.old ≡ None)
+            (λ fault. stamp_fault views.now self.old ≡ Some fault) }
         ensures shown { IfOk result (λ payload. stamp_shows views.now self.old ≡ Some payload) }
         ensures new { OnOk result (self.new ≡ stamp_after views.now self.old) }
         ensures err { OnErr result (self.new ≡ self.old) }
@@ -561,7 +572,8 @@ impl Proxy {
 
     // Whether, by the best beats, all of the view that the others made was shown.
     fn is_drained(&self, views: &Views) -> bool
-        ensures { result ≡ others self.now.sites self.now.site (λ i. best_passes (told_by self.now.beats i) (is_drained views.now.view (labels_waiting self.now.pool) i)) }
+        ensures { result ≡ others self.now.sites self.now.site
+            (λ i. best_passes (told_by self.now.beats i) (is_drained views.now.view (labels_waiting self.now.pool) i)) }
     {
         are_drained(&self.beats, &self.pool, self.sites, self.site, views.view())
     }
@@ -583,7 +595,8 @@ impl Proxy {
     fn advance_by_stamps(&mut self, views: &mut Views) -> Result<u16, AdvanceFault>
         requires views { AreViewsOf self.old views.old }
         requires stamp { in_stamp views.old ≡ true }
-        ensures fault { MatchResult result (λ _. advance_fault views.old (has_come views.old self.old) ≡ None) (λ fault. advance_fault views.old (has_come views.old self.old) ≡ Some fault) }
+        ensures fault { MatchResult result (λ _. advance_fault views.old (has_come views.old self.old) ≡ None)
+            (λ fault. advance_fault views.old (has_come views.old self.old) ≡ Some fault) }
         ensures view { IfOk result (λ view. view ≡ views.old.view + 1) }
         ensures new { OnOk result (self.new ≡ advance_after views.old self.old) }
         ensures passed { OnOk result (views.new ≡ after_advance views.old) }
@@ -605,11 +618,12 @@ impl Proxy {
         Ok(view)
     }
 
-    /// Goes on to the next view, once the site has all of its own, and answers it; in stamp mode each site is then known up to its
-    /// close cut. It takes no memory; where it answers a fault nothing changes.
+    /// Goes on to the next view, once the site has all of its own, and answers it; in stamp mode each site is then
+    /// known up to its close cut. It takes no memory; where it answers a fault nothing changes.
     pub fn advance(&mut self, views: &mut Views) -> Result<u16, AdvanceFault>
         requires { AreViewsOf self.old views.old }
-        ensures fault { MatchResult result (λ _. advance_fault views.old (has_come views.old self.old) ≡ None) (λ fault. advance_fault views.old (has_come views.old self.old) ≡ Some fault) }
+        ensures fault { MatchResult result (λ _. advance_fault views.old (has_come views.old self.old) ≡ None)
+            (λ fault. advance_fault views.old (has_come views.old self.old) ≡ Some fault) }
         ensures view { IfOk result (λ view. view ≡ views.old.view + 1) }
         ensures new { OnOk result (self.new ≡ advance_after views.old self.old) }
         ensures passed { OnOk result (views.new ≡ after_advance views.old) }

@@ -27,7 +27,8 @@ abbrev pub label_at : SiteSeen → Option Envelope → Option Label
 label_at x None = None
 label_at x (Some e) = label_with x e.body
 
--- more was received, or nothing, and the link was found empty as often as before or more often, as far as that is counted
+-- more was received, or nothing, and the link was found empty as often as before or more often, as far as that is
+-- counted
 pub record Grows (old new : InSeen) : Type 0 where
   pub place : new.place ≡ old.place
   pub wire : new.link.wire ≡ old.link.wire
@@ -45,7 +46,8 @@ EndsGoOn n old new = Both (λ k j i. GoesOn (nat_lt k n) j i) old new
 
 -- no front is kept and the link was found empty, or a front is kept that the site would neither show nor take now
 abbrev pub IsSpent : SiteSeen → InSeen → InSeen → Type 0
-IsSpent x old new = ((new.front ≡ None) × (rise old.link.empties ≤ new.link.empties)) ⊎ ((e : Envelope) × (new.front ≡ Some e) × (label_with x e.body ≡ None))
+IsSpent x old new = ((new.front ≡ None) × (rise old.link.empties ≤ new.link.empties))
+    ⊎ ((e : Envelope) × (new.front ≡ Some e) × (label_with x e.body ≡ None))
 
 -- a site that goes by its tree has nothing left to take from the end of this number
 abbrev pub IsLooked : Bool → SiteSeen → ℕ → List InSeen → List InSeen → Type 0

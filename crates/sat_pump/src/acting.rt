@@ -24,7 +24,8 @@ pub fn act<N: Laid + Names>(
     ensures added { (p : Given → Bool) → p input ≡ true → Adds p held.old held.new }
     ensures outs { held.new.outs ≡ held.old.outs }
     ensures ins { held.new.ins ≡ held.old.ins }
-    ensures follows { OnOk result (Follows N.deployment (number_of held.old.node.name) input held.old.node.machine held.new.node.machine) }
+    ensures follows { OnOk result
+        (Follows N.deployment (number_of held.old.node.name) input held.old.node.machine held.new.node.machine) }
     ensures fault { IfErr result (FailsAlone held.new) }
 {
     sound(held);

@@ -30,9 +30,9 @@ fn gather<N: Laid + Names>(held: &mut Held<SiteNode<N>, N>) -> Result<(), CallFa
     Ok(())
 }
 
-/// Gathers what the gears made, if a gear has a label that was not gathered, or a promise above the gathered one; then none has. How
-/// many entries the node kept. `Worn`, with the greatest u64, only where that is the node's number; `Memory`. After an error, what was
-/// kept by then stays.
+/// Gathers what the gears made, if a gear has a label that was not gathered, or a promise above the gathered one; then
+/// none has. How many entries the node kept. `Worn`, with the greatest u64, only where that is the node's number;
+/// `Memory`. After an error, what was kept by then stays.
 pub fn collect<N: Laid + Names>(held: &mut Held<SiteNode<N>, N>) -> Result<u64, CallFault>
     ensures gathers { Adds is_gather held.old held.new }
     ensures count { IfOk result (λ n. length held.new.node.entries ≡ length held.old.node.entries + n) }

@@ -163,14 +163,16 @@ fn raise_to<N: Laid + Names>(
     Ok((after - before) as u64)
 }
 
-/// Raises the promise of each gear that is below the greatest timestamp: of the promises, and of the labels, the payloads and the cuts
-/// of the beats that came. Only the entries that were not looked at are looked at. How many entries the node kept. `Worn`, with the
-/// greatest u64, only where that is the node's number; `Memory`. After an error, what was kept by then stays.
+/// Raises the promise of each gear that is below the greatest timestamp: of the promises, and of the labels, the
+/// payloads and the cuts of the beats that came. Only the entries that were not looked at are looked at. How many
+/// entries the node kept. `Worn`, with the greatest u64, only where that is the node's number; `Memory`. After an
+/// error, what was kept by then stays.
 pub fn keep_up<N: Laid + Names>(watched: &mut Watched<N>, d: &Deployment) -> Result<u64, CallFault>
     requires { N.deployment ≡ d.now }
     ensures ticks { Adds (is_tick_to (time_of N.deployment.gears watched.old)) watched.old watched.new }
     ensures count { IfOk result (λ n. length watched.new.node.entries ≡ length watched.old.node.entries + n) }
-    ensures raised { OnOk result (IsRaised N.deployment.gears (time_of N.deployment.gears watched.old) watched.old watched.new) }
+    ensures raised { OnOk result
+        (IsRaised N.deployment.gears (time_of N.deployment.gears watched.old) watched.old watched.new) }
     ensures fault { IfErr result (FailsAlone watched.new) }
 {
     let ts = watched.look();

@@ -1,5 +1,5 @@
-//! A site's whole pass: beside what its node sends and hears, its gears keep up, its sink collects what they made, and what can be
-//! shown is shown.
+//! A site's whole pass: beside what its node sends and hears, its gears keep up, its sink collects what they made, and
+//! what can be shown is shown.
 #![tactic(auto)]
 
 mod acting;

@@ -24,7 +24,8 @@ fn go_through<N: Laid + Names, R: Wait>(
 ) -> Result<(), CallFault>
     requires { N.deployment ≡ d.now }
     ensures added { Passed held.old held.new }
-    ensures whole { OnOk result ((t : ℕ) (before : SiteHeld) → IsRaised N.deployment.gears t before held.old → IsPass N.deployment t before held.new) }
+    ensures whole { OnOk result ((t : ℕ) (before : SiteHeld) → IsRaised N.deployment.gears t before held.old
+        → IsPass N.deployment t before held.new) }
     ensures fault { IfErr result (Fails held.new) }
 {
     sound(held);
@@ -46,9 +47,10 @@ fn go_through<N: Laid + Names, R: Wait>(
     Ok(())
 }
 
-/// A site's pass: its gears keep up with what came, its sink collects what they made, it sends, hears what the other sites sent, and
-/// shows what it can. How many entries the node kept. `Worn`, with the greatest u64, only where that is the node's number or a received
-/// envelope's after the call; `Memory`. After an error, what was kept and sent by then stays.
+/// A site's pass: its gears keep up with what came, its sink collects what they made, it sends, hears what the other
+/// sites sent, and shows what it can. How many entries the node kept. `Worn`, with the greatest u64, only where that is
+/// the node's number or a received envelope's after the call; `Memory`. After an error, what was kept and sent by then
+/// stays.
 pub fn pass<N: Laid + Names, R: Wait>(
     rt: &R,
     watched: &mut Watched<N>,

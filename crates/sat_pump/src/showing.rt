@@ -100,8 +100,8 @@ fn take_label<N: Laid + Names>(
     )
 }
 
-// Pulls the next envelope of the link of the view's tree, and shows or takes it. False where the link was empty, or the front can't be
-// shown or taken now.
+// Pulls the next envelope of the link of the view's tree, and shows or takes it. False where the link was empty, or the
+// front can't be shown or taken now.
 #[tactic(auto, using(crate::proofs::Doing::adds_same, crate::proofs::Turns::pulled_spent, crate::proofs::Turns::ends_pulled))]
 fn turn_front<N: Laid + Names, R: Wait>(
     rt: &R,
@@ -114,7 +114,8 @@ fn turn_front<N: Laid + Names, R: Wait>(
     ensures shows { Adds is_showing held.old held.new }
     ensures outs { held.new.outs ≡ held.old.outs }
     ensures ends { EndsGoOn (N.deployment.sites - 1) held.old.ins held.new.ins }
-    ensures none { IfOk result (λ done. done ≡ false → (held.new.node ≡ held.old.node) × IsLooked false held.old.node.machine link held.old.ins held.new.ins) }
+    ensures none { IfOk result (λ done. done ≡ false → (held.new.node ≡ held.old.node)
+        × IsLooked false held.old.node.machine link held.old.ins held.new.ins) }
     ensures fault { IfErr result (Fails held.new) }
 {
     held.pull(rt, link);
@@ -138,7 +139,8 @@ fn turn_link<N: Laid + Names, R: Wait>(
     ensures shows { Adds is_showing held.old held.new }
     ensures outs { held.new.outs ≡ held.old.outs }
     ensures ends { EndsGoOn (N.deployment.sites - 1) held.old.ins held.new.ins }
-    ensures none { IfOk result (λ done. done ≡ false → (held.new.node ≡ held.old.node) × IsLooked false held.old.node.machine link held.old.ins held.new.ins) }
+    ensures none { IfOk result (λ done. done ≡ false → (held.new.node ≡ held.old.node)
+        × IsLooked false held.old.node.machine link held.old.ins held.new.ins) }
     ensures fault { IfErr result (Fails held.new) }
 {
     let others = held.node().machine().sites().saturating_sub(1);
@@ -152,7 +154,8 @@ fn turn_link<N: Laid + Names, R: Wait>(
     turn_front(rt, held, link)
 }
 
-// Shows or takes the next label of the view's tree. False where the site goes by timestamp order, or nothing can be shown or taken.
+// Shows or takes the next label of the view's tree. False where the site goes by timestamp order, or nothing can be
+// shown or taken.
 #[tactic(auto, using(crate::proofs::Doing::adds_same, crate::proofs::Turns::ends_same))]
 fn turn<N: Laid + Names, R: Wait>(
     rt: &R,
@@ -163,7 +166,9 @@ fn turn<N: Laid + Names, R: Wait>(
     ensures shows { Adds is_showing held.old held.new }
     ensures outs { held.new.outs ≡ held.old.outs }
     ensures ends { EndsGoOn (N.deployment.sites - 1) held.old.ins held.new.ins }
-    ensures none { IfOk result (λ done. done ≡ false → (held.new.node ≡ held.old.node) × IsLooked (in_stamp held.old.node.machine.views) held.old.node.machine (label_link N.deployment held.old.node.machine.views.view) held.old.ins held.new.ins) }
+    ensures none { IfOk result (λ done. done ≡ false → (held.new.node ≡ held.old.node)
+        × IsLooked (in_stamp held.old.node.machine.views) held.old.node.machine
+        (label_link N.deployment held.old.node.machine.views.view) held.old.ins held.new.ins) }
     ensures fault { IfErr result (Fails held.new) }
 {
     let seen = held.node().machine().site().view();
@@ -179,7 +184,8 @@ fn stamp<N: Laid + Names>(held: &mut Held<SiteNode<N>, N>) -> Result<bool, CallF
     ensures shows { Adds is_showing held.old held.new }
     ensures outs { held.new.outs ≡ held.old.outs }
     ensures ins { held.new.ins ≡ held.old.ins }
-    ensures none { IfOk result (λ done. done ≡ false → (held.new ≡ held.old) × (would_do held.old.node.machine given.Stamp ≡ false)) }
+    ensures none { IfOk result (λ done. done ≡ false → (held.new ≡ held.old)
+        × (would_do held.old.node.machine given.Stamp ≡ false)) }
     ensures fault { IfErr result (FailsAlone held.new) }
 {
     if !held.node().machine().site().can(&SiteInput::Stamp) {
@@ -197,7 +203,8 @@ fn advance<N: Laid + Names>(held: &mut Held<SiteNode<N>, N>) -> Result<bool, Cal
     ensures shows { Adds is_showing held.old held.new }
     ensures outs { held.new.outs ≡ held.old.outs }
     ensures ins { held.new.ins ≡ held.old.ins }
-    ensures none { IfOk result (λ done. done ≡ false → (held.new ≡ held.old) × (would_do held.old.node.machine given.Advance ≡ false)) }
+    ensures none { IfOk result (λ done. done ≡ false → (held.new ≡ held.old)
+        × (would_do held.old.node.machine given.Advance ≡ false)) }
     ensures fault { IfErr result (FailsAlone held.new) }
 {
     if !held.node().machine().site().can(&SiteInput::Advance) {
@@ -215,7 +222,9 @@ fn stamp_or_advance<N: Laid + Names>(held: &mut Held<SiteNode<N>, N>) -> Result<
     ensures shows { Adds is_showing held.old held.new }
     ensures outs { held.new.outs ≡ held.old.outs }
     ensures ins { held.new.ins ≡ held.old.ins }
-    ensures none { IfOk result (λ done. done ≡ false → (held.new ≡ held.old) × (would_do held.old.node.machine given.Stamp ≡ false) × (would_do held.old.node.machine given.Advance ≡ false)) }
+    ensures none { IfOk result (λ done. done ≡ false → (held.new ≡ held.old)
+        × (would_do held.old.node.machine given.Stamp ≡ false)
+        × (would_do held.old.node.machine given.Advance ≡ false)) }
     ensures fault { IfErr result (FailsAlone held.new) }
 {
     match stamp(held) {
@@ -225,7 +234,8 @@ fn stamp_or_advance<N: Laid + Names>(held: &mut Held<SiteNode<N>, N>) -> Result<
     }
 }
 
-// Turns, shows the next update in timestamp order, or goes on to the next epoch. False where nothing of it was left to do.
+// Turns, shows the next update in timestamp order, or goes on to the next epoch. False where nothing of it was left to
+// do.
 #[tactic(auto, using(crate::proofs::Doing::adds_then, crate::proofs::Turns::ends_then, crate::proofs::Turns::ends_same))]
 fn go_on<N: Laid + Names, R: Wait>(
     rt: &R,
@@ -236,7 +246,8 @@ fn go_on<N: Laid + Names, R: Wait>(
     ensures shows { Adds is_showing held.old held.new }
     ensures outs { held.new.outs ≡ held.old.outs }
     ensures ends { EndsGoOn (N.deployment.sites - 1) held.old.ins held.new.ins }
-    ensures none { IfOk result (λ done. done ≡ false → ShowsNoMore N.deployment held.new.node.machine held.old.ins held.new.ins) }
+    ensures none { IfOk result (λ done. done ≡ false
+        → ShowsNoMore N.deployment held.new.node.machine held.old.ins held.new.ins) }
     ensures fault { IfErr result (Fails held.new) }
 {
     match turn(rt, held, d) {
@@ -270,9 +281,10 @@ fn show_all<N: Laid + Names, R: Wait>(
     unreachable!()
 }
 
-/// Shows or takes what comes over the link of the view's tree, shows the updates that are next in timestamp order, and goes on to the
-/// next epochs, until nothing of it is left to do. How many entries the node kept. `Worn`, with the greatest u64, only where that is
-/// the node's number or a received envelope's after the call; `Memory`. After an error, what was kept by then stays.
+/// Shows or takes what comes over the link of the view's tree, shows the updates that are next in timestamp order, and
+/// goes on to the next epochs, until nothing of it is left to do. How many entries the node kept. `Worn`, with the
+/// greatest u64, only where that is the node's number or a received envelope's after the call; `Memory`. After an
+/// error, what was kept by then stays.
 pub fn show<N: Laid + Names, R: Wait>(
     rt: &R,
     held: &mut Held<SiteNode<N>, N>,

@@ -8,8 +8,8 @@ use sat_machines::{Laid, SiteNode};
 use sat_node::{Held, Names};
 use std::marker::Model;
 
-/// A site's node with its link ends, as contracts see it. Beside it stand how many of the first entries of its journal its passes have
-/// looked at, and the greatest timestamp of what came by these.
+/// A site's node with its link ends, as contracts see it. Beside it stand how many of the first entries of its journal
+/// its passes have looked at, and the greatest timestamp of what came by these.
 #[derive(Drop)]
 pub struct Watched<N: Laid + Names> {
     pub held: Held<SiteNode<N>, N>,

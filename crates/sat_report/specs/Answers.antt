@@ -88,4 +88,5 @@ printed_count (e ∷ h) = elim e.inner [ true ↦ printed_count h | false ↦ pr
 unfoldable pub answers : Deployed → List Entry → List ℕ
 unfolding answer_line printed_count
 answers d [] = []
-answers d (e ∷ h) = answers d h ++ elim e.inner [ true ↦ [] | false ↦ answer_line d (printed_count h + 1) e.act e.answer ]
+answers d (e ∷ h) =
+    answers d h ++ elim e.inner [ true ↦ [] | false ↦ answer_line d (printed_count h + 1) e.act e.answer ]

@@ -29,7 +29,8 @@ held_text h i x = elim (version h i x) [ None ↦ codes "none" | Some l ↦ labe
 -- the line of an item at a site that keeps it
 unfoldable pub item_line : Deployed → List Entry → ℕ → ℕ → List ℕ
 unfolding replicates item_name held_text
-item_line d h i x = if replicates d x i then codes "item " ++ (item_name d x ++ 32 ∷ (held_text h i x ++ 10 ∷ [])) else []
+item_line d h i x =
+    if replicates d x i then codes "item " ++ (item_name d x ++ 32 ∷ (held_text h i x ++ 10 ∷ [])) else []
 
 -- those of the first n items
 unfoldable pub item_lines : Deployed → List Entry → ℕ → ℕ → List ℕ

@@ -35,10 +35,11 @@ counts_text written shown waiting underway =
     number_line (codes "written") written ++ number_line (codes "shown") shown ++ number_line (codes "waiting") waiting
     ++ number_line (codes "underway") underway
 
--- the summary of a history: what was asked, how many updates were written and shown, wait, and are under way, the views of the
--- sites, and `done`. Each number but the first is at most 2^64 - 1
+-- the summary of a history: what was asked, how many updates were written and shown, wait, and are under way, the views
+-- of the sites, and `done`. Each number but the first is at most 2^64 - 1
 unfoldable pub summary : Deployed → List Entry → ℕ → ℕ → List ℕ
 unfolding wrote_count waiting_count views_text shown_count underway
 summary d h seed n =
-    asked_line seed n ++ counts_text (wrote_count h) (capped (shown_count h)) (capped (waiting_count h d.sites)) (capped (underway d h))
+    asked_line seed n ++ counts_text (wrote_count h) (capped (shown_count h)) (capped (waiting_count h d.sites))
+    (capped (underway d h))
     ++ views_text h d.sites ++ 10 ∷ (codes "done" ++ 10 ∷ [])

@@ -19,9 +19,10 @@ use sat_act::{Act, Answer, Deployment, Entry, Refusal};
 use sat_label::{Items, Kind, Label, NodeId, Point, Value};
 use std::alloc::AllocError;
 
-// In this file each word that something follows ends with its space. `number` is that of the line; an answer that stands by itself has none.
-// All but a value and further nodes is put together in an array, so that `out` grows once.
-/// Appends a word, at most 24 bytes, by itself or as a line with its number. For want of memory a front of it may stand there.
+// In this file each word that something follows ends with its space. `number` is that of the line; an answer that
+// stands by itself has none. All but a value and further nodes is put together in an array, so that `out` grows once.
+/// Appends a word, at most 24 bytes, by itself or as a line with its number. For want of memory a front of it may stand
+/// there.
 #[inline(always)]
 pub fn append_word<const N: usize>(
     number: &LineFront,
@@ -68,7 +69,8 @@ fn append_with_two<const N: usize, const M: usize>(
     out: &mut Vec<u8>,
 ) -> Result<(), AllocError>
     requires { (N ≤ 24) × (M ≤ 24) }
-    ensures ok { OnOk result (out.new.items ≡ out.old.items ++ framed number.now (word.now ++ (decimal first ++ (between.now ++ decimal second)))) }
+    ensures ok { OnOk result (out.new.items ≡ out.old.items
+        ++ framed number.now (word.now ++ (decimal first ++ (between.now ++ decimal second)))) }
     ensures err { OnErr result (Keeps out.old.items out.new.items) }
 {
     let mut text = [0; LINE_BYTES];
@@ -100,8 +102,8 @@ fn append_with_point<const N: usize>(
     out.extend_from_slice(&text[at..])
 }
 
-/// Appends a word, at most 24 bytes, whose last one is a space, and the kind and the point of a label. For want of memory a front of it
-/// may stand there.
+/// Appends a word, at most 24 bytes, whose last one is a space, and the kind and the point of a label. For want of
+/// memory a front of it may stand there.
 #[inline(always)]
 pub fn append_with_kind<const N: usize>(
     number: &LineFront,
@@ -110,7 +112,8 @@ pub fn append_with_kind<const N: usize>(
     out: &mut Vec<u8>,
 ) -> Result<(), AllocError>
     requires { N ≤ 24 }
-    ensures ok { OnOk result (out.new.items ≡ out.old.items ++ framed number.now (word.now ++ (kind_word label.now.kind ++ 32 ∷ label_text label.now))) }
+    ensures ok { OnOk result (out.new.items ≡ out.old.items
+        ++ framed number.now (word.now ++ (kind_word label.now.kind ++ 32 ∷ label_text label.now))) }
     ensures err { OnErr result (Keeps out.old.items out.new.items) }
 {
     let mut text = [0; LINE_BYTES];
@@ -131,7 +134,8 @@ fn append_with_name<const N: usize>(
     out: &mut Vec<u8>,
 ) -> Result<(), AllocError>
     requires { (N ≤ 24) × (length name.now ≤ 32) }
-    ensures ok { OnOk result (out.new.items ≡ out.old.items ++ framed number.now (word.now ++ (name.now ++ 32 ∷ point_text point.now))) }
+    ensures ok { OnOk result (out.new.items ≡ out.old.items
+        ++ framed number.now (word.now ++ (name.now ++ 32 ∷ point_text point.now))) }
     ensures err { OnErr result (Keeps out.old.items out.new.items) }
 {
     let mut text = [0; LINE_BYTES];
@@ -156,7 +160,9 @@ fn append_with_names(
     out: &mut Vec<u8>,
 ) -> Result<(), AllocError>
     requires { length word.now ≤ 24 }
-    ensures ok { OnOk result (out.new.items ≡ out.old.items ++ framed number.now (word.now ++ (names_at d.now (at_site act.now) label.now.kind ++ 32 ∷ label_text label.now))) }
+    ensures ok { OnOk result (out.new.items ≡ out.old.items
+        ++ framed number.now
+        (word.now ++ (names_at d.now (at_site act.now) label.now.kind ++ 32 ∷ label_text label.now))) }
     ensures err { OnErr result (Keeps out.old.items out.new.items) }
 {
     let mut text = [0; LONG_LINE_BYTES];
@@ -169,7 +175,8 @@ fn append_with_names(
     out.extend_from_slice(&text[at..])
 }
 
-// Most labels that are brought and shown are of one item, by the acts that are known to bring and to show: their site is handed in.
+// Most labels that are brought and shown are of one item, by the acts that are known to bring and to show: their site
+// is handed in.
 #[inline(always)]
 fn append_with_items<const N: usize>(
     d: &Deployment,
@@ -182,7 +189,9 @@ fn append_with_items<const N: usize>(
 ) -> Result<(), AllocError>
     requires short { N ≤ 24 }
     requires site { IfSome site (λ site. at_site act.now ≡ Some site) }
-    ensures ok { OnOk result (out.new.items ≡ out.old.items ++ framed number.now (word.now ++ (names_at d.now (at_site act.now) label.now.kind ++ 32 ∷ label_text label.now))) }
+    ensures ok { OnOk result (out.new.items ≡ out.old.items
+        ++ framed number.now
+        (word.now ++ (names_at d.now (at_site act.now) label.now.kind ++ 32 ∷ label_text label.now))) }
     ensures err { OnErr result (Keeps out.old.items out.new.items) }
 {
     if let Some(site) = site {
@@ -201,7 +210,8 @@ fn append_closed(
     cut: &Point,
     out: &mut Vec<u8>,
 ) -> Result<(), AllocError>
-    ensures ok { OnOk result (out.new.items ≡ out.old.items ++ framed number.now (codes "closed " ++ (decimal epoch ++ 32 ∷ point_text cut.now))) }
+    ensures ok { OnOk result (out.new.items ≡ out.old.items
+        ++ framed number.now (codes "closed " ++ (decimal epoch ++ 32 ∷ point_text cut.now))) }
     ensures err { OnErr result (Keeps out.old.items out.new.items) }
 {
     let mut text = [0; LINE_BYTES];
@@ -230,7 +240,8 @@ fn append_end(number: &LineFront, out: &mut Vec<u8>) -> Result<(), AllocError>
 // What stands before a value.
 #[inline(always)]
 fn append_version(number: &LineFront, label: &Label, out: &mut Vec<u8>) -> Result<(), AllocError>
-    ensures ok { OnOk result (out.new.items ≡ out.old.items ++ (front_text number.now ++ (with_label (codes "read") label.now ++ 32 ∷ []))) }
+    ensures ok { OnOk result (out.new.items ≡ out.old.items
+        ++ (front_text number.now ++ (with_label (codes "read") label.now ++ 32 ∷ []))) }
     ensures err { OnErr result (Keeps out.old.items out.new.items) }
 {
     let mut text = [0; LINE_BYTES];
@@ -257,7 +268,8 @@ fn append_read(
     value: &Value,
     out: &mut Vec<u8>,
 ) -> Result<(), AllocError>
-    ensures ok { OnOk result (out.new.items ≡ out.old.items ++ framed number.now (with_label (codes "read") label.now ++ 32 ∷ value.now)) }
+    ensures ok { OnOk result (out.new.items ≡ out.old.items
+        ++ framed number.now (with_label (codes "read") label.now ++ 32 ∷ value.now)) }
     ensures err { OnErr result (Keeps out.old.items out.new.items) }
 {
     append_version(number, label, out)?;
@@ -272,7 +284,8 @@ fn append_first_hop(
     to: NodeId,
     out: &mut Vec<u8>,
 ) -> Result<(), AllocError>
-    ensures ok { OnOk result (out.new.items ≡ out.old.items ++ (front_text number.now ++ (with_kind (codes "hopped") label.now ++ (codes " to " ++ node_text to)))) }
+    ensures ok { OnOk result (out.new.items ≡ out.old.items
+        ++ (front_text number.now ++ (with_kind (codes "hopped") label.now ++ (codes " to " ++ node_text to)))) }
     ensures err { OnErr result (Keeps out.old.items out.new.items) }
 {
     let mut text = [0; LINE_BYTES];
@@ -286,7 +299,8 @@ fn append_first_hop(
 }
 
 fn append_no_hop(number: &LineFront, label: &Label, out: &mut Vec<u8>) -> Result<(), AllocError>
-    ensures ok { OnOk result (out.new.items ≡ out.old.items ++ framed number.now (with_kind (codes "hopped") label.now ++ codes " to ")) }
+    ensures ok { OnOk result (out.new.items ≡ out.old.items
+        ++ framed number.now (with_kind (codes "hopped") label.now ++ codes " to ")) }
     ensures err { OnErr result (Keeps out.old.items out.new.items) }
 {
     let mut text = [0; LINE_BYTES];
@@ -307,7 +321,9 @@ fn append_hops(
     rest: &[NodeId],
     out: &mut Vec<u8>,
 ) -> Result<(), AllocError>
-    ensures ok { OnOk result (out.new.items ≡ out.old.items ++ framed number.now (with_kind (codes "hopped") label.now ++ (codes " to " ++ (node_text first ++ commas rest.now)))) }
+    ensures ok { OnOk result (out.new.items ≡ out.old.items
+        ++ framed number.now (with_kind (codes "hopped") label.now
+        ++ (codes " to " ++ (node_text first ++ commas rest.now)))) }
     ensures err { OnErr result (Keeps out.old.items out.new.items) }
 {
     append_first_hop(number, label, first, out)?;
@@ -323,7 +339,8 @@ fn append_hopped(
     to: &[NodeId],
     out: &mut Vec<u8>,
 ) -> Result<(), AllocError>
-    ensures ok { OnOk result (out.new.items ≡ out.old.items ++ framed number.now (with_kind (codes "hopped") label.now ++ (codes " to " ++ nodes_text to.now))) }
+    ensures ok { OnOk result (out.new.items ≡ out.old.items
+        ++ framed number.now (with_kind (codes "hopped") label.now ++ (codes " to " ++ nodes_text to.now))) }
     ensures err { OnErr result (Keeps out.old.items out.new.items) }
 {
     match to.split_first() {
@@ -334,7 +351,8 @@ fn append_hopped(
 
 #[tactic(auto, unfolding(crate::specs::Answers::refusal_text))]
 fn append_refused(n: &LineFront, refusal: &Refusal, out: &mut Vec<u8>) -> Result<(), AllocError>
-    ensures ok { OnOk result (out.new.items ≡ out.old.items ++ framed n.now (codes "refused " ++ refusal_text refusal.now)) }
+    ensures ok { OnOk result (out.new.items ≡ out.old.items
+        ++ framed n.now (codes "refused " ++ refusal_text refusal.now)) }
     ensures err { OnErr result (Keeps out.old.items out.new.items) }
 {
     match refusal {
@@ -360,7 +378,8 @@ fn append_refused(n: &LineFront, refusal: &Refusal, out: &mut Vec<u8>) -> Result
     }
 }
 
-/// Appends the text of an answer, by itself or as a line with its number. For want of memory a front of it may stand there.
+/// Appends the text of an answer, by itself or as a line with its number. For want of memory a front of it may stand
+/// there.
 #[tactic(auto, unfolding(crate::specs::Answers::answer_text))]
 pub fn append_framed(
     d: &Deployment,
@@ -436,7 +455,8 @@ pub fn write_numbered(
     answer: &Answer,
     out: &mut Vec<u8>,
 ) -> Result<(), AllocError>
-    ensures ok { OnOk result (out.new.items ≡ out.old.items ++ framed number.now (answer_text d.now act.now answer.now)) }
+    ensures ok { OnOk result (out.new.items ≡ out.old.items
+        ++ framed number.now (answer_text d.now act.now answer.now)) }
     ensures err { OnErr result (out.new.items ≡ out.old.items) }
 {
     let length = out.len();
@@ -471,7 +491,8 @@ pub fn write_answer(
     entry: &Entry,
     out: &mut Vec<u8>,
 ) -> Result<(), AllocError>
-    ensures ok { OnOk result (out.new.items ≡ out.old.items ++ answer_line d.now number entry.now.act entry.now.answer) }
+    ensures ok { OnOk result (out.new.items ≡ out.old.items
+        ++ answer_line d.now number entry.now.act entry.now.answer) }
     ensures err { OnErr result (out.new.items ≡ out.old.items) }
 {
     write_line(d, number, &entry.act, &entry.answer, out)

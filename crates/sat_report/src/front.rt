@@ -8,7 +8,8 @@ use std::marker::Model;
 /// The most digits of a number.
 pub(crate) const NUMBER_DIGITS: usize = 20;
 
-/// The number of a line, or nothing. Contracts see the number. Its digits are kept, since the next number mostly has all but the last of them.
+/// The number of a line, or nothing. Contracts see the number. Its digits are kept, since the next number mostly has
+/// all but the last of them.
 #[derive(Drop)]
 pub struct LineFront {
     number: Option<u64>,

@@ -24,7 +24,9 @@ fn mode_word(stamp: bool) -> &'static str
 
 // `site I view V emission E`
 fn append_epochs(site: u16, view: u16, emission: u16, out: &mut Vec<u8>) -> Result<(), AllocError>
-    ensures ok { OnOk result (out.new.items ≡ out.old.items ++ (codes "site " ++ (decimal site ++ (codes " view " ++ (decimal view ++ (codes " emission " ++ decimal emission)))))) }
+    ensures ok { OnOk result (out.new.items ≡ out.old.items
+        ++ (codes "site "
+        ++ (decimal site ++ (codes " view " ++ (decimal view ++ (codes " emission " ++ decimal emission)))))) }
     ensures err { OnErr result (Keeps out.old.items out.new.items) }
 {
     append_with_number(b"site ", u64::from(site), out)?;
@@ -34,7 +36,8 @@ fn append_epochs(site: u16, view: u16, emission: u16, out: &mut Vec<u8>) -> Resu
 
 // ` MODE waiting W` and the line's end
 fn append_mode(stamp: bool, waiting: u64, out: &mut Vec<u8>) -> Result<(), AllocError>
-    ensures ok { OnOk result (out.new.items ≡ out.old.items ++ 32 ∷ (mode_word stamp ++ (codes " waiting " ++ (decimal waiting ++ 10 ∷ [])))) }
+    ensures ok { OnOk result (out.new.items ≡ out.old.items ++ 32
+        ∷ (mode_word stamp ++ (codes " waiting " ++ (decimal waiting ++ 10 ∷ [])))) }
     ensures err { OnErr result (Keeps out.old.items out.new.items) }
 {
     out.push(b' ')?;
@@ -45,7 +48,8 @@ fn append_mode(stamp: bool, waiting: u64, out: &mut Vec<u8>) -> Result<(), Alloc
 }
 
 fn append_view(site: u16, seen: SiteView, out: &mut Vec<u8>) -> Result<(), AllocError>
-    ensures ok { OnOk result (out.new.items ≡ out.old.items ++ site_text site seen.view seen.emission seen.stamp seen.waiting) }
+    ensures ok { OnOk result (out.new.items ≡ out.old.items
+        ++ site_text site seen.view seen.emission seen.stamp seen.waiting) }
     ensures err { OnErr result (Keeps out.old.items out.new.items) }
 {
     append_epochs(site, seen.view, seen.emission, out)?;
@@ -63,7 +67,8 @@ fn append_site(world: &World, site: u16, out: &mut Vec<u8>) -> Result<(), AllocE
 }
 
 fn append_version(version: &Version, out: &mut Vec<u8>) -> Result<(), AllocError>
-    ensures ok { OnOk result (out.new.items ≡ out.old.items ++ (label_text version.now.label ++ 32 ∷ version.now.value)) }
+    ensures ok { OnOk result (out.new.items ≡ out.old.items
+        ++ (label_text version.now.label ++ 32 ∷ version.now.value)) }
     ensures err { OnErr result (Keeps out.old.items out.new.items) }
 {
     append_point(&version.label().point, out)?;
@@ -79,7 +84,8 @@ fn append_held(
     found: Option<&Version>,
     out: &mut Vec<u8>,
 ) -> Result<(), AllocError>
-    ensures ok { OnOk result ((h : List Entry) → MatchOption found.entry (version h site item ≡ None) (λ v. IsVersion h site item v.now)
+    ensures ok { OnOk result ((h : List Entry)
+        → MatchOption found.entry (version h site item ≡ None) (λ v. IsVersion h site item v.now)
         → out.new.items ≡ out.old.items ++ held_text h site item) }
     ensures keeps { Keeps out.old.items out.new.items }
 {

@@ -1,4 +1,5 @@
-//! A text put together from its end, in a small array. Each call writes its piece so that it ends at `end`, and says where it starts.
+//! A text put together from its end, in a small array. Each call writes its piece so that it ends at `end`, and says
+//! where it starts.
 ghost use Rattle.std.specs.Prelude.{◌≡◌, ◌+◌, ◌++◌, ◌∷◌, ◌≤◌, length, drop};
 ghost use Rattle.std.specs.Fmt.{decimal};
 ghost use Rattle.sat_label.specs.Text.{node_text, point_text};

@@ -85,7 +85,8 @@ fn summary(
     count: u32,
     written: u64,
 ) -> Result<Vec<u8>, AllocError>
-    ensures { IfOk result (λ text. (h : List Entry) → IsRun world.now.deployment h → StandsFor world.now h → written ≡ wrote_count h
+    ensures { IfOk result (λ text. (h : List Entry) → IsRun world.now.deployment h → StandsFor world.now h
+        → written ≡ wrote_count h
         → text.items ≡ summary world.now.deployment h seed count) }
 {
     let mut text = asked_line(alloc, seed, count)?;
@@ -103,9 +104,9 @@ fn summary(
     Ok(text)
 }
 
-/// Appends the summary of the run of the script of `seed` and `count` acts, of which so many updates were written: what was asked,
-/// this number, how many updates the world showed, how many payloads wait at its sites, how many payloads and labels are under
-/// way, and the views of its sites in order. For want of memory `out` is as before.
+/// Appends the summary of the run of the script of `seed` and `count` acts, of which so many updates were written: what
+/// was asked, this number, how many updates the world showed, how many payloads wait at its sites, how many payloads
+/// and labels are under way, and the views of its sites in order. For want of memory `out` is as before.
 pub fn write_summary(
     world: &World,
     seed: u64,
@@ -113,7 +114,8 @@ pub fn write_summary(
     written: u64,
     out: &mut Vec<u8>,
 ) -> Result<(), AllocError>
-    ensures ok { OnOk result ((h : List Entry) → IsRun world.now.deployment h → StandsFor world.now h → written ≡ wrote_count h
+    ensures ok { OnOk result ((h : List Entry) → IsRun world.now.deployment h → StandsFor world.now h
+        → written ≡ wrote_count h
         → out.new.items ≡ out.old.items ++ summary world.now.deployment h seed count) }
     ensures err { OnErr result (out.new.items ≡ out.old.items) }
 {

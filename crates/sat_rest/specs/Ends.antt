@@ -23,13 +23,15 @@ pub record IsWithin (d : Deployed) : Type 0 where
   pub some_site : 0 < d.sites
   pub trees : HasTrees d
   pub some_plan : 0 < length d.plans
-  pub few_serializers : (epoch : ℕ) (tree : TreeShape) → tree_of d epoch ≡ Some tree → length tree.parents ≤ MOST_SERIALIZERS
+  pub few_serializers : (epoch : ℕ) (tree : TreeShape) → tree_of d epoch ≡ Some tree
+      → length tree.parents ≤ MOST_SERIALIZERS
   pub all_seated : (epoch : ℕ) (tree : TreeShape) → tree_of d epoch ≡ Some tree → length tree.seats ≡ d.sites
 
 -- "again and again as long as the act is done": what that makes of a history
 pub data UntilRefused (d : Deployed) (a : Act) : List Entry → List Entry → Type 0 where
   ends : {h : List Entry} → is_done (answer d h a) ≡ false → UntilRefused d a h h
-  goes_on : {h k : List Entry} → is_done (answer d h a) ≡ true → UntilRefused d a (inner_entry d h a ∷ h) k → UntilRefused d a h k
+  goes_on : {h k : List Entry} → is_done (answer d h a) ≡ true → UntilRefused d a (inner_entry d h a ∷ h) k
+      → UntilRefused d a h k
 
 -- a is one of the acts
 abbrev pub IsAmong : List Act → Act → Type 0
@@ -58,18 +60,21 @@ unfoldable pub wrote_count : List Entry → ℕ
 unfolding listed
 wrote_count h = length (listed wrote_entry h)
 
--- the most rounds after a history: each label that was sent is handled at most once by each of 15 serializers and by each other
--- site, each update is brought to and shown at most at each other site, and each site advances to each epoch at most once. With 16
--- sites these are 30 for a label and 30 for an update, with 64 they are 78 and 126
+-- the most rounds after a history: each label that was sent is handled at most once by each of 15 serializers and by
+-- each other site, each update is brought to and shown at most at each other site, and each site advances to each epoch
+-- at most once. With 16 sites these are 30 for a label and 30 for an update, with 64 they are 78 and 126
 abbrev pub most_rounds : Deployed → List Entry → ℕ
-most_rounds d h = ((MOST_SERIALIZERS + (d.sites - 1)) * sent_count h + (2 * (d.sites - 1)) * wrote_count h) + d.sites * length d.plans
+most_rounds d h =
+    ((MOST_SERIALIZERS + (d.sites - 1)) * sent_count h + (2 * (d.sites - 1)) * wrote_count h) + d.sites * length d.plans
 
--- what a settle keeps: it makes a run; each "until refused" of it ends by a refusal, not by its count; less is left with each act of a round that is
--- done; the rounds end with a quiet one, and their number is bounded
+-- what a settle keeps: it makes a run; each "until refused" of it ends by a refusal, not by its count; less is left
+-- with each act of a round that is done; the rounds end with a quiet one, and their number is bounded
 pub record Settles (d : Deployed) (h : List Entry) : Type 0 where
   pub is_run : IsRun d (settle d h).1
   pub emits : (i : ℕ) → i < d.sites → (k : List Entry) → IsRun d k → UntilRefused d (act.Emit i) k (emit_all d i k)
-  pub acts : (a : Act) → IsAmong (round_acts d) a → (k : List Entry) → IsRun d k → UntilRefused d a k (until_refused d a k)
-  pub falls : (a : Act) → IsAmong (round_acts d) a → (k : List Entry) → IsRun d k → is_done (answer d k a) ≡ true → left d (inner_entry d k a ∷ k) < left d k
+  pub acts : (a : Act) → IsAmong (round_acts d) a → (k : List Entry) → IsRun d k
+      → UntilRefused d a k (until_refused d a k)
+  pub falls : (a : Act) → IsAmong (round_acts d) a → (k : List Entry) → IsRun d k → is_done (answer d k a) ≡ true
+      → left d (inner_entry d k a ∷ k) < left d k
   pub quiet : IsQuiet d (settle d h).1
   pub bound : (settle d h).0 ≤ most_rounds d (opening d h)

@@ -14,13 +14,14 @@ use Rattle.sat_rest.specs.Rest.{CanEnd, IsAtRest}
 use Rattle.sat_script.specs.Spelled.{AreActsOf}
 use Rattle.sat_runs.specs.Runs.{history}
 
--- What a settle after a history comes to. It ends: after at most so many rounds, by the labels that were sent and the updates that
--- were written when its rounds begin. And where it can, it ends at rest: no payload waits, nothing is under way, and each site holds
--- its items' greatest versions
+-- What a settle after a history comes to. It ends: after at most so many rounds, by the labels that were sent and the
+-- updates that were written when its rounds begin. And where it can, it ends at rest: no payload waits, nothing is
+-- under way, and each site holds its items' greatest versions
 pub record ComesToRest (d : Deployed) (h : List Entry) : Type 0 where
   pub bound : (settle d h).0 ≤ most_rounds d (opening d h)
   pub rests : (end : CanEnd d (settle d h).1) → IsAtRest d (settle d h).1 end.epoch
-  pub agree : CanEnd d (settle d h).1 → (k x : ℕ) → k < d.sites → replicates d x k ≡ true → IsGreatestMade (settle d h).1 x (version (settle d h).1 k x)
+  pub agree : CanEnd d (settle d h).1 → (k x : ℕ) → k < d.sites → replicates d x k ≡ true
+      → IsGreatestMade (settle d h).1 x (version (settle d h).1 k x)
 
 -- each settle of a list of acts, after the history of the acts before it
 abbrev pub SettlesRest : Deployed → List Act → Type 0

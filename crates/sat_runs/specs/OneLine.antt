@@ -16,11 +16,14 @@ IsWritten d number a (Ok r) old new = new ≡ old ++ framed number (answer_text 
 IsWritten d number a (Err e) old new = ⊥
 
 -- an act was done, and a text is longer by its line
-pub record HasLine (old : WorldSeen) (number : Option ℕ) (a : Act) (text : List ℕ) (new : WorldSeen) (longer : List ℕ) : Type 0 where
+pub record HasLine (old : WorldSeen) (number : Option ℕ) (a : Act) (text : List ℕ) (new : WorldSeen)
+    (longer : List ℕ) : Type 0 where
   pub line : List ℕ
   pub longer_by : longer ≡ text ++ line
-  pub answers : (front : List ℕ) (done : List Act) → number ≡ Some (length done + 1) → IsAnswering old.deployment old front done → IsAnswering old.deployment new (front ++ line) (done ++ a ∷ [])
+  pub answers : (front : List ℕ) (done : List Act) → number ≡ Some (length done + 1)
+      → IsAnswering old.deployment old front done → IsAnswering old.deployment new (front ++ line) (done ++ a ∷ [])
 
 -- wherever acts were done, the world stands for a run on the way to their history with this one
 abbrev pub StopsOnTheWay : WorldSeen → Act → WorldSeen → Type 0
-StopsOnTheWay old a new = (acts : List Act) → IsRunning old.deployment old acts → StopsBefore old.deployment (history old.deployment acts) (history old.deployment (acts ++ a ∷ [])) new
+StopsOnTheWay old a new = (acts : List Act) → IsRunning old.deployment old acts
+    → StopsBefore old.deployment (history old.deployment acts) (history old.deployment (acts ++ a ∷ [])) new

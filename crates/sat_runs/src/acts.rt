@@ -12,8 +12,8 @@ use sat_settle::settle;
 use sat_world::World;
 use std::alloc::AllocError;
 
-/// Does an act: a settle by the acts that it stands for, any other by itself. For want of memory the world is as before, but of a
-/// settle's acts the first ones may be done, each whole.
+/// Does an act: a settle by the acts that it stands for, any other by itself. For want of memory the world is as
+/// before, but of a settle's acts the first ones may be done, each whole.
 pub fn do_act(world: &mut World, act: &Act) -> Result<Answer, AllocError>
     requires { IsActOf world.old.deployment act.now }
     ensures does { IfOk result (λ answer. Does world.old act.now answer world.new) }
@@ -26,7 +26,8 @@ pub fn do_act(world: &mut World, act: &Act) -> Result<Answer, AllocError>
     }
 }
 
-// Appends the line of an act's answer, where there is one. It is read where it lies. For want of memory the text is as before.
+// Appends the line of an act's answer, where there is one. It is read where it lies. For want of memory the text is as
+// before.
 #[inline(always)]
 fn write_done(
     d: &Deployment,
@@ -44,8 +45,8 @@ fn write_done(
     }
 }
 
-// Does an act, and appends the line of its answer. The answer is not handed on, since each call between copies it. For want of memory
-// the text is as before, and the act may be done.
+// Does an act, and appends the line of its answer. The answer is not handed on, since each call between copies it. For
+// want of memory the text is as before, and the act may be done.
 #[inline(always)]
 fn answer_numbered(
     world: &mut World,
@@ -67,9 +68,9 @@ fn answer_numbered(
     write_done(world.deployment(), line, act, &done, text)
 }
 
-/// Does the acts one after another, behind so many acts, and appends the lines of their answers. For want of memory the first ones of
-/// the acts have their lines, each whole, and no other line is there; the act behind these may be done, or of a settle the first ones
-/// of its acts.
+/// Does the acts one after another, behind so many acts, and appends the lines of their answers. For want of memory the
+/// first ones of the acts have their lines, each whole, and no other line is there; the act behind these may be done,
+/// or of a settle the first ones of its acts.
 pub fn answer_acts(
     world: &mut World,
     before: u64,
@@ -81,7 +82,8 @@ pub fn answer_acts(
     ensures deployment { world.new.deployment ≡ world.old.deployment }
     ensures lines { OnOk result (HasLines world.old before acts.now text.old.items world.new text.new.items) }
     // The same of a text that has the answers of the acts before, or their end.
-    ensures running { OnOk result ((front : List ℕ) (done : List Act) → before ≡ length done → IsAnswering world.old.deployment world.old (front ++ text.old.items) done
+    ensures running { OnOk result ((front : List ℕ) (done : List Act) → before ≡ length done
+        → IsAnswering world.old.deployment world.old (front ++ text.old.items) done
         → IsAnswering world.old.deployment world.new (front ++ text.new.items) (done ++ acts.now)) }
     ensures err { OnErr result (HasSomeLines world.old before acts.now text.old.items world.new text.new.items) }
 {

@@ -1,4 +1,5 @@
-//! Runs of acts: a list of acts done one after another on a world, the text of their answers, and that their history is good.
+//! Runs of acts: a list of acts done one after another on a world, the text of their answers, and that their history is
+//! good.
 #![tactic(auto)]
 
 mod acts;

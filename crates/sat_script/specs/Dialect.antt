@@ -1,4 +1,5 @@
--- What a script may have: what it is read for, its dialect, and its format choose the limits and the forms. A further dialect is a row more.
+-- What a script may have: what it is read for, its dialect, and its format choose the limits and the forms. A further
+-- dialect is a row more.
 use Rattle.std.specs.Prelude.{ℕ, Bool, true, false, nat_le}
 use Rattle.sat_label.specs.Formats.{limits_of as format_limits}
 use Rattle.sat_script.specs.declared.dialect.Dialect.{Dialect}
@@ -12,11 +13,16 @@ use Rattle.sat_script.specs.declared.limits.TheConstants.{MOST_CLIENTS, MOST_SET
 
 -- the limits of scripts of a dialect and a format
 abbrev pub limits_of : Dialect → ℕ → Limits
-limits_of dialect.Run format = record { sites = (format_limits format).sites; items = (format_limits format).items; clients = MOST_CLIENTS; acts = (format_limits format).acts; settles = MOST_SETTLES }
-limits_of dialect.Live format = record { sites = LIVE_SITES; items = (format_limits format).items; clients = LIVE_CLIENTS; acts = LIVE_ACTS; settles = MOST_SETTLES }
-limits_of dialect.Audit format = record { sites = (format_limits format).sites; items = (format_limits format).items; clients = MOST_CLIENTS; acts = AUDIT_ACTS; settles = MOST_SETTLES }
-limits_of dialect.Chain format = record { sites = (format_limits format).sites; items = (format_limits format).items; clients = MOST_CLIENTS; acts = (format_limits format).acts; settles = MOST_SETTLES }
-limits_of dialect.Lasting format = record { sites = (format_limits format).sites; items = (format_limits format).items; clients = MOST_CLIENTS; acts = (format_limits format).acts; settles = MOST_SETTLES }
+limits_of dialect.Run format =
+    record { sites = (format_limits format).sites; items = (format_limits format).items; clients = MOST_CLIENTS; acts = (format_limits format).acts; settles = MOST_SETTLES }
+limits_of dialect.Live format =
+    record { sites = LIVE_SITES; items = (format_limits format).items; clients = LIVE_CLIENTS; acts = LIVE_ACTS; settles = MOST_SETTLES }
+limits_of dialect.Audit format =
+    record { sites = (format_limits format).sites; items = (format_limits format).items; clients = MOST_CLIENTS; acts = AUDIT_ACTS; settles = MOST_SETTLES }
+limits_of dialect.Chain format =
+    record { sites = (format_limits format).sites; items = (format_limits format).items; clients = MOST_CLIENTS; acts = (format_limits format).acts; settles = MOST_SETTLES }
+limits_of dialect.Lasting format =
+    record { sites = (format_limits format).sites; items = (format_limits format).items; clients = MOST_CLIENTS; acts = (format_limits format).acts; settles = MOST_SETTLES }
 
 -- the forms of a script for nodes on threads
 unfoldable pub is_live : Form → Bool

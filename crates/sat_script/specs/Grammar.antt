@@ -1,6 +1,6 @@
--- The lines of a script, each by what the lines before it say. A line of the header has one definition, and its causes stand in it in
--- their order: first what may keep it from having the form, then the causes that the form alone decides, and then those of its words.
--- The lines of acts are the table's.
+-- The lines of a script, each by what the lines before it say. A line of the header has one definition, and its causes
+-- stand in it in their order: first what may keep it from having the form, then the causes that the form alone decides,
+-- and then those of its words. The lines of acts are the table's.
 use Rattle.std.specs.Prelude.{ℕ, ◌+◌, List, [], ◌∷◌, ◌++◌, Bool, true, false, ◌&&◌, ◌==◌, nat_lt, length, map, take, drop, is_none, Some, None, Ok, Err, if◌then◌else◌, codes, position}
 use Rattle.std.specs.declared.option.Option.{Option}
 use Rattle.std.specs.declared.result.Result.{Result}
@@ -33,7 +33,9 @@ use Rattle.sat_script.specs.declared.limits.TheConstants.{LONGEST_LINE, LAST_FOR
 -- `saturn F`, with F a format. Another number is no form of a line at all
 unfoldable pub format_line : List (List ℕ) → Result Parsed Cause
 unfolding number_to
-format_line (word ∷ number ∷ []) = needs BadHeader (bytes_eq word (codes "saturn")) (given BadHeader (number_to LAST_FORMAT number) (λ format. Ok (parsed.Format format)))
+format_line (word ∷ number ∷ []) =
+    needs BadHeader (bytes_eq word (codes "saturn"))
+    (given BadHeader (number_to LAST_FORMAT number) (λ format. Ok (parsed.Format format)))
 format_line _ = Err BadHeader
 
 -- a word and a number from 1 to a limit
@@ -68,7 +70,8 @@ item_line s name sites =
     (needs BadHeader (is_name name && is_list sites)
     (barred (bar s form.Item)
     (refused SameName (has_item s.header name)
-    (given OutOfRange (sites_in s.header.sites sites) (λ set. Ok (parsed.Item (record { name = name; replicas = set })))))))
+    (given OutOfRange (sites_in s.header.sites sites)
+    (λ set. Ok (parsed.Item (record { name = name; replicas = set })))))))
 
 -- `client NAME SITE`, before the first plan
 unfoldable pub client_line : State → List ℕ → List ℕ → Result Parsed Cause
@@ -78,7 +81,8 @@ client_line s name site =
     (needs BadHeader (is_name name && is_number site)
     (barred (bar s form.Client)
     (refused SameName (has_client s.header name)
-    (given OutOfRange (number_below s.header.sites site) (λ home. Ok (parsed.Client (record { name = name; site = home })))))))
+    (given OutOfRange (number_below s.header.sites site)
+    (λ home. Ok (parsed.Client (record { name = name; site = home })))))))
 
 -- `begin`, after a plan
 unfoldable pub begin_line : Deployed → Result Parsed Cause
@@ -112,7 +116,8 @@ unfolding bar are_parents tree_in is_tree
 tree_line s parents seats =
     needs BadHeader (are_parents parents && list_all is_number seats)
     (barred (bar s form.PlanTree)
-    (needs BadTree (is_tree s.header.sites (tree_in parents seats)) (Ok (parsed.Plan (plan.Tree (tree_in parents seats))))))
+    (needs BadTree (is_tree s.header.sites (tree_in parents seats))
+    (Ok (parsed.Plan (plan.Tree (tree_in parents seats))))))
 
 abbrev pub is_slash : List ℕ → Bool
 is_slash word = bytes_eq word (codes "/")

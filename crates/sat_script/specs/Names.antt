@@ -16,8 +16,8 @@ item_name_of item = item.name
 abbrev pub client_name_of : ClientLine → List ℕ
 client_name_of line = line.name
 
--- lists within their limits, and beside them the format, the numbers of sites and of gears, and the names of the items and of the
--- clients
+-- lists within their limits, and beside them the format, the numbers of sites and of gears, and the names of the items
+-- and of the clients
 pub record AreNamed (d : Deployed) (format sites gears : ℕ) (item_names client_names : List (List ℕ)) : Type 0 where
   pub few_items : length d.items ≤ MOST_ITEMS
   pub few_clients : length d.clients ≤ MOST_CLIENTS

@@ -34,8 +34,8 @@ SaysOn (Err cause) old new says = says ≡ Err cause
 
 -- ---- good words, each read once
 
--- what a word must be besides saying something: the word of a node has its letter. The rest of the shape, and that the header has the
--- name, follow from what the word says, where the header's names are names
+-- what a word must be besides saying something: the word of a node has its letter. The rest of the shape, and that the
+-- header has the name, follow from what the word says, where the header's names are names
 abbrev pub begins : Kind → List ℕ → Bool
 begins kind.Node [] = false
 begins kind.Node (byte ∷ number) = byte == 115 || byte == 122
@@ -44,7 +44,8 @@ begins kind.Serializer (byte ∷ number) = byte == 122
 begins _ w = true
 
 -- a word of its shape, whose name the header has, what it says, and the tree in which the nodes after it stand
-pub record IsReadWord (d : Deployed) (t : TreeShape) (k : Kind) (word : List ℕ) (a : Said) (u : TreeShape) : Type 0 where
+pub record IsReadWord (d : Deployed) (t : TreeShape) (k : Kind) (word : List ℕ) (a : Said)
+    (u : TreeShape) : Type 0 where
   pub shaped : shape k word ≡ true
   pub named : known d k word ≡ true
   pub said : says d t k word ≡ Some a

@@ -69,7 +69,8 @@ acts_text d acts = flat_map (λ a. ended (act_words d a)) acts
 -- the lines before `begin`
 unfoldable pub header_text : Deployed → List ℕ
 header_text d =
-    ended (codes "saturn" ∷ decimal d.format ∷ []) ++ (ended (codes "sites" ∷ decimal d.sites ∷ []) ++ (ended (codes "gears" ∷ decimal d.gears ∷ [])
+    ended (codes "saturn" ∷ decimal d.format ∷ [])
+    ++ (ended (codes "sites" ∷ decimal d.sites ∷ []) ++ (ended (codes "gears" ∷ decimal d.gears ∷ [])
     ++ (items_text d.items ++ (clients_text d.clients ++ plans_text d.plans))))
 
 -- the one spelling of a deployment and a list of acts

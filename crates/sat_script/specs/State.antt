@@ -63,7 +63,8 @@ number_of s = first_of s.stage + header_lines s.header + s.acts
 
 -- the state with an act more, which another reader has read
 abbrev pub with_one_act : State → State
-with_one_act s = record { dialect = s.dialect; stage = s.stage; header = s.header; acts = s.acts + 1; settles = s.settles }
+with_one_act s =
+    record { dialect = s.dialect; stage = s.stage; header = s.header; acts = s.acts + 1; settles = s.settles }
 
 -- the fault of the next line
 abbrev pub fault_at : State → Cause → ScriptFault

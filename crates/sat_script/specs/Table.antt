@@ -1,5 +1,6 @@
--- The lines of acts as one table: the word that an act begins with, the kinds of the words after it, and for each kind its shape, what it
--- must name, what it says and how it is spelled. The causes stand in one line, in their order, each over all words of the line.
+-- The lines of acts as one table: the word that an act begins with, the kinds of the words after it, and for each kind
+-- its shape, what it must name, what it says and how it is spelled. The causes stand in one line, in their order, each
+-- over all words of the line.
 use Rattle.std.specs.Prelude.{ℕ, ◌^◌, ◌-◌, List, [], ◌∷◌, Bool, true, false, ◌&&◌, ◌==◌, nat_lt, length, Option, Some, None, Result, Ok, Err, is_some, codes, slice_get, if◌then◌else◌}
 use Rattle.std.specs.Option.{option_map}
 use Rattle.std.specs.Fmt.{decimal}
@@ -71,7 +72,8 @@ kinds_of form.Tick = kind.Site ∷ kind.Gear ∷ kind.Ts ∷ []
 kinds_of form.Write = kind.Client ∷ kind.Item ∷ kind.Value ∷ []
 kinds_of form.WritesTwo = kind.Client ∷ kind.Item ∷ kind.Value ∷ kind.Item ∷ kind.Value ∷ []
 kinds_of form.WritesThree = kind.Client ∷ kind.Item ∷ kind.Value ∷ kind.Item ∷ kind.Value ∷ kind.Item ∷ kind.Value ∷ []
-kinds_of form.WritesFour = kind.Client ∷ kind.Item ∷ kind.Value ∷ kind.Item ∷ kind.Value ∷ kind.Item ∷ kind.Value ∷ kind.Item ∷ kind.Value ∷ []
+kinds_of form.WritesFour =
+    kind.Client ∷ kind.Item ∷ kind.Value ∷ kind.Item ∷ kind.Value ∷ kind.Item ∷ kind.Value ∷ kind.Item ∷ kind.Value ∷ []
 kinds_of form.Read = kind.Client ∷ kind.Item ∷ []
 kinds_of form.Move = kind.Client ∷ kind.Site ∷ []
 kinds_of form.Leave = kind.Client ∷ []
@@ -94,7 +96,10 @@ kinds_of _ = []
 
 -- the forms of acts, in the order in which they are tried
 abbrev pub act_forms : List Form
-act_forms = form.Hop ∷ form.Bulk ∷ form.Turn ∷ form.Tick ∷ form.Write ∷ form.Read ∷ form.Emit ∷ form.Gather ∷ form.NumberedBulk ∷ form.Pulse ∷ form.Beat ∷ form.BeatIn ∷ form.Stamp ∷ form.Move ∷ form.Leave ∷ form.Attach ∷ form.Clock ∷ form.Close ∷ form.Fall ∷ form.Advance ∷ form.Kill ∷ form.Settle ∷ form.WritesTwo ∷ form.WritesThree ∷ form.WritesFour ∷ []
+act_forms =
+    form.Hop ∷ form.Bulk ∷ form.Turn ∷ form.Tick ∷ form.Write ∷ form.Read ∷ form.Emit ∷ form.Gather ∷ form.NumberedBulk
+    ∷ form.Pulse ∷ form.Beat ∷ form.BeatIn ∷ form.Stamp ∷ form.Move ∷ form.Leave ∷ form.Attach ∷ form.Clock ∷ form.Close
+    ∷ form.Fall ∷ form.Advance ∷ form.Kill ∷ form.Settle ∷ form.WritesTwo ∷ form.WritesThree ∷ form.WritesFour ∷ []
 
 -- the words at their places; 0 or nothing where there is no such word
 abbrev pub place_in : Option Said → ℕ
@@ -137,11 +142,16 @@ group_of c items values = if list_all is_value values then Some (act.Writes c it
 abbrev pub act_of : Form → List Said → Option Act
 act_of form.Tick xs = Some (act.Tick (place_at xs 0) (place_at xs 1) (num_at xs 2))
 act_of form.Clock xs = Some act.Clock
-act_of form.Write xs = if is_value (bytes_at xs 2) then Some (act.Write (place_at xs 0) (place_at xs 1) (bytes_at xs 2)) else None
-act_of form.WritesTwo xs = group_of (place_at xs 0) (Two (place_at xs 1) (place_at xs 3)) (bytes_at xs 2 ∷ bytes_at xs 4 ∷ [])
-act_of form.WritesThree xs = group_of (place_at xs 0) (Three (place_at xs 1) (place_at xs 3) (place_at xs 5)) (bytes_at xs 2 ∷ bytes_at xs 4 ∷ bytes_at xs 6 ∷ [])
+act_of form.Write xs =
+    if is_value (bytes_at xs 2) then Some (act.Write (place_at xs 0) (place_at xs 1) (bytes_at xs 2)) else None
+act_of form.WritesTwo xs =
+    group_of (place_at xs 0) (Two (place_at xs 1) (place_at xs 3)) (bytes_at xs 2 ∷ bytes_at xs 4 ∷ [])
+act_of form.WritesThree xs =
+    group_of (place_at xs 0) (Three (place_at xs 1) (place_at xs 3) (place_at xs 5))
+    (bytes_at xs 2 ∷ bytes_at xs 4 ∷ bytes_at xs 6 ∷ [])
 act_of form.WritesFour xs =
-    group_of (place_at xs 0) (Four (place_at xs 1) (place_at xs 3) (place_at xs 5) (place_at xs 7)) (bytes_at xs 2 ∷ bytes_at xs 4 ∷ bytes_at xs 6 ∷ bytes_at xs 8 ∷ [])
+    group_of (place_at xs 0) (Four (place_at xs 1) (place_at xs 3) (place_at xs 5) (place_at xs 7))
+    (bytes_at xs 2 ∷ bytes_at xs 4 ∷ bytes_at xs 6 ∷ bytes_at xs 8 ∷ [])
 act_of form.Read xs = Some (act.Read (place_at xs 0) (place_at xs 1))
 act_of form.Move xs = Some (act.Move (place_at xs 0) (place_at xs 1))
 act_of form.Leave xs = Some (act.Leave (place_at xs 0))
@@ -297,7 +307,8 @@ onto a (Ok more) = Ok (a ∷ more)
 onto a (Err cause) = Err cause
 
 -- the words in turn; an epoch says in which tree the nodes after it stand
-abbrev pub in_tree : Deployed → Kind → TreeShape → Said → (TreeShape → Result (List Said) Cause) → Result (List Said) Cause
+abbrev pub in_tree : Deployed → Kind → TreeShape → Said → (TreeShape → Result (List Said) Cause)
+    → Result (List Said) Cause
 in_tree d kind.Epoch t (place e) next = given NoEdge (tree_of d e) next
 in_tree d _ t a next = next t
 
@@ -336,16 +347,17 @@ unfit d _ = None
 -- the first form with this word and so many more
 abbrev pub found_form : List ℕ → ℕ → List Form → Option Form
 found_form word n [] = None
-found_form word n (f ∷ fs) = if (length (kinds_of f) == n) && bytes_eq word (word_of f) then Some f else found_form word n fs
+found_form word n (f ∷ fs) =
+    if (length (kinds_of f) == n) && bytes_eq word (word_of f) then Some f else found_form word n fs
 
 -- the act that the words say, unless its parts do not go together
 abbrev pub said_act : Deployed → Form → Result (List Said) Cause → Result Act Cause
 said_act d f (Err cause) = Err cause
 said_act d f (Ok xs) = given OutOfRange (act_of f xs) (λ a. barred (unfit d a) (Ok a))
 
--- the causes in their order, where the first argument says why a line of a form may not stand here: no form; that cause; a name that
--- the header lacks, over all words; a number or a node out of range, in turn; two sites that are one, two nodes that are no edge, and items
--- that don't ascend
+-- the causes in their order, where the first argument says why a line of a form may not stand here: no form; that
+-- cause; a name that the header lacks, over all words; a number or a node out of range, in turn; two sites that are
+-- one, two nodes that are no edge, and items that don't ascend
 unfoldable pub form_line : (Form → Option Cause) → Deployed → Form → List (List ℕ) → Result Act Cause
 form_line bars d f words =
     needs BadAct (allows d.format f)
@@ -353,7 +365,8 @@ form_line bars d f words =
     (barred (bars f)
     (needs UnknownName (all_known d (kinds_of f) words) (said_act d f (all_say d no_tree (kinds_of f) words)))))
 
--- what words of these kinds say behind the word of an act, by the same causes in their order, where one may say that no further act may come
+-- what words of these kinds say behind the word of an act, by the same causes in their order, where one may say that no
+-- further act may come
 unfoldable pub kinds_say : Option Cause → Deployed → List Kind → List (List ℕ) → Result (List Said) Cause
 kinds_say full d kinds words =
     needs BadAct (shapes kinds words)

@@ -55,7 +55,8 @@ is_token word = nat_lt 0 (length word) && list_all (is_between 33 126) word
 
 -- `0`, or digits that don't begin with `0`
 abbrev pub is_number : List ℕ → Bool
-is_number word = nat_lt 0 (length word) && (all_ascii_digits word && (length word == 1 || not (slice_index word 0 == 48)))
+is_number word =
+    nat_lt 0 (length word) && (all_ascii_digits word && (length word == 1 || not (slice_index word 0 == 48)))
 
 -- the number that digits stand for
 abbrev pub value_of : List ℕ → ℕ
@@ -67,7 +68,8 @@ number_below limit word = if is_number word && nat_lt (value_of word) limit then
 
 -- a number from 1 to a limit
 unfoldable pub number_to : ℕ → List ℕ → Option ℕ
-number_to limit word = if is_number word && (nat_lt 0 (value_of word) && nat_le (value_of word) limit) then Some (value_of word) else None
+number_to limit word =
+    if is_number word && (nat_lt 0 (value_of word) && nat_le (value_of word) limit) then Some (value_of word) else None
 
 -- a number from 0 to a limit
 unfoldable pub number_up_to : ℕ → List ℕ → Option ℕ
@@ -133,4 +135,5 @@ unfoldable pub node_in : TreeShape → List ℕ → Option NodeId
 unfolding number_below
 node_in t [] = None
 node_in t (byte ∷ number) =
-    if byte == 115 then option_map Site (number_below (length t.seats) number) else option_map Serializer (number_below (length t.parents) number)
+    if byte == 115 then option_map Site (number_below (length t.seats) number)
+    else option_map Serializer (number_below (length t.parents) number)

@@ -85,7 +85,8 @@ fn node_of<'a>(tree: Option<&Tree>, word: &[u8]) -> Option<Said<'a>>
 #[inline(always)]
 #[tactic(auto, using(crate::proofs::NoTree::no_serializer))]
 fn serializer_of<'a>(tree: Option<&Tree>, word: &[u8]) -> Option<Said<'a>>
-    ensures { option_map said_of result ≡ option_map place (serializer_in (shape_of (option_copied tree.entry)) word.now) }
+    ensures { option_map said_of result
+        ≡ option_map place (serializer_in (shape_of (option_copied tree.entry)) word.now) }
 {
     place_of(serializer_in(tree?, word))
 }
@@ -151,7 +152,8 @@ fn all_say<'a>(
     said: &mut Args<'a>,
 ) -> Result<(), Cause>
     requires { length said.old.items + length kinds.now ≤ 9 }
-    ensures { SaysOn result said.old.items said.new.items (all_say header.now.said (shape_of (option_copied tree.entry)) kinds.now (map (λ word. word.now) words.now)) }
+    ensures { SaysOn result said.old.items said.new.items
+        (all_say header.now.said (shape_of (option_copied tree.entry)) kinds.now (map (λ word. word.now) words.now)) }
 {
     let Some((kind, kinds)) = kinds.split_first() else {
         return Ok(());
@@ -195,7 +197,8 @@ fn begins(kind: Kind, word: &[u8]) -> bool
 
 // What an epoch says, and its tree.
 fn read_epoch<'h>(header: &'h Header, word: &[u8]) -> Option<(u16, &'h Tree)>
-    ensures read { (t : TreeShape) → IfSome result (λ read. IsReadWord header.now.said t Kind.Epoch word.now (place read.0) read.1.now) }
+    ensures read { (t : TreeShape)
+        → IfSome result (λ read. IsReadWord header.now.said t Kind.Epoch word.now (place read.0) read.1.now) }
     ensures tree { IfSome result (λ read. tree_of header.now.said read.0 ≡ Some read.1.now) }
 {
     let epoch = number_to(header.plans(), word)?;
@@ -316,8 +319,10 @@ fn form_line(alloc: Global, place: &Place, form: Form, words: &[&[u8]]) -> Resul
 pub fn kinds_say<'a>(place: &Place, kinds: &[Kind], words: &[&'a [u8]]) -> Result<Args<'a>, Cause>
     requires { length kinds.now ≤ 9 }
     ensures { MatchResult result
-        (λ args. kinds_say (full place.now) place.now.header kinds.now (map (λ word. word.now) words.now) ≡ Ok (map said_of args.items))
-        (λ cause. kinds_say (full place.now) place.now.header kinds.now (map (λ word. word.now) words.now) ≡ Err cause) }
+        (λ args. kinds_say (full place.now) place.now.header kinds.now (map (λ word. word.now) words.now)
+        ≡ Ok (map said_of args.items))
+        (λ cause. kinds_say (full place.now) place.now.header kinds.now (map (λ word. word.now) words.now)
+        ≡ Err cause) }
 {
     if !shapes(kinds, words) {
         return Err(Cause::BadAct);
@@ -377,7 +382,8 @@ fn read_gear(header: &Header, word: &[u8]) -> Option<u16>
 #[tactic(auto, using(crate::proofs::Quick::client_at))]
 fn read_client(header: &Header, word: &[u8]) -> Option<u16>
     requires { HaveNames header.now.said }
-    ensures { IfSome result (λ client. (t : TreeShape) → IsReadWord header.now.said t Kind.Client word.now (place client) t) }
+    ensures { IfSome result (λ client. (t : TreeShape)
+        → IsReadWord header.now.said t Kind.Client word.now (place client) t) }
 {
     header.client_of(word)
 }
@@ -426,7 +432,8 @@ fn numbered_bulk_of(
     number: &[u8],
 ) -> Option<Act>
     requires { HaveNames header.now.said }
-    ensures { IfSome result (λ act. SaysAct header.now.said (codes "bulk") (from.now ∷ gear.now ∷ to.now ∷ number.now ∷ []) act) }
+    ensures { IfSome result
+        (λ act. SaysAct header.now.said (codes "bulk") (from.now ∷ gear.now ∷ to.now ∷ number.now ∷ []) act) }
 {
     let from = read_site(header, from)?;
     let gear = read_gear(header, gear)?;
@@ -456,7 +463,8 @@ fn tick_of(header: &Header, site: &[u8], gear: &[u8], ts: &[u8]) -> Option<Act>
 #[inline(always)]
 fn beat_in_of(header: &Header, from: &[u8], to: &[u8], number: &[u8]) -> Option<Act>
     requires { HaveNames header.now.said }
-    ensures { IfSome result (λ act. SaysAct header.now.said (codes "beatin") (from.now ∷ to.now ∷ number.now ∷ []) act) }
+    ensures { IfSome result
+        (λ act. SaysAct header.now.said (codes "beatin") (from.now ∷ to.now ∷ number.now ∷ []) act) }
 {
     let from = read_site(header, from)?;
     let to = read_site(header, to)?;
@@ -489,7 +497,8 @@ fn hop_of(header: &Header, epoch: &[u8], from: &[u8], to: &[u8]) -> Option<Act>
 #[inline(always)]
 fn write_of(alloc: Global, header: &Header, client: &[u8], item: &[u8], value: &[u8]) -> Option<Act>
     requires { HaveNames header.now.said }
-    ensures { IfSome result (λ act. SaysAct header.now.said (codes "write") (client.now ∷ item.now ∷ value.now ∷ []) act) }
+    ensures { IfSome result
+        (λ act. SaysAct header.now.said (codes "write") (client.now ∷ item.now ∷ value.now ∷ []) act) }
 {
     let client = read_client(header, client)?;
     let item = read_item(header, item)?;
@@ -555,7 +564,8 @@ fn leave_of(header: &Header, client: &[u8]) -> Option<Act>
 // The act of a form whose only word is a site.
 #[inline(always)]
 fn act_of_site(form: Form, site: u16) -> Option<Act>
-    ensures { IfSome result (λ act. (kinds_of form ≡ kind.Site ∷ []) × (args_of act ≡ place site ∷ []) × (act_of form (args_of act) ≡ Some act)
+    ensures { IfSome result (λ act. (kinds_of form ≡ kind.Site ∷ []) × (args_of act ≡ place site ∷ [])
+        × (act_of form (args_of act) ≡ Some act)
         × (is_counted form ≡ true) × ((d : Deployed) → unfit d act ≡ None)) }
 {
     match form {
@@ -649,7 +659,8 @@ pub fn act_of_five(
     four: &[u8],
 ) -> Option<Act>
     requires { HaveNames header.now.said }
-    ensures { IfSome result (λ act. SaysAct header.now.said word.now (one.now ∷ two.now ∷ three.now ∷ four.now ∷ []) act) }
+    ensures { IfSome result
+        (λ act. SaysAct header.now.said word.now (one.now ∷ two.now ∷ three.now ∷ four.now ∷ []) act) }
 {
     match word {
         [b'b', b'u', b'l', b'k'] => numbered_bulk_of(header, one, two, three, four),
@@ -657,8 +668,8 @@ pub fn act_of_five(
     }
 }
 
-/// The act of a write whose line may be long, cut at its first three blanks. Its value has no more of them. Short lines have a call of
-/// their own, so that it has one caller, into which it goes whole.
+/// The act of a write whose line may be long, cut at its first three blanks. Its value has no more of them. Short lines
+/// have a call of their own, so that it has one caller, into which it goes whole.
 pub fn long_write_of(
     alloc: Global,
     header: &Header,
@@ -667,7 +678,8 @@ pub fn long_write_of(
     value: &[u8],
 ) -> Option<Act>
     requires { HaveNames header.now.said }
-    ensures { IfSome result (λ act. SaysAct header.now.said (codes "write") (client.now ∷ item.now ∷ value.now ∷ []) act × (words_of value.now ≡ value.now ∷ [])) }
+    ensures { IfSome result (λ act. SaysAct header.now.said (codes "write") (client.now ∷ item.now ∷ value.now ∷ []) act
+        × (words_of value.now ≡ value.now ∷ [])) }
 {
     let client = read_client(header, client)?;
     let item = read_item(header, item)?;

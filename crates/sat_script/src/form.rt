@@ -1,4 +1,5 @@
-//! The forms of lines, and the table of the acts: the word that an act begins with, and the kinds of the words after it.
+//! The forms of lines, and the table of the acts: the word that an act begins with, and the kinds of the words after
+//! it.
 ghost use Rattle.std.specs.Prelude.{◌≡◌, ◌≤◌, length, Some, IfSome};
 ghost use Rattle.sat_script.specs.Dialect.{allows, is_audited, is_chained, is_lasting, is_live, written_by};
 ghost use Rattle.sat_script.specs.Table.{word_of, kinds_of, act_forms, found_form};

@@ -35,9 +35,13 @@ impl Model for Header {
 
     ghost Value = { HeaderSeen };
 
-    ghost view = { λ h. record { said = said_by h.whole (record { format = h.format; sites = h.sites; gears = h.gears; items = h.items.items; clients = h.clients.items; plans = h.plans.items }); whole = h.whole } };
+    ghost view = { λ h.
+        record { said = said_by h.whole (record { format = h.format; sites = h.sites; gears = h.gears; items = h.items.items; clients = h.clients.items; plans = h.plans.items }); whole = h.whole } };
 
-    ghost invariant = { λ h. AreNamed (said_by h.whole (record { format = h.format; sites = h.sites; gears = h.gears; items = h.items.items; clients = h.clients.items; plans = h.plans.items })) h.format h.sites h.gears h.item_names h.client_names };
+    ghost invariant = { λ h.
+        AreNamed
+        (said_by h.whole
+        (record { format = h.format; sites = h.sites; gears = h.gears; items = h.items.items; clients = h.clients.items; plans = h.plans.items })) h.format h.sites h.gears h.item_names h.client_names };
 }
 
 impl Header {
@@ -221,7 +225,8 @@ impl Header {
         requires open { self.old.whole ≡ None }
         requires few { length self.old.said.items < MOST_ITEMS }
         requires new { has_item self.old.said item.name ≡ false }
-        ensures ok { OnOk result (self.new ≡ record self.old { said = record self.old.said { items = self.old.said.items ++ item ∷ [] } }) }
+        ensures ok { OnOk result
+            (self.new ≡ record self.old { said = record self.old.said { items = self.old.said.items ++ item ∷ [] } }) }
         ensures err { OnErr result (self.new ≡ self.old) }
     {
         self.items.reserve(1)?;
@@ -235,7 +240,8 @@ impl Header {
         requires open { self.old.whole ≡ None }
         requires few { length self.old.said.clients < MOST_CLIENTS }
         requires new { has_client self.old.said line.name ≡ false }
-        ensures ok { OnOk result (self.new ≡ record self.old { said = record self.old.said { clients = self.old.said.clients ++ line ∷ [] } }) }
+        ensures ok { OnOk result (self.new
+            ≡ record self.old { said = record self.old.said { clients = self.old.said.clients ++ line ∷ [] } }) }
         ensures err { OnErr result (self.new ≡ self.old) }
     {
         self.clients.reserve(1)?;
@@ -248,7 +254,8 @@ impl Header {
     pub fn add_plan(&mut self, plan: Plan) -> Result<(), AllocError>
         requires open { self.old.whole ≡ None }
         requires few { length self.old.said.plans < MOST_PLANS }
-        ensures ok { OnOk result (self.new ≡ record self.old { said = record self.old.said { plans = self.old.said.plans ++ plan ∷ [] } }) }
+        ensures ok { OnOk result
+            (self.new ≡ record self.old { said = record self.old.said { plans = self.old.said.plans ++ plan ∷ [] } }) }
         ensures err { OnErr result (self.new ≡ self.old) }
     {
         self.plans.push(plan)?;

@@ -212,8 +212,8 @@ fn new_tree(
     }
 }
 
-// The tree of serializer 0, those that hang on others, and the seats, where it is one for so many sites. Its numbers are below the
-// number of its serializers.
+// The tree of serializer 0, those that hang on others, and the seats, where it is one for so many sites. Its numbers
+// are below the number of its serializers.
 fn tree_on(
     alloc: Global,
     sites: u16,
@@ -224,7 +224,8 @@ fn tree_on(
     requires seats { list_all is_number (map (λ word. word.now) seats.now) ≡ true }
     requires few { sites ≤ MOST_SITES }
     requires short { length words.now < 15 }
-    ensures { IfOk result (λ found. IsTreeOf sites (tree_on (map (λ word. word.now) words.now) (map (λ word. word.now) seats.now)) found) }
+    ensures { IfOk result (λ found.
+        IsTreeOf sites (tree_on (map (λ word. word.now) words.now) (map (λ word. word.now) seats.now)) found) }
 {
     let serializers = words.len() as u16 + 1;
     let Some(numbers) = numbers_below(alloc, serializers, words)? else {
@@ -249,7 +250,8 @@ fn tree_in(
     requires parents { are_parents (map (λ word. word.now) parents.now) ≡ true }
     requires seats { list_all is_number (map (λ word. word.now) seats.now) ≡ true }
     requires few { sites ≤ MOST_SITES }
-    ensures { IfOk result (λ found. IsTreeOf sites (tree_in (map (λ word. word.now) parents.now) (map (λ word. word.now) seats.now)) found) }
+    ensures { IfOk result (λ found.
+        IsTreeOf sites (tree_in (map (λ word. word.now) parents.now) (map (λ word. word.now) seats.now)) found) }
 {
     if parents.len() > 15 {
         return Ok(None);
@@ -267,7 +269,8 @@ fn tree_line(
     parents: &[&[u8]],
     seats: &[&[u8]],
 ) -> Result<Parsed, Cause>
-    ensures { Gives result (tree_line place.now (map (λ word. word.now) parents.now) (map (λ word. word.now) seats.now)) }
+    ensures { Gives result
+        (tree_line place.now (map (λ word. word.now) parents.now) (map (λ word. word.now) seats.now)) }
 {
     if !(are_parents(parents) && are_numbers(seats)) {
         return Err(Cause::BadHeader);
@@ -291,7 +294,8 @@ fn slash_of(words: &[&[u8]]) -> Option<usize>
 // The words of a tree, parted at the first `/`.
 #[tactic(auto, unfolding(crate::specs::Grammar::parted_line))]
 fn parted_line(alloc: Global, place: &Place, words: &[&[u8]]) -> Result<Parsed, Cause>
-    ensures { Gives result (parted_line place.now (map (λ word. word.now) words.now) (position is_slash (map (λ word. word.now) words.now))) }
+    ensures { Gives result (parted_line place.now (map (λ word. word.now) words.now)
+        (position is_slash (map (λ word. word.now) words.now))) }
 {
     match slash_of(words) {
         Some(slash) => tree_line(alloc, place, &words[..slash], &words[slash + 1..]),

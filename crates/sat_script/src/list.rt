@@ -46,7 +46,8 @@ pub fn numbers_below(
     requires { list_all is_number (map (λ word. word.now) words.now) ≡ true }
     ensures { IfOk result (λ found. MatchOption found
         (are_below limit (map (λ word. word.now) words.now) ≡ false)
-        (λ numbers. (are_below limit (map (λ word. word.now) words.now) ≡ true) × (numbers.items ≡ map value_of (map (λ word. word.now) words.now)))) }
+        (λ numbers. (are_below limit (map (λ word. word.now) words.now) ≡ true)
+        × (numbers.items ≡ map value_of (map (λ word. word.now) words.now)))) }
 {
     let mut numbers = Vec::new(alloc);
     for word in words {

@@ -23,7 +23,8 @@ pub fn serializer_in(tree: &Tree, word: &[u8]) -> Option<u16>
 
 // The site, or else the serializer, of a tree that has a number.
 fn node_of(tree: &Tree, is_site: bool, number: &[u8]) -> Option<NodeId>
-    ensures node { result ≡ (if is_site then option_map Site (number_below (length tree.now.seats) number.now) else option_map Serializer (number_below (length tree.now.parents) number.now)) }
+    ensures node { result ≡ (if is_site then option_map Site (number_below (length tree.now.seats) number.now)
+        else option_map Serializer (number_below (length tree.now.parents) number.now)) }
     ensures inside { IfSome result (IsNode tree.now) }
 {
     if is_site {

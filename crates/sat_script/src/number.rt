@@ -76,7 +76,8 @@ pub fn is_number(word: &[u8]) -> bool
     !begins_badly(word) && all_digits(word)
 }
 
-/// Whether a number is below another, both of any length: the shorter one is, and of two as long the one that is first by its bytes.
+/// Whether a number is below another, both of any length: the shorter one is, and of two as long the one that is first
+/// by its bytes.
 pub fn is_less(a: &[u8], b: &[u8]) -> bool
     requires a { is_number a.now ≡ true }
     requires b { is_number b.now ≡ true }

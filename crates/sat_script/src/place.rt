@@ -36,7 +36,10 @@ impl Model for Place {
 
     ghost view = { λ a. record { dialect = a.dialect; stage = a.stage; header = a.header.said; acts = a.acts; settles = a.settles } };
 
-    ghost invariant = { λ a. IsKept (record { dialect = a.dialect; stage = a.stage; header = a.header.said; acts = a.acts; settles = a.settles }) a.header.whole };
+    ghost invariant = { λ a.
+        IsKept
+        (record { dialect = a.dialect; stage = a.stage; header = a.header.said; acts = a.acts; settles = a.settles })
+        a.header.whole };
 }
 
 impl Place {

@@ -205,13 +205,15 @@ impl Reader {
         self.place.full()
     }
 
-    /// What words say that stand behind the first word of an act which the reader has not, by their kinds: the causes are those of an
-    /// act with such words, in their order.
+    /// What words say that stand behind the first word of an act which the reader has not, by their kinds: the causes
+    /// are those of an act with such words, in their order.
     pub fn said<'a>(&self, kinds: &[Kind], words: &[&'a [u8]]) -> Result<Args<'a>, Cause>
         requires { length kinds.now ≤ 9 }
         ensures { MatchResult result
-            (λ args. kinds_say (full self.now.state) self.now.state.header kinds.now (map (λ word. word.now) words.now) ≡ Ok (map said_of args.items))
-            (λ cause. kinds_say (full self.now.state) self.now.state.header kinds.now (map (λ word. word.now) words.now) ≡ Err cause) }
+            (λ args. kinds_say (full self.now.state) self.now.state.header kinds.now (map (λ word. word.now) words.now)
+            ≡ Ok (map said_of args.items))
+            (λ cause. kinds_say (full self.now.state) self.now.state.header kinds.now (map (λ word. word.now) words.now)
+            ≡ Err cause) }
     {
         kinds_say(&self.place, kinds, words)
     }
@@ -239,8 +241,8 @@ impl Reader {
         line_at(self.alloc, &self.place, bytes)
     }
 
-    /// The act that the next line says, where it is found quickly: a line without an answer may be good too. Words that say an act are
-    /// text, so no byte is asked for that before.
+    /// The act that the next line says, where it is found quickly: a line without an answer may be good too. Words that
+    /// say an act are text, so no byte is asked for that before.
     #[inline(always)]
     pub fn good_act(&self, line: &[u8]) -> Option<Act>
         ensures { IfSome result (λ act. line_at self.now.state line.now ≡ Ok (parsed.Act act)) }
@@ -275,7 +277,9 @@ impl Reader {
     #[inline(always)]
     pub fn takes_act(&mut self, act: Act, acts: &mut Acts) -> bool
         requires fits { IsFit (after self.old.state (parsed.Act act)) }
-        ensures yes { IsTrue result → (self.new ≡ record { state = after self.old.state (parsed.Act act); fault = self.old.fault }) × (acts.new ≡ acts.old ++ act ∷ []) }
+        ensures yes { IsTrue result
+            → (self.new ≡ record { state = after self.old.state (parsed.Act act); fault = self.old.fault })
+            × (acts.new ≡ acts.old ++ act ∷ []) }
         ensures no { result ≡ false → (self.new ≡ self.old) × (acts.new ≡ acts.old) }
     {
         self.place.keep_act(act, acts).is_ok()
@@ -285,9 +289,11 @@ impl Reader {
     #[inline(always)]
     fn keep_act(&mut self, act: Act, acts: &mut Acts) -> Result<(), ScriptFault>
         requires fits { IsFit (after self.old.state (parsed.Act act)) }
-        ensures ok { OnOk result ((self.new ≡ record { state = after self.old.state (parsed.Act act); fault = self.old.fault })
+        ensures ok { OnOk result
+            ((self.new ≡ record { state = after self.old.state (parsed.Act act); fault = self.old.fault })
             × (acts.new ≡ acts.old ++ act ∷ [])) }
-        ensures err { IfErr result (λ fault. (fault ≡ fault_at self.old.state Cause.Memory) × (self.new ≡ failed self.old.state fault) × (acts.new ≡ acts.old)) }
+        ensures err { IfErr result (λ fault. (fault ≡ fault_at self.old.state Cause.Memory)
+            × (self.new ≡ failed self.old.state fault) × (acts.new ≡ acts.old)) }
     {
         match self.place.keep_act(act, acts) {
             Ok(()) => Ok(()),
@@ -301,7 +307,8 @@ impl Reader {
         requires suits { Suits self.old.state parsed }
         ensures ok { OnOk result ((self.new ≡ record { state = after self.old.state parsed; fault = self.old.fault })
             × (acts.new ≡ acts_with acts.old (told_line parsed))) }
-        ensures err { IfErr result (λ fault. (fault ≡ fault_at self.old.state Cause.Memory) × (self.new ≡ failed self.old.state fault) × (acts.new ≡ acts.old)) }
+        ensures err { IfErr result (λ fault. (fault ≡ fault_at self.old.state Cause.Memory)
+            × (self.new ≡ failed self.old.state fault) × (acts.new ≡ acts.old)) }
     {
         if let Parsed::Act(act) = parsed {
             return self.keep_act(act, acts);
@@ -315,8 +322,8 @@ impl Reader {
         }
     }
 
-    /// Takes the next line, without its byte 10. After `end` every line is refused with `AfterEnd`. After a fault every call answers
-    /// that fault; a fault for want of memory is one.
+    /// Takes the next line, without its byte 10. After `end` every line is refused with `AfterEnd`. After a fault every
+    /// call answers that fault; a fault for want of memory is one.
     pub fn line(&mut self, bytes: &[u8]) -> Result<Line, ScriptFault>
         ensures { Takes self.old.fault self.old.state self.new result bytes.now }
     {

@@ -95,7 +95,8 @@ fn write_of(alloc: Global, said: &[Said]) -> Result<Act, Cause>
 #[tactic(auto, using(std::proofs::lemmas::List::append_assoc))]
 fn add_values(alloc: Global, values: &mut Vec<Value>, texts: &[&[u8]]) -> Result<bool, AllocError>
     ensures test { IfOk result (λ each. each ≡ list_all is_value (map (λ text. text.now) texts.now)) }
-    ensures values { IfOk result (λ each. IsTrue each → values.new.items ≡ values.old.items ++ map (λ text. text.now) texts.now) }
+    ensures values { IfOk result (λ each. IsTrue each → values.new.items ≡ values.old.items
+        ++ map (λ text. text.now) texts.now) }
 {
     let Some((text, texts)) = texts.split_first() else {
         return Ok(true);
@@ -123,7 +124,8 @@ fn group_of(alloc: Global, client: u16, items: Items, texts: &[&[u8]]) -> Result
     }
 }
 
-// The same of words that say the client and two items with their values. Kept out of its caller, as lines of groups are rare.
+// The same of words that say the client and two items with their values. Kept out of its caller, as lines of groups are
+// rare.
 #[inline(never)]
 fn writes_two(alloc: Global, said: &[Said]) -> Result<Act, Cause>
     ensures { Gives result (given OutOfRange (act_of form.WritesTwo (map said_of said.now)) Ok) }

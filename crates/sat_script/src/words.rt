@@ -54,8 +54,8 @@ pub fn first_words<'a>(line: &'a [u8], words: &mut FirstWords<'a>) -> bool
 /// The most bytes of a short line.
 pub const SHORT_LINE: usize = 64;
 
-/// Finds the places of a short line's blanks. How many there are. No branch asks for a byte, since words begin and end where none can
-/// foretell it.
+/// Finds the places of a short line's blanks. How many there are. No branch asks for a byte, since words begin and end
+/// where none can foretell it.
 #[inline(never)]
 pub fn blanks(line: &[u8], places: &mut [u8; 64]) -> usize
     requires short { length line.now ≤ 64 }
@@ -158,7 +158,8 @@ fn cut_word(text: &[u8]) -> Option<(&[u8], &[u8])>
 /// The first three words of a line, and what stands behind the third blank.
 #[inline(always)]
 pub fn cut_line(line: &[u8]) -> Option<(&[u8], &[u8], &[u8], &[u8])>
-    ensures { IfSome result (λ parts. words_of line.now ≡ parts.0.now ∷ parts.1.now ∷ parts.2.now ∷ words_of parts.3.now) }
+    ensures { IfSome result (λ parts. words_of line.now ≡ parts.0.now ∷ parts.1.now ∷ parts.2.now
+        ∷ words_of parts.3.now) }
 {
     let (word, rest) = cut_word(line)?;
     let (one, rest) = cut_word(rest)?;

@@ -69,7 +69,8 @@ fn add_with_comma(alloc: Global, list: &mut Vec<u8>, number: u16) -> Result<(), 
 
 // Adds a site to a list with commas, where it is in a set.
 fn add_site(alloc: Global, list: &mut Vec<u8>, set: SiteSet, site: u16) -> Result<(), AllocError>
-    ensures { OnOk result (list.new.items ≡ (if bit set.bits site then with_comma list.old.items (decimal site) else list.old.items)) }
+    ensures { OnOk result (list.new.items
+        ≡ (if bit set.bits site then with_comma list.old.items (decimal site) else list.old.items)) }
 {
     if !set.has(site) {
         return Ok(());
@@ -233,7 +234,8 @@ fn add_texts(
     add_texts(alloc, line, d, kinds, said)
 }
 
-/// The line of an act, without its byte 10. A client or an item that the deployment doesn't have is written with an empty name.
+/// The line of an act, without its byte 10. A client or an item that the deployment doesn't have is written with an
+/// empty name.
 #[tactic(auto, unfolding(crate::specs::Table::act_words))]
 pub fn act_line(alloc: Global, d: &Deployment, act: &Act) -> Result<Vec<u8>, AllocError>
     ensures { IfOk result (λ line. line.items ≡ act_text d.now act.now) }

@@ -1,22 +1,19 @@
 -- Outboxes of the neighbours.
 use Rattle.std.proofs.Common.{◌≡◌, ◌≢◌, ℕ, zero, suc, ◌+◌, ◌<◌, ◌||◌, Bool, true, false, cond, List, [], ◌∷◌, ◌++◌, length, map, take, drop, set, get_or, Option, Some, None, slice_get, inl, inr, refl, sym, ap, ◌∙◌, subst, arith}
-use Rattle.std.specs.List.{list_any, position, position_from, AllWithin}
+use Rattle.std.specs.List.{list_any, position, position_from}
 use Rattle.std.specs.Option.{option_to_list}
 use Rattle.std.proofs.lemmas.Bool.{cases_Bool}
 use Rattle.std.proofs.Math.Numerals.{add-one}
-use Rattle.std.proofs.Math.Seq.{map-set_same}
-use Rattle.std.proofs.lemmas.List.{map-set, get_or-map, set-get_or, get_or-set_other, length-set}
+use Rattle.std.proofs.lemmas.List.{map-set, get_or-map}
 use Rattle.std.proofs.lemmas.List.Quantifiers.{position-Some}
 use Rattle.std.proofs.lemmas.Iterator.Adapters.{position_from-zero}
-use Rattle.std.specs.declared.collections.VecDeque.{VecDeque}
 use Rattle.sat_label.specs.declared.label.Label.{Label}
 use Rattle.sat_label.specs.declared.node.NodeId.{NodeId}
 use Rattle.sat_label.specs.Order.{node_eq}
 use Rattle.sat_label.proofs.SameNodes.{same-node, node-self}
 use Rattle.sat_sites.specs.Interested.{Interested}
 use Rattle.sat_tree.specs.Cut.{neighbours}
-use Rattle.sat_queue.specs.Queued.{Queued, members_of, HasRoom}
-use Rattle.sat_serial.specs.Queues.{labels_in}
+use Rattle.sat_queue.specs.Queued.{Queued, members_of}
 use Rattle.sat_serial.specs.Routes.{goes}
 use Rattle.sat_serial.specs.Outboxes.{SerializerSeen, after_handle, change_where, box_of, boxes_without, EachOutbox}
 use Rattle.sat_tree.specs.Shape.{TreeShape}
@@ -200,42 +197,6 @@ each-outbox = record {
 }
 
 -- ---- the loops over the queues
-
--- a queue in place of one with the same labels
-pub same-labels : {Z : Type 0} (queues : List (VecDeque Label Z)) (i : ℕ) (q p : VecDeque Label Z) → q ≡ get_or queues i q → p.items ≡ q.items → labels_in (set queues i p) ≡ labels_in queues
-same-labels queues i q p here same = map-set_same (λ (r : VecDeque Label _). r.items) queues i p q (same ∙ ap (λ (r : VecDeque Label _). r.items) here)
-
--- the next queue gets its copy
-pub copied : {X : Type 0} (test : X → Bool) (f : List Label → List Label) (nodes : List X) (queues : List (Queued Label)) (boxes : List (List Label)) (i : ℕ) (d : X) (q p : Queued Label) →
-    length queues ≡ length nodes → length boxes ≡ length nodes → i < length nodes → map members_of queues ≡ change_where test f (take i nodes) boxes → test (get_or nodes i d) ≡ true →
-    q ≡ get_or queues i q → p.members ≡ f q.members → map members_of (set queues i p) ≡ change_where test f (take (i + 1) nodes) boxes
-copied test f nodes queues boxes i d q p size old less labels passes here change =
-    let box : q.members ≡ get_or boxes i [] =
-    ap (λ (r : Queued Label). r.members) here ∙ (sym (queue-at queues i q (subst (λ (n : ℕ). i < n) (sym size) less))
-    ∙ (ap (λ (xs : List (List Label)). get_or xs i []) labels ∙ still test f nodes boxes i less old)) in
-    map-set (λ (r : Queued Label). r.members) queues i p
-    ∙ (ap (λ (xs : List Label). set (map members_of queues) i xs) (change ∙ ap f box)
-    ∙ (ap (λ (xs : List (List Label)). set xs i (f (get_or boxes i []))) labels
-    ∙ sym (more test f nodes boxes i d less old ∙ ap (λ (b : Bool). set (change_where test f (take i nodes) boxes) i (cond b (f (get_or boxes i [])) (get_or boxes i []))) passes)))
-
--- the next queue gets none
-pub passed : {X : Type 0} (test : X → Bool) (f : List Label → List Label) (nodes : List X) (labels boxes : List (List Label)) (i : ℕ) (d : X) →
-    length boxes ≡ length nodes → i < length nodes → labels ≡ change_where test f (take i nodes) boxes → test (get_or nodes i d) ≡ false → labels ≡ change_where test f (take (i + 1) nodes) boxes
-passed test f nodes labels boxes i d old less same fails =
-    same ∙ sym (more test f nodes boxes i d less old
-    ∙ (ap (λ (b : Bool). set (change_where test f (take i nodes) boxes) i (cond b (f (get_or boxes i [])) (get_or boxes i []))) fails
-    ∙ (ap (λ (xs : List Label). set (change_where test f (take i nodes) boxes) i xs) (sym (still test f nodes boxes i less old))
-    ∙ set-get_or (change_where test f (take i nodes) boxes) i [])))
-
--- the queues after the next one keep their room
-pub room-after : (queues : List (Queued Label)) (i : ℕ) (p : Queued Label) → AllWithin HasRoom queues i (length queues) → AllWithin HasRoom (set queues i p) (i + 1) (length (set queues i p))
-room-after queues i p room = λ k d low high.
-    let other : k ≢ i = λ e. absurd (omega arith) in
-    let less : k < length queues = omega (arith, length-set queues i p) in
-    rw (get_or-set_other queues i k p d other) (room k d (omega arith) less)
-
-pub room-left : (queues : List (Queued Label)) (i : ℕ) → AllWithin HasRoom queues i (length queues) → AllWithin HasRoom queues (i + 1) (length queues)
-room-left queues i room = λ k d low high. room k d (omega arith) high
 
 -- what a handled label leaves, over what the fields became
 pub handled-by : (v s : SerializerSeen) (a : Interested) (u : NodeId) (l : Label) (t : TreeShape) (z : ℕ) (old boxes : List (List Label)) → v ≡ s → t ≡ v.tree → z ≡ v.number →

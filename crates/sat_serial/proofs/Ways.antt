@@ -1,14 +1,14 @@
 -- The ways of a label through a serializer.
-use Rattle.std.proofs.Common.{◌≡◌, ℕ, zero, suc, ◌<◌, ◌≤◌, ◌==◌, ◌&&◌, ◌||◌, ◌↔◌, nat_lt, Bool, true, false, List, [], ◌∷◌, ◌++◌, length, map, filter, get_or, take, cond, ◌+◌, Option, Some, slice_get, unwrap_or, inl, inr, refl, sym, ap, ◌∙◌, subst, arith}
+use Rattle.std.proofs.Common.{◌≡◌, ℕ, zero, suc, ◌<◌, ◌≤◌, ◌==◌, ◌&&◌, ◌||◌, ◌↔◌, nat_lt, Bool, true, List, [], ◌∷◌, ◌++◌, length, map, filter, get_or, ◌+◌, Option, Some, slice_get, unwrap_or, inl, inr, refl, sym, ap, ◌∙◌, subst, arith}
 use Rattle.std.specs.List.{list_any, All}
 use Rattle.std.specs.Bool.{IsTrue}
 use Rattle.std.proofs.lemmas.Bool.{and_from, and_parts, cases_Bool, cases_eq, lt-ltb, ltb-true, or_cases, or_left, or_right}
-use Rattle.std.proofs.lemmas.List.{append-nil, length-append}
+use Rattle.std.proofs.lemmas.List.{length-append}
 use Rattle.std.proofs.lemmas.Option.{get_or_from_slice_get, slice_get-get_or, slice_get_within}
 use Rattle.sat_label.specs.declared.site_set.SiteSet.{SiteSet}
 use Rattle.sat_label.proofs.Numbers.{get-front}
 use Rattle.std.proofs.lemmas.List.Folds.{list_any-append}
-use Rattle.std.proofs.lemmas.List.Elements.{All-nil, All-push, All-map, All-append, All-filter, filter_more, filter_passes}
+use Rattle.std.proofs.lemmas.List.Elements.{All-nil, All-push, All-map, All-append, All-filter, filter_passes}
 use Rattle.sat_label.proofs.Truth.{or-false, same-number, same-test}
 use Rattle.sat_label.specs.declared.label.Label.{Label}
 use Rattle.sat_label.specs.declared.node.NodeId.{NodeId}
@@ -169,16 +169,3 @@ asked a p q sides nodes i d e u l b targets side same far is within here sites f
     (subst (λ (s : SiteSet). IsFarSide p.tree p.number (get_or nodes i d) s) (sym here)
     (far-at p.tree p.number nodes sides i d e is (subst (λ (x : Placed). AreFarSides x.tree x.number (neighbours x.tree x.number) sides) same far) within))
     for
-
--- ---- the neighbours that pass, of one neighbour more
-
-pub picks : (test : NodeId → Bool) (nodes : List NodeId) (i : ℕ) (d : NodeId) (picked : List NodeId) → i < length nodes → test (get_or nodes i d) ≡ true →
-    picked ≡ filter test (take i nodes) → picked ++ get_or nodes i d ∷ [] ≡ filter test (take (i + 1) nodes)
-picks test nodes i d picked less passes had =
-    ap (λ ns. ns ++ get_or nodes i d ∷ []) had
-    ∙ sym (filter_more test nodes i d less ∙ ap (λ b. filter test (take i nodes) ++ cond b (get_or nodes i d ∷ []) []) passes)
-
-pub skips : (test : NodeId → Bool) (nodes : List NodeId) (i : ℕ) (d : NodeId) (picked : List NodeId) → i < length nodes → test (get_or nodes i d) ≡ false →
-    picked ≡ filter test (take i nodes) → picked ≡ filter test (take (i + 1) nodes)
-skips test nodes i d picked less fails had =
-    had ∙ sym (filter_more test nodes i d less ∙ (ap (λ b. filter test (take i nodes) ++ cond b (get_or nodes i d ∷ []) []) fails ∙ append-nil _))

@@ -1,4 +1,3 @@
 pub mod Routes
-pub mod Queues
 pub mod Outboxes
 pub mod Hits

@@ -8,8 +8,8 @@ use Rattle.sat_tree.specs.Shape.{TreeShape}
 use Rattle.sat_tree.specs.Cut.{neighbours}
 use Rattle.sat_serial.specs.Routes.{goes, IsNeighbour}
 
--- a serializer: its tree, its number there, whether it was killed, and the labels in the outbox of each neighbour, the oldest
--- first, in the order of the neighbours
+-- a serializer: its tree, its number there, whether it was killed, and the labels in the outbox of each neighbour, the
+-- oldest first, in the order of the neighbours
 pub record SerializerSeen : Type 0 where
   pub tree : TreeShape
   pub number : ℕ
@@ -26,10 +26,12 @@ abbrev pub fresh : TreeShape → ℕ → SerializerSeen
 fresh t z = record { tree = t; number = z; killed = false; outboxes = replicate (length (neighbours t z)) [] }
 
 -- the outboxes of these nodes, after a change of each whose node passes the test
-abbrev pub change_where : {X : Type 0} → (X → Bool) → (List Label → List Label) → List X → List (List Label) → List (List Label)
+abbrev pub change_where : {X : Type 0} → (X → Bool) → (List Label → List Label) → List X → List (List Label)
+    → List (List Label)
 change_where test change [] boxes = boxes
 change_where test change (v ∷ nodes) [] = []
-change_where test change (v ∷ nodes) (box ∷ boxes) = (if test v then change box else box) ∷ change_where test change nodes boxes
+change_where test change (v ∷ nodes) (box ∷ boxes) =
+    (if test v then change box else box) ∷ change_where test change nodes boxes
 
 -- the outbox of node v, the first of that node, among those of these nodes
 abbrev pub box_of : NodeId → List NodeId → List (List Label) → List Label
@@ -41,7 +43,8 @@ box_of v (u ∷ nodes) (box ∷ boxes) = if node_eq v u then box else box_of v n
 abbrev pub boxes_without : NodeId → List NodeId → List (List Label) → List (List Label)
 boxes_without v [] boxes = boxes
 boxes_without v (u ∷ nodes) [] = []
-boxes_without v (u ∷ nodes) (box ∷ boxes) = if node_eq v u then drop 1 box ∷ boxes else box ∷ boxes_without v nodes boxes
+boxes_without v (u ∷ nodes) (box ∷ boxes) =
+    if node_eq v u then drop 1 box ∷ boxes else box ∷ boxes_without v nodes boxes
 
 -- what stands in the outbox of a neighbour
 abbrev pub outbox : SerializerSeen → NodeId → List Label
@@ -57,8 +60,11 @@ abbrev pub after_ship : SerializerSeen → NodeId → SerializerSeen
 after_ship s v = record s { outboxes = boxes_without v (neighbours s.tree s.number) s.outboxes }
 
 -- What the two changes do to the outbox of each neighbour of a serializer: a label goes
--- last into just the outboxes of the neighbours that it goes on to, and the first leaves just the outbox that is shipped.
+-- last into just the outboxes of the neighbours that it goes on to, and the first leaves just the outbox that is
+-- shipped.
 pub record EachOutbox : Type 0 where
-  pub handles : (s : SerializerSeen) (a : Interested) (u v : NodeId) (l : Label) → IsSerializer s → IsNeighbour s.tree s.number v →
+  pub handles : (s : SerializerSeen) (a : Interested) (u v : NodeId) (l : Label) → IsSerializer s
+      → IsNeighbour s.tree s.number v →
       outbox (after_handle s a u l) v ≡ (if goes a s.tree s.number u l v then outbox s v ++ l ∷ [] else outbox s v)
-  pub ships : (s : SerializerSeen) (to v : NodeId) → outbox (after_ship s to) v ≡ (if node_eq to v then drop 1 (outbox s v) else outbox s v)
+  pub ships : (s : SerializerSeen) (to v : NodeId) → outbox (after_ship s to) v
+      ≡ (if node_eq to v then drop 1 (outbox s v) else outbox s v)

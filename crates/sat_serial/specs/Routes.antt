@@ -35,15 +35,16 @@ IsFarSide t z v side = (k : ℕ) → bit side.bits k ≡ (nat_lt k (length t.sea
 -- one set for each of these nodes, in their order: the sites beyond it
 pub record AreFarSides (t : TreeShape) (z : ℕ) (nodes : List NodeId) (sides : List SiteSet) : Type 0 where
   pub size : length sides ≡ length nodes
-  pub each : (k : ℕ) (v : NodeId) (side : SiteSet) → slice_get nodes k ≡ Some v → slice_get sides k ≡ Some side → IsFarSide t z v side
+  pub each : (k : ℕ) (v : NodeId) (side : SiteSet) → slice_get nodes k ≡ Some v → slice_get sides k ≡ Some side
+      → IsFarSide t z v side
 
 -- v is a node of the tree, and hangs together with serializer z
 pub record IsNeighbour (t : TreeShape) (z : ℕ) (v : NodeId) : Type 0 where
   pub node : IsNode t v
   pub edge : is_edge t (Serializer z) v ≡ true
 
--- what serializer z may be handed: with an interest of the tree's sites, a label of it that came from a neighbour u, and of
--- which a target lies beyond the edge from u to z
+-- what serializer z may be handed: with an interest of the tree's sites, a label of it that came from a neighbour u,
+-- and of which a target lies beyond the edge from u to z
 pub record Arrives (a : Interested) (t : TreeShape) (z : ℕ) (u : NodeId) (l : Label) : Type 0 where
   pub sites : a.sites ≡ length t.seats
   pub label : IsLabelOf a l

@@ -1,5 +1,5 @@
-//! Serializers: each node of a tree that is no site hands a label on, towards the sites that it is for, over links that are
-//! first-in-first-out (Bravo, Rodrigues and Van Roy, EuroSys 2017).
+//! Serializers: each node of a tree that is no site hands a label on, towards the sites that it is for, over links that
+//! are first-in-first-out (Bravo, Rodrigues and Van Roy, EuroSys 2017).
 #![tactic(auto)]
 
 mod fault;

@@ -43,7 +43,8 @@ impl Model for Router {
 
     ghost view = { λ a. record { tree = a.tree; number = a.number } };
 
-    ghost invariant = { λ a. (a.number < length a.tree.parents) × AreFarSides a.tree a.number (neighbours a.tree a.number) a.sides.items
+    ghost invariant = { λ a. (a.number < length a.tree.parents)
+        × AreFarSides a.tree a.number (neighbours a.tree a.number) a.sides.items
         × (a.sites.items ≡ map (site_place a.tree a.number) (below (length a.tree.seats)))
         × (a.serializers.items ≡ map (serializer_place a.tree a.number) (below (length a.tree.parents))) };
 }
@@ -70,10 +71,11 @@ fn code(node: NodeId) -> u32
     }
 }
 
-// Whether a label that came from a node goes on to a neighbour, by its targets and the sites beyond that. There is no branch here,
-// since what it answers can't be foreseen.
+// Whether a label that came from a node goes on to a neighbour, by its targets and the sites beyond that. There is no
+// branch here, since what it answers can't be foreseen.
 fn goes(targets: &SiteSet, from: NodeId, to: NodeId, side: &SiteSet) -> bool
-    ensures { (a : Interested) (t : TreeShape) (z : ℕ) (l : declared_label.Label) → a.sites ≡ length t.seats → IsFarSide t z to side.now →
+    ensures { (a : Interested) (t : TreeShape) (z : ℕ) (l : declared_label.Label) → a.sites ≡ length t.seats
+        → IsFarSide t z to side.now →
         ((k : ℕ) → bit targets.now.bits k ≡ is_for a l k) → result ≡ goes a t z from l to }
 {
     (code(from) != code(to)) & targets.meets(side)
@@ -106,7 +108,8 @@ fn serializer_places(
     number: u16,
 ) -> Result<Vec<Option<usize>>, AllocError>
     requires { number < length tree.now.parents }
-    ensures { IfOk result (λ places. places.items ≡ map (serializer_place tree.now number) (below (length tree.now.parents))) }
+    ensures { IfOk result (λ places. places.items
+        ≡ map (serializer_place tree.now number) (below (length tree.now.parents))) }
 {
     let mut places = Vec::new(alloc);
     for serializer in 0..tree.serializers() {
@@ -178,7 +181,8 @@ impl Router {
     pub fn hits(&self, interest: &Interest, from: NodeId, label: &Label) -> Hits
         requires sites { interest.now.sites ≡ length self.now.tree.seats }
         requires label { IsLabelOf interest.now label.now }
-        ensures { result ≡ hits (goes interest.now self.now.tree self.now.number from label.now) (neighbours self.now.tree self.now.number) }
+        ensures { result ≡ hits (goes interest.now self.now.tree self.now.number from label.now)
+            (neighbours self.now.tree self.now.number) }
     {
         let targets = interest.targets(label);
         let mut hits = Hits::none();
@@ -230,7 +234,8 @@ pub fn push_at(outboxes: &mut [Queue<Label>], places: &[u8], label: &Label)
     requires inside { AllInside (length outboxes.old) places.now }
     requires apart { Ascending places.now }
     requires room { All (HasRoomAt outboxes.old) places.now }
-    ensures { map members_of outboxes.new ≡ changed_at (λ box. box ++ label.now ∷ []) places.now (map members_of outboxes.old) }
+    ensures { map members_of outboxes.new
+        ≡ changed_at (λ box. box ++ label.now ∷ []) places.now (map members_of outboxes.old) }
 {
     for place in places {
         outboxes[*place as usize].push(*label);

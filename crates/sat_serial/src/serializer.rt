@@ -12,8 +12,9 @@ use sat_tree::Tree;
 use std::alloc::{AllocError, Global};
 use std::marker::Model;
 
-/// One serializer of a tree. Contracts see the tree, its number there, whether it was killed, and the labels in the outbox of
-/// each neighbour, the oldest first, in the order of the neighbours: sites ascending, then serializers ascending.
+/// One serializer of a tree. Contracts see the tree, its number there, whether it was killed, and the labels in the
+/// outbox of each neighbour, the oldest first, in the order of the neighbours: sites ascending, then serializers
+/// ascending.
 #[derive(Drop)]
 pub struct Serializer {
     router: Router,
@@ -28,9 +29,12 @@ impl Model for Serializer {
 
     ghost Value = { SerializerSeen };
 
-    ghost view = { λ a. record { tree = a.router.tree; number = a.router.number; killed = a.killed; outboxes = map members_of a.outboxes.items } };
+    ghost view = { λ a.
+        record { tree = a.router.tree; number = a.router.number; killed = a.killed; outboxes = map members_of a.outboxes.items } };
 
-    ghost invariant = { λ a. IsSerializer (record { tree = a.router.tree; number = a.router.number; killed = a.killed; outboxes = map members_of a.outboxes.items }) };
+    ghost invariant = { λ a.
+        IsSerializer
+        (record { tree = a.router.tree; number = a.router.number; killed = a.killed; outboxes = map members_of a.outboxes.items }) };
 }
 
 impl Serializer {
@@ -48,10 +52,10 @@ impl Serializer {
         })
     }
 
-    /// Hands a label that came from a neighbour on: puts a copy into the outbox of every other neighbour beyond which a target
-    /// of it lies, and answers these, sites ascending and then serializers ascending. `Dead` says that the serializer was
-    /// killed, `Memory` that there was no room for the copies; then all is as before. It asks for an interest of the
-    /// tree's sites, and for a label of it with a target beyond the edge that it came over.
+    /// Hands a label that came from a neighbour on: puts a copy into the outbox of every other neighbour beyond which a
+    /// target of it lies, and answers these, sites ascending and then serializers ascending. `Dead` says that the
+    /// serializer was killed, `Memory` that there was no room for the copies; then all is as before. It asks for an
+    /// interest of the tree's sites, and for a label of it with a target beyond the edge that it came over.
     pub fn handle(
         &mut self,
         interest: &Interest,
@@ -86,7 +90,8 @@ impl Serializer {
         label: &Label,
     ) -> Result<Nodes, AllocError>
         requires { Arrives interest.now self.now.tree self.now.number from label.now }
-        ensures route { IfOk result (λ nodes. nodes ≡ routes interest.now self.now.tree self.now.number from label.now) }
+        ensures route { IfOk result (λ nodes. nodes
+            ≡ routes interest.now self.now.tree self.now.number from label.now) }
         ensures limits { IsSerializer self.now }
     {
         let alloc = *self.outboxes.allocator();
@@ -107,7 +112,8 @@ impl Serializer {
         self.outboxes[place].front()
     }
 
-    /// The label at a place of the outbox of a neighbour, counted from the oldest one, None where there is none. It stays there.
+    /// The label at a place of the outbox of a neighbour, counted from the oldest one, None where there is none. It
+    /// stays there.
     pub fn ahead(&self, to: NodeId, count: usize) -> Option<Label>
         requires { IsNeighbour self.now.tree self.now.number to }
         ensures label { result ≡ slice_get (outbox self.now to) count }
@@ -130,8 +136,8 @@ impl Serializer {
         self.outboxes[place].len() as u64
     }
 
-    /// Takes the oldest label out of the outbox of a neighbour, None where it is empty. It takes no memory, and works after a
-    /// kill too.
+    /// Takes the oldest label out of the outbox of a neighbour, None where it is empty. It takes no memory, and works
+    /// after a kill too.
     pub fn ship(&mut self, to: NodeId) -> Option<Label>
         requires { IsNeighbour self.old.tree self.old.number to }
         ensures label { result ≡ slice_get (outbox self.old to) 0 }
@@ -152,7 +158,8 @@ impl Serializer {
         self.killed
     }
 
-    /// Kills the serializer: it handles nothing from now on. `Already` says that it was killed before. It takes no memory.
+    /// Kills the serializer: it handles nothing from now on. `Already` says that it was killed before. It takes no
+    /// memory.
     pub fn kill(&mut self) -> Result<(), KillFault>
         ensures killed { self.new ≡ record self.old { killed = true } }
         ensures ok { self.old.killed ≡ false → IsOk result }

@@ -56,18 +56,6 @@ client_begins d c site dep lt at = record {
   sits = is-less site d.sites (home-site d c site dep at);
 }
 
--- of the operator
-pub operator_begins : (d : Deployed) → IsDeployment d → IsSession d (record { number = length d.clients; client = record { carried = nothing_carried; seat = None }; lamport = 0; noted = [] })
-operator_begins d dep = record {
-  limit = self-up (length d.clients);
-  rises = tt;
-  last = refl;
-  notes = tt;
-  made = ap (λ (s : Session). client_after d s []) (sym (of-operator d));
-  carries = none-carried d dep.some_site;
-  sits = refl;
-}
-
 -- as the code makes it
 pub client_made : (d e : Deployed) (c site : ℕ) (client : Client) (noted : List Noted) → e ≡ d → IsDeployment d → c < length d.clients → home d c ≡ Some site → client ≡ first_seat site → noted ≡ [] →
     IsSession e (record { number = c; client = client; lamport = 0; noted = noted })

@@ -1,5 +1,5 @@
 -- What each call of a session comes to.
-use Rattle.std.proofs.Common.{◌≡◌, ◌<◌, ◌≤◌, ◌+◌, max, ℕ, Bool, true, false, List, [], ◌∷◌, ◌++◌, length, Option, Some, None, Result, Ok, Err, refl, sym, ap, ◌∙◌, subst, arith, inl, inr}
+use Rattle.std.proofs.Common.{◌≡◌, ◌<◌, ◌≤◌, ◌+◌, max, ℕ, false, List, [], ◌∷◌, ◌++◌, length, Option, Some, None, refl, sym, ap, ◌∙◌, subst, arith}
 use Rattle.sat_label.specs.declared.carried.Carried.{Carried}
 use Rattle.sat_label.specs.declared.node.NodeName.{NodeName}
 use Rattle.sat_act.specs.declared.act.Act.{Act}
@@ -10,66 +10,21 @@ use Rattle.sat_act.specs.declared.answer.Refusal.TheVariants as why
 use Rattle.sat_act.specs.Answers.{InRange}
 use Rattle.sat_act.specs.Deployed.{Deployed}
 use Rattle.sat_client.specs.declared.client.Client.{Client}
-use Rattle.sat_node.specs.declared.kept.CallFault.{CallFault}
 use Rattle.sat_node.specs.declared.kept.CallFault.TheVariants as fault
 use Rattle.sat_node.specs.Meanings.{Meaning, replay}
-use Rattle.sat_node.specs.Seen.{NodeSeen, Takes, last_number}
-use Rattle.sat_machines.specs.Plain.{is_plain}
+use Rattle.sat_node.specs.Seen.{NodeSeen}
 use Rattle.sat_stitch.specs.Kept.{OfClient}
 use Rattle.sat_stitch.specs.Places.{Place, AtSite, InSession, places, Session, Client as Owner, Operator, session_of}
 use Rattle.sat_stitch.specs.Nodes.{IsSessionAnswer}
 use Rattle.sat_session.specs.declared.noted.Noted.{Noted}
 use Rattle.sat_session.specs.Notes.{SessionSeen, session_at}
 use Rattle.sat_session.specs.Sessions.{note_places, IsSession}
-use Rattle.sat_session.specs.Calls.{note, told, Notes, IsFault, AtNone, AtNode}
-use Rattle.sat_session.specs.Replies.{IsReply, refuses, left, MayMove, HasSpare, given_of, own_answer, Asks}
+use Rattle.sat_session.specs.Calls.{note, told, Notes, IsFault}
+use Rattle.sat_session.specs.Replies.{IsReply, refuses, left, MayMove, given_of, own_answer, Asks}
 use Rattle.sat_session.proofs.More.{session_then, session-more, may-move}
 use Rattle.sat_session.proofs.Begins.{of-client}
 
 -- ---- at a node
-
-pub nothing_done : {M I A : Type 0} (a : Act) (input : I) (answer_of : A → Answer) (node : NodeSeen M I A) (x : SessionSeen) → AtNode a input answer_of (Err fault.Memory) node node x x
-nothing_done a input answer_of node x = record {
-  entered = tt;
-  number = tt;
-  name = refl;
-  unchanged = (refl, refl, refl, refl);
-  notes = record { noted = tt; client = tt; lamport = tt; same = refl; err = refl };
-  worn = λ e. absurd (cc);
-  spent = λ e. tt;
-  only = inr refl;
-}
-
-pub node-failed : {M I A : Type 0} (a : Act) (input : I) (answer_of : A → Answer) (may : Bool) (f : CallFault) (old new : NodeSeen M I A) (x : SessionSeen) → Takes x.lamport input may (Err f) old new → AtNode a input answer_of (Err f) old new x x
-node-failed {M} {I} {A} a input answer_of may f old new x t = record {
-  entered = tt;
-  number = tt;
-  name = t.name;
-  unchanged = t.err.0;
-  notes = record { noted = tt; client = tt; lamport = tt; same = refl; err = refl };
-  worn = λ e. let g : f ≡ fault.Worn last_number = cc in t.worn.0 (let w : ◌≡◌ {A = Result A CallFault} (Err f) (Err (fault.Worn last_number)) = ap (λ (y : CallFault). Err y) g in w);
-  spent = λ e. tt;
-  only = t.only;
-}
-
-pub node-done : {M I A : Type 0} (a : Act) (input : I) (answer_of : A → Answer) (may : Bool) (given : A) (old new : NodeSeen M I A) (x : SessionSeen) (n : ℕ) → Takes x.lamport input may (Ok given) old new → n ≡ new.number →
-    AtNode a input answer_of (Ok (answer_of given)) old new x (session_then n (Some old.name) a (answer_of given) x)
-node-done a input answer_of may given old new x n t e = record {
-  entered = (given, refl, t.taken);
-  number = t.number;
-  name = t.name;
-  unchanged = tt;
-  notes = record {
-    noted = ap (λ (m : ℕ). x.noted ++ note m (Some old.name) x.client.carried a (answer_of given) ∷ []) (e ∙ t.number);
-    client = refl;
-    lamport = e ∙ t.number;
-    same = refl;
-    err = tt;
-  };
-  worn = λ w. absurd (cc);
-  spent = λ w. absurd (let v : Ok given ≡ Err (fault.Worn last_number) = t.worn.1 w in cc);
-  only = tt;
-}
 
 above : (a b n : ℕ) → n ≡ max a b + 1 → b < n
 above a b n e = omega arith
@@ -121,15 +76,6 @@ own-reply d seen (Some i) (act.Leave c) = left c seen.point
 own-reply d seen o (act.Attach c j) = refuses (act.Attach c j) why.Joined refl
 own-reply d seen o a = refuses a why.NoSession refl
 
-own_plain : (seen : Carried) (seat : Option ℕ) (a : Act) → is_plain (own_answer (record { carried = seen; seat = seat }) a) ≡ true
-own_plain seen None (act.Leave c) = refl
-own_plain seen (Some i) (act.Leave c) = refl
-own_plain seen o (act.Attach c j) = refl
-own_plain seen o _ = refl
-
-pub own_spare : (x : Client) (a : Act) (r : Answer) → r ≡ own_answer x a → HasSpare r None
-own_spare x a r e f = absurd (let w : is_plain r ≡ true = ap is_plain e ∙ own_plain x.carried x.seat a in cc)
-
 pub own-answered : (x : Client) (a : Act) (c : ℕ) (r : Answer) → r ≡ own_answer x a → session_of a ≡ Some (Owner c) → places a (OfClient x.carried x.seat) ≡ InSession c ∷ [] → IsSessionAnswer a (OfClient x.carried x.seat) r
 own-answered x a c r e own placed = subst (λ (y : Answer). IsSessionAnswer a (OfClient x.carried x.seat) y) (sym e) (own-is x.carried x.seat a c own placed)
 
@@ -147,27 +93,6 @@ alone-session d x a r is lt e own range placed =
     (subst (λ (t : Session). places a (given_of t x.client) ≡ note_places t None) (sym s) placed) (λ w. range)
     (λ w. subst (λ (t : Session). IsSessionAnswer a (given_of t x.client) r) (sym s) (own-answered x.client a x.number r e own placed))
     (own-replied d x.client a r e)
-
-pub alone_worn : (a : Act) (x : SessionSeen) → x.lamport ≡ last_number → AtNone a (Err (fault.Worn last_number)) x x
-alone_worn a x e = record {
-  notes = record { noted = tt; client = tt; lamport = tt; same = refl; err = refl };
-  worn = (λ w. e, λ w. refl);
-  only = inl refl;
-}
-
-pub alone_out : (a : Act) (x : SessionSeen) → (x.lamport ≡ last_number → ⊥) → AtNone a (Err fault.Memory) x x
-alone_out a x ne = record {
-  notes = record { noted = tt; client = tt; lamport = tt; same = refl; err = refl };
-  worn = (λ w. absurd (cc), λ w. absurd (ne w));
-  only = inr refl;
-}
-
-pub alone-done : (a : Act) (r : Answer) (x : SessionSeen) → (x.lamport ≡ last_number → ⊥) → AtNone a (Ok r) x (session_then (x.lamport + 1) None a r x)
-alone-done a r x ne = record {
-  notes = record { noted = refl; client = refl; lamport = refl; same = refl; err = tt };
-  worn = (λ w. absurd (cc), λ w. absurd (ne w));
-  only = tt;
-}
 
 pub alone_kept : (d : Deployed) (x : SessionSeen) (a : Act) (r : Answer) (y : SessionSeen) (client : Client) (olds news : List Noted) → y ≡ x → IsSession d y → x.number < length d.clients → session_of a ≡ Some (Owner x.number) → InRange d a →
     places a (OfClient x.client.carried x.client.seat) ≡ InSession x.number ∷ [] → r ≡ own_answer y.client a → olds ≡ y.noted → news ≡ olds ++ note (y.lamport + 1) None y.client.carried a r ∷ [] → client ≡ told a r y.client →

@@ -23,8 +23,8 @@ use Rattle.sat_machines.specs.declared.serial_act.SerialAnswer.{SerialAnswer}
 use Rattle.sat_session.specs.declared.noted.Noted.{Noted}
 use Rattle.sat_session.specs.Notes.{SessionSeen}
 
--- what a write of several items asks for: two items at least and as many as the format allows, which in format 1 are none, strictly
--- ascending, each one of the deployment's, and a value for each
+-- what a write of several items asks for: two items at least and as many as the format allows, which in format 1 are
+-- none, strictly ascending, each one of the deployment's, and a value for each
 pub record IsGroup (d : Deployed) (items : Items) (values : List (List ℕ)) : Type 0 where
   pub some : 2 ≤ length (list_of items)
   pub few : length (list_of items) ≤ (limits_of d.format).written
@@ -34,7 +34,8 @@ pub record IsGroup (d : Deployed) (items : Items) (values : List (List ℕ)) : T
 
 -- a note of an act and its answer under this number, at this node, by a client that carried this
 abbrev pub note : ℕ → Option NodeName → Carried → Act → Answer → Noted
-note number at seen a r = record { lamport = number; at = at; carried = seen; entry = record { act = a; answer = r; inner = false } }
+note number at seen a r =
+    record { lamport = number; at = at; carried = seen; entry = record { act = a; answer = r; inner = false } }
 
 -- what an act and its answer make of the client
 abbrev pub told : Act → Answer → Client → Client
@@ -46,7 +47,8 @@ told (act.Attach c j) ans.Attached x = after_join x j
 told a r x = x
 
 -- the session noted this one thing more, under this number. After an error it is as before
-pub record Notes (number : ℕ) (place : Option NodeName) (a : Act) (result : Result Answer CallFault) (old new : SessionSeen) : Type 0 where
+pub record Notes (number : ℕ) (place : Option NodeName) (a : Act) (result : Result Answer CallFault)
+    (old new : SessionSeen) : Type 0 where
   pub noted : IfOk result (λ r. new.noted ≡ old.noted ++ note number place old.client.carried a r ∷ [])
   pub client : IfOk result (λ r. new.client ≡ told a r old.client)
   pub lamport : OnOk result (new.lamport ≡ number)
@@ -63,10 +65,13 @@ pub record AtNone (a : Act) (result : Result Answer CallFault) (old new : Sessio
   pub worn : IsErrOf result (fault.Worn last_number) ↔ (old.lamport ≡ last_number)
   pub only : IfErr result IsFault
 
--- a call at a node: the node has one entry more, the input with the answer that comes back, and the session notes it under the number of that
--- entry. Worn comes only where the greater of their numbers is the greatest, and there no call is done. After an error both are as before
-pub record AtNode {M I A : Type 0} (a : Act) (input : I) (answer_of : A → Answer) (result : Result Answer CallFault) (old new : NodeSeen M I A) (before after : SessionSeen) : Type 0 where
-  pub entered : IfOk result (λ r. (given : A) × (answer_of given ≡ r) × (new.entries ≡ old.entries ++ entry (max old.number before.lamport + 1) input given ∷ []))
+-- a call at a node: the node has one entry more, the input with the answer that comes back, and the session notes it
+-- under the number of that entry. Worn comes only where the greater of their numbers is the greatest, and there no call
+-- is done. After an error both are as before
+pub record AtNode {M I A : Type 0} (a : Act) (input : I) (answer_of : A → Answer) (result : Result Answer CallFault)
+    (old new : NodeSeen M I A) (before after : SessionSeen) : Type 0 where
+  pub entered : IfOk result (λ r. (given : A) × (answer_of given ≡ r)
+      × (new.entries ≡ old.entries ++ entry (max old.number before.lamport + 1) input given ∷ []))
   pub number : OnOk result (new.number ≡ max old.number before.lamport + 1)
   pub name : new.name ≡ old.name
   pub unchanged : OnErr result (SameNode old new)

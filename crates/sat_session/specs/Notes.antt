@@ -53,7 +53,8 @@ carried_with _ = nothing_carried
 
 -- an entry of the site of this name, as a session would note it
 abbrev pub site_note : NodeName → Line ActSeen SiteAnswer → Noted
-site_note name k = record { lamport = k.lamport; at = Some name; carried = carried_with k.input.input; entry = entry_of (site_kept (number_of name) k) }
+site_note name k =
+    record { lamport = k.lamport; at = Some name; carried = carried_with k.input.input; entry = entry_of (site_kept (number_of name) k) }
 
 abbrev pub site_notes : NodeName → List (Line ActSeen SiteAnswer) → List Owned
 site_notes name [] = []
@@ -61,7 +62,8 @@ site_notes name (k ∷ ks) = owned_by (owner_of k.input.by k.input.input) (site_
 
 -- and of the serializer of this name
 abbrev pub serial_note : NodeName → Line SerialAct SerialAnswer → Noted
-serial_note name k = record { lamport = k.lamport; at = Some name; carried = nothing_carried; entry = entry_of (serial_kept (epoch_in name) (serial_in name) k) }
+serial_note name k =
+    record { lamport = k.lamport; at = Some name; carried = nothing_carried; entry = entry_of (serial_kept (epoch_in name) (serial_in name) k) }
 
 abbrev pub serial_notes : NodeName → List (Line SerialAct SerialAnswer) → List Owned
 serial_notes name [] = []
@@ -74,7 +76,8 @@ abbrev pub notes_at_serial : {M : Type 0} → HeldSeen M SerialAct SerialAnswer 
 notes_at_serial h = serial_notes h.node.name h.node.entries
 
 -- all that nodes kept of the acts of sessions: site by site, then serializer by serializer
-abbrev pub node_notes : {M K : Type 0} → List (HeldSeen M ActSeen SiteAnswer) → List (HeldSeen K SerialAct SerialAnswer) → List Owned
+abbrev pub node_notes : {M K : Type 0} → List (HeldSeen M ActSeen SiteAnswer) → List (HeldSeen K SerialAct SerialAnswer)
+    → List Owned
 node_notes sites serials = flat_map notes_at_site sites ++ flat_map notes_at_serial serials
 
 -- ---- by sessions

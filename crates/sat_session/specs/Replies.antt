@@ -1,4 +1,5 @@
--- What a session's act may be answered, and what a call asks of its parts. Only the contracts of private functions speak of these.
+-- What a session's act may be answered, and what a call asks of its parts. Only the contracts of private functions
+-- speak of these.
 use Rattle.std.specs.Prelude.{◌≡◌, ◌==◌, ℕ, Bool, true, false, List, [], ◌∷◌, Option, Some, None}
 use Rattle.sat_label.specs.declared.carried.Carried.{Carried}
 use Rattle.sat_label.specs.declared.label.Kind.TheVariants as kind
@@ -32,13 +33,17 @@ use Rattle.sat_stitch.specs.Places.{places, Session, Client as Owner, Operator, 
 use Rattle.sat_opened.specs.Opened.{place_at}
 use Rattle.sat_session.specs.Notes.{SessionSeen, session_at}
 
--- a refusal, or what the act does. A label's point is one of the deployment, and that of a move is above all that the client saw
+-- a refusal, or what the act does. A label's point is one of the deployment, and that of a move is above all that the
+-- client saw
 pub data IsReply (d : Deployed) (seen : Carried) : Act → Answer → Type 0 where
   refuses : (a : Act) (y : Refusal) → is_standing (ans.Refused y) ≡ true → IsReply d seen a (ans.Refused y)
-  wrote : (a : Act) (w : Written) (l : Label) → write_in a ≡ Some w → is_point d l.point ≡ true → IsReply d seen a (ans.Wrote l)
+  wrote : (a : Act) (w : Written) (l : Label) → write_in a ≡ Some w → is_point d l.point ≡ true
+      → IsReply d seen a (ans.Wrote l)
   read_none : (c n : ℕ) → IsReply d seen (act.Read c n) ans.ReadNone
-  read_some : (c n : ℕ) (l : Label) (value : List ℕ) → is_point d l.point ≡ true → IsReply d seen (act.Read c n) (ans.ReadSome l value)
-  moved : (c j : ℕ) (l : Label) → is_point d l.point ≡ true → is_site d j ≡ true → l.kind ≡ kind.Move j → point_lt seen.point l.point ≡ true → IsReply d seen (act.Move c j) (ans.Moved l)
+  read_some : (c n : ℕ) (l : Label) (value : List ℕ) → is_point d l.point ≡ true
+      → IsReply d seen (act.Read c n) (ans.ReadSome l value)
+  moved : (c j : ℕ) (l : Label) → is_point d l.point ≡ true → is_site d j ≡ true → l.kind ≡ kind.Move j
+      → point_lt seen.point l.point ≡ true → IsReply d seen (act.Move c j) (ans.Moved l)
   left : (c : ℕ) (p : Point) → IsReply d seen (act.Leave c) (ans.Left p)
   attached : (c j : ℕ) → is_site d j ≡ true → IsReply d seen (act.Attach c j) ans.Attached
   closed : (i e : ℕ) (p : Point) → IsReply d seen (act.Close i) (ans.Closed e p)
@@ -68,17 +73,20 @@ own_answer x (act.Leave c) = leave_answer x.carried.point x.seat
 own_answer x (act.Attach c j) = ans.Refused why.Joined
 own_answer x _ = ans.Refused why.NoSession
 
--- what was looked up before a read: where the site keeps the item, its version is one of the deployment, and there is a copy of the
--- answer where that holds a list
+-- what was looked up before a read: where the site keeps the item, its version is one of the deployment, and there is a
+-- copy of the answer where that holds a list
 pub record Looked (d : Deployed) (i : ℕ) (s : SiteState) (n : ℕ) (spare : Option Answer) : Type 0 where
   pub points : replicates d n i ≡ true → (v : Version) → s.store n ≡ Some v → is_point d v.label.point ≡ true
   pub spares : (seen : Carried) (r : Answer) → r ≡ site_answer d i s (given.Read seen n) → HasSpare r spare
 
--- what is asked of an act that a session takes to a node: it is the session's, it stands at the node, what the node's machine answers to its
--- input is a reply to it, with a spare where it holds a list, and the input takes nothing from a link
-pub record Asks {S M I A : Type 0} (d : Deployed) (m : Meaning S I A) (answer_of : A → Answer) (x : SessionSeen) (node : NodeSeen M I A) (input : I) (a : Act) (spare : Option Answer) : Type 0 where
+-- what is asked of an act that a session takes to a node: it is the session's, it stands at the node, what the node's
+-- machine answers to its input is a reply to it, with a spare where it holds a list, and the input takes nothing from a
+-- link
+pub record Asks {S M I A : Type 0} (d : Deployed) (m : Meaning S I A) (answer_of : A → Answer) (x : SessionSeen)
+    (node : NodeSeen M I A) (input : I) (a : Act) (spare : Option Answer) : Type 0 where
   pub own : session_of a ≡ Some (session_at d x.number)
   pub placed : places a (given_of (session_at d x.number) x.client) ≡ place_at node.name ∷ []
-  pub replies : (r : A) → m.answers node.name (replay m node.name node.entries) input r → IsReply d x.client.carried a (answer_of r)
+  pub replies : (r : A) → m.answers node.name (replay m node.name node.entries) input r
+      → IsReply d x.client.carried a (answer_of r)
   pub spares : (r : A) → m.answers node.name (replay m node.name node.entries) input r → HasSpare (answer_of r) spare
   pub stays : IsLocal m node input

@@ -29,7 +29,8 @@ note_given d Operator before n = Nothing
 
 -- a note as kept, behind what its session kept before
 abbrev pub note_kept : Deployed → Session → List Kept → Noted → Kept
-note_kept d s before n = record { number = n.lamport; act = n.entry.act; given = note_given d s before n; answer = n.entry.answer }
+note_kept d s before n =
+    record { number = n.lamport; act = n.entry.act; given = note_given d s before n; answer = n.entry.answer }
 
 -- these notes, which come the oldest first, in front of entries that were kept before them
 abbrev pub kept_behind : Deployed → Session → List Kept → List Noted → List Kept
@@ -48,7 +49,8 @@ put_alone (Some name) k ks = ks
 -- those of these notes that stand at no node, in front of such entries
 abbrev pub alone_behind : Deployed → Session → List Kept → List Kept → List Noted → List Kept
 alone_behind d s before ks [] = ks
-alone_behind d s before ks (n ∷ ns) = alone_behind d s (note_kept d s before n ∷ before) (put_alone n.at (note_kept d s before n) ks) ns
+alone_behind d s before ks (n ∷ ns) =
+    alone_behind d s (note_kept d s before n ∷ before) (put_alone n.at (note_kept d s before n) ks) ns
 
 -- those that no node keeps, since the act was at none
 abbrev pub alone_notes : Deployed → Session → List Noted → List Kept
@@ -80,8 +82,8 @@ note_places s (Some name) = place_at name ∷ []
 note_places (Owner c) None = InSession c ∷ []
 note_places Operator None = []
 
--- a note after these entries: its act is the session's, it says what the client carried, and it stands where the table of places puts it.
--- One that stands at no node is in range, and has the session's answer
+-- a note after these entries: its act is the session's, it says what the client carried, and it stands where the table
+-- of places puts it. One that stands at no node is in range, and has the session's answer
 pub record IsNote (d : Deployed) (s : Session) (before : List Kept) (n : Noted) : Type 0 where
   pub own : session_of n.entry.act ≡ Some s
   pub outer : n.entry.inner ≡ false
@@ -105,8 +107,8 @@ abbrev pub last_note : ℕ → List Noted → ℕ
 last_note m [] = m
 last_note m (n ∷ ns) = last_note n.lamport ns
 
--- what every session keeps: a client's number, or the number of clients for the operator; its notes, under numbers that rise up to its own;
--- and its client as the entries make it, whose seat, point and goal are of the deployment
+-- what every session keeps: a client's number, or the number of clients for the operator; its notes, under numbers that
+-- rise up to its own; and its client as the entries make it, whose seat, point and goal are of the deployment
 pub record IsSession (d : Deployed) (x : SessionSeen) : Type 0 where
   pub limit : x.number ≤ length d.clients
   pub rises : NotesRise 0 x.noted
@@ -132,5 +134,7 @@ SameNotes a b = (s : Session) (n : Noted) → (In a (s, n) → In b (s, n)) × (
 
 -- what sessions kept fits the journals of opened nodes, where nodes and sessions noted the same acts at nodes
 abbrev pub SessionsFit : Type 0
-SessionsFit = (d : Deployed) (sites : List SiteHeld) (serials : List SerialHeld) (xs : List SessionSeen) → IsDeployment d → AllOpened d sites serials → AreSessions d xs →
-    SameNotes (node_notes sites serials) (session_notes d xs) → FitsSessions d (lists_of sites serials (alone_in d xs)) (kept_by d xs)
+SessionsFit = (d : Deployed) (sites : List SiteHeld) (serials : List SerialHeld) (xs : List SessionSeen)
+    → IsDeployment d → AllOpened d sites serials → AreSessions d xs →
+    SameNotes (node_notes sites serials) (session_notes d xs)
+    → FitsSessions d (lists_of sites serials (alone_in d xs)) (kept_by d xs)

@@ -12,8 +12,10 @@ use sat_machines::{Laid, SerialAct, SerialAnswer, SerialNode};
 use sat_node::{CallFault, Held, Names};
 
 impl<N: Laid> Session<N> {
-    /// The operator kills a serializer of an epoch's tree. Where this is another node, the answer is `Memory`, as for want of memory;
-    /// `Worn`, with the greatest u64, comes only where the session's number or the node's is that. After an error all is as before.
+    /// The operator kills a serializer of an epoch's tree. Where this is another node, the answer is `Memory`, as for
+    /// want of memory;
+    /// `Worn`, with the greatest u64, comes only where the session's number or the node's is that. After an error all
+    /// is as before.
     pub fn kill<W: Names>(
         &mut self,
         held: &mut Held<SerialNode<N>, W>,
@@ -21,7 +23,8 @@ impl<N: Laid> Session<N> {
         serializer: u16,
     ) -> Result<Answer, CallFault>
         requires { self.old.number ≡ length N.deployment.clients }
-        ensures done { AtNode (Act.Kill epoch serializer) given.Kill of_serial result held.old.node held.new.node self.old self.new }
+        ensures done { AtNode (Act.Kill epoch serializer) given.Kill of_serial result held.old.node held.new.node
+            self.old self.new }
         ensures outs { held.new.outs ≡ held.old.outs }
         ensures ins { held.new.ins ≡ held.old.ins }
     {

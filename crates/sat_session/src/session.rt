@@ -37,7 +37,8 @@ impl<N: Laid> Model for Session<N> {
 
     ghost view = { λ s. record { number = s.number; client = s.client; lamport = s.lamport; noted = s.noted.items } };
 
-    ghost invariant = { λ s. IsSession N.deployment (record { number = s.number; client = s.client; lamport = s.lamport; noted = s.noted.items }) };
+    ghost invariant = { λ s. IsSession N.deployment
+        (record { number = s.number; client = s.client; lamport = s.lamport; noted = s.noted.items }) };
 }
 
 // The first site of a client.
@@ -125,16 +126,18 @@ impl<N: Laid> Session<N> {
         self.noted.as_slice()
     }
 
-    /// An act of the client that touches no node: a leave, a write, a read or a move without a seat, or an attach where it has one. The
-    /// session answers it and notes it. `Worn`, with the greatest u64, exactly where the session's number is that; `Memory`. After an
-    /// error the session is as before.
+    /// An act of the client that touches no node: a leave, a write, a read or a move without a seat, or an attach where
+    /// it has one. The session answers it and notes it. `Worn`, with the greatest u64, exactly where the session's
+    /// number is that; `Memory`. After an error the session is as before.
     pub fn alone(&mut self, act: Act) -> Result<Answer, CallFault>
         requires own { session_of act ≡ Some (OfClient self.old.number) }
         requires client { self.old.number < length N.deployment.clients }
         requires range { InRange N.deployment act }
-        requires nowhere { places act (Handed self.old.client.carried self.old.client.seat) ≡ InSession self.old.number ∷ [] }
+        requires nowhere { places act (Handed self.old.client.carried self.old.client.seat)
+            ≡ InSession self.old.number ∷ [] }
         ensures done { AtNone act result self.old self.new }
-        ensures answer { IfOk result (λ r. IsSessionAnswer act (Handed self.old.client.carried self.old.client.seat) r) }
+        ensures answer { IfOk result
+            (λ r. IsSessionAnswer act (Handed self.old.client.carried self.old.client.seat) r) }
     {
         if self.lamport == u64::MAX {
             return Err(CallFault::Worn(u64::MAX));

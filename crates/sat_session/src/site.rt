@@ -26,13 +26,15 @@ pub(crate) fn is_at<M: Machine, W: Names>(held: &Held<M, W>, place: NodeName) ->
     held.node().name().is_same(&place)
 }
 
-// What a read would answer, where that is a value. Its point is one of the deployment; else the answer is want of memory.
+// What a read would answer, where that is a value. Its point is one of the deployment; else the answer is want of
+// memory.
 fn look<N: Laid, W: Names>(
     held: &Held<SiteNode<N>, W>,
     item: u16,
 ) -> Result<Option<Answer>, AllocError>
     requires { item < length N.deployment.items }
-    ensures { IfOk result (λ spare. Looked N.deployment (number_of held.now.node.name) (replay (site_meaning N.deployment) held.now.node.name held.now.node.entries) item spare) }
+    ensures { IfOk result (λ spare. Looked N.deployment (number_of held.now.node.name)
+        (replay (site_meaning N.deployment) held.now.node.name held.now.node.entries) item spare) }
 {
     let machine = held.node().machine();
     let sites = machine.sites();
@@ -118,7 +120,8 @@ impl<N: Laid> Session<N> {
     ) -> Result<Answer, CallFault>
         requires client { self.old.number < length N.deployment.clients }
         requires act { write_in act ≡ Some (record { client = self.old.number; items = items; values = values }) }
-        ensures done { AtNode act (asked_by (Some self.old.number) (given.Write self.old.client.carried items values)) of_site result held.old.node held.new.node self.old self.new }
+        ensures done { AtNode act (asked_by (Some self.old.number) (given.Write self.old.client.carried items values))
+            of_site result held.old.node held.new.node self.old self.new }
         ensures outs { held.new.outs ≡ held.old.outs }
         ensures ins { held.new.ins ≡ held.old.ins }
     {
@@ -139,8 +142,10 @@ impl<N: Laid> Session<N> {
         self.at_site(held, input, act, None)
     }
 
-    /// Writes an item at the site where the client is seated. Where that is another site, the answer is `Memory`, as for want of memory;
-    /// `Worn`, with the greatest u64, comes only where the session's number or the node's is that. After an error all is as before.
+    /// Writes an item at the site where the client is seated. Where that is another site, the answer is `Memory`, as
+    /// for want of memory;
+    /// `Worn`, with the greatest u64, comes only where the session's number or the node's is that. After an error all
+    /// is as before.
     pub fn write<W: Names>(
         &mut self,
         held: &mut Held<SiteNode<N>, W>,
@@ -149,7 +154,9 @@ impl<N: Laid> Session<N> {
     ) -> Result<Answer, CallFault>
         requires client { self.old.number < length N.deployment.clients }
         requires item { item < length N.deployment.items }
-        ensures done { AtNode (Act.Write self.old.number item value.now) (asked_by (Some self.old.number) (given.Write self.old.client.carried (One item) (value.now ∷ []))) of_site result held.old.node held.new.node self.old self.new }
+        ensures done { AtNode (Act.Write self.old.number item value.now)
+            (asked_by (Some self.old.number) (given.Write self.old.client.carried (One item) (value.now ∷ []))) of_site
+            result held.old.node held.new.node self.old self.new }
         ensures outs { held.new.outs ≡ held.old.outs }
         ensures ins { held.new.ins ≡ held.old.ins }
     {
@@ -176,7 +183,9 @@ impl<N: Laid> Session<N> {
     ) -> Result<Answer, CallFault>
         requires client { self.old.number < length N.deployment.clients }
         requires group { IsGroup N.deployment items values.now }
-        ensures done { AtNode (Act.Writes self.old.number items values.now) (asked_by (Some self.old.number) (given.Write self.old.client.carried items values.now)) of_site result held.old.node held.new.node self.old self.new }
+        ensures done { AtNode (Act.Writes self.old.number items values.now)
+            (asked_by (Some self.old.number) (given.Write self.old.client.carried items values.now)) of_site result
+            held.old.node held.new.node self.old self.new }
         ensures outs { held.new.outs ≡ held.old.outs }
         ensures ins { held.new.ins ≡ held.old.ins }
     {
@@ -202,7 +211,9 @@ impl<N: Laid> Session<N> {
     ) -> Result<Answer, CallFault>
         requires client { self.old.number < length N.deployment.clients }
         requires item { item < length N.deployment.items }
-        ensures done { AtNode (Act.Read self.old.number item) (asked_by (Some self.old.number) (given.Read self.old.client.carried item)) of_site result held.old.node held.new.node self.old self.new }
+        ensures done { AtNode (Act.Read self.old.number item)
+            (asked_by (Some self.old.number) (given.Read self.old.client.carried item)) of_site result held.old.node
+            held.new.node self.old self.new }
         ensures outs { held.new.outs ≡ held.old.outs }
         ensures ins { held.new.ins ≡ held.old.ins }
     {
@@ -237,7 +248,9 @@ impl<N: Laid> Session<N> {
     ) -> Result<Answer, CallFault>
         requires client { self.old.number < length N.deployment.clients }
         requires site { site < N.deployment.sites }
-        ensures done { AtNode (Act.Move self.old.number site) (asked_by (Some self.old.number) (given.Move self.old.client.carried site)) of_site result held.old.node held.new.node self.old self.new }
+        ensures done { AtNode (Act.Move self.old.number site)
+            (asked_by (Some self.old.number) (given.Move self.old.client.carried site)) of_site result held.old.node
+            held.new.node self.old self.new }
         ensures outs { held.new.outs ≡ held.old.outs }
         ensures ins { held.new.ins ≡ held.old.ins }
     {
@@ -261,7 +274,8 @@ impl<N: Laid> Session<N> {
         self.at_site(held, input, act, None)
     }
 
-    /// Asks a site for a seat. Where the client has one, or this is another site, the answer is `Memory`; errors come as in `write`.
+    /// Asks a site for a seat. Where the client has one, or this is another site, the answer is `Memory`; errors come
+    /// as in `write`.
     pub fn attach<W: Names>(
         &mut self,
         held: &mut Held<SiteNode<N>, W>,
@@ -269,7 +283,9 @@ impl<N: Laid> Session<N> {
     ) -> Result<Answer, CallFault>
         requires client { self.old.number < length N.deployment.clients }
         requires site { site < N.deployment.sites }
-        ensures done { AtNode (Act.Attach self.old.number site) (asked_by (Some self.old.number) (given.Attach self.old.client.carried)) of_site result held.old.node held.new.node self.old self.new }
+        ensures done { AtNode (Act.Attach self.old.number site)
+            (asked_by (Some self.old.number) (given.Attach self.old.client.carried)) of_site result held.old.node
+            held.new.node self.old self.new }
         ensures outs { held.new.outs ≡ held.old.outs }
         ensures ins { held.new.ins ≡ held.old.ins }
     {
@@ -292,14 +308,16 @@ impl<N: Laid> Session<N> {
         self.at_site(held, input, act, None)
     }
 
-    /// The operator closes the emission epoch of a site. Where this is another site, the answer is `Memory`; errors come as in `write`.
+    /// The operator closes the emission epoch of a site. Where this is another site, the answer is `Memory`; errors
+    /// come as in `write`.
     pub fn close<W: Names>(
         &mut self,
         held: &mut Held<SiteNode<N>, W>,
         site: u16,
     ) -> Result<Answer, CallFault>
         requires { self.old.number ≡ length N.deployment.clients }
-        ensures done { AtNode (Act.Close site) (asked_by None given.Close) of_site result held.old.node held.new.node self.old self.new }
+        ensures done { AtNode (Act.Close site) (asked_by None given.Close) of_site result held.old.node held.new.node
+            self.old self.new }
         ensures outs { held.new.outs ≡ held.old.outs }
         ensures ins { held.new.ins ≡ held.old.ins }
     {
@@ -311,14 +329,16 @@ impl<N: Laid> Session<N> {
         self.at_site(held, input, act, None)
     }
 
-    /// The operator makes a site go by timestamp order. Where this is another site, the answer is `Memory`; errors come as in `write`.
+    /// The operator makes a site go by timestamp order. Where this is another site, the answer is `Memory`; errors come
+    /// as in `write`.
     pub fn fall<W: Names>(
         &mut self,
         held: &mut Held<SiteNode<N>, W>,
         site: u16,
     ) -> Result<Answer, CallFault>
         requires { self.old.number ≡ length N.deployment.clients }
-        ensures done { AtNode (Act.Fall site) (asked_by None given.Fall) of_site result held.old.node held.new.node self.old self.new }
+        ensures done { AtNode (Act.Fall site) (asked_by None given.Fall) of_site result held.old.node held.new.node
+            self.old self.new }
         ensures outs { held.new.outs ≡ held.old.outs }
         ensures ins { held.new.ins ≡ held.old.ins }
     {

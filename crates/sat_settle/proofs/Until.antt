@@ -11,7 +11,7 @@ use Rattle.sat_rest.specs.Ends.{UntilRefused, ends, goes_on}
 use Rattle.sat_world.specs.Seen.{WorldSeen}
 use Rattle.sat_world.specs.Stands.{StandsFor}
 use Rattle.sat_settle.specs.Going.{Extends, Reaches, Makes, MakesUntil, StopsUntil}
-use Rattle.sat_settle.proofs.Extending.{extends-self, extends-one, extends-trans, until-extends}
+use Rattle.sat_settle.proofs.Extending.{extends-one, extends-trans, until-extends}
 use Rattle.sat_settle.proofs.Going.{none-done, some-done, tried-done}
 
 -- n times done on the way from h to k
@@ -27,12 +27,6 @@ pub record IsOnWay (d : Deployed) (a : Act) (h k : List Entry) (n : ℕ) (w : Wo
 pub record Repeats (v : WorldSeen) (a : Act) (n : ℕ) (w : WorldSeen) : Type 0 where
   pub deployment : w.deployment ≡ v.deployment
   pub each : (h k : List Entry) → IsRun v.deployment h → StandsFor v h → UntilRefused v.deployment a h k → IsOnWay v.deployment a h k n w
-
-pub repeats-none : (v : WorldSeen) (a : Act) → Repeats v a 0 v
-repeats-none v a = record {
-  deployment = refl;
-  each = λ h k run st u. record { now = h; stands = st; run = run; from = extends-self h; count = omega arith; rest = u };
-}
 
 goes-past : (d : Deployed) (a : Act) (h k : List Entry) → UntilRefused d a h k → is_done (answer d h a) ≡ true → UntilRefused d a (inner_entry d h a ∷ h) k
 goes-past d a h k (ends f) e = absurd (let g : false ≡ true = sym f ∙ e in cc)

@@ -56,11 +56,13 @@ Tries v a r w = (h : List Entry) → IsRun v.deployment h → StandsFor v h → 
 
 -- an act was done again and again as long as it was done
 abbrev pub MakesUntil : WorldSeen → Act → ℕ → WorldSeen → Type 0
-MakesUntil v a n w = (h k : List Entry) → IsRun v.deployment h → StandsFor v h → UntilRefused v.deployment a h k → Reaches v.deployment h k n w
+MakesUntil v a n w = (h k : List Entry) → IsRun v.deployment h → StandsFor v h → UntilRefused v.deployment a h k
+    → Reaches v.deployment h k n w
 
 -- or that stopped on the way
 abbrev pub StopsUntil : WorldSeen → Act → WorldSeen → Type 0
-StopsUntil v a w = (h k : List Entry) → IsRun v.deployment h → StandsFor v h → UntilRefused v.deployment a h k → StopsBefore v.deployment h k w
+StopsUntil v a w = (h k : List Entry) → IsRun v.deployment h → StandsFor v h → UntilRefused v.deployment a h k
+    → StopsBefore v.deployment h k w
 
 -- the rounds from h on: how many they were, and what they make of h
 abbrev pub rounds_from : Deployed → List Entry → ℕ × List Entry
@@ -77,4 +79,5 @@ MakesRounds v m n w = (h : List Entry) → IsRun v.deployment h → StandsFor v 
 
 -- whatever run a world stood for, it now stands for a front of what the rounds of a settle make of it
 abbrev pub StopsInRounds : WorldSeen → WorldSeen → Type 0
-StopsInRounds v w = (h : List Entry) → IsRun v.deployment h → StandsFor v h → StopsBefore v.deployment h (rounds_from v.deployment h).1 w
+StopsInRounds v w = (h : List Entry) → IsRun v.deployment h → StandsFor v h
+    → StopsBefore v.deployment h (rounds_from v.deployment h).1 w

@@ -14,7 +14,8 @@ three_sites a b c = bit_or (bit_or (2 ^ a) (2 ^ b)) (2 ^ c)
 
 -- item k is kept at two sites side by side, and at a third or at one of these again
 unfoldable pub load_item : ℕ → Item
-load_item k = record { name = codes "x" ++ decimal k; replicas = record { bits = three_sites (k % 5) ((k + 1) % 5) (k / 5 % 5) } }
+load_item k =
+    record { name = codes "x" ++ decimal k; replicas = record { bits = three_sites (k % 5) ((k + 1) % 5) (k / 5 % 5) } }
 
 unfoldable pub load_client : ℕ → ClientLine
 load_client k = record { name = codes "c" ++ decimal k; site = k % 5 }

@@ -15,7 +15,8 @@ use std::alloc::AllocError;
 fn bulk_once(world: &mut World, from: u16, gear: u16, to: u16) -> Result<u64, AllocError>
     requires { IsActOf world.old.deployment (Act.Bulk from gear to None) }
     ensures deployment { world.new.deployment ≡ world.old.deployment }
-    ensures ok { IfOk result (λ done. Makes world.old (tried world.old.deployment (Act.Bulk from gear to None)) done world.new) }
+    ensures ok { IfOk result
+        (λ done. Makes world.old (tried world.old.deployment (Act.Bulk from gear to None)) done world.new) }
     ensures err { OnErr result (world.new ≡ world.old) }
 {
     let answered = world.bulk(from, gear, to, None);
@@ -25,7 +26,8 @@ fn bulk_once(world: &mut World, from: u16, gear: u16, to: u16) -> Result<u64, Al
     }
 }
 
-// The payloads of a lane come one after another, until none is left: how many came. No memory holds the entries of 2^64 - 1 acts.
+// The payloads of a lane come one after another, until none is left: how many came. No memory holds the entries of 2^64
+// - 1 acts.
 fn bulk_lane(world: &mut World, from: u16, gear: u16, to: u16) -> Result<u64, AllocError>
     requires { IsActOf world.old.deployment (Act.Bulk from gear to None) }
     ensures deployment { world.new.deployment ≡ world.old.deployment }

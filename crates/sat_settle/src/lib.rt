@@ -1,4 +1,5 @@
-//! Settle on a world: everything that can still move moves, until nothing does. And a large script made from two numbers.
+//! Settle on a world: everything that can still move moves, until nothing does. And a large script made from two
+//! numbers.
 #![tactic(auto)]
 
 mod acts;

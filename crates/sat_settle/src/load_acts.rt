@@ -13,8 +13,8 @@ use crate::load_script::MOST_LOADED;
 use sat_act::Deployment;
 use std::marker::Model;
 
-/// The acts of a large script, one after another: each is drawn when it is asked for, and none is kept. Contracts see those that
-/// are still to come.
+/// The acts of a large script, one after another: each is drawn when it is asked for, and none is kept. Contracts see
+/// those that are still to come.
 #[derive(Drop)]
 pub struct LoadActs {
     draws: Draws,
@@ -35,7 +35,8 @@ impl Model for LoadActs {
     ghost view = { λ a. to_come a.closed a.draws a.count a.drawn a.settled };
 }
 
-// How many sites have closed their epoch right behind the act of a number: none where they do so there, or all where none is to.
+// How many sites have closed their epoch right behind the act of a number: none where they do so there, or all where
+// none is to.
 fn closed_behind(count: u32, number: u32) -> u16
     ensures { drop result closes ≡ closes_after count number }
 {
@@ -46,15 +47,17 @@ fn closed_behind(count: u32, number: u32) -> u16
 }
 
 impl LoadActs {
-    /// The acts of the script of a seed and of `count` acts that are drawn, from 2 on: writes, reads, moves, attaches, ticks,
-    /// gathers, emits, pulses, hops, bulks and turns of 5 sites, in their middle every site's `close`, and last `settle`. These are
+    /// The acts of the script of a seed and of `count` acts that are drawn, from 2 on: writes, reads, moves, attaches,
+    /// ticks, gathers, emits, pulses, hops, bulks and turns of 5 sites, in their middle every site's `close`, and last
+    /// `settle`. These are
     /// `count` + 6 acts, and the script is one that `read_script` takes. It takes no memory.
     #[tactic(auto, using(crate::proofs::LoadLeft::all_come, crate::proofs::LoadSpelled::load_spelled, crate::proofs::LoadCount::acts_counted))]
     pub fn new(seed: u64, count: u32) -> LoadActs
         requires some { 2 ≤ count }
         requires few { count ≤ MOST_LOADED }
         ensures acts { result ≡ load_acts seed count }
-        ensures spelled { Spells (spelling load_deployment (load_acts seed count)) load_deployment (load_acts seed count) }
+        ensures spelled { Spells (spelling load_deployment (load_acts seed count)) load_deployment
+            (load_acts seed count) }
         ensures count { length (load_acts seed count) ≡ count + 6 }
     {
         LoadActs {

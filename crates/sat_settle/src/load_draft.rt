@@ -7,8 +7,8 @@ use sat_act::Act;
 use sat_label::NodeId;
 use std::alloc::{AllocError, Global};
 
-/// An act of a large script as it is drawn: numbers alone, so that it takes no memory. A write has its number, from which its value
-/// is made: most writes of a large script are refused whatever their value.
+/// An act of a large script as it is drawn: numbers alone, so that it takes no memory. A write has its number, from
+/// which its value is made: most writes of a large script are refused whatever their value.
 #[derive(Clone, Copy)]
 pub enum Draft {
     /// The value is that of `drawn_value`.

@@ -4,8 +4,8 @@ ghost use Rattle.sat_settle.specs.LoadDraws.{next_state, number_of};
 
 use std::marker::Model;
 
-/// A linear congruential generator modulo 2^64 (Knuth's constants for MMIX), of whose states the upper 31 bits are used.
-/// Contracts see its state.
+/// A linear congruential generator modulo 2^64 (Knuth's constants for MMIX), of whose states the upper 31 bits are
+/// used. Contracts see its state.
 #[derive(Drop)]
 pub struct Draws {
     state: u64,

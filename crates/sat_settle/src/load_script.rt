@@ -30,9 +30,9 @@ fn push_all(
     Ok(())
 }
 
-/// The script of a seed and of `count` acts that are drawn, from 2 on: writes, reads, moves, attaches, ticks, gathers, emits,
-/// pulses, hops, bulks and turns of 5 sites, in their middle every site's `close`, and last `settle`. It is one that `read_script`
-/// takes, with `count` + 6 acts.
+/// The script of a seed and of `count` acts that are drawn, from 2 on: writes, reads, moves, attaches, ticks, gathers,
+/// emits, pulses, hops, bulks and turns of 5 sites, in their middle every site's `close`, and last `settle`. It is one
+/// that `read_script` takes, with `count` + 6 acts.
 pub fn load(alloc: Global, seed: u64, count: u32) -> Result<Script, AllocError>
     requires some { 2 ≤ count }
     requires few { count ≤ MOST_LOADED }

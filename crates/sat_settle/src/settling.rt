@@ -49,9 +49,9 @@ fn first_round(world: &mut World, acts: &[Act]) -> Result<u64, AllocError>
     Ok(first.saturating_add(then))
 }
 
-// Rounds, until one in which no act is done: how many had one, and how many acts were done. Behind the bulks of the first round all
-// payloads of all lanes are taken, and no act of a round makes one: the later rounds leave the bulks out, which would be refused. No
-// memory holds the entries of 2^64 - 1 rounds.
+// Rounds, until one in which no act is done: how many had one, and how many acts were done. Behind the bulks of the
+// first round all payloads of all lanes are taken, and no act of a round makes one: the later rounds leave the bulks
+// out, which would be refused. No memory holds the entries of 2^64 - 1 rounds.
 fn do_rounds(world: &mut World, acts: &[Act]) -> Result<(u64, u64), AllocError>
     requires limits { IsDeployment world.old.deployment }
     requires acts { acts.now ≡ later_acts world.old.deployment }
@@ -73,20 +73,31 @@ fn do_rounds(world: &mut World, acts: &[Act]) -> Result<(u64, u64), AllocError>
     Err(AllocError)
 }
 
-/// Everything that can still move moves, until nothing does: first every gear's clock goes to the greatest promise, every sink
-/// sends what it has, and beats go from each site to each other; then come rounds of bulks, hops, turns, stamps and advances,
-/// each as long as it is done, until a round in which none is. It answers `Settled`, with the number of rounds in which an act
-/// was done and the number of acts done, each given as 2^64 - 1 where it is greater. For want of memory the world stands after
-/// some of these acts, each whole.
+/// Everything that can still move moves, until nothing does: first every gear's clock goes to the greatest promise,
+/// every sink sends what it has, and beats go from each site to each other; then come rounds of bulks, hops, turns,
+/// stamps and advances, each as long as it is done, until a round in which none is. It answers `Settled`, with the
+/// number of rounds in which an act was done and the number of acts done, each given as 2^64 - 1 where it is greater.
+/// For want of memory the world stands after some of these acts, each whole.
 pub fn settle(world: &mut World) -> Result<Answer, AllocError>
     ensures deployment { world.new.deployment ≡ world.old.deployment }
-    ensures answer { IfOk result (λ r. (h : List Entry) → IsRun world.old.deployment h → StandsFor world.old h → r ≡ answer_of world.old.deployment h Act.Settle) }
-    ensures stands { IfOk result (λ r. (h : List Entry) → IsRun world.old.deployment h → StandsFor world.old h → StandsFor world.new (record { act = Act.Settle; answer = r; inner = false } ∷ (settled world.old.deployment h).1)) }
-    ensures run { IfOk result (λ r. (h : List Entry) → IsRun world.old.deployment h → StandsFor world.old h → IsRun world.old.deployment (record { act = Act.Settle; answer = r; inner = false } ∷ (settled world.old.deployment h).1)) }
-    ensures good { IfOk result (λ r. (h : List Entry) → IsRun world.old.deployment h → StandsFor world.old h → IsGood world.old.deployment (record { act = Act.Settle; answer = r; inner = false } ∷ (settled world.old.deployment h).1)) }
-    ensures bound { IfOk result (λ r. (h : List Entry) → IsRun world.old.deployment h → StandsFor world.old h → IsWithinBound world.old.deployment h r) }
-    ensures rests { IfOk result (λ r. (h : List Entry) → IsRun world.old.deployment h → StandsFor world.old h → (end : CanEnd world.old.deployment (settled world.old.deployment h).1) → IsAtRest world.old.deployment (settled world.old.deployment h).1 end.epoch) }
-    ensures err { OnErr result ((h : List Entry) → IsRun world.old.deployment h → StandsFor world.old h → StopsBefore world.old.deployment h (settled world.old.deployment h).1 world.new) }
+    ensures answer { IfOk result (λ r. (h : List Entry) → IsRun world.old.deployment h → StandsFor world.old h
+        → r ≡ answer_of world.old.deployment h Act.Settle) }
+    ensures stands { IfOk result (λ r. (h : List Entry) → IsRun world.old.deployment h → StandsFor world.old h
+        → StandsFor world.new (record { act = Act.Settle; answer = r; inner = false }
+        ∷ (settled world.old.deployment h).1)) }
+    ensures run { IfOk result (λ r. (h : List Entry) → IsRun world.old.deployment h → StandsFor world.old h
+        → IsRun world.old.deployment (record { act = Act.Settle; answer = r; inner = false }
+        ∷ (settled world.old.deployment h).1)) }
+    ensures good { IfOk result (λ r. (h : List Entry) → IsRun world.old.deployment h → StandsFor world.old h
+        → IsGood world.old.deployment (record { act = Act.Settle; answer = r; inner = false }
+        ∷ (settled world.old.deployment h).1)) }
+    ensures bound { IfOk result (λ r. (h : List Entry) → IsRun world.old.deployment h → StandsFor world.old h
+        → IsWithinBound world.old.deployment h r) }
+    ensures rests { IfOk result (λ r. (h : List Entry) → IsRun world.old.deployment h → StandsFor world.old h
+        → (end : CanEnd world.old.deployment (settled world.old.deployment h).1)
+        → IsAtRest world.old.deployment (settled world.old.deployment h).1 end.epoch) }
+    ensures err { OnErr result ((h : List Entry) → IsRun world.old.deployment h → StandsFor world.old h
+        → StopsBefore world.old.deployment h (settled world.old.deployment h).1 world.new) }
 {
     let acts = list_later(world.allocator(), world.deployment())?;
     let opened = open(world)?;

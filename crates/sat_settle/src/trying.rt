@@ -50,7 +50,8 @@ pub fn once(world: &mut World, act: &Act) -> Result<u64, AllocError>
 fn hop_once(world: &mut World, epoch: u16, from: NodeId, to: u16) -> Result<u64, AllocError>
     requires { IsActOf world.old.deployment (Act.Hop epoch from to) }
     ensures deployment { world.new.deployment ≡ world.old.deployment }
-    ensures ok { IfOk result (λ done. Makes world.old (tried world.old.deployment (Act.Hop epoch from to)) done world.new) }
+    ensures ok { IfOk result
+        (λ done. Makes world.old (tried world.old.deployment (Act.Hop epoch from to)) done world.new) }
     ensures err { OnErr result (world.new ≡ world.old) }
 {
     let answered = world.hop(epoch, from, to);
@@ -123,8 +124,8 @@ fn again(world: &mut World, act: &Act) -> Result<u64, AllocError>
     Err(AllocError)
 }
 
-/// Does an act again and again as long as it is done, and answers how often it was. For want of memory the world stands after some
-/// of these. No memory holds the entries of 2^64 - 1 acts.
+/// Does an act again and again as long as it is done, and answers how often it was. For want of memory the world stands
+/// after some of these. No memory holds the entries of 2^64 - 1 acts.
 // Most acts of a settle are hops and turns, so these are told apart once and not each time.
 pub fn until_refused(world: &mut World, act: &Act) -> Result<u64, AllocError>
     requires act { IsActOf world.old.deployment act.now }

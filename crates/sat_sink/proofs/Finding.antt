@@ -18,9 +18,6 @@ use Rattle.sat_sink.specs.Sink.{Sink, IsPending, IsSink}
 use Rattle.sat_sink.proofs.Sinks.{pending-is}
 use Rattle.sat_sink.proofs.Fronts.{no_front, front_up, front_past, labels-get, least-more}
 
-least-of : ℕ → List (Queued Label) → ℕ → Option Label
-least-of t queues n = least_label (is_up_to t) (all_of (map members_of (take n queues)))
-
 first-in : (ls : List Label) (l : Label) → slice_get ls 0 ≡ Some l → In ls l
 first-in [] l e = absurd (cc)
 first-in (x ∷ ls) l e = let same : x ≡ l = cc in inl same

@@ -41,9 +41,6 @@ not-below l m e = let f : point_lt m.point l.point ≡ false = points-not_lt m l
     by-ts : (p q : Point) → point_lt p q ≡ false → q.ts ≤ p.ts
     by-ts p q f = grind (arith, nat_tests)
 
-past_end : (n g : ℕ) → (g < n) ⊎ (n ≤ g)
-past_end n g = grind arith
-
 -- a queue with a member is one of the queues
 pub in-within : (qs : List (List Label)) (g : ℕ) (m : Label) → In (get_or qs g []) m → g < length qs
 in-within [] g m i = absurd i
@@ -137,9 +134,6 @@ not-before s l m n i = elim (up-or-past (stable_of s) m) [
   | inl up ↦ not-below l m (n.lowest m i up)
   | inr past ↦ omega (arith, n.stable)
 ]
-
-cut-from : Sink → Option Label → Point
-cut-from s o = elim o [ None ↦ mark (stable_of s) s.site | Some l ↦ greater_point s.last (mark (l.point.ts - 1) s.site) ]
 
 -- every pending label is above it
 pub cut-below : (s : Sink) → IsSink s → AllAbove (cut_of s) s.pending

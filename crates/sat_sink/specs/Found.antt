@@ -14,7 +14,8 @@ queue_at queues g = get_or (map members_of queues) g []
 
 -- of two labels with one timestamp that of the lower gear is the lesser
 abbrev pub InGearOrder : List (Queued Label) → Type 0
-InGearOrder queues = (g h : ℕ) (l m : Label) → g < h → In (queue_at queues g) l → In (queue_at queues h) m → l.point.ts ≤ m.point.ts → label_lt l m ≡ true
+InGearOrder queues = (g h : ℕ) (l m : Label) → g < h → In (queue_at queues g) l → In (queue_at queues h) m
+    → l.point.ts ≤ m.point.ts → label_lt l m ≡ true
 
 -- whether a front with this timestamp goes before what was found, or, where nothing was, is up to t
 abbrev pub goes_before : ℕ → Option Found → ℕ → Bool
@@ -25,4 +26,5 @@ goes_before n (Some f) t = nat_lt n f.ts
 abbrev pub IsFound : ℕ → List (Queued Label) → ℕ → Option Found → Type 0
 IsFound t queues n None = least_label (is_up_to t) (all_of (map members_of (take n queues))) ≡ None
 IsFound t queues n (Some f) =
-    (l : Label) × (least_label (is_up_to t) (all_of (map members_of (take n queues))) ≡ Some l) × (f.ts ≡ l.point.ts) × (slice_get (queue_at queues f.place) 0 ≡ Some l) × (f.place < n)
+    (l : Label) × (least_label (is_up_to t) (all_of (map members_of (take n queues))) ≡ Some l) × (f.ts ≡ l.point.ts)
+    × (slice_get (queue_at queues f.place) 0 ≡ Some l) × (f.place < n)

@@ -43,4 +43,5 @@ promise_of d = d.promise
 
 -- from the n-th queue on each has room for what was drained for it
 abbrev pub HaveRoomFrom : ℕ → List (Queued Label) → List Drained → Type 0
-HaveRoomFrom n queues drained = (g : ℕ) (q : Queued Label) (d : Drained) → n ≤ g → g < length queues → length (get_or queues g q).members + length (get_or drained g d).labels ≤ (get_or queues g q).room
+HaveRoomFrom n queues drained = (g : ℕ) (q : Queued Label) (d : Drained) → n ≤ g → g < length queues
+    → length (get_or queues g q).members + length (get_or drained g d).labels ≤ (get_or queues g q).room

@@ -11,8 +11,8 @@ use Rattle.sat_bulk.specs.Drains.{Rises, IsNew}
 use Rattle.sat_sink.specs.Pending.{least, is_up_to, all_of, without, joined, labels_of, promise_of}
 use Rattle.sat_label.specs.Least.{least_label}
 
--- the site, by gear the gathered promise and the gathered labels that were not emitted, the point of the label that was sent
--- last, and the timestamp of the last pulse
+-- the site, by gear the gathered promise and the gathered labels that were not emitted, the point of the label that was
+-- sent last, and the timestamp of the last pulse
 pub record Sink : Type 0 where
   pub site : ℕ
   pub promises : List ℕ
@@ -22,7 +22,8 @@ pub record Sink : Type 0 where
 
 -- before the first gather
 abbrev pub fresh_sink : ℕ → ℕ → Sink
-fresh_sink site gears = record { site = site; promises = replicate gears 0; pending = replicate gears []; last = point_at 0 site 0; pulse = 0 }
+fresh_sink site gears =
+    record { site = site; promises = replicate gears 0; pending = replicate gears []; last = point_at 0 site 0; pulse = 0 }
 
 -- the least gathered promise
 abbrev pub stable_of : Sink → ℕ
@@ -50,7 +51,8 @@ pulse_of s = record { point = point_at (stable_of s) s.site PULSE_GEAR; kind = P
 -- ---- what the calls make of it
 
 abbrev pub after_gather : Sink → List Drained → Sink
-after_gather s drained = record s { promises = map promise_of drained; pending = joined s.pending (map labels_of drained) }
+after_gather s drained =
+    record s { promises = map promise_of drained; pending = joined s.pending (map labels_of drained) }
 
 abbrev pub after_emit_of : Sink → Label → Sink
 after_emit_of s l = record s { pending = without l s.pending; last = l.point }

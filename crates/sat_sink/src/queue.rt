@@ -52,7 +52,8 @@ pub fn reserve_from(queues: &mut [Queue<Label>], gears: &[Gear]) -> Result<(), A
 pub fn extend_from(queues: &mut [Queue<Label>], gears: &[Gear])
     requires same { length queues.old ≡ length gears.now }
     requires room { HaveRoomFrom 0 queues.old (map drained_of gears.now) }
-    ensures { map members_of queues.new ≡ joined (map members_of queues.old) (map labels_of (map drained_of gears.now)) }
+    ensures { map members_of queues.new
+        ≡ joined (map members_of queues.old) (map labels_of (map drained_of gears.now)) }
 {
     for (place, gear) in gears.iter().enumerate() {
         queues[place].extend(gear.fresh());
@@ -77,11 +78,12 @@ fn goes_before(front: u64, found: Option<Found>, ts: u64) -> bool
     }
 }
 
-// What is found with one queue more. It looks at the timestamps alone: of two labels with one timestamp that of the lower gear
-// is the lesser.
+// What is found with one queue more. It looks at the timestamps alone: of two labels with one timestamp that of the
+// lower gear is the lesser.
 #[inline(always)]
 fn with_queue(found: Option<Found>, place: usize, queue: &Queue<Label>, ts: u64) -> Option<Found>
-    ensures { (queues : List (Queued Label)) → place < length queues → queue.now ≡ get_or queues place queue.now → AllRise queues → InGearOrder queues →
+    ensures { (queues : List (Queued Label)) → place < length queues → queue.now ≡ get_or queues place queue.now
+        → AllRise queues → InGearOrder queues →
         IsFound ts queues place found → IsFound ts queues (place + 1) result }
 {
     let Some(front) = queue.front() else {

@@ -13,8 +13,8 @@ use sat_queue::{Queue, empty_queues};
 use std::alloc::{AllocError, Global};
 use std::marker::Model;
 
-/// What a site gathered from its gears and did not send yet, by gear, with what each gear promised. Contracts see it as the
-/// record of these.
+/// What a site gathered from its gears and did not send yet, by gear, with what each gear promised. Contracts see it as
+/// the record of these.
 #[derive(Drop)]
 pub struct LabelSink {
     site: u16,
@@ -31,9 +31,12 @@ impl Model for LabelSink {
 
     ghost Value = { Sink };
 
-    ghost view = { λ a. record { site = a.site; promises = a.promises.items; pending = map members_of a.pending.items; last = a.last; pulse = a.pulse } };
+    ghost view = { λ a.
+        record { site = a.site; promises = a.promises.items; pending = map members_of a.pending.items; last = a.last; pulse = a.pulse } };
 
-    ghost invariant = { λ a. IsSink (record { site = a.site; promises = a.promises.items; pending = map members_of a.pending.items; last = a.last; pulse = a.pulse }) };
+    ghost invariant = { λ a.
+        IsSink
+        (record { site = a.site; promises = a.promises.items; pending = map members_of a.pending.items; last = a.last; pulse = a.pulse }) };
 }
 
 // The least of some promises, 0 where there are none.
@@ -88,8 +91,9 @@ impl LabelSink {
         })
     }
 
-    /// Takes in what was drained from each gear, in their order: each gear's promise, which doesn't fall, and its new labels,
-    /// whose points rise and are above the gear's gathered promise and up to the new one. For want of memory all is as before.
+    /// Takes in what was drained from each gear, in their order: each gear's promise, which doesn't fall, and its new
+    /// labels, whose points rise and are above the gear's gathered promise and up to the new one. For want of memory
+    /// all is as before.
     pub fn gather(&mut self, drained: &[Drained]) -> Result<(), AllocError>
         requires { IsDrain self.old drained.now }
         ensures ok { OnOk result (self.new ≡ after_gather self.old drained.now) }
@@ -122,7 +126,8 @@ impl LabelSink {
         least_up_to(&self.pending, least(&self.promises))
     }
 
-    /// The timestamp up to which no gear will make a label any more: the least gathered promise, 0 before the first gather.
+    /// The timestamp up to which no gear will make a label any more: the least gathered promise, 0 before the first
+    /// gather.
     pub fn stable(&self) -> u64
         ensures { result ≡ stable_of self.now }
     {
@@ -136,7 +141,8 @@ impl LabelSink {
         self.next().is_some()
     }
 
-    /// Sends the least pending label, where it is stable. The label was above the cut, and is at or below it from then on.
+    /// Sends the least pending label, where it is stable. The label was above the cut, and is at or below it from then
+    /// on.
     pub fn emit(&mut self) -> Option<Label>
         ensures label { result ≡ ready_of self.old }
         ensures new { self.new ≡ after_emit self.old }
@@ -168,7 +174,8 @@ impl LabelSink {
         self.pulse < self.stable() && !self.ready()
     }
 
-    /// Sends a pulse, which tells the stable timestamp, where no pending label is stable and the last pulse told a lower one.
+    /// Sends a pulse, which tells the stable timestamp, where no pending label is stable and the last pulse told a
+    /// lower one.
     pub fn pulse(&mut self) -> Option<Label>
         ensures label { result ≡ (if may_pulse self.old then Some (pulse_of self.old) else None) }
         ensures new { self.new ≡ (if may_pulse self.old then after_pulse self.old else self.old) }

@@ -24,20 +24,18 @@ use Rattle.sat_sites.specs.declared.shape.Shape.{Shape}
 use Rattle.sat_label.specs.Versions.{Version}
 use Rattle.sat_gear.specs.Gear.{GearSeen, AreItemsOf, IsGear, IsItemOf, after_tick, after_write, payload_with, stamped, is_spent, after_drain, drained_of, version_of}
 use Rattle.sat_sink.specs.Pending.{promise_of, least}
-use Rattle.sat_sink.specs.Sink.{Sink, after_emit_of, after_gather, may_pulse, pulse_of, ready_of, stable_of, after_emit}
+use Rattle.sat_sink.specs.Sink.{Sink, after_emit_of, after_gather, ready_of, stable_of, after_emit}
 use Rattle.sat_act.specs.declared.answer.Answer.{Answer}
 use Rattle.sat_act.specs.declared.answer.Answer.TheVariants as ans
 use Rattle.sat_act.specs.declared.answer.Refusal.TheVariants as why
 use Rattle.sat_site.specs.declared.input.SiteInput as code
 use Rattle.sat_site.specs.declared.input.SiteInput.TheVariants as input
-use Rattle.sat_epoch.specs.declared.views.CloseFault.{CloseFault}
-use Rattle.sat_epoch.specs.Epochs.{close_fault}
 use Rattle.sat_site.specs.Inputs.{fits_in}
 use Rattle.sat_site.specs.Seen.{SiteSeen, AreGears, IsSite, IsGearAt}
 use Rattle.sat_site.specs.Changes.{with_gear, counts_of, gathered_all, gear_for, ticked_to, fresh_of, HasGear}
 use Rattle.sat_site.specs.Does.{Does, Stamps, stamps_none, stamps_short, stamps, ticks, gathers, idles, emits, Writes, spends, writes, Reads, reads_none, reads}
-use Rattle.sat_site.specs.SiteSteps.{close_label, keeps_each, keeps_item, next_close, next_pulse, shown_parts, written}
-use Rattle.sat_site.proofs.Sound.{with-gear-site, ticked-gear, wrote-gear, gathered-site, sent-site, ready-here, label-here, pulse-here, close-here, cut-site, clocked-site}
+use Rattle.sat_site.specs.SiteSteps.{keeps_each, keeps_item, shown_parts, written}
+use Rattle.sat_site.proofs.Sound.{with-gear-site, ticked-gear, wrote-gear, gathered-site, sent-site, ready-here, label-here, clocked-site}
 
 pub at-place : (x : SiteSeen) (g : ℕ) (gear : GearSeen) → g < length x.gears → gear ≡ get_or x.gears g gear → HasGear x g gear
 at-place x g gear lt e = slice_get_read x.gears (length x.gears) g gear refl lt e
@@ -68,9 +66,6 @@ item-gear w v g n same k e =
 
 pub item-of-gear : (w v : SiteSeen) (g n : ℕ) → w ≡ v → g ≡ n % v.shape.gears → g ≡ n % w.shape.gears
 item-of-gear w v g n same e = e ∙ (λ j. n % (sym same j).shape.gears)
-
-pub item-within : (w v : SiteSeen) (n : ℕ) → w ≡ v → n < length v.shape.interest.replicas → n < length w.shape.interest.replicas
-item-within w v n same lt = subst (λ (x : SiteSeen). n < length x.shape.interest.replicas) (sym same) lt
 
 pub kept-item : (w v : SiteSeen) (n : ℕ) → w ≡ v → keeps_item v n ≡ true → keeps_item w n ≡ true
 kept-item w v n same e = subst (λ (x : SiteSeen). keeps_item x n ≡ true) (sym same) e
@@ -221,20 +216,6 @@ emit-site w s o l k e f h = subst (λ (t : Sink). IsSite (record w { sink = t })
 pub emit-label : (w v : SiteSeen) (o : Option Label) → w ≡ v → IsSite w → o ≡ ready_of w.sink → (l : Label) → o ≡ Some l → IsLabelOf v.shape.interest l
 emit-label w v o same k e l f = subst (λ (x : SiteSeen). IsLabelOf x.shape.interest l) same (label-here w l k (ready-here w l k (sym e ∙ f)))
 
-pub pulse-label : (x : SiteSeen) (o : Option Label) → IsSite x → o ≡ next_pulse x.sink → (l : Label) → o ≡ Some l → IsLabelOf x.shape.interest l
-pulse-label x o k e l f = go (may_pulse x.sink) (sym e ∙ f)
-  where
-    go : (b : Bool) → (if b then Some (pulse_of x.sink) else None) ≡ Some l → IsLabelOf x.shape.interest l
-    go true e = let same : pulse_of x.sink ≡ l = cc in subst (IsLabelOf x.shape.interest) same (pulse-here x k)
-    go false e = absurd (cc)
-
-pub close-label : (x : SiteSeen) (o : Option Label) → IsSite x → o ≡ next_close (close_fault x.views) x → (l : Label) → o ≡ Some l → IsLabelOf x.shape.interest l
-close-label x o k e l f = go (close_fault x.views) (sym e ∙ f)
-  where
-    go : (c : Option CloseFault) → next_close c x ≡ Some l → IsLabelOf x.shape.interest l
-    go (Some c) e = absurd (cc)
-    go None e = let same : close_label x ≡ l = cc in subst (IsLabelOf x.shape.interest) same (close-here x k (cut-site x k))
-
 pub did-emit : (w v : SiteSeen) (s : Sink) (o : Option Label) (l : Label) → w ≡ v → o ≡ ready_of w.sink → o ≡ Some l → s ≡ after_emit w.sink → Does v input.Emit (ans.Emitted l) (record w { sink = s })
 did-emit w v s o l same e f h =
     subst (λ (x : SiteSeen). Does x input.Emit (ans.Emitted l) (record w { sink = s })) same
@@ -269,9 +250,6 @@ pub did-read : (x : SiteSeen) (g n : ℕ) (gear : GearSeen) (v : Version) (l : L
 did-read x g n gear v l value e at here some label f = subst (λ (r : Answer). Reads x n r) (λ j. ans.ReadSome (sym label j) (sym f j)) (reads gear v here (subst (λ (g : ℕ). HasGear x g gear) e at) some)
 
 -- ---- inputs
-
-pub by-input : (x y : SiteSeen) (g h : code.SiteInput) (r : Answer) → g ≡ h → Does x h r y → Does x g r y
-by-input x y g h r e k = subst (λ (g : code.SiteInput). Does x g r y) (sym e) k
 
 pub given-fits : (x : SiteSeen) (g h : code.SiteInput) → g ≡ h → fits_in x g ≡ true → fits_in x h ≡ true
 given-fits x g h e f = subst (λ (given : code.SiteInput). fits_in x given ≡ true) e f

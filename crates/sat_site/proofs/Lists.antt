@@ -1,8 +1,6 @@
 -- Places of changed lists, and choices.
 use Rattle.std.specs.Prelude.{◌≡◌, ◌≢◌, ◌⊎◌, ◌<◌, ℕ, zero, suc, Bool, true, false, List, [], ◌∷◌, length, map, set, get_or, Some, slice_get, if◌then◌else◌, refl}
 use Rattle.std.proofs.Common.{ap, sym, ◌∙◌, arith, inl, inr}
-use Rattle.sat_label.specs.declared.label.Label.{Label}
-use Rattle.sat_label.specs.Members.{In}
 
 -- after a write at place i
 pub set-cases : {X : Type 0} (xs : List X) (i n : ℕ) (y x : X) → slice_get (set xs i y) n ≡ Some x → ((y ≡ x) × (n ≡ i)) ⊎ ((slice_get xs n ≡ Some x) × (n ≢ i))
@@ -51,8 +49,3 @@ chosen false x y e = absurd (cc)
 pub passed : {X : Type 0} (b : Bool) (x y : X) → b ≡ false → (if b then x else y) ≡ y
 passed true x y e = absurd (cc)
 passed false x y e = refl
-
-pub In-at : (ls : List Label) (n : ℕ) (l : Label) → slice_get ls n ≡ Some l → In ls l
-In-at [] n l e = absurd (cc)
-In-at (m ∷ ls) zero l e = inl (cc)
-In-at (m ∷ ls) (suc n) l e = inr (In-at ls n l e)

@@ -22,15 +22,11 @@ use Rattle.sat_sites.specs.declared.shape.Shape.{Shape}
 use Rattle.sat_proxy.specs.declared.proxy.StampFault.{StampFault}
 use Rattle.sat_proxy.specs.declared.proxy.TurnFault.{TurnFault}
 use Rattle.sat_proxy.specs.declared.proxy.Turned.{Turned}
-use Rattle.sat_proxy.specs.Proxy.{ProxySeen, IsProxy, AreViewsOf, best_of, window_of}
+use Rattle.sat_proxy.specs.Proxy.{ProxySeen, IsProxy, best_of, window_of}
 use Rattle.sat_proxy.specs.Steps as made
 use Rattle.sat_site.specs.Seen.{SiteSeen, HasPeers, IsGuest, IsSite}
 use Rattle.sat_site.specs.SiteSteps.{passed_after}
 use Rattle.sat_site.proofs.Sound.{proxy-site, views-site}
-
--- the epochs are those of what the site has of the others
-pub views-of : (x : SiteSeen) → IsSite x → AreViewsOf x.proxy x.views
-views-of x k = record { own = k.views.own ∙ sym k.proxy.own; heard = k.views.heard ∙ sym k.proxy.sites }
 
 -- of what waits then, all waited before
 still : (shape : Shape) (p q : ProxySeen) → HasPeers shape p → IsProxy q → q.sites ≡ p.sites → q.gears ≡ p.gears → q.site ≡ p.site → ((x : Payload) → In (all_waiting q.pool) x → In (all_waiting p.pool) x) → HasPeers shape q

@@ -35,7 +35,8 @@ counts_of d = d.counts
 
 -- the sink has what the gears made since the last gather, and how far their lanes go was counted
 abbrev pub gathered_all : SiteSeen → SiteSeen
-gathered_all x = record x { gears = map after_drain x.gears; sink = after_gather x.sink (map drained_of x.gears); counts = map counts_of (map drained_of x.gears) }
+gathered_all x =
+    record x { gears = map after_drain x.gears; sink = after_gather x.sink (map drained_of x.gears); counts = map counts_of (map drained_of x.gears) }
 
 abbrev pub sent : SiteSeen → Label → SiteSeen
 sent x l = record x { sink = after_emit_of x.sink l }

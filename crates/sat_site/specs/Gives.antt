@@ -23,11 +23,13 @@ use Rattle.sat_site.specs.Stands.{StandsSite}
 
 -- the answer is the machine's, at each state that the site stands for
 abbrev pub AnswersBy : SiteSeen → SiteInput → Answer → Type 0
-AnswersBy x input answer = (d : Deployed) (i : ℕ) (s : SiteState) → IsDeployment d → StandsSite d i x s → answer ≡ site_answer d i s input
+AnswersBy x input answer =
+    (d : Deployed) (i : ℕ) (s : SiteState) → IsDeployment d → StandsSite d i x s → answer ≡ site_answer d i s input
 
 -- the site then stands for what the answer makes of that state
 abbrev pub StandsBy : SiteSeen → SiteInput → Answer → SiteSeen → Type 0
-StandsBy x input answer y = (d : Deployed) (i : ℕ) (s : SiteState) → IsDeployment d → StandsSite d i x s → StandsSite d i y (site_next d i s input answer)
+StandsBy x input answer y = (d : Deployed) (i : ℕ) (s : SiteState) → IsDeployment d → StandsSite d i x s
+    → StandsSite d i y (site_next d i s input answer)
 
 -- some other site is a target of the label
 abbrev pub HasTarget : Shape → Label → Type 0
@@ -64,6 +66,8 @@ PromisesUpTo x ts = (g : ℕ) (gear : GearSeen) → slice_get x.gears g ≡ Some
 pub record IsOfLane (shape : Shape) (gear to : ℕ) (p : Payload) : Type 0 where
   pub made_at : p.label.point.site ≡ shape.site
   pub made_by : p.label.point.gear ≡ gear
-  pub items : (items : Items) × (p.label.kind ≡ Update items) × AreBelow (length shape.interest.replicas) (list_of items)
-  pub values : (values : List (List ℕ)) × (p.values ≡ map Some values) × (length values ≡ length (items_of p.label.kind))
+  pub items : (items : Items) × (p.label.kind ≡ Update items)
+      × AreBelow (length shape.interest.replicas) (list_of items)
+  pub values : (values : List (List ℕ)) × (p.values ≡ map Some values)
+      × (length values ≡ length (items_of p.label.kind))
   pub target : is_for shape.interest p.label to ≡ true

@@ -87,19 +87,21 @@ is_front_here shape view l = is_time l.point.ts && (is_other_here shape l.point.
 
 -- an update of items of the deployment, which ascend, and of which the site keeps one
 abbrev pub is_kept_here : Shape → Kind → Bool
-is_kept_here shape (kind.Update items) = is_group_here shape items && keeps_one shape.interest (list_of items) shape.site
+is_kept_here shape (kind.Update items) =
+    is_group_here shape items && keeps_one shape.interest (list_of items) shape.site
 is_kept_here shape _ = false
 
 -- an update that another site made, of which this one keeps an item
 abbrev pub is_guest_here : Shape → ℕ → Label → Bool
 is_guest_here shape from l = (is_time l.point.ts && (l.point.site == from)) && is_kept_here shape l.kind
 
--- a payload of a lane of another site, with a value for each item that the site keeps. Where its number is new, no payload that
--- waits has its point
+-- a payload of a lane of another site, with a value for each item that the site keeps. Where its number is new, no
+-- payload that waits has its point
 abbrev pub is_bulk_here : Shape → ProxySeen → ℕ → ℕ → ℕ → Payload → Bool
 is_bulk_here shape proxy from gear number p =
     (is_other_here shape from && is_gear_here shape gear)
-    && ((is_guest_here shape from p.label && has_parts_here shape (items_of p.label.kind) p.values) && (has_number (window_of proxy from gear) number || is_none (waiting_at proxy.pool p.label.point)))
+    && ((is_guest_here shape from p.label && has_parts_here shape (items_of p.label.kind) p.values)
+    && (has_number (window_of proxy from gear) number || is_none (waiting_at proxy.pool p.label.point)))
 
 -- ---- beats
 
@@ -109,14 +111,16 @@ is_cut_here shape o = elim o [ None ↦ true | Some p ↦ is_point_here shape p 
 
 -- a beat whose cut, and close cut of each of so many epochs, if any, are points
 abbrev pub is_beat_here : Shape → ℕ → Beat → Bool
-is_beat_here shape epochs beat = is_point_here shape beat.cut && list_all (λ n. is_cut_here shape (slice_get beat.closes n)) (below epochs)
+is_beat_here shape epochs beat =
+    is_point_here shape beat.cut && list_all (λ n. is_cut_here shape (slice_get beat.closes n)) (below epochs)
 
 -- ---- inputs
 
 -- what the machine of the model asks, in the words of a site
 unfoldable pub fits_here : SiteSeen → code.SiteInput → Bool
 fits_here x (input.Tick g t) = is_gear_here x.shape g && is_time t
-fits_here x (input.Write seen items values) = is_carried_here x.shape seen && (is_group_here x.shape items && (length values == length (list_of items)))
+fits_here x (input.Write seen items values) =
+    is_carried_here x.shape seen && (is_group_here x.shape items && (length values == length (list_of items)))
 fits_here x (input.Read seen n) = is_carried_here x.shape seen && is_item_here x.shape n
 fits_here x (input.Move seen j) = is_carried_here x.shape seen && is_site_here x.shape j
 fits_here x (input.Attach seen) = is_carried_here x.shape seen
@@ -127,7 +131,8 @@ fits_here x (input.Turn None) = true
 fits_here x (input.Turn (Some l)) = is_front_here x.shape x.views.view l
 fits_here x (input.Bulk from gear number p) = is_bulk_here x.shape x.proxy from gear number p
 fits_here x (input.Beat j) = is_other_here x.shape j
-fits_here x (input.BeatIn from number beat) = is_other_here x.shape from && is_beat_here x.shape (length x.views.stamp) beat
+fits_here x (input.BeatIn from number beat) =
+    is_other_here x.shape from && is_beat_here x.shape (length x.views.stamp) beat
 fits_here x input.Stamp = true
 fits_here x input.Close = true
 fits_here x input.Fall = true

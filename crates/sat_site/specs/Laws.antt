@@ -15,8 +15,9 @@ use Rattle.sat_site.specs.Stands.{StandsSite}
 use Rattle.sat_site.specs.Gives.{AnswersBy, StandsBy, IsSent, PromisesUpTo}
 use Rattle.sat_site.specs.SiteSteps.{site_answers, site_sends, site_after}
 
--- the answer is the machine's at each state that the site stands for, and the value after stands for what the machine makes of
--- that state; what is sent is the label that enters the tree; what isn't done changes nothing, and nothing changes the shape
+-- the answer is the machine's at each state that the site stands for, and the value after stands for what the machine
+-- makes of that state; what is sent is the label that enters the tree; what isn't done changes nothing, and nothing
+-- changes the shape
 pub record StepHolds (x : SiteSeen) (given : code.SiteInput) : Type 0 where
   pub answers : AnswersBy x (input_of given) (site_answers x given)
   pub stands : StandsBy x (input_of given) (site_answers x given) (site_after x given)
@@ -30,9 +31,11 @@ EachStep = (x : SiteSeen) (given : code.SiteInput) → IsSite x → fits_in x gi
 
 -- a tick of each gear to a number that no promise is above is the part of the act clock at one site
 abbrev pub EachClock : Type 0
-EachClock = (x : SiteSeen) (ts : ℕ) → IsSite x → PromisesUpTo x ts → StandsBy x (given.Clock ts) (ans.Clocked ts) (clocked x ts)
+EachClock =
+    (x : SiteSeen) (ts : ℕ) → IsSite x → PromisesUpTo x ts → StandsBy x (given.Clock ts) (ans.Clocked ts) (clocked x ts)
 
--- what a site asks is what the machine asks at each state that the site stands for, and that a window can take the number
+-- what a site asks is what the machine asks at each state that the site stands for, and that a window can take the
+-- number
 abbrev pub EachFits : Type 0
 EachFits =
     (x : SiteSeen) (given : code.SiteInput) (d : Deployed) (i : ℕ) (s : SiteState) →

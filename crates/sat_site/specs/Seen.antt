@@ -16,8 +16,8 @@ use Rattle.sat_pool.specs.Pool.{all_waiting}
 use Rattle.sat_proxy.specs.Proxy.{ProxySeen, IsProxy}
 use Rattle.sat_act.specs.Parts.{items_of}
 
--- what the site was made from; its gears; its sink, and by gear how much of its lane to each site was gathered; its epochs; what it
--- has of the other sites; and by site the beats that it made for it
+-- what the site was made from; its gears; its sink, and by gear how much of its lane to each site was gathered; its
+-- epochs; what it has of the other sites; and by site the beats that it made for it
 pub record SiteSeen : Type 0 where
   pub shape : Shape
   pub gears : List GearSeen
@@ -51,11 +51,14 @@ abbrev pub has_parts_here : Shape → List ℕ → List (Option (List ℕ)) → 
 has_parts_here shape [] [] = true
 has_parts_here shape [] (p ∷ ps) = false
 has_parts_here shape (n ∷ ns) [] = false
-has_parts_here shape (n ∷ ns) (p ∷ ps) = (not (keeps shape.interest n shape.site) || is_some p) && has_parts_here shape ns ps
+has_parts_here shape (n ∷ ns) (p ∷ ps) =
+    (not (keeps shape.interest n shape.site) || is_some p) && has_parts_here shape ns ps
 
 -- an update of a site, of items of which this one keeps one, with a value for each that it keeps
 pub record IsGuest (shape : Shape) (p : Payload) : Type 0 where
-  pub items : (items : Items) × (p.label.kind ≡ Update items) × AreBelow (length shape.interest.replicas) (list_of items) × (keeps_one shape.interest (list_of items) shape.site ≡ true)
+  pub items : (items : Items) × (p.label.kind ≡ Update items)
+      × AreBelow (length shape.interest.replicas) (list_of items)
+      × (keeps_one shape.interest (list_of items) shape.site ≡ true)
   pub parts : has_parts_here shape (items_of p.label.kind) p.values ≡ true
   pub from : p.label.point.site < shape.sites
 

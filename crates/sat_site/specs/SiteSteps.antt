@@ -1,5 +1,5 @@
--- A site's step as a function: what it answers to an input, what it sends, and what it then keeps, by what it kept alone. A
--- gear, a payload or a version that is not there leaves all as it is.
+-- A site's step as a function: what it answers to an input, what it sends, and what it then keeps, by what it kept
+-- alone. A gear, a payload or a version that is not there leaves all as it is.
 use Rattle.std.specs.Prelude.{ℕ, zero, suc, ◌%◌, Bool, true, false, ◌&&◌, ◌||◌, ◌==◌, max, List, [], ◌∷◌, length, map, set, slice_get, Option, Some, None, is_none, if◌then◌else◌}
 use Rattle.std.specs.List.{flat_map, list_all}
 use Rattle.sat_label.specs.declared.carried.Carried.{Carried}
@@ -65,7 +65,8 @@ shown_at true shape gears l k p = shown_by gears (k % shape.gears) l k p (slice_
 unfoldable pub shown_each : Shape → List GearSeen → Label → List ℕ → List (Option (List ℕ)) → List GearSeen
 shown_each shape gears l [] ps = gears
 shown_each shape gears l (k ∷ ks) [] = gears
-shown_each shape gears l (k ∷ ks) (p ∷ ps) = shown_each shape (shown_at (keeps shape.interest k shape.site) shape gears l k p) l ks ps
+shown_each shape gears l (k ∷ ks) (p ∷ ps) =
+    shown_each shape (shown_at (keeps shape.interest k shape.site) shape gears l k p) l ks ps
 
 abbrev pub shown_part : SiteSeen → Label → ℕ → Option (List ℕ) → SiteSeen
 shown_part x l k p = record x { gears = shown_at (keeps_item x k) x.shape x.gears l k p }
@@ -104,11 +105,13 @@ write_answer true (Some gear) seen items = stamp_answer_of (is_spent gear seen) 
 
 -- the gear has made an update of these values
 abbrev pub stamped_by : SiteSeen → GearSeen → Point → Items → List (List ℕ) → SiteSeen
-stamped_by x gear seen items values = with_gear x (gear_for x items) (after_write gear (payload_with (stamped gear seen (Update items)) values))
+stamped_by x gear seen items values =
+    with_gear x (gear_for x items) (after_write gear (payload_with (stamped gear seen (Update items)) values))
 
 -- and it is shown
 abbrev pub written : SiteSeen → GearSeen → Point → Items → List (List ℕ) → SiteSeen
-written x gear seen items values = shown_parts (stamped_by x gear seen items values) (stamped gear seen (Update items)) items (map Some values)
+written x gear seen items values =
+    shown_parts (stamped_by x gear seen items values) (stamped gear seen (Update items)) items (map Some values)
 
 abbrev pub stamp_after_of : SiteSeen → Bool → GearSeen → Point → Items → List (List ℕ) → SiteSeen
 stamp_after_of x true gear seen items values = x
@@ -148,7 +151,8 @@ moved_gear false gear l = after_move gear l
 abbrev pub move_after : SiteSeen → Bool → Option GearSeen → Carried → ℕ → SiteSeen
 move_after x true o seen j = x
 move_after x false None seen j = x
-move_after x false (Some gear) seen j = with_gear x 0 (moved_gear (is_spent gear seen.point) gear (stamped gear seen.point (Move j)))
+move_after x false (Some gear) seen j =
+    with_gear x 0 (moved_gear (is_spent gear seen.point) gear (stamped gear seen.point (Move j)))
 
 -- ---- a gather, an emission of the sink's ready label, and a pulse
 
@@ -248,7 +252,8 @@ passed_after None x = record x { views = after_advance x.views; proxy = advance_
 -- what the site answers
 unfoldable pub site_answers : SiteSeen → code.SiteInput → Answer
 site_answers x (input.Tick g t) = tick_answer (slice_get x.gears g) t
-site_answers x (input.Write seen items values) = write_answer (keeps_each x (list_of items)) (slice_get x.gears (gear_for x items)) seen.point items
+site_answers x (input.Write seen items values) =
+    write_answer (keeps_each x (list_of items)) (slice_get x.gears (gear_for x items)) seen.point items
 site_answers x (input.Read seen n) = read_answer (keeps_item x n) (slice_get x.gears (gear_at x n)) n
 site_answers x (input.Move seen j) = move_answer (j == x.shape.site) (slice_get x.gears 0) seen j
 site_answers x (input.Attach seen) = attach_answer x.views x.proxy seen
@@ -286,7 +291,8 @@ site_beat x _ = None
 -- what the site then keeps
 unfoldable pub site_after : SiteSeen → code.SiteInput → SiteSeen
 site_after x (input.Tick g t) = tick_after x g t (slice_get x.gears g)
-site_after x (input.Write seen items values) = write_after x (keeps_each x (list_of items)) (slice_get x.gears (gear_for x items)) seen.point items values
+site_after x (input.Write seen items values) =
+    write_after x (keeps_each x (list_of items)) (slice_get x.gears (gear_for x items)) seen.point items values
 site_after x (input.Read seen n) = x
 site_after x (input.Move seen j) = move_after x (j == x.shape.site) (slice_get x.gears 0) seen j
 site_after x (input.Attach seen) = x

@@ -54,11 +54,12 @@ pub record StandsViews (d : Deployed) (i : ℕ) (views : Epochs) (s : ViewState)
   pub plans : (e : ℕ) → 1 ≤ e → e ≤ length d.plans → is_stamp views e ≡ is_none (tree_of d e)
   pub count : length views.stamp ≡ length d.plans
 
--- ---- the store: the versions of the items that site i keeps. That of another item, of which the machine knows by an update of
--- more than one item, no gear has
+-- ---- the store: the versions of the items that site i keeps. That of another item, of which the machine knows by an
+-- update of more than one item, no gear has
 
 pub record StandsStore (d : Deployed) (i : ℕ) (gears : List GearSeen) (store : ℕ → Option VersionSeen) : Type 0 where
-  pub each : (n : ℕ) (gear : GearSeen) → n < length d.items → replicates d n i ≡ true → slice_get gears (gear_of d n) ≡ Some gear → version_seen (version_of gear n) ≡ store n
+  pub each : (n : ℕ) (gear : GearSeen) → n < length d.items → replicates d n i ≡ true
+      → slice_get gears (gear_of d n) ≡ Some gear → version_seen (version_of gear n) ≡ store n
 
 -- ---- the beats that it made
 

@@ -48,8 +48,10 @@ pub fn all_limits(gears: &[Gear])
 pub fn move_at(gear: &mut Gear, carried: Carried, to: u16) -> Result<Answer, AllocError>
     requires gear { gear.old.gear ≡ 0 }
     requires site { to < gear.old.shape.sites }
-    ensures answer { IfOk result (λ answer. answer ≡ moved_answer (is_spent gear.old carried.point) (stamped gear.old carried.point (Move to))) }
-    ensures gear { OnOk result (gear.new ≡ moved_gear (is_spent gear.old carried.point) gear.old (stamped gear.old carried.point (Move to))) }
+    ensures answer { IfOk result (λ answer. answer
+        ≡ moved_answer (is_spent gear.old carried.point) (stamped gear.old carried.point (Move to))) }
+    ensures gear { OnOk result
+        (gear.new ≡ moved_gear (is_spent gear.old carried.point) gear.old (stamped gear.old carried.point (Move to))) }
     ensures err { OnErr result (gear.new ≡ gear.old) }
 {
     match gear.stamp_move(carried.point, to) {
@@ -88,7 +90,8 @@ pub fn drain_all(gears: &mut [Gear])
 /// How many labels the gears made since their last drain, None where the number is none of 64 bits.
 #[tactic(auto, using(crate::proofs::Loops::count_more))]
 pub fn count_labels(gears: &[Gear]) -> Option<u64>
-    ensures { MatchOption result (2 ^ 64 ≤ length (flat_map fresh_of gears.now)) (λ count. count ≡ length (flat_map fresh_of gears.now)) }
+    ensures { MatchOption result (2 ^ 64 ≤ length (flat_map fresh_of gears.now))
+        (λ count. count ≡ length (flat_map fresh_of gears.now)) }
 {
     let mut count: u64 = 0;
     for gear in gears {

@@ -3,9 +3,9 @@ use sat_beat::Beat;
 use sat_bulk::Payload;
 use sat_label::{Carried, Items, Label, Values};
 
-/// One act at a site, with what the site is handed: `carried` is what the client carries, `front` the front of the link to the
-/// site, `payload` the one of that number in the lane from that site and gear, and `beat` that site's beat of that number for this
-/// one.
+/// One act at a site, with what the site is handed: `carried` is what the client carries, `front` the front of the link
+/// to the site, `payload` the one of that number in the lane from that site and gear, and `beat` that site's beat of
+/// that number for this one.
 #[derive(Drop)]
 pub enum SiteInput {
     /// A gear promises a timestamp.

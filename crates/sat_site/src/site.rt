@@ -50,9 +50,9 @@ use sat_sites::{Interest, Shape};
 use std::alloc::{AllocError, Global};
 use std::marker::Model;
 
-/// One site of a deployment. It keeps no past. Contracts see its parts as the plain records of these. What it answers, what it
-/// sends and what it then keeps are functions of these and of what it is handed; `site_laws` says that the machine of the model
-/// does the same.
+/// One site of a deployment. It keeps no past. Contracts see its parts as the plain records of these. What it answers,
+/// what it sends and what it then keeps are functions of these and of what it is handed; `site_laws` says that the
+/// machine of the model does the same.
 #[derive(Drop)]
 pub struct Site {
     alloc: Global,
@@ -72,7 +72,9 @@ impl Model for Site {
 
     ghost view = { λ a. record { shape = a.shape; gears = a.gears.items; sink = a.sink; counts = a.counts; views = a.views; proxy = a.proxy; made = a.made.items } };
 
-    ghost invariant = { λ a. IsSite (record { shape = a.shape; gears = a.gears.items; sink = a.sink; counts = a.counts; views = a.views; proxy = a.proxy; made = a.made.items }) };
+    ghost invariant = { λ a.
+        IsSite
+        (record { shape = a.shape; gears = a.gears.items; sink = a.sink; counts = a.counts; views = a.views; proxy = a.proxy; made = a.made.items }) };
 }
 
 // What is true of a site's epochs, and of what it has of the others.
@@ -144,8 +146,8 @@ impl Site {
         })
     }
 
-    /// Does one act, by what it is handed, and answers it. It takes no memory for a Tick, an Emit, a Pulse, a Turn, a Stamp, an
-    /// Attach, a Close, a Fall or an Advance; for want of memory the site is as before.
+    /// Does one act, by what it is handed, and answers it. It takes no memory for a Tick, an Emit, a Pulse, a Turn, a
+    /// Stamp, an Attach, a Close, a Fall or an Advance; for want of memory the site is as before.
     pub fn step(&mut self, input: SiteInput) -> Result<SiteOutput, AllocError>
         requires { fits_in self.old input ≡ true }
         ensures function { IfOk result (λ out. out.answer ≡ site_answers self.old input) }
@@ -282,8 +284,8 @@ impl Site {
         }
     }
 
-    /// Does one act, as `step` does, and tells its answer alone. It takes no memory for a Tick, an Emit, a Pulse, a Turn, a Stamp,
-    /// an Attach, a Close, a Fall or an Advance; for want of memory the site is as before.
+    /// Does one act, as `step` does, and tells its answer alone. It takes no memory for a Tick, an Emit, a Pulse, a
+    /// Turn, a Stamp, an Attach, a Close, a Fall or an Advance; for want of memory the site is as before.
     pub fn act(&mut self, input: SiteInput) -> Result<Answer, AllocError>
         requires { fits_in self.old input ≡ true }
         ensures answer { IfOk result (λ answer. answer ≡ site_answers self.old input) }
@@ -376,9 +378,9 @@ impl Site {
         }
     }
 
-    /// Does a client's write of items, each with its value, with what the client carries, and answers it: it is refused unless the
-    /// site keeps all of them, and is one update, which the gear of the least item stamps and which is shown at each. The values are
-    /// copied where it is done. For want of memory the site is as before.
+    /// Does a client's write of items, each with its value, with what the client carries, and answers it: it is refused
+    /// unless the site keeps all of them, and is one update, which the gear of the least item stamps and which is shown
+    /// at each. The values are copied where it is done. For want of memory the site is as before.
     pub fn write(
         &mut self,
         carried: Carried,
@@ -443,8 +445,8 @@ impl Site {
         })
     }
 
-    /// Takes what all gears made into the sink, and answers it. All memory is taken before anything changes; no memory holds
-    /// labels whose number is none of 64 bits.
+    /// Takes what all gears made into the sink, and answers it. All memory is taken before anything changes; no memory
+    /// holds labels whose number is none of 64 bits.
     pub fn gather(&mut self) -> Result<Answer, AllocError>
         ensures does { IfOk result (λ answer. Does self.old SiteInput.Gather answer self.new) }
         ensures err { OnErr result (self.new ≡ self.old) }
@@ -492,8 +494,10 @@ impl Site {
     // A client's move to another site, stamped by gear 0.
     fn move_to(&mut self, carried: Carried, to: u16) -> Result<Answer, AllocError>
         requires { to < self.old.shape.sites }
-        ensures answer { IfOk result (λ answer. answer ≡ move_answer (to == self.old.shape.site) (slice_get self.old.gears 0) carried to) }
-        ensures after { OnOk result (self.new ≡ move_after self.old (to == self.old.shape.site) (slice_get self.old.gears 0) carried to) }
+        ensures answer { IfOk result (λ answer. answer
+            ≡ move_answer (to == self.old.shape.site) (slice_get self.old.gears 0) carried to) }
+        ensures after { OnOk result
+            (self.new ≡ move_after self.old (to == self.old.shape.site) (slice_get self.old.gears 0) carried to) }
         ensures err { OnErr result (self.new ≡ self.old) }
     {
         if to == self.shape.site {
@@ -617,7 +621,8 @@ impl Site {
     ) -> Result<Answer, AllocError>
         requires { BulkFits self.old from gear number payload }
         ensures answer { IfOk result (λ answer. answer ≡ bulk_answer self.old.proxy from gear number payload.label) }
-        ensures after { OnOk result (self.new ≡ record self.old { proxy = after_bulk self.old.proxy from gear number payload }) }
+        ensures after { OnOk result
+            (self.new ≡ record self.old { proxy = after_bulk self.old.proxy from gear number payload }) }
         ensures err { OnErr result (self.new ≡ self.old) }
     {
         let label = payload.label();
@@ -663,7 +668,8 @@ impl Site {
         requires from { from < self.old.shape.sites }
         requires counts { length beat.counts ≡ self.old.shape.gears }
         ensures answer { IfOk result (λ answer. answer ≡ beat_answer self.old.proxy from number) }
-        ensures after { OnOk result (self.new ≡ record self.old { proxy = after_beat self.old.proxy from number beat }) }
+        ensures after { OnOk result
+            (self.new ≡ record self.old { proxy = after_beat self.old.proxy from number beat }) }
         ensures err { OnErr result (self.new ≡ self.old) }
     {
         let taken = self.proxy.beat_in(from, number, beat);
@@ -709,7 +715,8 @@ impl Site {
 
     fn advance(&mut self) -> Answer
         ensures answer { result ≡ advance_answer self.old.views self.old.proxy }
-        ensures after { self.new ≡ passed_after (advance_fault self.old.views (has_come self.old.views self.old.proxy)) self.old }
+        ensures after { self.new
+            ≡ passed_after (advance_fault self.old.views (has_come self.old.views self.old.proxy)) self.old }
     {
         let passed = self.proxy.advance(&mut self.views);
         sound(&self.views, &self.proxy);
@@ -763,8 +770,8 @@ impl Site {
         }
     }
 
-    /// Whether a gather would take something: some gear has a label that was not drained, or a promise above the gathered one. It
-    /// takes no memory.
+    /// Whether a gather would take something: some gear has a label that was not drained, or a promise above the
+    /// gathered one. It takes no memory.
     pub fn gather_due(&self) -> bool
         ensures { result ≡ list_any is_due self.now.gears }
     {
@@ -852,7 +859,8 @@ impl Site {
     // Whether the close cut of each epoch is a point, if there is one.
     #[tactic(auto, using(sat_epoch::proofs::AllBelow::all_start, sat_epoch::proofs::AllBelow::all_more, sat_epoch::proofs::AllBelow::all_stops))]
     fn are_cuts(&self, closes: &[Point]) -> bool
-        ensures { result ≡ list_all (λ n. is_cut_here self.now.shape (slice_get closes.now n)) (below (length self.now.views.stamp)) }
+        ensures { result ≡ list_all (λ n. is_cut_here self.now.shape (slice_get closes.now n))
+            (below (length self.now.views.stamp)) }
     {
         for place in 0..self.views.epochs() as usize {
             if !self.is_cut(closes, place) {
@@ -917,7 +925,8 @@ impl Site {
     }
 
     fn is_write(&self, carried: &Carried, items: &Items, values: &Values) -> bool
-        ensures { result ≡ (is_carried_here self.now.shape carried.now && (is_group_here self.now.shape items.now && (length values.now == length (list_of items.now)))) }
+        ensures { result ≡ (is_carried_here self.now.shape carried.now
+            && (is_group_here self.now.shape items.now && (length values.now == length (list_of items.now)))) }
     {
         self.is_carried(carried) && self.is_group(items) && values.as_slice().len() == items.len()
     }
@@ -963,7 +972,8 @@ impl Site {
     // The items of one update of the deployment, of which the site keeps one.
     #[tactic(auto, using(sat_sites::proofs::Below::below_is))]
     fn is_group_kept(&self, items: &Items) -> bool
-        ensures { result ≡ (is_group_here self.now.shape items.now && keeps_one self.now.shape.interest (list_of items.now) self.now.shape.site) }
+        ensures { result ≡ (is_group_here self.now.shape items.now
+            && keeps_one self.now.shape.interest (list_of items.now) self.now.shape.site) }
     {
         self.is_group(items) && self.keeps_one(items)
     }
@@ -1045,8 +1055,11 @@ impl Site {
     /// What the site shows of itself.
     pub fn view(&self) -> SiteView
         ensures sound { IsSite self.now }
-        ensures seen { result ≡ record { view = self.now.views.view; emission = self.now.views.emission; stamp = in_stamp self.now.views; waiting = length (all_waiting self.now.proxy.pool) } }
-        ensures stands { (d : Deployed) (i : ℕ) (s : SiteState) → StandsSite d i self.now s → result ≡ record { view = s.views.view; emission = s.views.emission; stamp = mode_of d s; waiting = length s.proxy.pool } }
+        ensures seen { result
+            ≡ record { view = self.now.views.view; emission = self.now.views.emission; stamp = in_stamp self.now.views; waiting = length (all_waiting self.now.proxy.pool) } }
+        ensures stands { (d : Deployed) (i : ℕ) (s : SiteState) → StandsSite d i self.now s
+            → result
+            ≡ record { view = s.views.view; emission = s.views.emission; stamp = mode_of d s; waiting = length s.proxy.pool } }
     {
         SiteView {
             view: self.views.view(),
@@ -1056,11 +1069,12 @@ impl Site {
         }
     }
 
-    /// The version of an item that the site keeps, None where it shows none. Of another item there is none, also where the site
-    /// shows an update that has it.
+    /// The version of an item that the site keeps, None where it shows none. Of another item there is none, also where
+    /// the site shows an update that has it.
     pub fn version(&self, item: u16) -> Option<&Version>
         requires { item < length self.now.shape.interest.replicas }
-        ensures kept { (d : Deployed) (i : ℕ) (s : SiteState) → StandsSite d i self.now s → replicates d item i ≡ true → MatchOption result (s.store item ≡ None) (λ v. s.store item ≡ version_seen (Some v.now)) }
+        ensures kept { (d : Deployed) (i : ℕ) (s : SiteState) → StandsSite d i self.now s → replicates d item i ≡ true
+            → MatchOption result (s.store item ≡ None) (λ v. s.store item ≡ version_seen (Some v.now)) }
         ensures away { keeps_item self.now item ≡ false → IsNone result }
     {
         let gear = self.gear(self.gear_of(item));
@@ -1074,7 +1088,9 @@ impl Site {
     pub fn payload(&self, gear: u16, to: u16, number: u64) -> Option<&Payload>
         requires gear { gear < self.now.shape.gears }
         requires site { to < self.now.shape.sites }
-        ensures payload { (d : Deployed) (i : ℕ) (s : SiteState) → StandsSite d i self.now s → MatchOption result (slice_get ((s.gears gear).lanes to) number ≡ None) (λ p. slice_get ((s.gears gear).lanes to) number ≡ Some p.now) }
+        ensures payload { (d : Deployed) (i : ℕ) (s : SiteState) → StandsSite d i self.now s
+            → MatchOption result (slice_get ((s.gears gear).lanes to) number ≡ None)
+            (λ p. slice_get ((s.gears gear).lanes to) number ≡ Some p.now) }
         ensures lane { IfSome result (λ p. IsOfLane self.now.shape gear to p.now) }
     {
         let gear = self.gear(gear);
@@ -1085,7 +1101,8 @@ impl Site {
     pub fn made_for(&self, gear: u16, to: u16) -> u64
         requires gear { gear < self.now.shape.gears }
         requires site { to < self.now.shape.sites }
-        ensures made { (d : Deployed) (i : ℕ) (s : SiteState) → StandsSite d i self.now s → result ≡ length ((s.gears gear).lanes to) }
+        ensures made { (d : Deployed) (i : ℕ) (s : SiteState) → StandsSite d i self.now s
+            → result ≡ length ((s.gears gear).lanes to) }
         ensures seen { result ≡ length (lane_of self.now gear to) }
     {
         let gear = self.gear(gear);
@@ -1102,7 +1119,8 @@ impl Site {
         self.proxy.has(from, gear, number)
     }
 
-    /// The beat with this number of those that the site made for another one, None where there is none. It takes no memory.
+    /// The beat with this number of those that the site made for another one, None where there is none. It takes no
+    /// memory.
     pub fn made_beat(&self, to: u16, number: u64) -> Option<&Beat>
         requires { to < self.now.shape.sites }
         ensures beat { option_copied result ≡ slice_get (made_for self.now to) number }
@@ -1115,7 +1133,8 @@ impl Site {
     /// The timestamp up to which a gear makes no label any more.
     pub fn promise(&self, gear: u16) -> u64
         requires { gear < self.now.shape.gears }
-        ensures promise { (d : Deployed) (i : ℕ) (s : SiteState) → StandsSite d i self.now s → result ≡ (s.gears gear).promise }
+        ensures promise { (d : Deployed) (i : ℕ) (s : SiteState) → StandsSite d i self.now s
+            → result ≡ (s.gears gear).promise }
         ensures limit { result ≤ 2 ^ 62 }
         ensures seen { (g : GearSeen) → slice_get self.now.gears gear ≡ Some g → result ≡ g.promise }
         ensures limits { IsSite self.now }
@@ -1128,7 +1147,8 @@ impl Site {
     pub fn front(&self, from: u16, gear: u16) -> u64
         requires from { from < self.now.shape.sites }
         requires gear { gear < self.now.shape.gears }
-        ensures front { (d : Deployed) (i : ℕ) (s : SiteState) → StandsSite d i self.now s → result ≡ front_of s from gear }
+        ensures front { (d : Deployed) (i : ℕ) (s : SiteState) → StandsSite d i self.now s
+            → result ≡ front_of s from gear }
         ensures seen { result ≡ front_at self.now.proxy from gear }
     {
         self.proxy.front(from, gear)

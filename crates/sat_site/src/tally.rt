@@ -106,8 +106,8 @@ impl Tally {
         self.rows.as_slice()
     }
 
-    /// Counts what each gear made, and takes their new labels and their promises into a sink. All memory is taken before
-    /// anything changes. The gears stay as they are.
+    /// Counts what each gear made, and takes their new labels and their promises into a sink. All memory is taken
+    /// before anything changes. The gears stay as they are.
     pub fn gather(&mut self, sink: &mut LabelSink, gears: &[Gear]) -> Result<(), AllocError>
         requires rows { length self.old ≡ length gears.now }
         requires drain { IsDrain sink.old (map drained_of gears.now) }

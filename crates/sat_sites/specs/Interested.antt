@@ -51,7 +51,8 @@ AreBelow n (x ∷ xs) = (x < n) × AreBelow n xs
 abbrev pub are_below : ℕ → List ℕ → Bool
 are_below n xs = list_all (λ x. nat_lt x n) xs
 
--- a label's own site and the site of a Move are below the number of sites, and the items of an Update below that of the items
+-- a label's own site and the site of a Move are below the number of sites, and the items of an Update below that of the
+-- items
 abbrev pub IsKindOf : Interested → Kind → Type 0
 IsKindOf a (Update items) = AreBelow (length a.replicas) (list_of items)
 IsKindOf a (Move j) = j < a.sites

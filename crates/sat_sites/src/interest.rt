@@ -62,7 +62,8 @@ fn first_bad(sites: u16, replicas: &[SiteSet]) -> Option<usize>
 // The sites that keep one of some items.
 fn joined(replicas: &[SiteSet], items: &Items) -> SiteSet
     requires { AreBelow (length replicas.now) (list_of items.now) }
-    ensures { (a : Interested) (k : ℕ) → a.replicas ≡ replicas.now → bit result.bits k ≡ keeps_one a (list_of items.now) k }
+    ensures { (a : Interested) (k : ℕ) → a.replicas ≡ replicas.now
+        → bit result.bits k ≡ keeps_one a (list_of items.now) k }
 {
     match *items {
         Items::One(a) => replicas[a as usize],
@@ -141,8 +142,8 @@ impl Interest {
         self.replicas.as_slice()[item as usize]
     }
 
-    /// The sites that a label is for: an Update for the sites of its items but its own, a Move for the site that it names,
-    /// a Pulse or a Close for all sites but its own.
+    /// The sites that a label is for: an Update for the sites of its items but its own, a Move for the site that it
+    /// names, a Pulse or a Close for all sites but its own.
     #[tactic(auto, unfolding(crate::specs::Interested::is_for))]
     pub fn targets(&self, label: &Label) -> SiteSet
         requires { IsLabelOf self.now label.now }

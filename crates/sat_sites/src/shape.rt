@@ -4,8 +4,9 @@ ghost use Rattle.std.specs.Prelude.{◌≡◌, IfOk};
 use crate::Interest;
 use std::alloc::AllocError;
 
-/// The number of sites and of gears of each, one site of them, and which sites keep which items. The interest is one of as
-/// many sites, the site is below that number, and there is at least one gear, where a call that takes a shape asks for it.
+/// The number of sites and of gears of each, one site of them, and which sites keep which items. The interest is one of
+/// as many sites, the site is below that number, and there is at least one gear, where a call that takes a shape asks
+/// for it.
 #[derive(Drop)]
 pub struct Shape {
     pub sites: u16,

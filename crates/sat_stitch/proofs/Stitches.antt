@@ -21,10 +21,6 @@ module _ {X : Type 0} where
   plain [] = refl
   plain (x ∷ xs) = ap (λ (ys : List X). x ∷ ys) (plain xs)
 
-  join : (xs ys zs : List X) → (xs ++ ys) ++ zs ≡ xs ++ (ys ++ zs)
-  join [] ys zs = refl
-  join (x ∷ xs) ys zs = ap (λ (ws : List X). x ∷ ws) (join xs ys zs)
-
   -- the first is the last
   pub reverse-cons : (x : X) (xs : List X) → reverse (x ∷ xs) ≡ reverse xs ++ x ∷ []
   reverse-cons x xs = reverse-append (x ∷ []) xs

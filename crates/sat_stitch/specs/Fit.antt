@@ -16,7 +16,8 @@ use Rattle.sat_stitch.specs.Nodes.{IsAnswerAt, stands, put_on, took_from, makes_
 
 -- the k-th that was taken is the k-th that was put, and has a greater number
 abbrev pub IsHanded : {X : Type 0} → List (ℕ × X) → List (ℕ × X) → Type 0
-IsHanded {X} took put = (k n : ℕ) (x : X) → slice_get took k ≡ Some (n, x) → (m : ℕ) × (slice_get put k ≡ Some (m, x)) × (m < n)
+IsHanded {X} took put =
+    (k n : ℕ) (x : X) → slice_get took k ≡ Some (n, x) → (m : ℕ) × (slice_get put k ≡ Some (m, x)) × (m < n)
 
 -- the thing of this number among what was made, by an entry with a smaller number
 abbrev pub IsMade : {X : Type 0} → List (ℕ × X) → ℕ → X → ℕ → Type 0
@@ -25,12 +26,14 @@ IsMade made n x number = (m : ℕ) × (slice_get made n ≡ Some (m, x)) × (m <
 module _ (d : Deployed) (lists : Place → List Kept) where
   -- a payload that was handed is the sender's of its number, and the one that was asked for
   abbrev pub PayloadsHanded : ℕ → List Kept → Kept → Type 0
-  PayloadsHanded j before k = (i g n : ℕ) (o : Option ℕ) (p : Payload) → k.act ≡ act.Bulk i g j o → k.given ≡ OfPayload n p →
+  PayloadsHanded j before k =
+      (i g n : ℕ) (o : Option ℕ) (p : Payload) → k.act ≡ act.Bulk i g j o → k.given ≡ OfPayload n p →
       (n ≡ asked (site_after d j before) i g o) × IsMade (marks (makes_payload d g j) (lists (AtSite i))) n p k.number
 
   -- and so is a beat
   abbrev pub BeatsHanded : ℕ → List Kept → Kept → Type 0
-  BeatsHanded j before k = (i n : ℕ) (note : BeatNote) → k.act ≡ act.BeatIn i j n → k.given ≡ OfBeat note → IsMade (marks (makes_beat d i j) (lists (AtSite i))) n note k.number
+  BeatsHanded j before k = (i n : ℕ) (note : BeatNote) → k.act ≡ act.BeatIn i j n → k.given ≡ OfBeat note
+      → IsMade (marks (makes_beat d i j) (lists (AtSite i))) n note k.number
 
   -- a client's act was handed what the client carries and its seat, by the entries of the client before it
   abbrev pub IsKnown : ℕ → List Kept → Kept → Type 0
@@ -51,21 +54,24 @@ module _ (d : Deployed) (lists : Place → List Kept) where
     pub ranges : (p : Place) (k : Kept) → In (lists p) k → InRange d k.act
     pub answers : (p : Place) → Each (IsAnswerAt d p) (lists p)
     pub links : (e : ℕ) (t : TreeShape) (u v : NodeId) → tree_of d e ≡ Some t → is_edge t u v ≡ true →
-        IsHanded (marks (took_from d e u v) (lists (node_place e v))) (marks (put_on d e t u v) (lists (node_place e u)))
+        IsHanded (marks (took_from d e u v) (lists (node_place e v)))
+        (marks (put_on d e t u v) (lists (node_place e u)))
     pub payloads : (j : ℕ) → Each (PayloadsHanded j) (lists (AtSite j))
     pub beats : (j : ℕ) → Each (BeatsHanded j) (lists (AtSite j))
     pub kept : (s : Session) → IsSessionOf s (sessions s)
     pub known : (c : ℕ) → Each (IsKnown c) (sessions (Client c))
     pub standing : (p : Place) (k : Kept) → In (lists p) k → stands k.answer ≡ true
 
-  -- the same of lists whose numbers need not rise, as long as no entry stands twice: a list may be what several nodes kept
+  -- the same of lists whose numbers need not rise, as long as no entry stands twice: a list may be what several nodes
+  -- kept
   pub record LooseFit (sessions : Session → List Kept) : Type 0 where
     pub single : (p : Place) → Distinct (lists p)
     pub placed : (p : Place) (k : Kept) → In (lists p) k → places k.act k.given ≡ p ∷ []
     pub ranges : (p : Place) (k : Kept) → In (lists p) k → InRange d k.act
     pub answers : (p : Place) → Each (IsAnswerAt d p) (lists p)
     pub links : (e : ℕ) (t : TreeShape) (u v : NodeId) → tree_of d e ≡ Some t → is_edge t u v ≡ true →
-        IsHanded (marks (took_from d e u v) (lists (node_place e v))) (marks (put_on d e t u v) (lists (node_place e u)))
+        IsHanded (marks (took_from d e u v) (lists (node_place e v)))
+        (marks (put_on d e t u v) (lists (node_place e u)))
     pub payloads : (j : ℕ) → Each (PayloadsHanded j) (lists (AtSite j))
     pub beats : (j : ℕ) → Each (BeatsHanded j) (lists (AtSite j))
     pub kept : (s : Session) → IsSessionOf s (sessions s)

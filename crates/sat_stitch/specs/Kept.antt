@@ -1,4 +1,5 @@
--- What nodes and sessions keep: under a number an act, what was handed to it, and its answer. These lists are the newest first.
+-- What nodes and sessions keep: under a number an act, what was handed to it, and its answer. These lists are the
+-- newest first.
 use Rattle.std.specs.Prelude.{◌<◌, ◌≤◌, ℕ, false, List, [], ◌∷◌, ◌++◌, Option, Some, None}
 use Rattle.sat_label.specs.declared.label.Label.{Label}
 use Rattle.sat_label.specs.declared.carried.Carried.{Carried}
@@ -9,7 +10,8 @@ use Rattle.sat_act.specs.declared.entry.Entry.{Entry}
 use Rattle.sat_act.specs.Parts.{BeatNote}
 use Rattle.sat_bulk.specs.Payloads.{Payload}
 
--- what was handed to an act: the front of a link, a payload or a beat with its number, what a client carries and its seat
+-- what was handed to an act: the front of a link, a payload or a beat with its number, what a client carries and its
+-- seat
 pub data Given : Type 0 where
   Nothing : Given
   OfFront : (front : Option Label) → Given

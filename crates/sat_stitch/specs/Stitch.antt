@@ -1,4 +1,5 @@
--- The order of merged journals: by number, then by the journal's place, then as the journal has its entries. In this file lists are the oldest first.
+-- The order of merged journals: by number, then by the journal's place, then as the journal has its entries. In this
+-- file lists are the oldest first.
 use Rattle.std.specs.Prelude.{◌≡◌, ◌⊎◌, ℕ, Bool, ◌&&◌, ◌||◌, ◌==◌, nat_lt, List, [], ◌∷◌, ◌++◌, map, flat_map, if◌then◌else◌, reverse}
 use Rattle.sat_act.specs.declared.entry.Entry.{Entry}
 use Rattle.sat_stitch.specs.declared.journal.Ranked.{Ranked}
@@ -69,8 +70,10 @@ journals_of rank lists (p ∷ ps) = (rank p, oldest (lists p)) ∷ journals_of r
 
 -- the journals of all places where something was kept, stitched, are their merge
 abbrev pub StitchesMerge : Type 0
-StitchesMerge = (lists : Place → List Kept) (rank : Place → ℕ) (names : List Place) → Distinct names → ((p : Place) → In names p ⊎ (lists p ≡ [])) → ((p : Place) → Rising (lists p)) →
-    ((p : Place) (k : Kept) → In (lists p) k → places k.act k.given ≡ p ∷ []) → IsMerge lists (reverse (stitched (journals_of rank lists names)))
+StitchesMerge = (lists : Place → List Kept) (rank : Place → ℕ) (names : List Place) → Distinct names
+    → ((p : Place) → In names p ⊎ (lists p ≡ [])) → ((p : Place) → Rising (lists p)) →
+    ((p : Place) (k : Kept) → In (lists p) k → places k.act k.given ≡ p ∷ [])
+    → IsMerge lists (reverse (stitched (journals_of rank lists names)))
 
 -- ---- kept lists as journals of entries
 
@@ -86,11 +89,16 @@ entry_journals rank lists (p ∷ ps) = (rank p, map entry_under (oldest (lists p
 abbrev pub Covers : (Place → List Kept) → List Place → Type 0
 Covers lists names = (p : Place) → In names p ⊎ (lists p ≡ [])
 
--- where these journals are kept lists that fit, the whole is one run, whose parts are the lists, and those of the sessions
+-- where these journals are kept lists that fit, the whole is one run, whose parts are the lists, and those of the
+-- sessions
 abbrev pub IsOneRun : List (Numbered Entry) → List Entry → Type 0
-IsOneRun js all = (d : Deployed) (lists : Place → List Kept) (sessions : Session → List Kept) (rank : Place → ℕ) (names : List Place) → IsValid d → Fit d lists sessions → Distinct names → Covers lists names →
+IsOneRun js all =
+    (d : Deployed) (lists : Place → List Kept) (sessions : Session → List Kept) (rank : Place → ℕ) (names : List Place)
+    → IsValid d → Fit d lists sessions → Distinct names → Covers lists names →
     js ≡ entry_journals rank lists names →
-    IsRun d (reverse all) × (run d (acts_of (reverse all)) ≡ reverse all) × ((p : Place) → part_at d (reverse all) p ≡ history (lists p)) × ((s : Session) → session_part (reverse all) s ≡ history (sessions s))
+    IsRun d (reverse all) × (run d (acts_of (reverse all)) ≡ reverse all)
+    × ((p : Place) → part_at d (reverse all) p ≡ history (lists p))
+    × ((s : Session) → session_part (reverse all) s ≡ history (sessions s))
 
 abbrev pub StitchesAreRuns : Type 0
 StitchesAreRuns = (js : List (Numbered Entry)) → IsOneRun js (stitched js)

@@ -16,8 +16,8 @@ placed versions places = map (at_place versions) places
 abbrev pub without_place : List (Option ℕ) → ℕ
 without_place places = count_by is_none places
 
--- each place is that of a version, and of one item alone; with the items that have none these are all, and there is room for a
--- version of each
+-- each place is that of a version, and of one item alone; with the items that have none these are all, and there is
+-- room for a version of each
 pub record IsPlaced (places : List (Option ℕ)) (versions : List Version) (capacity : ℕ) : Type 0 where
   pub few : length places < 2 ^ 16
   pub within : (x place : ℕ) → get_or places x None ≡ Some place → place < length versions

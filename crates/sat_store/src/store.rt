@@ -15,14 +15,14 @@ pub enum Put {
     Lower,
 }
 
-/// For each of a fixed number of items the version with the greatest label that was put there, if any. All its memory is taken
-/// when it is made.
+/// For each of a fixed number of items the version with the greatest label that was put there, if any. All its memory
+/// is taken when it is made.
 #[derive(Drop)]
 pub struct Store {
     // For each item the place of its version, if it has one.
     places: Vec<Option<u16>>,
-    // The versions, in the order in which their items first had one. There is room for one of each item; the machine gives a page
-    // of it when that is first written, so a store of many items of which few have a version is small.
+    // The versions, in the order in which their items first had one. There is room for one of each item; the machine
+    // gives a page of it when that is first written, so a store of many items of which few have a version is small.
     versions: Vec<Version>,
 }
 
@@ -72,7 +72,8 @@ impl Store {
     /// The version of an item. None exactly where nothing was put.
     pub fn get(&self, item: u16) -> Option<&Version>
         requires { item < length self.now }
-        ensures { MatchOption result (version_at self.now item ≡ None) (λ version. version_at self.now item ≡ Some version.now) }
+        ensures { MatchOption result (version_at self.now item ≡ None)
+            (λ version. version_at self.now item ≡ Some version.now) }
     {
         let place = self.places.as_slice()[item as usize]?;
         Some(&self.versions[place as usize])

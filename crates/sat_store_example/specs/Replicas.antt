@@ -17,8 +17,8 @@ use Rattle.sat_store_example.specs.declared.links.TheConstants.{LINKS}
 use Rattle.sat_store_example.specs.declared.fault.ReplicaFault.{ReplicaFault}
 use Rattle.sat_store_example.specs.declared.fault.ReplicaFault.TheVariants.{Seat, Unfit}
 
--- the site's number, the site, and by epoch the labels that came and wait to be shown or taken, and those that it sent and that its
--- relay has not taken, the oldest first
+-- the site's number, the site, and by epoch the labels that came and wait to be shown or taken, and those that it sent
+-- and that its relay has not taken, the oldest first
 pub record ReplicaSeen : Type 0 where
   pub number : ℕ
   pub site : SiteSeen
@@ -84,12 +84,13 @@ joined r i c = c
 abbrev pub has_lane : SiteSeen → ℕ → ℕ → Bool
 has_lane x g j = fits_in x (input.Tick g 0) && fits_in x (input.Beat j)
 
--- what a read answers once a version with this label and value came: that one, unless the version that it answered before is
--- greater
+-- what a read answers once a version with this label and value came: that one, unless the version that it answered
+-- before is greater
 abbrev pub newer_read : Answer → Label → List ℕ → Answer
 newer_read (ans.ReadSome m old) l value = if label_lt m l then ans.ReadSome l value else ans.ReadSome m old
 newer_read r l value = ans.ReadSome l value
 
 -- between two moments of a site a version of an item came: any client's read says so
 abbrev pub ReadsNewer : SiteSeen → SiteSeen → ℕ → Label → List ℕ → Type 0
-ReadsNewer x y n l value = (seen : Carried) → site_answers y (input.Read seen n) ≡ newer_read (site_answers x (input.Read seen n)) l value
+ReadsNewer x y n l value =
+    (seen : Carried) → site_answers y (input.Read seen n) ≡ newer_read (site_answers x (input.Read seen n)) l value

@@ -6,8 +6,9 @@ use sat_beat::Beat;
 use sat_bulk::Payload;
 use sat_site::SiteInput;
 
-/// An act of a site that no client calls for, that sends no label and takes none. A client's act goes through the calls that ask
-/// for its seat, a label leaves by `send`, and it comes by `arrive` and `show`: so none of these can be gone round.
+/// An act of a site that no client calls for, that sends no label and takes none. A client's act goes through the calls
+/// that ask for its seat, a label leaves by `send`, and it comes by `arrive` and `show`: so none of these can be gone
+/// round.
 #[derive(Drop)]
 pub enum Duty {
     /// A gear promises a timestamp, of at most 2^62.

@@ -1,4 +1,5 @@
-//! A store that embeds the machines: what a builder writes around a site, a serializer and a client, and what each call asks for.
+//! A store that embeds the machines: what a builder writes around a site, a serializer and a client, and what each call
+//! asks for.
 //! `docs/EMBEDDING.md` of the repository says which call answers which need.
 #![tactic(auto)]
 

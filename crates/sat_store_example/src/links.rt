@@ -34,7 +34,8 @@ impl Model for Links {
 // Puts a label behind those of a link. For want of memory the links are as before.
 fn add(links: &mut Vec<Queue<Label>>, place: u16, label: Label) -> Result<(), AllocError>
     requires { place < length links.old.items }
-    ensures ok { OnOk result (map members_of links.new.items ≡ with_label (map members_of links.old.items) place label) }
+    ensures ok { OnOk result (map members_of links.new.items
+        ≡ with_label (map members_of links.old.items) place label) }
     ensures err { OnErr result (map members_of links.new.items ≡ map members_of links.old.items) }
     ensures length { length links.new.items ≡ length links.old.items }
 {

@@ -17,8 +17,8 @@ use sat_tree::Tree;
 use std::alloc::{AllocError, Global};
 use std::marker::Model;
 
-/// One serializer, in a process of its own, with what it has to know to judge what comes: the tree, and which sites keep which
-/// items. Contracts see these.
+/// One serializer, in a process of its own, with what it has to know to judge what comes: the tree, and which sites
+/// keep which items. Contracts see these.
 #[derive(Drop)]
 pub struct Relay {
     tree: Tree,
@@ -34,7 +34,8 @@ impl Model for Relay {
 
     ghost view = { λ r. record { tree = r.tree; interest = r.interest; number = r.number; serializer = r.serializer } };
 
-    ghost invariant = { λ r. IsRelay (record { tree = r.tree; interest = r.interest; number = r.number; serializer = r.serializer }) };
+    ghost invariant = { λ r.
+        IsRelay (record { tree = r.tree; interest = r.interest; number = r.number; serializer = r.serializer }) };
 }
 
 impl Relay {
@@ -47,7 +48,9 @@ impl Relay {
     ) -> Result<Relay, AllocError>
         requires number { number < length tree.now.parents }
         requires sites { interest.now.sites ≡ length tree.now.seats }
-        ensures { IfOk result (λ r. r ≡ record { tree = tree.now; interest = interest.now; number = number; serializer = fresh tree.now number }) }
+        ensures { IfOk result
+            (λ r. r
+            ≡ record { tree = tree.now; interest = interest.now; number = number; serializer = fresh tree.now number }) }
     {
         let serializer = Serializer::new(alloc, tree, number)?;
         Ok(Relay {
@@ -106,8 +109,8 @@ impl Relay {
         targets.meets(&near)
     }
 
-    /// Whether `accept` may hand on a label that came from a node: it is one of the deployment, the node is a neighbour, and a
-    /// target of the label lies on this side of the link. It takes no memory.
+    /// Whether `accept` may hand on a label that came from a node: it is one of the deployment, the node is a
+    /// neighbour, and a target of the label lies on this side of the link. It takes no memory.
     pub fn arrives(&self, from: NodeId, label: &Label) -> bool
         ensures { result ≡ arrives self.now from label.now }
     {
@@ -117,13 +120,18 @@ impl Relay {
         self.leads(from, label)
     }
 
-    /// A label in: it goes into the outbox of every other neighbour beyond which a target of it lies, and these are answered.
+    /// A label in: it goes into the outbox of every other neighbour beyond which a target of it lies, and these are
+    /// answered.
     pub fn accept(&mut self, from: NodeId, label: Label) -> Result<Nodes, RelayFault>
-        ensures nodes { IfOk result (λ nodes. nodes ≡ routes self.old.interest self.old.tree self.old.number from label) }
-        ensures after { OnOk result (self.new ≡ record self.old { serializer = after_handle self.old.serializer self.old.interest from label }) }
+        ensures nodes { IfOk result (λ nodes. nodes
+            ≡ routes self.old.interest self.old.tree self.old.number from label) }
+        ensures after { OnOk result (self.new
+            ≡ record self.old { serializer = after_handle self.old.serializer self.old.interest from label }) }
         ensures unfit { arrives self.old from label ≡ false → IsErrOf result fault.Unfit }
-        ensures dead { arrives self.old from label ≡ true → self.old.serializer.killed ≡ true → IsErrOf result fault.Dead }
-        ensures alive { arrives self.old from label ≡ true → self.old.serializer.killed ≡ false → IsOkUnless result fault.Memory }
+        ensures dead { arrives self.old from label ≡ true → self.old.serializer.killed ≡ true
+            → IsErrOf result fault.Dead }
+        ensures alive { arrives self.old from label ≡ true → self.old.serializer.killed ≡ false
+            → IsOkUnless result fault.Memory }
         ensures err { OnErr result (self.new ≡ self.old) }
     {
         if !self.arrives(from, &label) {
@@ -146,18 +154,20 @@ impl Relay {
         self.serializer.front(to)
     }
 
-    /// A label out: the oldest one for a node, which stays in its outbox until `taken` is told of it; None where none waits, or the
-    /// node is no neighbour. It takes no memory, and works after a kill too.
+    /// A label out: the oldest one for a node, which stays in its outbox until `taken` is told of it; None where none
+    /// waits, or the node is no neighbour. It takes no memory, and works after a kill too.
     pub fn offer(&self, to: NodeId) -> Option<Offer<NodeId>>
-        ensures label { MatchOption result (slice_get (waiting_for self.now to) 0 ≡ None) (λ offer. slice_get (waiting_for self.now to) 0 ≡ Some offer.label) }
+        ensures label { MatchOption result (slice_get (waiting_for self.now to) 0 ≡ None)
+            (λ offer. slice_get (waiting_for self.now to) 0 ≡ Some offer.label) }
         ensures link { IfSome result (λ offer. offer.link ≡ to) }
     {
         let label = self.front(to)?;
         Some(Offer { label, link: to })
     }
 
-    /// The other end has said that it took what was offered: the label leaves its outbox. Where another one is the oldest there, since
-    /// this was told twice, nothing changes, and the answer is false. It takes no memory, and works after a kill too.
+    /// The other end has said that it took what was offered: the label leaves its outbox. Where another one is the
+    /// oldest there, since this was told twice, nothing changes, and the answer is false. It takes no memory, and works
+    /// after a kill too.
     pub fn taken(&mut self, offer: Offer<NodeId>) -> bool
         ensures stands { result ≡ is_it offer.label (slice_get (waiting_for self.old offer.link) 0) }
         ensures taken { result ≡ true → self.new ≡ shipped self.old offer.link }

@@ -27,9 +27,9 @@ use sat_site::{Site, SiteInput, SiteOutput};
 use std::alloc::{AllocError, Global};
 use std::marker::Model;
 
-/// One site, in a process of its own, with its number, and with two links in the tree of each epoch, to its relay there and from it:
-/// the labels that it sent and that the relay has not taken yet, and the labels that came and that it has not taken yet. Contracts
-/// see these.
+/// One site, in a process of its own, with its number, and with two links in the tree of each epoch, to its relay there
+/// and from it: the labels that it sent and that the relay has not taken yet, and the labels that came and that it has
+/// not taken yet. Contracts see these.
 #[derive(Drop)]
 pub struct Replica {
     alloc: Global,
@@ -114,7 +114,8 @@ impl Replica {
         })
     }
 
-    /// The site, for what it tells of itself: its view and how much waits there, what it made for others, what it promised.
+    /// The site, for what it tells of itself: its view and how much waits there, what it made for others, what it
+    /// promised.
     pub fn site(&self) -> &Site
         ensures { result.now ≡ self.now.site }
     {
@@ -123,7 +124,8 @@ impl Replica {
 
     // Lets the site do an act. What it is handed is tested first, since a message may say anything.
     fn step(&mut self, given: SiteInput) -> Result<SiteOutput, ReplicaFault>
-        ensures fault { MatchOption (hand_fault self.old given) (IsOkUnless result fault.Memory) (λ why. IsErrOf result why) }
+        ensures fault { MatchOption (hand_fault self.old given) (IsOkUnless result fault.Memory)
+            (λ why. IsErrOf result why) }
         ensures answer { IfOk result (λ out. out.answer ≡ site_answers self.old.site given) }
         ensures sent { IfOk result (λ out. out.sent ≡ site_sends self.old.site given) }
         ensures site { OnOk result (IsSite self.old.site) }
@@ -141,16 +143,18 @@ impl Replica {
         }
     }
 
-    /// A duty of the site: a tick of a gear, a gather, a payload or a beat that came, a beat for another site, a stamp, a fall, an
-    /// advance. What came is tested first, since a message may say anything. A duty sends no label.
+    /// A duty of the site: a tick of a gear, a gather, a payload or a beat that came, a beat for another site, a stamp,
+    /// a fall, an advance. What came is tested first, since a message may say anything. A duty sends no label.
     #[tactic(auto, using(crate::proofs::Duties::duty_sends))]
     pub fn hand(&mut self, duty: Duty) -> Result<SiteOutput, ReplicaFault>
-        ensures fault { MatchOption (hand_fault self.old (duty_input duty)) (IsOkUnless result fault.Memory) (λ why. IsErrOf result why) }
+        ensures fault { MatchOption (hand_fault self.old (duty_input duty)) (IsOkUnless result fault.Memory)
+            (λ why. IsErrOf result why) }
         ensures answer { IfOk result (λ out. out.answer ≡ site_answers self.old.site (duty_input duty)) }
         ensures sent { IfOk result (λ out. out.sent ≡ None) }
         ensures beat { IfOk result (λ out. out.beat ≡ site_beat self.old.site (duty_input duty)) }
         ensures after { OnOk result (self.new ≡ with_site self.old (site_after self.old.site (duty_input duty))) }
-        ensures spare { hand_fault self.old (duty_input duty) ≡ None → takes_none (duty_input duty) ≡ true → IsOk result }
+        ensures spare { hand_fault self.old (duty_input duty) ≡ None → takes_none (duty_input duty) ≡ true
+            → IsOk result }
         ensures err { OnErr result (self.new ≡ self.old) }
     {
         self.step(duty.input())
@@ -158,7 +162,8 @@ impl Replica {
 
     // A call of a client that is seated here.
     fn call(&mut self, client: &Client, given: SiteInput) -> Result<Answer, ReplicaFault>
-        ensures fault { MatchOption (call_fault self.old client.now given) (IsOkUnless result fault.Memory) (λ why. IsErrOf result why) }
+        ensures fault { MatchOption (call_fault self.old client.now given) (IsOkUnless result fault.Memory)
+            (λ why. IsErrOf result why) }
         ensures answer { IfOk result (λ answer. answer ≡ site_answers self.old.site given) }
         ensures after { OnOk result (self.new ≡ with_site self.old (site_after self.old.site given)) }
         ensures site { OnOk result (IsSite self.old.site) }
@@ -186,8 +191,8 @@ impl Replica {
         Ok(())
     }
 
-    /// A local write by a client that is seated here. The client then carries the label of the write, and a read here answers the
-    /// value, unless a version with a greater label was here already.
+    /// A local write by a client that is seated here. The client then carries the label of the write, and a read here
+    /// answers the value, unless a version with a greater label was here already.
     #[tactic(auto, using(crate::proofs::OneItem::one_fault))]
     pub fn write(
         &mut self,
@@ -195,11 +200,16 @@ impl Replica {
         item: u16,
         value: Value,
     ) -> Result<Answer, ReplicaFault>
-        ensures fault { MatchOption (call_fault self.old client.old (input.Write client.old.carried (One item) (value ∷ []))) (IsOkUnless result fault.Memory) (λ why. IsErrOf result why) }
-        ensures answer { IfOk result (λ answer. answer ≡ site_answers self.old.site (input.Write client.old.carried (One item) (value ∷ []))) }
-        ensures after { OnOk result (self.new ≡ with_site self.old (site_after self.old.site (input.Write client.old.carried (One item) (value ∷ [])))) }
+        ensures fault { MatchOption
+            (call_fault self.old client.old (input.Write client.old.carried (One item) (value ∷ [])))
+            (IsOkUnless result fault.Memory) (λ why. IsErrOf result why) }
+        ensures answer { IfOk result (λ answer. answer
+            ≡ site_answers self.old.site (input.Write client.old.carried (One item) (value ∷ []))) }
+        ensures after { OnOk result (self.new
+            ≡ with_site self.old (site_after self.old.site (input.Write client.old.carried (One item) (value ∷ [])))) }
         ensures told { IfOk result (λ answer. client.new ≡ told answer client.old) }
-        ensures read_back { IfOk result (λ answer. (l : LabelSeen) → answer ≡ ans.Wrote l → ReadsNewer self.old.site self.new.site item l value) }
+        ensures read_back { IfOk result (λ answer. (l : LabelSeen) → answer ≡ ans.Wrote l
+            → ReadsNewer self.old.site self.new.site item l value) }
         ensures err { OnErr result (self.new ≡ self.old) }
         ensures client { OnErr result (client.new ≡ client.old) }
     {
@@ -224,10 +234,13 @@ impl Replica {
         Ok(answer)
     }
 
-    /// A local read by a client that is seated here. The client then carries the greater of its own label and that of the version.
+    /// A local read by a client that is seated here. The client then carries the greater of its own label and that of
+    /// the version.
     pub fn read(&mut self, client: &mut Client, item: u16) -> Result<Answer, ReplicaFault>
-        ensures fault { MatchOption (call_fault self.old client.old (input.Read client.old.carried item)) (IsOkUnless result fault.Memory) (λ why. IsErrOf result why) }
-        ensures answer { IfOk result (λ answer. answer ≡ site_answers self.old.site (input.Read client.old.carried item)) }
+        ensures fault { MatchOption (call_fault self.old client.old (input.Read client.old.carried item))
+            (IsOkUnless result fault.Memory) (λ why. IsErrOf result why) }
+        ensures answer { IfOk result (λ answer. answer
+            ≡ site_answers self.old.site (input.Read client.old.carried item)) }
         ensures told { IfOk result (λ answer. client.new ≡ told answer client.old) }
         ensures replica { self.new ≡ self.old }
         ensures client { OnErr result (client.new ≡ client.old) }
@@ -243,12 +256,15 @@ impl Replica {
         Ok(answer)
     }
 
-    /// A client leaves for another site: its move is a label like that of a write, and travels with them. The client has no seat
-    /// until it is let in there.
+    /// A client leaves for another site: its move is a label like that of a write, and travels with them. The client
+    /// has no seat until it is let in there.
     pub fn migrate(&mut self, client: &mut Client, to: u16) -> Result<Answer, ReplicaFault>
-        ensures fault { MatchOption (call_fault self.old client.old (input.Move client.old.carried to)) (IsOkUnless result fault.Memory) (λ why. IsErrOf result why) }
-        ensures answer { IfOk result (λ answer. answer ≡ site_answers self.old.site (input.Move client.old.carried to)) }
-        ensures after { OnOk result (self.new ≡ with_site self.old (site_after self.old.site (input.Move client.old.carried to))) }
+        ensures fault { MatchOption (call_fault self.old client.old (input.Move client.old.carried to))
+            (IsOkUnless result fault.Memory) (λ why. IsErrOf result why) }
+        ensures answer { IfOk result (λ answer. answer
+            ≡ site_answers self.old.site (input.Move client.old.carried to)) }
+        ensures after { OnOk result
+            (self.new ≡ with_site self.old (site_after self.old.site (input.Move client.old.carried to))) }
         ensures told { IfOk result (λ answer. client.new ≡ told answer client.old) }
         ensures err { OnErr result (self.new ≡ self.old) }
         ensures client { OnErr result (client.new ≡ client.old) }
@@ -266,7 +282,8 @@ impl Replica {
 
     /// A client without a seat asks to be let in: it is, once all that it saw is shown here.
     pub fn attach(&mut self, client: &mut Client) -> Result<Answer, ReplicaFault>
-        ensures fault { MatchOption (attach_fault self.old client.old (input.Attach client.old.carried)) (IsOk result) (λ why. IsErrOf result why) }
+        ensures fault { MatchOption (attach_fault self.old client.old (input.Attach client.old.carried)) (IsOk result)
+            (λ why. IsErrOf result why) }
         ensures answer { IfOk result (λ answer. answer ≡ site_answers self.old.site (input.Attach client.old.carried)) }
         ensures joined { IfOk result (λ answer. client.new ≡ joined answer self.old.number client.old) }
         ensures replica { self.new ≡ self.old }
@@ -282,12 +299,15 @@ impl Replica {
         Ok(out.answer)
     }
 
-    /// A label out: an Emit, a Pulse or a Close, whose label, if it is for some site, waits on the link of its epoch until the relay has
-    /// it. It is put there first, since a label that has left the site must not be lost. For want of memory nothing has changed.
+    /// A label out: an Emit, a Pulse or a Close, whose label, if it is for some site, waits on the link of its epoch
+    /// until the relay has it. It is put there first, since a label that has left the site must not be lost. For want
+    /// of memory nothing has changed.
     #[tactic(auto, using(crate::proofs::Duties::sending_fits, crate::proofs::Duties::sending_spares))]
     pub fn send(&mut self, sending: Sending) -> Result<Answer, AllocError>
         ensures answer { IfOk result (λ answer. answer ≡ site_answers self.old.site (sending_input sending)) }
-        ensures after { OnOk result (self.new ≡ record self.old { site = site_after self.old.site (sending_input sending); outbox = posted self.old.outbox self.old.site.views.emission (site_sends self.old.site (sending_input sending)) }) }
+        ensures after { OnOk result
+            (self.new
+            ≡ record self.old { site = site_after self.old.site (sending_input sending); outbox = posted self.old.outbox self.old.site.views.emission (site_sends self.old.site (sending_input sending)) }) }
         ensures err { OnErr result (self.new ≡ self.old) }
     {
         let given = sending.input();
@@ -299,21 +319,23 @@ impl Replica {
         }
     }
 
-    /// A label out, on the link to the relay in the tree of an epoch: the oldest one, which stays there until `taken` is told of it;
-    /// None where none waits. It takes no memory.
+    /// A label out, on the link to the relay in the tree of an epoch: the oldest one, which stays there until `taken`
+    /// is told of it; None where none waits. It takes no memory.
     pub fn offer(&self, epoch: u16) -> Option<Offer<u16>>
-        ensures label { MatchOption result (slice_get (link_of self.now.outbox epoch) 0 ≡ None) (λ offer. slice_get (link_of self.now.outbox epoch) 0 ≡ Some offer.label) }
+        ensures label { MatchOption result (slice_get (link_of self.now.outbox epoch) 0 ≡ None)
+            (λ offer. slice_get (link_of self.now.outbox epoch) 0 ≡ Some offer.label) }
         ensures link { IfSome result (λ offer. offer.link ≡ epoch) }
     {
         let label = self.outbox.front(epoch)?;
         Some(Offer { label, link: epoch })
     }
 
-    /// The relay has said that it took what was offered: the label leaves its link. Where another one is the oldest there, since this
-    /// was told twice, nothing changes, and the answer is false. It takes no memory.
+    /// The relay has said that it took what was offered: the label leaves its link. Where another one is the oldest
+    /// there, since this was told twice, nothing changes, and the answer is false. It takes no memory.
     pub fn taken(&mut self, offer: Offer<u16>) -> bool
         ensures stands { result ≡ is_it offer.label (slice_get (link_of self.old.outbox offer.link) 0) }
-        ensures taken { result ≡ true → self.new ≡ record self.old { outbox = without_front self.old.outbox offer.link } }
+        ensures taken { result ≡ true
+            → self.new ≡ record self.old { outbox = without_front self.old.outbox offer.link } }
         ensures stays { result ≡ false → self.new ≡ self.old }
     {
         let Some(front) = self.outbox.front(offer.link) else {
@@ -334,7 +356,8 @@ impl Replica {
         self.site.fits(&SiteInput::Turn { front: Some(label) })
     }
 
-    // Whether a label may wait on the link of an epoch: another site sends it, and where it is a close, it is one of that epoch.
+    // Whether a label may wait on the link of an epoch: another site sends it, and where it is a close, it is one of
+    // that epoch.
     fn is_sent(&self, epoch: u16, label: Label) -> bool
         ensures { result ≡ is_front_here self.now.site.shape epoch label }
     {
@@ -352,10 +375,11 @@ impl Replica {
         }
     }
 
-    /// A label in, by the tree of an epoch: it waits behind those that came before it on that link. `Unfit` says that there is no such
-    /// epoch, or that no other site sends such a label there. For want of memory nothing has changed.
+    /// A label in, by the tree of an epoch: it waits behind those that came before it on that link. `Unfit` says that
+    /// there is no such epoch, or that no other site sends such a label there. For want of memory nothing has changed.
     pub fn arrive(&mut self, epoch: u16, label: Label) -> Result<(), ReplicaFault>
-        ensures fault { MatchOption (arrive_fault self.old epoch label) (IsOkUnless result fault.Memory) (λ why. IsErrOf result why) }
+        ensures fault { MatchOption (arrive_fault self.old epoch label) (IsOkUnless result fault.Memory)
+            (λ why. IsErrOf result why) }
         ensures ok { OnOk result (self.new ≡ record self.old { inbox = with_label self.old.inbox epoch label }) }
         ensures err { OnErr result (self.new ≡ self.old) }
     {
@@ -374,13 +398,16 @@ impl Replica {
         self.inbox.front(view.view)
     }
 
-    /// Shows the oldest label that waits in the tree of the site's view, once its payload is there; it is taken off its link only then.
-    /// It takes no memory.
+    /// Shows the oldest label that waits in the tree of the site's view, once its payload is there; it is taken off its
+    /// link only then. It takes no memory.
     #[tactic(auto, using(crate::proofs::Views::view_is_small))]
     pub fn show(&mut self) -> Result<Answer, ReplicaFault>
-        ensures fault { MatchOption (hand_fault self.old (input.Turn (next_label self.old))) (IsOk result) (λ why. IsErrOf result why) }
-        ensures answer { IfOk result (λ answer. answer ≡ site_answers self.old.site (input.Turn (next_label self.old))) }
-        ensures after { IfOk result (λ answer. self.new ≡ record self.old { site = site_after self.old.site (input.Turn (next_label self.old)); inbox = inbox_after answer self.old.site.views.view self.old.inbox }) }
+        ensures fault { MatchOption (hand_fault self.old (input.Turn (next_label self.old))) (IsOk result)
+            (λ why. IsErrOf result why) }
+        ensures answer { IfOk result (λ answer. answer
+            ≡ site_answers self.old.site (input.Turn (next_label self.old))) }
+        ensures after { IfOk result (λ answer. self.new
+            ≡ record self.old { site = site_after self.old.site (input.Turn (next_label self.old)); inbox = inbox_after answer self.old.site.views.view self.old.inbox }) }
         ensures err { OnErr result (self.new ≡ self.old) }
     {
         let view = self.site.view();
@@ -397,11 +424,12 @@ impl Replica {
         self.site.fits(&SiteInput::Tick { gear, ts: 0 }) && self.site.fits(&SiteInput::Beat { to })
     }
 
-    /// The payload to ask another site for next, of those that a gear of it makes for this one: the least number that did not come
-    /// yet. None where there is no such gear or site. It takes no memory.
+    /// The payload to ask another site for next, of those that a gear of it makes for this one: the least number that
+    /// did not come yet. None where there is no such gear or site. It takes no memory.
     pub fn wanted(&self, from: u16, gear: u16) -> Option<u64>
         ensures none { has_lane self.now.site gear from ≡ false → result ≡ None }
-        ensures number { has_lane self.now.site gear from ≡ true → result ≡ Some (front_at self.now.site.proxy from gear) }
+        ensures number { has_lane self.now.site gear from ≡ true
+            → result ≡ Some (front_at self.now.site.proxy from gear) }
     {
         if !self.has_lane(gear, from) {
             return None;
@@ -409,11 +437,14 @@ impl Replica {
         Some(self.site.front(from, gear))
     }
 
-    /// A payload out: the one with this number of those that a gear made for another site, None where there is none yet, or no such
-    /// gear or site. The numbers count from 0, and the receiver is handed the same number with it. It takes no memory.
+    /// A payload out: the one with this number of those that a gear made for another site, None where there is none
+    /// yet, or no such gear or site. The numbers count from 0, and the receiver is handed the same number with it. It
+    /// takes no memory.
     pub fn payload(&self, gear: u16, to: u16, number: u64) -> Option<&Payload>
         ensures none { has_lane self.now.site gear to ≡ false → option_copied result ≡ None }
-        ensures payload { has_lane self.now.site gear to ≡ true → (d : Deployed) (i : ℕ) (s : SiteState) → StandsSite d i self.now.site s → MatchOption result (slice_get ((s.gears gear).lanes to) number ≡ None) (λ p. slice_get ((s.gears gear).lanes to) number ≡ Some p.now) }
+        ensures payload { has_lane self.now.site gear to ≡ true → (d : Deployed) (i : ℕ) (s : SiteState)
+            → StandsSite d i self.now.site s → MatchOption result (slice_get ((s.gears gear).lanes to) number ≡ None)
+            (λ p. slice_get ((s.gears gear).lanes to) number ≡ Some p.now) }
     {
         if !self.has_lane(gear, to) {
             return None;

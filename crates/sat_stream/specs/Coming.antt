@@ -28,7 +28,8 @@ pub record AreWhole (l : WholeLines) : Type 0 where
   pub whole : IfSome l.deployment (λ d. IsWhole d × AreActsOf d l.acts)
   pub none : l.deployment ≡ None → l.acts ≡ []
   pub few : length l.acts ≤ l.seen.state.acts
-  pub said : l.seen.fault ≡ None → HasSaid l.seen.state.dialect l.seen.state.stage l.seen.state.header l.deployment l.acts
+  pub said : l.seen.fault ≡ None
+      → HasSaid l.seen.state.dialect l.seen.state.stage l.seen.state.header l.deployment l.acts
 
 -- a reader of pieces: the line that has begun isn't too long, and doesn't stand behind the end
 pub record IsComing (l : WholeLines) (begun : List ℕ) : Type 0 where

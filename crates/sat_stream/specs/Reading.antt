@@ -49,7 +49,8 @@ unfoldable pub script_from : State → Reading → List (List ℕ) → Reading
 unfolding line_at number_of
 script_from s r [] = closed s r (close_at s [])
 script_from s r (rest ∷ []) = closed s r (close_at s rest)
-script_from s r (line ∷ part ∷ parts) = after_line s r (λ later more. script_from later more (part ∷ parts)) (line_at s line)
+script_from s r (line ∷ part ∷ parts) =
+    after_line s r (λ later more. script_from later more (part ∷ parts)) (line_at s line)
 
 -- before the first line
 abbrev pub nothing : Reading

@@ -16,7 +16,8 @@ use Rattle.sat_stream.specs.declared.stream.Reading.{Reading}
 use Rattle.sat_script.specs.declared.limits.TheConstants.{LONGEST_LINE}
 use Rattle.sat_stream.specs.declared.limits.TheConstants.{LINE_BYTES, LONG_LINE_BYTES}
 
--- what the whole lines of a script say that came: the state after them, the fault if one is known, and what the good lines said
+-- what the whole lines of a script say that came: the state after them, the fault if one is known, and what the good
+-- lines said
 pub record WholeLines : Type 0 where
   pub seen : Seen
   pub deployment : Option Deployed
@@ -109,7 +110,8 @@ LacksOnlyItsEnd r = IfSome r.fault (λ fault. fault.cause ≡ NoEnd)
 
 -- the lines with a fault that is told
 abbrev pub stopped_at : WholeLines → ScriptFault → WholeLines
-stopped_at l fault = record { seen = record { state = l.seen.state; fault = Some fault }; deployment = l.deployment; acts = l.acts }
+stopped_at l fault =
+    record { seen = record { state = l.seen.state; fault = Some fault }; deployment = l.deployment; acts = l.acts }
 
 -- a good line more
 pub record GoesOn (old new : WholeLines) (line : List ℕ) : Type 0 where
@@ -146,4 +148,5 @@ pub record HasStopped (old new : Came) (piece : List ℕ) (fault : ScriptFault) 
 
 -- a call that takes a piece
 abbrev pub TakesPiece : Came → Came → Result (Unit {0}) ScriptFault → List ℕ → Type 0
-TakesPiece old new result piece = MatchResult result (λ _. HasTaken old new piece) (λ fault. HasStopped old new piece fault)
+TakesPiece old new result piece =
+    MatchResult result (λ _. HasTaken old new piece) (λ fault. HasStopped old new piece fault)

@@ -62,11 +62,13 @@ impl Lines {
         self.reader.fail(cause)
     }
 
-    /// Takes a line, without its byte 10. Want of memory comes after every other cause, and is told at the line for which it ran out.
+    /// Takes a line, without its byte 10. Want of memory comes after every other cause, and is told at the line for
+    /// which it ran out.
     #[inline(always)]
     pub fn line(&mut self, line: &[u8]) -> Result<(), ScriptFault>
         requires fresh { self.old.seen.fault ≡ None }
-        ensures takes { MatchResult result (λ _. GoesOn self.old self.new line.now) (λ fault. StopsAt self.old self.new line.now fault) }
+        ensures takes { MatchResult result (λ _. GoesOn self.old self.new line.now)
+            (λ fault. StopsAt self.old self.new line.now fault) }
         ensures fit { IsFit self.new.seen.state }
     {
         if self.takes_act(line) {
@@ -75,7 +77,8 @@ impl Lines {
         self.any_line(line)
     }
 
-    // Takes a line, where it is quickly found to be a good act, and there is memory for it. Whether it did; else nothing changes.
+    // Takes a line, where it is quickly found to be a good act, and there is memory for it. Whether it did; else
+    // nothing changes.
     #[inline(always)]
     fn takes_act(&mut self, line: &[u8]) -> bool
         requires fresh { self.old.seen.fault ≡ None }
@@ -93,7 +96,8 @@ impl Lines {
     #[inline(never)]
     pub fn any_line(&mut self, line: &[u8]) -> Result<(), ScriptFault>
         requires fresh { self.old.seen.fault ≡ None }
-        ensures takes { MatchResult result (λ _. GoesOn self.old self.new line.now) (λ fault. StopsAt self.old self.new line.now fault) }
+        ensures takes { MatchResult result (λ _. GoesOn self.old self.new line.now)
+            (λ fault. StopsAt self.old self.new line.now fault) }
         ensures fit { IsFit self.new.seen.state }
     {
         let parsed = match self.reader.parse(line) {
@@ -117,7 +121,8 @@ impl Lines {
         ensures sound { IfSome self.old.deployment (λ d. IsDeployment d × HaveNames d × AreActsOf d result) }
         ensures none { self.old.deployment ≡ None → result ≡ [] }
         // A deployment that is known stays, whatever comes.
-        ensures stays { (d : Deployed) (begun more : List ℕ) → self.old.deployment ≡ Some d → (means self.new begun more).deployment ≡ Some d }
+        ensures stays { (d : Deployed) (begun more : List ℕ) → self.old.deployment ≡ Some d
+            → (means self.new begun more).deployment ≡ Some d }
     {
         let none = Acts::new(self.reader.allocator());
         mem::replace(&mut self.acts, none)

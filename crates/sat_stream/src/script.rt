@@ -19,23 +19,26 @@ pub struct Script {
     pub acts: Acts,
 }
 
-/// Each script has one spelling: a text has no fault exactly where it spells a deployment and acts, within the limits of nodes on
-/// threads where it is read for them. And a line of an act says an act exactly where it spells it, whatever forms may stand.
+/// Each script has one spelling: a text has no fault exactly where it spells a deployment and acts, within the limits
+/// of nodes on threads where it is read for them. And a line of an act says an act exactly where it spells it, whatever
+/// forms may stand.
 pub fn one_spelling()
-    ensures read { (live : Bool) (text : List ℕ) → (reading live text).fault ≡ None → IsRead live (reading live text) text }
-    ensures found { (live : Bool) (text : List ℕ) (d : Deployed) (acts : List Act) → Spells text d acts → IsAllowed live d acts → reading live text ≡ good d acts }
+    ensures read { (live : Bool) (text : List ℕ) → (reading live text).fault ≡ None
+        → IsRead live (reading live text) text }
+    ensures found { (live : Bool) (text : List ℕ) (d : Deployed) (acts : List Act) → Spells text d acts
+        → IsAllowed live d acts → reading live text ≡ good d acts }
     ensures acts_spelled { ActsAreSpelled }
     ensures acts_read { ActsAreRead }
 {}
 
-/// A text begins with at most one spelling, whatever stands behind it and however many acts it is of: so who reads a text that is the
-/// spelling of a history's acts and more finds that deployment and these acts, and no others.
+/// A text begins with at most one spelling, whatever stands behind it and however many acts it is of: so who reads a
+/// text that is the spelling of a history's acts and more finds that deployment and these acts, and no others.
 pub fn one_beginning()
     ensures { SpellingsBeginOnce }
 {}
 
-/// What is read of any text, also of one with a fault, is a deployment within its limits and acts of it, no more than there may be; and
-/// no acts where there is no deployment.
+/// What is read of any text, also of one with a fault, is a deployment within its limits and acts of it, no more than
+/// there may be; and no acts where there is no deployment.
 pub fn sound_readings()
     ensures { (live : Bool) (text : List ℕ) → IsSound live (reading live text) }
 {}

@@ -94,8 +94,8 @@ impl ScriptReader {
         Ok(())
     }
 
-    // Takes the byte that ends the line that has begun. Few lines lie in two pieces, so it takes the line as any other, and the quick
-    // call has one caller, into which it goes whole.
+    // Takes the byte that ends the line that has begun. Few lines lie in two pieces, so it takes the line as any other,
+    // and the quick call has one caller, into which it goes whole.
     fn begun_line(&mut self) -> Result<(), ScriptFault>
         requires fresh { known_fault self.old ≡ None }
         ensures { TakesPiece self.old self.new result (10 ∷ []) }
@@ -142,7 +142,8 @@ impl ScriptReader {
     /// Takes the next piece. The fault of the first bad line comes as soon as it is known.
     pub fn feed(&mut self, piece: &[u8]) -> Result<(), ScriptFault>
         requires fresh { known_fault self.old ≡ None }
-        ensures script { UnlessMemory result ((more : List ℕ) → will_be self.new more ≡ will_be self.old (piece.now ++ more)) }
+        ensures script { UnlessMemory result ((more : List ℕ)
+            → will_be self.new more ≡ will_be self.old (piece.now ++ more)) }
         ensures fault { Knows self.new result }
         // Where a fault is known, what comes after it changes nothing.
         ensures settled { OnErr result ((more : List ℕ) → will_be self.new more ≡ will_be self.new []) }
@@ -167,7 +168,8 @@ impl ScriptReader {
         self.lines.deployment()
     }
 
-    /// Hands out the acts that came since the last call, so that they need not be kept until the end. It takes no memory.
+    /// Hands out the acts that came since the last call, so that they need not be kept until the end. It takes no
+    /// memory.
     pub fn drain(&mut self) -> Acts
         ensures acts { result ≡ self.old.lines.acts }
         ensures rest { self.new ≡ drained self.old }
@@ -176,14 +178,16 @@ impl ScriptReader {
         ensures sound { IfSome self.old.lines.deployment (λ d. IsDeployment d × HaveNames d × AreActsOf d result) }
         ensures none { self.old.lines.deployment ≡ None → result ≡ [] }
         // A deployment that is known stays, whatever comes.
-        ensures stays { (d : Deployed) (more : List ℕ) → self.old.lines.deployment ≡ Some d → (will_be self.new more).deployment ≡ Some d }
+        ensures stays { (d : Deployed) (more : List ℕ) → self.old.lines.deployment ≡ Some d
+            → (will_be self.new more).deployment ≡ Some d }
         // While no fault is known, none of the whole lines is bad.
         ensures lacks { known_fault self.old ≡ None → LacksOnlyItsEnd (will_be self.new []) }
     {
         self.lines.drain()
     }
 
-    /// Takes the memory of a list that `drain` handed out for the acts to come, where none has come since. It changes nothing else.
+    /// Takes the memory of a list that `drain` handed out for the acts to come, where none has come since. It changes
+    /// nothing else.
     pub fn reuse(&mut self, spent: Acts)
         ensures { self.new ≡ self.old }
     {

@@ -122,9 +122,10 @@ fn given(alloc: Global, number: u16) -> Result<SiteInput, Fail> {
     }
 }
 
-// Their bodies: the input's number in a byte, and its fields in order. Numbers have two or eight bytes, the highest first; a point
-// is its timestamp, site and gear; a label its point, the byte of its kind from 0 to 3, and the kind's number or its items; an option
-// is 0, or 1 and the value; items, values and parts have their count in a byte, other lists in two, and a value its length in two.
+// Their bodies: the input's number in a byte, and its fields in order. Numbers have two or eight bytes, the highest
+// first; a point is its timestamp, site and gear; a label its point, the byte of its kind from 0 to 3, and the kind's
+// number or its items; an option is 0, or 1 and the value; items, values and parts have their count in a byte, other
+// lists in two, and a value its length in two.
 fn body(number: u16) -> &'static [u8] {
     match number {
         0 => &[0, 0, 1, 0, 0, 0, 0, 0, 0, 1, 2],

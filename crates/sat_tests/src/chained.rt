@@ -18,9 +18,11 @@ const AT_SITE_0: &str =
 const AT_BOTH: &str =
     "holdings\nsite 0 view 1 emission 1 tree waiting 0\nitem x 1.0.0 v\nsite 1 view 1 emission 1 tree waiting 0\nitem x 1.0.0 v\ndone\n";
 
-// How many replicas each serializer has, the lines behind those of the update, the status, their answers, and what stands behind these.
+// How many replicas each serializer has, the lines behind those of the update, the status, their answers, and what
+// stands behind these.
 const AFTER_AN_UPDATE: &[(&str, &str, u8, &str, &str)] = &[
-    // A head that crashes is followed by the next replica, which takes the label in anew; the last one is the serializer's end.
+    // A head that crashes is followed by the next replica, which takes the label in anew; the last one is the
+    // serializer's end.
     (
         "2",
         "enter 1 s0 z0\napply 1 z0\ncrash 1 z0 0\nenter 1 s0 z0\napply 1 z0\ncrash 1 z0 1\nenter 1 s0 z0\nturn 1\nend\n",
@@ -108,8 +110,8 @@ const LONGEST_PATH: &str =
 
 // Headers, replicas and acts with whole outputs.
 const SCRIPTS: &[(&str, &str, &str, &str)] = &[
-    // Labels of two neighbours: a new tail tells by what stands on its outgoing links, and by what was taken from them, that it has
-    // to go on with the second.
+    // Labels of two neighbours: a new tail tells by what stands on its outgoing links, and by what was taken from them,
+    // that it has to go on with the second.
     (
         HEADER,
         "2",
@@ -123,15 +125,16 @@ const SCRIPTS: &[(&str, &str, &str, &str)] = &[
         "write a x v\nwrite b x w\ngather 0\ngather 1\nemit 0\nemit 1\nenter 1 s0 z0\nenter 1 s1 z0\ncrash 1 z0 0\nenter 1 s1 z0\nenter 1 s0 z0\napply 1 z0\napply 1 z0\nend\n",
         "1 wrote 1.0.0\n2 wrote 1.1.0\n3 gathered 1 stable 1\n4 gathered 1 stable 1\n5 emitted update 1.0.0\n6 emitted update 1.1.0\n7 entered update 1.0.0\n8 entered update 1.1.0\n9 crashed\n10 entered update 1.1.0\n11 entered update 1.0.0\n12 hopped update 1.1.0 to s0\n13 hopped update 1.0.0 to s1\nholdings\nsite 0 view 1 emission 1 tree waiting 0\nitem x 1.0.0 v\nsite 1 view 1 emission 1 tree waiting 0\nitem x 1.1.0 w\ndone\n",
     ),
-    // One serializer's last replica crashes while a label waits at it: beyond it nothing comes, and the other serializer lives on.
+    // One serializer's last replica crashes while a label waits at it: beyond it nothing comes, and the other
+    // serializer lives on.
     (
         TWO_SERIALIZERS,
         "2",
         "write a x v\ngather 0\nemit 0\nenter 1 s0 z0\npass 1 z0 0\napply 1 z0\nenter 1 z0 z1\ncrash 1 z1 1\ncrash 1 z1 0\napply 1 z1\nwrite a x w\ngather 0\nemit 0\nenter 1 s0 z0\ncrash 1 z0 1\napply 1 z0\nenter 1 z0 z1\nbulk 0 0 1\nbulk 0 0 1\nturn 1\nturn 1\nturn 2\nend\n",
         "1 wrote 1.0.0\n2 gathered 1 stable 1\n3 emitted update 1.0.0\n4 entered update 1.0.0\n5 passed update 1.0.0\n6 hopped update 1.0.0 to s1,z1\n7 entered update 1.0.0\n8 crashed\n9 crashed\n10 refused Dead\n11 wrote 2.0.0\n12 gathered 1 stable 2\n13 emitted update 2.0.0\n14 entered update 2.0.0\n15 crashed\n16 hopped update 2.0.0 to s1,z1\n17 refused Dead\n18 brought x 1.0.0\n19 brought x 2.0.0\n20 shown x 1.0.0\n21 shown x 2.0.0\n22 refused Empty\nholdings\nsite 0 view 1 emission 1 tree waiting 0\nitem x 2.0.0 w\nsite 1 view 1 emission 1 tree waiting 0\nitem x 2.0.0 w\nsite 2 view 1 emission 1 tree waiting 0\nitem x none\ndone\n",
     ),
-    // On its way through three serializers a label outlives the middle replica of the first, the head of the second, and then that one's
-    // tail; of the third all replicas crash.
+    // On its way through three serializers a label outlives the middle replica of the first, the head of the second,
+    // and then that one's tail; of the third all replicas crash.
     (
         THREE_SERIALIZERS,
         "3",

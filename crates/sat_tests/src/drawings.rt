@@ -1,4 +1,5 @@
-//! Drawings of scripts through the program. What is expected was worked out by hand from the measures of a drawing and the rules of acts.
+//! Drawings of scripts through the program. What is expected was worked out by hand from the measures of a drawing and
+//! the rules of acts.
 use sat_outside::CleanSink;
 use sat_top::still_in_memory;
 use std::alloc::Global;
@@ -7,8 +8,8 @@ use std::test::Fail;
 const PLAIN: &str =
     "saturn 1\nsites 2\ngears 1\nitem x 0,1\nclient a 0\nclient b 1\nplan tree - / 0 0\nbegin\nwrite a x <&>\"'\ngather 0\nemit 0\nhop 1 s0 z0\nturn 1\nbulk 0 0 1\nturn 1\nread b x\nend\n";
 
-// Four columns: what is outside at 204, and s0, z0, s1 from 262 on, 120 apart. The rows begin at 112 + (26 + 50) + 50, and are 22
-// apart. The answers stand 62 behind the last column. All ways of one label have one class.
+// Four columns: what is outside at 204, and s0, z0, s1 from 262 on, 120 apart. The rows begin at 112 + (26 + 50) + 50,
+// and are 22 apart. The answers stand 62 behind the last column. All ways of one label have one class.
 const PLAIN_LINES: &str =
     "<svg xmlns='http://www.w3.org/2000/svg' viewBox='0 0 844 464' width='844' height='464' role='img' aria-labelledby='t'>
 <title id='t'>A run of Saturn: 8 acts, 2 sites, 2 clients</title>

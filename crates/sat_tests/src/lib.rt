@@ -1,5 +1,5 @@
-//! Tests of whole paths: scripts and tables through the program, and what it reads and writes, as texts. A crate that has tests is proved
-//! twice, so these stand in one of their own.
+//! Tests of whole paths: scripts and tables through the program, and what it reads and writes, as texts. A crate that
+//! has tests is proved twice, so these stand in one of their own.
 #![tactic(auto)]
 
 #[cfg(test)]

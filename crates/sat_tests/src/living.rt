@@ -32,8 +32,8 @@ const HOLDINGS: &[(&str, &str)] = &[
     ("done", ""),
 ];
 
-// Holds the second client after its first answer until a serializer is inside its lock, and that serializer there until the client has
-// its second answer. So a run on one thread, or under one lock, makes a hold run out.
+// Holds the second client after its first answer until a serializer is inside its lock, and that serializer there until
+// the client has its second answer. So a run on one thread, or under one lock, makes a hold run out.
 #[derive(Drop)]
 struct Holds {
     inside: AtomicU64,
@@ -149,8 +149,8 @@ fn clients_and_nodes_go_side_by_side(rt: HostRuntime) -> Result<(), Fail> {
     Ok(())
 }
 
-// Scripts, and what stands in their reports, in this order under every schedule: whether the update is emitted before the close or after
-// it is the schedule's.
+// Scripts, and what stands in their reports, in this order under every schedule: whether the update is emitted before
+// the close or after it is the schedule's.
 const WHOLE: &[(&str, &[&str])] = &[
     (
         "saturn 1\nsites 2\ngears 1\nitem x 0,1\nclient a 0\nplan tree - / 0 0\nplan tree - / 0 0\nbegin\nclose 0\nend\n",
@@ -164,7 +164,8 @@ const WHOLE: &[(&str, &[&str])] = &[
         "saturn 1\nsites 2\ngears 1\nitem x 0,1\nclient a 0\nclient b 1\nplan tree - / 0 0\nbegin\nmove a 1\nattach a 1\nread a x\nend\n",
         &[" attached\n", " read none\n"],
     ),
-    // Two clients write, while the operator switches from one tree to another, kills the first one and has both sites fall.
+    // Two clients write, while the operator switches from one tree to another, kills the first one and has both sites
+    // fall.
     (
         "saturn 1\nsites 2\ngears 1\nitem x 0,1\nclient a 0\nclient b 1\nplan tree - / 0 0\nplan tree - / 0 0\nbegin\nclose 0\nclose 1\nkill 1 z0\nfall 0\nfall 1\nwrite a x v\nwrite b x w\nwrite a x v\nwrite b x w\nwrite a x v\nwrite b x w\nwrite a x v\nwrite b x w\nwrite a x v\nwrite b x w\nwrite a x v\nwrite b x w\nwrite a x v\nwrite b x w\nwrite a x v\nwrite b x w\nwrite a x v\nwrite b x w\nwrite a x v\nwrite b x w\nwrite a x v\nwrite b x w\nwrite a x v\nwrite b x w\nwrite a x v\nwrite b x w\nwrite a x v\nwrite b x w\nwrite a x v\nwrite b x w\nwrite a x v\nwrite b x w\nwrite a x v\nwrite b x w\nwrite a x v\nwrite b x w\nwrite a x v\nwrite b x w\nwrite a x v\nwrite b x w\nend\n",
         &[" closed 1 ", " closed 1 ", " killed\n"],

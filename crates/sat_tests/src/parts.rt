@@ -62,8 +62,8 @@ fn a_path_goes_over_the_root(rt: HostRuntime) -> Result<(), Fail> {
     Ok(())
 }
 
-// Where the root hands an update of item 0 that came from the first serializer below it. Sites 1 and 3 keep the item, and sit below the
-// root at one serializer and at the other.
+// Where the root hands an update of item 0 that came from the first serializer below it. Sites 1 and 3 keep the item,
+// and sit below the root at one serializer and at the other.
 fn on_from_the_root(alloc: Global, tree: &Tree, interest: &Interest) -> Result<Nodes, AllocError>
     requires tree { tree.now ≡ record { parents = None ∷ Some 0 ∷ Some 0 ∷ []; seats = 0 ∷ 1 ∷ 1 ∷ 2 ∷ 2 ∷ [] } }
     requires interest { interest.now ≡ record { sites = 5; replicas = (record { bits = 10 }) ∷ [] } }

@@ -179,17 +179,18 @@ fn delays_give_a_tree(rt: HostRuntime) -> Result<(), Fail> {
             "{\"sites\":2,\"places\":1,\"reach\":[[3],[4]],\"between\":[[0]],\"optimal\":[[0,10],[7,0]],\"weight\":[[0,2],[1,0]]}",
             "plan tree - / 0 0\nplace z0 0\ndelay z0 s1 3\nmismatch 0\n",
         ),
-        // Sites 0 and 1 are near place 0, and site 2 is near place 2. One serializer at place 0 costs 36, at place 1 108 and at
-        // place 2 148. A second one at place 2 takes site 2, and leaves the ways from site 2, each 5 milliseconds short: 10. A third
-        // one takes no site. A delay of 5 before site 0 or before site 1 brings one way nearer and another as far off; on the edge
-        // from z1 to z0 it mends both.
+        // Sites 0 and 1 are near place 0, and site 2 is near place 2. One serializer at place 0 costs 36, at place 1
+        // 108 and at place 2 148. A second one at place 2 takes site 2, and leaves the ways from site 2, each 5
+        // milliseconds short: 10. A third one takes no site. A delay of 5 before site 0 or before site 1 brings one way
+        // nearer and another as far off; on the edge from z1 to z0 it mends both.
         (
             "{\"sites\":3,\"places\":3,\"reach\":[[1,5,30],[2,6,30],[30,40,1]],\"between\":[[0,5,20],[5,0,25],[15,25,0]],\"optimal\":[[0,3,22],[3,0,23],[22,23,0]],\"weight\":[[0,1,1],[1,0,1],[1,1,0]]}",
             "plan tree - 0 / 0 0 1\nplace z0 0\nplace z1 2\ndelay z1 z0 5\nmismatch 0\n",
         ),
-        // The same, but site 1 is to hear of site 2 after 26 milliseconds, and that weighs 2. So the first edge whose delay lowers
-        // the mismatch is the one before site 1: 8 milliseconds, at the cost of 8 for what it hears of site 0. Then none of the
-        // other edges is better with a delay, though 8 on the edge from z1 to z0 alone would have left 3.
+        // The same, but site 1 is to hear of site 2 after 26 milliseconds, and that weighs 2. So the first edge whose
+        // delay lowers the mismatch is the one before site 1: 8 milliseconds, at the cost of 8 for what it hears of
+        // site 0. Then none of the other edges is better with a delay, though 8 on the edge from z1 to z0 alone would
+        // have left 3.
         (
             "{\"sites\":3,\"places\":3,\"reach\":[[1,5,30],[2,6,30],[30,40,1]],\"between\":[[0,5,20],[5,0,25],[15,25,0]],\"optimal\":[[0,3,22],[3,0,23],[22,26,0]],\"weight\":[[0,1,1],[1,0,1],[1,2,0]]}",
             "plan tree - 0 / 0 0 1\nplace z0 0\nplace z1 2\ndelay z0 s1 8\nmismatch 13\n",
@@ -262,7 +263,8 @@ fn long_scripts_have_long_reports(rt: HostRuntime) -> Result<(), Fail> {
     Ok(())
 }
 
-// Of a large script of 40 acts, as another program wrote it from a description of the format: the first lines, some in the middle with the place where they begin, and the last lines.
+// Of a large script of 40 acts, as another program wrote it from a description of the format: the first lines, some in
+// the middle with the place where they begin, and the last lines.
 const LOAD_FIRST: &str =
     "saturn 1\nsites 5\ngears 4\nitem x0 0,1\nitem x1 0,1,2\nitem x2 0,2,3\nitem x3 0,3,4\nitem x4 0,4\nitem x5 0,1\nitem x6 1,2\nitem x7 1,2,3\nitem x8 1,3,4\n";
 

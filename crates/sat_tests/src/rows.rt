@@ -144,7 +144,8 @@ pub const ANSWERS: &[(&str, &str, &str)] = &[
         "write a x v\ngather 1\nemit 1\nhop 1 s1 z1\nhop 1 z1 z0\nhop 1 z0 z2\nturn 0\nturn 2\nturn 4\nturn 3\nbulk 1 0 3\nturn 3\nhop 1 z0 z2\nhop 1 z1 z0\nend\n",
         "1 wrote 1.1.0\n2 gathered 1 stable 1\n3 emitted update 1.1.0\n4 hopped update 1.1.0 to z0\n5 hopped update 1.1.0 to z2\n6 hopped update 1.1.0 to s3\n7 refused Empty\n8 refused Empty\n9 refused Empty\n10 refused NoPayload 1.1.0\n11 brought x 1.1.0\n12 shown x 1.1.0\n13 refused Empty\n14 refused Empty\nholdings\nsite 0 view 1 emission 1 tree waiting 0\nsite 1 view 1 emission 1 tree waiting 0\nitem x 1.1.0 v\nsite 2 view 1 emission 1 tree waiting 0\nsite 3 view 1 emission 1 tree waiting 0\nitem x 1.1.0 v\nsite 4 view 1 emission 1 tree waiting 0\ndone\n",
     ),
-    // The update of q was written after that of p was read, and comes to site 2 behind it, though its payload comes first.
+    // The update of q was written after that of p was read, and comes to site 2 behind it, though its payload comes
+    // first.
     (
         CHAIN,
         "write b q Q\nwrite a q Q\nwrite a p P\nend\n",
@@ -227,8 +228,8 @@ pub const ANSWERS: &[(&str, &str, &str)] = &[
         "write a x v\ngather 0\nemit 0\nhop 1 s0 z0\nbulk 0 0 63\nturn 63\nturn 62\nend\n",
         "1 wrote 1.0.0\n2 gathered 1 stable 1\n3 emitted update 1.0.0\n4 hopped update 1.0.0 to s63\n5 brought x 1.0.0\n6 shown x 1.0.0\n7 refused Empty\nholdings\n",
     ),
-    // A settle of 64 sites: a clock, 64 gathers, an emission, 64 pulses, and 4,032 beats that are made and taken; in one round a
-    // payload, 65 hops, a turn for the update and 4,032 for the pulses.
+    // A settle of 64 sites: a clock, 64 gathers, an emission, 64 pulses, and 4,032 beats that are made and taken; in
+    // one round a payload, 65 hops, a turn for the update and 4,032 for the pulses.
     (
         SIXTY_FOUR_SITES,
         "write a x v\nsettle\nend\n",
@@ -256,8 +257,8 @@ pub const REPORTS: &[(&str, &str, &str)] = &[
         "end\n",
         "holdings\nsite 0 view 1 emission 1 stamp waiting 0\nitem x none\ndone\n",
     ),
-    // A settle: a clock, two gathers, an emission, two pulses, two beats that are made and taken, and in one round a payload, three
-    // hops and three turns. A second one finds nothing to emit, to pulse or to do in a round.
+    // A settle: a clock, two gathers, an emission, two pulses, two beats that are made and taken, and in one round a
+    // payload, three hops and three turns. A second one finds nothing to emit, to pulse or to do in a round.
     (
         HEADER,
         "write a x v\nsettle\nread b x\nsettle\nend\n",
@@ -269,8 +270,9 @@ pub const REPORTS: &[(&str, &str, &str)] = &[
         "settle\nsettle 0\nend\n",
         "1 settled 0 7\nline 10: BadAct\n",
     ),
-    // Over two trees: a clock, two gathers, an emission, two pulses and four acts on beats; in the first round two payloads, three
-    // hops and three turns of the first tree, five hops of the second and two advances; in the second round a hop and three turns.
+    // Over two trees: a clock, two gathers, an emission, two pulses and four acts on beats; in the first round two
+    // payloads, three hops and three turns of the first tree, five hops of the second and two advances; in the second
+    // round a hop and three turns.
     (
         TWO_TREES,
         "write a x one\ngather 0\nemit 0\nclose 0\nwrite a x two\nclose 1\nsettle\nread b x\nsettle\nend\n",
@@ -282,14 +284,15 @@ pub const REPORTS: &[(&str, &str, &str)] = &[
         "writes a x 1 y 2\ngather 0\nemit 0\nclose 0\nwrites a x 3 y 4\nclose 1\nsettle\nread b y\nend\n",
         "1 wrote 1.0.0\n2 gathered 1 stable 1\n3 emitted update 1.0.0\n4 closed 1 1.0.65535\n5 wrote 2.0.0\n6 closed 1 0.1.65535\n7 settled 2 29\n8 read 2.0.0 4\nholdings\nsite 0 view 2 emission 2 tree waiting 0\nitem x 2.0.0 3\nitem y 2.0.0 4\nsite 1 view 2 emission 2 tree waiting 0\nitem x 2.0.0 3\nitem y 2.0.0 4\ndone\n",
     ),
-    // In stamp order: eleven acts before the rounds, of which two emissions, and in one round two payloads and two stamps.
+    // In stamp order: eleven acts before the rounds, of which two emissions, and in one round two payloads and two
+    // stamps.
     (
         STAMPS,
         "write a x one\nwrite a x two\nsettle\nleave a\nattach a 1\nread a x\nend\n",
         "1 wrote 1.0.0\n2 wrote 2.0.0\n3 settled 1 15\n4 left 2.0.0\n5 attached\n6 read 2.0.0 two\nholdings\nsite 0 view 1 emission 1 stamp waiting 0\nitem x 2.0.0 two\nsite 1 view 1 emission 1 stamp waiting 0\nitem x 2.0.0 two\ndone\n",
     ),
-    // Behind a dead serializer nothing comes, and only the payload is brought. Once both sites have closed the tree and fallen, the
-    // update is shown by its timestamp and both go on.
+    // Behind a dead serializer nothing comes, and only the payload is brought. Once both sites have closed the tree and
+    // fallen, the update is shown by its timestamp and both go on.
     (
         TWO_TREES,
         "write a x one\ngather 0\nemit 0\nkill 1 z0\nsettle\nclose 0\nclose 1\nfall 0\nfall 1\nsettle\nread b x\nend\n",
@@ -309,7 +312,8 @@ pub const REPORTS: &[(&str, &str, &str)] = &[
     (HEADER, "write d x v\nend\n", "line 9: UnknownName\n"),
     (HEADER, "tick 2 0 1\nend\n", "line 9: OutOfRange\n"),
     (HEADER, "hop 1 z0 z0\nend\n", "line 9: NoEdge\n"),
-    // Groups that are none: of items that do not ascend, of one item or of five, with a value too few, of unknown names, and in format 1.
+    // Groups that are none: of items that do not ascend, of one item or of five, with a value too few, of unknown
+    // names, and in format 1.
     (GROUPS, "writes b y 2 x 1\nend\n", "line 11: BadGroup\n"),
     (GROUPS, "writes b x 2 x 1\nend\n", "line 11: BadGroup\n"),
     (GROUPS, "writes b x 1 y 2 x 3\nend\n", "line 11: BadGroup\n"),
@@ -362,7 +366,8 @@ pub const SUMMARIES: &[(&str, &str)] = &[
     ),
 ];
 
-// Acts behind `HEADER`, and how much is under way after them: the payload that is made and not brought, and the label on a link.
+// Acts behind `HEADER`, and how much is under way after them: the payload that is made and not brought, and the label
+// on a link.
 pub const UNDERWAY: &[(&str, u64)] = &[
     ("end\n", 0),
     ("write a x v\nend\n", 1),
@@ -389,8 +394,8 @@ const TABLE: &str =
 const TIES: &str =
     "{\"sites\":2,\"places\":3,\"reach\":[[5,1,1],[5,1,1]],\"between\":[[0,0,0],[0,0,0],[0,0,0]],\"optimal\":[[0,0],[0,0]],\"weight\":[[0,1],[1,0]]";
 
-/// A table of delays, the tree behind it, and what `place` prints. Of two serializers in the first table, both at place 0 cost 6, at 0 and 1
-/// they cost 4, at 1 and 0 27, and both at place 1 cost 3.
+/// A table of delays, the tree behind it, and what `place` prints. Of two serializers in the first table, both at place
+/// 0 cost 6, at 0 and 1 they cost 4, at 1 and 0 27, and both at place 1 cost 3.
 pub const PLACED: &[(&str, &str, &str)] = &[
     (
         TABLE,
@@ -497,8 +502,8 @@ pub const BAD_SIZES: &[(&str, &str)] = &[
 /// What stands before the matrices of the next table.
 pub const BEFORE_MATRICES: &str = "{\"sites\":2,\"places\":1,";
 
-/// For each matrix a missing row, a row too many, a missing cell, a cell too many, a cell that is no whole number and one that is too
-/// big.
+/// For each matrix a missing row, a row too many, a missing cell, a cell too many, a cell that is no whole number and
+/// one that is too big.
 pub const BAD_MATRICES: &[(&str, &str)] = &[
     ("\"reach\":5}", "plan: BadShape reach 0 0\n"),
     ("\"reach\":[]}", "plan: BadShape reach 0 0\n"),

@@ -1,4 +1,5 @@
-//! What is read of texts, at once and in pieces, and at the limits. What is expected was worked out by hand from the table of causes.
+//! What is read of texts, at once and in pieces, and at the limits. What is expected was worked out by hand from the
+//! table of causes.
 use sat_act::{Act, Answer, Deployment, Entry};
 use sat_label::{Items, Kind, Label, Point};
 use sat_report::write_answer;

@@ -17,13 +17,15 @@ three_yeses = record { causal = None; once = None; fresh = None }
 
 -- the history that a run told has three yeses
 abbrev pub EveryRunIsJudgedGood : Type 0
-EveryRunIsJudgedGood = (d : Deployed) (h : List Entry) → IsValid d → HasTrees d → IsRun d h → IsVerdictOf (history_of d h) three_yeses
+EveryRunIsJudgedGood =
+    (d : Deployed) (h : List Entry) → IsValid d → HasTrees d → IsRun d h → IsVerdictOf (history_of d h) three_yeses
 
 -- the entries of a run name labels well
 abbrev pub RunsNameLabelsWell : Type 0
 RunsNameLabelsWell = (d : Deployed) (h : List Entry) → IsValid d → IsRun d h → AreNamedWell h
 
--- where entries name labels well, the laws of runs hold of them exactly where those of told histories hold of what they told
+-- where entries name labels well, the laws of runs hold of them exactly where those of told histories hold of what they
+-- told
 abbrev pub TheLawsAreOne : Type 0
 TheLawsAreOne =
     (d : Deployed) (h : List Entry) → AreNamedWell h →

@@ -45,7 +45,8 @@ named_in (ans.Moved l) = Some l
 named_in (ans.Shown l) = Some l
 named_in _ = None
 
--- an answer is one that the act can have: a write makes an update of its items, a move a move to its site; reads read, turns and stamps show
+-- an answer is one that the act can have: a write makes an update of its items, a move a move to its site; reads read,
+-- turns and stamps show
 abbrev pub FitsAct : Act → Answer → Type 0
 FitsAct a (ans.Wrote l) = (w : Written) × (write_in a ≡ Some w) × (l.kind ≡ kind.Update w.items)
 FitsAct a ans.ReadNone = is_read a ≡ true
@@ -54,7 +55,8 @@ FitsAct a (ans.Moved l) = (c j : ℕ) × (a ≡ act.Move c j) × (l.kind ≡ kin
 FitsAct a (ans.Shown l) = is_show a ≡ true
 FitsAct _ _ = Unit {0}
 
--- an entry names labels well: its answer fits its act, what it names was made by it or before, and what it makes has a point of its own
+-- an entry names labels well: its answer fits its act, what it names was made by it or before, and what it makes has a
+-- point of its own
 pub record NamesWell (before : List Entry) (e : Entry) : Type 0 where
   pub fits : FitsAct e.act e.answer
   pub made : (l : Label) → named_in e.answer ≡ Some l → Made (e ∷ before) l

@@ -1,5 +1,5 @@
-//! What a run told, judged: its own history, as anybody reads it, has three yeses. And the laws of histories that were told say what the
-//! laws of runs say, of every history whose entries name labels as those of a run do.
+//! What a run told, judged: its own history, as anybody reads it, has three yeses. And the laws of histories that were
+//! told say what the laws of runs say, of every history whose entries name labels as those of a run do.
 #![tactic(auto)]
 
 mod law;

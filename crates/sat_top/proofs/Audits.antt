@@ -18,20 +18,9 @@ use Rattle.sat_top.proofs.Progress.{at_end, rest_of}
 
 -- ---- a text of so many bytes, or of fewer
 
-pub heard_short : (text : List ℕ) → length text ≤ MOST_HISTORY_BYTES → heard_in text ≡ history_of text
-unfolding heard_in
-heard_short text few = let is : nat_lt MOST_HISTORY_BYTES (length text) ≡ false = grind (arith, nat_tests) in rw is refl
-
 pub heard_long : (text : List ℕ) → MOST_HISTORY_BYTES < length text → heard_in text ≡ cut_off (history_of (take MOST_HISTORY_BYTES text))
 unfolding heard_in
 heard_long text many = let is : nat_lt MOST_HISTORY_BYTES (length text) ≡ true = grind (arith, nat_tests) in rw is refl
-
--- a text that is a history up to there is none beyond
-pub heard_cut : (text : List ℕ) (h : History) → MOST_HISTORY_BYTES < length text → history_of (take MOST_HISTORY_BYTES text) ≡ Ok h → heard_in text ≡ cut_off (Ok h)
-heard_cut text h many is = heard_long text many ∙ ap cut_off is
-
-pub heard_fault : (text : List ℕ) (fault : ScriptFault) → MOST_HISTORY_BYTES < length text → history_of (take MOST_HISTORY_BYTES text) ≡ Err fault → heard_in text ≡ Err fault
-heard_fault text fault many is = heard_long text many ∙ ap cut_off is
 
 cut_status : (r : Result History ScriptFault) → judged_status (cut_off r) ≡ 1
 cut_status (Ok h) = refl

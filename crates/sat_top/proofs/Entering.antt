@@ -10,7 +10,6 @@ use Rattle.sat_act.specs.Ranges.{IsActOf}
 use Rattle.sat_act.specs.Settling.{run, inner_entry, with_inner}
 use Rattle.sat_world.specs.Seen.{WorldSeen}
 use Rattle.sat_world.specs.Stands.{StandsFor}
-use Rattle.sat_draw.specs.Drawing.{drawing}
 use Rattle.sat_top.specs.Drawing.{outer, told_history}
 use Rattle.sat_runs.specs.Runs.{history}
 use Rattle.sat_runs.specs.Running.{entry, Does}
@@ -56,7 +55,3 @@ enter-next old new d acts n entries more x low is e now goes =
     subst (λ (d : Deployed). IsEntering d new more (take n acts ++ x ∷ [])) e (goes (take n acts) (subst (λ (d : Deployed). IsEntering d old entries (take n acts)) (sym e) now)) in
     let front : take (n + 1) acts ≡ take n acts ++ x ∷ [] = take_more acts n x low ∙ ap (λ (y : Act). take n acts ++ y ∷ []) (sym is) in
     subst (λ (before : List Act). IsEntering d new more before) (sym front) step
-
--- what is drawn of the entries is the drawing of the run
-pub draws : (d e : Deployed) (w : WorldSeen) (entries : List Entry) (acts : List Act) (text : List ℕ) → e ≡ d → IsEntering d w entries acts → text ≡ drawing e (reverse entries) → text ≡ drawing d (told_history d acts)
-draws d e w entries acts text same now is = is ∙ (ap (λ (d : Deployed). drawing d (reverse entries)) same ∙ ap (drawing d) now.entries_are)

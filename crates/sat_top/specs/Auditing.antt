@@ -19,11 +19,12 @@ abbrev pub cut_off : Result History ScriptFault → Result History ScriptFault
 cut_off (Ok h) = Err (record { line = line_behind h; cause = AfterEnd })
 cut_off (Err fault) = Err fault
 
--- the history that a text spells, or its first bad line. Of a text with more bytes than an audit reads, its first ones say it: no
--- history that is good has so many
+-- the history that a text spells, or its first bad line. Of a text with more bytes than an audit reads, its first ones
+-- say it: no history that is good has so many
 unfoldable pub heard_in : List ℕ → Result History ScriptFault
 unfolding history_of
-heard_in text = if nat_lt MOST_HISTORY_BYTES (length text) then cut_off (history_of (take MOST_HISTORY_BYTES text)) else history_of text
+heard_in text = if nat_lt MOST_HISTORY_BYTES (length text) then cut_off (history_of (take MOST_HISTORY_BYTES text))
+    else history_of text
 
 abbrev pub verdict_status : Bool → ℕ
 verdict_status true = 0
@@ -58,8 +59,8 @@ pub record IsAudited (input text : List ℕ) (status : ℕ) : Type 0 where
   pub status_is : status ≡ audit_status input
   pub verdict : IsTrueVerdict input
 
--- The source's text is a history. The sink took the verdict on it: of each law a yes where it holds, else the least entries that
--- offend; and whether there is a yes for each.
+-- The source's text is a history. The sink took the verdict on it: of each law a yes where it holds, else the least
+-- entries that offend; and whether there is a yes for each.
 pub record HasVerdict (all : Bool) (left : Option (List ℕ)) (old new : Told) : Type 0 where
   pub text : List ℕ
   pub whole : IfSome left (λ all. all ≡ text)

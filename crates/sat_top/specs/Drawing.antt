@@ -33,8 +33,9 @@ drawn (Some d) acts None = drawing d (told_history d acts)
 abbrev pub draw_text : Reading → List ℕ
 draw_text r = drawn r.deployment r.acts r.fault
 
--- the text spells a deployment and acts, and what `draw` makes of it is the drawing of their run: each act is drawn once, an act that was
--- done as done, and each line of a label, a payload or a beat begins where it was left last. This run is good
+-- the text spells a deployment and acts, and what `draw` makes of it is the drawing of their run: each act is drawn
+-- once, an act that was done as done, and each line of a label, a payload or a beat begins where it was left last. This
+-- run is good
 pub record IsGoodDrawing (text : List ℕ) : Type 0 where
   pub deployment : Deployed
   pub acts : List Act

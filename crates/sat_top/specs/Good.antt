@@ -13,7 +13,8 @@ use Rattle.sat_plan.specs.Steps.{built}
 use Rattle.sat_runs.specs.Good.{IsGoodRun}
 use Rattle.sat_runs.specs.Runs.{history, run_text}
 
--- the text spells a deployment and acts, what `run` makes of it is the report of their one history, and this history is good
+-- the text spells a deployment and acts, what `run` makes of it is the report of their one history, and this history is
+-- good
 pub record IsGoodScript (text : List ℕ) : Type 0 where
   pub deployment : Deployed
   pub acts : List Act
@@ -29,6 +30,8 @@ IsGoodFront text = (d : Deployed) → (reading false text).deployment ≡ Some d
 abbrev pub EveryReadingIsGood : Type 0
 EveryReadingIsGood = (text : List ℕ) → (reading false text).fault ≡ None → IsGoodScript text
 
--- where the text is a table of delays, no other delay of one edge of the tree that is built from it gives a lower mismatch
+-- where the text is a table of delays, no other delay of one edge of the tree that is built from it gives a lower
+-- mismatch
 abbrev pub IsBestPlan : List ℕ → Type 0
-IsBestPlan text = (d : DelayTable) → delays_in text ≡ Ok d → (e delay : ℕ) → mismatch d (built d) ≤ mismatch d (delayed (built d) e delay)
+IsBestPlan text = (d : DelayTable) → delays_in text ≡ Ok d → (e delay : ℕ)
+    → mismatch d (built d) ≤ mismatch d (delayed (built d) e delay)

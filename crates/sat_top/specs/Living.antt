@@ -1,5 +1,5 @@
--- What `live` does: nodes on threads do the acts of a script, and what is written tells of the history that happened. It depends on the
--- schedule, so no function of the script gives it.
+-- What `live` does: nodes on threads do the acts of a script, and what is written tells of the history that happened.
+-- It depends on the schedule, so no function of the script gives it.
 use Rattle.std.specs.Prelude.{ℕ, ◌≡◌, ◌≢◌, ◌≤◌, ◌+◌, ◌==◌, ◌||◌, ◌⊎◌, Bool, true, List, [], Option, Some, None, length}
 use Rattle.std.specs.Io.KnownBytes.{Consumes, IsAtEnd}
 use Rattle.sat_outside.specs.Causes.{Rose}
@@ -29,10 +29,11 @@ Tells None acts None output status = ⊥
 
 -- what is written of a text with a status
 abbrev pub TellsOf : List ℕ → List ℕ → ℕ → Type 0
-TellsOf text output status = Tells (reading true text).deployment (reading true text).acts (reading true text).fault output status
+TellsOf text output status =
+    Tells (reading true text).deployment (reading true text).acts (reading true text).fault output status
 
--- The source's text spells a deployment and acts, within the limits of nodes on threads. The sink took what is told, with this status,
--- of the history that the nodes made of them.
+-- The source's text spells a deployment and acts, within the limits of nodes on threads. The sink took what is told,
+-- with this status, of the history that the nodes made of them.
 pub record HasLived (status : ℕ) (left : Option (List ℕ)) (old new : Told) : Type 0 where
   pub text : List ℕ
   pub whole : IsTextOf left text
@@ -73,7 +74,8 @@ IsLiveStatus None status = is_told status ≡ true
 IsLiveStatus (Some fault) status = status ≡ 1
 
 -- What the top call does with `live`. The names are those of `MeetsCommand`.
-pub record MeetsLive (status : ℕ) (left left_after : Option (List ℕ)) (told told_after : Told) (failed failed_after refused refused_after ends ends_after : ℕ) : Type 0 where
+pub record MeetsLive (status : ℕ) (left left_after : Option (List ℕ)) (told told_after : Told)
+    (failed failed_after refused refused_after ends ends_after : ℕ) : Type 0 where
   -- the nodes came to an end, and the sink took the whole output
   pub lived : is_told status ≡ true → HasLived status left told told_after × IsAtEnd left_after
   pub bad : status ≡ 1 → HasLiveFault left told told_after
@@ -91,4 +93,5 @@ pub record MeetsLive (status : ℕ) (left left_after : Option (List ℕ)) (told 
   -- no count of faults falls
   pub later : (failed ≤ failed_after) × (refused ≤ refused_after)
   -- where neither has failed, the status is one of those that the text has, unless memory ran out
-  pub complete : (text : List ℕ) → left ≡ Some text → ¬ Rose failed failed_after → ¬ Rose refused refused_after → IsLiveStatus (reading true text).fault status ⊎ (status ≡ 5)
+  pub complete : (text : List ℕ) → left ≡ Some text → ¬ Rose failed failed_after → ¬ Rose refused refused_after
+      → IsLiveStatus (reading true text).fault status ⊎ (status ≡ 5)

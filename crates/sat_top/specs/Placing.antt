@@ -8,7 +8,8 @@ use Rattle.sat_place.specs.Texts.{place_text}
 
 -- where the text is a table with a tree, the placement that the definition finds is the least of this tree
 abbrev pub IsBestPlacement : List ℕ → Type 0
-IsBestPlacement text = (s : Shape) → shape_reading text ≡ Ok s → IsLeast s.table s.tree (least_places s.table s.tree) (worth s.table s.tree (least_places s.table s.tree))
+IsBestPlacement text = (s : Shape) → shape_reading text ≡ Ok s
+    → IsLeast s.table s.tree (least_places s.table s.tree) (worth s.table s.tree (least_places s.table s.tree))
 
 abbrev pub place_status : Result Shape DelayFault → ℕ
 place_status (Ok shape) = 0

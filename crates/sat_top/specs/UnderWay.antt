@@ -36,15 +36,18 @@ AtWorld (Some w) text acts = IsAnswering w.deployment w text acts
 
 -- these acts more were done, where so many had been done before; the text has their answers
 abbrev pub DoesMore : Option WorldSeen → ℕ → List Act → Option WorldSeen → List ℕ → Type 0
-DoesMore old count acts new text = (front : List ℕ) (done : List Act) → count ≡ length done → AtWorld old front done → AtWorld new (front ++ text) (done ++ acts)
+DoesMore old count acts new text = (front : List ℕ) (done : List Act) → count ≡ length done → AtWorld old front done
+    → AtWorld new (front ++ text) (done ++ acts)
 
 -- the sink took the rest of the report of a run that is at its end
 abbrev pub Ends : Option WorldSeen → ℕ → Reading → Told → Told → Type 0
-Ends w count r old new = (front : List ℕ) (done : List Act) → count ≡ length done → AtWorld w front done → (rest : List ℕ) × Takes old new rest × (front ++ rest ≡ run_text (behind done r))
+Ends w count r old new = (front : List ℕ) (done : List Act) → count ≡ length done → AtWorld w front done
+    → (rest : List ℕ) × Takes old new rest × (front ++ rest ≡ run_text (behind done r))
 
 -- or a front of it
 abbrev pub EndsBefore : Option WorldSeen → ℕ → Reading → Told → Told → Type 0
-EndsBefore w count r old new = (front : List ℕ) (done : List Act) → count ≡ length done → AtWorld w front done → (rest : List ℕ) × TakesFront old new rest × (front ++ rest ≡ run_text (behind done r))
+EndsBefore w count r old new = (front : List ℕ) (done : List Act) → count ≡ length done → AtWorld w front done
+    → (rest : List ℕ) × TakesFront old new rest × (front ++ rest ≡ run_text (behind done r))
 
 -- ---- counted
 

@@ -47,7 +47,8 @@ refusal = codes "words refused" ++ 10 ∷ []
 
 -- what the program says of itself
 abbrev pub help : List ℕ
-help = codes "saturn: causal order between sites that keep some items each\n\nusage: saturn COMMAND < INPUT\n\n  run          reads a script, and writes the report of its run\n  plan         reads a table of delays as JSON, and writes a tree of serializers\n  place        reads the same with a given tree, and writes the best places of its serializers\n  draw         reads a script, and writes a picture of its run as SVG\n  live         reads a script of clients, has nodes on threads do it, and writes its history\n  audit        reads the history of a store, and writes whether it is causal, shown once and fresh\n  chain R      reads a script whose serializers are chains of R replicas, and writes the report of its run\n  load SEED N  makes a script of N acts and six more, runs it, and writes a summary\n  --help       writes this text\n  --version    writes the version\n\nstatus: 0 done; 1 the input is refused, and the last line written says where; 2 no such command;\n        3 the input could not be read; 4 the output could not be written; 5 out of memory;\n        6 and 8 what the nodes did is not whole, and the output says why\n        7 the history that was judged is not causal, not shown once or not fresh\n"
+help =
+    codes "saturn: causal order between sites that keep some items each\n\nusage: saturn COMMAND < INPUT\n\n  run          reads a script, and writes the report of its run\n  plan         reads a table of delays as JSON, and writes a tree of serializers\n  place        reads the same with a given tree, and writes the best places of its serializers\n  draw         reads a script, and writes a picture of its run as SVG\n  live         reads a script of clients, has nodes on threads do it, and writes its history\n  audit        reads the history of a store, and writes whether it is causal, shown once and fresh\n  chain R      reads a script whose serializers are chains of R replicas, and writes the report of its run\n  load SEED N  makes a script of N acts and six more, runs it, and writes a summary\n  --help       writes this text\n  --version    writes the version\n\nstatus: 0 done; 1 the input is refused, and the last line written says where; 2 no such command;\n        3 the input could not be read; 4 the output could not be written; 5 out of memory;\n        6 and 8 what the nodes did is not whole, and the output says why\n        7 the history that was judged is not causal, not shown once or not fresh\n"
 
 abbrev pub version : List ℕ
 version = codes "saturn 0.1.0\n"
@@ -108,9 +109,10 @@ output_of words text = command_output (command_of words) text
 abbrev pub TakesFront : Told → Told → List ℕ → Type 0
 TakesFront old new bytes = (count : ℕ) × Takes old new (take count bytes)
 
--- The source's text spells a deployment and acts. The sink took the report of their one history, in which each site shows each
--- update at most once and after every cause that it keeps, no client reads older than it saw, and where nothing waits or is
--- under way each site holds its items' greatest versions. Each settle in it ends within its bound, and where it can, at rest.
+-- The source's text spells a deployment and acts. The sink took the report of their one history, in which each site
+-- shows each update at most once and after every cause that it keeps, no client reads older than it saw, and where
+-- nothing waits or is under way each site holds its items' greatest versions. Each settle in it ends within its bound,
+-- and where it can, at rest.
 pub record HasRun (left : Option (List ℕ)) (old new : Told) : Type 0 where
   pub text : List ℕ
   pub whole : IsTextOf left text
@@ -120,8 +122,8 @@ pub record HasRun (left : Option (List ℕ)) (old new : Told) : Type 0 where
   pub written : Takes old new (report deployment (history deployment acts))
   pub good : IsGoodRun deployment acts
 
--- The source's text has a first bad line. The sink took the answers of the acts before it, and then the fault's line; where the
--- header is bad, that line alone. The history of the acts before it is as good as that of a whole script.
+-- The source's text has a first bad line. The sink took the answers of the acts before it, and then the fault's line;
+-- where the header is bad, that line alone. The history of the acts before it is as good as that of a whole script.
 pub record HasFault (left : Option (List ℕ)) (old new : Told) : Type 0 where
   pub text : List ℕ
   pub whole : IsTextOf left text
@@ -129,8 +131,8 @@ pub record HasFault (left : Option (List ℕ)) (old new : Told) : Type 0 where
   pub written : Takes old new (run_text (reading false text))
   pub good : IsGoodFront text
 
--- The source's text spells a deployment and acts. The sink took the drawing of their run, in which each act is drawn once, an act that
--- was done as done, and each line of a label, a payload or a beat begins where it was left last.
+-- The source's text spells a deployment and acts. The sink took the drawing of their run, in which each act is drawn
+-- once, an act that was done as done, and each line of a label, a payload or a beat begins where it was left last.
 pub record HasDrawn (left : Option (List ℕ)) (old new : Told) : Type 0 where
   pub text : List ℕ
   pub whole : IsTextOf left text
@@ -150,8 +152,8 @@ pub record HasLineFault (left : Option (List ℕ)) (old new : Told) : Type 0 whe
   pub bad : (reading false text).fault ≡ Some fault
   pub written : Takes old new (fault_line fault)
 
--- The source's text is a table of delays. The sink took the text of the tree that is built from it, with its places, delays and
--- mismatch; no other delay of one edge, however great, gives a lower mismatch.
+-- The source's text is a table of delays. The sink took the text of the tree that is built from it, with its places,
+-- delays and mismatch; no other delay of one edge, however great, gives a lower mismatch.
 pub record HasPlan (left : Option (List ℕ)) (old new : Told) : Type 0 where
   pub text : List ℕ
   pub whole : IsTextOf left text
@@ -168,15 +170,16 @@ pub record HasDelayFault (left : Option (List ℕ)) (old new : Told) : Type 0 wh
   pub bad : delays_in text ≡ Err fault
   pub written : Takes old new (delay_fault_text fault)
 
--- The source's text is a table with a tree. The sink took the text of the tree's least placement: no other places have a lower
--- mismatch, and none that come before them an equal one.
+-- The source's text is a table with a tree. The sink took the text of the tree's least placement: no other places have
+-- a lower mismatch, and none that come before them an equal one.
 pub record HasPlacement (left : Option (List ℕ)) (old new : Told) : Type 0 where
   pub text : List ℕ
   pub whole : IsTextOf left text
   pub shape : Shape
   pub read : shape_reading text ≡ Ok shape
   pub written : Takes old new (least_text shape.table shape.tree)
-  pub least : IsLeast shape.table shape.tree (least_places shape.table shape.tree) (worth shape.table shape.tree (least_places shape.table shape.tree))
+  pub least : IsLeast shape.table shape.tree (least_places shape.table shape.tree)
+      (worth shape.table shape.tree (least_places shape.table shape.tree))
 
 -- The source's text is no table with a tree. The sink took the line of its first fault.
 pub record HasShapeFault (left : Option (List ℕ)) (old new : Told) : Type 0 where

@@ -26,7 +26,8 @@ chain_of None = None
 -- the command of two words
 unfoldable pub command_of_two : List ℕ → List ℕ → Option Command
 unfolding number_up_to
-command_of_two word replicas = if bytes_eq word (codes "chain") then chain_of (number_up_to MOST_REPLICAS replicas) else None
+command_of_two word replicas =
+    if bytes_eq word (codes "chain") then chain_of (number_up_to MOST_REPLICAS replicas) else None
 
 -- the load of two numbers: one below 2^64, and one from 2 up to the most that are drawn
 abbrev pub load_of : Option ℕ → Option ℕ → Option Command
@@ -37,7 +38,8 @@ load_of _ _ = None
 unfoldable pub command_of_three : List ℕ → List ℕ → List ℕ → Option Command
 unfolding number_up_to
 command_of_three word seed acts =
-    if bytes_eq word (codes "load") then load_of (number_up_to (2 ^ 64 - 1) seed) (number_up_to MOST_LOADED acts) else None
+    if bytes_eq word (codes "load") then load_of (number_up_to (2 ^ 64 - 1) seed) (number_up_to MOST_LOADED acts)
+    else None
 
 -- the command that the words say, None where they are no command
 unfoldable pub command_of : List (List ℕ) → Option Command

@@ -61,7 +61,8 @@ fn verdict_output(alloc: Global, history: &History) -> Result<Output, AllocError
 
 // The line of a fault, with status 1. Want of memory has no line.
 fn fault_output(alloc: Global, fault: &ScriptFault) -> Result<Output, AllocError>
-    ensures { IfOk result (λ out. (fault.now.cause ≢ Memory) × (out.text.items ≡ fault_line fault.now) × (out.status ≡ 1)) }
+    ensures { IfOk result (λ out. (fault.now.cause ≢ Memory) × (out.text.items ≡ fault_line fault.now)
+        × (out.status ≡ 1)) }
 {
     if fault.cause == Cause::Memory {
         return Err(AllocError);
@@ -71,8 +72,8 @@ fn fault_output(alloc: Global, fault: &ScriptFault) -> Result<Output, AllocError
     Ok(Output { text, status: 1 })
 }
 
-/// The verdict on the history that a text spells, with status 0 where it is a yes for each law, else with 7; or the line of its first
-/// fault, with status 1.
+/// The verdict on the history that a text spells, with status 0 where it is a yes for each law, else with 7; or the
+/// line of its first fault, with status 1.
 pub(crate) fn audit_of(alloc: Global, bytes: &[u8]) -> Result<Output, AllocError>
     ensures { IfOk result (λ out. IsAudited bytes.now out.text.items out.status) }
 {

@@ -1,4 +1,5 @@
-//! The program: it reads a script, runs it and writes the report or a drawing, or builds a tree of serializers from a table of delays.
+//! The program: it reads a script, runs it and writes the report or a drawing, or builds a tree of serializers from a
+//! table of delays.
 #![tactic(auto)]
 
 mod auditing;

@@ -14,7 +14,8 @@ use std::sync::Wait;
 use std::thread::Threads;
 use std::time::Clock;
 
-// Does what was read at nodes on threads, and makes what is told of their history; or the line of the first fault, and no node is made.
+// Does what was read at nodes on threads, and makes what is told of their history; or the line of the first fault, and
+// no node is made.
 fn tell<R: Threads + Wait + Clock + Sync, G: Gate>(
     rt: &R,
     alloc: Global,
@@ -44,7 +45,8 @@ fn tell<R: Threads + Wait + Clock + Sync, G: Gate>(
     }
 }
 
-/// Reads a script, has nodes on threads do its acts, and writes the history that happened, or why it is not whole. It answers the status.
+/// Reads a script, has nodes on threads do its acts, and writes the history that happened, or why it is not whole. It
+/// answers the status.
 pub(crate) fn lived<R: AllocGlobal + Threads + Wait + Clock + Sync, S: Source, K: Sink, G: Gate>(
     rt: &R,
     source: &mut S,
@@ -52,7 +54,8 @@ pub(crate) fn lived<R: AllocGlobal + Threads + Wait + Clock + Sync, S: Source, K
     gate: &G,
 ) -> u8
     ensures { MeetsLive result (S.left source.old) (S.left source.new) (K.told sink.old) (K.told sink.new)
-        (S.faults source.old) (S.faults source.new) (K.faults sink.old) (K.faults sink.new) (S.ends source.old) (S.ends source.new) }
+        (S.faults source.old) (S.faults source.new) (K.faults sink.old) (K.faults sink.new) (S.ends source.old)
+        (S.ends source.new) }
 {
     // Brings this law into the proof; it does nothing when it runs.
     one_spelling();

@@ -40,15 +40,16 @@ fn writes_in(answer: &Answer) -> u64
 #[inline(always)]
 fn lacks_seat(world: &World, client: u16) -> bool
     requires { client < length world.now.deployment.clients }
-    ensures { result ≡ true → (item : ℕ) (value : List ℕ) → Does world.now (act.Write client item value) (ans.Refused why.NoSession) world.now }
+    ensures { result ≡ true → (item : ℕ) (value : List ℕ)
+        → Does world.now (act.Write client item value) (ans.Refused why.NoSession) world.now }
 {
     // Brings these laws into the proof; they do nothing when they run.
     world_laws();
     world.client(client).seat.is_none()
 }
 
-// Does the write of a number. Most writes of a large script are refused since their client has no seat, so the value is made behind
-// that.
+// Does the write of a number. Most writes of a large script are refused since their client has no seat, so the value is
+// made behind that.
 #[inline(always)]
 fn write(
     alloc: Global,
@@ -100,7 +101,8 @@ fn count_draft(alloc: Global, world: &mut World, draft: Draft) -> Result<u64, Al
     requires act { IsActOf world.old.deployment (drafted draft) }
     ensures deployment { OnOk result (world.new.deployment ≡ world.old.deployment) }
     ensures one { IfOk result (λ wrote. wrote ≤ 1) }
-    ensures counting { IfOk result (λ wrote. (acts : List Act) (written : ℕ) → IsCounting world.old.deployment world.old written acts
+    ensures counting { IfOk result (λ wrote. (acts : List Act) (written : ℕ)
+        → IsCounting world.old.deployment world.old written acts
         → IsCounting world.old.deployment world.new (written + wrote) (acts ++ drafted draft ∷ [])) }
 {
     let answer = do_draft(alloc, world, draft)?;

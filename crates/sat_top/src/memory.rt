@@ -16,7 +16,8 @@ pub fn still_in_memory(
     room: usize,
 ) -> Result<(u8, CleanSink), AllocError>
     requires { 0 < piece }
-    ensures status { IfOk result (λ ended. (ended.0 ≡ status_of (map string_bytes words.now) text.items) ⊎ (ended.0 ≡ 5)) }
+    ensures status { IfOk result (λ ended. (ended.0 ≡ status_of (map string_bytes words.now) text.items)
+        ⊎ (ended.0 ≡ 5)) }
     ensures told { IfOk result (λ ended. ended.0 ≤ 2 → length (output_of (map string_bytes words.now) text.items) ≤ room
         → ⟦<CleanSink as Sink>⟧.told ended.1 [] ≡ Some (output_of (map string_bytes words.now) text.items)) }
 {

@@ -74,7 +74,8 @@ fn told(alloc: Global, text: &str) -> Result<Output, AllocError>
 fn draw<S: Source>(alloc: Global, source: &mut S) -> Result<Output, Stop>
     ensures output { IfOk result (λ out. IsOutput (Some Command.Draw) (S.left source.old) out.text.items out.status) }
     ensures end { IfOk result (λ out. out.status ≡ 0 → IsAtEnd (S.left source.new)) }
-    ensures bounded { (taken : List ℕ) × Consumes (S.left source.old) (S.left source.new) taken × (length taken ≤ most_taken (Some Command.Draw)) }
+    ensures bounded { (taken : List ℕ) × Consumes (S.left source.old) (S.left source.new) taken
+        × (length taken ≤ most_taken (Some Command.Draw)) }
     ensures stops { StopsReading false (S.left source.old) (S.left source.new) }
     ensures once { S.ends source.new ≤ S.ends source.old + 1 }
     ensures later { S.faults source.old ≤ S.faults source.new }
@@ -92,7 +93,8 @@ fn draw<S: Source>(alloc: Global, source: &mut S) -> Result<Output, Stop>
 fn plan<S: Source>(alloc: Global, source: &mut S) -> Result<Output, Stop>
     ensures output { IfOk result (λ out. IsOutput (Some Command.Plan) (S.left source.old) out.text.items out.status) }
     ensures end { IfOk result (λ out. out.status ≡ 0 → IsAtEnd (S.left source.new)) }
-    ensures bounded { (taken : List ℕ) × Consumes (S.left source.old) (S.left source.new) taken × (length taken ≤ most_taken (Some Command.Plan)) }
+    ensures bounded { (taken : List ℕ) × Consumes (S.left source.old) (S.left source.new) taken
+        × (length taken ≤ most_taken (Some Command.Plan)) }
     ensures once { S.ends source.new ≤ S.ends source.old + 1 }
     ensures later { S.faults source.old ≤ S.faults source.new }
     ensures failed { IsErrOf result Stop.Source → Rose (S.faults source.old) (S.faults source.new) }
@@ -106,7 +108,8 @@ fn plan<S: Source>(alloc: Global, source: &mut S) -> Result<Output, Stop>
 fn place<S: Source>(alloc: Global, source: &mut S) -> Result<Output, Stop>
     ensures output { IfOk result (λ out. IsOutput (Some Command.Place) (S.left source.old) out.text.items out.status) }
     ensures end { IfOk result (λ out. out.status ≡ 0 → IsAtEnd (S.left source.new)) }
-    ensures bounded { (taken : List ℕ) × Consumes (S.left source.old) (S.left source.new) taken × (length taken ≤ most_taken (Some Command.Place)) }
+    ensures bounded { (taken : List ℕ) × Consumes (S.left source.old) (S.left source.new) taken
+        × (length taken ≤ most_taken (Some Command.Place)) }
     ensures once { S.ends source.new ≤ S.ends source.old + 1 }
     ensures later { S.faults source.old ≤ S.faults source.new }
     ensures failed { IsErrOf result Stop.Source → Rose (S.faults source.old) (S.faults source.new) }
@@ -121,7 +124,8 @@ fn judge<S: Source>(alloc: Global, source: &mut S) -> Result<Output, Stop>
     ensures output { IfOk result (λ out. IsOutput (Some Command.Audit) (S.left source.old) out.text.items out.status) }
     ensures end { IfOk result (λ out. out.status ≡ 0 → IsAtEnd (S.left source.new)) }
     ensures found_end { IfOk result (λ out. out.status ≡ 7 → IsAtEnd (S.left source.new)) }
-    ensures bounded { (taken : List ℕ) × Consumes (S.left source.old) (S.left source.new) taken × (length taken ≤ most_taken (Some Command.Audit)) }
+    ensures bounded { (taken : List ℕ) × Consumes (S.left source.old) (S.left source.new) taken
+        × (length taken ≤ most_taken (Some Command.Audit)) }
     ensures once { S.ends source.new ≤ S.ends source.old + 1 }
     ensures later { S.faults source.old ≤ S.faults source.new }
     ensures failed { IsErrOf result Stop.Source → Rose (S.faults source.old) (S.faults source.new) }
@@ -139,7 +143,8 @@ pub(crate) fn place_wide<R: Threads + Sync, S: Source>(
 ) -> Result<Output, Stop>
     ensures output { IfOk result (λ out. IsOutput (Some Command.Place) (S.left source.old) out.text.items out.status) }
     ensures end { IfOk result (λ out. out.status ≡ 0 → IsAtEnd (S.left source.new)) }
-    ensures bounded { (taken : List ℕ) × Consumes (S.left source.old) (S.left source.new) taken × (length taken ≤ most_taken (Some Command.Place)) }
+    ensures bounded { (taken : List ℕ) × Consumes (S.left source.old) (S.left source.new) taken
+        × (length taken ≤ most_taken (Some Command.Place)) }
     ensures once { S.ends source.new ≤ S.ends source.old + 1 }
     ensures later { S.faults source.old ≤ S.faults source.new }
     ensures failed { IsErrOf result Stop.Source → Rose (S.faults source.old) (S.faults source.new) }
@@ -149,7 +154,8 @@ pub(crate) fn place_wide<R: Threads + Sync, S: Source>(
     Ok(output)
 }
 
-/// Does the command that the words say, where it writes nothing before its input is read, and makes what is to be written.
+/// Does the command that the words say, where it writes nothing before its input is read, and makes what is to be
+/// written.
 pub(crate) fn make_output<S: Source>(
     alloc: Global,
     words: &[String],
@@ -157,10 +163,14 @@ pub(crate) fn make_output<S: Source>(
 ) -> Result<Output, Stop>
     requires run { command_of (map string_bytes words.now) ≢ Some Run }
     requires chain { (replicas : ℕ) → command_of (map string_bytes words.now) ≢ Some (Chain replicas) }
-    ensures output { IfOk result (λ out. IsOutput (command_of (map string_bytes words.now)) (S.left source.old) out.text.items out.status) }
-    ensures end { IfOk result (λ out. reads (command_of (map string_bytes words.now)) ≡ true → out.status ≡ 0 → IsAtEnd (S.left source.new)) }
-    ensures found_end { IfOk result (λ out. command_of (map string_bytes words.now) ≡ Some Audit → out.status ≡ 7 → IsAtEnd (S.left source.new)) }
-    ensures bounded { (taken : List ℕ) × Consumes (S.left source.old) (S.left source.new) taken × (length taken ≤ most_taken (command_of (map string_bytes words.now))) }
+    ensures output { IfOk result
+        (λ out. IsOutput (command_of (map string_bytes words.now)) (S.left source.old) out.text.items out.status) }
+    ensures end { IfOk result (λ out. reads (command_of (map string_bytes words.now)) ≡ true → out.status ≡ 0
+        → IsAtEnd (S.left source.new)) }
+    ensures found_end { IfOk result (λ out. command_of (map string_bytes words.now) ≡ Some Audit → out.status ≡ 7
+        → IsAtEnd (S.left source.new)) }
+    ensures bounded { (taken : List ℕ) × Consumes (S.left source.old) (S.left source.new) taken
+        × (length taken ≤ most_taken (command_of (map string_bytes words.now))) }
     ensures stops { StopsReadingOf (command_of (map string_bytes words.now)) (S.left source.old) (S.left source.new) }
     ensures once { S.ends source.new ≤ S.ends source.old + 1 }
     ensures later { S.faults source.old ≤ S.faults source.new }

@@ -32,7 +32,8 @@ fn least_text(
 
 // The line of a fault, with status 1. Want of memory has no line.
 fn fault_output(alloc: Global, fault: &DelayFault) -> Result<Output, AllocError>
-    ensures { IfOk result (λ out. (fault.now ≢ DelayFault.Memory) × (out.text.items ≡ shape_fault_text fault.now) × (out.status ≡ 1)) }
+    ensures { IfOk result (λ out. (fault.now ≢ DelayFault.Memory) × (out.text.items ≡ shape_fault_text fault.now)
+        × (out.status ≡ 1)) }
 {
     if let DelayFault::Memory = fault {
         return Err(AllocError);
@@ -42,8 +43,8 @@ fn fault_output(alloc: Global, fault: &DelayFault) -> Result<Output, AllocError>
     Ok(Output { text, status: 1 })
 }
 
-/// The text of the least placement of the tree that stands in a text beside its table, with status 0, or the line of the text's
-/// first fault, with status 1.
+/// The text of the least placement of the tree that stands in a text beside its table, with status 0, or the line of
+/// the text's first fault, with status 1.
 pub(crate) fn place_of(alloc: Global, bytes: &[u8]) -> Result<Output, AllocError>
     ensures { IfOk result (λ out. IsPlaced bytes.now out.text.items out.status) }
 {

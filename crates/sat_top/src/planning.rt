@@ -14,8 +14,10 @@ use std::alloc::{AllocError, Global};
 
 // The text of the tree that is built from a table.
 fn built_text(alloc: Global, delays: &Delays) -> Result<Vec<u8>, AllocError>
-    ensures text { IfOk result (λ text. text.items ≡ config_text (built delays.now) (mismatch delays.now (built delays.now))) }
-    ensures best { IfOk result (λ _. (e delay : ℕ) → mismatch delays.now (built delays.now) ≤ mismatch delays.now (delayed (built delays.now) e delay)) }
+    ensures text { IfOk result (λ text. text.items
+        ≡ config_text (built delays.now) (mismatch delays.now (built delays.now))) }
+    ensures best { IfOk result (λ _. (e delay : ℕ) → mismatch delays.now (built delays.now)
+        ≤ mismatch delays.now (delayed (built delays.now) e delay)) }
 {
     let tree = build(alloc, delays)?;
     let mut text = Vec::new(alloc);
@@ -25,7 +27,8 @@ fn built_text(alloc: Global, delays: &Delays) -> Result<Vec<u8>, AllocError>
 
 // The line of a fault, with status 1. Want of memory has no line.
 fn fault_output(alloc: Global, fault: &DelayFault) -> Result<Output, AllocError>
-    ensures { IfOk result (λ out. (fault.now ≢ DelayFault.Memory) × (out.text.items ≡ fault_text fault.now) × (out.status ≡ 1)) }
+    ensures { IfOk result (λ out. (fault.now ≢ DelayFault.Memory) × (out.text.items ≡ fault_text fault.now)
+        × (out.status ≡ 1)) }
 {
     if let DelayFault::Memory = fault {
         return Err(AllocError);
@@ -35,7 +38,8 @@ fn fault_output(alloc: Global, fault: &DelayFault) -> Result<Output, AllocError>
     Ok(Output { text, status: 1 })
 }
 
-/// The text of the tree that is built from a text of delays, with status 0, or the line of its first fault, with status 1.
+/// The text of the tree that is built from a text of delays, with status 0, or the line of its first fault, with status
+/// 1.
 pub(crate) fn plan_of(alloc: Global, bytes: &[u8]) -> Result<Output, AllocError>
     ensures { IfOk result (λ out. IsPlanned bytes.now out.text.items out.status) }
 {

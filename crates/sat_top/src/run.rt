@@ -28,7 +28,8 @@ fn begin(
     requires acts { AreActsOf deployment.now acts.now }
     requires few { length acts.now ≤ MOST_ACTS }
     ensures deployment { IfOk result (λ world. world.deployment ≡ deployment.now) }
-    ensures running { IfOk result (λ world. text.old.items ≡ [] → IsAnswering deployment.now world text.new.items acts.now) }
+    ensures running { IfOk result (λ world. text.old.items ≡ []
+        → IsAnswering deployment.now world text.new.items acts.now) }
 {
     let deployment = deployment.copy()?;
     let mut world = World::new(alloc, deployment)?;
@@ -36,8 +37,8 @@ fn begin(
     Ok(world)
 }
 
-/// Does acts that come after so many others, and makes the text of their answers in the place of what the text was. The world is made
-/// as soon as the deployment is known.
+/// Does acts that come after so many others, and makes the text of their answers in the place of what the text was. The
+/// world is made as soon as the deployment is known.
 pub(crate) fn answer_more(
     alloc: Global,
     deployment: &Option<Deployment>,
@@ -79,8 +80,8 @@ fn write_ending(
     Ok(())
 }
 
-/// The rest of a report, where so many acts had been done: the answers of the acts that are left, and behind them the holdings, or
-/// the fault's line, in the place of what the text was.
+/// The rest of a report, where so many acts had been done: the answers of the acts that are left, and behind them the
+/// holdings, or the fault's line, in the place of what the text was.
 #[tactic(auto, unfolding(sat_runs::specs::Runs::run_text))]
 pub(crate) fn rest_text(
     alloc: Global,
@@ -93,7 +94,8 @@ pub(crate) fn rest_text(
     requires none { reading.now.deployment ≡ None → reading.now.acts ≡ [] }
     requires known { IsKnown reading.now.deployment world.old }
     requires few { before + length reading.now.acts ≤ MOST_ACTS }
-    ensures { OnOk result ((front : List ℕ) (done : List Act) → before ≡ length done → AtWorld world.old front done → front ++ text.new.items ≡ run_text (behind done reading.now)) }
+    ensures { OnOk result ((front : List ℕ) (done : List Act) → before ≡ length done → AtWorld world.old front done
+        → front ++ text.new.items ≡ run_text (behind done reading.now)) }
 {
     answer_more(
         alloc,

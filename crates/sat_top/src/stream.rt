@@ -50,7 +50,8 @@ pub enum Halt {
     Memory,
 }
 
-// Does the acts of a piece that a reader has taken, and makes the text of their answers in the place of what the text was.
+// Does the acts of a piece that a reader has taken, and makes the text of their answers in the place of what the text
+// was.
 fn answer_piece(
     alloc: Global,
     reader: &mut ScriptReader,
@@ -61,8 +62,10 @@ fn answer_piece(
     requires known { IsKnown reader.old.lines.deployment world.old }
     requires few { done.old + length reader.old.lines.acts ≤ MOST_ACTS }
     ensures reader { reader.new ≡ drained reader.old }
-    ensures script { (more : List ℕ) → will_be reader.old more ≡ behind reader.old.lines.acts (will_be reader.new more) }
-    ensures stays { (d : Deployed) (more : List ℕ) → reader.old.lines.deployment ≡ Some d → (will_be reader.new more).deployment ≡ Some d }
+    ensures script { (more : List ℕ) → will_be reader.old more
+        ≡ behind reader.old.lines.acts (will_be reader.new more) }
+    ensures stays { (d : Deployed) (more : List ℕ) → reader.old.lines.deployment ≡ Some d
+        → (will_be reader.new more).deployment ≡ Some d }
     ensures lacks { known_fault reader.old ≡ None → LacksOnlyItsEnd (will_be reader.new []) }
     ensures known { OnOk result (IsWorldOf reader.old.lines.deployment world.new) }
     ensures count { OnOk result (done.new ≡ done.old + length reader.old.lines.acts) }
@@ -97,7 +100,8 @@ fn end_script<K: Sink>(
     requires few { done + length reading.now.acts ≤ MOST_ACTS }
     ensures status { IfOk result (λ status. status ≡ run_status reading.now.fault) }
     ensures whole { OnOk result (Ends world.old done reading.now (K.told sink.old) (K.told sink.new)) }
-    ensures front { IsErrOf result Halt.Sink → EndsBefore world.old done reading.now (K.told sink.old) (K.told sink.new) }
+    ensures front { IsErrOf result Halt.Sink
+        → EndsBefore world.old done reading.now (K.told sink.old) (K.told sink.new) }
     ensures cause { IsErrOf result Halt.Sink → Rose (K.faults sink.old) (K.faults sink.new) }
     ensures nothing { IsErrOf result Halt.Memory → Takes (K.told sink.old) (K.told sink.new) [] }
     ensures causes { result ≢ Err Halt.Source }
@@ -112,24 +116,29 @@ fn end_script<K: Sink>(
     }
 }
 
-/// Runs a script: reads a piece, does the acts of each whole line in it, writes their answers, and reads on; at the end it writes
-/// the rest of the report. It keeps neither the text nor the acts. It answers 0, or 1 where the script has a bad line.
+/// Runs a script: reads a piece, does the acts of each whole line in it, writes their answers, and reads on; at the end
+/// it writes the rest of the report. It keeps neither the text nor the acts. It answers 0, or 1 where the script has a
+/// bad line.
 pub fn run_script<S: Source, K: Sink>(
     alloc: Global,
     source: &mut S,
     sink: &mut K,
 ) -> Result<u8, Halt>
-    ensures whole { IfOk result (λ status. (text : List ℕ) × IsOutput (Some Command.Run) (S.left source.old) text status × Takes (K.told sink.old) (K.told sink.new) text) }
+    ensures whole { IfOk result (λ status. (text : List ℕ) × IsOutput (Some Command.Run) (S.left source.old) text status
+        × Takes (K.told sink.old) (K.told sink.new) text) }
     ensures end { IfOk result (λ status. status ≡ 0 → IsAtEnd (S.left source.new)) }
     // The bytes taken have a bound, however much the source has.
-    ensures bounded { (taken : List ℕ) × Consumes (S.left source.old) (S.left source.new) taken × (length taken ≤ MOST_SCRIPT_BYTES + BUFFER_BYTES) }
+    ensures bounded { (taken : List ℕ) × Consumes (S.left source.old) (S.left source.new) taken
+        × (length taken ≤ MOST_SCRIPT_BYTES + BUFFER_BYTES) }
     // All that is read but the last bytes, at most a piece, has no bad line in it.
     ensures stops { StopsReading false (S.left source.old) (S.left source.new) }
     ensures failed { IsErrOf result Halt.Source → Rose (S.faults source.old) (S.faults source.new) }
-    ensures answered { IsErrOf result Halt.Source → HasAnswered (S.left source.old) (S.left source.new) (K.told sink.old) (K.told sink.new) }
+    ensures answered { IsErrOf result Halt.Source
+        → HasAnswered (S.left source.old) (S.left source.new) (K.told sink.old) (K.told sink.new) }
     ensures refused { IsErrOf result Halt.Sink → Rose (K.faults sink.old) (K.faults sink.new) }
     ensures front { OnErr result (HasFront (S.left source.old) (K.told sink.old) (K.told sink.new)) }
-    ensures stopped { OnErr result (WasAnswering (S.left source.old) (S.left source.new) (K.told sink.old) (K.told sink.new)) }
+    ensures stopped { OnErr result
+        (WasAnswering (S.left source.old) (S.left source.new) (K.told sink.old) (K.told sink.new)) }
     ensures once { S.ends source.new ≤ S.ends source.old + 1 }
     ensures later { S.faults source.old ≤ S.faults source.new }
     ensures kept { K.faults sink.old ≤ K.faults sink.new }
@@ -176,13 +185,15 @@ pub fn run_script<S: Source, K: Sink>(
     unreachable!()
 }
 
-/// Reads a script, for nodes on threads or not, until the source has no more, or the first bad line is known. Where the source fails, none
-/// of the whole lines that were read is bad.
+/// Reads a script, for nodes on threads or not, until the source has no more, or the first bad line is known. Where the
+/// source fails, none of the whole lines that were read is bad.
 pub fn read_script<S: Source>(alloc: Global, source: &mut S, live: bool) -> Result<Reading, Stop>
-    ensures script { IfOk result (λ found. (text : List ℕ) × IsTextOf (S.left source.old) text × (reading live text ≡ found)) }
+    ensures script { IfOk result (λ found. (text : List ℕ) × IsTextOf (S.left source.old) text
+        × (reading live text ≡ found)) }
     ensures end { IfOk result (λ found. found.fault ≡ None → IsAtEnd (S.left source.new)) }
     // The bytes taken have a bound, however much the source has.
-    ensures bounded { (taken : List ℕ) × Consumes (S.left source.old) (S.left source.new) taken × (length taken ≤ MOST_SCRIPT_BYTES + BUFFER_BYTES) }
+    ensures bounded { (taken : List ℕ) × Consumes (S.left source.old) (S.left source.new) taken
+        × (length taken ≤ MOST_SCRIPT_BYTES + BUFFER_BYTES) }
     // All that is read but the last bytes, at most a piece, has no bad line in it.
     ensures stops { StopsReading live (S.left source.old) (S.left source.new) }
     ensures once { S.ends source.new ≤ S.ends source.old + 1 }
@@ -217,7 +228,8 @@ pub fn read_script<S: Source>(alloc: Global, source: &mut S, live: bool) -> Resu
 fn read_past<S: Source>(alloc: Global, source: &mut S, most: usize) -> Result<Vec<u8>, Stop>
     ensures taken { IfOk result (λ found. Consumes (S.left source.old) (S.left source.new) found.items) }
     ensures end { IfOk result (λ found. length found.items ≤ most → IsAtEnd (S.left source.new)) }
-    ensures bounded { (taken : List ℕ) × Consumes (S.left source.old) (S.left source.new) taken × (length taken ≤ most + BUFFER_BYTES) }
+    ensures bounded { (taken : List ℕ) × Consumes (S.left source.old) (S.left source.new) taken
+        × (length taken ≤ most + BUFFER_BYTES) }
     ensures once { S.ends source.new ≤ S.ends source.old + 1 }
     ensures later { S.faults source.old ≤ S.faults source.new }
     ensures failed { IsErrOf result Stop.Source → Rose (S.faults source.old) (S.faults source.new) }
@@ -236,9 +248,11 @@ fn read_past<S: Source>(alloc: Global, source: &mut S, most: usize) -> Result<Ve
 
 /// Reads a text of delays: all that the source has, or more than such a text may have.
 pub fn read_delay_text<S: Source>(alloc: Global, source: &mut S) -> Result<Vec<u8>, Stop>
-    ensures text { IfOk result (λ found. (text : List ℕ) × IsTextOf (S.left source.old) text × (delays_in text ≡ delays_in found.items) × (shape_reading text ≡ shape_reading found.items)) }
+    ensures text { IfOk result (λ found. (text : List ℕ) × IsTextOf (S.left source.old) text
+        × (delays_in text ≡ delays_in found.items) × (shape_reading text ≡ shape_reading found.items)) }
     ensures end { IfOk result (λ found. length found.items ≤ MOST_BYTES → IsAtEnd (S.left source.new)) }
-    ensures bounded { (taken : List ℕ) × Consumes (S.left source.old) (S.left source.new) taken × (length taken ≤ MOST_DELAY_BYTES + BUFFER_BYTES) }
+    ensures bounded { (taken : List ℕ) × Consumes (S.left source.old) (S.left source.new) taken
+        × (length taken ≤ MOST_DELAY_BYTES + BUFFER_BYTES) }
     ensures once { S.ends source.new ≤ S.ends source.old + 1 }
     ensures later { S.faults source.old ≤ S.faults source.new }
     ensures failed { IsErrOf result Stop.Source → Rose (S.faults source.old) (S.faults source.new) }
@@ -249,9 +263,11 @@ pub fn read_delay_text<S: Source>(alloc: Global, source: &mut S) -> Result<Vec<u
 
 /// Reads the text of a history: all that the source has, or more than is read of one.
 pub fn read_history_text<S: Source>(alloc: Global, source: &mut S) -> Result<Vec<u8>, Stop>
-    ensures text { IfOk result (λ found. (text : List ℕ) × IsTextOf (S.left source.old) text × (heard_in text ≡ heard_in found.items)) }
+    ensures text { IfOk result (λ found. (text : List ℕ) × IsTextOf (S.left source.old) text
+        × (heard_in text ≡ heard_in found.items)) }
     ensures end { IfOk result (λ found. length found.items ≤ MOST_HISTORY_BYTES → IsAtEnd (S.left source.new)) }
-    ensures bounded { (taken : List ℕ) × Consumes (S.left source.old) (S.left source.new) taken × (length taken ≤ MOST_HISTORY_BYTES + BUFFER_BYTES) }
+    ensures bounded { (taken : List ℕ) × Consumes (S.left source.old) (S.left source.new) taken
+        × (length taken ≤ MOST_HISTORY_BYTES + BUFFER_BYTES) }
     ensures once { S.ends source.new ≤ S.ends source.old + 1 }
     ensures later { S.faults source.old ≤ S.faults source.new }
     ensures failed { IsErrOf result Stop.Source → Rose (S.faults source.old) (S.faults source.new) }

@@ -19,18 +19,21 @@ use std::sync::Wait;
 use std::thread::Threads;
 use std::time::Clock;
 
-/// Does the command that the words say, and answers its status. `run` and `chain` read a piece, do each whole line in it and write its
-/// answer before they read more; the other commands write nothing before they have read all. The statuses:
-/// 0, the command was done; 1, the input is refused; 2, the words are no command; 3, the source failed;
-/// 4, the sink failed; 5, memory ran out; 7, a history that was judged is not as it should be. It waits for nobody, and so `live` is none of its commands.
+/// Does the command that the words say, and answers its status. `run` and `chain` read a piece, do each whole line in
+/// it and write its answer before they read more; the other commands write nothing before they have read all. The
+/// statuses: 0, the command was done; 1, the input is refused; 2, the words are no command; 3, the source failed; 4,
+/// the sink failed; 5, memory ran out; 7, a history that was judged is not as it should be. It waits for nobody, and so
+/// `live` is none of its commands.
 pub fn still<S: Source, K: Sink>(
     alloc: Global,
     words: &[String],
     source: &mut S,
     sink: &mut K,
 ) -> u8
-    ensures meets { MeetsCommand (command_of (map string_bytes words.now)) result (S.left source.old) (S.left source.new) (K.told sink.old) (K.told sink.new)
-        (S.faults source.old) (S.faults source.new) (K.faults sink.old) (K.faults sink.new) (S.ends source.old) (S.ends source.new) }
+    ensures meets { MeetsCommand (command_of (map string_bytes words.now)) result (S.left source.old)
+        (S.left source.new) (K.told sink.old) (K.told sink.new)
+        (S.faults source.old) (S.faults source.new) (K.faults sink.old) (K.faults sink.new) (S.ends source.old)
+        (S.ends source.new) }
     // Words that ask for no input leave the source as it was.
     ensures unasked { reads (command_of (map string_bytes words.now)) ≡ false → source.new ≡ source.old }
 {
@@ -44,8 +47,10 @@ pub fn still<S: Source, K: Sink>(
 // Runs a script line by line, and answers the status.
 #[tactic(auto, using(crate::proofs::Done::is_done, crate::proofs::Done::is_refused, crate::proofs::Done::is_found, crate::proofs::Done::has_status))]
 fn streamed<S: Source, K: Sink>(alloc: Global, source: &mut S, sink: &mut K) -> u8
-    ensures meets { MeetsCommand (Some Run) result (S.left source.old) (S.left source.new) (K.told sink.old) (K.told sink.new)
-        (S.faults source.old) (S.faults source.new) (K.faults sink.old) (K.faults sink.new) (S.ends source.old) (S.ends source.new) }
+    ensures meets { MeetsCommand (Some Run) result (S.left source.old) (S.left source.new) (K.told sink.old)
+        (K.told sink.new)
+        (S.faults source.old) (S.faults source.new) (K.faults sink.old) (K.faults sink.new) (S.ends source.old)
+        (S.ends source.new) }
 {
     match run_script(alloc, source, sink) {
         Ok(status) => status,
@@ -60,8 +65,10 @@ fn streamed<S: Source, K: Sink>(alloc: Global, source: &mut S, sink: &mut K) -> 
 fn chained<S: Source, K: Sink>(alloc: Global, replicas: u16, source: &mut S, sink: &mut K) -> u8
     requires some { 1 ≤ replicas }
     requires few { replicas ≤ MOST_REPLICAS }
-    ensures meets { MeetsCommand (Some (Chain replicas)) result (S.left source.old) (S.left source.new) (K.told sink.old) (K.told sink.new)
-        (S.faults source.old) (S.faults source.new) (K.faults sink.old) (K.faults sink.new) (S.ends source.old) (S.ends source.new) }
+    ensures meets { MeetsCommand (Some (Chain replicas)) result (S.left source.old) (S.left source.new)
+        (K.told sink.old) (K.told sink.new)
+        (S.faults source.old) (S.faults source.new) (K.faults sink.old) (K.faults sink.new) (S.ends source.old)
+        (S.ends source.new) }
 {
     // Brings this law into the proof; it does nothing when it runs.
     good_chain_texts();
@@ -79,8 +86,10 @@ fn chained<S: Source, K: Sink>(alloc: Global, replicas: u16, source: &mut S, sin
 fn told<S: Source, K: Sink>(alloc: Global, words: &[String], source: &mut S, sink: &mut K) -> u8
     requires run { command_of (map string_bytes words.now) ≢ Some Run }
     requires chain { (replicas : ℕ) → command_of (map string_bytes words.now) ≢ Some (Chain replicas) }
-    ensures meets { MeetsCommand (command_of (map string_bytes words.now)) result (S.left source.old) (S.left source.new) (K.told sink.old) (K.told sink.new)
-        (S.faults source.old) (S.faults source.new) (K.faults sink.old) (K.faults sink.new) (S.ends source.old) (S.ends source.new) }
+    ensures meets { MeetsCommand (command_of (map string_bytes words.now)) result (S.left source.old)
+        (S.left source.new) (K.told sink.old) (K.told sink.new)
+        (S.faults source.old) (S.faults source.new) (K.faults sink.old) (K.faults sink.new) (S.ends source.old)
+        (S.ends source.new) }
     ensures unasked { reads (command_of (map string_bytes words.now)) ≡ false → source.new ≡ source.old }
 {
     let output = match make_output(alloc, words, source) {
@@ -103,8 +112,10 @@ fn placed<R: AllocGlobal + Threads + Sync, S: Source, K: Sink>(
     sink: &mut K,
 ) -> u8
     requires { command_of (map string_bytes words.now) ≡ Some Place }
-    ensures meets { MeetsCommand (command_of (map string_bytes words.now)) result (S.left source.old) (S.left source.new) (K.told sink.old) (K.told sink.new)
-        (S.faults source.old) (S.faults source.new) (K.faults sink.old) (K.faults sink.new) (S.ends source.old) (S.ends source.new) }
+    ensures meets { MeetsCommand (command_of (map string_bytes words.now)) result (S.left source.old)
+        (S.left source.new) (K.told sink.old) (K.told sink.new)
+        (S.faults source.old) (S.faults source.new) (K.faults sink.old) (K.faults sink.new) (S.ends source.old)
+        (S.ends source.new) }
 {
     let _ = words.len();
     let output = match place_wide(rt, rt.alloc(), source) {
@@ -118,8 +129,9 @@ fn placed<R: AllocGlobal + Threads + Sync, S: Source, K: Sink>(
     }
 }
 
-/// Does the command that the words say, as [`still`] does, but `place` on several threads; and `live`, whose workers call the gate. Its
-/// further statuses: 6, what nodes and sessions kept differs; 8, the history is not whole. `live` may wait.
+/// Does the command that the words say, as [`still`] does, but `place` on several threads; and `live`, whose workers
+/// call the gate. Its further statuses: 6, what nodes and sessions kept differs; 8, the history is not whole. `live`
+/// may wait.
 pub fn saturn<R: AllocGlobal + Threads + Wait + Clock + Sync, S: Source, K: Sink, G: Gate>(
     rt: &R,
     words: &[String],
@@ -127,9 +139,12 @@ pub fn saturn<R: AllocGlobal + Threads + Wait + Clock + Sync, S: Source, K: Sink
     sink: &mut K,
     gate: &G,
 ) -> u8
-    ensures meets { Meets (map string_bytes words.now) result (S.left source.old) (S.left source.new) (K.told sink.old) (K.told sink.new)
-        (S.faults source.old) (S.faults source.new) (K.faults sink.old) (K.faults sink.new) (S.ends source.old) (S.ends source.new) }
-    ensures unasked { is_live (map string_bytes words.now) ≡ false → reads (command_of (map string_bytes words.now)) ≡ false → source.new ≡ source.old }
+    ensures meets { Meets (map string_bytes words.now) result (S.left source.old) (S.left source.new) (K.told sink.old)
+        (K.told sink.new)
+        (S.faults source.old) (S.faults source.new) (K.faults sink.old) (K.faults sink.new) (S.ends source.old)
+        (S.ends source.new) }
+    ensures unasked { is_live (map string_bytes words.now) ≡ false
+        → reads (command_of (map string_bytes words.now)) ≡ false → source.new ≡ source.old }
 {
     if is_live(words) {
         return lived(rt, source, sink, gate);

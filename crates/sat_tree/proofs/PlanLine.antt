@@ -1,11 +1,8 @@
 -- Words with blanks before them, and between them.
 use Rattle.std.proofs.Common.{ℕ, zero, suc, ◌+◌, ◌≡◌, List, [], ◌∷◌, ◌++◌, map, take, Some, slice_get, refl, sym, ap, ◌∙◌, add-one}
-use Rattle.std.specs.Prelude.{codes}
 use Rattle.std.specs.List.{join_with_byte}
-use Rattle.std.specs.Fmt.{decimal}
 use Rattle.std.proofs.lemmas.List.{append_assoc, append-nil}
-use Rattle.sat_tree.specs.Shape.{TreeShape}
-use Rattle.sat_tree.specs.PlanLine.{spaced, parent_text, tree_words, tree_line}
+use Rattle.sat_tree.specs.PlanLine.{spaced}
 
 spaced_suc : {X : Type 0} (f : X → List ℕ) (xs : List X) (n : ℕ) (x : X) → slice_get xs n ≡ Some x →
     spaced (map f (take (suc n) xs)) ≡ spaced (map f (take n xs)) ++ 32 ∷ f x
@@ -29,15 +26,3 @@ pub spaced-append : (a b : List (List ℕ)) → spaced (a ++ b) ≡ spaced a ++ 
 spaced-append [] b = refl
 spaced-append (word ∷ a) b =
     ap (λ bs. 32 ∷ (word ++ bs)) (spaced-append a b) ∙ ap (λ bs. 32 ∷ bs) (sym (append_assoc word (spaced a) (spaced b)))
-
-words-joined : (parents seats : List (List ℕ)) →
-    (join_with_byte 32 (codes "plan" ∷ codes "tree" ∷ (parents ++ codes "/" ∷ seats)) ++ 10 ∷ [])
-    ≡ codes "plan tree" ++ (spaced parents ++ (codes " /" ++ (spaced seats ++ 10 ∷ [])))
-words-joined parents seats =
-    ap (λ bs. bs ++ 10 ∷ []) (joined-spaced (codes "plan") (codes "tree" ∷ (parents ++ codes "/" ∷ seats)) ∙ ap (λ bs. codes "plan tree" ++ bs) (spaced-append parents (codes "/" ∷ seats)))
-    ∙ simp append_assoc
-
--- a tree's line is its words with blanks between them, and a newline
-pub tree_line-words : (t : TreeShape) → tree_line t ≡ join_with_byte 32 (tree_words t) ++ 10 ∷ []
-unfolding tree_line
-tree_line-words t = sym (words-joined (map parent_text t.parents) (map decimal t.seats))

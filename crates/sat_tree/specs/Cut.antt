@@ -56,7 +56,8 @@ beyond t u v k = if hangs_on t v u then under t v k else not (under t u k)
 unfoldable pub neighbours : TreeShape → ℕ → List NodeId
 unfolding is_edge
 neighbours t z =
-    filter (λ n. is_edge t (Serializer z) n) (map Site (below (length t.seats)) ++ map Serializer (below (length t.parents)))
+    filter (λ n. is_edge t (Serializer z) n) (map Site (below (length t.seats))
+    ++ map Serializer (below (length t.parents)))
 
 -- a site or a serializer of the tree
 abbrev pub IsNode : TreeShape → NodeId → Type 0

@@ -19,4 +19,6 @@ tree_words t = codes "plan" ∷ codes "tree" ∷ (map parent_text t.parents ++ c
 
 -- the same as a line: `plan tree PARENTS / SEATS` and a newline
 unfoldable pub tree_line : TreeShape → List ℕ
-tree_line t = codes "plan tree" ++ (spaced (map parent_text t.parents) ++ (codes " /" ++ (spaced (map decimal t.seats) ++ 10 ∷ [])))
+tree_line t =
+    codes "plan tree"
+    ++ (spaced (map parent_text t.parents) ++ (codes " /" ++ (spaced (map decimal t.seats) ++ 10 ∷ [])))

@@ -46,7 +46,8 @@ fn first_wrong_parent(parents: &[Option<u16>]) -> Option<u16>
 #[tactic(auto, using(sat_label::proofs::First::first_start, sat_label::proofs::First::first_more, sat_label::proofs::First::first_here))]
 fn first_wrong_seat(parents: &[Option<u16>], seats: &[u16]) -> Option<u16>
     requires { length seats.now ≤ MOST_SITES }
-    ensures first { result ≡ first_failing (seat_fits (record { parents = parents.now; seats = seats.now })) (length seats.now) }
+    ensures first { result ≡ first_failing (seat_fits (record { parents = parents.now; seats = seats.now }))
+        (length seats.now) }
     ensures within { IfSome result (λ site. site < MOST_SITES) }
 {
     for site in 0..seats.len() as u16 {

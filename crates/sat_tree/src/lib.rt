@@ -1,5 +1,5 @@
-//! Trees of serializers with the sites at their leaves, as Saturn uses them to spread labels (Bravo, Rodrigues and Van Roy,
-//! EuroSys 2017).
+//! Trees of serializers with the sites at their leaves, as Saturn uses them to spread labels (Bravo, Rodrigues and Van
+//! Roy, EuroSys 2017).
 #![tactic(auto)]
 
 mod checks;

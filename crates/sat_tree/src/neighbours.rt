@@ -11,7 +11,8 @@ use std::alloc::{AllocError, Global};
 // The sites that are seated at a serializer.
 fn seated_at(alloc: Global, layout: &Layout, z: u16) -> Result<Nodes, AllocError>
     requires { z < length layout.now.parents }
-    ensures { IfOk result (λ nodes. nodes ≡ filter (is_edge layout.now (Serializer z)) (map Site (below (length layout.now.seats)))) }
+    ensures { IfOk result (λ nodes. nodes
+        ≡ filter (is_edge layout.now (Serializer z)) (map Site (below (length layout.now.seats)))) }
 {
     let mut nodes = Nodes::new(alloc);
     for site in 0..layout.sites() {

@@ -16,8 +16,8 @@ use sat_label::{NodeId, Nodes, SiteSet};
 use std::alloc::{AllocError, Global};
 use std::marker::Model;
 
-/// A tree of 1 to 15 serializers, each but the root hanging on one of a smaller number, and of at most 64 sites, each seated
-/// at one of them. Contracts see the list of parents, None for the root, and the list of seats.
+/// A tree of 1 to 15 serializers, each but the root hanging on one of a smaller number, and of at most 64 sites, each
+/// seated at one of them. Contracts see the list of parents, None for the root, and the list of seats.
 #[derive(Drop)]
 pub struct Tree {
     layout: Layout,
@@ -36,12 +36,13 @@ impl Model for Tree {
 
     ghost view = { λ a. a.layout };
 
-    ghost invariant = { λ a. (a.adjacent.items ≡ map (neighbours a.layout) (below (length a.layout.parents))) × IsSmallTree a.layout };
+    ghost invariant = { λ a. (a.adjacent.items ≡ map (neighbours a.layout) (below (length a.layout.parents)))
+        × IsSmallTree a.layout };
 }
 
 impl Tree {
-    /// The tree with these parents, None for the root, and these seats, one serializer a site. `TooMany` and `NotATree` say
-    /// what is wrong with them, and `Memory` that there was no room for a tree that is right.
+    /// The tree with these parents, None for the root, and these seats, one serializer a site. `TooMany` and `NotATree`
+    /// say what is wrong with them, and `Memory` that there was no room for a tree that is right.
     pub fn new(alloc: Global, parents: &[Option<u16>], seats: &[u16]) -> Result<Tree, TreeFault>
         requires { length seats.now ≤ MOST_SITES }
         ensures tree { IfOk result (λ t. t ≡ record { parents = parents.now; seats = seats.now }) }
@@ -134,7 +135,8 @@ impl Tree {
         requires u { IsNode self.now u }
         requires v { IsNode self.now v }
         requires edge { is_edge self.now u v ≡ true }
-        ensures beyond { (k : ℕ) → bit result.bits k ≡ (nat_lt k (length self.now.seats) && beyond self.now u v (Site k)) }
+        ensures beyond { (k : ℕ) → bit result.bits k
+            ≡ (nat_lt k (length self.now.seats) && beyond self.now u v (Site k)) }
         ensures limits { IsSmallTree self.now }
     {
         sides::beyond(&self.layout, u, v)

@@ -1,5 +1,5 @@
 -- The tables of what was counted, after one entry or one act more.
-use Rattle.std.proofs.Common.{◌≡◌, ◌≢◌, ℕ, zero, suc, ◌+◌, ◌<◌, ◌≤◌, ◌==◌, nat_lt, Bool, true, false, List, [], ◌∷◌, ◌++◌, length, filter, take, drop, get_or, set, Option, Some, None, if◌then◌else◌, ◌⊎◌, inl, inr, refl, sym, subst, ap, ◌∙◌, arith, add-one, drop-cons}
+use Rattle.std.proofs.Common.{◌≡◌, ◌≢◌, ℕ, suc, ◌+◌, ◌<◌, ◌≤◌, ◌==◌, nat_lt, Bool, true, false, List, [], ◌∷◌, ◌++◌, length, filter, take, drop, get_or, set, Option, Some, None, if◌then◌else◌, ◌⊎◌, inl, inr, refl, sym, subst, ap, ◌∙◌, arith, add-one, drop-cons}
 use Rattle.std.proofs.lemmas.Bool.{cases_eq}
 use Rattle.std.proofs.lemmas.Bool.Decides.{nat_tests}
 use Rattle.std.proofs.lemmas.List.{take_more, length-set, get_or-set_same, get_or-set_other}
@@ -8,7 +8,7 @@ use Rattle.sat_act.specs.declared.act.Act.{Act}
 use Rattle.sat_act.specs.declared.entry.Entry.{Entry}
 use Rattle.sat_stitch.specs.Places.{Session, Client, Operator, session_of, is_session}
 use Rattle.sat_undone.specs.declared.lacking.Tally.{Tally}
-use Rattle.sat_undone.specs.Undone.{session_at, number_of, is_by, is_of, entries_of, acts_of, waits, tally_by, next_tally, tally_from, no_tally, tally_of, lacks, undone_behind}
+use Rattle.sat_undone.specs.Undone.{session_at, number_of, is_by, is_of, entries_of, waits, tally_by, next_tally, tally_from, no_tally, tally_of, lacks, undone_behind}
 use Rattle.sat_undone.specs.Counted.{AreTallies, AreCounts}
 
 -- ---- numbers of sessions
@@ -98,13 +98,6 @@ tally_more clients k es e ts at old = record { all = length-set ts k (next_tally
 pub tally_other : (clients : ℕ) (es : List Entry) (e : Entry) (ts : List Tally) → number_of clients (session_of e.act) ≡ None → AreTallies clients es ts → AreTallies clients (es ++ e ∷ []) ts
 tally_other clients es e ts none old = record { all = old.all; each = λ n less. old.each n less ∙ sym (tally-not (session_at clients n) es e (is-none clients n (session_of e.act) none less)) }
 
--- a table of nothing, as it grows
-pub none_more : (ts : List Tally) → ((k : ℕ) → get_or ts k no_tally ≡ no_tally) → (k : ℕ) → get_or (ts ++ no_tally ∷ []) k no_tally ≡ no_tally
-none_more [] none zero = refl
-none_more [] none (suc k) = refl
-none_more (t ∷ ts) none zero = none zero
-none_more (t ∷ ts) none (suc k) = none_more ts (λ j. none (suc j)) k
-
 pub none_counted : (clients : ℕ) (ts : List Tally) → length ts ≡ clients + 1 → ((k : ℕ) → get_or ts k no_tally ≡ no_tally) → AreTallies clients [] ts
 unfolding tally_of
 none_counted clients ts all none = record { all = all; each = λ n less. none n }
@@ -139,33 +132,8 @@ longer : (xs : List Act) (x : Act) → length (xs ++ x ∷ []) ≡ length xs + 1
 longer [] x = refl
 longer (y ∷ xs) x = let e = longer xs x in omega (arith, e)
 
-acts-by : (s : Session) (acts : List Act) (a : Act) → is_of s a ≡ true → length (acts_of s (acts ++ a ∷ [])) ≡ length (acts_of s acts) + 1
-acts-by s acts a is = ap length (filter-by (is_of s) acts a true is) ∙ longer (acts_of s acts) a
-
-acts-not : (s : Session) (acts : List Act) (a : Act) → is_of s a ≡ false → length (acts_of s (acts ++ a ∷ [])) ≡ length (acts_of s acts)
-acts-not s acts a is = ap length (filter-by (is_of s) acts a false is ∙ none-more (acts_of s acts))
-
-pub count_one : (clients k : ℕ) (acts : List Act) (a : Act) (ns : List ℕ) → number_of clients (session_of a) ≡ Some k → AreCounts clients acts ns → AreCounts clients (acts ++ a ∷ []) (set ns k (get_or ns k 0 + 1))
-count_one clients k acts a ns at old = record { all = length-set ns k (get_or ns k 0 + 1) ∙ old.all; each = λ n less. go n less (cases_eq n k) }
-  where
-    small : k < clients + 1
-    small = number_is clients k (session_of a) at
-
-    here : get_or (set ns k (get_or ns k 0 + 1)) k 0 ≡ length (acts_of (session_at clients k) (acts ++ a ∷ []))
-    here =
-        get_or-set_same ns k (get_or ns k 0 + 1) 0 (omega (arith, old.all, small))
-        ∙ ap (λ (y : ℕ). y + 1) (old.each k small)
-        ∙ sym (acts-by (session_at clients k) acts a (is-it clients k (session_of a) at small))
-
-    go : (n : ℕ) → n < clients + 1 → (n ≡ k) ⊎ (n ≡ k → ⊥) → get_or (set ns k (get_or ns k 0 + 1)) n 0 ≡ length (acts_of (session_at clients n) (acts ++ a ∷ []))
-    go n less (inl same) = subst (λ m. get_or (set ns k (get_or ns k 0 + 1)) m 0 ≡ length (acts_of (session_at clients m) (acts ++ a ∷ []))) (sym same) here
-    go n less (inr other) = get_or-set_other ns k n (get_or ns k 0 + 1) 0 other ∙ old.each n less ∙ sym (acts-not (session_at clients n) acts a (is-other clients n k (session_of a) at less other))
-
 pub small_count : (clients k : ℕ) (acts : List Act) (ns : List ℕ) → AreCounts clients acts ns → k < clients + 1 → get_or ns k 0 ≤ length acts
 small_count clients k acts ns old less = subst (λ n. n ≤ length acts) (sym (old.each k less)) (few-filter (is_of (session_at clients k)) acts)
-
-pub count_other : (clients : ℕ) (acts : List Act) (a : Act) (ns : List ℕ) → number_of clients (session_of a) ≡ None → AreCounts clients acts ns → AreCounts clients (acts ++ a ∷ []) ns
-count_other clients acts a ns none old = record { all = old.all; each = λ n less. old.each n less ∙ sym (acts-not (session_at clients n) acts a (is-none clients n (session_of a) none less)) }
 
 -- ---- going through lists
 

@@ -54,13 +54,14 @@ has_to_wait a r = is_attach a && is_not_yet r
 abbrev pub waits : Entry → Bool
 waits e = has_to_wait e.act e.answer
 
--- what so many attaches in a row are that had to wait, the last of which is this, where nothing comes behind them: one act where they are
--- the most, else none
+-- what so many attaches in a row are that had to wait, the last of which is this, where nothing comes behind them: one
+-- act where they are the most, else none
 abbrev pub given_up : ℕ → Option Act → List Act
 given_up n None = []
 given_up n (Some a) = if nat_le MOST_TRIES n then a ∷ [] else []
 
--- the acts of these entries of one session, behind so many attaches in a row that had to wait: such an attach and the entry behind it are one act
+-- the acts of these entries of one session, behind so many attaches in a row that had to wait: such an attach and the
+-- entry behind it are one act
 abbrev pub acts_behind : ℕ → Option Act → List Entry → List Act
 acts_behind n o [] = given_up n o
 acts_behind n o (e ∷ es) = if waits e then acts_behind (n + 1) (Some e.act) es else e.act ∷ acts_behind 0 None es
@@ -94,10 +95,6 @@ tally_of s es = tally_from no_tally (entries_of s es)
 abbrev pub stopped : Tally → Bool
 stopped t = nat_le MOST_TRIES t.tries
 
--- how many acts were done
-abbrev pub acts_in : Tally → ℕ
-acts_in t = if stopped t then t.done + 1 else t.done
-
 -- ---- what is lacking
 
 -- the history lacks the act of this number of a session, unless its client stopped
@@ -116,7 +113,8 @@ abbrev pub undone_behind : List Entry → List Act → List Act → Option Act
 undone_behind es before [] = None
 undone_behind es before (a ∷ acts) = if lacks es before a then Some a else undone_behind es (before ++ a ∷ []) acts
 
--- the first act of a script that a history lacks, but for those that stand behind the most refused attaches of their client
+-- the first act of a script that a history lacks, but for those that stand behind the most refused attaches of their
+-- client
 unfoldable pub undone : List Entry → List Act → Option Act
 unfolding tally_of
 undone es acts = undone_behind es [] acts
@@ -132,8 +130,8 @@ pub record IsNext (t : Tally) (acts : List Act) (a : Act) : Type 0 where
   pub act : slice_get acts t.done ≡ Some a
   pub tries : t.tries < MOST_TRIES
 
--- behind entries of this tally, each of these entries is of the act that comes next. So behind an attach that has to wait stands the same
--- act, and behind the most tries of it nothing
+-- behind entries of this tally, each of these entries is of the act that comes next. So behind an attach that has to
+-- wait stands the same act, and behind the most tries of it nothing
 abbrev pub AreInTurn : Tally → List Act → List Entry → Type 0
 AreInTurn t acts [] = Unit {0}
 AreInTurn t acts (e ∷ es) = IsNext t acts e.act × AreInTurn (next_tally t e) acts es

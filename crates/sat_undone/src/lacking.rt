@@ -80,7 +80,8 @@ fn put_tally(tallies: &mut Vec<Tally>, place: usize, tally: Tally)
 // Counts an entry to its session.
 fn count_entry(tallies: &mut Vec<Tally>, clients: usize, entry: &Entry)
     requires { (es : List Line) × (length es + 1 < 2 ^ 64) × AreTallies clients es tallies.old.items }
-    ensures { (es : List Line) → AreTallies clients es tallies.old.items → AreTallies clients (es ++ entry.now ∷ []) tallies.new.items }
+    ensures { (es : List Line) → AreTallies clients es tallies.old.items
+        → AreTallies clients (es ++ entry.now ∷ []) tallies.new.items }
 {
     let Some(number) = session_number(clients, &entry.act) else {
         return;
@@ -149,8 +150,10 @@ fn lacks(tallies: &Vec<Tally>, counts: &mut Vec<u64>, clients: usize, act: &Act)
     requires known { IsKnown clients act.now }
     requires tallies { (es : List Line) × AreTallies clients es tallies.now.items }
     requires counts { (before : List Deed) × (length before + 1 < 2 ^ 64) × AreCounts clients before counts.old.items }
-    ensures lacks { (es : List Line) (before : List Deed) → AreTallies clients es tallies.now.items → AreCounts clients before counts.old.items → result ≡ lacks es before act.now }
-    ensures counts { (before : List Deed) → AreCounts clients before counts.old.items → AreCounts clients (before ++ act.now ∷ []) counts.new.items }
+    ensures lacks { (es : List Line) (before : List Deed) → AreTallies clients es tallies.now.items
+        → AreCounts clients before counts.old.items → result ≡ lacks es before act.now }
+    ensures counts { (before : List Deed) → AreCounts clients before counts.old.items
+        → AreCounts clients (before ++ act.now ∷ []) counts.new.items }
 {
     let Some(number) = session_number(clients, act) else {
         return false;
@@ -160,10 +163,10 @@ fn lacks(tallies: &Vec<Tally>, counts: &mut Vec<u64>, clients: usize, act: &Act)
     lacks_of(tally, count)
 }
 
-/// The first act of a script that a history of running nodes lacks, None where it lacks none: of a client, or of the operator, it
-/// lacks the k-th act where it has fewer than k of theirs, an attach that had to wait and the entry of its client behind it taken as
-/// one act. What stands behind `MOST_TRIES` such attaches in a row, with which a client stopped, is not asked for. Both lists are the
-/// oldest first, and `clients` is how many the deployment has.
+/// The first act of a script that a history of running nodes lacks, None where it lacks none: of a client, or of the
+/// operator, it lacks the k-th act where it has fewer than k of theirs, an attach that had to wait and the entry of its
+/// client behind it taken as one act. What stands behind `MOST_TRIES` such attaches in a row, with which a client
+/// stopped, is not asked for. Both lists are the oldest first, and `clients` is how many the deployment has.
 pub fn undone<'a>(
     alloc: Global,
     clients: u16,
@@ -171,7 +174,8 @@ pub fn undone<'a>(
     acts: &'a [Act],
 ) -> Result<Option<&'a Act>, AllocError>
     requires { AllByRecursion (IsKnown clients) acts.now }
-    ensures { IfOk result (λ first. MatchOption first (undone entries.now acts.now ≡ None) (λ act. undone entries.now acts.now ≡ Some act.now)) }
+    ensures { IfOk result (λ first. MatchOption first (undone entries.now acts.now ≡ None)
+        (λ act. undone entries.now acts.now ≡ Some act.now)) }
 {
     let clients = usize::from(clients);
     let tallies = tallies(alloc, clients, entries)?;

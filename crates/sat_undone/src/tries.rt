@@ -25,7 +25,8 @@ fn is_not_yet(answer: &Answer) -> bool
     }
 }
 
-/// Whether an act with this answer is an attach that has to wait: its client tries it again, `MOST_TRIES` times in a row at the most.
+/// Whether an act with this answer is an attach that has to wait: its client tries it again, `MOST_TRIES` times in a
+/// row at the most.
 pub fn has_to_wait(act: &Act, answer: &Answer) -> bool
     ensures { result ≡ has_to_wait act.now answer.now }
 {

@@ -219,17 +219,9 @@ maker-splits : (e : Tale) (h : List Tale) (b : Point) (n d : ℕ) → n < known 
 unfolding known
 maker-splits e h b n d k = chosen-splits (makes e b) n (known h (Maker b) d) (known h (Client (maker_of e)) d) k
 
--- what an entry reads, where it is of the client at all
-abbrev own_count : Tale → ℕ → (Point → ℕ) → ℕ
-own_count e c knew = if is_of e c then read_count e knew else 0
-
 own-more : (b : Bool) (n x : ℕ) → b ≡ true → n < x → n < (if b then x else 0)
 own-more true n x e l = l
 own-more false n x e l = absurd (cc)
-
-none-below : (b : Bool) (n x : ℕ) → n < (if b then x else 0) → b ≡ true
-none-below true n x l = refl
-none-below false n x l = absurd (omega arith)
 
 -- what a client's entry reads from a maker is learned
 read-learned : (e : Tale) (h : List Tale) (a : Point) (knows : Point → Type 0) → ((p : Point) → Within h (known h (Maker p)) a → knows p) →

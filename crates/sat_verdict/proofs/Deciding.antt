@@ -161,9 +161,6 @@ made-bound [] a n m = absurd m
 made-bound (e ∷ h) a n (inl m) = let l : n ≤ length h = made-bound h a n m in omega arith
 made-bound (e ∷ h) a n (inr m) = let l : n ≡ suc (length h) = m.1 in omega arith
 
-numbered : (o : Option ℕ) (b : Bool) (n : ℕ) → Option ℕ
-numbered o b n = elim o [ Some m ↦ Some m | None ↦ if b then Some n else None ]
-
 number-made : (h : List Tale) (e : Tale) (a : Point) (o : Option ℕ) (b : Bool) (n : ℕ) → ((m : ℕ) → o ≡ Some m → MadeAt h a m) → (b ≡ true → made_in e ≡ Some a) →
     elim o [ Some m ↦ Some m | None ↦ if b then Some (suc (length h)) else None ] ≡ Some n → MadeAt (e ∷ h) a n
 unfolding MadeAt

@@ -33,16 +33,6 @@ chosen_old : (o : Option ℕ) (b : Bool) (l n : ℕ) → o ≡ Some n → elim o
 chosen_old (Some m) b l n e = ap Some (some_is m n e)
 chosen_old None b l n e = absurd (cc)
 
-chosen_new : (o : Option ℕ) (b : Bool) (l : ℕ) → o ≡ None → b ≡ true → elim o [ Some m ↦ Some m | None ↦ if b then Some l else None ] ≡ Some l
-chosen_new (Some m) b l e t = absurd (cc)
-chosen_new None true l e t = refl
-chosen_new None false l e t = absurd (cc)
-
-chosen_none : (o : Option ℕ) (b : Bool) (l : ℕ) → o ≡ None → b ≡ false → ◌≡◌ {A = Option ℕ} (elim o [ Some m ↦ Some m | None ↦ if b then Some l else None ]) None
-chosen_none (Some m) b l e t = absurd (cc)
-chosen_none None true l e t = absurd (cc)
-chosen_none None false l e t = refl
-
 none_chosen : (o : Option ℕ) (b : Bool) (l : ℕ) → ◌≡◌ {A = Option ℕ} (elim o [ Some m ↦ Some m | None ↦ if b then Some l else None ]) None → (o ≡ None) × (b ≡ false)
 none_chosen (Some m) b l e = absurd (cc)
 none_chosen None true l e = absurd (cc)
@@ -56,14 +46,6 @@ some_chosen None false l n e = absurd (cc)
 pub made-older : (e : Tale) (h : List Tale) (p : Point) (n : ℕ) → made_number h p ≡ Some n → made_number (e ∷ h) p ≡ Some n
 unfolding made_number
 made-older e h p n m = chosen_old (made_number h p) (makes e p) (suc (length h)) n m
-
-pub made-newest : (e : Tale) (h : List Tale) (p : Point) → made_number h p ≡ None → makes e p ≡ true → made_number (e ∷ h) p ≡ Some (suc (length h))
-unfolding made_number
-made-newest e h p m t = chosen_new (made_number h p) (makes e p) (suc (length h)) m t
-
-pub unmade-still : (e : Tale) (h : List Tale) (p : Point) → made_number h p ≡ None → makes e p ≡ false → made_number (e ∷ h) p ≡ None
-unfolding made_number
-unmade-still e h p m t = chosen_none (made_number h p) (makes e p) (suc (length h)) m t
 
 pub made-splits : (e : Tale) (h : List Tale) (p : Point) (n : ℕ) → made_number (e ∷ h) p ≡ Some n → (made_number h p ≡ Some n) ⊎ ((made_number h p ≡ None) × (makes e p ≡ true) × (n ≡ suc (length h)))
 unfolding made_number
@@ -85,10 +67,6 @@ pub made-late : (g h : List Tale) (p : Point) (n : ℕ) → made_number h p ≡ 
 made-late [] h p n none m = absurd (let e : None ≡ Some n = sym none ∙ m in cc)
 made-late (e ∷ g) h p n none m =
     elim (made-splits e (g ++ h) p n m) [ inl x ↦ made-late g h p n none x | inr x ↦ (let l : length h ≤ length (g ++ h) = length-longer g h in let y : n ≡ suc (length (g ++ h)) = x.2 in omega arith) ]
-
-pub unmade-before : (g h : List Tale) (p : Point) → made_number (g ++ h) p ≡ None → made_number h p ≡ None
-unmade-before [] h p m = m
-unmade-before (e ∷ g) h p m = unmade-before g h p (unmade-parts e (g ++ h) p m).0
 
 pub made-number-bound : (h : List Tale) (p : Point) (n : ℕ) → made_number h p ≡ Some n → (0 < n) × (n ≤ length h)
 unfolding made_number
@@ -171,9 +149,6 @@ pub record StandsAt (xs : List Tale) (i : ℕ) (e : Tale) (before : List Tale) :
   pub below : length before < i
   pub entry : e ≡ get_or xs (length before) Other
   pub told_is : before ≡ told xs (length before)
-
-zero-told : (xs : List Tale) → told xs 0 ≡ []
-zero-told xs = refl
 
 stands-next : (xs : List Tale) (i : ℕ) (e : Tale) (before : List Tale) → i < length xs → (Stands (told xs i) e before → StandsAt xs i e before) → Stands (told xs (suc i)) e before →
     StandsAt xs (suc i) e before

@@ -108,9 +108,6 @@ links-step xs clients heads seen heads' next place v o e inv some below is seen_
     step : Linked xs clients (headed heads (place - 1) o) (set next (place - 1) (follower heads (length xs) o)) (place - 1)
     step = linked-next xs clients heads next (place - 1) o (subst (λ (n : ℕ). Linked xs clients heads next n) one inv.1) low below (is ∙ ap client_of (get_or_default xs (place - 1) e Other low))
 
-pub are-links : (xs : List Tale) (clients : ℕ) (heads next : List ℕ) → Linked xs clients heads next 0 → AreLinks xs next
-are-links xs clients heads next l = record { size = l.size; links = λ j low. l.links j (omega arith) low }
-
 -- ---- walks
 
 -- a walk over the entries of client c came from one place to another, and each of them on the way is such

@@ -3,27 +3,15 @@ use Rattle.std.specs.Prelude.{◌≡◌, ◌<◌, ◌+◌, ℕ, suc, Bool, true,
 use Rattle.std.specs.BTreeMap.{BTreeMap, get, is_at}
 use Rattle.std.specs.Map.{lookup}
 use Rattle.std.proofs.Common.{sym, subst, arith, ap, ◌∙◌}
-use Rattle.std.proofs.lemmas.Bool.Decides.{nat_tests}
 use Rattle.std.proofs.lemmas.List.{get_or_default}
 use Rattle.sat_label.specs.declared.point.Point.{Point}
-use Rattle.sat_label.specs.Order.{point_eq}
 use Rattle.sat_verdict.specs.declared.tale.Tale.{Tale}
 use Rattle.sat_verdict.specs.declared.tale.Tale.TheVariants.{Other}
-use Rattle.sat_verdict.specs.Entries.{made_in, makes}
+use Rattle.sat_verdict.specs.Entries.{makes}
 use Rattle.sat_verdict.specs.Found.{made_number}
 use Rattle.sat_verdict.specs.Tables.{point_cmp, told, IsUnique}
 use Rattle.sat_verdict.proofs.Counted.{yes-makes}
 use Rattle.sat_verdict.proofs.Histories.{told-next, told-length, told-split, unique-part}
-
--- points compare as their test says
-pub at_equal : (q p : Point) → is_at (point_cmp q) p ≡ point_eq q p
-at_equal q p = grind (arith, nat_tests)
-
-pub makes_at : (e : Tale) (b p : Point) → made_in e ≡ Some b → makes e p ≡ point_eq b p
-makes_at e b p m = ap (λ (o : Option Point). elim o [ None ↦ false | Some q ↦ point_eq q p ]) m
-
-pub makes_none : (e : Tale) (p : Point) → made_in e ≡ None → makes e p ≡ false
-makes_none e p m = ap (λ (o : Option Point). elim o [ None ↦ false | Some q ↦ point_eq q p ]) m
 
 noted : (o : Option ℕ) (b : Bool) (l : ℕ) → (b ≡ true → o ≡ None) → elim o [ Some m ↦ Some m | None ↦ if b then Some l else None ] ≡ (if b then Some l else o)
 noted (Some m) true l f = absurd (let e : Some m ≡ None = f refl in cc)

@@ -1,12 +1,11 @@
 -- What is noted for a reader: it only rises, and tells that a read missed nothing.
 use Rattle.std.specs.Prelude.{◌≡◌, ◌⊎◌, ◌<◌, ◌≤◌, ◌+◌, ◌-◌, ◌==◌, ◌&&◌, not, ℕ, zero, suc, Bool, true, false, List, [], ◌∷◌, length, get_or, set, Option, Some, None, refl, nat_lt, if◌then◌else◌}
 use Rattle.std.proofs.Common.{sym, subst, arith, inl, inr, ap, ◌∙◌}
-use Rattle.std.proofs.lemmas.Bool.{cases_eq, cases_lt, or_cases, eqb-true, eq-eqb}
+use Rattle.std.proofs.lemmas.Bool.{cases_eq, cases_lt}
 use Rattle.std.proofs.lemmas.Bool.Decides.{nat_tests}
-use Rattle.std.proofs.lemmas.List.{get_or-set_same, get_or-set_other, get_or_default, length-set}
+use Rattle.std.proofs.lemmas.List.{get_or-set_same, get_or-set_other, length-set}
 use Rattle.sat_label.specs.declared.point.Point.{Point}
 use Rattle.sat_label.specs.Order.{point_lt, point_le}
-use Rattle.sat_label.specs.Words.{has}
 use Rattle.sat_verdict.specs.declared.tale.Tale.{Tale}
 use Rattle.sat_verdict.specs.declared.tale.Tale.TheVariants.{Wrote, Moved, ReadNone, ReadSome, Shown, Other}
 use Rattle.sat_verdict.specs.declared.greatest.Noted.{Noted}
@@ -14,99 +13,15 @@ use Rattle.sat_verdict.specs.Entries.{client_of}
 use Rattle.sat_verdict.specs.Found.{miss_by}
 use Rattle.sat_verdict.specs.Tables.{option_of, scan}
 use Rattle.sat_verdict.specs.Passes.{item_of, passes, table_fresh, table_miss, table_misses}
-use Rattle.sat_verdict.specs.Walks.{IsOwn, IsPast, Linked}
-use Rattle.sat_verdict.specs.Greatest.{noted_for, nothing_noted, greatest_of, reaches, is_reached, Rises, AreNoted, Absorbs, AreAbsorbed, AreRead, AreFresh, is_none_above}
+use Rattle.sat_verdict.specs.Walks.{IsOwn, IsPast}
+use Rattle.sat_verdict.specs.Greatest.{greatest_of, reaches, is_reached, Rises, Absorbs, AreAbsorbed, AreRead, AreFresh, is_none_above}
 use Rattle.sat_verdict.proofs.Linkings.{Walked}
 use Rattle.sat_verdict.proofs.Clear.{scan-none, none-told, past-or-below, past-set}
-
--- ---- one point more under an item
-
-le_self : (p : Point) → point_le p p ≡ true
-le_self p = grind (arith, nat_tests)
-
-above : (p q r : Point) → point_le p q ≡ true → point_lt q r ≡ true → point_le p r ≡ true
-above p q r a b = grind (arith, nat_tests)
-
-not_below : (p q : Point) → point_lt q p ≡ false → point_le p q ≡ true
-not_below p q e = grind (arith, nat_tests)
-
-reached-for : (reader : ℕ) (last : Noted) (p : Point) → reaches (noted_for reader last) p ≡ true → (last.reader ≡ reader) × (point_le p last.point ≡ true)
-reached-for reader last p r = go (last.reader == reader) refl r
-  where
-    go : (t : Bool) → (last.reader == reader) ≡ t → reaches (if t then Some last.point else None) p ≡ true → (last.reader ≡ reader) × (point_le p last.point ≡ true)
-    go true e r = (eqb-true _ _ e, r)
-    go false e r = absurd (cc)
-
-for-reader : (reader : ℕ) (p q : Point) → point_le q p ≡ true → reaches (noted_for reader (record { reader = reader; point = p })) q ≡ true
-for-reader reader p q l = go (reader == reader) (eq-eqb reader reader refl)
-  where
-    go : (t : Bool) → t ≡ true → reaches (if t then Some p else None) q ≡ true
-    go true e = l
-    go false e = absurd (cc)
-
--- it stays as it was
-pub kept_reached : (noted : List Noted) (reader x : ℕ) (p : Point) (d : Noted) → x < length noted → (get_or noted x d).reader ≡ reader → point_lt (get_or noted x d).point p ≡ false → is_reached noted reader x p ≡ true
-kept_reached noted reader x p d few mine low =
-    subst (λ (l : Noted). reaches (noted_for reader l) p ≡ true) (get_or_default noted x d nothing_noted few) (go (get_or noted x d) mine low)
-  where
-    go : (last : Noted) → last.reader ≡ reader → point_lt last.point p ≡ false → reaches (noted_for reader last) p ≡ true
-    go last e l = pick (last.reader == reader) (eq-eqb _ _ e) (not_below p last.point l)
-      where
-        pick : (t : Bool) → t ≡ true → point_le p last.point ≡ true → reaches (if t then Some last.point else None) p ≡ true
-        pick true e m = m
-        pick false e m = absurd (cc)
-
-pub rises_still : (reader : ℕ) (noted : List Noted) → Rises reader noted noted
-rises_still reader noted x p r = r
-
-pub set_reached : (noted : List Noted) (reader x : ℕ) (p : Point) → x < length noted → is_reached (set noted x (record { reader = reader; point = p })) reader x p ≡ true
-set_reached noted reader x p few =
-    subst (λ (l : Noted). reaches (noted_for reader l) p ≡ true) (sym (get_or-set_same noted x (record { reader = reader; point = p }) nothing_noted few)) (for-reader reader p p (le_self p))
-
-pub set_rises : (noted : List Noted) (reader x : ℕ) (p : Point) (d : Noted) → x < length noted → ((get_or noted x d).reader ≡ reader → point_lt (get_or noted x d).point p ≡ true) →
-    Rises reader noted (set noted x (record { reader = reader; point = p }))
-set_rises noted reader x p d few up y q r = go (cases_eq y x)
-  where
-    last : get_or noted x d ≡ get_or noted x nothing_noted
-    last = get_or_default noted x d nothing_noted few
-
-    go : (y ≡ x) ⊎ (y ≡ x → ⊥) → is_reached (set noted x (record { reader = reader; point = p })) reader y q ≡ true
-    go (inl e) =
-        let old : reaches (noted_for reader (get_or noted x nothing_noted)) q ≡ true = subst (λ (n : ℕ). is_reached noted reader n q ≡ true) e r in
-        let w : ((get_or noted x d).reader ≡ reader) × (point_le q (get_or noted x d).point ≡ true) = reached-for reader (get_or noted x d) q (subst (λ (l : Noted). reaches (noted_for reader l) q ≡ true) (sym last) old) in
-        subst (λ (n : ℕ). is_reached (set noted x (record { reader = reader; point = p })) reader n q ≡ true) (sym e)
-        (subst (λ (l : Noted). reaches (noted_for reader l) q ≡ true) (sym (get_or-set_same noted x (record { reader = reader; point = p }) nothing_noted few))
-        (for-reader reader p q (above q (get_or noted x d).point p w.1 (up w.0))))
-    go (inr n) = subst (λ (l : Noted). reaches (noted_for reader l) q ≡ true) (sym (get_or-set_other noted x y (record { reader = reader; point = p }) nothing_noted n)) r
-
--- ---- several items
-
-pub none_noted : (noted : List Noted) (reader : ℕ) (p : Point) → AreNoted noted reader [] p
-none_noted noted reader p x e = absurd (cc)
-
-pub note_more : (old new : List Noted) (reader y : ℕ) (ys : List ℕ) (p : Point) → AreNoted old reader ys p → Rises reader old new → is_reached new reader y p ≡ true → AreNoted new reader (y ∷ ys) p
-note_more old new reader y ys p before up here x e =
-    elim (or_cases (y == x) (has ◌==◌ ys x) e) [
-      | inl f ↦ subst (λ (n : ℕ). is_reached new reader n p ≡ true) (eqb-true y x f) here
-      | inr f ↦ up x p (before x f)
-    ]
-
-pub rises_on : (reader : ℕ) (old mid new : List Noted) → Rises reader old mid → Rises reader mid new → Rises reader old new
-rises_on reader old mid new a b x p r = b x p (a x p r)
 
 -- ---- entries
 
 pub absorbs-rise : (xs : List Tale) (old new : List Noted) (reader number : ℕ) (e : Tale) → Rises reader old new → Absorbs xs old reader number e → Absorbs xs new reader number e
 absorbs-rise xs old new reader number e up all p x i l t = up x p (all p x i l t)
-
--- the items of an entry that is no update
-pub not_items : (x : ℕ) (e : Tale) (t : Bool) → item_of x e ≡ t → t ≡ true → (c : ℕ) × (xs : Rattle.sat_label.specs.declared.items.Items.Items) × (b : Point) × (e ≡ Wrote c xs b)
-not_items x (Wrote c xs b) t e f = (c, xs, b, refl)
-not_items x (Moved c b) t e f = absurd (cc)
-not_items x (ReadNone c y) t e f = absurd (cc)
-not_items x (ReadSome c y p) t e f = absurd (cc)
-not_items x (Shown k p) t e f = absurd (cc)
-not_items x Other t e f = absurd (cc)
 
 pub walked-rises : (xs : List Tale) (numbers : List ℕ) (old new : List Noted) (reader c from at : ℕ) → Rises reader old new →
     Walked xs (λ j. Absorbs xs old reader (get_or numbers j 0) (get_or xs j Other)) c from at → Walked xs (λ j. Absorbs xs new reader (get_or numbers j 0) (get_or xs j Other)) c from at
@@ -114,13 +29,6 @@ walked-rises xs numbers old new reader c from at up w =
     record { on = w.on; own = w.own; each = λ j a b o. absorbs-rise xs old new reader (get_or numbers j 0) (get_or xs j Other) up (w.each j a b o) }
 
 -- ---- places
-
-pub read-start : (xs : List Tale) (numbers : List ℕ) (noted : List Noted) (reader clients : ℕ) (heads next : List ℕ) → Linked xs clients heads next 0 → AreRead xs numbers noted reader heads
-read-start xs numbers noted reader clients heads next linked =
-    record { own = λ c l. (linked.heads_are c (less c l)).own; absorbed = λ c l j a b o. absurd ((linked.heads_are c (less c l)).none j a b o) }
-  where
-    less : (c : ℕ) → c < length heads → c < clients
-    less c m = let e : length heads ≡ clients = linked.clients_size in omega arith
 
 pub read-rises : (xs : List Tale) (numbers : List ℕ) (old new : List Noted) (reader : ℕ) (places : List ℕ) → Rises reader old new → AreRead xs numbers old reader places → AreRead xs numbers new reader places
 read-rises xs numbers old new reader places up r =

@@ -35,10 +35,6 @@ or_some : (a : Bool) → (a || true) ≡ true
 or_some true = refl
 or_some false = refl
 
-or_assoc : (a b c : Bool) → ((a || b) || c) ≡ (a || (b || c))
-or_assoc true b c = refl
-or_assoc false b c = refl
-
 and_true : (a : Bool) → (a && true) ≡ a
 and_true true = refl
 and_true false = refl

@@ -17,15 +17,18 @@ maker_of (Wrote c xs b) = c
 maker_of (Moved c b) = c
 maker_of _ = 0
 
--- a client's count after n entries and one more: of its own entries all, else the greater of what it knew and what it reads
+-- a client's count after n entries and one more: of its own entries all, else the greater of what it knew and what it
+-- reads
 abbrev pub next_count : Bool → Bool → ℕ → ℕ → ℕ → ℕ
 next_count own mine n old new = if own then suc n else if mine then max old new else old
 
 -- how many entries are known, counting those of all clients, when only those of client d are asked for
 unfoldable pub known : List Tale → Who → ℕ → ℕ
 known [] who d = 0
-known (e ∷ h) (Client c) d = next_count (d == c) (is_of e c) (length h) (known h (Client c) d) (read_count e (λ p. known h (Maker p) d))
-known (e ∷ h) (Maker b) d = if makes e b then max (known h (Maker b) d) (known h (Client (maker_of e)) d) else known h (Maker b) d
+known (e ∷ h) (Client c) d =
+    next_count (d == c) (is_of e c) (length h) (known h (Client c) d) (read_count e (λ p. known h (Maker p) d))
+known (e ∷ h) (Maker b) d =
+    if makes e b then max (known h (Maker b) d) (known h (Client (maker_of e)) d) else known h (Maker b) d
 
 -- an entry at place n wrote or read the point, and lies below its client's count
 abbrev pub AddedWithin : Tale → ℕ → (ℕ → ℕ) → Point → Type 0

@@ -48,7 +48,8 @@ has_item (e ∷ h) a x = has_item h a x || item_now a x e
 -- the number, from 1, of the first entry that made the point
 unfoldable pub made_number : List Tale → Point → Option ℕ
 made_number [] a = None
-made_number (e ∷ h) a = elim (made_number h a) [ Some n ↦ Some n | None ↦ if makes e a then Some (suc (length h)) else None ]
+made_number (e ∷ h) a =
+    elim (made_number h a) [ Some n ↦ Some n | None ↦ if makes e a then Some (suc (length h)) else None ]
 
 -- the lower of two numbers, of which each may be missing
 abbrev pub lower : Option ℕ → Option ℕ → Option ℕ
@@ -65,7 +66,8 @@ within_now test maker count n _ = None
 -- the least maker's number of a point that some entry below its client's count wrote or read, and that passes the test
 unfoldable pub least_within : (Point → Bool) → (Point → Option ℕ) → (ℕ → ℕ) → List Tale → Option ℕ
 least_within test maker count [] = None
-least_within test maker count (e ∷ h) = lower (least_within test maker count h) (within_now test maker count (length h) e)
+least_within test maker count (e ∷ h) =
+    lower (least_within test maker count h) (within_now test maker count (length h) e)
 
 -- whether site k replicates the point and didn't show it yet
 abbrev pub is_lacking : List SiteSet → List Tale → List Tale → ℕ → Point → Bool
@@ -73,7 +75,8 @@ is_lacking sets whole before k a = is_kept sets whole k a && not (has_shown befo
 
 -- the least number of a maker of a cause of b that site k lacks
 abbrev pub lack_at : List SiteSet → List Tale → List Tale → ℕ → Point → Option ℕ
-lack_at sets whole before k b = least_within (is_lacking sets whole before k) (made_number whole) (known whole (Maker b)) whole
+lack_at sets whole before k b =
+    least_within (is_lacking sets whole before k) (made_number whole) (known whole (Maker b)) whole
 
 abbrev pub lack_by : ℕ → ℕ → Option ℕ → Option (ℕ × ℕ × ℕ)
 lack_by n k None = None
@@ -95,7 +98,8 @@ first_lack sets whole [] = None
 first_lack sets whole (e ∷ before) = first (first_lack sets whole before) (lack_now sets whole before e)
 
 abbrev pub again_at : List SiteSet → List Tale → List Tale → ℕ → Point → Option ℕ
-again_at sets whole before k b = if has_shown before k b || not (is_kept sets whole k b) then Some (suc (length before)) else None
+again_at sets whole before k b =
+    if has_shown before k b || not (is_kept sets whole k b) then Some (suc (length before)) else None
 
 abbrev pub again_now : List SiteSet → List Tale → List Tale → Tale → Option ℕ
 again_now sets whole before (Wrote c xs b) = again_at sets whole before b.site b
@@ -117,9 +121,11 @@ miss_by n (Some m) = Some (n, m)
 
 abbrev pub miss_now : List Tale → List Tale → Tale → Option (ℕ × ℕ)
 miss_now whole before (ReadSome c x p) =
-    miss_by (suc (length before)) (least_within (is_missed whole x p) (made_number whole) (known before (Client c)) before)
+    miss_by (suc (length before))
+    (least_within (is_missed whole x p) (made_number whole) (known before (Client c)) before)
 miss_now whole before (ReadNone c x) =
-    miss_by (suc (length before)) (least_within (λ a. has_item whole a x) (made_number whole) (known before (Client c)) before)
+    miss_by (suc (length before))
+    (least_within (λ a. has_item whole a x) (made_number whole) (known before (Client c)) before)
 miss_now whole before _ = None
 
 -- the first read that missed an update of its past

@@ -39,15 +39,18 @@ AreNoted noted reader xs p = (x : ℕ) → has ◌==◌ xs x ≡ true → is_rea
 -- what an entry wrote or read is noted under each item of its maker, the entry with this number
 abbrev pub Absorbs : List Tale → List Noted → ℕ → ℕ → Tale → Type 0
 Absorbs tales noted reader number e =
-    (p : Point) (x : ℕ) → added_in e ≡ Some p → 0 < number → item_of x (get_or tales (number - 1) Other) ≡ true → is_reached noted reader x p ≡ true
+    (p : Point) (x : ℕ) → added_in e ≡ Some p → 0 < number → item_of x (get_or tales (number - 1) Other) ≡ true
+    → is_reached noted reader x p ≡ true
 
 -- so are all entries of client c from a place up to another
 abbrev pub AreAbsorbed : List Tale → List ℕ → List Noted → ℕ → ℕ → ℕ → ℕ → Type 0
 AreAbsorbed tales numbers noted reader c from to =
-    (j : ℕ) → from ≤ j → j < to → client_of (get_or tales j Other) ≡ Some c → Absorbs tales noted reader (get_or numbers j 0) (get_or tales j Other)
+    (j : ℕ) → from ≤ j → j < to → client_of (get_or tales j Other) ≡ Some c
+    → Absorbs tales noted reader (get_or numbers j 0) (get_or tales j Other)
 
 -- for each client, a place of its own below which all is noted for a reader
-pub record AreRead (tales : List Tale) (numbers : List ℕ) (noted : List Noted) (reader : ℕ) (places : List ℕ) : Type 0 where
+pub record AreRead (tales : List Tale) (numbers : List ℕ) (noted : List Noted) (reader : ℕ)
+    (places : List ℕ) : Type 0 where
   pub own : (c : ℕ) → c < length places → IsOwn tales c (get_or places c 0)
   pub absorbed : (c : ℕ) → c < length places → AreAbsorbed tales numbers noted reader c 0 (get_or places c 0)
 
@@ -58,4 +61,5 @@ is_none_above (Some q) read = not (passes read q)
 
 -- the marked entries missed nothing
 abbrev pub AreFresh : List Tale → List ℕ → List (List ℕ) → List Bool → Type 0
-AreFresh tales numbers rows fresh = (i : ℕ) → get_or fresh i false ≡ true → table_fresh tales numbers rows i (get_or tales i Other) ≡ None
+AreFresh tales numbers rows fresh =
+    (i : ℕ) → get_or fresh i false ≡ true → table_fresh tales numbers rows i (get_or tales i Other) ≡ None

@@ -17,18 +17,21 @@ CountsTellPasts = (h : List Tale) (who : Who) (a : Point) → Knows h who a ↔ 
 abbrev pub VerdictsAreFound : Type 0
 VerdictsAreFound =
     (sets : List SiteSet) (h : List Tale) →
-    IsCausalVerdict sets h (first_lack sets h h) × IsOnceVerdict sets h (first_again sets h h) × IsFreshVerdict h (first_miss h h)
+    IsCausalVerdict sets h (first_lack sets h h) × IsOnceVerdict sets h (first_again sets h h)
+    × IsFreshVerdict h (first_miss h h)
 
 -- where a verdict names entries, its law doesn't hold
 abbrev pub NosAreTrue : Type 0
 NosAreTrue =
     (sets : List SiteSet) (h : List Tale) →
-    ((v : ℕ × ℕ × ℕ) → IsCausalVerdict sets h (Some v) → Causal sets h → ⊥) × ((n : ℕ) → IsOnceVerdict sets h (Some n) → Once sets h → ⊥) ×
+    ((v : ℕ × ℕ × ℕ) → IsCausalVerdict sets h (Some v) → Causal sets h → ⊥)
+    × ((n : ℕ) → IsOnceVerdict sets h (Some n) → Once sets h → ⊥) ×
     ((v : ℕ × ℕ) → IsFreshVerdict h (Some v) → Fresh h → ⊥)
 
 -- a history has one verdict
 abbrev pub VerdictsAreUnique : Type 0
 VerdictsAreUnique =
     (sets : List SiteSet) (h : List Tale) →
-    ((u v : Option (ℕ × ℕ × ℕ)) → IsCausalVerdict sets h u → IsCausalVerdict sets h v → u ≡ v) × ((u v : Option ℕ) → IsOnceVerdict sets h u → IsOnceVerdict sets h v → u ≡ v) ×
+    ((u v : Option (ℕ × ℕ × ℕ)) → IsCausalVerdict sets h u → IsCausalVerdict sets h v → u ≡ v)
+    × ((u v : Option ℕ) → IsOnceVerdict sets h u → IsOnceVerdict sets h v → u ≡ v) ×
     ((u v : Option (ℕ × ℕ)) → IsFreshVerdict h u → IsFreshVerdict h v → u ≡ v)

@@ -58,7 +58,8 @@ KnowsNow h d now = (c : ℕ) → c < length now → (d == c) ≡ false → get_o
 
 -- a table has what the clients of the first n entries knew of client d before them
 abbrev pub IsColumnTo : List Tale → ℕ → List ℕ → ℕ → Type 0
-IsColumnTo tales d counts n = (j c : ℕ) → j < n → client_of (get_or tales j Other) ≡ Some c → get_or counts j 0 ≡ known (told tales j) (Client c) d
+IsColumnTo tales d counts n = (j c : ℕ) → j < n → client_of (get_or tales j Other) ≡ Some c
+    → get_or counts j 0 ≡ known (told tales j) (Client c) d
 
 -- in rows of counts by client, the counts of client d
 abbrev pub column : List (List ℕ) → ℕ → List ℕ
@@ -66,7 +67,8 @@ column rows d = map (λ row. get_or row d 0) rows
 
 -- a row for each entry: of each client, what the entry's client knew before it
 abbrev pub AreRows : List Tale → ℕ → List (List ℕ) → Type 0
-AreRows tales clients rows = (length rows ≡ length tales) × ((d : ℕ) → d < clients → IsColumnTo tales d (column rows d) (length tales))
+AreRows tales clients rows =
+    (length rows ≡ length tales) × ((d : ℕ) → d < clients → IsColumnTo tales d (column rows d) (length tales))
 
 -- so many zeros
 abbrev pub IsBlank : ℕ → List ℕ → Type 0
@@ -90,7 +92,8 @@ AreKept Changed old new =
 -- the row of a client is raised by so much of each client
 abbrev pub IsRaisedBy : (ℕ → ℕ) → ℕ → List (List ℕ) → List (List ℕ) → Type 0
 IsRaisedBy value c old new =
-    (d : ℕ) → c < length old → d < length (get_or old c []) → get_or (get_or new c []) d 0 ≡ max (get_or (get_or old c []) d 0) (value d)
+    (d : ℕ) → c < length old → d < length (get_or old c [])
+    → get_or (get_or new c []) d 0 ≡ max (get_or (get_or old c []) d 0) (value d)
 
 -- a client's row is raised to that of the entry with this number, if that is one of the first so many
 abbrev pub Raises : ℕ → ℕ → ℕ → List (List ℕ) → List (List ℕ) → List (List ℕ) → Type 0
@@ -110,7 +113,8 @@ option_of n = if n == 0 then None else Some n
 -- what one entry tells of what site k lacks when it shows the point that entry `made` (from 0) made
 abbrev pub table_lack_by : List (List ℕ) → List SiteSet → ℕ → ℕ → ℕ → ℕ → ℕ → Option ℕ
 table_lack_by rows unshown made k place number c =
-    if nat_lt place (get_or (get_or rows made []) c 0) && bit (get_or unshown (number - 1) no_sites).bits k then option_of number else None
+    if nat_lt place (get_or (get_or rows made []) c 0) && bit (get_or unshown (number - 1) no_sites).bits k
+    then option_of number else None
 
 abbrev pub table_lack : List (List ℕ) → List SiteSet → ℕ → ℕ → ℕ → ℕ → Tale → Option ℕ
 table_lack rows unshown made k place number (Wrote c xs b) = table_lack_by rows unshown made k place number c
@@ -123,8 +127,10 @@ scan f zero = None
 scan f (suc n) = lower (scan f n) (f n)
 
 abbrev pub table_lacks : List (List ℕ) → List SiteSet → List ℕ → List Tale → ℕ → ℕ → ℕ → Option ℕ
-table_lacks rows unshown numbers tales made k j = table_lack rows unshown made k j (get_or numbers j 0) (get_or tales j Other)
+table_lacks rows unshown numbers tales made k j =
+    table_lack rows unshown made k j (get_or numbers j 0) (get_or tales j Other)
 
 -- a table has, for each point that was made, the sites that keep it and didn't show it
 abbrev pub AreUnshown : List SiteSet → List Tale → List Tale → List SiteSet → Type 0
-AreUnshown sets whole before unshown = (p : Point) (n k : ℕ) → made_number whole p ≡ Some n → bit (get_or unshown (n - 1) no_sites).bits k ≡ is_lacking sets whole before k p
+AreUnshown sets whole before unshown = (p : Point) (n k : ℕ) → made_number whole p ≡ Some n
+    → bit (get_or unshown (n - 1) no_sites).bits k ≡ is_lacking sets whole before k p

@@ -5,7 +5,8 @@ use Rattle.sat_label.specs.declared.site_set.SiteSet.{SiteSet}
 use Rattle.sat_verdict.specs.declared.tale.Tale.{Tale}
 use Rattle.sat_verdict.specs.Goals.{ShowsNow, Lacks, Misses, ShowsNew, CausalTo, Causal, OnceTo, Once, FreshTo, Fresh, Stands, MadeAt}
 
--- entry n shows a point at site k that lacks a cause there, the one that entry m made and no lower entry; no entry before n does so
+-- entry n shows a point at site k that lacks a cause there, the one that entry m made and no lower entry; no entry
+-- before n does so
 pub record IsFirstLack (sets : List SiteSet) (h : List Tale) (n m k : ℕ) : Type 0 where
   pub entry : Tale
   pub before : List Tale
@@ -28,7 +29,8 @@ pub record IsFirstAgain (sets : List SiteSet) (h : List Tale) (n : ℕ) : Type 0
   pub first : OnceTo sets h before
   pub again : ShowsNew sets h before entry → ⊥
 
--- entry n is a read that missed an update of its past, the one that entry m made and no lower entry; no entry before n does so
+-- entry n is a read that missed an update of its past, the one that entry m made and no lower entry; no entry before n
+-- does so
 pub record IsFirstMiss (h : List Tale) (n m : ℕ) : Type 0 where
   pub entry : Tale
   pub before : List Tale

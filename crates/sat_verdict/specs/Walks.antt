@@ -61,10 +61,12 @@ is_open unshown k number _ = false
 -- no entry of client c from a place up to another is open
 abbrev pub AreClosed : List Tale → List ℕ → List SiteSet → ℕ → ℕ → ℕ → ℕ → Type 0
 AreClosed tales numbers unshown k c from to =
-    (j : ℕ) → from ≤ j → j < to → client_of (get_or tales j Other) ≡ Some c → is_open unshown k (get_or numbers j 0) (get_or tales j Other) ≡ false
+    (j : ℕ) → from ≤ j → j < to → client_of (get_or tales j Other) ≡ Some c
+    → is_open unshown k (get_or numbers j 0) (get_or tales j Other) ≡ false
 
 -- for each client, a place of its own below which no entry of it is open at site k
-pub record IsDone (tales : List Tale) (numbers : List ℕ) (unshown : List SiteSet) (k : ℕ) (places : List ℕ) : Type 0 where
+pub record IsDone (tales : List Tale) (numbers : List ℕ) (unshown : List SiteSet) (k : ℕ)
+    (places : List ℕ) : Type 0 where
   pub clients : HasClients (length places) tales
   pub own : (c : ℕ) → c < length places → IsOwn tales c (get_or places c 0)
   pub closed : (c : ℕ) → c < length places → AreClosed tales numbers unshown k c 0 (get_or places c 0)
@@ -76,4 +78,5 @@ AreDone tales numbers unshown done = (k : ℕ) → k < length done → IsDone ta
 -- a site lacks no cause of the point that it shows, which the entry with this number made
 abbrev pub IsClear : List Tale → List ℕ → List (List ℕ) → List SiteSet → Option ℕ → ℕ → Type 0
 IsClear tales numbers rows unshown None number = Unit {0}
-IsClear tales numbers rows unshown (Some k) number = 0 < number → scan (table_lacks rows unshown numbers tales (number - 1) k) (length tales) ≡ None
+IsClear tales numbers rows unshown (Some k) number =
+    0 < number → scan (table_lacks rows unshown numbers tales (number - 1) k) (length tales) ≡ None

@@ -37,7 +37,8 @@ fn row_before(
     Ok(row)
 }
 
-/// Raises what one client knows to what was known before the entry with this number, if that is one of the first so many.
+/// Raises what one client knows to what was known before the entry with this number, if that is one of the first so
+/// many.
 fn raise(now: &mut Vec<Row>, rows: &[Row], client: u16, number: u16, place: u16)
     ensures { Raises client number place rows.now now.old.items now.new.items }
 {

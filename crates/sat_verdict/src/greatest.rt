@@ -91,7 +91,8 @@ fn note_items(noted: &mut Vec<Noted>, reader: u16, items: &Items, point: &Point)
     }
 }
 
-/// Notes for a reader the point that an entry wrote or read, under each of its items: those of its maker, the entry with this number.
+/// Notes for a reader the point that an entry wrote or read, under each of its items: those of its maker, the entry
+/// with this number.
 pub fn absorb(noted: &mut Vec<Noted>, tales: &[Tale], reader: u16, tale: &Tale, number: u16)
     requires size { length noted.old.items ≡ 65536 }
     ensures size { length noted.new.items ≡ 65536 }

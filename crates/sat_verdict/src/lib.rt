@@ -1,7 +1,8 @@
 //! The verdict on a told history: whether each site showed causes first, each update once, and each client read fresh.
 //!
-//! The laws are those of causal consistency as Saturn keeps it (Bravo, Rodrigues and Van Roy, EuroSys 2017), read on what clients and sites
-//! were told. Of pasts nothing is kept but counts: of each client, how far its entries are known (after Lamport 1978).
+//! The laws are those of causal consistency as Saturn keeps it (Bravo, Rodrigues and Van Roy, EuroSys 2017), read on
+//! what clients and sites were told. Of pasts nothing is kept but counts: of each client, how far its entries are known
+//! (after Lamport 1978).
 #![tactic(auto)]
 
 mod counts;

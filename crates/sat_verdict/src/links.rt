@@ -8,7 +8,8 @@ use crate::Tale;
 use crate::row::filled;
 use std::alloc::{AllocError, Global};
 
-/// The first entry of each client, and behind each entry the next one of its client; where there is none, the number of all entries.
+/// The first entry of each client, and behind each entry the next one of its client; where there is none, the number of
+/// all entries.
 #[derive(Drop)]
 pub struct Links {
     /// The place of each client's first entry.

@@ -15,7 +15,8 @@ use std::collections::BTreeMap;
 
 /// Notes under the point that an entry made its number, if it made one.
 fn note(makers: &mut BTreeMap<Point, u16>, tale: &Tale, number: u16) -> Result<(), AllocError>
-    ensures { OnOk result ((p : points.Point) → get point_cmp makers.new p ≡ (if makes tale.now p then Some number else get point_cmp makers.old p)) }
+    ensures { OnOk result ((p : points.Point) → get point_cmp makers.new p
+        ≡ (if makes tale.now p then Some number else get point_cmp makers.old p)) }
 {
     if let Some(point) = tale.made() {
         makers.insert(point, number)?;
@@ -48,7 +49,8 @@ fn number_at(makers: &BTreeMap<Point, u16>, point: &Point) -> u16
 
 /// The number of the maker of an entry's point.
 fn number_of(makers: &BTreeMap<Point, u16>, tale: &Tale) -> u16
-    ensures { (whole : Rattle.std.specs.Prelude.List entries.Tale) → ((p : points.Point) → get point_cmp makers.now p ≡ made_number whole p) → result ≡ number_in whole tale.now }
+    ensures { (whole : Rattle.std.specs.Prelude.List entries.Tale)
+        → ((p : points.Point) → get point_cmp makers.now p ≡ made_number whole p) → result ≡ number_in whole tale.now }
 {
     match tale {
         Tale::Wrote { point, .. } => number_at(makers, point),

@@ -1,7 +1,7 @@
 //! A fast way to see that a read missed nothing.
 //!
-//! The reads of one client after another: for each other client a place is kept, below which all that this client wrote or read is
-//! noted. A client's past only grows, so each place only moves on.
+//! The reads of one client after another: for each other client a place is kept, below which all that this client wrote
+//! or read is noted. A client's past only grows, so each place only moves on.
 ghost use Rattle.std.specs.Prelude.{◌≡◌, ◌≤◌, ◌<◌, ℕ, [], None, false, length, get_or, slice_index, IsTrue, IfOk};
 ghost use Rattle.sat_verdict.specs.declared.limits.TheConstants.{MOST_ENTRIES};
 ghost use Rattle.sat_verdict.specs.Tables.{HasClients};
@@ -33,7 +33,8 @@ fn catch_up(
     requires links { AreLinks tales.now next.now }
     ensures size { length noted.new.items ≡ 65536 }
     ensures rises { Rises reader noted.old.items noted.new.items }
-    ensures walked { (c : ℕ) → IsOwn tales.now c from → IsOwn tales.now c result × IsPast tales.now to result × AreAbsorbed tales.now numbers.now noted.new.items reader c from result }
+    ensures walked { (c : ℕ) → IsOwn tales.now c from → IsOwn tales.now c result × IsPast tales.now to result
+        × AreAbsorbed tales.now numbers.now noted.new.items reader c from result }
 {
     let mut at = from;
     while at < to && (at as usize) < tales.len() {
@@ -62,7 +63,8 @@ fn catch_up_all(
     ensures size { length noted.new.items ≡ 65536 }
     ensures places { length places.new ≡ length places.old }
     ensures read { AreRead tales.now numbers.now noted.new.items reader places.new }
-    ensures past { (c : ℕ) → c < length places.new → IsPast tales.now (slice_index (get_or rows.now place []) c) (slice_index places.new c) }
+    ensures past { (c : ℕ) → c < length places.new
+        → IsPast tales.now (slice_index (get_or rows.now place []) c) (slice_index places.new c) }
 {
     let row = row_at(rows, place);
     for client in 0..places.len() {
@@ -106,7 +108,8 @@ fn is_fresh(
     ensures size { length noted.new.items ≡ 65536 }
     ensures places { length places.new ≡ length places.old }
     ensures read { AreRead tales.now numbers.now noted.new.items reader places.new }
-    ensures fresh { IsTrue result → table_fresh tales.now numbers.now rows.now place (get_or tales.now place variants.Other) ≡ None }
+    ensures fresh { IsTrue result
+        → table_fresh tales.now numbers.now rows.now place (get_or tales.now place variants.Other) ≡ None }
 {
     match &tales[place] {
         Tale::ReadSome { item, point, .. } => {

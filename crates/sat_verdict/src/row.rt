@@ -97,7 +97,8 @@ impl Row {
     /// Raises each number to that of some others at its place.
     pub fn raise(&mut self, others: &[u16])
         ensures size { length self.new ≡ length self.old }
-        ensures each { (k : ℕ) → k < length self.old → get_or self.new k 0 ≡ max (get_or self.old k 0) (get_or others.now k 0) }
+        ensures each { (k : ℕ) → k < length self.old → get_or self.new k 0
+            ≡ max (get_or self.old k 0) (get_or others.now k 0) }
     {
         let size = if self.counts.len() < others.len() {
             self.counts.len()

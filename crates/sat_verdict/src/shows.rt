@@ -130,12 +130,16 @@ fn next_once(
 
 /// Takes a site from those that did not show what an entry made.
 fn show(unshown: &mut Vec<SiteSet>, site: Option<u16>, number: u16)
-    ensures falls { (i j : ℕ) → bit (get_or unshown.new.items i no_sites).bits j ≡ true → bit (get_or unshown.old.items i no_sites).bits j ≡ true }
+    ensures falls { (i j : ℕ) → bit (get_or unshown.new.items i no_sites).bits j ≡ true
+        → bit (get_or unshown.old.items i no_sites).bits j ≡ true }
     ensures size { length unshown.new.items ≡ length unshown.old.items }
     ensures unmade { number ≡ 0 → unshown.new.items ≡ unshown.old.items }
     ensures still { site ≡ None → unshown.new.items ≡ unshown.old.items }
-    ensures apart { (i : ℕ) → i ≢ number - 1 → get_or unshown.new.items i no_sites ≡ get_or unshown.old.items i no_sites }
-    ensures here { (k j : ℕ) → site ≡ Some k → k < 64 → 0 < number → number ≤ length unshown.old.items → bit (get_or unshown.new.items (number - 1) no_sites).bits j ≡ (bit (get_or unshown.old.items (number - 1) no_sites).bits j && not (j == k)) }
+    ensures apart { (i : ℕ) → i ≢ number - 1 → get_or unshown.new.items i no_sites
+        ≡ get_or unshown.old.items i no_sites }
+    ensures here { (k j : ℕ) → site ≡ Some k → k < 64 → 0 < number → number ≤ length unshown.old.items
+        → bit (get_or unshown.new.items (number - 1) no_sites).bits j
+        ≡ (bit (get_or unshown.old.items (number - 1) no_sites).bits j && not (j == k)) }
 {
     if let Some(site) = site {
         if site < 64 && number > 0 && number as usize <= unshown.len() {

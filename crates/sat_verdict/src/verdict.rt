@@ -18,7 +18,8 @@ use std::alloc::{AllocError, Global};
 /// A verdict: `None` is a yes. Entries are numbered from 1.
 #[derive(Clone, Copy)]
 pub struct Verdict {
-    /// The first entry that shows a point where a cause is lacking, the least entry that made such a cause, and the site.
+    /// The first entry that shows a point where a cause is lacking, the least entry that made such a cause, and the
+    /// site.
     pub causal: Option<(u64, u64, u16)>,
     /// The first entry that shows a point again, or one that is no update of an item of the site.
     pub once: Option<u64>,
@@ -26,12 +27,13 @@ pub struct Verdict {
     pub fresh: Option<(u64, u64)>,
 }
 
-/// Judges a history, given the oldest entry first: exactly, and where each law holds in time of about its entries times its clients. A
-/// law that does not hold costs one pass over the entries more. `sets` has for each item the sites that replicate it; an item behind its
-/// end is replicated nowhere. It asks for at most [`MOST_ENTRIES`](crate::MOST_ENTRIES) entries, each of a client below `clients`, for sites
-/// that show below 64, and for no point that two entries made. A read is judged by what its client knew before it; the items and causes of
-/// a point are those of the entry that made it, wherever that stands. It takes memory for a count of each client for each entry of a
-/// client. Want of memory is the one error.
+/// Judges a history, given the oldest entry first: exactly, and where each law holds in time of about its entries times
+/// its clients. A law that does not hold costs one pass over the entries more. `sets` has for each item the sites that
+/// replicate it; an item behind its end is replicated nowhere. It asks for at most
+/// [`MOST_ENTRIES`](crate::MOST_ENTRIES) entries, each of a client below `clients`, for sites that show below 64, and
+/// for no point that two entries made. A read is judged by what its client knew before it; the items and causes of a
+/// point are those of the entry that made it, wherever that stands. It takes memory for a count of each client for each
+/// entry of a client. Want of memory is the one error.
 pub fn judge(
     alloc: Global,
     sets: &[SiteSet],

@@ -1,7 +1,7 @@
 //! A fast way to see that a site lacks no cause of what it shows.
 //!
-//! For each site and each client a place is kept: all that the client wrote or read below it was shown at the site, or has no item
-//! of the site. It stays so, since what was shown stays shown. So each place only moves on.
+//! For each site and each client a place is kept: all that the client wrote or read below it was shown at the site, or
+//! has no item of the site. It stays so, since what was shown stays shown. So each place only moves on.
 ghost use Rattle.std.specs.Prelude.{◌≡◌, ◌-◌, ◌==◌, ◌&&◌, not, ℕ, None, length, get_or, IfSome, IsTrue};
 ghost use Rattle.sat_label.specs.Words.{bit};
 ghost use Rattle.sat_verdict.specs.Goals.{no_sites};
@@ -31,7 +31,8 @@ fn is_open(tale: &Tale, number: u16, unshown: &[SiteSet], site: u16) -> bool
     }
 }
 
-/// Walks over one client's entries from one of them on, until none is left below a count. None where an entry is open on the way.
+/// Walks over one client's entries from one of them on, until none is left below a count. None where an entry is open
+/// on the way.
 fn walk(
     tales: &[Tale],
     numbers: &[u16],
@@ -43,7 +44,9 @@ fn walk(
 ) -> Option<u16>
     requires numbers { length numbers.now ≡ length tales.now }
     requires links { AreLinks tales.now next.now }
-    ensures { (c : ℕ) → IsOwn tales.now c from → IfSome result (λ at. IsOwn tales.now c at × IsPast tales.now to at × AreClosed tales.now numbers.now unshown.now site c from at) }
+    ensures { (c : ℕ) → IsOwn tales.now c from
+        → IfSome result (λ at. IsOwn tales.now c at × IsPast tales.now to at
+        × AreClosed tales.now numbers.now unshown.now site c from at) }
 {
     let mut at = from;
     while at < to && (at as usize) < tales.len() {
@@ -71,7 +74,8 @@ fn moves_on(
     requires links { AreLinks tales.now next.now }
     requires done { IsDone tales.now numbers.now unshown.now site done.old }
     ensures done { IsDone tales.now numbers.now unshown.now site done.new }
-    ensures clear { IsTrue result → scan (table_lacks rows.now unshown.now numbers.now tales.now made site) (length tales.now) ≡ None }
+    ensures clear { IsTrue result
+        → scan (table_lacks rows.now unshown.now numbers.now tales.now made site) (length tales.now) ≡ None }
 {
     let row = row_at(rows, made);
     for client in 0..done.len() {

@@ -27,11 +27,12 @@ pub record Code (A : Type 0) : Type 0 where
 abbrev pub AreBytes : List ℕ → Type 0
 AreBytes bytes = (i : ℕ) → slice_index bytes i < 256
 
--- What is spelled is read again, whatever follows; what is read was spelled so, and fits. A spelling has a greatest length, and
--- where a reading stops is a place of the bytes, or their end.
+-- What is spelled is read again, whatever follows; what is read was spelled so, and fits. A spelling has a greatest
+-- length, and where a reading stops is a place of the bytes, or their end.
 pub record IsExact {A : Type 0} (code : Code A) : Type 0 where
   pub again : (x : A) (rest : List ℕ) → code.fits x ≡ true → code.read (code.spell x ++ rest) ≡ Ok (x, rest)
-  pub only : (bytes rest : List ℕ) (x : A) → AreBytes bytes → code.read bytes ≡ Ok (x, rest) → (bytes ≡ code.spell x ++ rest) × (code.fits x ≡ true)
+  pub only : (bytes rest : List ℕ) (x : A) → AreBytes bytes → code.read bytes ≡ Ok (x, rest)
+      → (bytes ≡ code.spell x ++ rest) × (code.fits x ≡ true)
   pub short : (x : A) → code.fits x ≡ true → length (code.spell x) ≤ code.most
   pub inside : (bytes : List ℕ) (stop : Stop) → AreBytes bytes → code.read bytes ≡ Err stop → stop.left ≤ length bytes
 
@@ -152,7 +153,8 @@ optional code = record { spell = spelled_if code; read = read_if code; fits = fi
 -- so many values, one behind the other
 abbrev pub read_members : {A : Type 0} → Code A → ℕ → List ℕ → Read (List A)
 read_members code zero bytes = Ok ([], bytes)
-read_members code (suc n) bytes = and_then (code.read bytes) (λ x. and_then (read_members code n x.1) (λ xs. Ok (x.0 ∷ xs.0, xs.1)))
+read_members code (suc n) bytes =
+    and_then (code.read bytes) (λ x. and_then (read_members code n x.1) (λ xs. Ok (x.0 ∷ xs.0, xs.1)))
 
 abbrev pub all_fit : {A : Type 0} → Code A → List A → Bool
 all_fit code [] = true

@@ -32,7 +32,9 @@ abbrev pub point : Code Point
 point = mapped point_of parts_of_point point_parts
 
 pub exact_point : IsExact point
-exact_point = exact_mapped point_of parts_of_point (λ y. refl) (λ x. refl) point_parts (exact_both number64 (both number16 number16) exact64 (exact_both number16 number16 exact16 exact16))
+exact_point =
+    exact_mapped point_of parts_of_point (λ y. refl) (λ x. refl) point_parts
+    (exact_both number64 (both number16 number16) exact64 (exact_both number16 number16 exact16 exact16))
 
 -- ---- items
 
@@ -84,7 +86,8 @@ numbers_fit (Four a b c d) = four.fits (a, (b, (c, d)))
 
 -- by how many there are
 abbrev pub items_forms : List (List ℕ → Read Items)
-items_forms = (λ bytes. stopped cause.Items (suc (length bytes))) ∷ (λ bytes. made One (number16.read bytes)) ∷ (λ bytes. made two_of (two.read bytes)) ∷ (λ bytes. made three_of (three.read bytes))
+items_forms = (λ bytes. stopped cause.Items (suc (length bytes))) ∷ (λ bytes. made One (number16.read bytes))
+    ∷ (λ bytes. made two_of (two.read bytes)) ∷ (λ bytes. made three_of (three.read bytes))
     ∷ (λ bytes. made four_of (four.read bytes)) ∷ []
 
 -- one to four numbers, with their count in a byte before them
@@ -109,11 +112,20 @@ are_numbers = (
   ),
 )
 
-numbers_again : (x : Items) (rest : List ℕ) (left : ℕ) → numbers_fit x ≡ true → read_form cause.Items left (slice_get items_forms (items_number x)) (items_fields x ++ rest) ≡ Ok (x, rest)
-numbers_again (One a) rest left fit = form_again items_number items_fields numbers_fit One number16 exact16 1 (λ x. refl) (λ x. refl) (λ x. refl) a rest fit
-numbers_again (Two a b) rest left fit = form_again items_number items_fields numbers_fit two_of two exact_two 2 (λ x. refl) (λ x. refl) (λ x. refl) (a, b) rest fit
-numbers_again (Three a b c) rest left fit = form_again items_number items_fields numbers_fit three_of three exact_three 3 (λ x. refl) (λ x. refl) (λ x. refl) (a, (b, c)) rest fit
-numbers_again (Four a b c d) rest left fit = form_again items_number items_fields numbers_fit four_of four exact_four 4 (λ x. refl) (λ x. refl) (λ x. refl) (a, (b, (c, d))) rest fit
+numbers_again : (x : Items) (rest : List ℕ) (left : ℕ) → numbers_fit x ≡ true
+    → read_form cause.Items left (slice_get items_forms (items_number x)) (items_fields x ++ rest) ≡ Ok (x, rest)
+numbers_again (One a) rest left fit =
+    form_again items_number items_fields numbers_fit One number16 exact16 1 (λ x. refl) (λ x. refl)
+    (λ x. refl) a rest fit
+numbers_again (Two a b) rest left fit =
+    form_again items_number items_fields numbers_fit two_of two exact_two 2 (λ x. refl) (λ x. refl) (λ x. refl)
+    (a, b) rest fit
+numbers_again (Three a b c) rest left fit =
+    form_again items_number items_fields numbers_fit three_of three exact_three 3 (λ x. refl) (λ x. refl) (λ x. refl)
+    (a, (b, c)) rest fit
+numbers_again (Four a b c d) rest left fit =
+    form_again items_number items_fields numbers_fit four_of four exact_four 4 (λ x. refl) (λ x. refl) (λ x. refl)
+    (a, (b, (c, d))) rest fit
 
 numbers_short : (x : Items) → numbers_fit x ≡ true → length (items_fields x) ≤ 8
 numbers_short (One a) fit = omega (arith, exact16.short a fit)
@@ -122,7 +134,8 @@ numbers_short (Three a b c) fit = omega (arith, exact_three.short (a, (b, c)) fi
 numbers_short (Four a b c d) fit = omega (arith, exact_four.short (a, (b, (c, d))) fit)
 
 pub exact_numbers : IsExact numbers
-exact_numbers = exact_chosen items_number items_fields numbers_fit cause.Items 8 items_forms are_numbers numbers_again numbers_short
+exact_numbers =
+    exact_chosen items_number items_fields numbers_fit cause.Items 8 items_forms are_numbers numbers_again numbers_short
 
 abbrev pub ascend : Items → Bool
 ascend x = are_items (list_of x)
@@ -163,7 +176,8 @@ abbrev pub pulse_of : Unit {0} → Kind
 pulse_of x = kind.Pulse
 
 abbrev pub kind_forms : List (List ℕ → Read Kind)
-kind_forms = (λ bytes. made kind.Update (items.read bytes)) ∷ (λ bytes. made kind.Move (number16.read bytes)) ∷ (λ bytes. made pulse_of (nothing.read bytes)) ∷ (λ bytes. made kind.Close (number16.read bytes)) ∷ []
+kind_forms = (λ bytes. made kind.Update (items.read bytes)) ∷ (λ bytes. made kind.Move (number16.read bytes))
+    ∷ (λ bytes. made pulse_of (nothing.read bytes)) ∷ (λ bytes. made kind.Close (number16.read bytes)) ∷ []
 
 -- an update 0 and its items, a move 1 and its site, a pulse 2, a close 3 and its epoch
 abbrev pub label_kind : Code Kind
@@ -184,11 +198,18 @@ are_kinds = (
   ),
 )
 
-kind_again : (x : Kind) (rest : List ℕ) (left : ℕ) → kind_fits x ≡ true → read_form cause.Kind left (slice_get kind_forms (kind_number x)) (kind_fields x ++ rest) ≡ Ok (x, rest)
-kind_again (kind.Update x) rest left fit = form_again kind_number kind_fields kind_fits kind.Update items exact_items 0 (λ x. refl) (λ x. refl) (λ x. refl) x rest fit
-kind_again (kind.Move j) rest left fit = form_again kind_number kind_fields kind_fits kind.Move number16 exact16 1 (λ x. refl) (λ x. refl) (λ x. refl) j rest fit
+kind_again : (x : Kind) (rest : List ℕ) (left : ℕ) → kind_fits x ≡ true
+    → read_form cause.Kind left (slice_get kind_forms (kind_number x)) (kind_fields x ++ rest) ≡ Ok (x, rest)
+kind_again (kind.Update x) rest left fit =
+    form_again kind_number kind_fields kind_fits kind.Update items exact_items 0 (λ x. refl) (λ x. refl)
+    (λ x. refl) x rest fit
+kind_again (kind.Move j) rest left fit =
+    form_again kind_number kind_fields kind_fits kind.Move number16 exact16 1 (λ x. refl) (λ x. refl)
+    (λ x. refl) j rest fit
 kind_again kind.Pulse rest left fit = refl
-kind_again (kind.Close e) rest left fit = form_again kind_number kind_fields kind_fits kind.Close number16 exact16 3 (λ x. refl) (λ x. refl) (λ x. refl) e rest fit
+kind_again (kind.Close e) rest left fit =
+    form_again kind_number kind_fields kind_fits kind.Close number16 exact16 3 (λ x. refl) (λ x. refl)
+    (λ x. refl) e rest fit
 
 kind_short : (x : Kind) → kind_fits x ≡ true → length (kind_fields x) ≤ 9
 kind_short (kind.Update x) fit = omega (arith, exact_items.short x fit)
@@ -210,7 +231,9 @@ abbrev pub label : Code Label
 label = mapped label_of parts_of_label (both point label_kind)
 
 pub exact_label : IsExact label
-exact_label = exact_mapped label_of parts_of_label (λ y. refl) (λ x. refl) (both point label_kind) (exact_both point label_kind exact_point exact_kind)
+exact_label =
+    exact_mapped label_of parts_of_label (λ y. refl) (λ x. refl) (both point label_kind)
+    (exact_both point label_kind exact_point exact_kind)
 
 -- an update's items ascend
 abbrev pub label_allows : Label → Bool
@@ -229,7 +252,9 @@ abbrev pub carried : Code Carried
 carried = mapped carried_of parts_of_carried (both point (optional number16))
 
 pub exact_carried : IsExact carried
-exact_carried = exact_mapped carried_of parts_of_carried (λ y. refl) (λ x. refl) (both point (optional number16)) (exact_both point (optional number16) exact_point (exact_optional number16 exact16))
+exact_carried =
+    exact_mapped carried_of parts_of_carried (λ y. refl) (λ x. refl) (both point (optional number16))
+    (exact_both point (optional number16) exact_point (exact_optional number16 exact16))
 
 -- ---- values
 

@@ -51,7 +51,9 @@ abbrev pub payload : Code Payload
 payload = mapped payload_of parts_of_payload (both label parts)
 
 pub exact_payload : IsExact payload
-exact_payload = exact_mapped payload_of parts_of_payload (λ y. refl) (λ x. refl) (both label parts) (exact_both label parts exact_label exact_parts)
+exact_payload =
+    exact_mapped payload_of parts_of_payload (λ y. refl) (λ x. refl) (both label parts)
+    (exact_both label parts exact_label exact_parts)
 
 -- at most 255 parts
 abbrev pub payload_allows : Payload → Bool
@@ -73,7 +75,9 @@ abbrev pub beat : Code Beat
 beat = mapped beat_of parts_of_beat (both point (both points counts))
 
 pub exact_beat : IsExact beat
-exact_beat = exact_mapped beat_of parts_of_beat (λ y. refl) (λ x. refl) (both point (both points counts)) (exact_both point (both points counts) exact_point (exact_both points counts exact_points exact_counts))
+exact_beat =
+    exact_mapped beat_of parts_of_beat (λ y. refl) (λ x. refl) (both point (both points counts))
+    (exact_both point (both points counts) exact_point (exact_both points counts exact_points exact_counts))
 
 -- at most 65,535 of each
 abbrev pub beat_allows : Beat → Bool

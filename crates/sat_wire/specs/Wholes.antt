@@ -39,7 +39,8 @@ module _ {A : Type 0} (code : Code A) (exact : IsExact code) where
   -- what a value is spelled with is read as it
   pub whole_again : (bytes : List ℕ) (x : A) → code.fits x ≡ true → bytes ≡ code.spell x → whole code bytes ≡ Ok x
   whole_again bytes x fits is =
-      ap (placed (length bytes)) (goes_on (code.read bytes) (x, []) closed (ap code.read (is ∙ sym (append-nil (code.spell x))) ∙ exact.again x [] fits))
+      ap (placed (length bytes)) (goes_on (code.read bytes) (x, []) closed
+      (ap code.read (is ∙ sym (append-nil (code.spell x))) ∙ exact.again x [] fits))
 
   none_behind : (b : Bool) (x y : A) (n : ℕ) → (if b then stopped cause.Long n else Ok x) ≡ Ok y → (b ≡ false) × (x ≡ y)
   none_behind true x y n is = cc
@@ -50,7 +51,8 @@ module _ {A : Type 0} (code : Code A) (exact : IsExact code) where
   placed_ok n (Err stop) x is = cc
 
   -- what was read as a value was spelled so, and fits
-  pub whole_only : (bytes : List ℕ) (x : A) → AreBytes bytes → whole code bytes ≡ Ok x → (bytes ≡ code.spell x) × (code.fits x ≡ true)
+  pub whole_only : (bytes : List ℕ) (x : A) → AreBytes bytes → whole code bytes ≡ Ok x
+      → (bytes ≡ code.spell x) × (code.fits x ≡ true)
   whole_only bytes x small is =
       let y = went_on (code.read bytes) closed x (placed_ok (length bytes) (and_then (code.read bytes) closed) x is) in
       let p = none_behind (nat_lt 0 (length y.0.1)) y.0.0 x (length y.0.1) y.2 in
@@ -58,10 +60,12 @@ module _ {A : Type 0} (code : Code A) (exact : IsExact code) where
       let front = exact.only bytes y.0.1 y.0.0 small y.1 in
       (front.0 ∙ ap (λ (l : List ℕ). code.spell y.0.0 ++ l) empty ∙ append-nil (code.spell y.0.0) ∙ ap code.spell p.1, ap code.fits (sym p.1) ∙ front.1)
 
-  pub value_is : (bytes : List ℕ) (x y : A) → code.fits x ≡ true → bytes ≡ code.spell x → whole code bytes ≡ Ok y → y ≡ x
+  pub value_is : (bytes : List ℕ) (x y : A) → code.fits x ≡ true → bytes ≡ code.spell x
+      → whole code bytes ≡ Ok y → y ≡ x
   value_is bytes x y fits is read = cc (whole_again bytes x fits is, read)
 
   -- bytes that spell a value are not refused
-  pub not_refused : (bytes : List ℕ) (x : A) (fault : DecodeFault) → code.fits x ≡ true → bytes ≡ code.spell x → Refuses fault (whole code bytes) → IsWant fault
+  pub not_refused : (bytes : List ℕ) (x : A) (fault : DecodeFault) → code.fits x ≡ true → bytes ≡ code.spell x
+      → Refuses fault (whole code bytes) → IsWant fault
   not_refused bytes x decode_fault.Memory fits is refused = tt
   not_refused bytes x (decode_fault.Wrong wrong) fits is refused = cc (whole_again bytes x fits is)

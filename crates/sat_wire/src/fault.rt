@@ -55,8 +55,8 @@ impl<T: Drop> From<AllocFailed<T>> for ReadFault {
     }
 }
 
-/// Bytes that are refused: why, and the place, from 0, of the byte at which they stop to be a spelling. Where they end too early
-/// that is behind the last of them; where a value is none of its kind it is the first byte of that value.
+/// Bytes that are refused: why, and the place, from 0, of the byte at which they stop to be a spelling. Where they end
+/// too early that is behind the last of them; where a value is none of its kind it is the first byte of that value.
 #[derive(Clone, Copy, Debug, PartialEq, Eq)]
 pub struct Wrong {
     pub cause: Cause,

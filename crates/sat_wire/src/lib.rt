@@ -1,5 +1,5 @@
-//! The bytes of values, on a wire or in a journal: numbers, the highest byte first, options, lists, points, labels and values, each
-//! read as it is written, and everything else refused.
+//! The bytes of values, on a wire or in a journal: numbers, the highest byte first, options, lists, points, labels and
+//! values, each read as it is written, and everything else refused.
 #![tactic(auto)]
 
 mod beats;

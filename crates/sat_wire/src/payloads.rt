@@ -74,7 +74,8 @@ fn parts_size(payload: &Payload) -> usize
 fn write_part(payload: &Payload, place: usize, out: &mut Vec<u8>)
     requires inside { place < length payload.now.values }
     requires fits { part.fits (get_or payload.now.values place None) ≡ true }
-    requires room { length out.old.items + length (part.spell (get_or payload.now.values place None)) ≤ vec_capacity out.old }
+    requires room { length out.old.items + length (part.spell (get_or payload.now.values place None))
+        ≤ vec_capacity out.old }
     ensures items { out.new.items ≡ out.old.items ++ part.spell (get_or payload.now.values place None) }
     ensures capacity { vec_capacity out.old ≤ vec_capacity out.new }
 {

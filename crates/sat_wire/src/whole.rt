@@ -60,7 +60,8 @@ pub fn decode<T: Wire>(alloc: Global, bytes: &[u8]) -> Result<T, DecodeFault>
     ensures err { IfErr result (λ fault. Refuses fault (whole T.code bytes.now)) }
     ensures spelled { IfOk result (λ value. bytes.now ≡ T.code.spell value) }
     ensures fits { IfOk result (λ value. T.code.fits value ≡ true) }
-    ensures found { (value : T) → T.code.fits value ≡ true → bytes.now ≡ T.code.spell value → IfOk result (λ read. read ≡ value) }
+    ensures found { (value : T) → T.code.fits value ≡ true → bytes.now ≡ T.code.spell value
+        → IfOk result (λ read. read ≡ value) }
     ensures refused { (value : T) → T.code.fits value ≡ true → bytes.now ≡ T.code.spell value → IfErr result IsWant }
 {
     exactly(alloc, bytes)

@@ -31,7 +31,8 @@ abbrev pub NothingReceived : List (Receiver Envelope) → Type 0
 NothingReceived ls = Each ls (λ _ l. l.received ≡ [])
 
 -- the two ends of each link of a deployment, through which nothing went
-pub record IsWires (d : Deployed) (links : List Link) (ins : List (Sender Envelope)) (outs : List (Receiver Envelope)) : Type 0 where
+pub record IsWires (d : Deployed) (links : List Link) (ins : List (Sender Envelope))
+    (outs : List (Receiver Envelope)) : Type 0 where
   pub links_are : links ≡ all_links d
   pub many : length ins ≡ length links
   pub same : map wire_out outs ≡ map wire_in ins

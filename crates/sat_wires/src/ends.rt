@@ -118,7 +118,8 @@ impl<N: Names> Ends<N> {
         }
     }
 
-    // The receiving end of the link that leads the other way. Each is there once; without it the answer is want of memory.
+    // The receiving end of the link that leads the other way. Each is there once; without it the answer is want of
+    // memory.
     #[tactic(auto, using(crate::proofs::Places::placed_back))]
     fn receiver(&mut self, all: &Ways, way: &Way) -> Result<In<N>, AllocError>
         ensures { IfOk result (λ i. InAt (place_back_in all.now (link_of way.now)) i) }

@@ -110,7 +110,8 @@ fn add_tree<N: Laid + Names>(
     requires links { all.now ≡ all_links d.now }
     requires tree { tree_of d.now epoch ≡ Some tree.now }
     requires fresh { AllNew serials.old.items }
-    ensures names { OnOk result (map name_in serials.new.items ≡ map name_in serials.old.items ++ tree_names (record { epoch = epoch; tree = tree.now })) }
+    ensures names { OnOk result (map name_in serials.new.items ≡ map name_in serials.old.items
+        ++ tree_names (record { epoch = epoch; tree = tree.now })) }
     ensures fresh { OnOk result (AllNew serials.new.items) }
 {
     for number in 0..tree.serializers() {
@@ -136,7 +137,8 @@ fn add_trees<N: Laid + Names>(
     requires epochs { (0 < epoch) × (epoch + length plans.now < 2 ^ 16) }
     requires plans { drop (epoch - 1) d.now.plans ≡ plans.now }
     requires fresh { AllNew serials.old.items }
-    ensures names { OnOk result (map name_in serials.new.items ≡ map name_in serials.old.items ++ flat_map tree_names (planted epoch plans.now)) }
+    ensures names { OnOk result (map name_in serials.new.items ≡ map name_in serials.old.items
+        ++ flat_map tree_names (planted epoch plans.now)) }
     ensures fresh { OnOk result (AllNew serials.new.items) }
 {
     let Some((plan, rest)) = plans.split_first() else {
@@ -152,8 +154,9 @@ fn add_trees<N: Laid + Names>(
 }
 
 impl<N: Laid + Names> AllNodes<N> {
-    /// Makes all nodes of N's deployment with the ends of its links: each site and each serializer once and in order, at which nothing
-    /// happened. It asks that the links were made for that deployment, and that N's list of wires is theirs.
+    /// Makes all nodes of N's deployment with the ends of its links: each site and each serializer once and in order,
+    /// at which nothing happened. It asks that the links were made for that deployment, and that N's list of wires is
+    /// theirs.
     #[tactic(auto, using(crate::proofs::Places::few_epochs))]
     pub fn new(alloc: Global, d: &Deployment, wires: Wires) -> Result<AllNodes<N>, AllocError>
         requires deployment { N.deployment ≡ d.now }

@@ -13,8 +13,8 @@ use std::alloc::{AllocError, Global};
 use std::marker::Model;
 use std::snapshot::Snapshot;
 
-/// The links of a deployment, with both their ends: two for each edge of a tree, and one for each two sites in an order, for payloads
-/// and beats. Contracts see the deployment, and the wire of each link in the order of all links.
+/// The links of a deployment, with both their ends: two for each edge of a tree, and one for each two sites in an
+/// order, for payloads and beats. Contracts see the deployment, and the wire of each link in the order of all links.
 #[derive(Drop)]
 pub struct Wires {
     made_for: Snapshot<Deployment>,

@@ -34,7 +34,7 @@ use Rattle.sat_machine.proofs.Local.{given-fits}
 use Rattle.sat_site.specs.declared.input.SiteInput as code
 use Rattle.sat_site.specs.declared.input.SiteInput.TheVariants as input
 use Rattle.sat_site.specs.Seen.{SiteSeen, IsSite}
-use Rattle.sat_site.specs.Inputs.{input_of, fits_in, is_sized, takes_none as spares}
+use Rattle.sat_site.specs.Inputs.{input_of, fits_in, is_sized}
 use Rattle.sat_site.specs.Stands.{StandsSite}
 use Rattle.sat_world.proofs.Laws.{each-fits}
 use Rattle.sat_world.specs.Seen.{WorldSeen, HasSite, HasClient}
@@ -48,7 +48,6 @@ use Rattle.sat_laws.proofs.Labels.{seat-range, some_is}
 use Rattle.sat_world.proofs.Handles.{is_still, is_told}
 use Rattle.sat_world.proofs.Lists.{index-at}
 use Rattle.sat_world.specs.Steps.{HandsIn, Hands, StepsAt, act_at, is_local, is_sending, number_at, IsNumber, WritesBy}
-use Rattle.sat_world.specs.TakesNone.{takes_none}
 use Rattle.sat_world.specs.Worlds.{IsWorld}
 
 -- ---- what fits
@@ -274,23 +273,3 @@ local-site d i input.Stamp e b = b
 local-site d i input.Fall e b = b
 local-site d i input.Advance e b = b
 local-site d i _ e b = absurd (cc)
-
-pub sending-act : (d : Deployed) (i : ℕ) (given : code.SiteInput) → is_sending (act_at i given) ≡ true → i < d.sites → IsActOf d (act_at i given)
-sending-act d i input.Emit e lt = lt
-sending-act d i input.Pulse e lt = lt
-sending-act d i input.Close e lt = lt
-sending-act d i _ e lt = absurd (cc)
-
--- an act at a site that takes no memory hands it something that takes none
-pub spare-local : (i : ℕ) (given : code.SiteInput) → takes_none (act_at i given) ≡ true → spares given ≡ true
-spare-local i (input.Tick g t) e = refl
-spare-local i input.Stamp e = refl
-spare-local i input.Fall e = refl
-spare-local i input.Advance e = refl
-spare-local i _ e = absurd (cc)
-
-pub spare-sending : (i : ℕ) (given : code.SiteInput) → is_sending (act_at i given) ≡ true → spares given ≡ true
-spare-sending i input.Emit e = refl
-spare-sending i input.Pulse e = refl
-spare-sending i input.Close e = refl
-spare-sending i _ e = absurd (cc)

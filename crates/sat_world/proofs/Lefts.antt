@@ -29,7 +29,7 @@ use Rattle.sat_machine.proofs.Windows.{Window, window-agrees}
 use Rattle.sat_net.specs.Nets.{NetSeen, link_of, underway_in}
 use Rattle.sat_net.specs.NetStands.{IsNetOf, StandsNet}
 use Rattle.sat_net.proofs.Edges.{to-seat}
-use Rattle.sat_net.proofs.Sums.{below-agree, neighbours-agree, sum-more, sum-stops, sum-adds, cap-both}
+use Rattle.sat_net.proofs.Sums.{below-agree, neighbours-agree, sum-stops, sum-adds, cap-both}
 use Rattle.sat_proxy.specs.Proxy.{window_of, front_at}
 use Rattle.sat_site.specs.Seen.{SiteSeen, IsSite}
 use Rattle.sat_site.specs.Stands.{StandsSite}
@@ -64,14 +64,6 @@ count-less p (suc n) = let e = sum_by_push (λ k. cond (p k) 1 0) (below n) n in
     small : (b : Bool) → cond b 1 0 ≤ 1
     small true = omega arith
     small false = omega arith
-
-pub missing-one : (y : SiteSeen) (i g n count : ℕ) → count ≡ count_by (is_missing y i g) (below n) → has_number (window_of y.proxy i g) n ≡ false → count + 1 ≡ count_by (is_missing y i g) (below (n + 1))
-missing-one y i g n count e no_ = (λ m. e m + cond (not (sym no_ m)) 1 0) ∙ sym (sum-more (λ k. cond (is_missing y i g k) 1 0) n)
-
-pub missing-none : (y : SiteSeen) (i g n count : ℕ) → count ≡ count_by (is_missing y i g) (below n) → has_number (window_of y.proxy i g) n ≡ true → count ≡ count_by (is_missing y i g) (below (n + 1))
-missing-none y i g n count e ok =
-    e ∙ (let z : count_by (is_missing y i g) (below n) ≡ count_by (is_missing y i g) (below n) + 0 = omega arith in z)
-    ∙ ((λ m. count_by (is_missing y i g) (below n) + cond (not (sym ok m)) 1 0) ∙ sym (sum-more (λ k. cond (is_missing y i g k) 1 0) n))
 
 -- what is missing here is what the state that it stands for didn't take
 pub missing-stands : (y : SiteSeen) (i g n : ℕ) → IsSite y → i < y.shape.sites → g < y.shape.gears → (d : Deployed) (j : ℕ) (t : SiteState) → StandsSite d j y t →

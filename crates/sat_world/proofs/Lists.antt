@@ -1,13 +1,10 @@
 -- Places of lists.
-use Rattle.std.specs.Prelude.{◌≡◌, ◌⊎◌, ◌<◌, ℕ, zero, suc, true, false, ◌==◌, List, [], ◌∷◌, ◌++◌, length, map, set, get_or, Option, Some, None, slice_get, refl}
+use Rattle.std.specs.Prelude.{◌≡◌, ◌⊎◌, ◌<◌, ℕ, zero, suc, true, false, ◌==◌, List, [], ◌∷◌, ◌++◌, length, map, set, get_or, Option, Some, slice_get, refl}
 use Rattle.std.proofs.Common.{sym, subst, ap, ◌∙◌, arith, inl, inr}
 use Rattle.std.proofs.lemmas.Bool.Decides.{nat_tests}
 use Rattle.std.proofs.lemmas.Option.{slice_get_within}
 use Rattle.sat_label.proofs.Truth.{same-number}
 use Rattle.sat_laws.proofs.Labels.{some_is}
-
-pub num-apart : (i k : ℕ) → (i == k) ≡ false → (k == i) ≡ false
-num-apart i k e = grind (arith, nat_tests)
 
 pub get-is : {X : Type 0} (xs : List X) (i : ℕ) (d : X) → i < length xs → slice_get xs i ≡ Some (get_or xs i d)
 get-is [] i d lt = absurd (omega arith)
@@ -79,10 +76,6 @@ pub map-get : {X Y : Type 0} (f : X → Y) (xs : List X) (k : ℕ) (y : Y) → s
 map-get f [] k y e = absurd (cc)
 map-get f (x ∷ xs) zero y e = (x, refl, some_is (f x) y e)
 map-get f (x ∷ xs) (suc k) y e = map-get f xs k y e
-
-pub none-empty : {X : Type 0} (xs : List X) → slice_get xs 0 ≡ None → xs ≡ []
-none-empty [] e = refl
-none-empty (x ∷ xs) e = absurd (cc)
 
 -- what was read at a place stands there
 pub index-at : {X : Type 0} (xs : List X) (i : ℕ) (x : X) → i < length xs → x ≡ get_or xs i x → slice_get xs i ≡ Some x

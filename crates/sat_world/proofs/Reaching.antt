@@ -29,7 +29,7 @@ use Rattle.sat_site.specs.Changes.{made_for}
 use Rattle.sat_site.specs.Seen.{SiteSeen, IsSite}
 use Rattle.sat_site.specs.Inputs.{input_of, fits_in, is_sized}
 use Rattle.sat_site.specs.Stands.{StandsSite}
-use Rattle.sat_world.specs.Reaches.{HandsSome, IsHandedTo, Reaches, handed_alone, is_clock}
+use Rattle.sat_world.specs.Reaches.{IsHandedTo, Reaches, handed_alone, is_clock}
 use Rattle.sat_world.specs.Seen.{WorldSeen, HasClient, HasSite}
 use Rattle.sat_world.specs.Stands.{Stands, StandsFor}
 use Rattle.sat_world.specs.Steps.{Hands, IsNumber, WritesBy, act_at}
@@ -215,11 +215,3 @@ pub reach-no-beat : (w v : WorldSeen) (i j n : ℕ) (x : SiteSeen) → w ≡ v �
 reach-no-beat w v i j n x e k li lj is none =
     let lt : j < w.deployment.sites = subst (λ (v : WorldSeen). j < v.deployment.sites) (sym e) lj in
     reach-none w v (act.BeatIn i j n) e k refl (λ s st m. (no-beat w.deployment s i j n (note-at w.deployment i j n x (s.sites i) None (st.sites i x (site-at w v i x e k li is)) lt none)).1 m)
-
--- ---- what is handed alone
-
-pub hands-none : (v : WorldSeen) (a : Act) (o : Option (ℕ × code.SiteInput)) → o ≡ None → Reaches v a o → HandsSome v a None
-hands-none v a o is r = subst (λ (o : Option (ℕ × code.SiteInput)). Reaches v a o) is r
-
-pub hands-some : (v : WorldSeen) (a : Act) (i : ℕ) (given : code.SiteInput) (o : Option (ℕ × code.SiteInput)) → o ≡ Some (i, given) → Reaches v a o → HandsSome v a (Some given)
-hands-some v a i given o is r = (i, subst (λ (o : Option (ℕ × code.SiteInput)). Reaches v a o) is r)

@@ -1,5 +1,5 @@
 -- What the code does in an act is the step of the machine, and so the answer and the entry of the history.
-use Rattle.std.specs.Prelude.{◌≡◌, ℕ, false, List, ◌∷◌}
+use Rattle.std.specs.Prelude.{◌≡◌, false, List, ◌∷◌}
 use Rattle.std.proofs.Common.{sym, subst, ap, ◌∙◌, inl}
 use Rattle.sat_act.specs.declared.act.Act.{Act}
 use Rattle.sat_act.specs.declared.answer.Answer.{Answer}
@@ -8,7 +8,6 @@ use Rattle.sat_act.specs.Deployed.{Deployed}
 use Rattle.sat_act.specs.Ranges.{IsActOf}
 use Rattle.sat_act.specs.Answers.{answer}
 use Rattle.sat_act.specs.Runs.{IsRun, is_settle}
-use Rattle.sat_act.specs.Settling.{is_done}
 use Rattle.sat_act.specs.Headline.{IsGood}
 use Rattle.sat_act.specs.Limits.{IsDeployment}
 use Rattle.sat_act.proofs.Valid.{is_valid, has_trees}
@@ -20,7 +19,7 @@ use Rattle.sat_world.specs.Seen.{WorldSeen}
 use Rattle.sat_world.specs.Stands.{Stands, StandsFor}
 use Rattle.sat_world.specs.Steps.{Goes}
 use Rattle.sat_world.specs.Worlds.{IsWorld}
-use Rattle.sat_world.proofs.Counting.{now-counted, undone-uncounted}
+use Rattle.sat_world.proofs.Counting.{now-counted}
 use Rattle.sat_world.proofs.Meets.{in-range}
 
 abbrev entry_of : Act → Answer → Entry
@@ -82,11 +81,3 @@ seen-as w v u a r e g = subst (λ (v : WorldSeen). Goes v a r u) e g
 pub runs-counted : (w v : WorldSeen) (h : List Entry) (a : Act) (r : Answer) → IsDeployment w.deployment → IsActOf w.deployment a → is_settle a ≡ false → IsRun w.deployment h → StandsFor w h → Goes w a r v →
     StandsFor (record v { shown = counted r v.shown }) (entry_of a r ∷ h)
 runs-counted w v h a r k b p run st g = now-counted v h a r (g.shown ∙ st.shown) (runs w v h a r k b p run st.parts g).stands
-
--- a world as it is seen once it keeps the count
-pub kept-count : (u v : WorldSeen) (n : ℕ) (r : Answer) → u ≡ v → n ≡ counted r u.shown → record v { shown = counted r v.shown } ≡ record u { shown = n }
-kept-count u v n r e f = sym (ap (λ (n : ℕ). record u { shown = n }) f ∙ ap (λ (w : WorldSeen). record w { shown = counted r w.shown }) e)
-
--- what is not done changes nothing
-pub stays-counted : (w v : WorldSeen) (a : Act) (r : Answer) → Goes w a r v → is_done r ≡ false → record v { shown = counted r v.shown } ≡ w
-stays-counted w v a r g e = ap (λ (n : ℕ). record v { shown = n }) (undone-uncounted r v.shown e) ∙ g.refused e

@@ -14,12 +14,14 @@ greatest_of f (suc n) = max (greatest_of f n) (f n)
 
 -- the greatest promise of the first n gears, in each state that the site stands for
 abbrev pub IsTop : SiteSeen → ℕ → ℕ → Type 0
-IsTop x n ts = (d : Deployed) (i : ℕ) (s : SiteState) → StandsSite d i x s → ts ≡ greatest_of (λ g. (s.gears g).promise) n
+IsTop x n ts =
+    (d : Deployed) (i : ℕ) (s : SiteState) → StandsSite d i x s → ts ≡ greatest_of (λ g. (s.gears g).promise) n
 
 -- the greatest promise of the first n gears of the first m sites
 abbrev pub IsGreatestOf : List SiteSeen → ℕ → ℕ → ℕ → Type 0
 IsGreatestOf xs m n ts =
-    (d : Deployed) (S : ℕ → SiteState) → ((i : ℕ) (x : SiteSeen) → slice_get xs i ≡ Some x → StandsSite d i x (S i)) → ts ≡ greatest_of (λ i. greatest_of (λ g. ((S i).gears g).promise) n) m
+    (d : Deployed) (S : ℕ → SiteState) → ((i : ℕ) (x : SiteSeen) → slice_get xs i ≡ Some x → StandsSite d i x (S i))
+    → ts ≡ greatest_of (λ i. greatest_of (λ g. ((S i).gears g).promise) n) m
 
 -- the greatest promise of the first n gears of all sites
 abbrev pub IsGreatest : List SiteSeen → ℕ → ℕ → Type 0

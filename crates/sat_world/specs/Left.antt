@@ -27,7 +27,8 @@ lane_left s t i g j = count_by (λ k. not (has ◌==◌ (t.proxy.taken i g) k)) 
 -- the same of the lanes of the first n gears, stopped at 2^64 - 1, in all states that the two sites stand for
 abbrev pub IsLeftOf : SiteSeen → SiteSeen → ℕ → ℕ → ℕ → ℕ → Type 0
 IsLeftOf x y i j n count =
-    (d : Deployed) (s t : SiteState) → StandsSite d i x s → StandsSite d j y t → count ≡ capped (sum_by (λ g. lane_left s t i g j) (below n))
+    (d : Deployed) (s t : SiteState) → StandsSite d i x s → StandsSite d j y t
+    → count ≡ capped (sum_by (λ g. lane_left s t i g j) (below n))
 
 -- the states for which sites stand
 abbrev pub AllStand : List SiteSeen → Deployed → (ℕ → SiteState) → Type 0
@@ -36,13 +37,16 @@ AllStand xs d S = (i : ℕ) (x : SiteSeen) → slice_get xs i ≡ Some x → Sta
 -- the same of the lanes of the first m sites to site j
 abbrev pub IsLeftTo : List SiteSeen → ℕ → ℕ → ℕ → ℕ → Type 0
 IsLeftTo xs gears j m count =
-    (d : Deployed) (S : ℕ → SiteState) → AllStand xs d S → count ≡ capped (sum_by (λ i. sum_by (λ g. lane_left (S i) (S j) i g j) (below gears)) (below m))
+    (d : Deployed) (S : ℕ → SiteState) → AllStand xs d S
+    → count ≡ capped (sum_by (λ i. sum_by (λ g. lane_left (S i) (S j) i g j) (below gears)) (below m))
 
 -- the same of the lanes to the first m sites
 abbrev pub IsLeft : List SiteSeen → ℕ → ℕ → ℕ → Type 0
 IsLeft xs gears m count =
     (d : Deployed) (S : ℕ → SiteState) → AllStand xs d S →
-    count ≡ capped (sum_by (λ j. sum_by (λ i. sum_by (λ g. lane_left (S i) (S j) i g j) (below gears)) (below (length xs))) (below m))
+    count
+    ≡ capped (sum_by (λ j. sum_by (λ i. sum_by (λ g. lane_left (S i) (S j) i g j) (below gears)) (below (length xs)))
+    (below m))
 
 -- how many labels stand on the links of an epoch's net, if it has one
 abbrev pub net_underway : Option NetSeen → ℕ

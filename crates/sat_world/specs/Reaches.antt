@@ -23,8 +23,8 @@ abbrev pub handed_alone : Deployed → List Entry → Act → ℕ → Option Sit
 handed_alone d h act.Clock k = None
 handed_alone d h a k = handed d h a k
 
--- The act reaches site i, and no other one, and hands it this, which fits each site that stands for the history: its copy in a world,
--- and any other that was made of the same inputs.
+-- The act reaches site i, and no other one, and hands it this, which fits each site that stands for the history: its
+-- copy in a world, and any other that was made of the same inputs.
 pub record IsHandedTo (d : Deployed) (h : List Entry) (a : Act) (i : ℕ) (given : code.SiteInput) : Type 0 where
   pub site : i < d.sites
   pub hands : (k : ℕ) → handed_alone d h a k ≡ given_at i k (input_of given)
@@ -32,8 +32,10 @@ pub record IsHandedTo (d : Deployed) (h : List Entry) (a : Act) (i : ℕ) (given
 
 -- in each history that the world stands for the act reaches this site and hands it this, or reaches no site
 abbrev pub Reaches : WorldSeen → Act → Option (ℕ × code.SiteInput) → Type 0
-Reaches w a None = (h : List Entry) → IsRun w.deployment h → StandsFor w h → (k : ℕ) → handed_alone w.deployment h a k ≡ None
-Reaches w a (Some found) = (h : List Entry) → IsRun w.deployment h → StandsFor w h → IsHandedTo w.deployment h a found.0 found.1
+Reaches w a None =
+    (h : List Entry) → IsRun w.deployment h → StandsFor w h → (k : ℕ) → handed_alone w.deployment h a k ≡ None
+Reaches w a (Some found) =
+    (h : List Entry) → IsRun w.deployment h → StandsFor w h → IsHandedTo w.deployment h a found.0 found.1
 
 -- the same, of what is handed alone
 abbrev pub HandsSome : WorldSeen → Act → Option code.SiteInput → Type 0

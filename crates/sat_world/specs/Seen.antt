@@ -6,8 +6,8 @@ use Rattle.sat_client.specs.declared.client.Client.{Client}
 use Rattle.sat_net.specs.Nets.{NetSeen}
 use Rattle.sat_site.specs.Seen.{SiteSeen}
 
--- the deployment, and which sites keep which items; the sites; by epoch from 1 on, the net of its tree, None where its plan is
--- stamp order; the clients; and how many answers showed an update, at most 2^64 - 1
+-- the deployment, and which sites keep which items; the sites; by epoch from 1 on, the net of its tree, None where its
+-- plan is stamp order; the clients; and how many answers showed an update, at most 2^64 - 1
 pub record WorldSeen : Type 0 where
   pub deployment : Deployed
   pub interest : Interested

@@ -37,8 +37,8 @@ use Rattle.sat_world.specs.Seen.{WorldSeen, HasSite}
 use Rattle.sat_world.specs.Stands.{Stands}
 use Rattle.sat_world.specs.Worlds.{IsFrame}
 
--- the answer of an act, and the parts of the world after it, are the machine's in each state that the world stands for, and what was
--- shown is still to be counted; an act that isn't done leaves the world
+-- the answer of an act, and the parts of the world after it, are the machine's in each state that the world stands for,
+-- and what was shown is still to be counted; an act that isn't done leaves the world
 pub record Goes (w : WorldSeen) (a : Act) (r : Answer) (v : WorldSeen) : Type 0 where
   pub deployment : v.deployment ≡ w.deployment
   pub shown : v.shown ≡ w.shown
@@ -55,7 +55,8 @@ pub record Counts (w : WorldSeen) (a : Act) (r : Answer) (v : WorldSeen) : Type 
 -- ---- one site
 
 -- site i is handed something, answers it, and becomes another site
-pub record StepsAt (xs : List SiteSeen) (i : ℕ) (input : code.SiteInput) (r : Answer) (ys : List SiteSeen) : Type 0 where
+pub record StepsAt (xs : List SiteSeen) (i : ℕ) (input : code.SiteInput) (r : Answer)
+    (ys : List SiteSeen) : Type 0 where
   pub before : SiteSeen
   pub at : slice_get xs i ≡ Some before
   pub sound : IsSite before
@@ -79,10 +80,11 @@ number_at s from gear asked = elim asked [ None ↦ front_of s from gear | Some 
 
 -- the number is that one, in each state that the receiver stands for
 abbrev pub IsNumber : SiteSeen → ℕ → ℕ → Option ℕ → ℕ → Type 0
-IsNumber y from gear asked n = (d : Deployed) (k : ℕ) (s : SiteState) → StandsSite d k y s → n ≡ number_at s from gear asked
+IsNumber y from gear asked n =
+    (d : Deployed) (k : ℕ) (s : SiteState) → StandsSite d k y s → n ≡ number_at s from gear asked
 
--- the act at site i that hands it this and nothing of a client, of a link or of another site. A settle stands for the inputs that
--- do
+-- the act at site i that hands it this and nothing of a client, of a link or of another site. A settle stands for the
+-- inputs that do
 abbrev pub act_at : ℕ → code.SiteInput → Act
 act_at i (input.Tick g ts) = act.Tick i g ts
 act_at i input.Gather = act.Gather i
@@ -167,8 +169,10 @@ net_taken r (Some net) j = Some net
 -- a hop to serializer z over its link from u: what is answered, and the net after it
 pub data Hops (net : NetSeen) (a : Interested) (u : NodeId) (z : ℕ) : Answer → NetSeen → Type 0 where
   finds_dead : is_dead net z ≡ true → Hops net a u z (ans.Refused why.Dead) net
-  finds_none : is_dead net z ≡ false → slice_get (link_of net u (Serializer z)) 0 ≡ None → Hops net a u z (ans.Refused why.Empty) net
-  hops : (l : Label) → is_dead net z ≡ false → slice_get (link_of net u (Serializer z)) 0 ≡ Some l → Hops net a u z (ans.Hopped l (routes a net.tree z u l)) (after_hop net a u z l)
+  finds_none : is_dead net z ≡ false → slice_get (link_of net u (Serializer z)) 0 ≡ None
+      → Hops net a u z (ans.Refused why.Empty) net
+  hops : (l : Label) → is_dead net z ≡ false → slice_get (link_of net u (Serializer z)) 0 ≡ Some l
+      → Hops net a u z (ans.Hopped l (routes a net.tree z u l)) (after_hop net a u z l)
 
 -- a kill of serializer z: what is answered, and the net after it
 pub data Kills (net : NetSeen) (z : ℕ) : Answer → NetSeen → Type 0 where
@@ -176,12 +180,14 @@ pub data Kills (net : NetSeen) (z : ℕ) : Answer → NetSeen → Type 0 where
   kills : is_dead net z ≡ false → Kills net z ans.Killed (after_kill net z)
 
 -- the net at a place becomes another one, and the other nets stay
-pub record NetAt (nets : List (Option NetSeen)) (n : ℕ) (before after : Option NetSeen) (now : List (Option NetSeen)) : Type 0 where
+pub record NetAt (nets : List (Option NetSeen)) (n : ℕ) (before after : Option NetSeen)
+    (now : List (Option NetSeen)) : Type 0 where
   pub at : slice_get nets n ≡ Some before
   pub rest : now ≡ set nets n after
 
 -- the net at a place, which is there, has a hop
-pub record HopsAt (nets : List (Option NetSeen)) (n : ℕ) (a : Interested) (u : NodeId) (z : ℕ) (r : Answer) (now : List (Option NetSeen)) : Type 0 where
+pub record HopsAt (nets : List (Option NetSeen)) (n : ℕ) (a : Interested) (u : NodeId) (z : ℕ) (r : Answer)
+    (now : List (Option NetSeen)) : Type 0 where
   pub before : NetSeen
   pub after : NetSeen
   pub at : slice_get nets n ≡ Some (Some before)

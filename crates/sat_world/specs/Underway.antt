@@ -1,4 +1,5 @@
--- What is under way in a history: payloads that were made and not brought, and labels that entered a link and were not taken.
+-- What is under way in a history: payloads that were made and not brought, and labels that entered a link and were not
+-- taken.
 use Rattle.std.specs.Prelude.{ℕ, ◌+◌, ◌-◌, Bool, not, count_by, List, length, Some, None}
 use Rattle.std.specs.List.{sum_by}
 use Rattle.sat_label.specs.declared.label.Label.{Label}
@@ -22,7 +23,8 @@ lane_underway d h i g j = count_by (is_left (brought h j)) (lane d h i g j)
 
 -- of all lanes
 abbrev pub lanes_underway : Deployed → List Entry → ℕ
-lanes_underway d h = sum_by (λ j. sum_by (λ i. sum_by (λ g. lane_underway d h i g j) (below d.gears)) (below d.sites)) (below d.sites)
+lanes_underway d h =
+    sum_by (λ j. sum_by (λ i. sum_by (λ g. lane_underway d h i g j) (below d.gears)) (below d.sites)) (below d.sites)
 
 -- of the link from u to v in an epoch, whose tree this is: entered less taken
 abbrev pub link_underway : Deployed → List Entry → ℕ → TreeShape → NodeId → NodeId → ℕ

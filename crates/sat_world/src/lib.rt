@@ -15,7 +15,8 @@ pub use sat_site::SiteView;
 pub use sat_store::Version;
 pub use world::World;
 
-/// A world doesn't know of entries that were not done, nor of the entry of a settle beside its inner ones, nor of an entry's flag.
+/// A world doesn't know of entries that were not done, nor of the entry of a settle beside its inner ones, nor of an
+/// entry's flag.
 pub fn world_laws()
     ensures flags { FlagsStayFree }
     ensures undone { UndoneKeeps }

@@ -1,4 +1,5 @@
-//! What one act does to the net of an epoch: None stands for an epoch of stamp order, in which no label goes over a link.
+//! What one act does to the net of an epoch: None stands for an epoch of stamp order, in which no label goes over a
+//! link.
 ghost use Rattle.std.specs.Prelude.{ℕ, ◌≡◌, ◌<◌, true, length, slice_get, Some, None, Option, IsSome, IfOk, OnOk, OnErr};
 ghost use Rattle.sat_label.specs.declared.label.Label.{Label};
 ghost use Rattle.sat_label.specs.declared.node.NodeId.TheVariants.{Serializer as SerializerNode};
@@ -57,8 +58,10 @@ pub fn ahead_at(
     requires within { place < length nets.now }
     requires node { (n : NetSeen) → slice_get nets.now place ≡ Some (Some n) → IsNode n.tree from }
     requires end { (n : NetSeen) → slice_get nets.now place ≡ Some (Some n) → to < length n.tree.parents }
-    requires edge { (n : NetSeen) → slice_get nets.now place ≡ Some (Some n) → is_edge n.tree from (SerializerNode to) ≡ true }
-    ensures { (n : NetSeen) → slice_get nets.now place ≡ Some (Some n) → result ≡ slice_get (link_of n from (SerializerNode to)) count }
+    requires edge { (n : NetSeen) → slice_get nets.now place ≡ Some (Some n)
+        → is_edge n.tree from (SerializerNode to) ≡ true }
+    ensures { (n : NetSeen) → slice_get nets.now place ≡ Some (Some n)
+        → result ≡ slice_get (link_of n from (SerializerNode to)) count }
 {
     ahead_of(&nets[place], from, to, count)
 }
@@ -82,7 +85,8 @@ fn take(net: &mut Option<Net>, site: u16, answer: &Answer)
 pub fn take_at(nets: &mut Vec<Option<Net>>, place: usize, site: u16, answer: &Answer)
     requires within { place < length nets.old.items }
     requires seat { (n : NetSeen) → slice_get nets.old.items place ≡ Some (Some n) → site < length n.tree.seats }
-    ensures { (o : Option NetSeen) → slice_get nets.old.items place ≡ Some o → NetAt nets.old.items place o (net_taken answer.now o site) nets.new.items }
+    ensures { (o : Option NetSeen) → slice_get nets.old.items place ≡ Some o
+        → NetAt nets.old.items place o (net_taken answer.now o site) nets.new.items }
 {
     take(&mut nets[place], site, answer);
 }
@@ -111,7 +115,8 @@ pub fn send_at(
 ) -> Result<(), AllocError>
     requires within { place < length nets.old.items }
     requires seat { (n : NetSeen) → slice_get nets.old.items place ≡ Some (Some n) → site < length n.tree.seats }
-    ensures ok { OnOk result ((o : Option NetSeen) → slice_get nets.old.items place ≡ Some o → NetAt nets.old.items place o (net_sent o site sent) nets.new.items) }
+    ensures ok { OnOk result ((o : Option NetSeen) → slice_get nets.old.items place ≡ Some o
+        → NetAt nets.old.items place o (net_sent o site sent) nets.new.items) }
     ensures err { OnErr result (nets.new.items ≡ nets.old.items) }
 {
     send(&mut nets[place], site, sent)?;
@@ -168,7 +173,8 @@ fn kill(net: &mut Net, serializer: u16) -> Answer
 pub fn kill_at(nets: &mut Vec<Option<Net>>, place: usize, serializer: u16) -> Answer
     requires within { place < length nets.old.items }
     requires there { (o : Option NetSeen) → slice_get nets.old.items place ≡ Some o → IsSome o }
-    requires serializer { (n : NetSeen) → slice_get nets.old.items place ≡ Some (Some n) → serializer < length n.tree.parents }
+    requires serializer { (n : NetSeen) → slice_get nets.old.items place ≡ Some (Some n)
+        → serializer < length n.tree.parents }
     ensures { KillsAt nets.old.items place serializer result nets.new.items }
 {
     let Some(net) = &mut nets[place] else {

@@ -38,7 +38,8 @@ pub fn step_at(sites: &mut Vec<Site>, place: u16, input: SiteInput) -> Result<An
 /// Raises the promise of a gear of a site, and tells it.
 pub fn tick_at(sites: &mut Vec<Site>, place: u16, gear: u16, ts: u64) -> Answer
     requires within { place < length sites.old.items }
-    requires fits { (x : SiteSeen) → slice_get sites.old.items place ≡ Some x → IsSite x → fits_in x (SiteInput.Tick gear ts) ≡ true }
+    requires fits { (x : SiteSeen) → slice_get sites.old.items place ≡ Some x → IsSite x
+        → fits_in x (SiteInput.Tick gear ts) ≡ true }
     ensures { StepsAt sites.old.items place (SiteInput.Tick gear ts) result sites.new.items }
 {
     let site = &mut sites[place as usize];
@@ -55,8 +56,10 @@ pub fn write_at(
     values: &[Value],
 ) -> Result<Answer, AllocError>
     requires within { place < length sites.old.items }
-    requires fits { (x : SiteSeen) → slice_get sites.old.items place ≡ Some x → IsSite x → fits_in x (SiteInput.Write carried items values.now) ≡ true }
-    ensures ok { IfOk result (λ answer. StepsAt sites.old.items place (SiteInput.Write carried items values.now) answer sites.new.items) }
+    requires fits { (x : SiteSeen) → slice_get sites.old.items place ≡ Some x → IsSite x
+        → fits_in x (SiteInput.Write carried items values.now) ≡ true }
+    ensures ok { IfOk result
+        (λ answer. StepsAt sites.old.items place (SiteInput.Write carried items values.now) answer sites.new.items) }
     ensures err { OnErr result (sites.new.items ≡ sites.old.items) }
 {
     let site = &mut sites[place as usize];
@@ -68,7 +71,8 @@ pub fn write_at(
 /// Lets a site emit the label that it has for that.
 pub fn emit_at(sites: &mut Vec<Site>, place: u16, label: Label) -> Answer
     requires within { place < length sites.old.items }
-    requires fits { (x : SiteSeen) → slice_get sites.old.items place ≡ Some x → IsSite x → fits_in x SiteInput.Emit ≡ true }
+    requires fits { (x : SiteSeen) → slice_get sites.old.items place ≡ Some x → IsSite x
+        → fits_in x SiteInput.Emit ≡ true }
     requires next { (x : SiteSeen) → slice_get sites.old.items place ≡ Some x → ready_of x.sink ≡ Some label }
     ensures { StepsAt sites.old.items place SiteInput.Emit result sites.new.items }
 {
@@ -80,7 +84,8 @@ pub fn emit_at(sites: &mut Vec<Site>, place: u16, label: Label) -> Answer
 /// Lets a site gather. For want of memory the sites are as before.
 pub fn gather_at(sites: &mut Vec<Site>, place: u16) -> Result<Answer, AllocError>
     requires within { place < length sites.old.items }
-    requires fits { (x : SiteSeen) → slice_get sites.old.items place ≡ Some x → IsSite x → fits_in x SiteInput.Gather ≡ true }
+    requires fits { (x : SiteSeen) → slice_get sites.old.items place ≡ Some x → IsSite x
+        → fits_in x SiteInput.Gather ≡ true }
     ensures ok { IfOk result (λ answer. StepsAt sites.old.items place SiteInput.Gather answer sites.new.items) }
     ensures err { OnErr result (sites.new.items ≡ sites.old.items) }
 {
@@ -93,7 +98,8 @@ pub fn gather_at(sites: &mut Vec<Site>, place: u16) -> Result<Answer, AllocError
 /// Lets a site pulse.
 pub fn pulse_at(sites: &mut Vec<Site>, place: u16) -> Answer
     requires within { place < length sites.old.items }
-    requires fits { (x : SiteSeen) → slice_get sites.old.items place ≡ Some x → IsSite x → fits_in x SiteInput.Pulse ≡ true }
+    requires fits { (x : SiteSeen) → slice_get sites.old.items place ≡ Some x → IsSite x
+        → fits_in x SiteInput.Pulse ≡ true }
     ensures { StepsAt sites.old.items place SiteInput.Pulse result sites.new.items }
 {
     let site = &mut sites[place as usize];
@@ -104,7 +110,8 @@ pub fn pulse_at(sites: &mut Vec<Site>, place: u16) -> Answer
 /// Hands a site the front of the link to it.
 pub fn turn_at(sites: &mut Vec<Site>, place: u16, front: Option<Label>) -> Answer
     requires within { place < length sites.old.items }
-    requires fits { (x : SiteSeen) → slice_get sites.old.items place ≡ Some x → IsSite x → fits_in x (SiteInput.Turn front) ≡ true }
+    requires fits { (x : SiteSeen) → slice_get sites.old.items place ≡ Some x → IsSite x
+        → fits_in x (SiteInput.Turn front) ≡ true }
     ensures { StepsAt sites.old.items place (SiteInput.Turn front) result sites.new.items }
 {
     let site = &mut sites[place as usize];
@@ -122,8 +129,10 @@ pub fn bulk_at(
     payload: Payload,
 ) -> Result<Answer, AllocError>
     requires within { place < length sites.old.items }
-    requires fits { (x : SiteSeen) → slice_get sites.old.items place ≡ Some x → IsSite x → fits_in x (SiteInput.Bulk from gear number payload) ≡ true }
-    ensures ok { IfOk result (λ answer. StepsAt sites.old.items place (SiteInput.Bulk from gear number payload) answer sites.new.items) }
+    requires fits { (x : SiteSeen) → slice_get sites.old.items place ≡ Some x → IsSite x
+        → fits_in x (SiteInput.Bulk from gear number payload) ≡ true }
+    ensures ok { IfOk result
+        (λ answer. StepsAt sites.old.items place (SiteInput.Bulk from gear number payload) answer sites.new.items) }
     ensures err { OnErr result (sites.new.items ≡ sites.old.items) }
 {
     let site = &mut sites[place as usize];
@@ -160,7 +169,8 @@ fn tell(client: &mut Client, answer: &Answer)
 pub fn tell_at(clients: &mut Vec<Client>, place: u16, answer: &Answer)
     requires within { place < length clients.old.items }
     requires may { (x : ClientSeen) → slice_get clients.old.items place ≡ Some x → MayTell answer.now x }
-    ensures { (x : ClientSeen) → slice_get clients.old.items place ≡ Some x → clients.new.items ≡ set clients.old.items place (told answer.now x) }
+    ensures { (x : ClientSeen) → slice_get clients.old.items place ≡ Some x
+        → clients.new.items ≡ set clients.old.items place (told answer.now x) }
 {
     tell(&mut clients[place as usize], answer);
 }
@@ -177,7 +187,8 @@ fn join(client: &mut Client, site: u16, answer: &Answer)
 /// Seats a client at a site, where the site let it attach.
 pub fn join_at(clients: &mut Vec<Client>, place: u16, site: u16, answer: &Answer)
     requires { place < length clients.old.items }
-    ensures { (x : ClientSeen) → slice_get clients.old.items place ≡ Some x → clients.new.items ≡ set clients.old.items place (joined answer.now site x) }
+    ensures { (x : ClientSeen) → slice_get clients.old.items place ≡ Some x
+        → clients.new.items ≡ set clients.old.items place (joined answer.now site x) }
 {
     join(&mut clients[place as usize], site, answer);
 }
@@ -185,7 +196,8 @@ pub fn join_at(clients: &mut Vec<Client>, place: u16, site: u16, answer: &Answer
 /// Takes a client's seat away.
 pub fn leave_at(clients: &mut Vec<Client>, place: u16)
     requires { place < length clients.old.items }
-    ensures { (x : ClientSeen) → slice_get clients.old.items place ≡ Some x → clients.new.items ≡ set clients.old.items place (after_leave x) }
+    ensures { (x : ClientSeen) → slice_get clients.old.items place ≡ Some x
+        → clients.new.items ≡ set clients.old.items place (after_leave x) }
 {
     clients[place as usize].left();
 }

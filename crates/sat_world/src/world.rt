@@ -46,9 +46,12 @@ impl Model for World {
 
     ghost Value = { WorldSeen };
 
-    ghost view = { λ w. record { deployment = w.deployment; interest = w.interest; sites = w.sites.items; nets = w.nets.items; clients = w.clients.items; shown = w.shown } };
+    ghost view = { λ w.
+        record { deployment = w.deployment; interest = w.interest; sites = w.sites.items; nets = w.nets.items; clients = w.clients.items; shown = w.shown } };
 
-    ghost invariant = { λ w. IsWorld (record { deployment = w.deployment; interest = w.interest; sites = w.sites.items; nets = w.nets.items; clients = w.clients.items; shown = w.shown }) };
+    ghost invariant = { λ w.
+        IsWorld
+        (record { deployment = w.deployment; interest = w.interest; sites = w.sites.items; nets = w.nets.items; clients = w.clients.items; shown = w.shown }) };
 }
 
 // The number of answers Shown, after one more answer.
@@ -81,16 +84,20 @@ impl World {
         })
     }
 
-    /// Does an act and answers it, by the call of its kind. For want of memory the world is as before. A tick, a clock, a leave, an
-    /// attach, a turn, a stamp, a fall, an advance and a kill take none.
+    /// Does an act and answers it, by the call of its kind. For want of memory the world is as before. A tick, a clock,
+    /// a leave, an attach, a turn, a stamp, a fall, an advance and a kill take none.
     #[inline(always)]
     pub fn apply(&mut self, act: &Act) -> Result<Answer, AllocError>
         requires act { IsActOf self.old.deployment act.now }
         requires plain { is_settle act.now ≡ false }
-        ensures answer { IfOk result (λ r. (h : List Entry) → IsRun self.old.deployment h → StandsFor self.old h → r ≡ answer self.old.deployment h act.now) }
-        ensures run { IfOk result (λ r. (h : List Entry) → IsRun self.old.deployment h → StandsFor self.old h → IsRun self.new.deployment (record { act = act.now; answer = r; inner = false } ∷ h)) }
-        ensures stands { IfOk result (λ r. (h : List Entry) → IsRun self.old.deployment h → StandsFor self.old h → StandsFor self.new (record { act = act.now; answer = r; inner = false } ∷ h)) }
-        ensures good { IfOk result (λ r. (h : List Entry) → IsRun self.old.deployment h → StandsFor self.old h → IsGood self.old.deployment (record { act = act.now; answer = r; inner = false } ∷ h)) }
+        ensures answer { IfOk result (λ r. (h : List Entry) → IsRun self.old.deployment h → StandsFor self.old h
+            → r ≡ answer self.old.deployment h act.now) }
+        ensures run { IfOk result (λ r. (h : List Entry) → IsRun self.old.deployment h → StandsFor self.old h
+            → IsRun self.new.deployment (record { act = act.now; answer = r; inner = false } ∷ h)) }
+        ensures stands { IfOk result (λ r. (h : List Entry) → IsRun self.old.deployment h → StandsFor self.old h
+            → StandsFor self.new (record { act = act.now; answer = r; inner = false } ∷ h)) }
+        ensures good { IfOk result (λ r. (h : List Entry) → IsRun self.old.deployment h → StandsFor self.old h
+            → IsGood self.old.deployment (record { act = act.now; answer = r; inner = false } ∷ h)) }
         ensures spare { takes_none act.now ≡ true → IsOk result }
         ensures refused { IfOk result (λ r. is_done r ≡ false → self.new ≡ self.old) }
         ensures deployment { self.new.deployment ≡ self.old.deployment }
@@ -115,20 +122,25 @@ impl World {
     pub fn site(&self, i: u16) -> SiteView
         requires { i < self.now.deployment.sites }
         ensures view { (h : List Entry) → IsRun self.now.deployment h → StandsFor self.now h → result.view ≡ view h i }
-        ensures emission { (h : List Entry) → IsRun self.now.deployment h → StandsFor self.now h → result.emission ≡ emission h i }
-        ensures stamp { (h : List Entry) → IsRun self.now.deployment h → StandsFor self.now h → result.stamp ≡ in_stamp_mode self.now.deployment h i }
-        ensures waiting { (h : List Entry) → IsRun self.now.deployment h → StandsFor self.now h → result.waiting ≡ length (waiting h i) }
+        ensures emission { (h : List Entry) → IsRun self.now.deployment h → StandsFor self.now h
+            → result.emission ≡ emission h i }
+        ensures stamp { (h : List Entry) → IsRun self.now.deployment h → StandsFor self.now h
+            → result.stamp ≡ in_stamp_mode self.now.deployment h i }
+        ensures waiting { (h : List Entry) → IsRun self.now.deployment h → StandsFor self.now h
+            → result.waiting ≡ length (waiting h i) }
     {
         let site = &self.sites[i as usize];
         site.view()
     }
 
-    /// The version of an item at a site that keeps it, None where the site shows none. At a site that does not keep it there is
-    /// none, also where the site shows an update that has it. It takes no memory.
+    /// The version of an item at a site that keeps it, None where the site shows none. At a site that does not keep it
+    /// there is none, also where the site shows an update that has it. It takes no memory.
     pub fn version(&self, i: u16, item: u16) -> Option<&Version>
         requires site { i < self.now.deployment.sites }
         requires item { item < length self.now.deployment.items }
-        ensures kept { (h : List Entry) → IsRun self.now.deployment h → StandsFor self.now h → replicates self.now.deployment item i ≡ true → MatchOption result (version h i item ≡ None) (λ v. IsVersion h i item v.now) }
+        ensures kept { (h : List Entry) → IsRun self.now.deployment h → StandsFor self.now h
+            → replicates self.now.deployment item i ≡ true
+            → MatchOption result (version h i item ≡ None) (λ v. IsVersion h i item v.now) }
         ensures away { replicates self.now.deployment item i ≡ false → IsNone result }
     {
         let site = &self.sites[i as usize];
@@ -138,32 +150,37 @@ impl World {
     /// A client: the point that it carries, where it is moving to, and its seat. It takes no memory.
     pub fn client(&self, c: u16) -> &Client
         requires { c < length self.now.deployment.clients }
-        ensures point { (h : List Entry) → IsRun self.now.deployment h → StandsFor self.now h → result.now.carried.point ≡ carried h c }
-        ensures moving { (h : List Entry) → IsRun self.now.deployment h → StandsFor self.now h → result.now.carried.moving ≡ moving h c }
-        ensures seat { (h : List Entry) → IsRun self.now.deployment h → StandsFor self.now h → result.now.seat ≡ seat self.now.deployment h c }
+        ensures point { (h : List Entry) → IsRun self.now.deployment h → StandsFor self.now h
+            → result.now.carried.point ≡ carried h c }
+        ensures moving { (h : List Entry) → IsRun self.now.deployment h → StandsFor self.now h
+            → result.now.carried.moving ≡ moving h c }
+        ensures seat { (h : List Entry) → IsRun self.now.deployment h → StandsFor self.now h
+            → result.now.seat ≡ seat self.now.deployment h c }
     {
         &self.clients[c as usize]
     }
 
     /// The number of answers Shown so far, or 2^64 - 1 where it is greater. It takes no memory.
     pub fn shown(&self) -> u64
-        ensures { (h : List Entry) → IsRun self.now.deployment h → StandsFor self.now h → result ≡ capped (shown_count h) }
+        ensures { (h : List Entry) → IsRun self.now.deployment h → StandsFor self.now h
+            → result ≡ capped (shown_count h) }
     {
         self.shown
     }
 
-    /// What is under way: the sum over all lanes of payloads made less taken, and over all links of labels entered less taken, or
-    /// 2^64 - 1 where it is greater. It takes no memory.
+    /// What is under way: the sum over all lanes of payloads made less taken, and over all links of labels entered less
+    /// taken, or 2^64 - 1 where it is greater. It takes no memory.
     pub fn underway(&self) -> u64
-        ensures { (h : List Entry) → IsRun self.now.deployment h → StandsFor self.now h → result ≡ capped (underway self.now.deployment h) }
+        ensures { (h : List Entry) → IsRun self.now.deployment h → StandsFor self.now h
+            → result ≡ capped (underway self.now.deployment h) }
     {
         let sites = self.deployment.sites();
         let gears = self.deployment.gears();
         underway::in_lanes(&self.sites, sites, gears).saturating_add(underway::on_links(&self.nets))
     }
 
-    /// Does an act and answers it, as `apply` does it, whose clauses on the answer are one here. The calls below do one kind of act
-    /// each.
+    /// Does an act and answers it, as `apply` does it, whose clauses on the answer are one here. The calls below do one
+    /// kind of act each.
     #[inline(always)]
     pub fn step(&mut self, act: &Act) -> Result<Answer, AllocError>
         requires act { IsActOf self.old.deployment act.now }
@@ -269,8 +286,8 @@ impl World {
     }
 
     /// A pulse, as `apply` does it.
-    // What a site sends is on its way before the site has sent it, in its emission epoch as it is before the act, since a sending
-    // takes no memory and the way may.
+    // What a site sends is on its way before the site has sent it, in its emission epoch as it is before the act, since
+    // a sending takes no memory and the way may.
     pub fn pulse(&mut self, site: u16) -> Result<Answer, AllocError>
         requires { IsActOf self.old.deployment (Act.Pulse site) }
         ensures applies { IfOk result (λ r. Applies self.old (Act.Pulse site) r self.new) }
@@ -329,7 +346,8 @@ impl World {
         self.write_items(client, Items::One(item), std::slice::from_ref(value))
     }
 
-    /// A client's write of several items under one label, as `apply` does it. The values are copied where the site does it.
+    /// A client's write of several items under one label, as `apply` does it. The values are copied where the site does
+    /// it.
     pub fn writes(
         &mut self,
         client: u16,
@@ -351,7 +369,8 @@ impl World {
         values: &[Value],
     ) -> Result<Answer, AllocError>
         requires { (a : ActSeen) × WritesBy self.old.deployment client items values.now a }
-        ensures applies { IfOk result (λ r. (a : ActSeen) → WritesBy self.old.deployment client items values.now a → Applies self.old a r self.new) }
+        ensures applies { IfOk result (λ r. (a : ActSeen) → WritesBy self.old.deployment client items values.now a
+            → Applies self.old a r self.new) }
         ensures err { OnErr result (self.new ≡ self.old) }
     {
         let known = self.clients[client as usize];
@@ -461,12 +480,14 @@ impl World {
         Ok(answer)
     }
 
-    /// The label at a place of the link to a serializer, counted from the oldest one that it has not taken, None where there is none.
-    /// It asks for an edge of an epoch's tree. It takes no memory, and works after a kill too.
+    /// The label at a place of the link to a serializer, counted from the oldest one that it has not taken, None where
+    /// there is none. It asks for an edge of an epoch's tree. It takes no memory, and works after a kill too.
     pub fn ahead(&self, epoch: u16, from: NodeId, to: u16, count: u64) -> Option<Label>
         requires { IsActOf self.now.deployment (Act.Hop epoch from to) }
-        ensures { (h : List Entry) → IsRun self.now.deployment h → StandsFor self.now h → (tree : TreeShape) → tree_of self.now.deployment epoch ≡ Some tree →
-            result ≡ slice_get (entered self.now.deployment h epoch tree from (SerializerNode to)) (taken self.now.deployment h epoch from (SerializerNode to) + count) }
+        ensures { (h : List Entry) → IsRun self.now.deployment h → StandsFor self.now h → (tree : TreeShape)
+            → tree_of self.now.deployment epoch ≡ Some tree →
+            result ≡ slice_get (entered self.now.deployment h epoch tree from (SerializerNode to))
+            (taken self.now.deployment h epoch from (SerializerNode to) + count) }
     {
         let place = epoch as usize - 1;
         nets::ahead_at(&self.nets, place, from, to, count as usize)
@@ -543,9 +564,10 @@ impl World {
         Ok(nets::kill_at(&mut self.nets, epoch as usize - 1, serializer))
     }
 
-    /// What an act hands to the site that it is an act at, as `apply` would hand it. None exactly where it reaches no site: a leave,
-    /// a hop, a kill, a clock and a settle reach none, nor does an act that is refused as NoSession, Joined or NoSuch; every other
-    /// act, refused or not, reaches one. Nothing is done. It takes memory for the values, the payload or the beat that is handed.
+    /// What an act hands to the site that it is an act at, as `apply` would hand it. None exactly where it reaches no
+    /// site: a leave, a hop, a kill, a clock and a settle reach none, nor does an act that is refused as NoSession,
+    /// Joined or NoSuch; every other act, refused or not, reaches one. Nothing is done. It takes memory for the values,
+    /// the payload or the beat that is handed.
     pub fn handed(&self, act: &Act) -> Result<Option<SiteInput>, AllocError>
         requires { IsActOf self.now.deployment act.now }
         ensures { IfOk result (λ found. HandsSome self.now act.now found) }
@@ -718,7 +740,8 @@ impl World {
         Some((site, SiteInput::Turn { front }))
     }
 
-    // What a bulk hands to the site that the payload comes to. No memory holds payloads whose number has more than 63 bits.
+    // What a bulk hands to the site that the payload comes to. No memory holds payloads whose number has more than 63
+    // bits.
     fn handed_bulk(
         &self,
         from: u16,

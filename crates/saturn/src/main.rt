@@ -73,8 +73,8 @@ fn hint(
     }
 }
 
-// Says on standard error what a status means. Where that is closed too, nobody can be told. Where the reader of standard output went
-// away, nobody asks.
+// Says on standard error what a status means. Where that is closed too, nobody can be told. Where the reader of
+// standard output went away, nobody asks.
 fn tell<R: Eprint + AllocGlobal>(
     rt: &R,
     status: u8,

@@ -1,4 +1,4 @@
-use Rattle.sat_finish.proofs.Loops.{mark-more, all-marked}
+use Rattle.sat_finish.proofs.Loops.{mark-more}
 use Rattle.sat_finish.proofs.names.check_sessions.Goals as goal
 
 pub loop-session-preserved : goal.loop-session-preserved
