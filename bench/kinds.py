@@ -6,6 +6,8 @@ KIND is one of
   settle256         the same with values of 256 bytes
   lanes             all payloads are made first, and then come lane by lane, each lane in its order
   lanes-far         the same, each lane in random order
+  chains            waves through a tree whose serializers are chains, for `chain 3`: each label enters at the head, is handed on twice
+                    and takes effect at the tail
 and, with ORDER one of rising, falling and random,
   payloads-ORDER    half of all acts write into one lane, the others bring its payloads in that order
   beats-ORDER       half of all acts make beats of one site for another, the others take them in that order, all of them before the one
@@ -104,6 +106,55 @@ def waves(sites, replicas, at, seats, pick):
             yield from itertools.repeat(f'stamp {site}', to_come[site])
 
 
+def chains(acts, sites, _, pick):
+    replicas, at = spread(sites, pick)
+    seats = [client % sites for client in range(CLIENTS)]
+    return header(sites, 1, replicas, seats, tree(sites)), itertools.islice(chained(sites, replicas, at, seats, pick), acts)
+
+
+def chained(sites, replicas, at, seats, pick):
+    count = 3 if sites < 8 else 7
+    home = [site * count // sites for site in range(sites)]
+    ends = {z: [f'z{y}' for y in range(count) if y and (y - 1) // 2 == z] + [f'z{(z - 1) // 2}'] * (z > 0) for z in range(count)}
+
+    def behind(z, y):
+        """The sites that are reached from serializer z through its neighbour y."""
+        found, queue = {z, y}, [y]
+        for x in queue:
+            queue += [n for n in (int(end[1:]) for end in ends[x]) if n not in found]
+            found |= {*queue}
+        return {site for site in range(sites) if home[site] in queue}
+
+    reached = {(z, end): behind(z, int(end[1:])) for z in ends for end in ends[z]}
+    for wave in itertools.count():
+        made, lanes = [[] for _ in range(sites)], []
+        for n in range(4 * sites):
+            client = pick.randrange(CLIENTS)
+            site, item = seats[client], pick.choice(at[seats[client]])
+            yield f'write c{client} x{item} v{n}'
+            made[site].append(replicas[item] - {site})
+            lanes += [(site, 0, j) for j in sorted(replicas[item] - {site})]
+        for site in range(sites):
+            yield f'tick {site} 0 {(wave + 1) * 1_000}'
+            yield f'gather {site}'
+            yield from itertools.repeat(f'emit {site}', len(made[site]))
+        # the labels of one gear leave in the order of their writes; each waits at a link into a serializer, with the sites that it is for
+        under_way = [(f's{site}', home[site], targets) for site in range(sites) for targets in made[site]]
+        turns = [0] * sites
+        while under_way:
+            onwards = []
+            for source, z, targets in under_way:
+                yield from (f'enter 1 {source} z{z}', f'pass 1 z{z} 0', f'pass 1 z{z} 1', f'apply 1 z{z}')
+                for site in sorted(targets):
+                    turns[site] += home[site] == z
+                onwards += [(f'z{z}', int(end[1:]), targets & reached[z, end]) for end in ends[z] if end != source and targets & reached[z, end]]
+            under_way = onwards
+        for i, gear, j in lanes:
+            yield f'bulk {i} {gear} {j}'
+        for site in range(sites):
+            yield from itertools.repeat(f'turn {site}', turns[site])
+
+
 def settle(length):
     def lines(acts, sites, _, pick):
         yield header(sites, GEARS, [range(sites)], range(sites), tree(sites))
@@ -186,7 +237,7 @@ def ticks(acts, sites, order, pick):
 
 
 KINDS = {
-    'stamps': stamps, 'settle1': settle(1), 'settle256': settle(256), 'lanes': lanes, 'payloads': payloads, 'beats': beats,
+    'stamps': stamps, 'chains': chains, 'settle1': settle(1), 'settle256': settle(256), 'lanes': lanes, 'payloads': payloads, 'beats': beats,
     'counts': counts, 'overtaken': overtaken, 'turns': turns, 'stamped': stamped, 'ticks': ticks,
 }
 

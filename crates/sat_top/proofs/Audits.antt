@@ -13,8 +13,9 @@ use Rattle.sat_audit.specs.declared.heard.History.{History}
 use Rattle.sat_top.specs.declared.auditing.TheConstants.{MOST_HISTORY_BYTES}
 use Rattle.sat_top.specs.declared.words.Command.TheVariants.{Audit}
 use Rattle.sat_top.specs.Auditing.{audit_status, audit_text, cut_off, heard_in, judged_status, judged_text, verdict_status, HasHistoryFault, HasVerdict, IsAudited}
-use Rattle.sat_top.specs.Whole.{IsTextOf, IsOutput}
-use Rattle.sat_top.proofs.Progress.{at_end, rest_of}
+use Rattle.sat_follow.specs.Following.{IsTextOf}
+use Rattle.sat_top.specs.Whole.{IsOutput}
+use Rattle.sat_pieces.proofs.Progress.{at_end, rest_of}
 
 -- ---- a text of so many bytes, or of fewer
 

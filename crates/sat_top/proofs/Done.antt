@@ -12,7 +12,7 @@ use Rattle.sat_top.specs.declared.words.Command.TheVariants.{Run, Draw, Plan, Pl
 use Rattle.sat_report.specs.Faults.{fault_line}
 use Rattle.sat_stream.specs.declared.stream.Reading.{Reading}
 use Rattle.sat_top.specs.Drawing.{draw_text, IsGoodDrawing}
-use Rattle.sat_top.specs.Good.{IsGoodScript}
+use Rattle.sat_pieces.specs.Good.{IsGoodScript}
 use Rattle.sat_place.specs.Shape.{Shape, shape_reading}
 use Rattle.sat_place.specs.Texts.{place_text, result_text as place_result}
 use Rattle.sat_top.specs.Placing.{place_status}
@@ -23,7 +23,8 @@ use Rattle.sat_top.specs.Contract.{is_command_status}
 use Rattle.sat_chain_script.specs.Readings.{chain_reading}
 use Rattle.sat_top.proofs.Audits.{audit_refused, verdict_done}
 use Rattle.sat_top.proofs.Chained.{chain_done, chain_each, chain_low, chain_refused}
-use Rattle.sat_top.specs.Whole.{IsDone, IsFound, IsRefused, IsOutput, HasRun, HasDrawn, HasLineFault, HasFault, HasPlan, HasDelayFault, HasPlacement, HasShapeFault, command_output, command_status, plan_status, refusal, run_status}
+use Rattle.sat_pieces.specs.Streaming.{run_status}
+use Rattle.sat_top.specs.Whole.{IsDone, IsFound, IsRefused, IsOutput, HasRun, HasDrawn, HasLineFault, HasFault, HasPlan, HasDelayFault, HasPlacement, HasShapeFault, command_output, command_status, plan_status, refusal}
 
 written : (c : Option Command) (left : Option (List ℕ)) (text : List ℕ) (status : ℕ) (old new : Told) (o : IsOutput c left text status) → Takes old new text → Takes old new (command_output c o.input)
 written c left text status old new o took = subst (λ (bytes : List ℕ). Takes old new bytes) o.output took

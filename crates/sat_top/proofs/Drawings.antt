@@ -9,9 +9,11 @@ use Rattle.sat_draw.proofs.Marks.{each_once}
 use Rattle.sat_draw.proofs.Arrowed.{ways_told}
 use Rattle.sat_top.specs.declared.words.Command.TheVariants.{Draw}
 use Rattle.sat_top.specs.Drawing.{draw_text, told_history, EveryDrawingIsGood, IsGoodDrawing}
-use Rattle.sat_top.specs.Whole.{IsOutput, IsTextOf, run_status}
+use Rattle.sat_follow.specs.Following.{IsTextOf}
+use Rattle.sat_pieces.specs.Streaming.{run_status}
+use Rattle.sat_top.specs.Whole.{IsOutput}
 use Rattle.sat_runs.proofs.Good.{TheLaws, good_run}
-use Rattle.sat_top.proofs.Ran.{zero_fault}
+use Rattle.sat_pieces.proofs.Ran.{zero_fault}
 
 drawing_is : (r : Reading) (d : Deployed) → r.deployment ≡ Some d → r.fault ≡ None → draw_text r ≡ drawing d (told_history d r.acts)
 drawing_is r d at none = rw (at, none) refl

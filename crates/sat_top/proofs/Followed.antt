@@ -5,13 +5,13 @@ use Rattle.std.specs.Io.KnownBytes.{Consumes, IsAtEnd}
 use Rattle.sat_outside.specs.Causes.{Rose}
 use Rattle.sat_outside.specs.Streams.{Told, Takes}
 use Rattle.sat_follow.specs.Meaning.{Meaning}
-use Rattle.sat_follow.specs.Following.{IsOutput as FollowOutput, StopsReading as FollowStops, HasAnswered as FollowAnswered, HasFront as FollowFront, WasAnswering as FollowAnswering}
+use Rattle.sat_follow.specs.Following.{IsTextOf, TakesFront, IsOutput as FollowOutput, StopsReading as FollowStops, HasAnswered as FollowAnswered, HasFront as FollowFront, WasAnswering as FollowAnswering}
 use Rattle.sat_follow.specs.declared.pieces.TheConstants.{BUFFER_BYTES}
 use Rattle.sat_top.specs.declared.words.Command.{Command}
 use Rattle.sat_top.specs.declared.words.Command.TheVariants.{Audit}
 use Rattle.sat_top.specs.Contract.{most_taken, MeetsCommand}
 use Rattle.sat_top.specs.Streaming.{BrokeOff, GaveUp, StopsReadingOf, WroteBefore}
-use Rattle.sat_top.specs.Whole.{IsOutput, IsTextOf, TakesFront, command_output, reads}
+use Rattle.sat_top.specs.Whole.{IsOutput, command_output, reads}
 use Rattle.sat_top.proofs.Meetings.{told_met}
 
 -- a follower with this meaning does the command: what the loop says of it is what the contract asks, status by status

@@ -1,17 +1,12 @@
-pub mod Progress
-pub mod Faults
 pub mod Counting
 pub mod Unseated
 pub mod Drafts
 pub mod Wordless
-pub mod Good
 pub mod Refused
-pub mod Ran
 pub mod Plans
 pub mod Placements
 pub mod Chained
 pub mod Done
-pub mod Streamed
 pub mod Meetings
 pub mod Followed
 pub mod ChainFollowed

@@ -10,10 +10,10 @@ use Rattle.sat_script.specs.declared.fault.ScriptFault.{ScriptFault}
 use Rattle.sat_stream.specs.declared.limits.TheConstants.{MOST_BYTES}
 use Rattle.sat_stream.specs.declared.stream.Reading.{Reading}
 use Rattle.sat_live.specs.Told.{IsTold}
-use Rattle.sat_top.specs.declared.stream.TheConstants.{BUFFER_BYTES}
+use Rattle.sat_follow.specs.declared.pieces.TheConstants.{BUFFER_BYTES}
 use Rattle.sat_top.specs.Living.{MeetsLive, IsLiveStatus, Tells, TellsOf, is_told}
-use Rattle.sat_top.specs.Streaming.{StopsReading}
-use Rattle.sat_top.specs.Whole.{IsTextOf}
+use Rattle.sat_pieces.specs.Streaming.{StopsReading}
+use Rattle.sat_follow.specs.Following.{IsTextOf}
 
 -- what holds of the statuses of a run that came to its end
 each-end : (P : ℕ → Type 0) (status : ℕ) → (status ≡ 0) ⊎ (status ≡ 6) ⊎ (status ≡ 8) → P 0 → P 6 → P 8 → P status

@@ -4,20 +4,26 @@ use Rattle.std.specs.Io.KnownBytes.{Consumes, IsAtEnd}
 use Rattle.sat_outside.specs.Streams.{Told, Takes}
 use Rattle.sat_script.specs.declared.fault.ScriptFault.{ScriptFault}
 use Rattle.sat_stream.specs.declared.limits.TheConstants.{MOST_BYTES}
-use Rattle.sat_top.specs.declared.stream.TheConstants.{BUFFER_BYTES}
+use Rattle.sat_follow.specs.declared.pieces.TheConstants.{BUFFER_BYTES}
 use Rattle.sat_top.specs.declared.words.Command.{Command}
 use Rattle.sat_top.specs.declared.words.Command.TheVariants.{Audit, Run}
 use Rattle.sat_top.specs.Contract.{most_taken, MeetsCommand}
-use Rattle.sat_top.specs.Streaming.{StopsReading, StopsReadingOf}
-use Rattle.sat_top.specs.Whole.{IsOutput, IsTextOf, command_status, reads, run_status}
+use Rattle.sat_pieces.specs.Streaming.{IsReported, StopsReading, run_status}
+use Rattle.sat_top.specs.Streaming.{StopsReadingOf}
+use Rattle.sat_follow.specs.Following.{IsTextOf}
+use Rattle.sat_top.specs.Whole.{IsOutput, command_status, reads}
 use Rattle.sat_top.proofs.Done.{has_status, is_done, is_found, is_refused, no_status, two_is}
 
 small : (fault : Option ScriptFault) → run_status fault ≤ 1
 small None = omega arith
 small (Some fault) = omega arith
 
+-- what a run made is the output of the command `run`
+reported : (left : Option (List ℕ)) (text : List ℕ) (status : ℕ) → IsReported left text status → IsOutput (Some Run) left text status
+reported left text status r = record { input = r.input; whole = r.whole; output = r.output; status_is = r.status_is; proves = r.proves }
+
 pub met : (status : ℕ) (left left_after : Option (List ℕ)) (old new : Told) (failed failed_after refused refused_after ends ends_after : ℕ) →
-    (text : List ℕ) × IsOutput (Some Run) left text status × Takes old new text →
+    (text : List ℕ) × IsReported left text status × Takes old new text →
     (status ≡ 0 → IsAtEnd left_after) →
     (taken : List ℕ) × Consumes left left_after taken × (length taken ≤ MOST_BYTES + BUFFER_BYTES) →
     StopsReading false left left_after →
@@ -25,7 +31,7 @@ pub met : (status : ℕ) (left left_after : Option (List ℕ)) (old new : Told) 
     failed ≤ failed_after → refused ≤ refused_after →
     MeetsCommand (Some Run) status left left_after old new failed failed_after refused refused_after ends ends_after
 met status left left_after old new failed failed_after refused refused_after ends ends_after said at-end bounded stops once later kept =
-    let o : IsOutput (Some Run) left said.0 status = said.1 in
+    let o : IsOutput (Some Run) left said.0 status = reported left said.0 status said.1 in
     let took : Takes old new said.0 = said.2 in
     let low : status ≤ 1 = subst (λ (n : ℕ). n ≤ 1) (sym o.status_is) (small _) in record {
       written = λ _. (o.input, o.whole, o.status_is, subst (λ (bytes : List ℕ). Takes old new bytes) o.output took);

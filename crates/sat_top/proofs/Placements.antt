@@ -13,7 +13,8 @@ use Rattle.sat_place.specs.Shape.{Shape, shape_reading}
 use Rattle.sat_place.specs.Texts.{placed_text, least_text, shape_fault_text, result_text, place_text}
 use Rattle.sat_top.specs.declared.words.Command.TheVariants.{Place}
 use Rattle.sat_top.specs.Placing.{IsPlaced, place_status}
-use Rattle.sat_top.specs.Whole.{IsTextOf, IsOutput}
+use Rattle.sat_follow.specs.Following.{IsTextOf}
+use Rattle.sat_top.specs.Whole.{IsOutput}
 use Rattle.sat_top.proofs.Plans.{too_long_shape}
 
 -- the text of a placement that is the one that the definition finds

@@ -15,8 +15,9 @@ use Rattle.sat_plan.specs.Steps.{built}
 use Rattle.sat_plan.specs.Texts.{config_text, plan_text, result_text}
 use Rattle.sat_place.specs.Shape.{shape_reading}
 use Rattle.sat_top.specs.declared.words.Command.TheVariants.{Plan}
-use Rattle.sat_top.specs.Whole.{IsTextOf, IsPlanned, IsOutput, plan_status}
-use Rattle.sat_top.proofs.Progress.{at_end, rest_of}
+use Rattle.sat_follow.specs.Following.{IsTextOf}
+use Rattle.sat_top.specs.Whole.{IsPlanned, IsOutput, plan_status}
+use Rattle.sat_pieces.proofs.Progress.{at_end, rest_of}
 
 pub planned : (bytes : List ℕ) (d : DelayTable) (text : List ℕ) (status : ℕ) → delays_in bytes ≡ Ok d → text ≡ config_text (built d) (mismatch d (built d)) → status ≡ 0 →
     ((e delay : ℕ) → mismatch d (built d) ≤ mismatch d (delayed (built d) e delay)) → IsPlanned bytes text status

@@ -4,7 +4,7 @@ use Rattle.sat_top.specs.declared.words.Command.{Command}
 use Rattle.sat_top.specs.declared.words.Command.TheVariants.{Load, Help, Version}
 use Rattle.sat_top.specs.Loading.{load_text, IsGoodLoad}
 use Rattle.sat_top.specs.Whole.{IsOutput, help, refusal, version}
-use Rattle.sat_top.proofs.Progress.{some_text}
+use Rattle.sat_pieces.proofs.Progress.{some_text}
 
 pub refused_output : (c : Option Command) (left : Option (List ℕ)) (text : List ℕ) (status : ℕ) → c ≡ None → text ≡ refusal → status ≡ 2 → IsOutput c left text status
 refused_output c left text status none is two = rw none (record { input = (some_text left).0; whole = (some_text left).1; output = is; status_is = two; proves = tt })

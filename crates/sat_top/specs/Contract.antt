@@ -8,13 +8,14 @@ use Rattle.sat_stream.specs.declared.limits.TheConstants.{MOST_BYTES}
 use Rattle.sat_delay.specs.declared.read.TheConstants.{MOST_BYTES as MOST_DELAY_BYTES}
 use Rattle.sat_chain_runs.specs.ChainTexts.{chain_meaning}
 use Rattle.sat_top.specs.declared.auditing.TheConstants.{MOST_HISTORY_BYTES}
-use Rattle.sat_top.specs.declared.stream.TheConstants.{BUFFER_BYTES}
+use Rattle.sat_follow.specs.declared.pieces.TheConstants.{BUFFER_BYTES}
 use Rattle.sat_top.specs.declared.words.Command.{Command}
 use Rattle.sat_top.specs.declared.words.Command.TheVariants.{Run, Draw, Plan, Place, Audit, Chain}
 use Rattle.sat_top.specs.Words.{command_of, is_live}
 use Rattle.sat_top.specs.Living.{MeetsLive}
 use Rattle.sat_top.specs.Streaming.{WroteBefore, BrokeOff, GaveUp, StopsReadingOf}
-use Rattle.sat_top.specs.Whole.{IsTextOf, TakesFront, IsDone, IsRefused, IsFound, is_whole, reads, refusal, command_status, command_output}
+use Rattle.sat_follow.specs.Following.{IsTextOf, TakesFront}
+use Rattle.sat_top.specs.Whole.{IsDone, IsRefused, IsFound, is_whole, reads, refusal, command_status, command_output}
 
 -- how many bytes a command takes at the most, however many the source has: its longest input, and one piece
 abbrev pub most_taken : Option Command → ℕ

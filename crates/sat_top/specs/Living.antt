@@ -10,12 +10,11 @@ use Rattle.sat_script.specs.declared.fault.ScriptFault.{ScriptFault}
 use Rattle.sat_stream.specs.declared.limits.TheConstants.{MOST_BYTES}
 use Rattle.sat_stream.specs.Reading.{reading, IsAllowed}
 use Rattle.sat_script.specs.Spelled.{Spells}
-use Rattle.sat_stream.specs.Stream.{LacksOnlyItsEnd}
 use Rattle.sat_report.specs.Faults.{fault_line}
 use Rattle.sat_live.specs.Told.{IsTold}
-use Rattle.sat_top.specs.declared.stream.TheConstants.{BUFFER_BYTES}
-use Rattle.sat_top.specs.Streaming.{StopsReading}
-use Rattle.sat_top.specs.Whole.{IsTextOf, TakesFront}
+use Rattle.sat_follow.specs.declared.pieces.TheConstants.{BUFFER_BYTES}
+use Rattle.sat_pieces.specs.Streaming.{StopsReading}
+use Rattle.sat_follow.specs.Following.{IsTextOf, TakesFront}
 
 -- the statuses of a run that came to its end: 0, 6 and 8
 abbrev pub is_told : ℕ → Bool
@@ -52,12 +51,6 @@ pub record HasLiveFault (left : Option (List ℕ)) (old new : Told) : Type 0 whe
   pub fault : ScriptFault
   pub bad : (reading true text).fault ≡ Some fault
   pub written : Takes old new (fault_line fault)
-
--- The source failed after these bytes, and none of the whole lines in them is bad.
-pub record HasReadLines (live : Bool) (left left_after : Option (List ℕ)) : Type 0 where
-  pub taken : List ℕ
-  pub consumed : Consumes left left_after taken
-  pub lacks : LacksOnlyItsEnd (reading live taken)
 
 -- The sink took a front of what is written of the source's text, with some status.
 pub record HasLivedFront (left : Option (List ℕ)) (old new : Told) : Type 0 where

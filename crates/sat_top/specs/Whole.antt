@@ -1,6 +1,7 @@
 -- What a command makes of the whole text of a source, and what it leaves.
-use Rattle.std.specs.Prelude.{ℕ, ◌≡◌, ◌≤◌, ◌||◌, ◌==◌, nat_le, Bool, true, false, List, [], ◌∷◌, ◌++◌, Option, Some, None, IfSome, IsSome, Result, Ok, Err, codes, take}
+use Rattle.std.specs.Prelude.{ℕ, ◌≡◌, ◌≤◌, ◌||◌, ◌==◌, nat_le, Bool, true, false, List, [], ◌∷◌, ◌++◌, Option, Some, None, IsSome, Result, Ok, Err, codes}
 use Rattle.sat_outside.specs.Streams.{Told, Takes}
+use Rattle.sat_follow.specs.Following.{IsTextOf}
 use Rattle.sat_act.specs.declared.act.Act.{Act}
 use Rattle.sat_act.specs.Deployed.{Deployed}
 use Rattle.sat_stream.specs.Reading.{reading}
@@ -35,11 +36,9 @@ use Rattle.sat_top.specs.Chaining.{HasChained, HasChainFault}
 use Rattle.sat_top.specs.Words.{command_of}
 use Rattle.sat_runs.specs.Runs.{history, run_text}
 use Rattle.sat_runs.specs.Good.{IsGoodRun}
-use Rattle.sat_top.specs.Good.{IsGoodScript, IsGoodFront, IsBestPlan}
-
--- this is the whole text of the source, where the source tells it
-abbrev pub IsTextOf : Option (List ℕ) → List ℕ → Type 0
-IsTextOf left text = IfSome left (λ all. all ≡ text)
+use Rattle.sat_pieces.specs.Good.{IsGoodScript, IsGoodFront}
+use Rattle.sat_pieces.specs.Streaming.{run_status}
+use Rattle.sat_top.specs.Good.{IsBestPlan}
 
 -- what is written where the words are no command
 abbrev pub refusal : List ℕ
@@ -62,10 +61,6 @@ reads (Some Place) = true
 reads (Some Audit) = true
 reads (Some (Chain replicas)) = true
 reads _ = false
-
-abbrev pub run_status : Option ScriptFault → ℕ
-run_status None = 0
-run_status (Some fault) = 1
 
 abbrev pub plan_status : Result DelayTable DelayFault → ℕ
 plan_status (Ok table) = 0
@@ -104,10 +99,6 @@ status_of words text = command_status (command_of words) text
 -- the output of a call with these words and this input
 abbrev pub output_of : List (List ℕ) → List ℕ → List ℕ
 output_of words text = command_output (command_of words) text
-
--- the sink took a front of these bytes
-abbrev pub TakesFront : Told → Told → List ℕ → Type 0
-TakesFront old new bytes = (count : ℕ) × Takes old new (take count bytes)
 
 -- The source's text spells a deployment and acts. The sink took the report of their one history, in which each site
 -- shows each update at most once and after every cause that it keeps, no client reads older than it saw, and where

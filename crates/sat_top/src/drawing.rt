@@ -8,7 +8,7 @@ ghost use Rattle.sat_stream.specs.Laws.{IsSound};
 ghost use Rattle.sat_report.specs.Faults.{fault_line};
 ghost use Rattle.sat_draw.specs.Drawing.{drawing};
 ghost use Rattle.sat_top.specs.Drawing.{draw_text, told_history};
-ghost use Rattle.sat_top.specs.Whole.{run_status};
+ghost use Rattle.sat_pieces.specs.Streaming.{run_status};
 ghost use Rattle.sat_top.specs.UnderWay.{IsEntering};
 
 use crate::output::Output;

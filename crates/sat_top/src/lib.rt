@@ -11,12 +11,11 @@ mod memory;
 mod output;
 mod placing;
 mod planning;
-mod run;
 mod stream;
 mod top;
 mod words;
 
-pub use law::good_scripts;
 pub use memory::still_in_memory;
+pub use sat_pieces::good_scripts;
 pub use top::{saturn, still};
 pub use words::Command;

@@ -5,9 +5,10 @@ ghost use Rattle.sat_top.specs.Living.{MeetsLive, Tells};
 
 use crate::drawing::fault_output;
 use crate::output::Output;
-use crate::stream::{Stop, read_script, write_text};
+use sat_follow::write_text;
 use sat_live::live;
 use sat_outside::{Gate, Sink, Source};
+use sat_pieces::{Stop, read_script};
 use sat_stream::{Reading, one_spelling};
 use std::alloc::{AllocError, Global};
 use std::sync::Wait;

@@ -2,12 +2,12 @@
 ghost use Rattle.std.specs.Prelude.{◌≡◌, ◌≢◌, ◌≤◌, ◌+◌, ℕ, List, IfOk, IsErrOf, Some, true, false, length, map, string_bytes};
 ghost use Rattle.std.specs.Io.KnownBytes.{Consumes, IsAtEnd};
 ghost use Rattle.sat_outside.specs.Causes.{Rose};
-ghost use Rattle.sat_top.specs.declared.stream.Stop.TheVariants.{Memory};
 ghost use Rattle.sat_top.specs.declared.words.Command.TheVariants.{Audit, Chain, Run};
 ghost use Rattle.sat_top.specs.Words.{command_of};
-ghost use Rattle.sat_top.specs.Whole.{refusal, reads, run_status, IsOutput};
+ghost use Rattle.sat_top.specs.Whole.{refusal, reads, IsOutput};
 ghost use Rattle.sat_top.specs.Contract.{most_taken};
-ghost use Rattle.sat_top.specs.Streaming.{StopsReading, StopsReadingOf};
+ghost use Rattle.sat_pieces.specs.Streaming.{StopsReading};
+ghost use Rattle.sat_top.specs.Streaming.{StopsReadingOf};
 
 use crate::auditing::audit_of;
 use crate::drawing::draw_of;
@@ -15,20 +15,13 @@ use crate::law::good_drawings;
 use crate::loading::load_output;
 use crate::placing::{place_of, place_wide_of};
 use crate::planning::plan_of;
-use crate::stream::{Stop, read_delay_text, read_history_text, read_script};
+use crate::stream::{read_delay_text, read_history_text};
 use crate::words::{Command, command_of};
 use sat_outside::Source;
-use sat_stream::{Reading, sound_readings};
+use sat_pieces::{Stop, read_script};
+use sat_stream::sound_readings;
 use std::alloc::{AllocError, Global};
 use std::thread::Threads;
-
-impl From<AllocError> for Stop {
-    ghost from_gives = { λ _ e. e ≡ Memory };
-
-    fn from(_: AllocError) -> Stop {
-        Stop::Memory
-    }
-}
 
 // What the program says of itself.
 const HELP: &str =
@@ -49,16 +42,6 @@ fn refusal(alloc: Global) -> Result<Output, AllocError>
 {
     let text = b"words refused\n".to_vec(alloc)?;
     Ok(Output { text, status: 2 })
-}
-
-/// The status of a script: 0, or 1 where it has a bad line.
-pub(crate) fn run_status(reading: &Reading) -> u8
-    ensures { result ≡ run_status reading.now.fault }
-{
-    match reading.fault {
-        None => 0,
-        Some(_) => 1,
-    }
 }
 
 // A text of the program's own, with status 0.

@@ -8,12 +8,12 @@ ghost use Rattle.sat_top.specs.Contract.{Meets, MeetsCommand};
 
 use crate::living::lived;
 use crate::output::{make_output, place_wide};
-use crate::stream::{Halt, Stop, run_script, write_text};
 use crate::words::{Command, command_of, is_live};
 use sat_chain_runs::chain_follower;
 use sat_chain_script::good_chain_texts;
-use sat_follow::{Halt as FollowHalt, follow};
+use sat_follow::{Halt, follow, write_text};
 use sat_outside::{Gate, Sink, Source};
+use sat_pieces::{Stop, run_script};
 use std::alloc::Global;
 use std::sync::Wait;
 use std::thread::Threads;
@@ -75,9 +75,9 @@ fn chained<S: Source, K: Sink>(alloc: Global, replicas: u16, source: &mut S, sin
     let mut follower = chain_follower(alloc, replicas);
     match follow(alloc, &mut follower, source, sink) {
         Ok(status) => status,
-        Err(FollowHalt::Source) => 3,
-        Err(FollowHalt::Sink) => 4,
-        Err(FollowHalt::Memory) => 5,
+        Err(Halt::Source) => 3,
+        Err(Halt::Sink) => 4,
+        Err(Halt::Memory) => 5,
     }
 }
 

@@ -1,6 +1,6 @@
 use Rattle.std.proofs.Common.{◌++◌, take, arith}
 use Rattle.std.proofs.lemmas.List.{length-append}
-use Rattle.sat_top.proofs.Progress.{consumes_more}
+use Rattle.sat_pieces.proofs.Progress.{consumes_more}
 use Rattle.sat_top.proofs.stream.read_past.Goals as goal
 
 pub returns-in_err-extend_from_slice-in-Ok-clause-bounded : goal.returns-in_err-extend_from_slice-in-Ok-clause-bounded

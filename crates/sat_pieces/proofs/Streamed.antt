@@ -20,20 +20,19 @@ use Rattle.sat_script.specs.declared.fault.ScriptFault.{ScriptFault}
 use Rattle.sat_script.specs.declared.limits.TheConstants.{MOST_ACTS}
 use Rattle.sat_stream.specs.declared.stream.Reading.{Reading}
 use Rattle.sat_stream.proofs.Drained.{ends_as, few_read}
-use Rattle.sat_top.specs.declared.stream.Halt.{Halt}
-use Rattle.sat_top.specs.declared.stream.Halt.TheVariants.{Source, Sink, Memory}
-use Rattle.sat_top.specs.declared.words.Command.TheVariants.{Run}
-use Rattle.sat_top.specs.Good.{EveryReadingIsGood}
+use Rattle.sat_follow.specs.declared.pieces.Halt.{Halt}
+use Rattle.sat_follow.specs.declared.pieces.Halt.TheVariants.{Source, Sink, Memory}
+use Rattle.sat_pieces.specs.Good.{EveryReadingIsGood}
 use Rattle.sat_runs.specs.Runs.{history, run_text, ending}
-use Rattle.sat_top.specs.declared.stream.TheConstants.{BUFFER_BYTES}
-use Rattle.sat_top.specs.Streaming.{answers_under, answers_text, HasAnswered, HasFront, WasAnswering, StopsReading}
-use Rattle.sat_top.specs.Whole.{IsTextOf, IsOutput, TakesFront, run_status}
+use Rattle.sat_follow.specs.declared.pieces.TheConstants.{BUFFER_BYTES}
+use Rattle.sat_pieces.specs.Streaming.{answers_under, answers_text, HasAnswered, HasFront, IsReported, WasAnswering, StopsReading, run_status}
+use Rattle.sat_follow.specs.Following.{IsTextOf, TakesFront}
 use Rattle.sat_runs.proofs.Good.{TheLaws, runs, all_front}
-use Rattle.sat_top.proofs.Progress.{HasRead, consumes_more, read_start, read_more, read_whole, read_enough, rest_of}
-use Rattle.sat_top.proofs.Faults.{has_fault}
-use Rattle.sat_top.proofs.Ran.{at_some, front, ran, zero_fault}
+use Rattle.sat_pieces.proofs.Progress.{HasRead, consumes_more, read_start, read_more, read_whole, read_enough, rest_of}
+use Rattle.sat_pieces.proofs.Faults.{has_fault}
+use Rattle.sat_pieces.proofs.Ran.{at_some, front, ran, zero_fault}
 use Rattle.sat_runs.proofs.Running.{answers_front}
-use Rattle.sat_top.specs.UnderWay.{AtWorld, DoesMore, Ends, EndsBefore, IsKnown, IsWorldOf}
+use Rattle.sat_pieces.specs.UnderWay.{AtWorld, DoesMore, Ends, EndsBefore, IsKnown, IsWorldOf}
 
 -- what was read so far, and the answers of the acts in it
 pub record IsUnder (before now : Option (List ℕ)) (n : ℕ) (r : Came) (w : Option WorldSeen) (count : ℕ) (written : List ℕ) : Type 0 where
@@ -270,7 +269,7 @@ ends_early b n k r w count written found had settled is =
     record { done = had.done; text = t.0; whole = t.1; is = t.2; number = had.number; world = had.world }
 
 pub ended : (b : Option (List ℕ)) (found : Reading) (w : Option WorldSeen) (count : ℕ) (written : List ℕ) (status : ℕ) (old mid new : Told) → EveryReadingIsGood → EverySound → TheLaws → IsAtItsEnd b found w count written → Takes old mid written → Ends w count found mid new
-    → status ≡ run_status found.fault → (text : List ℕ) × IsOutput (Some Run) b text status × Takes old new text
+    → status ≡ run_status found.fault → (text : List ℕ) × IsReported b text status × Takes old new text
 ended b found w count written status old mid new law sound laws had took ends means =
     let rest = ends written had.done had.number had.world in
     let good = subst (λ (x : Reading). IfSome x.deployment (λ d. IsDeployment d × HaveNames d × AreActsOf d x.acts)) had.is (sound had.text).whole in
@@ -296,7 +295,7 @@ takes_nothing : (a b c : Told) (xs : List ℕ) → Takes a b xs → Takes b c []
 takes_nothing a b c xs h k = subst (λ (bytes : List ℕ). Takes a c bytes) (append-nil xs) (takes_on a b c xs [] h k)
 
 pub ok_ended : (b : Option (List ℕ)) (found : Reading) (w : Option WorldSeen) (count : ℕ) (written : List ℕ) (result : Result ℕ Halt) (old mid new : Told) → EveryReadingIsGood → EverySound → TheLaws → IsAtItsEnd b found w count written → Takes old mid written
-    → IfOk result (λ status. status ≡ run_status found.fault) → OnOk result (Ends w count found mid new) → IfOk result (λ status. (text : List ℕ) × IsOutput (Some Run) b text status × Takes old new text)
+    → IfOk result (λ status. status ≡ run_status found.fault) → OnOk result (Ends w count found mid new) → IfOk result (λ status. (text : List ℕ) × IsReported b text status × Takes old new text)
 ok_ended b found w count written (Ok status) old mid new law sound laws had took means ends = ended b found w count written status old mid new law sound laws had took ends means
 ok_ended b found w count written (Err why) old mid new law sound laws had took means ends = tt
 

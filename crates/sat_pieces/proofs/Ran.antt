@@ -7,12 +7,12 @@ use Rattle.sat_script.specs.Spelled.{HaveNames, AreActsOf}
 use Rattle.sat_stream.specs.Reading.{reading}
 use Rattle.sat_script.specs.declared.fault.ScriptFault.{ScriptFault}
 use Rattle.sat_stream.specs.declared.stream.Reading.{Reading}
-use Rattle.sat_top.specs.declared.words.Command.TheVariants.{Run}
 use Rattle.sat_runs.specs.Good.{IsGoodRun}
-use Rattle.sat_top.specs.Good.{IsGoodFront, EveryReadingIsGood}
+use Rattle.sat_pieces.specs.Good.{IsGoodFront, EveryReadingIsGood}
 use Rattle.sat_runs.specs.Runs.{run_text}
 use Rattle.sat_runs.proofs.Good.{TheLaws, good_run}
-use Rattle.sat_top.specs.Whole.{IsTextOf, IsOutput, run_status}
+use Rattle.sat_follow.specs.Following.{IsTextOf}
+use Rattle.sat_pieces.specs.Streaming.{IsReported, run_status}
 
 pub zero_fault : (fault : Option ScriptFault) (status : ℕ) → status ≡ run_status fault → status ≡ 0 → fault ≡ None
 zero_fault None status means zero = refl
@@ -29,7 +29,7 @@ front text found laws sound same d at =
     subst (λ (r : Reading). IsGoodRun d r.acts) (sym same) (good_run d found.acts laws here.0 here.2)
 
 pub ran : (left : Option (List ℕ)) (found : Reading) (written : List ℕ) (status : ℕ) → EveryReadingIsGood → TheLaws → IfSome found.deployment (λ d. IsDeployment d × HaveNames d × AreActsOf d found.acts) → ((text : List ℕ) × IsTextOf left text × (reading false text ≡ found)) → written ≡ run_text found → status ≡ run_status found.fault
-    → IsOutput (Some Run) left written status
+    → IsReported left written status
 ran left found written status law laws sound from wrote means = record {
   input = from.0;
   whole = from.1;

@@ -1,11 +1,11 @@
 use Rattle.std.proofs.Common.{false, ◌≡◌, ℕ, List, subst, rules, arith, take, ◌+◌, ◌++◌, [], refl}
 use Rattle.sat_stream.specs.Stream.{will_be, behind}
 use Rattle.sat_stream.specs.declared.limits.TheConstants.{MOST_BYTES}
-use Rattle.sat_top.proofs.Progress.{ends_once, ends_same, keeps, read_bounded, zero_bytes}
-use Rattle.sat_top.proofs.Streamed.{under_start, drained_start, fed, known_fed, few_under, answered, takes_on, front_of, front_on, front_whole, has_answered, still_under, known_at_end, few_at_end, ends_whole, ends_early, ok_ended, err_front, err_stopped, not_done, stopped_before, stopped_in, stops_reading, drained_after, fresh_after, bytes_after}
+use Rattle.sat_pieces.proofs.Progress.{ends_once, ends_same, keeps, read_bounded, zero_bytes}
+use Rattle.sat_pieces.proofs.Streamed.{under_start, drained_start, fed, known_fed, few_under, answered, takes_on, front_of, front_on, front_whole, has_answered, still_under, known_at_end, few_at_end, ends_whole, ends_early, ok_ended, err_front, err_stopped, not_done, stopped_before, stopped_in, stops_reading, drained_after, fresh_after, bytes_after}
 use Rattle.sat_outside.specs.Streams.{Takes}
-use Rattle.sat_top.specs.Whole.{TakesFront}
-use Rattle.sat_top.proofs.stream.run_script.Goals as goal
+use Rattle.sat_follow.specs.Following.{TakesFront}
+use Rattle.sat_pieces.proofs.stream.run_script.Goals as goal
 
 pub pieces-init : goal.pieces-init
 pieces-init g c = record {

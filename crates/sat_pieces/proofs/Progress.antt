@@ -10,10 +10,9 @@ use Rattle.sat_script.specs.State.{number_of}
 use Rattle.sat_stream.specs.Reading.{reading, script_from}
 use Rattle.sat_stream.specs.Stream.{LacksOnlyItsEnd}
 use Rattle.sat_stream.specs.declared.stream.Reading.{Reading}
-use Rattle.sat_top.specs.declared.stream.TheConstants.{BUFFER_BYTES}
-use Rattle.sat_top.specs.Living.{HasReadLines}
-use Rattle.sat_top.specs.Streaming.{StopsReading}
-use Rattle.sat_top.specs.Whole.{IsTextOf}
+use Rattle.sat_follow.specs.declared.pieces.TheConstants.{BUFFER_BYTES}
+use Rattle.sat_pieces.specs.Streaming.{HasReadLines, StopsReading}
+use Rattle.sat_follow.specs.Following.{IsTextOf}
 
 -- So many bytes were read, for nodes on threads or not, and a text that begins with them is what the meaning says of the rest.
 pub record HasRead (live : Bool) (before now : Option (List ℕ)) (meaning : List ℕ → Reading) (count : ℕ) : Type 0 where

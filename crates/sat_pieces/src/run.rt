@@ -8,7 +8,7 @@ ghost use Rattle.sat_act.specs.declared.entry.Entry.{Entry};
 ghost use Rattle.sat_act.specs.Runs.{IsRun};
 ghost use Rattle.sat_runs.specs.Runs.{ending, run_text};
 ghost use Rattle.sat_runs.specs.Running.{IsAnswering};
-ghost use Rattle.sat_top.specs.UnderWay.{AtWorld, DoesMore, IsKnown, IsWorldOf};
+ghost use Rattle.sat_pieces.specs.UnderWay.{AtWorld, DoesMore, IsKnown, IsWorldOf};
 
 use sat_act::{Act, Deployment};
 use sat_report::{write_fault, write_holdings};

@@ -2,8 +2,8 @@ use Rattle.sat_stream.specs.declared.limits.TheConstants.{MOST_BYTES}
 use Rattle.std.proofs.Common.{◌≡◌, ◌≤◌, ◌-◌, ℕ, List, None}
 use Rattle.sat_outside.specs.Streams.{Takes}
 use Rattle.sat_stream.specs.Stream.{known_fault, bytes_of}
-use Rattle.sat_top.proofs.Streamed.{IsUnder, IsDrained}
-use Rattle.sat_top.proofs.stream.run_script.Given as goal
+use Rattle.sat_pieces.proofs.Streamed.{IsUnder, IsDrained}
+use Rattle.sat_pieces.proofs.stream.run_script.Given as goal
 
 abbrev pub invariant-pieces : goal.invariant-pieces
 invariant-pieces g l = record {

@@ -1,9 +1,9 @@
-use Rattle.sat_top.proofs.Faults.{has_fault}
+use Rattle.sat_pieces.proofs.Faults.{has_fault}
 use Rattle.std.proofs.Common.{rules, arith, take, [], ◌≡◌, ◌+◌, refl}
 use Rattle.sat_stream.specs.Stream.{will_be}
-use Rattle.sat_top.proofs.Progress.{keeps, lacks_start, read_bounded, read_enough, read_lines, read_more, read_start, read_stops, zero_bytes, ends_once, ends_same}
+use Rattle.sat_pieces.proofs.Progress.{keeps, lacks_start, read_bounded, read_enough, read_lines, read_more, read_start, read_stops, zero_bytes, ends_once, ends_same}
 use Rattle.sat_stream.specs.declared.limits.TheConstants.{MOST_BYTES}
-use Rattle.sat_top.proofs.stream.read_script.Goals as goal
+use Rattle.sat_pieces.proofs.stream.read_script.Goals as goal
 
 pub loop-taken-init : goal.loop-taken-init
 loop-taken-init g c =

@@ -1,8 +1,8 @@
 use Rattle.sat_stream.specs.declared.limits.TheConstants.{MOST_BYTES}
 use Rattle.std.proofs.Common.{◌≡◌, ◌≤◌, ◌-◌, [], None}
 use Rattle.sat_stream.specs.Stream.{will_be, known_fault, bytes_of, LacksOnlyItsEnd}
-use Rattle.sat_top.proofs.Progress.{HasRead}
-use Rattle.sat_top.proofs.stream.read_script.Given as goal
+use Rattle.sat_pieces.proofs.Progress.{HasRead}
+use Rattle.sat_pieces.proofs.stream.read_script.Given as goal
 
 abbrev pub invariant-loop-taken : goal.invariant-loop-taken
 invariant-loop-taken g l =

@@ -7,7 +7,7 @@ use Rattle.sat_stream.specs.declared.stream.Reading.{Reading}
 use Rattle.sat_report.specs.Holdings.{report}
 use Rattle.sat_runs.specs.Runs.{history, run_text}
 use Rattle.sat_runs.proofs.Good.{TheLaws, good_run}
-use Rattle.sat_top.specs.Good.{IsGoodScript}
+use Rattle.sat_pieces.specs.Good.{IsGoodScript}
 
 run_report : (r : Reading) (d : Deployed) → r.deployment ≡ Some d → r.fault ≡ None → run_text r ≡ report d (history d r.acts)
 unfolding run_text report

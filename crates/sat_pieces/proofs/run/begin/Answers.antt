@@ -2,7 +2,7 @@ use Rattle.std.proofs.Common.{[], refl, rules, subst}
 use Rattle.sat_act.specs.Deployed.{Deployed}
 use Rattle.sat_runs.specs.Running.{IsAnswering}
 use Rattle.sat_runs.proofs.Running.{answers_none}
-use Rattle.sat_top.proofs.run.begin.Goals as goal
+use Rattle.sat_pieces.proofs.run.begin.Goals as goal
 
 pub returns-clause-running : goal.returns-clause-running
 returns-clause-running c = λ empty.
