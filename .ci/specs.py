@@ -17,13 +17,33 @@ class Definition:
         self.file, self.name, self.line, self.comment = file, name, line, comment
         self.body, self.around = [], ''
 
+    def head(self):
+        """Its first line, with those that go on with a record's parameters."""
+        lines = list(self.body)
+        text = lines.pop(0)
+        while re.match(r' *(pub )?record', text) and not text.endswith(' where') and lines:
+            text += ' ' + lines.pop(0).strip()
+        return text
+
+    def clause(self, at):
+        """The pattern of a clause that begins in a line, which may go on in the next ones; None where none begins."""
+        text = self.body[at].strip()
+        if not re.match(re.escape(self.name) + r'(?!\w)', text) or text.startswith(self.name + ' :'):
+            return None
+        while not re.search(r' =(?: |$)', text):
+            at += 1
+            if at == len(self.body) or self.body[at].strip().startswith(self.name + ' '):
+                return None
+            text += ' ' + self.body[at].strip()
+        return re.match(re.escape(self.name) + r'(.*?) =(?: |$)', text).group(1)
+
     def kept(self, keep=lambda pattern: True):
         """Its lines but those of clauses that don't count. `keep` says it of a clause's pattern."""
         text, counts = [], True
-        for line in self.body:
-            start = re.match(re.escape(self.name) + r'\b(.*?) =(?: |$)', line.strip())
-            if start and not line.strip().startswith(self.name + ' :'):
-                counts = keep(start.group(1))
+        for at, line in enumerate(self.body):
+            pattern = self.clause(at)
+            if pattern is not None:
+                counts = keep(pattern)
             if counts:
                 text.append(line)
         return text
@@ -43,12 +63,8 @@ class Definition:
 
     def patterns(self):
         """The patterns of its clauses."""
-        found = []
-        for line in self.body:
-            start = re.match(re.escape(self.name) + r'\b(.*?) =(?: |$)', line.strip())
-            if start and not line.strip().startswith(self.name + ' :'):
-                found.append(start.group(1))
-        return found
+        found = [self.clause(at) for at in range(len(self.body))]
+        return [pattern for pattern in found if pattern is not None]
 
 
 class Specs:
