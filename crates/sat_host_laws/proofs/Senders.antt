@@ -28,6 +28,9 @@ puttings-append of [] ys = refl
 puttings-append of (x ∷ xs) ys =
     ap (λ (l : List Putting). putting x.lamport (of x.input x.answer) ++ l) (puttings-append of xs ys) ∙ sym (append_assoc (putting x.lamport (of x.input x.answer)) (puttings of xs) (puttings of ys))
 
+one-more : (n c : ℕ) → n ≡ c → n + 1 ≡ 1 + c
+one-more n c e = omega arith
+
 none-more : (n c : ℕ) → n ≡ c → n ≡ 0 + c
 none-more n c e = omega arith
 

@@ -29,7 +29,7 @@ use Rattle.sat_stitch.proofs.Lists.{filter-takes, filter-leaves, filter-at, each
 use Rattle.sat_stitch.proofs.Tables.{stands-self, stands-is}
 use Rattle.sat_stitch.proofs.Steps.{site-next-after}
 use Rattle.sat_joint.specs.Pieces.{Drain, Handed, Plain, Drained, Piece, number_of, given_of, plain, plains, Rises, EachOf}
-use Rattle.sat_joint.specs.Table.{Node, AtHub, AtGear, AtSerial, Alone, same_node, over, item_node, first_node, seat_nodes, attach_nodes, client_nodes, group_nodes, nodes, is_first, node_at, home_at}
+use Rattle.sat_joint.specs.Table.{Node, AtHub, AtGear, AtSerial, Alone, same_node, over, item_node, first_node, seat_nodes, attach_nodes, client_nodes, group_nodes, nodes, is_first, node_at, stands_in, home_at}
 use Rattle.sat_joint.specs.Machines.{HubState, GearNode, fresh_gear, kept_site, whole, of_gears, drain_of, hub_by, hub_after, gathers, gear_by, gear_after, is_gather, IsHubAnswer, IsGearAnswer}
 use Rattle.sat_joint.specs.Joint.{Hands, Passes}
 use Rattle.sat_joint.specs.Split.{hands_home, hands_gear, hands_other, hands_at, piece_under, piece_if, split_lists, home_pieces}
@@ -96,6 +96,15 @@ module _ (d : Deployed) (lists : Node → List Piece) where
   home-given : (a : Act) (x : Given) → (is_gather a ≡ true → x ≡ Nothing) → given_of (hands_home d lists a x) ≡ x
   home-given (act.Gather i) x n = sym (n refl)
   home-given _ x n = refl
+
+  gear-given : (i : ℕ) (a : Act) (x : Given) (r : Answer) → given_of (hands_gear d i lists a x r) ≡ Nothing
+  gear-given i a x (ans.Shown l) = refl
+  gear-given i a x (ans.Wrote l) = refl
+  gear-given i a x _ = refl
+
+  other-given : (p : Node) (a : Act) (x : Given) (r : Answer) → given_of (hands_other d lists p a x r) ≡ Nothing
+  other-given (AtGear i g) a x r = gear-given i a x r
+  other-given _ a x r = refl
 
   pub at-first : (p : Node) (k : Kept) → is_first p (nodes d k.act k.given k.answer) ≡ true → hands_at d lists p k ≡ hands_home d lists k.act k.given
   at-first p k e = ap (λ (b : Bool). if b then hands_home d lists k.act k.given else hands_other d lists p k.act k.given k.answer) e
@@ -250,6 +259,9 @@ module _ (s : Sited) where
 
   pub home-home : (p : Node) (rest : List Kept) (k : Kept) → In s.all k → home_at s.d p (home_piece rest k) ≡ first_at p k
   home-home p rest k i = ap (λ (y : Kept). first_at p y) (plain-home rest k i)
+
+  pub home-stands : (p : Node) (rest : List Kept) (k : Kept) → In s.all k → stands_in s.d p (home_piece rest k) ≡ node_at s.d p k
+  home-stands p rest k i = ap (λ (y : Kept). node_at s.d p y) (plain-home rest k i)
 
   -- the pieces at their homes
   pub split-parts : (p : Node) (later ks : List Kept) → s.all ≡ later ++ ks → filter (home_at s.d p) (home_pieces s.d ks) ≡ filter (home_at s.d p) (split ks p)

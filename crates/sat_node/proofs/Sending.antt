@@ -1,11 +1,11 @@
 -- What was sent is what the entries before an end's place put there.
-use Rattle.std.proofs.Common.{◌≡◌, ℕ, zero, suc, ◌+◌, ◌<◌, ◌≤◌, List, [], ◌∷◌, ◌++◌, length, take, drop, get_or, Option, Some, None, Bool, true, false, MatchBool, slice_get, refl, sym, ap, ◌∙◌, subst, append_assoc, arith}
+use Rattle.std.proofs.Common.{◌≡◌, ℕ, zero, suc, ◌+◌, ◌<◌, ◌≤◌, inl, List, [], ◌∷◌, ◌++◌, length, take, drop, get_or, Option, Some, None, Bool, true, false, MatchBool, slice_get, refl, sym, ap, ◌∙◌, subst, append_assoc, arith}
 use Rattle.std.proofs.lemmas.List.{append-nil, length-append}
 use Rattle.sat_link.specs.Ends.{Sender}
 use Rattle.sat_node.specs.declared.kept.Kept.{Kept}
 use Rattle.sat_node.specs.declared.kept.Made.{Made}
 use Rattle.sat_node.specs.declared.kept.Envelope.{Envelope}
-use Rattle.sat_node.specs.Puts.{OutSeen, envelope, Putting, putting, puttings, numbered, sealed, put_by, Counts, Sends, SameOut, SentThing}
+use Rattle.sat_node.specs.Puts.{OutSeen, envelope, Putting, putting, puttings, numbered, sealed, put_by, Counts, Sends, SameOut, SentThing, Stopped}
 use Rattle.sat_node.proofs.Counts.{body_is, counts_next, counts_same, payloads_left, beats_left}
 
 pub take_more : {X : Type 0} (n : ℕ) (xs : List X) (x : X) → n ≤ length xs → take n (xs ++ x ∷ []) ≡ take n xs
@@ -110,6 +110,9 @@ numbers_left of ks o h =
       (λ gear. let less = payloads_left of (take o.next ks) o gear h.counts in omega arith),
       (let less = beats_left of (take o.next ks) o h.counts in omega arith),
     )
+
+pub all_sent : {I A : Type 0} (of : I → A → Option Made) (ks : List (Kept I A)) (o : OutSeen) → (o.next < length ks → ⊥) → Sends of ks o → Stopped ks o o
+all_sent of ks o none h = inl ((let n = h.next in omega arith), refl)
 
 pub if_true : (A B : Type 0) (b : Bool) → b ≡ true → MatchBool b A B → A
 if_true A B true e h = h
