@@ -1,5 +1,5 @@
 -- Where counts rise with the numbers, the complete beats come first.
-use Rattle.std.specs.Prelude.{◌≡◌, ◌≤◌, ◌<◌, ℕ, ◌==◌, Bool, true, false, nat_le, nat_lt, cond, filter, List, [], ◌∷◌, ◌++◌, length, Option, Some, None, option_map, if◌then◌else◌, refl}
+use Rattle.std.specs.Prelude.{◌≡◌, ◌≤◌, ◌<◌, ℕ, ◌+◌, ◌||◌, ◌==◌, Bool, true, false, nat_le, nat_lt, cond, filter, List, [], ◌∷◌, ◌++◌, length, Option, Some, None, option_map, if◌then◌else◌, refl}
 use Rattle.std.specs.Ordering.{nat_cmp}
 use Rattle.std.specs.BTreeMap.Range.{range_contains, entries_between}
 use Rattle.std.specs.declared.ops.Bound.TheVariants.{Included, Excluded, Unbounded}
@@ -8,7 +8,7 @@ use Rattle.std.proofs.lemmas.Bool.Decides.{nat_tests}
 use Rattle.sat_label.specs.Members.{In}
 use Rattle.sat_label.proofs.Members.{In-right, into-filter}
 use Rattle.sat_beat.specs.declared.Beat.{Beat}
-use Rattle.sat_beat.specs.Beats.{TakenBeats, are_reached, is_complete, newest, refreshed, passed, moved, is_old, placed, IsTaken}
+use Rattle.sat_beat.specs.Beats.{TakenBeats, are_reached, is_complete, newest, refreshed, passed, moved, is_old, has_beat, placed, RisesFrom, IsTaken}
 use Rattle.sat_beat.specs.Rising.{RiseFrom, CountsRise, last_before, starts_complete, RisesTo, RisesOn, IsKept}
 use Rattle.sat_beat.proofs.Complete.{reached-trans}
 use Rattle.sat_beat.proofs.Newest.{or_else}
@@ -158,6 +158,55 @@ pub rises_to_first : (bs xs : List (ℕ × Beat)) (n : ℕ) (beat : Beat) (b : �
 rises_to_first bs xs n beat b rise e r c m le =
     first-least [] xs b c beat (subst (λ (ys : List (ℕ × Beat)). CountsRise ys) e (rise-filter (λ b. range_contains nat_cmp (Included n) Unbounded b.0) [] bs rise)) r
     (subst (λ (ys : List (ℕ × Beat)). In ys c) e (into-filter (λ b. range_contains nat_cmp (Included n) Unbounded b.0) bs c m (above-test n c.0 le)))
+
+-- where none stands from a number on, none has it
+pub none_from : (bs : List (ℕ × Beat)) (n : ℕ) → entries_between nat_cmp (Included n) Unbounded bs ≡ [] → has_beat bs n ≡ false
+none_from [] n e = refl
+none_from (b ∷ bs) n e = go (range_contains nat_cmp (Included n) Unbounded b.0) refl e (none_from bs n)
+  where
+    apart : (x y : ℕ) → range_contains nat_cmp (Included y) Unbounded x ≡ false → (x == y) ≡ false
+    apart x y w = grind (arith, nat_tests)
+
+    go : (t : Bool) → range_contains nat_cmp (Included n) Unbounded b.0 ≡ t → cond t (b ∷ entries_between nat_cmp (Included n) Unbounded bs) (entries_between nat_cmp (Included n) Unbounded bs) ≡ [] →
+        (entries_between nat_cmp (Included n) Unbounded bs ≡ [] → has_beat bs n ≡ false) → ((b.0 == n) || has_beat bs n) ≡ false
+    go true w z rest = absurd (cc)
+    go false w z rest = ap (λ (u : Bool). u || has_beat bs n) (apart b.0 n w) ∙ rest z
+
+-- where numbers ascend from above one on, none has it
+none-high : (low n : ℕ) (bs : List (ℕ × Beat)) → n < low → RisesFrom low bs → has_beat bs n ≡ false
+none-high low n [] lt rises = refl
+none-high low n (b ∷ bs) lt rises = ap (λ (u : Bool). u || has_beat bs n) (apart low b.0 n lt rises.0) ∙ none-high (b.0 + 1) n bs (up low b.0 n lt rises.0) rises.1
+  where
+    apart : (l x y : ℕ) → y < l → l ≤ x → (x == y) ≡ false
+    apart l x y p q = grind (arith, nat_tests)
+
+    up : (l x y : ℕ) → y < l → l ≤ x → y < x + 1
+    up l x y p q = omega arith
+
+-- where numbers ascend, the first from a number on has it, or none
+pub first_from : (low : ℕ) (bs xs : List (ℕ × Beat)) (n : ℕ) (b : ℕ × Beat) → RisesFrom low bs → entries_between nat_cmp (Included n) Unbounded bs ≡ b ∷ xs → has_beat bs n ≡ (b.0 == n)
+first_from low [] xs n b rises e = absurd (cc)
+first_from low (c ∷ bs) xs n b rises e = go (range_contains nat_cmp (Included n) Unbounded c.0) refl e (first_from (c.0 + 1) bs xs n b rises.1)
+  where
+    apart : (x y : ℕ) → range_contains nat_cmp (Included y) Unbounded x ≡ false → (x == y) ≡ false
+    apart x y w = grind (arith, nat_tests)
+
+    up : (x y : ℕ) → range_contains nat_cmp (Included y) Unbounded x ≡ true → y < x + 1
+    up x y w = grind (arith, nat_tests)
+
+    head : {X : Type 0} (x y : X) (ys zs : List X) → x ∷ ys ≡ y ∷ zs → x ≡ y
+    head x y ys zs z = cc
+
+    alone : (u : Bool) → (u || false) ≡ u
+    alone true = refl
+    alone false = refl
+
+    go : (t : Bool) → range_contains nat_cmp (Included n) Unbounded c.0 ≡ t → cond t (c ∷ entries_between nat_cmp (Included n) Unbounded bs) (entries_between nat_cmp (Included n) Unbounded bs) ≡ b ∷ xs →
+        (entries_between nat_cmp (Included n) Unbounded bs ≡ b ∷ xs → has_beat bs n ≡ (b.0 == n)) → ((c.0 == n) || has_beat bs n) ≡ (b.0 == n)
+    go true w z rest =
+        ap (λ (u : Bool). (c.0 == n) || u) (none-high (c.0 + 1) n bs (up c.0 n w) rises.1)
+        ∙ (alone (c.0 == n) ∙ ap (λ (x : ℕ × Beat). x.0 == n) (head c b _ xs z))
+    go false w z rest = ap (λ (u : Bool). u || has_beat bs n) (apart c.0 n w) ∙ rest z
 
 -- at its place by its number a beat leaves the counts rising
 placed-rise : (counts : List ℕ) (bs : List (ℕ × Beat)) (n : ℕ) (beat : Beat) → RiseFrom counts bs → are_reached counts beat.counts ≡ true → RisesTo bs n beat → RisesOn bs n beat → RiseFrom counts (placed bs n beat)

@@ -1,5 +1,5 @@
 //! The beats that were taken of one site.
-ghost use Rattle.std.specs.Prelude.{◌≡◌, ℕ, get_or, true, if◌then◌else◌, option_map, option_copied, Some, None, IfOk, IfErr, OnOk, OnErr};
+ghost use Rattle.std.specs.Prelude.{◌≡◌, ℕ, get_or, is_none, true, if◌then◌else◌, option_map, option_copied, Some, None, IfOk, IfErr, OnOk, OnErr};
 ghost use Rattle.sat_beat.specs.Beats.{after_take, are_reached, has_beat, is_complete, is_old, is_old_by, moved, newest, next_number, none_taken, passed, placed, refreshed, starts_to, take_answer, RisesFrom};
 ghost use Rattle.sat_beat.specs.Rising.{last_before, starts_complete, CountsRise, EndsTo, RisesOn, RisesTo};
 
@@ -8,9 +8,8 @@ use std::alloc::Global;
 use std::collections::BTreeMap;
 use std::marker::Model;
 
-/// The best beat, with its number, and those of greater numbers, by number. A mark says that their counts rise with
-/// their numbers, as those of one sender do in whatever order they come; then the complete ones come first, and no
-/// other is looked at.
+/// The best beat, with its number, and those of greater numbers, by number. A mark says that their counts rise with their
+/// numbers, as those of one sender do in whatever order they come; then the complete ones come first, and no other is looked at.
 #[derive(Drop)]
 pub struct Taken {
     best: Option<(u64, Beat)>,
@@ -137,8 +136,7 @@ fn pass(best: &mut Option<(u64, Beat)>, later: &mut BTreeMap<u64, Beat>, number:
     }
 }
 
-// Fewer beats than these are taken out one by one: a map that is emptied at once gives its memory back, and asks for it
-// anew.
+// Fewer beats than these are taken out one by one: a map that is emptied at once gives its memory back, and asks for it anew.
 const MANY: usize = 16;
 
 // Whether there are many beats, and the last of them has a number up to this one.
@@ -167,8 +165,7 @@ fn pass_all(best: &mut Option<(u64, Beat)>, later: &mut BTreeMap<u64, Beat>, num
 // Takes the beats up to a number, if any, out; the last of them becomes the best.
 fn move_forward(best: &mut Option<(u64, Beat)>, later: &mut BTreeMap<u64, Beat>, to: Option<u64>)
     requires { RisesFrom (next_number best.old) later.old.entries }
-    ensures { record { best = best.new; later = later.new.entries }
-        ≡ moved to (record { best = best.old; later = later.old.entries }) }
+    ensures { record { best = best.new; later = later.new.entries } ≡ moved to (record { best = best.old; later = later.old.entries }) }
 {
     let Some(number) = to else {
         return;
@@ -180,8 +177,7 @@ fn move_forward(best: &mut Option<(u64, Beat)>, later: &mut BTreeMap<u64, Beat>,
     }
 }
 
-// Whether the counts of the next beat below a number are at or below those of a beat. Where counts rise, those of all
-// below are.
+// Whether the counts of the next beat below a number are at or below those of a beat. Where counts rise, those of all below are.
 #[tactic(auto, using(crate::proofs::Rising::none_below, crate::proofs::Rising::rises_from_last))]
 fn rises_to(later: &BTreeMap<u64, Beat>, number: u64, beat: &Beat) -> bool
     requires { CountsRise later.now.entries }
@@ -193,28 +189,15 @@ fn rises_to(later: &BTreeMap<u64, Beat>, number: u64, beat: &Beat) -> bool
     }
 }
 
-// Whether the counts of the next beat from a number on are at or above those of a beat. Where counts rise, those of all
-// above are.
-#[tactic(auto, using(crate::proofs::Rising::none_above, crate::proofs::Rising::rises_to_first))]
-fn rises_on(later: &BTreeMap<u64, Beat>, number: u64, beat: &Beat) -> bool
-    requires { CountsRise later.now.entries }
-    ensures { result ≡ true → RisesOn later.now.entries number beat.now }
-{
-    match later.range(number..).next() {
-        None => true,
-        Some((_, above)) => are_reached(beat.counts.as_slice(), above.counts.as_slice()),
-    }
-}
-
-// Whether the counts of some beats, which rise or not, rise with one more. It looks at the two that it would stand
-// between.
-fn goes_on(rising: bool, later: &BTreeMap<u64, Beat>, number: u64, beat: &Beat) -> bool
+// Whether the counts of some beats, which rise or not, rise with one more, where those above it are known to be at or above its own or
+// not. It looks at the one that it would stand behind.
+fn goes_on(rising: bool, on: bool, later: &BTreeMap<u64, Beat>, number: u64, beat: &Beat) -> bool
     requires { rising ≡ true → CountsRise later.now.entries }
     ensures rising { result ≡ true → rising ≡ true }
     ensures below { result ≡ true → RisesTo later.now.entries number beat.now }
-    ensures above { result ≡ true → RisesOn later.now.entries number beat.now }
+    ensures above { result ≡ true → on ≡ true }
 {
-    rising && rises_to(later, number, beat) && rises_on(later, number, beat)
+    rising && on && rises_to(later, number, beat)
 }
 
 // The number of the newest complete beat once one comes which is newer than the newest one before.
@@ -305,12 +288,23 @@ impl Taken {
         }
     }
 
-    // Whether a beat of this number is among the later ones.
-    #[tactic(auto, using(crate::proofs::Passed::map_has))]
-    fn has_later(&self, number: u64) -> bool
-        ensures { result ≡ has_beat self.now.later number }
+    // None where a beat of this number is among the later ones, else whether the counts of the next one above it are at or above those
+    // of a beat. Where counts rise, those of all above are.
+    #[tactic(auto, using(crate::proofs::Rising::none_above, crate::proofs::Rising::rises_to_first, crate::proofs::Rising::none_from, crate::proofs::Rising::first_from))]
+    fn rises_on(&self, number: u64, beat: &Beat) -> Option<bool>
+        ensures has { is_none result ≡ has_beat self.now.later number }
+        ensures above { CountsRise self.now.later → result ≡ Some true → RisesOn self.now.later number beat.now }
     {
-        self.later.contains_key(&number)
+        match self.later.range(number..).next() {
+            None => Some(true),
+            Some((found, above)) => {
+                if *found == number {
+                    None
+                } else {
+                    Some(are_reached(beat.counts.as_slice(), above.counts.as_slice()))
+                }
+            }
+        }
     }
 
     /// Takes a beat, and moves the best forward. For want of memory the beat comes back, and all is as before.
@@ -326,12 +320,12 @@ impl Taken {
             self.forward(newest);
             return Ok(BeatTake::Old);
         }
-        if self.has_later(number) {
+        let Some(on) = self.rises_on(number, &beat) else {
             self.forward(newest);
             return Ok(BeatTake::Again);
-        }
+        };
         let newest = newest_with(newest, number, &beat, fronts);
-        let rising = goes_on(self.rising, &self.later, number, &beat);
+        let rising = goes_on(self.rising, on, &self.later, number, &beat);
         insert(&mut self.later, number, beat)?;
         self.rising = rising;
         self.forward(newest);
