@@ -1,10 +1,11 @@
 //! What lies under a node's lock: the node with its link ends.
-ghost use Rattle.std.specs.Prelude.{◌≡◌, ◌<◌, true, [], length, Some, None, MatchOption, IfOk, OnOk, OnErr};
+ghost use Rattle.std.specs.Prelude.{◌≡◌, ◌+◌, ◌<◌, ◌≤◌, ◌↔◌, ◌⊎◌, max, true, [], length, Some, None, MatchOption, IfOk, IfErr, OnOk, OnErr, IsErrOf};
 ghost use Rattle.sat_node.specs.declared.kept.Envelope.{Envelope as Sent};
 ghost use Rattle.sat_node.specs.Meanings.{replay};
-ghost use Rattle.sat_node.specs.Seen.{SameNode, Takes};
+ghost use Rattle.sat_node.specs.Seen.{SameNode, Takes, last_number};
 ghost use Rattle.sat_node.specs.Puts.{Flushed};
 ghost use Rattle.sat_node.specs.Links.{Each, OnlyAt, Tied, Pulled, Cleared, PassedOver, IsLocal, IsOf, front_at, number_of, out_places, in_places};
+ghost use Rattle.sat_node.specs.Together.{EndsAfter, TakesFrom, heard_from};
 
 use crate::ins::In;
 use crate::kept::{CallFault, Envelope};
@@ -132,6 +133,23 @@ impl<M: Machine, N: Names> Held<M, N> {
         end.pass_over()
     }
 
+    /// Takes the room for one entry, and answers the number that it would have: one above the node's own and the one heard. Once there is
+    /// room, the next `act` with at most this heard number fails for memory only where the machine's step does. `Worn` as in `act`;
+    /// `Memory`. Nothing else changes, also after an error.
+    pub fn reserve(&mut self, heard: u64) -> Result<u64, CallFault>
+        ensures number { IfOk result (λ n. n ≡ max self.old.node.number heard + 1) }
+        ensures room { OnOk result (0 < self.new.node.room) }
+        ensures same { SameNode self.old.node self.new.node }
+        ensures more { self.old.node.room ≤ self.new.node.room }
+        ensures memory { IsErrOf result CallFault.Memory → self.old.node.room ≡ 0 }
+        ensures worn { IsErrOf result (CallFault.Worn last_number) ↔ (max self.old.node.number heard ≡ last_number) }
+        ensures only { IfErr result (λ fault. (fault ≡ CallFault.Worn last_number) ⊎ (fault ≡ CallFault.Memory)) }
+        ensures outs { self.new.outs ≡ self.old.outs }
+        ensures ins { self.new.ins ≡ self.old.ins }
+    {
+        self.node.reserve(heard)
+    }
+
     /// Takes an input that takes nothing from a link. The number heard is that of whoever asks. What the entry puts waits for its links.
     /// `Worn` and `Memory` come as in `Node::take`. After an error all is as before.
     pub fn act(
@@ -169,6 +187,27 @@ impl<M: Machine, N: Names> Held<M, N> {
         ensures err { OnErr result (self.new.ins ≡ self.old.ins) }
     {
         let heard = self.heard(link);
+        self.handle_above(heard, link, input, copy)
+    }
+
+    // The same, where the number heard is the front's or a greater one.
+    fn handle_above(
+        &mut self,
+        heard: u64,
+        link: usize,
+        input: M::Input,
+        copy: M::Input,
+    ) -> Result<M::Answer, CallFault>
+        requires fits { M.takes_in self.old.node.machine input ≡ true }
+        requires copy { copy ≡ input }
+        requires front { (e : Sent) × (front_at self.old.ins link ≡ Some e) × IsOf M.meaning self.old.node link e.body input }
+        requires heard { number_of (front_at self.old.ins link) ≤ heard }
+        ensures takes { Takes heard input (M.may_fail self.old.node.machine input) result self.old.node self.new.node }
+        ensures answer { IfOk result (λ a. M.meaning.answers self.old.node.name (replay M.meaning self.old.node.name self.old.node.entries) input a) }
+        ensures outs { self.new.outs ≡ self.old.outs }
+        ensures ins { OnOk result (OnlyAt link Cleared self.old.ins self.new.ins) }
+        ensures err { OnErr result (self.new.ins ≡ self.old.ins) }
+    {
         let result = self.node.take(heard, input, copy);
         if result.is_err() {
             return result;
@@ -176,5 +215,40 @@ impl<M: Machine, N: Names> Held<M, N> {
         let end = &mut self.ins[link];
         end.clear();
         result
+    }
+
+    /// The number of the front of this link, 0 where no link is named or nothing stands there.
+    pub fn heard_from(&self, link: Option<usize>) -> u64
+        ensures { result ≡ heard_from link self.now.ins }
+    {
+        match link {
+            Some(link) => self.heard(link),
+            None => 0,
+        }
+    }
+
+    /// Takes an input as `handle` does, where a link is named, and as `act` does where none is. The number heard is that of whoever asks,
+    /// and no less than the front's: an act of several nodes has one number at all of them.
+    pub fn take(
+        &mut self,
+        heard: u64,
+        link: Option<usize>,
+        input: M::Input,
+        copy: M::Input,
+    ) -> Result<M::Answer, CallFault>
+        requires fits { M.takes_in self.old.node.machine input ≡ true }
+        requires copy { copy ≡ input }
+        requires from { TakesFrom M.meaning self.old link input }
+        requires heard { heard_from link self.old.ins ≤ heard }
+        ensures takes { Takes heard input (M.may_fail self.old.node.machine input) result self.old.node self.new.node }
+        ensures answer { IfOk result (λ a. M.meaning.answers self.old.node.name (replay M.meaning self.old.node.name self.old.node.entries) input a) }
+        ensures outs { self.new.outs ≡ self.old.outs }
+        ensures ins { OnOk result (EndsAfter link self.old.ins self.new.ins) }
+        ensures err { OnErr result (self.new.ins ≡ self.old.ins) }
+    {
+        match link {
+            Some(link) => self.handle_above(heard, link, input, copy),
+            None => self.act(heard, input, copy),
+        }
     }
 }
