@@ -6,3 +6,5 @@ pub mod Taking
 pub mod Ties
 pub mod Agreements
 pub mod Laws
+pub mod Together
+pub mod Lent

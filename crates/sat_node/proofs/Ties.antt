@@ -1,5 +1,5 @@
 -- What ties a journal to its links stays so.
-use Rattle.std.proofs.Common.{◌≡◌, ℕ, zero, suc, ◌+◌, ◌<◌, max, length, is_err, List, [], ◌∷◌, ◌++◌, slice_set, Bool, true, false, Option, Some, None, Result, Ok, Err, IfOk, OnOk, slice_get, refl, sym, ap, ◌∙◌, subst, arith, ⊎_elim}
+use Rattle.std.proofs.Common.{◌≡◌, ℕ, zero, suc, ◌+◌, ◌<◌, ◌≤◌, max, length, is_err, List, [], ◌∷◌, ◌++◌, slice_set, Bool, true, false, Option, Some, None, Result, Ok, Err, IfOk, OnOk, slice_get, refl, sym, ap, ◌∙◌, subst, arith, ⊎_elim}
 use Rattle.sat_label.specs.declared.node.NodeName.{NodeName}
 use Rattle.sat_node.specs.declared.kept.Kept.{Kept}
 use Rattle.sat_node.specs.declared.kept.CallFault.{CallFault}
@@ -7,7 +7,7 @@ use Rattle.sat_node.specs.declared.kept.Envelope.{Envelope}
 use Rattle.sat_node.specs.Meanings.{Meaning, replay}
 use Rattle.sat_node.specs.Seen.{entry, Takes}
 use Rattle.sat_node.specs.Puts.{OutSeen, Sends}
-use Rattle.sat_node.specs.Links.{InSeen, HeldSeen, takings, Took, Each, out_places, in_places, Tied, kept_front, front_at, number_of, IsLocal, IsOf, Pulled, Cleared, passes, PassedOver}
+use Rattle.sat_node.specs.Links.{InSeen, HeldSeen, takings, Took, Each, out_places, in_places, Tied, kept_front, front_at, IsLocal, IsOf, Pulled, Cleared, passes, PassedOver}
 use Rattle.sat_node.proofs.Members.{get_next, each_set, each_but, places_set}
 use Rattle.sat_node.proofs.Sending.{sends_new, sends_more}
 use Rattle.sat_node.proofs.Taking.{takings_none, takings_one, took_new, took_next, took_over, took_pulled, pulled_place}
@@ -82,7 +82,7 @@ module _ {S M I A : Type 0} (m : Meaning S I A) where
       })
 
   -- the node and the ends are as they were
-  tied_same : (h w : HeldSeen M I A) → Tied m h → w.node.name ≡ h.node.name → w.node.entries ≡ h.node.entries → w.outs ≡ h.outs → w.ins ≡ h.ins → Tied m w
+  pub tied_same : (h w : HeldSeen M I A) → Tied m h → w.node.name ≡ h.node.name → w.node.entries ≡ h.node.entries → w.outs ≡ h.outs → w.ins ≡ h.ins → Tied m w
   tied_same h w tied name entries outs ins =
       subst (λ (x : NodeName × List (Kept I A) × List OutSeen × List InSeen). Tied m (record { node = record w.node { name = x.0; entries = x.1 }; outs = x.2; ins = x.3 }))
       (λ d. (sym name d, sym entries d, sym outs d, sym ins d)) (record { sending = tied.sending; receiving = tied.receiving; standing = tied.standing; outs = tied.outs; ins = tied.ins })
@@ -104,12 +104,12 @@ module _ {S M I A : Type 0} (m : Meaning S I A) where
   tied_failed (Ok a) heard input may h w failed tied takes outs ins = absurd (cc (failed))
 
   -- after an input that took the front of a link
-  tied_taken : (a : A) (input : I) (may : Bool) (h w : HeldSeen M I A) (link : ℕ) (old new : InSeen) (e : Envelope) → Tied m h → old.front ≡ Some e → IsOf m h.node link e.body input
-      → Takes (number_of old.front) input may (Ok a) h.node w.node → m.answers h.node.name (replay m h.node.name h.node.entries) input a
+  tied_taken : (a : A) (heard : ℕ) (input : I) (may : Bool) (h w : HeldSeen M I A) (link : ℕ) (old new : InSeen) (e : Envelope) → e.lamport ≤ heard → Tied m h → old.front ≡ Some e → IsOf m h.node link e.body input
+      → Takes heard input may (Ok a) h.node w.node → m.answers h.node.name (replay m h.node.name h.node.entries) input a
       → w.outs ≡ h.outs → slice_get h.ins link ≡ Some old → Cleared old new → w.ins ≡ slice_set h.ins link new → Tied m w
-  tied_taken a input may h w link old new e tied front fits takes answer outs at cleared ins =
-      let n = max h.node.number (number_of old.front) + 1 in
-      let less : e.lamport < n = (let is : number_of old.front ≡ e.lamport = ap number_of front in omega arith) in
+  tied_taken a heard input may h w link old new e above tied front fits takes answer outs at cleared ins =
+      let n = max h.node.number heard + 1 in
+      let less : e.lamport < n = omega arith in
       let name = h.node.name in
       let here : Took (takings (m.takes name link) w.node.entries) new =
       subst (λ l. Took l new) (sym (ap (takings (m.takes name link)) takes.taken ∙ takings_one (m.takes name link) h.node.entries (entry n input a) e.body (fits.takes a answer)))
@@ -122,11 +122,11 @@ module _ {S M I A : Type 0} (m : Meaning S I A) where
       (ap in_places ins ∙ places_set (λ (i : InSeen). i.place) h.ins link old new at (ap (λ (i : InSeen). i.place) cleared))
       (subst (λ (l : List InSeen). Each l (λ k i. Took (takings (m.takes name k) w.node.entries) i)) (sym ins) all)
 
-  pub tied_handle : (r : Result A CallFault) (input : I) (may : Bool) (h w : HeldSeen M I A) (link : ℕ) (old new : InSeen) (e : Envelope) → is_err r ≡ false → Tied m h → old.front ≡ Some e
-      → IsOf m h.node link e.body input → Takes (number_of old.front) input may r h.node w.node → IfOk r (λ a. m.answers h.node.name (replay m h.node.name h.node.entries) input a)
+  pub tied_handle : (r : Result A CallFault) (heard : ℕ) (input : I) (may : Bool) (h w : HeldSeen M I A) (link : ℕ) (old new : InSeen) (e : Envelope) → is_err r ≡ false → e.lamport ≤ heard → Tied m h → old.front ≡ Some e
+      → IsOf m h.node link e.body input → Takes heard input may r h.node w.node → IfOk r (λ a. m.answers h.node.name (replay m h.node.name h.node.entries) input a)
       → w.outs ≡ h.outs → slice_get h.ins link ≡ Some old → Cleared old new → w.ins ≡ slice_set h.ins link new → Tied m w
-  tied_handle (Ok a) input may h w link old new e done tied front fits takes answer outs at cleared ins = tied_taken a input may h w link old new e tied front fits takes answer outs at cleared ins
-  tied_handle (Err x) input may h w link old new e done tied front fits takes answer outs at cleared ins = absurd (cc (done))
+  tied_handle (Ok a) heard input may h w link old new e done above tied front fits takes answer outs at cleared ins = tied_taken a heard input may h w link old new e above tied front fits takes answer outs at cleared ins
+  tied_handle (Err x) heard input may h w link old new e done above tied front fits takes answer outs at cleared ins = absurd (cc (done))
 
 pub on_ok : {X E : Type 0} {P : Type 0} (r : Result X E) → P → OnOk r P
 on_ok (Ok x) h = h

@@ -71,6 +71,10 @@ OnlyAt {X} link R old new =
     (length new ≡ length old) × ((k : ℕ) (y : X) → slice_get new k ≡ Some y
     → (x : X) × (slice_get old k ≡ Some x) × ((k ≢ link → y ≡ x) × (k ≡ link → R x y)))
 
+-- there are as many as before, and each new member comes from the old one of its number and stands so to it
+abbrev pub Both : {X : Type 0} → (ℕ → X → X → Type 0) → List X → List X → Type 0
+Both {X} R old new = (length new ≡ length old) × ((k : ℕ) (y : X) → slice_get new k ≡ Some y → (x : X) × (slice_get old k ≡ Some x) × R k x y)
+
 -- the places of ends in the list of wires
 abbrev pub out_places : List OutSeen → List ℕ
 out_places outs = map (λ o. o.place) outs

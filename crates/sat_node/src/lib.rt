@@ -5,6 +5,7 @@ ghost use Rattle.sat_node.specs.Laws.{TakenCame, LabelsInOrder, PutsAreNumbered}
 
 mod held;
 mod ins;
+mod joint;
 mod kept;
 mod node;
 mod opened;
@@ -12,6 +13,7 @@ mod outs;
 
 pub use held::{Held, Locked};
 pub use ins::In;
+pub use joint::{Part, reserve_all, take_all, take_both, take_rest};
 pub use kept::{Body, CallFault, Envelope, Kept, Made};
 pub use node::{Machine, Node};
 pub use opened::{agree_all, agree_two, agree_within};
