@@ -153,7 +153,7 @@ in-lines d h i t a b within =
       | inr lost ↦ absurd (not-free is-way (crosses d h) (Way i t a b) (crosses-free is-way (λ s p q. refl) d h) refl lost)
     ]
 
-in-all : (d : Deployed) (h : List Entry) (i : Ink) (t : Trail) (a b : Spot) → In (elements d h) (Way i t a b) → IsWay d h i t a b
+pub in-all : (d : Deployed) (h : List Entry) (i : Ink) (t : Trail) (a b : Spot) → In (elements d h) (Way i t a b) → IsWay d h i t a b
 unfolding elements
 in-all d h i t a b within =
     elim (In-parts (head d (length h)) (lines d h ++ marks d h) (Way i t a b) within) [

@@ -120,7 +120,7 @@ seat-attached d h c inner (act.Advance j) = refl
 seat-attached d h c inner (act.Kill n z) = refl
 seat-attached d h c inner act.Settle = refl
 
-seat-step : (d : Deployed) (h : List Entry) (c : ℕ) (inner : Bool) (a : Act) (r : Answer) → seat d (record { act = a; answer = r; inner = inner } ∷ h) c ≡ after_change (reseated a r) (seat d h c) c
+pub seat-step : (d : Deployed) (h : List Entry) (c : ℕ) (inner : Bool) (a : Act) (r : Answer) → seat d (record { act = a; answer = r; inner = inner } ∷ h) c ≡ after_change (reseated a r) (seat d h c) c
 unfolding seat latest reseated
 seat-step d h c inner a ans.Attached = seat-attached d h c inner a
 seat-step d h c inner a (ans.Moved l) = freed (of_client a) c (seat d h c)

@@ -8,3 +8,4 @@ pub mod Arrows
 pub mod Whole
 pub mod Marks
 pub mod Arrowed
+pub mod Seated

@@ -8,3 +8,4 @@ pub mod Head
 pub mod Legend
 pub mod Drawing
 pub mod Laws
+pub mod Seats

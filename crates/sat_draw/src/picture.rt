@@ -7,6 +7,7 @@ ghost use Rattle.sat_draw.specs.Head.{head};
 ghost use Rattle.sat_draw.specs.Tracks.{IsDrawn, HasRows};
 ghost use Rattle.sat_draw.specs.Drawing.{opening, title_text, start, drawing};
 ghost use Rattle.sat_draw.specs.Laws.{EachIsDrawnOnce, WaysAreTold};
+ghost use Rattle.sat_draw.specs.Seats.{GoesBySeats, PathsAreAtSeats};
 
 use crate::columns::{answers_x, rows_top};
 use crate::geometry::{NAMES, RIGHT, ROW};
@@ -132,6 +133,8 @@ pub fn draw(alloc: Global, d: &Deployment, entries: &[Entry]) -> Result<Vec<u8>,
     ensures text { IfOk result (λ text. text.items ≡ drawing d.now (reverse entries.now)) }
     ensures once { IfOk result (λ _. EachIsDrawnOnce d.now (reverse entries.now)) }
     ensures told { IfOk result (λ _. WaysAreTold d.now (reverse entries.now)) }
+    ensures seats { IfOk result (λ _. GoesBySeats d.now (reverse entries.now)
+        → PathsAreAtSeats d.now (reverse entries.now)) }
 {
     let top = rows_top(d);
     let count = entries.len() as u64;

@@ -1,6 +1,7 @@
 use Rattle.std.proofs.Common.{List, ℕ, reverse, ◌++◌, length, refl, ap, ◌∙◌}
 use Rattle.sat_draw.proofs.Arrowed.{ways_told}
 use Rattle.sat_draw.proofs.Marks.{each_once}
+use Rattle.sat_draw.proofs.Seated.{paths_at_seats}
 use Rattle.sat_draw.proofs.Whole.{whole}
 use Rattle.sat_draw.proofs.picture.draw.Goals as goal
 
@@ -16,3 +17,6 @@ returns-clause-once c = each_once c.args.d.now (reverse c.args.entries.now)
 
 pub returns-clause-told : goal.returns-clause-told
 returns-clause-told c = ways_told c.args.d.now (reverse c.args.entries.now)
+
+pub returns-clause-seats : goal.returns-clause-seats
+returns-clause-seats c = paths_at_seats c.args.d.now (reverse c.args.entries.now)
