@@ -5,6 +5,7 @@
 
 mod duty;
 mod fault;
+mod lasting;
 mod links;
 mod offer;
 mod relay;
@@ -12,6 +13,7 @@ mod replica;
 
 pub use duty::{Duty, Sending};
 pub use fault::{RelayFault, ReplicaFault};
+pub use lasting::{may_hand, payload_of};
 pub use offer::Offer;
 pub use relay::Relay;
 pub use replica::Replica;

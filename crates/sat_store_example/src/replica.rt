@@ -17,6 +17,7 @@ ghost use Rattle.sat_store_example.specs.Replicas.{arrive_fault, attach_fault, c
 ghost use Rattle.sat_store_example.specs.Waiting.{is_it, link_of, no_links, with_label, without_front};
 ghost use Rattle.sat_store_example.specs.declared.links.TheConstants.{LINKS};
 
+use crate::lasting::{has_lane, payload_of};
 use crate::links::{LINKS, Links};
 use crate::{Duty, Offer, ReplicaFault, Sending};
 use sat_act::{Answer, Deployment};
@@ -421,7 +422,7 @@ impl Replica {
     fn has_lane(&self, gear: u16, to: u16) -> bool
         ensures { result ≡ has_lane self.now.site gear to }
     {
-        self.site.fits(&SiteInput::Tick { gear, ts: 0 }) && self.site.fits(&SiteInput::Beat { to })
+        has_lane(&self.site, gear, to)
     }
 
     /// The payload to ask another site for next, of those that a gear of it makes for this one: the least number that
@@ -446,9 +447,6 @@ impl Replica {
             → StandsSite d i self.now.site s → MatchOption result (slice_get ((s.gears gear).lanes to) number ≡ None)
             (λ p. slice_get ((s.gears gear).lanes to) number ≡ Some p.now) }
     {
-        if !self.has_lane(gear, to) {
-            return None;
-        }
-        self.site.payload(gear, to, number)
+        payload_of(&self.site, gear, to, number)
     }
 }
