@@ -13,7 +13,7 @@ use Rattle.sat_script.specs.Spelled.{Spells}
 use Rattle.sat_report.specs.Faults.{fault_line}
 use Rattle.sat_live.specs.Told.{IsTold}
 use Rattle.sat_follow.specs.declared.pieces.TheConstants.{BUFFER_BYTES}
-use Rattle.sat_pieces.specs.Streaming.{StopsReading}
+use Rattle.sat_pieces.specs.Streaming.{HasReadLines, StopsReading}
 use Rattle.sat_follow.specs.Following.{IsTextOf, TakesFront}
 
 -- the statuses of a run that came to its end: 0, 6 and 8
