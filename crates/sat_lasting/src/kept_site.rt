@@ -15,6 +15,7 @@ pub struct KeptSite {
 }
 
 impl KeptSite {
+    ghost use Rattle.sat_site.specs.Seen.{IsSite};
     ghost use Rattle.sat_lasting.specs.Sites.{site_of};
 
     /// The site with this number of a deployment, at which nothing has happened.
@@ -31,6 +32,13 @@ impl KeptSite {
         ensures { result.now ≡ site_of self.now }
     {
         &self.site
+    }
+
+    // What is true of each site. It does nothing.
+    pub(crate) fn sound(&self)
+        ensures { IsSite (site_of self.now) }
+    {
+        let _ = self.site.view();
     }
 }
 

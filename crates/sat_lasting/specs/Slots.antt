@@ -1,0 +1,91 @@
+-- A site on its disk, beside the one in the world.
+use Rattle.std.specs.Prelude.{◌≡◌, ◌≤◌, ℕ, Bool, true, List, [], ◌∷◌, ◌++◌, Option, Some, None, if◌then◌else◌}
+use Rattle.sat_act.specs.Deployed.{Deployed}
+use Rattle.sat_durable.specs.declared.memory.MemoryDisk.{MemoryDisk}
+use Rattle.sat_durable.specs.Disk.{DiskState}
+use Rattle.sat_durable.specs.Drills.{CutLeaves, IsCalm}
+use Rattle.sat_durable.specs.Durables.{disk_of, machine_of}
+use Rattle.sat_durable.specs.Machine.{Keeps, Recovers, run_of}
+use Rattle.sat_durable.specs.Memory.{memory_state}
+use Rattle.sat_durable.specs.Told as drill
+use Rattle.sat_lasting_laws.specs.declared.lasting_act.TheConstants.{MOST_CALLS}
+use Rattle.sat_lasting_laws.specs.Lastings.{keeps_input}
+use Rattle.sat_site.specs.declared.input.SiteInput.{SiteInput}
+use Rattle.sat_site.specs.Seen.{IsSite}
+use Rattle.sat_lasting.specs.declared.cut.Cut.{Cut}
+use Rattle.sat_lasting.specs.declared.kept_site.KeptSite.{KeptSite}
+use Rattle.sat_lasting.specs.declared.slot.Slot.{Slot}
+use Rattle.sat_lasting.specs.declared.slot.Slot.TheVariants as slot
+use Rattle.sat_lasting.specs.declared.slot.Stepped.{Stepped}
+use Rattle.sat_lasting.specs.declared.slot.Stepped.TheVariants as stepped
+use Rattle.sat_lasting.specs.Cuts.{cut_seen}
+use Rattle.sat_lasting.specs.Sites.{fresh_kept, site_meaning}
+
+-- its disk
+abbrev pub slot_disk : Slot → MemoryDisk
+slot_disk (slot.Up durable) = disk_of durable
+slot_disk (slot.Down disk) = disk
+
+-- where a disk fails: nowhere, or where the cut that waits at its site says
+abbrev pub FailsBy : Option Cut → DiskState → Type 0
+FailsBy None disk = IsCalm disk
+FailsBy (Some cut) disk = (synced : List ℕ) × (disk.told ≡ drill.told (Some cut.calls) cut.keep synced)
+
+-- site i has just these inputs behind it, and so has its disk, which fails where the cut says
+pub record Waits (d : Deployed) (i : ℕ) (inputs : List SiteInput) (cut : Option Cut) (disk : DiskState) (machine : KeptSite) : Type 0 where
+  pub keeps : Keeps site_meaning (fresh_kept d i) disk machine inputs
+  pub fails : FailsBy cut disk
+
+-- the same of a disk that will not fail
+abbrev pub HasInputs : Deployed → ℕ → List SiteInput → DiskState → KeptSite → Type 0
+HasInputs d i inputs disk machine = Waits d i inputs None disk machine
+
+abbrev pub SlotKeeps : Deployed → ℕ → List SiteInput → Slot → Type 0
+SlotKeeps d i inputs (slot.Up durable) = HasInputs d i inputs (memory_state (disk_of durable)) (machine_of durable)
+SlotKeeps d i inputs (slot.Down disk) = ⊥
+
+-- a site takes this
+abbrev pub FitsKept : SiteInput → KeptSite → Type 0
+FitsKept given kept = IsSite kept.site → site_meaning.fits kept given ≡ true
+
+abbrev pub SlotFits : SiteInput → Slot → Type 0
+SlotFits given (slot.Up durable) = FitsKept given (machine_of durable)
+SlotFits given (slot.Down disk) = ⊥
+
+-- with one input more, if it is there
+abbrev pub with_input : Bool → List SiteInput → SiteInput → List SiteInput
+with_input there inputs given = if there then inputs ++ given ∷ [] else inputs
+
+-- whether an input is there, by the cut that fell into it
+abbrev pub is_there : Option Cut → Bool
+is_there None = true
+is_there (Some cut) = keeps_input (cut_seen cut)
+
+-- a cut that may wait
+abbrev pub IsFew : Option Cut → Type 0
+IsFew None = Unit {0}
+IsFew (Some cut) = cut.calls ≤ MOST_CALLS
+
+-- what a step leaves, and whether the input is there; and what is known of the site before it
+pub record StepsSlot (d : Deployed) (i : ℕ) (inputs : List SiteInput) (given : SiteInput) (cut : Option Cut) (there : Bool) (new : Slot) : Type 0 where
+  pub told : there ≡ is_there cut
+  pub keeps : SlotKeeps d i (with_input there inputs given) new
+  pub sound : IsSite (run_of site_meaning (fresh_kept d i) inputs).machine.site
+
+-- what the disk of a site is left with whose step a cut fell into: with the input where it is there, and else without it
+abbrev pub LeftBy : Deployed → ℕ → List SiteInput → SiteInput → Option Cut → DiskState → Type 0
+LeftBy d i inputs given None disk = ⊥
+LeftBy d i inputs given (Some cut) disk = CutLeaves disk cut.calls cut.keep (λ c. Recovers site_meaning (fresh_kept d i) c (inputs ++ given ∷ [])) (λ c. Recovers site_meaning (fresh_kept d i) c inputs)
+
+-- what came of a step: the site goes on where no cut fell into it, and else its disk failed
+abbrev pub CameTo : Deployed → ℕ → List SiteInput → SiteInput → Option Cut → Stepped → Type 0
+CameTo d i inputs given cut (stepped.Done durable) = (cut ≡ None) × HasInputs d i (inputs ++ given ∷ []) (memory_state (disk_of durable)) (machine_of durable)
+CameTo d i inputs given cut (stepped.Failed disk) = LeftBy d i inputs given cut (memory_state disk)
+
+-- a step of a site with this disk came to this, whichever cut waits at the site
+abbrev pub StepsKept : DiskState → KeptSite → SiteInput → Stepped → Type 0
+StepsKept old machine given came = (d : Deployed) (i : ℕ) (inputs : List SiteInput) (cut : Option Cut) → IsFew cut → Waits d i inputs cut old machine → CameTo d i inputs given cut came
+
+-- a site and its disk were armed by a cut, or by none
+abbrev pub Arms : Option Cut → DiskState → KeptSite → DiskState → KeptSite → Type 0
+Arms cut old machine new same = (d : Deployed) (i : ℕ) (inputs : List SiteInput) → HasInputs d i inputs old machine → Waits d i inputs cut new same
