@@ -11,6 +11,7 @@ use Rattle.sat_site.specs.Seen.{SiteSeen}
 use Rattle.sat_site.specs.SiteSteps.{site_after, site_answers, site_beat, site_epoch, site_sends}
 use Rattle.sat_lasting.specs.declared.kept_site.KeptSite.{KeptSite}
 
+-- its site
 abbrev pub site_of : KeptSite → SiteSeen
 site_of kept = kept.site
 

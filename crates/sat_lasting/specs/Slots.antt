@@ -40,6 +40,7 @@ pub record Waits (d : Deployed) (i : ℕ) (inputs : List SiteInput) (cut : Optio
 abbrev pub HasInputs : Deployed → ℕ → List SiteInput → DiskState → KeptSite → Type 0
 HasInputs d i inputs disk machine = Waits d i inputs None disk machine
 
+-- the same of a site on its disk; a disk alone has no site
 abbrev pub SlotKeeps : Deployed → ℕ → List SiteInput → Slot → Type 0
 SlotKeeps d i inputs (slot.Up durable) = HasInputs d i inputs (memory_state (disk_of durable)) (machine_of durable)
 SlotKeeps d i inputs (slot.Down disk) = ⊥
@@ -48,6 +49,7 @@ SlotKeeps d i inputs (slot.Down disk) = ⊥
 abbrev pub FitsKept : SiteInput → KeptSite → Type 0
 FitsKept given kept = IsSite kept.site → site_meaning.fits kept given ≡ true
 
+-- the same of a site on its disk
 abbrev pub SlotFits : SiteInput → Slot → Type 0
 SlotFits given (slot.Up durable) = FitsKept given (machine_of durable)
 SlotFits given (slot.Down disk) = ⊥
