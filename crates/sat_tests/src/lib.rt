@@ -27,6 +27,8 @@ mod rows;
 #[cfg(test)]
 mod sinks;
 #[cfg(test)]
+mod stopped;
+#[cfg(test)]
 mod stores;
 #[cfg(test)]
 mod tables;

@@ -1,6 +1,5 @@
-//! The example store, with three sites, as its builder would run it: each process holds a replica or a relay, and the
-//! code below carries their messages, line by line: left what is done, right what came of it. Labels stay in order on
-//! each link; payloads are late.
+//! The example store, with three sites, as its builder would run it: each process holds a replica or a relay, and the code below carries
+//! their messages, as bytes, line by line: left what is done, right what came of it. Labels stay in order on each link; payloads are late.
 ghost use Rattle.std.specs.Prelude.{◌≡◌, length, IfOk};
 
 use sat_act::{Answer, ClientLine, Deployment, Item, Plan, Refusal};
@@ -9,6 +8,7 @@ use sat_label::{Label, Name, NodeId, SiteSet, Value, write_point};
 use sat_sites::Interest;
 use sat_store_example::{Duty, Relay, Replica, Sending};
 use sat_tree::Tree;
+use sat_wire::{Wire, decode, encode};
 use std::alloc::Global;
 use std::test::Fail;
 
@@ -29,9 +29,9 @@ fn items(alloc: Global) -> Result<Vec<Item>, Fail> {
     Ok(items)
 }
 
-// Every process knows the deployment: three sites of one gear, and a tree for each of two epochs. No client is named:
-// those of a store come and go.
-fn deployment(alloc: Global, first: &Tree, second: &Tree) -> Result<Deployment, Fail>
+// Every process knows the deployment: three sites of one gear, and a tree for each of two epochs. No client is named: those of a
+// store come and go.
+pub(crate) fn deployment(alloc: Global, first: &Tree, second: &Tree) -> Result<Deployment, Fail>
     ensures { IfOk result (λ d. d.sites ≡ 3) }
 {
     let items = items(alloc)?;
@@ -44,7 +44,7 @@ fn deployment(alloc: Global, first: &Tree, second: &Tree) -> Result<Deployment, 
 }
 
 // At first the sites 0 and 1 hang on a root, and site 2 on a leaf below it.
-fn first_tree(alloc: Global) -> Result<Tree, Fail>
+pub(crate) fn first_tree(alloc: Global) -> Result<Tree, Fail>
     ensures parents { IfOk result (λ tree. length tree.parents ≡ 2) }
     ensures seats { IfOk result (λ tree. length tree.seats ≡ 3) }
 {
@@ -53,7 +53,7 @@ fn first_tree(alloc: Global) -> Result<Tree, Fail>
 }
 
 // Then all hang on one.
-fn second_tree(alloc: Global) -> Result<Tree, Fail>
+pub(crate) fn second_tree(alloc: Global) -> Result<Tree, Fail>
     ensures parents { IfOk result (λ tree. length tree.parents ≡ 1) }
     ensures seats { IfOk result (λ tree. length tree.seats ≡ 3) }
 {
@@ -80,7 +80,7 @@ fn fresh_sites(alloc: Global, d: &Deployment) -> Result<Vec<Replica>, Fail>
 }
 
 // The processes of the serializers: 0 and 1 of the first tree, and 2 of the second.
-fn fresh_relays(alloc: Global, first: &Tree, second: &Tree) -> Result<Vec<Relay>, Fail>
+pub(crate) fn fresh_relays(alloc: Global, first: &Tree, second: &Tree) -> Result<Vec<Relay>, Fail>
     requires first_parents { length first.now.parents ≡ 2 }
     requires first_seats { length first.now.seats ≡ 3 }
     requires second_parents { length second.now.parents ≡ 1 }
@@ -118,7 +118,7 @@ fn fresh_store(alloc: Global) -> Result<Store, Fail> {
 
 // ---- what came of it
 
-fn say(out: &mut Vec<u8>, text: &[u8]) -> Result<(), Fail> {
+pub(crate) fn say(out: &mut Vec<u8>, text: &[u8]) -> Result<(), Fail> {
     out.extend_from_slice(text)?;
     Ok(())
 }
@@ -152,7 +152,7 @@ fn say_known(out: &mut Vec<u8>, answer: &Answer) -> Result<bool, Fail> {
     Ok(true)
 }
 
-fn say_answer(out: &mut Vec<u8>, answer: &Answer) -> Result<(), Fail> {
+pub(crate) fn say_answer(out: &mut Vec<u8>, answer: &Answer) -> Result<(), Fail> {
     if say_known(out, answer)? {
         return Ok(());
     }
@@ -161,6 +161,7 @@ fn say_answer(out: &mut Vec<u8>, answer: &Answer) -> Result<(), Fail> {
         Answer::Gathered { .. } => say(out, b"gathered"),
         Answer::Closed { .. } => say(out, b"closed"),
         Answer::Taken => say(out, b"taken"),
+        Answer::Again => say(out, b"again"),
         Answer::Fallen => say(out, b"fallen"),
         Answer::View(_) => say(out, b"view"),
         Answer::Attached => say(out, b"attached"),
@@ -195,44 +196,60 @@ fn relay(store: &mut Store, number: u16) -> Result<&mut Relay, Fail> {
     Ok(relay)
 }
 
+// What comes out at the other end, of a value that is carried as its bytes.
+pub(crate) fn crossed<T: Wire>(alloc: Global, value: &T) -> Result<T, Fail> {
+    if !value.is_allowed() {
+        return Err(Fail::from("not allowed"));
+    }
+    let mut bytes = Vec::new(alloc);
+    encode(value, &mut bytes)?;
+    match decode::<T>(alloc, bytes.as_slice()) {
+        Ok(value) => Ok(value),
+        Err(_) => Err(Fail::from("not read")),
+    }
+}
+
 // A label goes up from a site. Where the relay does not have it, it stays on its link.
-fn up(store: &mut Store, from: u16, epoch: u16, to: u16) -> Result<bool, Fail> {
+fn up(alloc: Global, store: &mut Store, from: u16, epoch: u16, to: u16) -> Result<bool, Fail> {
     let offer = site(store, from)?.offer(epoch).ok_or("an empty link")?;
-    match relay(store, to)?.accept(NodeId::Site(from), offer.label()) {
+    let label = crossed(alloc, &offer.label())?;
+    match relay(store, to)?.accept(NodeId::Site(from), label) {
         Ok(_) => Ok(site(store, from)?.taken(offer)),
         Err(_) => Ok(false),
     }
 }
 
 // A label goes from one relay of the first tree to the other.
-fn pass(store: &mut Store, from: u16, to: u16) -> Result<bool, Fail> {
+fn pass(alloc: Global, store: &mut Store, from: u16, to: u16) -> Result<bool, Fail> {
     let offer = relay(store, from)?
         .offer(NodeId::Serializer(to))
         .ok_or("an empty link")?;
-    match relay(store, to)?.accept(NodeId::Serializer(from), offer.label()) {
+    let label = crossed(alloc, &offer.label())?;
+    match relay(store, to)?.accept(NodeId::Serializer(from), label) {
         Ok(_) => Ok(relay(store, from)?.taken(offer)),
         Err(_) => Ok(false),
     }
 }
 
 // A label goes down to a site.
-fn down(store: &mut Store, from: u16, epoch: u16, to: u16) -> Result<bool, Fail> {
+fn down(alloc: Global, store: &mut Store, from: u16, epoch: u16, to: u16) -> Result<bool, Fail> {
     let offer = relay(store, from)?
         .offer(NodeId::Site(to))
         .ok_or("an empty link")?;
-    match site(store, to)?.arrive(epoch, offer.label()) {
+    let label = crossed(alloc, &offer.label())?;
+    match site(store, to)?.arrive(epoch, label) {
         Ok(()) => Ok(relay(store, from)?.taken(offer)),
         Err(_) => Ok(false),
     }
 }
 
 // A site asks another one for the next payload that it lacks.
-fn bring(store: &mut Store, from: u16, to: u16) -> Result<Answer, Fail> {
+fn bring(alloc: Global, store: &mut Store, from: u16, to: u16) -> Result<Answer, Fail> {
     let number = site(store, to)?.wanted(from, 0).ok_or("no such lane")?;
-    let payload = site(store, from)?
+    let made = site(store, from)?
         .payload(0, to, number)
-        .ok_or("no payload")?
-        .copy()?;
+        .ok_or("no payload")?;
+    let payload = crossed(alloc, made)?;
     hand(
         store,
         to,
@@ -246,14 +263,14 @@ fn bring(store: &mut Store, from: u16, to: u16) -> Result<Answer, Fail> {
 }
 
 // A site tells another one how far it is.
-fn tell(store: &mut Store, from: u16, to: u16) -> Result<Answer, Fail> {
+fn tell(alloc: Global, store: &mut Store, from: u16, to: u16) -> Result<Answer, Fail> {
     let made = site(store, from)?
         .hand(Duty::Beat { to })
         .map_err(|_| "no beat")?;
     let Answer::Beat(number) = made.answer else {
         return Ok(made.answer);
     };
-    let beat = made.beat.ok_or("no beat")?;
+    let beat = crossed(alloc, &made.beat.ok_or("no beat")?)?;
     hand(store, to, Duty::BeatIn { from, number, beat })
 }
 
@@ -315,12 +332,12 @@ fn attach(store: &mut Store, at: u16) -> Result<Answer, Fail> {
 
 // The words of a line: what is done, up to three numbers, and a text.
 #[derive(Clone, Copy, Debug, Drop)]
-struct Line<'a> {
-    verb: &'a str,
-    a: u16,
-    b: u16,
-    c: u16,
-    text: &'a str,
+pub(crate) struct Line<'a> {
+    pub(crate) verb: &'a str,
+    pub(crate) a: u16,
+    pub(crate) b: u16,
+    pub(crate) c: u16,
+    pub(crate) text: &'a str,
 }
 
 // A number of one digit, 9 where it is none.
@@ -331,7 +348,7 @@ fn digit(word: &str) -> u16 {
     }
 }
 
-fn line_of(text: &str) -> Line<'_> {
+pub(crate) fn line_of(text: &str) -> Line<'_> {
     let mut words = text.split(' ');
     let verb = words.next().unwrap_or("");
     let first = words.next().unwrap_or("");
@@ -350,11 +367,11 @@ fn is_carried(verb: &str) -> bool {
     matches!(verb, "up" | "pass" | "down")
 }
 
-fn carry(store: &mut Store, line: &Line<'_>) -> Result<bool, Fail> {
+fn carry(alloc: Global, store: &mut Store, line: &Line<'_>) -> Result<bool, Fail> {
     match line.verb {
-        "up" => up(store, line.a, line.b, line.c),
-        "pass" => pass(store, line.a, line.b),
-        _ => down(store, line.a, line.b, line.c),
+        "up" => up(alloc, store, line.a, line.b, line.c),
+        "pass" => pass(alloc, store, line.a, line.b),
+        _ => down(alloc, store, line.a, line.b, line.c),
     }
 }
 
@@ -371,13 +388,13 @@ fn call(alloc: Global, store: &mut Store, line: &Line<'_>) -> Result<Answer, Fai
     }
 }
 
-fn act(store: &mut Store, line: &Line<'_>) -> Result<Answer, Fail> {
+fn act(alloc: Global, store: &mut Store, line: &Line<'_>) -> Result<Answer, Fail> {
     match line.verb {
         "gather" => hand(store, line.a, Duty::Gather),
         "emit" => send(store, line.a, Sending::Emit),
         "close" => send(store, line.a, Sending::Close),
-        "bring" => bring(store, line.a, line.b),
-        "tell" => tell(store, line.a, line.b),
+        "bring" => bring(alloc, store, line.a, line.b),
+        "tell" => tell(alloc, store, line.a, line.b),
         "turn" => show(store, line.a),
         "stamp" => hand(store, line.a, Duty::Stamp),
         "fall" => hand(store, line.a, Duty::Fall),
@@ -394,21 +411,21 @@ fn go(alloc: Global, store: &mut Store, text: &str, out: &mut Vec<u8>) -> Result
         return say(out, b"dead");
     }
     if is_carried(line.verb) {
-        let went = carry(store, &line)?;
+        let went = carry(alloc, store, &line)?;
         return say_whether(out, went);
     }
     let answer = if is_called(line.verb) {
         call(alloc, store, &line)?
     } else {
-        act(store, &line)?
+        act(alloc, store, &line)?
     };
     say_answer(out, &answer)
 }
 
 // ---- the stories
 
-// A client writes a photo at site 0 and leaves for site 1, which lets it in only once the photo is there. There it
-// writes into the album, which comes after all that it saw, and goes to site 2, two relays away.
+// A client writes a photo at site 0 and leaves for site 1, which lets it in only once the photo is there. There it writes into the
+// album, which comes after all that it saw, and goes to site 2, two relays away.
 const A_CLIENT_MOVES: &str = "write 0 0 beach -> wrote 1.0.0
 move 0 1 -> moved 2.0.0
 attach 1 -> refused NotYet
@@ -435,8 +452,8 @@ down 1 1 2 -> went
 bring 1 2 -> brought 3.1.0
 turn 2 -> shown 3.1.0";
 
-// Site 0 closes the first epoch between two photos, and the second one goes by the second tree, which is quicker: its
-// label waits at site 1, on a link of its own, until all of the first tree was taken.
+// Site 0 closes the first epoch between two photos, and the second one goes by the second tree, which is quicker: its label waits
+// at site 1, on a link of its own, until all of the first tree was taken.
 const A_TREE_IS_SWITCHED: &str = "write 0 0 beach -> wrote 1.0.0
 gather 0 -> gathered
 emit 0 -> emitted 1.0.0
@@ -467,9 +484,8 @@ turn 1 -> refused NoPayload 2.0.0
 bring 0 1 -> brought 2.0.0
 turn 1 -> shown 2.0.0";
 
-// The root dies before it has the photo's label, which stays on the link from site 0 for good. All close the epoch;
-// site 1 falls, hears from the others how far they are, and goes on by timestamps to the end of the epoch. The second
-// one has a tree that lives.
+// The root dies before it has the photo's label, which stays on the link from site 0 for good. All close the epoch; site 1 falls,
+// hears from the others how far they are, and goes on by timestamps to the end of the epoch. The second one has a tree that lives.
 const A_RELAY_DIES: &str = "write 0 0 beach -> wrote 1.0.0
 gather 0 -> gathered
 emit 0 -> emitted 1.0.0
