@@ -34,16 +34,18 @@ handed_in [] = []
 handed_in (n ∷ ns) = handed_in ns ++ n.input ∷ []
 
 -- These are the inputs of these lines, and a site that took them stands for this state.
-pub record AreInputsOf (d : Deployed) (i : ℕ) (lines : List Noted) (s : SiteState) (inputs : List SiteInput) : Type 0 where
+pub record AreInputsOf (d : Deployed) (i : ℕ) (lines : List Noted) (s : SiteState)
+    (inputs : List SiteInput) : Type 0 where
   pub handed : map input_of inputs ≡ handed_in lines
   pub stands : StandsSite d i (run_of site_meaning (fresh_kept d i) inputs).machine.site s
 
--- These are what site i was handed in a history, and a site that took them stands for its state after it. So does the site of a world
--- that stands for the history: both answer the next input alike.
+-- These are what site i was handed in a history, and a site that took them stands for its state after it. So does the
+-- site of a world that stands for the history: both answer the next input alike.
 abbrev pub AreInputs : Deployed → List Entry → ℕ → List SiteInput → Type 0
 AreInputs d h i inputs = AreInputsOf d i (journal d h i) (site_state d h i) inputs
 
--- These bytes are a journal of what site i was handed in a history, and recovering it gives the site after just these inputs.
+-- These bytes are a journal of what site i was handed in a history, and recovering it gives the site after just these
+-- inputs.
 pub record IsJournalAt (d : Deployed) (h : List Entry) (i : ℕ) (content : List ℕ) : Type 0 where
   pub inputs : List SiteInput
   pub are : AreInputs d h i inputs
@@ -84,10 +86,14 @@ IsSound l = (c : List LastingEntry) × IsLastingRun l.world.deployment c × Last
 
 -- the answer is the history's, and all then stands for the history with the act's entry, which is one again and good
 pub record LastingApplies (old : LastingSeen) (a : LastingAct) (r : LastingAnswer) (new : LastingSeen) : Type 0 where
-  pub answer : (c : List LastingEntry) → IsLastingRun old.world.deployment c → LastsFor old c → r ≡ lasting_answer old.world.deployment c a
-  pub run : (c : List LastingEntry) → IsLastingRun old.world.deployment c → LastsFor old c → IsLastingRun new.world.deployment (record { act = a; answer = r } ∷ c)
-  pub stands : (c : List LastingEntry) → IsLastingRun old.world.deployment c → LastsFor old c → LastsFor new (record { act = a; answer = r } ∷ c)
-  pub good : (c : List LastingEntry) → IsLastingRun old.world.deployment c → LastsFor old c → IsLastingGood old.world.deployment (record { act = a; answer = r } ∷ c)
+  pub answer : (c : List LastingEntry) → IsLastingRun old.world.deployment c → LastsFor old c
+      → r ≡ lasting_answer old.world.deployment c a
+  pub run : (c : List LastingEntry) → IsLastingRun old.world.deployment c → LastsFor old c
+      → IsLastingRun new.world.deployment (record { act = a; answer = r } ∷ c)
+  pub stands : (c : List LastingEntry) → IsLastingRun old.world.deployment c → LastsFor old c
+      → LastsFor new (record { act = a; answer = r } ∷ c)
+  pub good : (c : List LastingEntry) → IsLastingRun old.world.deployment c → LastsFor old c
+      → IsLastingGood old.world.deployment (record { act = a; answer = r } ∷ c)
   pub deployment : new.world.deployment ≡ old.world.deployment
 
 -- so many sites on disks, at which nothing has happened
@@ -108,11 +114,13 @@ pub record Changes (i : ℕ) (old new : List Slot) (R : Slot → Slot → Type 0
 
 -- by a step
 abbrev pub Steps : Deployed → ℕ → SiteInput → Option Cut → Bool → Slot → Slot → Type 0
-Steps d i given cut there before after = (inputs : List SiteInput) → SlotKeeps d i inputs before → StepsSlot d i inputs given cut there after
+Steps d i given cut there before after =
+    (inputs : List SiteInput) → SlotKeeps d i inputs before → StepsSlot d i inputs given cut there after
 
 -- by a stop, which tells of so many inputs
 abbrev pub Stops : Deployed → ℕ → ℕ → Slot → Slot → Type 0
-Stops d i count before after = (inputs : List SiteInput) → SlotKeeps d i inputs before → SlotKeeps d i inputs after × (count ≡ length inputs)
+Stops d i count before after =
+    (inputs : List SiteInput) → SlotKeeps d i inputs before → SlotKeeps d i inputs after × (count ≡ length inputs)
 
 -- the answer of an act whose input is there, by the cut that fell into it
 abbrev pub whole_answer : Option Cut → Answer → LastingAnswer

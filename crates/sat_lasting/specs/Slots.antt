@@ -32,7 +32,8 @@ FailsBy None disk = IsCalm disk
 FailsBy (Some cut) disk = (synced : List ℕ) × (disk.told ≡ drill.told (Some cut.calls) cut.keep synced)
 
 -- site i has just these inputs behind it, and so has its disk, which fails where the cut says
-pub record Waits (d : Deployed) (i : ℕ) (inputs : List SiteInput) (cut : Option Cut) (disk : DiskState) (machine : KeptSite) : Type 0 where
+pub record Waits (d : Deployed) (i : ℕ) (inputs : List SiteInput) (cut : Option Cut) (disk : DiskState)
+    (machine : KeptSite) : Type 0 where
   pub keeps : Keeps site_meaning (fresh_kept d i) disk machine inputs
   pub fails : FailsBy cut disk
 
@@ -69,25 +70,32 @@ IsFew None = Unit {0}
 IsFew (Some cut) = cut.calls ≤ MOST_CALLS
 
 -- what a step leaves, and whether the input is there; and what is known of the site before it
-pub record StepsSlot (d : Deployed) (i : ℕ) (inputs : List SiteInput) (given : SiteInput) (cut : Option Cut) (there : Bool) (new : Slot) : Type 0 where
+pub record StepsSlot (d : Deployed) (i : ℕ) (inputs : List SiteInput) (given : SiteInput) (cut : Option Cut)
+    (there : Bool) (new : Slot) : Type 0 where
   pub told : there ≡ is_there cut
   pub keeps : SlotKeeps d i (with_input there inputs given) new
   pub sound : IsSite (run_of site_meaning (fresh_kept d i) inputs).machine.site
 
--- what the disk of a site is left with whose step a cut fell into: with the input where it is there, and else without it
+-- what the disk of a site is left with whose step a cut fell into: with the input where it is there, and else without
+-- it
 abbrev pub LeftBy : Deployed → ℕ → List SiteInput → SiteInput → Option Cut → DiskState → Type 0
 LeftBy d i inputs given None disk = ⊥
-LeftBy d i inputs given (Some cut) disk = CutLeaves disk cut.calls cut.keep (λ c. Recovers site_meaning (fresh_kept d i) c (inputs ++ given ∷ [])) (λ c. Recovers site_meaning (fresh_kept d i) c inputs)
+LeftBy d i inputs given (Some cut) disk =
+    CutLeaves disk cut.calls cut.keep (λ c. Recovers site_meaning (fresh_kept d i) c (inputs ++ given ∷ []))
+    (λ c. Recovers site_meaning (fresh_kept d i) c inputs)
 
 -- what came of a step: the site goes on where no cut fell into it, and else its disk failed
 abbrev pub CameTo : Deployed → ℕ → List SiteInput → SiteInput → Option Cut → Stepped → Type 0
-CameTo d i inputs given cut (stepped.Done durable) = (cut ≡ None) × HasInputs d i (inputs ++ given ∷ []) (memory_state (disk_of durable)) (machine_of durable)
+CameTo d i inputs given cut (stepped.Done durable) =
+    (cut ≡ None) × HasInputs d i (inputs ++ given ∷ []) (memory_state (disk_of durable)) (machine_of durable)
 CameTo d i inputs given cut (stepped.Failed disk) = LeftBy d i inputs given cut (memory_state disk)
 
 -- a step of a site with this disk came to this, whichever cut waits at the site
 abbrev pub StepsKept : DiskState → KeptSite → SiteInput → Stepped → Type 0
-StepsKept old machine given came = (d : Deployed) (i : ℕ) (inputs : List SiteInput) (cut : Option Cut) → IsFew cut → Waits d i inputs cut old machine → CameTo d i inputs given cut came
+StepsKept old machine given came = (d : Deployed) (i : ℕ) (inputs : List SiteInput) (cut : Option Cut) → IsFew cut
+    → Waits d i inputs cut old machine → CameTo d i inputs given cut came
 
 -- a site and its disk were armed by a cut, or by none
 abbrev pub Arms : Option Cut → DiskState → KeptSite → DiskState → KeptSite → Type 0
-Arms cut old machine new same = (d : Deployed) (i : ℕ) (inputs : List SiteInput) → HasInputs d i inputs old machine → Waits d i inputs cut new same
+Arms cut old machine new same =
+    (d : Deployed) (i : ℕ) (inputs : List SiteInput) → HasInputs d i inputs old machine → Waits d i inputs cut new same

@@ -17,9 +17,10 @@ use sat_world::World;
 use std::alloc::{AllocError, Global};
 use std::marker::Model;
 
-/// A world, and each of its sites once more on a disk. An act goes first to the site on its disk, and only where its input is there
-/// to the world: so the world never knows of an input that a stop could take away. Sites are held twice, which costs the memory of a
-/// second copy of each and the time of a second step; both are the replay of the same inputs.
+/// A world, and each of its sites once more on a disk. An act goes first to the site on its disk, and only where its
+/// input is there to the world: so the world never knows of an input that a stop could take away. Sites are held twice,
+/// which costs the memory of a second copy of each and the time of a second step; both are the replay of the same
+/// inputs.
 #[derive(Drop)]
 pub struct Lasting {
     world: World,
@@ -79,8 +80,8 @@ impl Lasting {
         Ok(Lasting { world, slots, cuts })
     }
 
-    /// Does an act and answers it. A site whose records on its disk come to more than 2^40 bytes takes no further input: memory is
-    /// wanting then. After want of memory nothing more is promised.
+    /// Does an act and answers it. A site whose records on its disk come to more than 2^40 bytes takes no further
+    /// input: memory is wanting then. After want of memory nothing more is promised.
     pub fn apply(&mut self, act: &LastingAct) -> Result<LastingAnswer, AllocError>
         requires act { IsLastingActOf self.old.world.deployment act.now }
         requires sound { IsSound self.old }
@@ -96,21 +97,24 @@ impl Lasting {
     /// The world, which stands for the run of the kept acts. It takes no memory.
     pub fn world(&self) -> &World
         ensures world { result.now ≡ self.now.world }
-        ensures stands { (c : List LastingEntry) → IsLastingRun self.now.world.deployment c → LastsFor self.now c → StandsFor result.now (kept c) }
+        ensures stands { (c : List LastingEntry) → IsLastingRun self.now.world.deployment c → LastsFor self.now c
+            → StandsFor result.now (kept c) }
     {
         &self.world
     }
 
-    /// The disk of a site, which holds a journal of the inputs that the site was handed by the kept acts. It takes no memory.
+    /// The disk of a site, which holds a journal of the inputs that the site was handed by the kept acts. It takes no
+    /// memory.
     pub fn disk(&self, site: u16) -> &MemoryDisk
         requires { site < self.now.world.deployment.sites }
-        ensures { (c : List LastingEntry) → IsLastingRun self.now.world.deployment c → LastsFor self.now c → IsJournalAt self.now.world.deployment (kept c) site (memory_state result.now).content }
+        ensures { (c : List LastingEntry) → IsLastingRun self.now.world.deployment c → LastsFor self.now c
+            → IsJournalAt self.now.world.deployment (kept c) site (memory_state result.now).content }
     {
         slot_at(&self.slots, site).disk()
     }
 
-    // An act that reaches no site is the world's alone. Any other goes to its site on its disk, and where its input is there to the
-    // world, whose site stands for the same state and so answers the same.
+    // An act that reaches no site is the world's alone. Any other goes to its site on its disk, and where its input is
+    // there to the world, whose site stands for the same state and so answers the same.
     fn plain(&mut self, act: &Act) -> Result<LastingAnswer, AllocError>
         requires act { IsLastingActOf self.old.world.deployment (LastingAct.Plain act.now) }
         requires sound { IsSound self.old }

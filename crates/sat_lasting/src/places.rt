@@ -70,7 +70,8 @@ pub(crate) fn step_at(
     requires fits { (slot : SlotSeen) → slice_get slots.old.items site ≡ Some slot → SlotFits input slot }
     requires few { IsFew cut }
     ensures long { length slots.new.items ≡ length slots.old.items }
-    ensures steps { IfOk result (λ there. Changes site slots.old.items slots.new.items (Steps d.now site input cut there)) }
+    ensures steps { IfOk result
+        (λ there. Changes site slots.old.items slots.new.items (Steps d.now site input cut there)) }
 {
     let slot = take_slot(slots, alloc, site);
     let (slot, there) = slot.step(alloc, d, site, input, cut)?;

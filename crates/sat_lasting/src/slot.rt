@@ -79,16 +79,18 @@ impl Slot {
         site: u16,
     ) -> Result<(Slot, u64), AllocError>
         requires { site < d.now.sites }
-        ensures keeps { IfOk result (λ made. (inputs : List InputSeen) → SlotKeeps d.now site inputs self → SlotKeeps d.now site inputs made.0) }
-        ensures count { IfOk result (λ made. (inputs : List InputSeen) → SlotKeeps d.now site inputs self → made.1 ≡ length inputs) }
+        ensures keeps { IfOk result (λ made. (inputs : List InputSeen) → SlotKeeps d.now site inputs self
+            → SlotKeeps d.now site inputs made.0) }
+        ensures count { IfOk result (λ made. (inputs : List InputSeen) → SlotKeeps d.now site inputs self
+            → made.1 ≡ length inputs) }
     {
         let disk = self.into_disk().crash();
         let (slot, count) = made_again(alloc, d, site, disk)?;
         Ok((slot, count))
     }
 
-    /// Hands the site an input, which is cut off where a cut falls into it, and tells whether the input is there. Where the site
-    /// was cut off it is made again.
+    /// Hands the site an input, which is cut off where a cut falls into it, and tells whether the input is there. Where
+    /// the site was cut off it is made again.
     pub(crate) fn step(
         self,
         alloc: Global,
@@ -100,7 +102,8 @@ impl Slot {
         requires site { site < d.now.sites }
         requires fits { SlotFits input self }
         requires few { IsFew cut }
-        ensures { IfOk result (λ done. (inputs : List InputSeen) → SlotKeeps d.now site inputs self → StepsSlot d.now site inputs input cut done.1 done.0) }
+        ensures { IfOk result (λ done. (inputs : List InputSeen) → SlotKeeps d.now site inputs self
+            → StepsSlot d.now site inputs input cut done.1 done.0) }
     {
         let Slot::Up(durable) = self else {
             unreachable!();
@@ -130,7 +133,8 @@ fn is_left(cut: Option<Cut>) -> bool
 // The site with its disk armed, where a cut waits.
 fn armed(durable: Kept, cut: Option<Cut>) -> Kept
     ensures machine { machine_of result ≡ machine_of durable }
-    ensures waits { Arms cut (memory_state (disk_of durable)) (machine_of durable) (memory_state (disk_of result)) (machine_of result) }
+    ensures waits { Arms cut (memory_state (disk_of durable)) (machine_of durable) (memory_state (disk_of result))
+        (machine_of result) }
 {
     match cut {
         None => durable,
@@ -141,7 +145,8 @@ fn armed(durable: Kept, cut: Option<Cut>) -> Kept
 fn armed_by(durable: Kept, cut: Cut) -> Kept
     ensures machine { machine_of result ≡ machine_of durable }
     ensures rests { Rests (memory_state (disk_of durable)) (memory_state (disk_of result)) }
-    ensures told { (memory_state (disk_of result)).told ≡ told_of (Some cut.calls) cut.keep (memory_synced (disk_of durable)) }
+    ensures told { (memory_state (disk_of result)).told
+        ≡ told_of (Some cut.calls) cut.keep (memory_synced (disk_of durable)) }
 {
     let mut durable = durable;
     durable.arm(cut.calls, cut.keep);
@@ -183,8 +188,8 @@ fn failed(fault: StepFault<MemoryDisk, KeptSite>) -> Result<MemoryDisk, AllocErr
     }
 }
 
-// The site of a disk that crashed, and from how many inputs it was made. A disk that will not fail is no fault of a recovery, and a
-// journal of inputs that fit is torn nowhere: so it fails for want of memory alone.
+// The site of a disk that crashed, and from how many inputs it was made. A disk that will not fail is no fault of a
+// recovery, and a journal of inputs that fit is torn nowhere: so it fails for want of memory alone.
 fn made_again(
     alloc: Global,
     d: &Deployment,
@@ -192,8 +197,11 @@ fn made_again(
     disk: MemoryDisk,
 ) -> Result<(Slot, u64), AllocError>
     requires { site < d.now.sites }
-    ensures keeps { IfOk result (λ made. (inputs : List InputSeen) → Recovers site_meaning (fresh_kept d.now site) (memory_state disk).content inputs → IsCalm (memory_state disk) → SlotKeeps d.now site inputs made.0) }
-    ensures count { IfOk result (λ made. (inputs : List InputSeen) → Recovers site_meaning (fresh_kept d.now site) (memory_state disk).content inputs → made.1 ≡ length inputs) }
+    ensures keeps { IfOk result (λ made. (inputs : List InputSeen)
+        → Recovers site_meaning (fresh_kept d.now site) (memory_state disk).content inputs → IsCalm (memory_state disk)
+        → SlotKeeps d.now site inputs made.0) }
+    ensures count { IfOk result (λ made. (inputs : List InputSeen)
+        → Recovers site_meaning (fresh_kept d.now site) (memory_state disk).content inputs → made.1 ≡ length inputs) }
 {
     let fresh = KeptSite::new(alloc, d, site)?;
     match recover(alloc, disk, fresh) {
