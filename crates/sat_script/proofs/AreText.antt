@@ -72,7 +72,7 @@ form_text _ = refl
 
 -- ---- a line
 
-shapes_text : (ks : List Kind) (words : List (List ℕ)) → shapes ks words ≡ true → list_all is_text words ≡ true
+pub shapes_text : (ks : List Kind) (words : List (List ℕ)) → shapes ks words ≡ true → list_all is_text words ≡ true
 shapes_text [] [] h = refl
 shapes_text [] (word ∷ words) h = absurd (let none = eqb-true (length (word ∷ words)) 0 h in omega (arith, none))
 shapes_text (k ∷ ks) [] h = refl
@@ -90,7 +90,7 @@ onto_text x (word ∷ words) h =
 blank_byte : (x : ℕ) → eqb x 32 ≡ true → is_between 32 126 x ≡ true
 blank_byte x h = grind (arith, nat_tests)
 
-words_text : (line : List ℕ) → list_all is_text (words_of line) ≡ true → is_text line ≡ true
+pub words_text : (line : List ℕ) → list_all is_text (words_of line) ≡ true → is_text line ≡ true
 words_text [] h = refl
 words_text (x ∷ xs) h = go (eqb x 32) refl h (λ more. words_text xs more)
   where

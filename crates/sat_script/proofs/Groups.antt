@@ -29,12 +29,12 @@ one_written format = go (eqb format 1)
     go true = refl
     go false = refl
 
-pub counted_allowed : (format : ℕ) (f : Form) → is_counted f ≡ true → allows format f ≡ true
+pub counted_allowed : (hops : Bool) (format : ℕ) (f : Form) → is_counted hops f ≡ true → allows format f ≡ true
 unfolding allows
-counted_allowed format form.WritesTwo h = absurd (cc)
-counted_allowed format form.WritesThree h = absurd (cc)
-counted_allowed format form.WritesFour h = absurd (cc)
-counted_allowed format _ h = one_written format
+counted_allowed hops format form.WritesTwo h = absurd (cc)
+counted_allowed hops format form.WritesThree h = absurd (cc)
+counted_allowed hops format form.WritesFour h = absurd (cc)
+counted_allowed hops format _ h = one_written format
 
 group_allowed : (d : Deployed) (items : Items) (values : List (List ℕ)) → IsGroupOf d items values → allows d.format (group_form items) ≡ true
 unfolding allows

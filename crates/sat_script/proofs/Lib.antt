@@ -22,6 +22,7 @@ pub mod Order
 pub mod NoTree
 pub mod Once
 pub mod FirstWords
-pub mod Blanks
+pub mod BlankPlaces
 pub mod AreText
 pub mod Quick
+pub mod Own

@@ -143,6 +143,9 @@ gear_read d t word limit n is h =
 pub ts_read : (d : Deployed) (t : TreeShape) (word : List ℕ) (n : ℕ) → Some n ≡ number_up_to (2 ^ 62) word → IsReadWord d t kind.Ts word (num n) t
 ts_read d t word n h = record { shaped = up_to_told (2 ^ 62) word n (sym h); named = refl; said = ap (option_map num) (sym h); goes = λ next. refl }
 
+pub number_read : (d : Deployed) (t : TreeShape) (word : List ℕ) (n : ℕ) → Some n ≡ number_up_to (2 ^ 64 - 1) word → IsReadWord d t kind.Count word (num n) t
+number_read d t word n h = record { shaped = up_to_told (2 ^ 64 - 1) word n (sym h); named = refl; said = ap (option_map num) (sym h); goes = λ next. refl }
+
 pub node_read : (d : Deployed) (t : TreeShape) (word : List ℕ) (u : NodeId) → true ≡ begins kind.Node word → Some u ≡ node_in t word → IsReadWord d t kind.Node word (at u) t
 node_read d t word u b h = record { shaped = node_told t word u (sym b) (sym h); named = refl; said = ap (option_map at) (sym h); goes = λ next. refl }
 

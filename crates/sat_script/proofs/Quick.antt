@@ -1,5 +1,5 @@
 -- Acts that are made as their words are read.
-use Rattle.std.proofs.Common.{◌≡◌, ℕ, ◌^◌, ◌-◌, ◌<◌, ◌≤◌, Bool, true, false, cond, eqb, ltb, List, [], ◌∷◌, length, Option, Some, None, Ok, sym, ap, ◌∙◌, refl, arith}
+use Rattle.std.proofs.Common.{◌≡◌, ℕ, ◌<◌, ◌≤◌, Bool, true, false, cond, eqb, ltb, List, [], ◌∷◌, length, Option, Some, None, Ok, sym, ap, ◌∙◌, refl, arith}
 use lib.Pointwise.{pointwise, bytes_decides}
 use Rattle.std.specs.Option.{option_map}
 use Rattle.std.specs.Prelude.{IfSome, not}
@@ -16,12 +16,13 @@ use Rattle.sat_act.specs.Parts.{tree_of}
 use Rattle.sat_act.specs.declared.act.Act.{Act}
 use Rattle.sat_act.specs.declared.act.Act.TheVariants as act
 use Rattle.sat_script.specs.Causes.{client_of, item_of}
+use Rattle.sat_script.specs.Dialect.{has_form}
 use Rattle.sat_script.specs.Grammar.{line_at, words_line}
 use Rattle.sat_script.specs.Said.{IsReadWord, SaysAct, TakesActs, is_counted}
-use Rattle.sat_script.specs.Table.{Said, place, num, bytes, no_tree, kinds_of, act_forms, act_of, found_form, args_of, unfit, has_node, edge_cause}
+use Rattle.sat_script.specs.Table.{Said, place, bytes, no_tree, kinds_of, act_forms, act_of, found_form, args_of, unfit, has_node, edge_cause}
 use Rattle.sat_script.specs.Spelled.{HaveNames}
 use Rattle.sat_script.specs.State.{State}
-use Rattle.sat_script.specs.Words.{number_below, number_up_to, is_text, words_of}
+use Rattle.sat_script.specs.Words.{number_below, is_text, words_of}
 use Rattle.sat_script.specs.declared.fault.Cause.TheVariants.{OutOfRange}
 use Rattle.sat_script.specs.declared.form.Form.{Form}
 use Rattle.sat_script.specs.declared.form.Form.TheVariants as form
@@ -59,14 +60,11 @@ value_at d t word v names h = rw (h.0) (word_read d t kind.Value word (bytes wor
 pub writes : (c x : ℕ) (word v : List ℕ) → (v ≡ word) × (is_value word ≡ true) → act_of form.Write (args_of (act.Write c x v)) ≡ Some (act.Write c x v)
 writes c x word v h = ap (λ (b : Bool). cond b (Some (act.Write c x v)) None) (ap is_value h.0 ∙ h.1)
 
-pub count_read : (d : Deployed) (t : TreeShape) (word : List ℕ) (n : ℕ) → HaveNames d → Some n ≡ number_up_to (2 ^ 64 - 1) word → IsReadWord d t kind.Count word (num n) t
-count_read d t word n names h = word_read d t kind.Count word (num n) names (λ e. absurd (cc)) refl (ap (option_map num) (sym h))
-
 -- ---- an act
 
-pub one_say : (d : Deployed) (t : TreeShape) (word x : List ℕ) (f : Form) (k : Kind) (a : Said) (y : Act) → found_form word 1 act_forms ≡ Some f → is_counted f ≡ true → kinds_of f ≡ k ∷ [] → args_of y ≡ a ∷ [] → act_of f (args_of y) ≡ Some y → unfit d y ≡ None
-    → IsReadWord d no_tree k x a t → SaysAct d word (x ∷ []) y
-one_say d t word x f k a y found counted kinds args says fits first = record {
+pub one_say : (hops : Bool) (d : Deployed) (t : TreeShape) (word x : List ℕ) (f : Form) (k : Kind) (a : Said) (y : Act) → found_form word 1 act_forms ≡ Some f → is_counted hops f ≡ true → kinds_of f ≡ k ∷ [] → args_of y ≡ a ∷ [] → act_of f (args_of y) ≡ Some y → unfit d y ≡ None
+    → IsReadWord d no_tree k x a t → SaysAct hops d word (x ∷ []) y
+one_say hops d t word x f k a y found counted kinds args says fits first = record {
   form = f;
   found = found;
   counted = counted;
@@ -74,9 +72,9 @@ one_say d t word x f k a y found counted kinds args says fits first = record {
   fits = fits;
 }
 
-pub two_say : (d : Deployed) (t u : TreeShape) (word w x : List ℕ) (f : Form) (k l : Kind) (a b : Said) (y : Act) → found_form word 2 act_forms ≡ Some f → is_counted f ≡ true → kinds_of f ≡ k ∷ l ∷ [] → args_of y ≡ a ∷ b ∷ [] → act_of f (args_of y) ≡ Some y
-    → unfit d y ≡ None → IsReadWord d no_tree k w a t → IsReadWord d t l x b u → SaysAct d word (w ∷ x ∷ []) y
-two_say d t u word w x f k l a b y found counted kinds args says fits first second = record {
+pub two_say : (hops : Bool) (d : Deployed) (t u : TreeShape) (word w x : List ℕ) (f : Form) (k l : Kind) (a b : Said) (y : Act) → found_form word 2 act_forms ≡ Some f → is_counted hops f ≡ true → kinds_of f ≡ k ∷ l ∷ [] → args_of y ≡ a ∷ b ∷ [] → act_of f (args_of y) ≡ Some y
+    → unfit d y ≡ None → IsReadWord d no_tree k w a t → IsReadWord d t l x b u → SaysAct hops d word (w ∷ x ∷ []) y
+two_say hops d t u word w x f k l a b y found counted kinds args says fits first second = record {
   form = f;
   found = found;
   counted = counted;
@@ -84,9 +82,9 @@ two_say d t u word w x f k l a b y found counted kinds args says fits first seco
   fits = fits;
 }
 
-pub three_say : (d : Deployed) (t u v : TreeShape) (word w x z : List ℕ) (f : Form) (k l m : Kind) (a b c : Said) (y : Act) → found_form word 3 act_forms ≡ Some f → is_counted f ≡ true → kinds_of f ≡ k ∷ l ∷ m ∷ [] → args_of y ≡ a ∷ b ∷ c ∷ [] → act_of f (args_of y) ≡ Some y
-    → unfit d y ≡ None → IsReadWord d no_tree k w a t → IsReadWord d t l x b u → IsReadWord d u m z c v → SaysAct d word (w ∷ x ∷ z ∷ []) y
-three_say d t u v word w x z f k l m a b c y found counted kinds args says fits first second third = record {
+pub three_say : (hops : Bool) (d : Deployed) (t u v : TreeShape) (word w x z : List ℕ) (f : Form) (k l m : Kind) (a b c : Said) (y : Act) → found_form word 3 act_forms ≡ Some f → is_counted hops f ≡ true → kinds_of f ≡ k ∷ l ∷ m ∷ [] → args_of y ≡ a ∷ b ∷ c ∷ [] → act_of f (args_of y) ≡ Some y
+    → unfit d y ≡ None → IsReadWord d no_tree k w a t → IsReadWord d t l x b u → IsReadWord d u m z c v → SaysAct hops d word (w ∷ x ∷ z ∷ []) y
+three_say hops d t u v word w x z f k l m a b c y found counted kinds args says fits first second third = record {
   form = f;
   found = found;
   counted = counted;
@@ -94,9 +92,9 @@ three_say d t u v word w x z f k l m a b c y found counted kinds args says fits 
   fits = fits;
 }
 
-pub four_say : (d : Deployed) (t u v o : TreeShape) (word w x z q : List ℕ) (f : Form) (k l m n : Kind) (a b c e : Said) (y : Act) → found_form word 4 act_forms ≡ Some f → is_counted f ≡ true → kinds_of f ≡ k ∷ l ∷ m ∷ n ∷ [] → args_of y ≡ a ∷ b ∷ c ∷ e ∷ []
-    → act_of f (args_of y) ≡ Some y → unfit d y ≡ None → IsReadWord d no_tree k w a t → IsReadWord d t l x b u → IsReadWord d u m z c v → IsReadWord d v n q e o → SaysAct d word (w ∷ x ∷ z ∷ q ∷ []) y
-four_say d t u v o word w x z q f k l m n a b c e y found counted kinds args says fits first second third fourth = record {
+pub four_say : (hops : Bool) (d : Deployed) (t u v o : TreeShape) (word w x z q : List ℕ) (f : Form) (k l m n : Kind) (a b c e : Said) (y : Act) → found_form word 4 act_forms ≡ Some f → is_counted hops f ≡ true → kinds_of f ≡ k ∷ l ∷ m ∷ n ∷ [] → args_of y ≡ a ∷ b ∷ c ∷ e ∷ []
+    → act_of f (args_of y) ≡ Some y → unfit d y ≡ None → IsReadWord d no_tree k w a t → IsReadWord d t l x b u → IsReadWord d u m z c v → IsReadWord d v n q e o → SaysAct hops d word (w ∷ x ∷ z ∷ q ∷ []) y
+four_say hops d t u v o word w x z q f k l m n a b c e y found counted kinds args says fits first second third fourth = record {
   form = f;
   found = found;
   counted = counted;
@@ -113,25 +111,25 @@ is_there : (t : TreeShape) (u : NodeId) → IsNode t u → has_node t u ≡ true
 is_there t (Site i) h = lt-ltb i (length t.seats) h
 is_there t (Serializer z) h = lt-ltb z (length t.parents) h
 
-pub hop_fits : (d : Deployed) (t : TreeShape) (e : ℕ) (u : NodeId) (z : ℕ) → tree_of d e ≡ Some t → IsNode t u → z < length t.parents → is_edge t u (Serializer z) ≡ true → unfit d (act.Hop e u z) ≡ None
-hop_fits d t e u z tree from to edge = ap (λ (o : Option TreeShape). edge_cause o u z) tree ∙ rw (is_there t u from, lt-ltb z (length t.parents) to, edge) refl
+pub edge_fits : (d : Deployed) (t : TreeShape) (e : ℕ) (u : NodeId) (z : ℕ) → tree_of d e ≡ Some t → IsNode t u → z < length t.parents → is_edge t u (Serializer z) ≡ true → edge_cause (tree_of d e) u z ≡ None
+edge_fits d t e u z tree from to edge = ap (λ (o : Option TreeShape). edge_cause o u z) tree ∙ rw (is_there t u from, lt-ltb z (length t.parents) to, edge) refl
 
 -- an act of a form whose only word is a site
-pub site_say : (d : Deployed) (word w : List ℕ) (f : Form) (site : ℕ) (o : Option Act) → found_form word 1 act_forms ≡ Some f → IsReadWord d no_tree kind.Site w (place site) no_tree
-    → IfSome o (λ a. (kinds_of f ≡ kind.Site ∷ []) × (args_of a ≡ place site ∷ []) × (act_of f (args_of a) ≡ Some a) × (is_counted f ≡ true) × ((d : Deployed) → unfit d a ≡ None)) → IfSome o (λ a. SaysAct d word (w ∷ []) a)
-site_say d word w f site None found r h = tt
-site_say d word w f site (Some a) found r h = one_say d no_tree word w f kind.Site (place site) a found h.3 h.0 h.1 h.2 (h.4 d) r
+pub site_say : (hops : Bool) (d : Deployed) (word w : List ℕ) (f : Form) (site : ℕ) (o : Option Act) → found_form word 1 act_forms ≡ Some f → IsReadWord d no_tree kind.Site w (place site) no_tree
+    → IfSome o (λ a. (kinds_of f ≡ kind.Site ∷ []) × (args_of a ≡ place site ∷ []) × (act_of f (args_of a) ≡ Some a) × ((hops : Bool) → is_counted hops f ≡ true) × ((d : Deployed) → unfit d a ≡ None)) → IfSome o (λ a. SaysAct hops d word (w ∷ []) a)
+site_say hops d word w f site None found r h = tt
+site_say hops d word w f site (Some a) found r h = one_say hops d no_tree word w f kind.Site (place site) a found (h.3 hops) h.0 h.1 h.2 (h.4 d) r
 
 -- ---- a line
 
-pub line_said : (s : State) (line word w : List ℕ) (ws : List (List ℕ)) (o : Option Act) → TakesActs s → length line ≤ LONGEST_LINE → words_of line ≡ word ∷ w ∷ ws → IfSome o (λ a. SaysAct s.header word (w ∷ ws) a)
+pub line_said : (s : State) (line word w : List ℕ) (ws : List (List ℕ)) (o : Option Act) → TakesActs s → length line ≤ LONGEST_LINE → words_of line ≡ word ∷ w ∷ ws → IfSome o (λ a. SaysAct (has_form s.dialect form.Hop) s.header word (w ∷ ws) a)
     → IfSome o (λ a. line_at s line ≡ Ok (parsed.Act a))
 unfolding line_at words_line
 line_said s line word w ws None takes short words h = tt
 line_said s line word w ws (Some a) takes short words h =
     let text : is_text line ≡ true = said_text line word (w ∷ ws) (length (w ∷ ws)) h.form words h.found h.reads.read.shaped in
     let fits : ltb LONGEST_LINE (length line) ≡ false = grind (arith, nat_tests) in
-    rw (takes.body, fits, text, words) (good_line s h.form word (w ∷ ws) (args_of a) a refl h.found (counted_allowed s.header.format h.form h.counted) (takes.free h.form h.counted) h.reads.read (rw (h.reads.act, h.fits) refl))
+    rw (takes.body, fits, text, words) (good_line s h.form word (w ∷ ws) (args_of a) a refl h.found (counted_allowed (has_form s.dialect form.Hop) s.header.format h.form h.counted) (takes.free h.form h.counted) h.reads.read (rw (h.reads.act, h.fits) refl))
 
 -- ---- a line whose last word may be long
 
@@ -148,7 +146,7 @@ pub value_whole : (value : List ℕ) → is_value value ≡ true → words_of va
 value_whole value h = split_uncut 32 value (seen_none value (and_parts (ltb 0 (length value)) (list_all (is_between 33 126) value) (token value h)).1)
 
 pub long_said : (s : State) (line word one two last : List ℕ) (o : Option Act) → TakesActs s → length line ≤ LONGEST_LINE → words_of line ≡ word ∷ one ∷ two ∷ words_of last
-    → IfSome o (λ a. SaysAct s.header word (one ∷ two ∷ last ∷ []) a × (words_of last ≡ last ∷ [])) → IfSome o (λ a. line_at s line ≡ Ok (parsed.Act a))
+    → IfSome o (λ a. SaysAct (has_form s.dialect form.Hop) s.header word (one ∷ two ∷ last ∷ []) a × (words_of last ≡ last ∷ [])) → IfSome o (λ a. line_at s line ≡ Ok (parsed.Act a))
 long_said s line word one two last None takes short words h = tt
 long_said s line word one two last (Some a) takes short words h =
     line_said s line word one (two ∷ last ∷ []) (Some a) takes short (words ∙ ap (λ (ws : List (List ℕ)). word ∷ one ∷ two ∷ ws) h.1) h.0

@@ -69,6 +69,14 @@ has_form dialect.Audit f = is_audited f
 has_form dialect.Chain f = is_chained f
 has_form dialect.Lasting f = is_lasting f
 
+-- the dialects that have each form which most lines are, but hops perhaps, within the limits of their format
+abbrev pub is_quick : Dialect → Bool
+is_quick dialect.Run = true
+is_quick dialect.Live = false
+is_quick dialect.Audit = false
+is_quick dialect.Chain = true
+is_quick dialect.Lasting = true
+
 -- why a line is refused that has a form which its dialect lacks: to all but nodes on threads it has none at all
 abbrev pub lacking : Dialect → Cause
 lacking dialect.Run = BadAct

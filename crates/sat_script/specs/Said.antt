@@ -4,7 +4,8 @@ use Rattle.sat_tree.specs.Shape.{TreeShape}
 use Rattle.sat_act.specs.Deployed.{Deployed}
 use Rattle.sat_act.specs.declared.act.Act.{Act}
 use Rattle.sat_script.specs.Table.{Said, place, num, bytes, at, no_tree, shape, known, says, shapes, all_known, all_say, in_tree, kinds_of, act_of, args_of, act_forms, found_form, unfit}
-use Rattle.sat_script.specs.Causes.{bar}
+use Rattle.sat_script.specs.Causes.{bar, full}
+use Rattle.sat_script.specs.Dialect.{has_form}
 use Rattle.sat_script.specs.State.{State}
 use Rattle.sat_script.specs.declared.form.Form.TheVariants as form
 use Rattle.sat_script.specs.declared.line.Stage.TheVariants as stage
@@ -62,27 +63,32 @@ pub record Reads (d : Deployed) (f : Form) (words : List (List ℕ)) (a : Act) :
   pub read : AreRead d (kinds_of f) words (args_of a)
   pub act : act_of f (args_of a) ≡ Some a
 
--- a form that every format has, and that only the number of acts limits
-abbrev pub is_counted : Form → Bool
-is_counted form.Item = false
-is_counted form.Client = false
-is_counted form.PlanStamp = false
-is_counted form.PlanTree = false
-is_counted form.Settle = false
-is_counted form.WritesTwo = false
-is_counted form.WritesThree = false
-is_counted form.WritesFour = false
-is_counted f = true
+-- a form that every format has, and each dialect whose lines are read quickly, where the first argument says whether
+-- hops are among its forms, and that only the number of acts limits
+abbrev pub is_counted : Bool → Form → Bool
+is_counted hops form.Item = false
+is_counted hops form.Client = false
+is_counted hops form.PlanStamp = false
+is_counted hops form.PlanTree = false
+is_counted hops form.Hop = hops
+is_counted hops form.Clock = false
+is_counted hops form.Kill = false
+is_counted hops form.Settle = false
+is_counted hops form.WritesTwo = false
+is_counted hops form.WritesThree = false
+is_counted hops form.WritesFour = false
+is_counted hops f = true
 
--- a word and those behind it say this act, whose parts go together
-pub record SaysAct (d : Deployed) (word : List ℕ) (words : List (List ℕ)) (a : Act) : Type 0 where
+-- a word and those behind it say this act, whose parts go together, and which may be a hop where hops says so
+pub record SaysAct (hops : Bool) (d : Deployed) (word : List ℕ) (words : List (List ℕ)) (a : Act) : Type 0 where
   pub form : Form
   pub found : found_form word (length words) act_forms ≡ Some form
-  pub counted : is_counted form ≡ true
+  pub counted : is_counted hops form ≡ true
   pub reads : Reads d form words a
   pub fits : unfit d a ≡ None
 
 -- the next line may be an act of each of these forms
 pub record TakesActs (s : State) : Type 0 where
   pub body : s.stage ≡ stage.Body
-  pub free : (f : Form) → is_counted f ≡ true → bar s f ≡ None
+  pub more : full s ≡ None
+  pub free : (f : Form) → is_counted (has_form s.dialect form.Hop) f ≡ true → bar s f ≡ None

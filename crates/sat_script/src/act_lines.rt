@@ -1,5 +1,5 @@
 //! The lines after `begin`, by their words.
-ghost use Rattle.std.specs.Prelude.{codes, true, ◌≡◌, ◌<◌, ◌≤◌, ◌+◌, ◌==◌, [], ◌∷◌, length, map, option_copied, IsTrue, IfSome, MatchResult, Some, None, Ok, Err, if◌then◌else◌};
+ghost use Rattle.std.specs.Prelude.{codes, Bool, true, ◌≡◌, ◌<◌, ◌≤◌, ◌+◌, ◌==◌, [], ◌∷◌, length, map, option_copied, IsTrue, IfSome, MatchResult, Some, None, Ok, Err, if◌then◌else◌};
 ghost use Rattle.std.specs.Option.{option_map};
 ghost use Rattle.sat_tree.specs.Cut.{IsNode};
 ghost use Rattle.sat_tree.specs.Shape.{TreeShape};
@@ -7,7 +7,7 @@ ghost use Rattle.sat_act.specs.Parts.{tree_of};
 ghost use Rattle.sat_script.specs.Causes.{bar, full};
 ghost use Rattle.sat_script.specs.Grammar.{is_end, body_line};
 ghost use Rattle.sat_script.specs.Lines.{Gives};
-ghost use Rattle.sat_script.specs.Said.{said_of, shape_of, SaysOn, begins, IsReadWord, SaysAct, is_counted};
+ghost use Rattle.sat_script.specs.Said.{said_of, shape_of, SaysOn, begins, AreRead, IsReadWord, SaysAct, is_counted};
 ghost use Rattle.sat_act.specs.Deployed.{Deployed};
 ghost use Rattle.sat_label.specs.Grouped.{are_items, list_of};
 ghost use Rattle.sat_label.specs.Text.{is_value};
@@ -204,6 +204,69 @@ fn read_epoch<'h>(header: &'h Header, word: &[u8]) -> Option<(u16, &'h Tree)>
     let epoch = number_to(header.plans(), word)?;
     let tree = header.tree(epoch)?;
     Some((epoch, tree))
+}
+
+// ---- some good words together
+
+/// What an epoch, a node and a serializer say that are neighbours in its tree.
+#[inline(always)]
+pub fn said_edge(
+    header: &Header,
+    epoch: &[u8],
+    from: &[u8],
+    to: &[u8],
+) -> Option<(u16, NodeId, u16)>
+    ensures { IfSome result (λ said. AreRead header.now.said (kind.Epoch ∷ kind.Node ∷ kind.Serializer ∷ [])
+        (epoch.now ∷ from.now ∷ to.now ∷ []) (place said.0 ∷ at said.1 ∷ place said.2 ∷ [])
+        × (edge_cause (tree_of header.now.said said.0) said.1 said.2 ≡ None)) }
+{
+    let (epoch, tree) = read_epoch(header, epoch)?;
+    if !begins(Kind::Node, from) {
+        return None;
+    }
+    if !begins(Kind::Serializer, to) {
+        return None;
+    }
+    let from = node_in(tree, from)?;
+    let to = serializer_in(tree, to)?;
+    if !tree.is_edge(from, NodeId::Serializer(to)) {
+        return None;
+    }
+    Some((epoch, from, to))
+}
+
+/// What an epoch and a serializer say.
+#[inline(always)]
+pub fn said_serializer(header: &Header, epoch: &[u8], serializer: &[u8]) -> Option<(u16, u16)>
+    ensures { IfSome result (λ said. AreRead header.now.said (kind.Epoch ∷ kind.Serializer ∷ [])
+        (epoch.now ∷ serializer.now ∷ []) (place said.0 ∷ place said.1 ∷ [])) }
+{
+    let (epoch, tree) = read_epoch(header, epoch)?;
+    if !begins(Kind::Serializer, serializer) {
+        return None;
+    }
+    let serializer = serializer_in(tree, serializer)?;
+    Some((epoch, serializer))
+}
+
+/// What an epoch, a serializer and a number say.
+#[inline(always)]
+pub fn said_part(
+    header: &Header,
+    epoch: &[u8],
+    serializer: &[u8],
+    number: &[u8],
+) -> Option<(u16, u16, u64)>
+    ensures { IfSome result (λ said. AreRead header.now.said (kind.Epoch ∷ kind.Serializer ∷ kind.Count ∷ [])
+        (epoch.now ∷ serializer.now ∷ number.now ∷ []) (place said.0 ∷ place said.1 ∷ num said.2 ∷ [])) }
+{
+    let (epoch, tree) = read_epoch(header, epoch)?;
+    if !begins(Kind::Serializer, serializer) {
+        return None;
+    }
+    let serializer = serializer_in(tree, serializer)?;
+    let number = number_up_to(u64::MAX, number)?;
+    Some((epoch, serializer, number))
 }
 
 // ---- acts
@@ -407,7 +470,8 @@ fn read_value(alloc: Global, word: &[u8]) -> Option<Value>
 
 #[inline(always)]
 fn bulk_of(header: &Header, from: &[u8], gear: &[u8], to: &[u8]) -> Option<Act>
-    ensures { IfSome result (λ act. SaysAct header.now.said (codes "bulk") (from.now ∷ gear.now ∷ to.now ∷ []) act) }
+    ensures { (hops : Bool) → IfSome result
+        (λ act. SaysAct hops header.now.said (codes "bulk") (from.now ∷ gear.now ∷ to.now ∷ []) act) }
 {
     let from = read_site(header, from)?;
     let gear = read_gear(header, gear)?;
@@ -432,8 +496,8 @@ fn numbered_bulk_of(
     number: &[u8],
 ) -> Option<Act>
     requires { HaveNames header.now.said }
-    ensures { IfSome result
-        (λ act. SaysAct header.now.said (codes "bulk") (from.now ∷ gear.now ∷ to.now ∷ number.now ∷ []) act) }
+    ensures { (hops : Bool) → IfSome result
+        (λ act. SaysAct hops header.now.said (codes "bulk") (from.now ∷ gear.now ∷ to.now ∷ number.now ∷ []) act) }
 {
     let from = read_site(header, from)?;
     let gear = read_gear(header, gear)?;
@@ -452,7 +516,8 @@ fn numbered_bulk_of(
 
 #[inline(always)]
 fn tick_of(header: &Header, site: &[u8], gear: &[u8], ts: &[u8]) -> Option<Act>
-    ensures { IfSome result (λ act. SaysAct header.now.said (codes "tick") (site.now ∷ gear.now ∷ ts.now ∷ []) act) }
+    ensures { (hops : Bool) → IfSome result
+        (λ act. SaysAct hops header.now.said (codes "tick") (site.now ∷ gear.now ∷ ts.now ∷ []) act) }
 {
     let site = read_site(header, site)?;
     let gear = read_gear(header, gear)?;
@@ -463,8 +528,8 @@ fn tick_of(header: &Header, site: &[u8], gear: &[u8], ts: &[u8]) -> Option<Act>
 #[inline(always)]
 fn beat_in_of(header: &Header, from: &[u8], to: &[u8], number: &[u8]) -> Option<Act>
     requires { HaveNames header.now.said }
-    ensures { IfSome result
-        (λ act. SaysAct header.now.said (codes "beatin") (from.now ∷ to.now ∷ number.now ∷ []) act) }
+    ensures { (hops : Bool) → IfSome result
+        (λ act. SaysAct hops header.now.said (codes "beatin") (from.now ∷ to.now ∷ number.now ∷ []) act) }
 {
     let from = read_site(header, from)?;
     let to = read_site(header, to)?;
@@ -476,29 +541,22 @@ fn beat_in_of(header: &Header, from: &[u8], to: &[u8], number: &[u8]) -> Option<
 }
 
 #[inline(always)]
-fn hop_of(header: &Header, epoch: &[u8], from: &[u8], to: &[u8]) -> Option<Act>
-    ensures { IfSome result (λ act. SaysAct header.now.said (codes "hop") (epoch.now ∷ from.now ∷ to.now ∷ []) act) }
+fn hop_of(header: &Header, hops: bool, epoch: &[u8], from: &[u8], to: &[u8]) -> Option<Act>
+    ensures { IfSome result
+        (λ act. SaysAct hops header.now.said (codes "hop") (epoch.now ∷ from.now ∷ to.now ∷ []) act) }
 {
-    let (epoch, tree) = read_epoch(header, epoch)?;
-    if !begins(Kind::Node, from) {
+    if !hops {
         return None;
     }
-    if !begins(Kind::Serializer, to) {
-        return None;
-    }
-    let from = node_in(tree, from)?;
-    let to = serializer_in(tree, to)?;
-    if !tree.is_edge(from, NodeId::Serializer(to)) {
-        return None;
-    }
+    let (epoch, from, to) = said_edge(header, epoch, from, to)?;
     Some(Act::Hop { epoch, from, to })
 }
 
 #[inline(always)]
 fn write_of(alloc: Global, header: &Header, client: &[u8], item: &[u8], value: &[u8]) -> Option<Act>
     requires { HaveNames header.now.said }
-    ensures { IfSome result
-        (λ act. SaysAct header.now.said (codes "write") (client.now ∷ item.now ∷ value.now ∷ []) act) }
+    ensures { (hops : Bool) → IfSome result
+        (λ act. SaysAct hops header.now.said (codes "write") (client.now ∷ item.now ∷ value.now ∷ []) act) }
 {
     let client = read_client(header, client)?;
     let item = read_item(header, item)?;
@@ -513,7 +571,8 @@ fn write_of(alloc: Global, header: &Header, client: &[u8], item: &[u8], value: &
 #[inline(always)]
 fn read_of(header: &Header, client: &[u8], item: &[u8]) -> Option<Act>
     requires { HaveNames header.now.said }
-    ensures { IfSome result (λ act. SaysAct header.now.said (codes "read") (client.now ∷ item.now ∷ []) act) }
+    ensures { (hops : Bool) → IfSome result
+        (λ act. SaysAct hops header.now.said (codes "read") (client.now ∷ item.now ∷ []) act) }
 {
     let client = read_client(header, client)?;
     let item = read_item(header, item)?;
@@ -522,7 +581,8 @@ fn read_of(header: &Header, client: &[u8], item: &[u8]) -> Option<Act>
 
 #[inline(always)]
 fn beat_of(header: &Header, from: &[u8], to: &[u8]) -> Option<Act>
-    ensures { IfSome result (λ act. SaysAct header.now.said (codes "beat") (from.now ∷ to.now ∷ []) act) }
+    ensures { (hops : Bool) → IfSome result
+        (λ act. SaysAct hops header.now.said (codes "beat") (from.now ∷ to.now ∷ []) act) }
 {
     let from = read_site(header, from)?;
     let to = read_site(header, to)?;
@@ -535,7 +595,8 @@ fn beat_of(header: &Header, from: &[u8], to: &[u8]) -> Option<Act>
 #[inline(always)]
 fn move_of(header: &Header, client: &[u8], site: &[u8]) -> Option<Act>
     requires { HaveNames header.now.said }
-    ensures { IfSome result (λ act. SaysAct header.now.said (codes "move") (client.now ∷ site.now ∷ []) act) }
+    ensures { (hops : Bool) → IfSome result
+        (λ act. SaysAct hops header.now.said (codes "move") (client.now ∷ site.now ∷ []) act) }
 {
     let client = read_client(header, client)?;
     let site = read_site(header, site)?;
@@ -545,7 +606,8 @@ fn move_of(header: &Header, client: &[u8], site: &[u8]) -> Option<Act>
 #[inline(always)]
 fn attach_of(header: &Header, client: &[u8], site: &[u8]) -> Option<Act>
     requires { HaveNames header.now.said }
-    ensures { IfSome result (λ act. SaysAct header.now.said (codes "attach") (client.now ∷ site.now ∷ []) act) }
+    ensures { (hops : Bool) → IfSome result
+        (λ act. SaysAct hops header.now.said (codes "attach") (client.now ∷ site.now ∷ []) act) }
 {
     let client = read_client(header, client)?;
     let site = read_site(header, site)?;
@@ -555,7 +617,8 @@ fn attach_of(header: &Header, client: &[u8], site: &[u8]) -> Option<Act>
 #[inline(always)]
 fn leave_of(header: &Header, client: &[u8]) -> Option<Act>
     requires { HaveNames header.now.said }
-    ensures { IfSome result (λ act. SaysAct header.now.said (codes "leave") (client.now ∷ []) act) }
+    ensures { (hops : Bool) → IfSome result
+        (λ act. SaysAct hops header.now.said (codes "leave") (client.now ∷ []) act) }
 {
     let client = read_client(header, client)?;
     Some(Act::Leave { client })
@@ -566,7 +629,7 @@ fn leave_of(header: &Header, client: &[u8]) -> Option<Act>
 fn act_of_site(form: Form, site: u16) -> Option<Act>
     ensures { IfSome result (λ act. (kinds_of form ≡ kind.Site ∷ []) × (args_of act ≡ place site ∷ [])
         × (act_of form (args_of act) ≡ Some act)
-        × (is_counted form ≡ true) × ((d : Deployed) → unfit d act ≡ None)) }
+        × ((hops : Bool) → is_counted hops form ≡ true) × ((d : Deployed) → unfit d act ≡ None)) }
 {
     match form {
         Form::Turn => Some(Act::Turn { site }),
@@ -581,7 +644,7 @@ fn act_of_site(form: Form, site: u16) -> Option<Act>
 
 #[inline(always)]
 fn site_act_of(header: &Header, word: &[u8], site: &[u8]) -> Option<Act>
-    ensures { IfSome result (λ act. SaysAct header.now.said word.now (site.now ∷ []) act) }
+    ensures { (hops : Bool) → IfSome result (λ act. SaysAct hops header.now.said word.now (site.now ∷ []) act) }
 {
     let form = form_of_one(word)?;
     let site = read_site(header, site)?;
@@ -592,7 +655,7 @@ fn site_act_of(header: &Header, word: &[u8], site: &[u8]) -> Option<Act>
 #[inline(always)]
 pub fn act_of_two(header: &Header, word: &[u8], one: &[u8]) -> Option<Act>
     requires { HaveNames header.now.said }
-    ensures { IfSome result (λ act. SaysAct header.now.said word.now (one.now ∷ []) act) }
+    ensures { (hops : Bool) → IfSome result (λ act. SaysAct hops header.now.said word.now (one.now ∷ []) act) }
 {
     match word {
         [b'l', b'e', b'a', b'v', b'e'] => leave_of(header, one),
@@ -604,7 +667,8 @@ pub fn act_of_two(header: &Header, word: &[u8], one: &[u8]) -> Option<Act>
 #[inline(always)]
 pub fn act_of_three(header: &Header, word: &[u8], one: &[u8], two: &[u8]) -> Option<Act>
     requires { HaveNames header.now.said }
-    ensures { IfSome result (λ act. SaysAct header.now.said word.now (one.now ∷ two.now ∷ []) act) }
+    ensures { (hops : Bool) → IfSome result
+        (λ act. SaysAct hops header.now.said word.now (one.now ∷ two.now ∷ []) act) }
 {
     match word {
         [b'r', b'e', b'a', b'd'] => read_of(header, one, two),
@@ -620,21 +684,22 @@ pub fn act_of_three(header: &Header, word: &[u8], one: &[u8], two: &[u8]) -> Opt
     }
 }
 
-/// The act that a word and three behind it say, as above.
+/// The act that a word and three behind it say, as above. It is a hop only where hops are wanted.
 #[inline(always)]
 pub fn act_of_four(
     alloc: Global,
     header: &Header,
+    hops: bool,
     word: &[u8],
     one: &[u8],
     two: &[u8],
     three: &[u8],
 ) -> Option<Act>
     requires { HaveNames header.now.said }
-    ensures { IfSome result (λ act. SaysAct header.now.said word.now (one.now ∷ two.now ∷ three.now ∷ []) act) }
+    ensures { IfSome result (λ act. SaysAct hops header.now.said word.now (one.now ∷ two.now ∷ three.now ∷ []) act) }
 {
     match word {
-        [b'h', b'o', b'p'] => hop_of(header, one, two, three),
+        [b'h', b'o', b'p'] => hop_of(header, hops, one, two, three),
         [b'b', b'u', b'l', b'k'] => bulk_of(header, one, two, three),
         [b't', b'i', b'c', b'k'] => tick_of(header, one, two, three),
         [b'w', b'r', b'i', b't', b'e'] => write_of(alloc, header, one, two, three),
@@ -659,8 +724,8 @@ pub fn act_of_five(
     four: &[u8],
 ) -> Option<Act>
     requires { HaveNames header.now.said }
-    ensures { IfSome result
-        (λ act. SaysAct header.now.said word.now (one.now ∷ two.now ∷ three.now ∷ four.now ∷ []) act) }
+    ensures { (hops : Bool) → IfSome result
+        (λ act. SaysAct hops header.now.said word.now (one.now ∷ two.now ∷ three.now ∷ four.now ∷ []) act) }
 {
     match word {
         [b'b', b'u', b'l', b'k'] => numbered_bulk_of(header, one, two, three, four),
@@ -678,7 +743,8 @@ pub fn long_write_of(
     value: &[u8],
 ) -> Option<Act>
     requires { HaveNames header.now.said }
-    ensures { IfSome result (λ act. SaysAct header.now.said (codes "write") (client.now ∷ item.now ∷ value.now ∷ []) act
+    ensures { (hops : Bool) → IfSome result
+        (λ act. SaysAct hops header.now.said (codes "write") (client.now ∷ item.now ∷ value.now ∷ []) act
         × (words_of value.now ≡ value.now ∷ [])) }
 {
     let client = read_client(header, client)?;

@@ -1,6 +1,6 @@
 //! What a script may have, by what it is read for and its format.
 ghost use Rattle.std.specs.Prelude.{◌≡◌};
-ghost use Rattle.sat_script.specs.Dialect.{dialect_of, limits_of, has_form, lacking};
+ghost use Rattle.sat_script.specs.Dialect.{dialect_of, limits_of, has_form, is_quick, lacking};
 
 use crate::Cause;
 use crate::form::{Form, is_audited, is_chained, is_lasting, is_live};
@@ -84,6 +84,35 @@ impl Dialect {
             Dialect::Audit => is_audited(form),
             Dialect::Chain => is_chained(form),
             Dialect::Lasting => is_lasting(form),
+        }
+    }
+
+    /// Whether it has each form that most lines are, but hops perhaps, within the limits of a script's format.
+    #[inline(always)]
+    pub(crate) fn is_quick(self) -> bool
+        ensures { result ≡ is_quick self }
+    {
+        match self {
+            Dialect::Run => true,
+            Dialect::Live => false,
+            Dialect::Audit => false,
+            Dialect::Chain => true,
+            Dialect::Lasting => true,
+        }
+    }
+
+    /// Whether it has hops.
+    #[tactic(auto, unfolding(crate::specs::Dialect::is_live))]
+    #[inline(always)]
+    pub(crate) fn has_hops(self) -> bool
+        ensures { result ≡ has_form self Form.Hop }
+    {
+        match self {
+            Dialect::Run => true,
+            Dialect::Live => false,
+            Dialect::Audit => true,
+            Dialect::Chain => false,
+            Dialect::Lasting => true,
         }
     }
 

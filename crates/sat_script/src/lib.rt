@@ -32,6 +32,6 @@ pub use line::{Line, Parsed};
 pub use number::number_up_to;
 pub use reader::Reader;
 pub use said::{Args, Said};
-pub use words::{FirstWords, first_words};
+pub use words::{FirstWords, SHORT_LINE, blanks, first_words, four_words, three_words};
 pub use write::write_script;
 pub use write_lines::act_line;

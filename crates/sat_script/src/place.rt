@@ -2,6 +2,7 @@
 ghost use Rattle.std.specs.Prelude.{◌≡◌, ◌≤◌, ◌↔◌, ◌++◌, [], ◌∷◌, IsTrue, IfOk, OnOk, OnErr, MatchResult, Some, None, length};
 ghost use Rattle.sat_script.specs.State.{start, limits_at, number_of, deployment_of, with_one_act};
 ghost use Rattle.sat_script.specs.Causes.{has_room, bar, full};
+ghost use Rattle.sat_script.specs.Dialect.{has_form};
 ghost use Rattle.sat_script.specs.Grammar.{after, told_line};
 ghost use Rattle.sat_script.specs.Kept.{IsFit, Suits};
 ghost use Rattle.sat_script.specs.Said.{TakesActs};
@@ -119,7 +120,8 @@ impl Place {
         first + self.header.lines() + u64::from(self.acts)
     }
 
-    /// Whether the next line may be an act of any form but `settle` and `writes`. Where it says no, it still may be.
+    /// Whether the next line may be an act of any form that most lines are, but a hop perhaps. Where it says no, it still
+    /// may be.
     #[inline(always)]
     pub fn takes_acts(&self) -> bool
         ensures { IsTrue result → TakesActs self.now }
@@ -127,10 +129,18 @@ impl Place {
         if self.stage != Stage::Body {
             return false;
         }
-        if self.dialect != Dialect::Run {
+        if !self.dialect.is_quick() {
             return false;
         }
         self.acts < format_limits(self.header.format()).acts
+    }
+
+    /// Whether it may be a hop as well.
+    #[inline(always)]
+    pub fn has_hops(&self) -> bool
+        ensures { result ≡ has_form self.now.dialect Form.Hop }
+    {
+        self.dialect.has_hops()
     }
 
     #[tactic(auto, unfolding(crate::specs::Causes::has_room))]

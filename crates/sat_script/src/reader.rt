@@ -2,19 +2,19 @@
 ghost use Rattle.std.specs.Prelude.{false, ◌≡◌, ◌≤◌, ◌↔◌, ◌++◌, [], ◌∷◌, IsTrue, IfErr, IfSome, OnOk, MatchResult, None, Some, Ok, Err, length, map, take};
 ghost use Rattle.sat_act.specs.Parts.{tree_of};
 ghost use Rattle.sat_script.specs.Causes.{full, item_of};
-ghost use Rattle.sat_script.specs.Said.{said_of};
-ghost use Rattle.sat_script.specs.Table.{edge_cause, kinds_say};
+ghost use Rattle.sat_script.specs.Said.{said_of, AreRead, TakesActs};
+ghost use Rattle.sat_script.specs.Table.{at, edge_cause, kinds_say, num, place};
 ghost use Rattle.sat_script.specs.Dialect.{dialect_of};
 ghost use Rattle.sat_script.specs.State.{start, number_of, fault_at, deployment_of, with_one_act};
 ghost use Rattle.sat_script.specs.Grammar.{words_line, line_at, close_in, after, told_line};
 ghost use Rattle.sat_script.specs.Kept.{IsFit, Suits};
 ghost use Rattle.sat_script.specs.Lines.{Gives, Takes, Closes, running, failed, acts_with};
-ghost use Rattle.sat_script.specs.Words.{words_of};
+ghost use Rattle.sat_script.specs.Words.{blanks_from, words_of};
 ghost use Rattle.sat_script.specs.declared.line.Parsed.TheVariants as parsed;
 
 use crate::act_lines::{
     act_of_five, act_of_four, act_of_three, act_of_two, body_line, edge_cause, kinds_say,
-    long_write_of,
+    long_write_of, said_edge, said_part, said_serializer,
 };
 use crate::header_lines::{format_line, gears_line, header_line, sites_line};
 use crate::limits::LONGEST_LINE;
@@ -241,36 +241,100 @@ impl Reader {
         line_at(self.alloc, &self.place, bytes)
     }
 
+    /// Whether the next line may be one of the acts that most lines are. Where it says no, it still may be.
+    #[inline(always)]
+    pub fn takes_acts(&self) -> bool
+        ensures { IsTrue result → TakesActs self.now.state }
+    {
+        self.place.takes_acts()
+    }
+
     /// The act that the next line says, where it is found quickly: a line without an answer may be good too. Words that
     /// say an act are text, so no byte is asked for that before.
     #[inline(always)]
     pub fn good_act(&self, line: &[u8]) -> Option<Act>
         ensures { IfSome result (λ act. line_at self.now.state line.now ≡ Ok (parsed.Act act)) }
     {
-        if !self.place.takes_acts() || line.len() > SHORT_LINE {
+        if !self.takes_acts() || line.len() > SHORT_LINE {
             return None;
         }
         let mut places = [0u8; 64];
+        let count = blanks(line, &mut places);
+        self.act_at(line, &places, count)
+    }
+
+    /// The same of a line whose blanks are known.
+    #[inline(always)]
+    pub fn act_at(&self, line: &[u8], places: &[u8; 64], count: usize) -> Option<Act>
+        requires takes { TakesActs self.now.state }
+        requires short { length line.now ≤ 64 }
+        requires blanks { take count places.now ≡ blanks_from 0 line.now }
+        ensures { IfSome result (λ act. line_at self.now.state line.now ≡ Ok (parsed.Act act)) }
+    {
         let header = self.place.header();
-        match blanks(line, &mut places) {
+        match count {
             1 => {
-                let (word, one) = two_words(line, &places);
+                let (word, one) = two_words(line, places);
                 act_of_two(header, word, one)
             }
             2 => {
-                let (word, one, two) = three_words(line, &places);
+                let (word, one, two) = three_words(line, places);
                 act_of_three(header, word, one, two)
             }
             3 => {
-                let (word, one, two, three) = four_words(line, &places);
-                act_of_four(self.alloc, header, word, one, two, three)
+                let (word, one, two, three) = four_words(line, places);
+                act_of_four(
+                    self.alloc,
+                    header,
+                    self.place.has_hops(),
+                    word,
+                    one,
+                    two,
+                    three,
+                )
             }
             4 => {
-                let (word, one, two, three, four) = five_words(line, &places);
+                let (word, one, two, three, four) = five_words(line, places);
                 act_of_five(header, word, one, two, three, four)
             }
             _ => None,
         }
+    }
+
+    /// What an epoch, a node and a serializer say behind the word of an act that the reader has not, where it is found
+    /// quickly that they say something, and that the two are neighbours in that epoch's tree.
+    #[inline(always)]
+    pub fn said_edge(&self, epoch: &[u8], from: &[u8], to: &[u8]) -> Option<(u16, NodeId, u16)>
+        ensures { IfSome result (λ said. AreRead self.now.state.header
+            (Kind.Epoch ∷ Kind.Node ∷ Kind.Serializer ∷ []) (epoch.now ∷ from.now ∷ to.now ∷ [])
+            (place said.0 ∷ at said.1 ∷ place said.2 ∷ [])
+            × (edge_cause (tree_of self.now.state.header said.0) said.1 said.2 ≡ None)) }
+    {
+        said_edge(self.place.header(), epoch, from, to)
+    }
+
+    /// The same of an epoch and a serializer.
+    #[inline(always)]
+    pub fn said_serializer(&self, epoch: &[u8], serializer: &[u8]) -> Option<(u16, u16)>
+        ensures { IfSome result (λ said. AreRead self.now.state.header (Kind.Epoch ∷ Kind.Serializer ∷ [])
+            (epoch.now ∷ serializer.now ∷ []) (place said.0 ∷ place said.1 ∷ [])) }
+    {
+        said_serializer(self.place.header(), epoch, serializer)
+    }
+
+    /// The same of an epoch, a serializer and a number.
+    #[inline(always)]
+    pub fn said_part(
+        &self,
+        epoch: &[u8],
+        serializer: &[u8],
+        number: &[u8],
+    ) -> Option<(u16, u16, u64)>
+        ensures { IfSome result (λ said. AreRead self.now.state.header
+            (Kind.Epoch ∷ Kind.Serializer ∷ Kind.Count ∷ []) (epoch.now ∷ serializer.now ∷ number.now ∷ [])
+            (place said.0 ∷ place said.1 ∷ num said.2 ∷ [])) }
+    {
+        said_part(self.place.header(), epoch, serializer, number)
     }
 
     /// Keeps the act of a good line, where there is memory for it. Whether it did; else nothing changes.

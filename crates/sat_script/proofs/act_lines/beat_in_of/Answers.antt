@@ -3,11 +3,12 @@ use Rattle.sat_act.specs.declared.act.Act.TheVariants as act
 use Rattle.sat_script.specs.Table.{place, num, no_tree}
 use Rattle.sat_script.specs.declared.form.Form.TheVariants as form
 use Rattle.sat_script.specs.declared.form.Kind.TheVariants as kind
-use Rattle.sat_script.proofs.Quick.{three_say, apart, count_read}
+use Rattle.sat_script.proofs.Once.{number_read}
+use Rattle.sat_script.proofs.Quick.{three_say, apart}
 use Rattle.sat_script.proofs.act_lines.beat_in_of.Goals as goal
 
 pub returns : goal.returns
-returns c =
-    three_say c.args.header.now.said no_tree no_tree no_tree _ _ _ _ form.BeatIn kind.Site kind.Site kind.Count (place c.in_ok-from.from) (place c.in_ok-to.to) (num c.in_ok-number.number) (act.BeatIn c.in_ok-from.from c.in_ok-to.to c.in_ok-number.number)
+returns c hops =
+    three_say hops c.args.header.now.said no_tree no_tree no_tree _ _ _ _ form.BeatIn kind.Site kind.Site kind.Count (place c.in_ok-from.from) (place c.in_ok-to.to) (num c.in_ok-number.number) (act.BeatIn c.in_ok-from.from c.in_ok-to.to c.in_ok-number.number)
     refl refl refl refl refl (apart c.in_ok-from.from c.in_ok-to.to c.if-from-to.false)
-    (c.in_ok-from.ensures no_tree) (c.in_ok-to.ensures no_tree) (count_read c.args.header.now.said no_tree _ c.in_ok-number.number c.requires c.in_ok-number.ensures.number)
+    (c.in_ok-from.ensures no_tree) (c.in_ok-to.ensures no_tree) (number_read c.args.header.now.said no_tree _ c.in_ok-number.number c.in_ok-number.ensures.number)

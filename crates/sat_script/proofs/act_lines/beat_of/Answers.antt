@@ -7,6 +7,6 @@ use Rattle.sat_script.proofs.Quick.{two_say, apart}
 use Rattle.sat_script.proofs.act_lines.beat_of.Goals as goal
 
 pub returns : goal.returns
-returns c =
-    two_say c.args.header.now.said no_tree no_tree _ _ _ form.Beat kind.Site kind.Site (place c.in_ok-from.from) (place c.in_ok-to.to) (act.Beat c.in_ok-from.from c.in_ok-to.to)
+returns c hops =
+    two_say hops c.args.header.now.said no_tree no_tree _ _ _ form.Beat kind.Site kind.Site (place c.in_ok-from.from) (place c.in_ok-to.to) (act.Beat c.in_ok-from.from c.in_ok-to.to)
     refl refl refl refl refl (apart c.in_ok-from.from c.in_ok-to.to c.if-from-to.false) (c.in_ok-from.ensures no_tree) (c.in_ok-to.ensures no_tree)

@@ -7,7 +7,7 @@ use Rattle.sat_script.proofs.Quick.{three_say, apart}
 use Rattle.sat_script.proofs.act_lines.bulk_of.Goals as goal
 
 pub returns : goal.returns
-returns c =
-    three_say c.args.header.now.said no_tree no_tree no_tree _ _ _ _ form.Bulk kind.Site kind.Gear kind.Site (place c.in_ok-from.from) (place c.in_ok-gear.gear) (place c.in_ok-to.to) (act.Bulk c.in_ok-from.from c.in_ok-gear.gear c.in_ok-to.to None)
+returns c hops =
+    three_say hops c.args.header.now.said no_tree no_tree no_tree _ _ _ _ form.Bulk kind.Site kind.Gear kind.Site (place c.in_ok-from.from) (place c.in_ok-gear.gear) (place c.in_ok-to.to) (act.Bulk c.in_ok-from.from c.in_ok-gear.gear c.in_ok-to.to None)
     refl refl refl refl refl (apart c.in_ok-from.from c.in_ok-to.to c.if-from-to.false)
     (c.in_ok-from.ensures no_tree) (c.in_ok-gear.ensures no_tree) (c.in_ok-to.ensures no_tree)

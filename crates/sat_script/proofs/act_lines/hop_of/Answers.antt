@@ -1,18 +1,12 @@
-use Rattle.std.proofs.Common.{refl, sym}
-use Rattle.sat_act.specs.declared.act.Act.TheVariants as act
-use Rattle.sat_script.specs.Table.{place, at, no_tree}
-use Rattle.sat_script.specs.declared.form.Form.TheVariants as form
-use Rattle.sat_script.specs.declared.form.Kind.TheVariants as kind
-use Rattle.sat_script.proofs.Once.{node_read, serializer_read}
-use Rattle.sat_script.proofs.Quick.{three_say, hop_fits}
+use Rattle.std.proofs.Common.{refl}
+use Rattle.sat_script.specs.declared.form.Form.TheVariants.{Hop}
 use Rattle.sat_script.proofs.act_lines.hop_of.Goals as goal
 
 pub returns : goal.returns
-returns c =
-    let t = c.in_ok-epoch.tree.now in
-    three_say c.args.header.now.said t t t _ _ _ _ form.Hop kind.Epoch kind.Node kind.Serializer (place c.in_ok-epoch.epoch) (at c.in_ok-from.from) (place c.in_ok-to.to) (act.Hop c.in_ok-epoch.epoch c.in_ok-from.from c.in_ok-to.to)
-    refl refl refl refl refl
-    (hop_fits c.args.header.now.said t c.in_ok-epoch.epoch c.in_ok-from.from c.in_ok-to.to c.in_ok-epoch.ensures.tree c.in_ok-from.ensures.inside c.in_ok-to.ensures.inside (sym c.if-not-is_edge.ensures.edge))
-    (c.in_ok-epoch.ensures.read no_tree)
-    (node_read c.args.header.now.said t _ c.in_ok-from.from c.if-not-begins.ensures c.in_ok-from.ensures.node)
-    (serializer_read c.args.header.now.said t _ c.in_ok-to.to c.if-not-begins-2.ensures c.in_ok-to.ensures.serializer)
+returns c = record {
+  form = Hop;
+  found = refl;
+  counted = c.if-not-hops.false;
+  reads = record { read = c.in_ok-epoch.ensures.0; act = refl };
+  fits = c.in_ok-epoch.ensures.1;
+}

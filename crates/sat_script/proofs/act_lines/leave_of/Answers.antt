@@ -7,5 +7,5 @@ use Rattle.sat_script.proofs.Quick.{one_say}
 use Rattle.sat_script.proofs.act_lines.leave_of.Goals as goal
 
 pub returns : goal.returns
-returns c =
-    one_say c.args.header.now.said no_tree _ _ form.Leave kind.Client (place c.in_ok-client.client) (act.Leave c.in_ok-client.client) refl refl refl refl refl refl (c.in_ok-client.ensures no_tree)
+returns c hops =
+    one_say hops c.args.header.now.said no_tree _ _ form.Leave kind.Client (place c.in_ok-client.client) (act.Leave c.in_ok-client.client) refl refl refl refl refl refl (c.in_ok-client.ensures no_tree)

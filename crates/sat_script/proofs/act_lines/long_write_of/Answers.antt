@@ -7,8 +7,8 @@ use Rattle.sat_script.proofs.Quick.{three_say, value_at, writes, value_whole}
 use Rattle.sat_script.proofs.act_lines.long_write_of.Goals as goal
 
 pub returns : goal.returns
-returns c = (
-  three_say c.args.header.now.said no_tree no_tree no_tree _ _ _ _ form.Write kind.Client kind.Item kind.Value (place c.in_ok-client.client) (place c.in_ok-item.item) (bytes c.in_ok-value.value) (act.Write c.in_ok-client.client c.in_ok-item.item c.in_ok-value.value)
+returns c hops = (
+  three_say hops c.args.header.now.said no_tree no_tree no_tree _ _ _ _ form.Write kind.Client kind.Item kind.Value (place c.in_ok-client.client) (place c.in_ok-item.item) (bytes c.in_ok-value.value) (act.Write c.in_ok-client.client c.in_ok-item.item c.in_ok-value.value)
       refl refl refl refl (writes c.in_ok-client.client c.in_ok-item.item _ c.in_ok-value.value c.in_ok-value.ensures) refl
       (c.in_ok-client.ensures no_tree) (c.in_ok-item.ensures no_tree) (value_at c.args.header.now.said no_tree _ c.in_ok-value.value c.requires c.in_ok-value.ensures),
   value_whole _ c.in_ok-value.ensures.1,

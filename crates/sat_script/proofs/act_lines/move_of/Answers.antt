@@ -7,6 +7,6 @@ use Rattle.sat_script.proofs.Quick.{two_say}
 use Rattle.sat_script.proofs.act_lines.move_of.Goals as goal
 
 pub returns : goal.returns
-returns c =
-    two_say c.args.header.now.said no_tree no_tree _ _ _ form.Move kind.Client kind.Site (place c.in_ok-client.client) (place c.in_ok-site.site) (act.Move c.in_ok-client.client c.in_ok-site.site)
+returns c hops =
+    two_say hops c.args.header.now.said no_tree no_tree _ _ _ form.Move kind.Client kind.Site (place c.in_ok-client.client) (place c.in_ok-site.site) (act.Move c.in_ok-client.client c.in_ok-site.site)
     refl refl refl refl refl refl (c.in_ok-client.ensures no_tree) (c.in_ok-site.ensures no_tree)

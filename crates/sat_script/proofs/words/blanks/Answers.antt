@@ -1,5 +1,5 @@
 use Rattle.std.proofs.Common.{ℕ, ◌+◌, refl, ap, arith}
-use Rattle.sat_script.proofs.Blanks.{seen_start, seen_on}
+use Rattle.sat_script.proofs.BlankPlaces.{seen_start, seen_on}
 use Rattle.sat_script.proofs.words.blanks.Goals as goal
 
 pub loop-place-init : goal.loop-place-init

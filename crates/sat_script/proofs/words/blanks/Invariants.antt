@@ -1,4 +1,4 @@
-use Rattle.sat_script.proofs.Blanks.{AreSeen}
+use Rattle.sat_script.proofs.BlankPlaces.{AreSeen}
 use Rattle.sat_script.proofs.words.blanks.Given as goal
 
 abbrev pub invariant-loop-place : goal.invariant-loop-place

@@ -1,5 +1,5 @@
 use Rattle.std.proofs.Common.{arith}
-use Rattle.sat_script.proofs.Blanks.{four_at, words_five}
+use Rattle.sat_script.proofs.BlankPlaces.{four_at, words_five}
 use Rattle.sat_script.proofs.words.five_words.Goals as goal
 
 pub part-one-requires-clause-inside : goal.part-one-requires-clause-inside

@@ -1,5 +1,5 @@
 use Rattle.std.proofs.Common.{arith}
-use Rattle.sat_script.proofs.Blanks.{three_at, words_four}
+use Rattle.sat_script.proofs.BlankPlaces.{three_at, words_four}
 use Rattle.sat_script.proofs.words.four_words.Goals as goal
 
 pub part-one-requires-clause-inside : goal.part-one-requires-clause-inside

@@ -1,5 +1,5 @@
 use Rattle.std.proofs.Common.{arith}
-use Rattle.sat_script.proofs.Blanks.{two_at, words_three}
+use Rattle.sat_script.proofs.BlankPlaces.{two_at, words_three}
 use Rattle.sat_script.proofs.words.three_words.Goals as goal
 
 pub part-one-requires-clause-inside : goal.part-one-requires-clause-inside

@@ -1,5 +1,5 @@
 use Rattle.std.proofs.Common.{arith}
-use Rattle.sat_script.proofs.Blanks.{one_at, words_two}
+use Rattle.sat_script.proofs.BlankPlaces.{one_at, words_two}
 use Rattle.sat_script.proofs.words.two_words.Goals as goal
 
 pub part-one-requires-clause-inside : goal.part-one-requires-clause-inside
