@@ -87,7 +87,7 @@ words_first (a ∷ b ∷ c ∷ []) f is = refl
 words_first (a ∷ b ∷ c ∷ d ∷ []) f is = refl
 words_first (a ∷ b ∷ c ∷ d ∷ e ∷ ws) f is = absurd (let never : None ≡ Some f = sym (none_many a (length (b ∷ c ∷ d ∷ e ∷ ws)) (omega arith)) ∙ is in cc)
 
-step_line : (r : ℕ) (s : State) (line : List ℕ) (f : ChainForm) → s.stage ≡ stage.Body → length line ≤ LONGEST_LINE → is_text line ≡ true → chain_form (words_of line) ≡ Some f → chain_line r s line ≡ of_step (step_words r s f (words_after (words_of line)))
+pub step_line : (r : ℕ) (s : State) (line : List ℕ) (f : ChainForm) → s.stage ≡ stage.Body → length line ≤ LONGEST_LINE → is_text line ≡ true → chain_form (words_of line) ≡ Some f → chain_line r s line ≡ of_step (step_words r s f (words_after (words_of line)))
 unfolding chain_line
 step_line r s line f body short text is =
     let test : ltb LONGEST_LINE (length line) ≡ false = grind (arith, nat_tests, short) in

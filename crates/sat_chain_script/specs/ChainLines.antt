@@ -8,9 +8,11 @@ use Rattle.sat_script.specs.declared.fault.Cause.{Cause}
 use Rattle.sat_script.specs.declared.fault.Cause.TheVariants.{LongLine, NotText}
 use Rattle.sat_script.specs.declared.limits.TheConstants.{LONGEST_LINE}
 use Rattle.sat_script.specs.declared.line.Parsed.{Parsed}
+use Rattle.sat_script.specs.declared.line.Parsed.TheVariants as parsed
 use Rattle.sat_script.specs.declared.line.Stage.{Stage}
 use Rattle.sat_script.specs.declared.line.Stage.TheVariants as stage
 use Rattle.sat_chain_laws.specs.declared.chain_act.ChainAct.{ChainAct}
+use Rattle.sat_chain_laws.specs.declared.chain_act.ChainAct.TheVariants as chain
 use Rattle.sat_chain_script.specs.Forms.{chain_form, step_words}
 use Rattle.sat_chain_script.specs.declared.form.ChainForm.{ChainForm}
 use Rattle.sat_chain_script.specs.declared.line.ChainParsed.{ChainParsed}
@@ -25,6 +27,11 @@ of_script (Err cause) = Err cause
 abbrev pub of_step : Result ChainAct Cause → Result ChainParsed Cause
 of_step (Ok a) = Ok (says.Step a)
 of_step (Err cause) = Err cause
+
+-- what a line says that says this act
+abbrev pub saying : ChainAct → ChainParsed
+saying (chain.Plain a) = says.Plain (parsed.Act a)
+saying a = says.Step a
 
 -- acts of chains stand behind `begin` and before `end`
 abbrev pub form_at : Stage → List (List ℕ) → Option ChainForm

@@ -1,6 +1,6 @@
 -- The lines of the acts of chains as one table: the word that an act begins with, the kinds of the words after it, and
 -- the act that they say.
-use Rattle.std.specs.Prelude.{ℕ, List, [], ◌∷◌, Bool, ◌&&◌, ◌==◌, nat_lt, length, Option, Some, None, Result, Ok, Err, codes, if◌then◌else◌}
+use Rattle.std.specs.Prelude.{ℕ, ◌≡◌, List, [], ◌∷◌, Bool, ◌&&◌, ◌==◌, nat_lt, length, Option, Some, None, Result, Ok, Err, codes, if◌then◌else◌}
 use Rattle.std.specs.Str.{bytes_eq}
 use Rattle.sat_act.specs.Deployed.{Deployed}
 use Rattle.sat_act.specs.Parts.{tree_of}
@@ -9,6 +9,7 @@ use Rattle.sat_chain_laws.specs.declared.chain_act.ChainAct.TheVariants as chain
 use Rattle.sat_chain_script.specs.declared.form.ChainForm.{ChainForm}
 use Rattle.sat_chain_script.specs.declared.form.ChainForm.TheVariants as form
 use Rattle.sat_script.specs.Causes.{barred, full}
+use Rattle.sat_script.specs.Said.{AreRead}
 use Rattle.sat_script.specs.State.{State}
 use Rattle.sat_script.specs.Table.{Said, place_at, num_at, node_at, edge_cause, kinds_say}
 use Rattle.sat_script.specs.declared.fault.Cause.{Cause}
@@ -76,3 +77,11 @@ said_step r d f (Ok xs) = barred (misfit r d (step_of f xs)) (Ok (step_of f xs))
 -- replica
 unfoldable pub step_words : ℕ → State → ChainForm → List (List ℕ) → Result ChainAct Cause
 step_words r s f words = said_step r s.header f (kinds_say (full s) s.header (kinds_of f) words)
+
+-- a word and those behind it say this act, as they are read
+pub record SaysStep (r : ℕ) (d : Deployed) (word : List ℕ) (words : List (List ℕ)) (a : ChainAct) : Type 0 where
+  pub form : ChainForm
+  pub named : found word (length words) ≡ Some form
+  pub said : List Said
+  pub read : AreRead d (kinds_of form) words said
+  pub says : said_step r d form (Ok said) ≡ Ok a

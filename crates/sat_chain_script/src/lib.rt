@@ -4,8 +4,10 @@
 mod form;
 mod law;
 mod line;
+mod quick;
 mod step;
 
 pub use form::{ChainForm, chain_form};
 pub use law::good_chain_texts;
 pub use line::{ChainParsed, chain_line};
+pub use quick::good_chain_act;

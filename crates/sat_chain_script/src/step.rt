@@ -37,8 +37,8 @@ fn node_at(said: &[Said], k: usize) -> NodeId
     }
 }
 
-// A number that is a replica's.
-fn replica_of(replicas: u16, number: u64) -> Option<u16>
+/// A number that is a replica's.
+pub(crate) fn replica_of(replicas: u16, number: u64) -> Option<u16>
     ensures { result ≡ (if nat_lt number replicas then Some number else None) }
 {
     if number < u64::from(replicas) {
