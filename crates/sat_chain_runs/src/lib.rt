@@ -2,5 +2,7 @@
 #![tactic(auto)]
 
 mod chain_lines;
+mod following;
 
 pub use chain_lines::{ChainLines, chain_follower};
+pub use following::follow_chains;

@@ -4,3 +4,4 @@ pub mod UnderWay
 pub mod Rules
 pub mod ByLines
 pub mod Answered
+pub mod HasFollowed

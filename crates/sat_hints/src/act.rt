@@ -79,7 +79,11 @@ fn about_command(text: &mut String, word: &str) -> Result<(), AllocError> {
         "enter" | "pass" | "apply" | "crash" => {
             write!(text, "`{word}` is an act of scripts for `chain` alone")
         }
-        "hop" | "kill" | "settle" => write!(text, "scripts for this command have no act `{word}`"),
+        "stop" | "cut" => write!(text, "`{word}` is an act of scripts for `durable` alone"),
+        "hop" | "kill" | "settle" | "clock" => write!(
+            text,
+            "scripts for this command have no act `{word}`"
+        ),
         _ => write!(text, "no act has this form"),
     }
 }

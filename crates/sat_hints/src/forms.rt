@@ -1,6 +1,6 @@
 //! The forms of acts and of the header's lines, as docs/SCRIPTS.md writes them: a word, and for each word behind it a
 //! letter that says its kind. C is a client, X an item, V a value, I and J are sites, G is a gear, T a timestamp, N a
-//! number, E an epoch, U a node, Z a serializer and K a replica of one.
+//! number, E an epoch, U a node, Z a serializer, K a replica of one, D a number of calls of a disk and B 0 or 1.
 
 use crate::line::{count_words, first_word};
 
@@ -36,6 +36,8 @@ pub(crate) fn act_forms() -> &'static [&'static str] {
         "pass E Z K",
         "apply E Z",
         "crash E Z K",
+        "stop I",
+        "cut I D B",
     ]
 }
 
@@ -44,7 +46,7 @@ pub(crate) fn act_words() -> &'static [&'static str] {
     &[
         "tick", "clock", "write", "writes", "read", "move", "leave", "attach", "gather", "emit",
         "pulse", "hop", "turn", "bulk", "beat", "beatin", "stamp", "close", "fall", "advance",
-        "kill", "settle", "enter", "pass", "apply", "crash", "end",
+        "kill", "settle", "enter", "pass", "apply", "crash", "stop", "cut", "end",
     ]
 }
 
@@ -109,6 +111,8 @@ pub(crate) fn kind_text(kind: &str) -> &'static str {
         "N" => "this is a number",
         "E" => "an epoch is named by its number",
         "K" => "a replica is named by its number",
+        "D" => "how many calls of the disk pass is a number",
+        "B" => "whether what wasn't synced stays is 1 or 0",
         "U" => "a node is `s` and a site's number or `z` and a serializer's, as `s0`",
         _ => "a serializer is `z` and its number, as `z0`",
     }

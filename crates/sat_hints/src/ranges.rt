@@ -106,6 +106,16 @@ fn range_of(header: &Header<'_>, line: &str, kind: &str, word: &str) -> Option<R
             first: 0,
             last: u64::MAX,
         }),
+        "D" => Some(Range {
+            what: "calls of the disk that pass",
+            first: 0,
+            last: 3,
+        }),
+        "B" => Some(Range {
+            what: "marks of what stays",
+            first: 0,
+            last: 1,
+        }),
         "E" => Some(Range {
             what: "epochs",
             first: 1,

@@ -8,7 +8,7 @@ use std::alloc::{AllocError, Global};
 use std::fmt::Write;
 
 // The commands, and what they are mistaken for.
-const COMMANDS: [&str; 10] = [
+const COMMANDS: [&str; 11] = [
     "run",
     "draw",
     "plan",
@@ -16,6 +16,7 @@ const COMMANDS: [&str; 10] = [
     "live",
     "audit",
     "chain",
+    "durable",
     "load",
     "--help",
     "--version",
@@ -31,16 +32,19 @@ const MOST_REPLICAS: u64 = 5;
 
 const USAGE: &str = "usage: saturn COMMAND < INPUT
 
-  run, draw, plan, place, live, audit   read standard input
-  chain R                               reads it too
-  load SEED N                           makes its input
-  --help                                says what each of these does
+  run, draw, plan, place, live, audit, durable   read standard input
+  chain R                                        reads it too
+  load SEED N                                    makes its input
+  --help                                         says what each of these does
   --version
 ";
 
 // Whether a command reads standard input.
 fn reads(word: &str) -> bool {
-    matches!(word, "run" | "draw" | "plan" | "place" | "live" | "audit")
+    matches!(
+        word,
+        "run" | "draw" | "plan" | "place" | "live" | "audit" | "durable"
+    )
 }
 
 // Whether a word is a number of replicas.
@@ -66,7 +70,7 @@ pub fn awaits(words: &[String]) -> Option<&'static str> {
 // The same of one word.
 fn awaits_alone(word: &str) -> Option<&'static str> {
     match word {
-        "run" | "draw" | "live" => Some(AWAITS_SCRIPT),
+        "run" | "draw" | "live" | "durable" => Some(AWAITS_SCRIPT),
         "audit" => Some(
             "reading a history from the terminal; the line `end` and then Ctrl-D end it",
         ),

@@ -247,6 +247,151 @@ fn other_bytes_are_refused(rt: HostRuntime) -> Result<(), Fail> {
     Ok(())
 }
 
+// A value of the most bytes that one has.
+fn long_value(alloc: Global) -> Result<Value, Fail> {
+    value(alloc, &[126; 256])
+}
+
+fn greatest_carried() -> Carried {
+    Carried {
+        point: greatest_point(),
+        moving: Some(65_535),
+    }
+}
+
+fn greatest_point() -> Point {
+    point(18_446_744_073_709_551_615, 65_535, 65_535)
+}
+
+fn greatest_items() -> Items {
+    Items::Four(65_532, 65_533, 65_534, 65_535)
+}
+
+fn greatest_label() -> Label {
+    Label {
+        point: greatest_point(),
+        kind: Kind::Update(greatest_items()),
+    }
+}
+
+fn many_values(alloc: Global) -> Result<Values, Fail> {
+    let mut values = Vec::new(alloc);
+    for _ in 0..255u16 {
+        values.push(long_value(alloc)?)?;
+    }
+    Ok(Values::many(values))
+}
+
+fn many_parts(alloc: Global) -> Result<Payload, Fail> {
+    let mut parts = Vec::new(alloc);
+    for _ in 0..255u16 {
+        parts.push(Some(long_value(alloc)?))?;
+    }
+    let payload = Payload::of_parts(alloc, greatest_label(), parts.as_slice())?;
+    Ok(payload)
+}
+
+fn long_beat(alloc: Global) -> Result<Beat, Fail> {
+    let mut closes = Points::new(alloc);
+    let mut counts = Counts::new(alloc);
+    for _ in 0..65_535u32 {
+        closes.push(greatest_point())?;
+        counts.push(18_446_744_073_709_551_615)?;
+    }
+    Ok(Beat {
+        cut: greatest_point(),
+        closes,
+        counts,
+    })
+}
+
+// The sixteen inputs by number, each with the greatest numbers and the longest lists that have a spelling.
+fn greatest(alloc: Global, number: u16) -> Result<SiteInput, Fail> {
+    match number {
+        0 => Ok(SiteInput::Tick {
+            gear: 65_535,
+            ts: 18_446_744_073_709_551_615,
+        }),
+        1 => Ok(SiteInput::Write {
+            carried: greatest_carried(),
+            items: greatest_items(),
+            values: many_values(alloc)?,
+        }),
+        2 => Ok(SiteInput::Read {
+            carried: greatest_carried(),
+            item: 65_535,
+        }),
+        3 => Ok(SiteInput::Move {
+            carried: greatest_carried(),
+            to: 65_535,
+        }),
+        4 => Ok(SiteInput::Attach {
+            carried: greatest_carried(),
+        }),
+        8 => Ok(SiteInput::Turn {
+            front: Some(greatest_label()),
+        }),
+        9 => Ok(SiteInput::Bulk {
+            from: 65_535,
+            gear: 65_535,
+            number: 18_446_744_073_709_551_615,
+            payload: many_parts(alloc)?,
+        }),
+        10 => Ok(SiteInput::Beat { to: 65_535 }),
+        11 => Ok(SiteInput::BeatIn {
+            from: 65_535,
+            number: 18_446_744_073_709_551_615,
+            beat: long_beat(alloc)?,
+        }),
+        _ => given(alloc, number),
+    }
+}
+
+// How long their bodies are. A point has 12 bytes, what a client carries 15, four items 9, a label of four items 22, a
+// value of 256 bytes 258, and as a part 259.
+fn greatest_size(number: u16) -> usize {
+    match number {
+        0 => 1 + 2 + 8,
+        1 => 1 + 15 + 9 + 1 + 255 * 258,
+        2 | 3 => 1 + 15 + 2,
+        4 => 1 + 15,
+        8 => 1 + 1 + 22,
+        9 => 1 + 2 + 2 + 8 + 22 + 1 + 255 * 259,
+        10 => 1 + 2,
+        11 => 1 + 2 + 8 + 12 + 2 + 65_535 * 12 + 2 + 65_535 * 8,
+        _ => 1,
+    }
+}
+
+#[test]
+fn the_greatest_inputs_are_spelled(rt: HostRuntime) -> Result<(), Fail> {
+    let alloc = rt.alloc();
+    for number in 0..16u16 {
+        let input = greatest(alloc, number)?;
+        let bytes = written(alloc, &input)?;
+        let (_, body) = bytes.split_first().ok_or("nothing")?;
+        assert_eq!(rt; body.len(), greatest_size(number));
+        assert!(rt; read_again(alloc, body)?.as_slice() == bytes.as_slice());
+    }
+    Ok(())
+}
+
+// One member more has no spelling.
+#[test]
+fn longer_lists_are_not_allowed(rt: HostRuntime) -> Result<(), Fail> {
+    let alloc = rt.alloc();
+    let mut beat = long_beat(alloc)?;
+    beat.counts.push(0)?;
+    assert!(rt;
+        !is_allowed(&SiteInput::BeatIn {
+            from: 0,
+            number: 0,
+            beat
+        })
+    );
+    Ok(())
+}
+
 // Whether a value is written as these bytes, and what is read of them is written so again.
 fn rounds<T: Wire>(alloc: Global, value: &T, bytes: &[u8]) -> Result<bool, Fail> {
     if !value.is_allowed() {

@@ -15,6 +15,8 @@ mod gears;
 #[cfg(test)]
 mod judged;
 #[cfg(test)]
+mod lasting;
+#[cfg(test)]
 mod living;
 #[cfg(test)]
 mod outside;
@@ -34,3 +36,5 @@ mod stores;
 mod tables;
 #[cfg(test)]
 mod texts;
+#[cfg(test)]
+mod torn;

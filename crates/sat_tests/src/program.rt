@@ -70,6 +70,8 @@ fn other_words_are_refused(rt: HostRuntime) -> Result<(), Fail> {
         "chain 6",
         "chain 02",
         "chain 2 3",
+        "durable 2",
+        "durables",
     ] {
         let words = words(alloc, line)?;
         let (status, sink) = still_in_memory(

@@ -23,7 +23,7 @@ const CHAIN: &str =
 const CHAIN_OF_TWO: &str =
     "saturn 1\nsites 3\ngears 1\nitem p 0,2\nitem q 1,2\nclient a 0\nplan tree - 0 / 0 0 1\nbegin\n";
 
-const TWO_TREES: &str =
+pub const TWO_TREES: &str =
     "saturn 1\nsites 2\ngears 1\nitem x 0,1\nclient a 0\nclient b 1\nplan tree - / 0 0\nplan tree - 0 / 0 1\nbegin\n";
 
 const SAME_TREE_TWICE: &str =
@@ -32,7 +32,7 @@ const SAME_TREE_TWICE: &str =
 const TREE_THEN_STAMPS: &str =
     "saturn 1\nsites 2\ngears 2\nitem x 0,1\nitem y 0,1\nclient a 0\nclient b 0\nclient c 1\nplan tree - / 0 0\nplan stamp\nplan stamp\nbegin\n";
 
-const STAMPS: &str = "saturn 1\nsites 2\ngears 1\nitem x 0,1\nclient a 0\nplan stamp\nbegin\n";
+pub const STAMPS: &str = "saturn 1\nsites 2\ngears 1\nitem x 0,1\nclient a 0\nplan stamp\nbegin\n";
 
 const ONE_SITE: &str = "saturn 1\nsites 1\ngears 1\nplan stamp\nbegin\n";
 

@@ -15,7 +15,7 @@ use sat_store_example::{Relay, may_hand, payload_of};
 use std::alloc::Global;
 use std::test::Fail;
 
-type OnDisk = Durable<MemoryDisk, KeptSite>;
+pub(crate) type OnDisk = Durable<MemoryDisk, KeptSite>;
 
 // All processes, a client, and the payloads on their way. Site 0 alone sends labels, and its relay notes the last that it took.
 #[derive(Drop)]
@@ -29,7 +29,7 @@ struct Lasting {
 }
 
 // A site on an empty disk.
-fn started(alloc: Global, d: &Deployment, site: u16) -> Result<OnDisk, Fail> {
+pub(crate) fn started(alloc: Global, d: &Deployment, site: u16) -> Result<OnDisk, Fail> {
     if site >= d.sites() {
         return Err(Fail::from("no such site"));
     }
@@ -80,7 +80,7 @@ fn fresh_store(alloc: Global) -> Result<Lasting, Fail> {
 // ---- a site and its disk
 
 // Hands a site what fits it: the site and its answer, or the disk where that failed.
-fn stepped(
+pub(crate) fn stepped(
     alloc: Global,
     kept: OnDisk,
     given: SiteInput,

@@ -1,9 +1,8 @@
 -- A script with chains that was followed.
-use Rattle.std.proofs.Common.{◌≡◌, ℕ, List, Option, Some, refl, sym, subst}
+use Rattle.std.proofs.Common.{ℕ, List, Option, Some, refl}
 use Rattle.sat_outside.specs.Streams.{Told}
 use Rattle.sat_chain_script.specs.Laws.{EveryChainTextIsGood}
 use Rattle.sat_chain_runs.specs.ChainTexts.{chain_meaning}
-use Rattle.sat_follow.specs.Meaning.{Meaning}
 use Rattle.sat_follow.specs.Following.{IsOutput as FollowOutput, HasAnswered as FollowAnswered}
 use Rattle.sat_top.specs.declared.words.Command.TheVariants.{Chain}
 use Rattle.sat_top.specs.Chaining.{HasChainAnswered}
@@ -18,8 +17,8 @@ is_output : (r : ℕ) (left : Option (List ℕ)) (text : List ℕ) (status : ℕ
 is_output r left text status law o = record { input = o.input; whole = o.whole; output = o.output; status_is = o.status_is; proves = law r o.input }
 
 -- a follower with this meaning does the command
-pub chain_followed : (r : ℕ) (m : Meaning) → EveryChainTextIsGood → m ≡ chain_meaning r → IsFollowed (Chain r) m
-chain_followed r m law is = subst (λ (n : Meaning). IsFollowed (Chain r) n) (sym is) (record {
+pub chain_followed : (r : ℕ) → EveryChainTextIsGood → IsFollowed (Chain r) (chain_meaning r)
+chain_followed r law = record {
   asks = refl;
   other = λ e. cc;
   most = refl;
@@ -29,4 +28,4 @@ chain_followed r m law is = subst (λ (n : Meaning). IsFollowed (Chain r) n) (sy
   gave = λ left left_after old new front answering. (front, answering);
   broke = λ left left_after old new answering. answering;
   front = λ left old new had. (had.text, had.whole, had.front);
-})
+}

@@ -8,7 +8,7 @@ use Rattle.sat_delay.specs.Table.{DelayTable}
 use Rattle.sat_delay.specs.Reading.{reading as delays_in}
 use Rattle.sat_plan.specs.Texts.{plan_text, result_text}
 use Rattle.sat_top.specs.declared.words.Command.{Command}
-use Rattle.sat_top.specs.declared.words.Command.TheVariants.{Run, Draw, Plan, Place, Audit, Chain, Load, Help, Version}
+use Rattle.sat_top.specs.declared.words.Command.TheVariants.{Run, Draw, Plan, Place, Audit, Chain, Durable, Load, Help, Version}
 use Rattle.sat_report.specs.Faults.{fault_line}
 use Rattle.sat_stream.specs.declared.stream.Reading.{Reading}
 use Rattle.sat_top.specs.Drawing.{draw_text, IsGoodDrawing}
@@ -21,9 +21,11 @@ use Rattle.sat_audit.specs.Judging.{is_yes, verdict_of}
 use Rattle.sat_audit.specs.declared.heard.History.{History}
 use Rattle.sat_top.specs.Contract.{is_command_status}
 use Rattle.sat_chain_script.specs.Readings.{chain_reading}
+use Rattle.sat_lasting_script.specs.Laws.{lasting_reading}
 use Rattle.sat_top.proofs.Audits.{audit_refused, verdict_done}
 use Rattle.sat_top.proofs.Chained.{chain_done, chain_each, chain_low, chain_refused}
 use Rattle.sat_pieces.specs.Streaming.{run_status}
+use Rattle.sat_top.proofs.Lasted.{lasting_done, lasting_each, lasting_low, lasting_refused}
 use Rattle.sat_top.specs.Whole.{IsDone, IsFound, IsRefused, IsOutput, HasRun, HasDrawn, HasLineFault, HasFault, HasPlan, HasDelayFault, HasPlacement, HasShapeFault, command_output, command_status, plan_status, refusal}
 
 written : (c : Option Command) (left : Option (List ℕ)) (text : List ℕ) (status : ℕ) (old new : Told) (o : IsOutput c left text status) → Takes old new text → Takes old new (command_output c o.input)
@@ -156,6 +158,7 @@ is_done (Some Plan) left text status old new o took is-zero = plan-done left tex
 is_done (Some Place) left text status old new o took is-zero = place-done left text old new (subst (λ (n : ℕ). IsOutput (Some Place) left text n) is-zero o) took
 is_done (Some Audit) left text status old new o took is-zero = verdict_done left text old new true (subst (λ (n : ℕ). IsOutput (Some Audit) left text n) is-zero o) took
 is_done (Some (Chain replicas)) left text status old new o took is-zero = chain_done replicas left text old new (subst (λ (n : ℕ). IsOutput (Some (Chain replicas)) left text n) is-zero o) took
+is_done (Some Durable) left text status old new o took is-zero = lasting_done left text old new (subst (λ (n : ℕ). IsOutput (Some Durable) left text n) is-zero o) took
 is_done (Some (Load seed acts)) left text status old new o took is-zero = record { written = written (Some (Load seed acts)) left text status old new o took; good = o.proves }
 is_done (Some Help) left text status old new o took is-zero = written (Some Help) left text status old new o took
 is_done (Some Version) left text status old new o took is-zero = written (Some Version) left text status old new o took
@@ -168,6 +171,7 @@ is_refused (Some Plan) left text status old new o took is-one = plan-refused lef
 is_refused (Some Place) left text status old new o took is-one = place-refused left text old new (subst (λ (n : ℕ). IsOutput (Some Place) left text n) is-one o) took
 is_refused (Some Audit) left text status old new o took is-one = audit_refused left text old new (subst (λ (n : ℕ). IsOutput (Some Audit) left text n) is-one o) took
 is_refused (Some (Chain replicas)) left text status old new o took is-one = chain_refused replicas left text old new (subst (λ (n : ℕ). IsOutput (Some (Chain replicas)) left text n) is-one o) took
+is_refused (Some Durable) left text status old new o took is-one = lasting_refused left text old new (subst (λ (n : ℕ). IsOutput (Some Durable) left text n) is-one o) took
 is_refused (Some (Load seed acts)) left text status old new o took is-one = absurd (let e : status ≡ 0 = o.status_is in cc)
 is_refused (Some Help) left text status old new o took is-one = absurd (let e : status ≡ 0 = o.status_is in cc)
 is_refused (Some Version) left text status old new o took is-one = absurd (let e : status ≡ 0 = o.status_is in cc)
@@ -193,6 +197,7 @@ is_found (Some Draw) left text status old new o took is-seven = run-low _ (sym o
 is_found (Some Plan) left text status old new o took is-seven = plan-low _ (sym o.status_is ∙ is-seven)
 is_found (Some Place) left text status old new o took is-seven = place-low _ (sym o.status_is ∙ is-seven)
 is_found (Some (Chain replicas)) left text status old new o took is-seven = chain_low (chain_reading replicas o.input) (sym o.status_is ∙ is-seven)
+is_found (Some Durable) left text status old new o took is-seven = lasting_low (lasting_reading o.input) (sym o.status_is ∙ is-seven)
 is_found (Some (Load seed acts)) left text status old new o took is-seven = let e : status ≡ 0 = o.status_is in cc
 is_found (Some Help) left text status old new o took is-seven = let e : status ≡ 0 = o.status_is in cc
 is_found (Some Version) left text status old new o took is-seven = let e : status ≡ 0 = o.status_is in cc
@@ -228,6 +233,7 @@ some-each P none some found Plan text = plan-each P none some (delays_in text)
 some-each P none some found Place text = place-each P none some (shape_reading text)
 some-each P none some found Audit text = audit-each P none some found (heard_in text)
 some-each P none some found (Chain replicas) text = chain_each P none some (chain_reading replicas text)
+some-each P none some found Durable text = lasting_each P none some (lasting_reading text)
 some-each P none some found (Load seed acts) text = none
 some-each P none some found Help text = none
 some-each P none some found Version text = none

@@ -1,16 +1,20 @@
 -- What a text that was followed to its end, or as far as it went, says of the top call. A command that follows its input has one follower
 -- and one proof that this does it, `IsFollowed`.
-use Rattle.std.proofs.Common.{◌≡◌, ℕ, ◌≤◌, ◌+◌, true, false, List, Option, Some, None, length, inr, refl, ap, subst, ◌∙◌, arith}
+use Rattle.std.proofs.Common.{◌≡◌, ℕ, ◌≤◌, ◌+◌, true, false, List, Option, Some, None, Result, Ok, Err, length, inr, refl, ap, subst, ◌∙◌, arith}
 use Rattle.std.specs.Io.KnownBytes.{Consumes, IsAtEnd}
 use Rattle.sat_outside.specs.Causes.{Rose}
 use Rattle.sat_outside.specs.Streams.{Told, Takes}
 use Rattle.sat_follow.specs.Meaning.{Meaning}
 use Rattle.sat_follow.specs.Following.{IsTextOf, TakesFront, IsOutput as FollowOutput, StopsReading as FollowStops, HasAnswered as FollowAnswered, HasFront as FollowFront, WasAnswering as FollowAnswering}
+use Rattle.sat_follow.specs.HasFollowed.{HasFollowed}
+use Rattle.sat_follow.specs.declared.pieces.Halt.{Halt}
+use Rattle.sat_follow.specs.declared.pieces.Halt.TheVariants as halt
 use Rattle.sat_follow.specs.declared.pieces.TheConstants.{BUFFER_BYTES}
 use Rattle.sat_top.specs.declared.words.Command.{Command}
 use Rattle.sat_top.specs.declared.words.Command.TheVariants.{Audit}
 use Rattle.sat_top.specs.Contract.{most_taken, MeetsCommand}
 use Rattle.sat_top.specs.Streaming.{BrokeOff, GaveUp, StopsReadingOf, WroteBefore}
+use Rattle.sat_top.specs.UnderWay.{followed_status}
 use Rattle.sat_top.specs.Whole.{IsOutput, command_output, reads}
 use Rattle.sat_top.proofs.Meetings.{told_met}
 
@@ -104,3 +108,16 @@ module _ (c : Command) (m : Meaning) (does : IsFollowed c m) (left left_after : 
     later = (later, kept);
     complete = λ text all _ _. inr refl;
   }
+
+-- whatever came of it
+pub has_followed : (c : Command) (m : Meaning) → IsFollowed c m → (result : Result ℕ Halt) (left left_after : Option (List ℕ)) (old new : Told) (failed failed_after refused refused_after ends ends_after : ℕ)
+    → HasFollowed m result left left_after old new failed failed_after refused refused_after ends ends_after
+    → MeetsCommand (Some c) (followed_status result) left left_after old new failed failed_after refused refused_after ends ends_after
+has_followed c m does (Ok status) left left_after old new failed failed_after refused refused_after ends ends_after had =
+    followed_met c m does left left_after old new failed failed_after refused refused_after ends ends_after had.bounded had.stops had.once had.later had.kept status had.whole had.end
+has_followed c m does (Err halt.Source) left left_after old new failed failed_after refused refused_after ends ends_after had =
+    followed_no_source c m does left left_after old new failed failed_after refused refused_after ends ends_after had.bounded had.stops had.once had.later had.kept (had.failed refl) (had.answered refl)
+has_followed c m does (Err halt.Sink) left left_after old new failed failed_after refused refused_after ends ends_after had =
+    followed_no_sink c m does left left_after old new failed failed_after refused refused_after ends ends_after had.bounded had.stops had.once had.later had.kept (had.refused refl) had.front had.stopped
+has_followed c m does (Err halt.Memory) left left_after old new failed failed_after refused refused_after ends ends_after had =
+    followed_no_memory c m does left left_after old new failed failed_after refused refused_after ends ends_after had.bounded had.stops had.once had.later had.kept had.front had.stopped

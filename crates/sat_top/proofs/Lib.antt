@@ -6,10 +6,12 @@ pub mod Refused
 pub mod Plans
 pub mod Placements
 pub mod Chained
+pub mod Lasted
 pub mod Done
 pub mod Meetings
 pub mod Followed
 pub mod ChainFollowed
+pub mod LastingFollowed
 pub mod Entering
 pub mod Audits
 pub mod Drawings

@@ -7,10 +7,11 @@ use Rattle.sat_outside.specs.Streams.{Told, Takes}
 use Rattle.sat_stream.specs.declared.limits.TheConstants.{MOST_BYTES}
 use Rattle.sat_delay.specs.declared.read.TheConstants.{MOST_BYTES as MOST_DELAY_BYTES}
 use Rattle.sat_chain_runs.specs.ChainTexts.{chain_meaning}
+use Rattle.sat_lasting_runs.specs.LastingTexts.{lasting_meaning}
 use Rattle.sat_top.specs.declared.auditing.TheConstants.{MOST_HISTORY_BYTES}
 use Rattle.sat_follow.specs.declared.pieces.TheConstants.{BUFFER_BYTES}
 use Rattle.sat_top.specs.declared.words.Command.{Command}
-use Rattle.sat_top.specs.declared.words.Command.TheVariants.{Run, Draw, Plan, Place, Audit, Chain}
+use Rattle.sat_top.specs.declared.words.Command.TheVariants.{Run, Draw, Plan, Place, Audit, Chain, Durable}
 use Rattle.sat_top.specs.Words.{command_of, is_live}
 use Rattle.sat_top.specs.Living.{MeetsLive}
 use Rattle.sat_top.specs.Streaming.{WroteBefore, BrokeOff, GaveUp, StopsReadingOf}
@@ -25,6 +26,7 @@ most_taken (Some Plan) = MOST_DELAY_BYTES + BUFFER_BYTES
 most_taken (Some Place) = MOST_DELAY_BYTES + BUFFER_BYTES
 most_taken (Some Audit) = MOST_HISTORY_BYTES + BUFFER_BYTES
 most_taken (Some (Chain replicas)) = (chain_meaning replicas).most + BUFFER_BYTES
+most_taken (Some Durable) = lasting_meaning.most + BUFFER_BYTES
 most_taken _ = 0
 
 -- the statuses of commands
@@ -46,14 +48,14 @@ pub record MeetsCommand (command : Option Command) (status : ℕ) (left left_aft
   pub bad : status ≡ 1 → IsRefused command left told told_after
   pub found : status ≡ 7 → IsFound command left told told_after
   pub no_command : status ≡ 2 → (command ≡ None) × Takes told told_after refusal
-  -- the source fails between two reads: `run` and `chain` have written the answers of each whole line that they read,
-  -- the others nothing
+  -- the source fails between two reads: `run`, `chain` and `durable` have written the answers of each whole line that
+  -- they read, the others nothing
   pub no_source : status ≡ 3 → Rose failed failed_after × (reads command ≡ true)
       × WroteBefore command left left_after told told_after
   pub no_sink : status ≡ 4 → Rose refused refused_after
       × ((text : List ℕ) × IsTextOf left text × TakesFront told told_after (command_output command text))
-  -- where the sink fails or memory runs out, `run` and `chain` have written the answers of all that came before the
-  -- last piece read
+  -- where the sink fails or memory runs out, `run`, `chain` and `durable` have written the answers of all that came
+  -- before the last piece read
   pub broken : status ≡ 4 → BrokeOff command left left_after told told_after
   pub no_memory : status ≡ 5 → GaveUp command left left_after told told_after
   pub statuses : is_command_status status ≡ true

@@ -4,6 +4,7 @@ pub mod Loading
 pub mod Placing
 pub mod Auditing
 pub mod Chaining
+pub mod Lasting
 pub mod Whole
 pub mod Streaming
 pub mod Living

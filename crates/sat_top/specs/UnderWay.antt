@@ -1,15 +1,27 @@
--- A run under way, as it is counted or drawn. No contract of the top call speaks of these.
-use Rattle.std.specs.Prelude.{ℕ, ◌≡◌, List, reverse}
+-- A text that was followed, and a run under way, as it is counted or drawn. No contract of the top call speaks of
+-- these.
+use Rattle.std.specs.Prelude.{ℕ, ◌≡◌, List, Result, Ok, Err, reverse}
 use Rattle.sat_act.specs.declared.act.Act.{Act}
 use Rattle.sat_act.specs.declared.answer.Answer.{Answer}
 use Rattle.sat_act.specs.declared.answer.Answer.TheVariants as ans
 use Rattle.sat_act.specs.declared.entry.Entry.{Entry}
 use Rattle.sat_act.specs.Deployed.{Deployed}
+use Rattle.sat_follow.specs.declared.pieces.Halt.{Halt}
+use Rattle.sat_follow.specs.declared.pieces.Halt.TheVariants as halt
 use Rattle.sat_rest.specs.Ends.{wrote_count}
 use Rattle.sat_world.specs.Seen.{WorldSeen}
 use Rattle.sat_top.specs.Drawing.{told_history}
 use Rattle.sat_runs.specs.Running.{Does, IsRunning}
 use Rattle.sat_runs.specs.Runs.{history}
+
+-- ---- followed
+
+-- the status of a text that was followed
+abbrev pub followed_status : Result ℕ Halt → ℕ
+followed_status (Ok status) = status
+followed_status (Err halt.Source) = 3
+followed_status (Err halt.Sink) = 4
+followed_status (Err halt.Memory) = 5
 
 -- ---- counted
 

@@ -11,6 +11,8 @@ use Rattle.sat_report.specs.Holdings.{report}
 use Rattle.sat_chain_script.specs.Laws.{IsGoodChainText}
 use Rattle.sat_chain_script.specs.Readings.{chain_reading}
 use Rattle.sat_chain_runs.specs.ChainTexts.{chain_status, chain_text}
+use Rattle.sat_lasting_script.specs.Laws.{IsGoodLastingText, lasting_reading}
+use Rattle.sat_lasting_runs.specs.LastingTexts.{lasting_status, lasting_text}
 use Rattle.sat_delay.specs.declared.fault.DelayFault.{DelayFault}
 use Rattle.sat_delay.specs.Table.{DelayTable}
 use Rattle.sat_delay.specs.Reading.{reading as delays_in}
@@ -20,7 +22,7 @@ use Rattle.sat_plan.specs.Mismatch.{mismatch}
 use Rattle.sat_plan.specs.Steps.{built}
 use Rattle.sat_plan.specs.Texts.{config_text, plan_text}
 use Rattle.sat_top.specs.declared.words.Command.{Command}
-use Rattle.sat_top.specs.declared.words.Command.TheVariants.{Run, Draw, Plan, Place, Audit, Chain, Load, Help, Version}
+use Rattle.sat_top.specs.declared.words.Command.TheVariants.{Run, Draw, Plan, Place, Audit, Chain, Durable, Load, Help, Version}
 use Rattle.sat_place.specs.Placing.{IsLeast, worth}
 use Rattle.sat_place.specs.Search.{least_places}
 use Rattle.sat_place.specs.Shape.{Shape, shape_reading}
@@ -33,6 +35,7 @@ use Rattle.sat_top.specs.Loading.{load_text, HasLoaded, IsGoodLoad}
 use Rattle.sat_top.specs.Placing.{IsBestPlacement, place_status}
 use Rattle.sat_top.specs.Auditing.{audit_status, audit_text, HasHistoryFault, HasVerdict, IsTrueVerdict}
 use Rattle.sat_top.specs.Chaining.{HasChained, HasChainFault}
+use Rattle.sat_top.specs.Lasting.{HasLasted, HasLastingFault}
 use Rattle.sat_top.specs.Words.{command_of}
 use Rattle.sat_runs.specs.Runs.{history, run_text}
 use Rattle.sat_runs.specs.Good.{IsGoodRun}
@@ -47,7 +50,7 @@ refusal = codes "words refused" ++ 10 ∷ []
 -- what the program says of itself
 abbrev pub help : List ℕ
 help =
-    codes "saturn: causal order between sites that keep some items each\n\nusage: saturn COMMAND < INPUT\n\n  run          reads a script, and writes the report of its run\n  plan         reads a table of delays as JSON, and writes a tree of serializers\n  place        reads the same with a given tree, and writes the best places of its serializers\n  draw         reads a script, and writes a picture of its run as SVG\n  live         reads a script of clients, has nodes on threads do it, and writes its history\n  audit        reads the history of a store, and writes whether it is causal, shown once and fresh\n  chain R      reads a script whose serializers are chains of R replicas, and writes the report of its run\n  load SEED N  makes a script of N acts and six more, runs it, and writes a summary\n  --help       writes this text\n  --version    writes the version\n\nstatus: 0 done; 1 the input is refused, and the last line written says where; 2 no such command;\n        3 the input could not be read; 4 the output could not be written; 5 out of memory;\n        6 and 8 what the nodes did is not whole, and the output says why\n        7 the history that was judged is not causal, not shown once or not fresh\n"
+    codes "saturn: causal order between sites that keep some items each\n\nusage: saturn COMMAND < INPUT\n\n  run          reads a script, and writes the report of its run\n  plan         reads a table of delays as JSON, and writes a tree of serializers\n  place        reads the same with a given tree, and writes the best places of its serializers\n  draw         reads a script, and writes a picture of its run as SVG\n  live         reads a script of clients, has nodes on threads do it, and writes its history\n  audit        reads the history of a store, and writes whether it is causal, shown once and fresh\n  chain R      reads a script whose serializers are chains of R replicas, and writes the report of its run\n  durable      reads a script whose sites may stop, and writes the report of its run\n  load SEED N  makes a script of N acts and six more, runs it, and writes a summary\n  --help       writes this text\n  --version    writes the version\n\nstatus: 0 done; 1 the input is refused, and the last line written says where; 2 no such command;\n        3 the input could not be read; 4 the output could not be written; 5 out of memory;\n        6 and 8 what the nodes did is not whole, and the output says why\n        7 the history that was judged is not causal, not shown once or not fresh\n"
 
 abbrev pub version : List ℕ
 version = codes "saturn 0.1.0\n"
@@ -60,6 +63,7 @@ reads (Some Plan) = true
 reads (Some Place) = true
 reads (Some Audit) = true
 reads (Some (Chain replicas)) = true
+reads (Some Durable) = true
 reads _ = false
 
 abbrev pub plan_status : Result DelayTable DelayFault → ℕ
@@ -75,6 +79,7 @@ command_status (Some Plan) text = plan_status (delays_in text)
 command_status (Some Place) text = place_status (shape_reading text)
 command_status (Some Audit) text = audit_status text
 command_status (Some (Chain replicas)) text = chain_status (chain_reading replicas text)
+command_status (Some Durable) text = lasting_status (lasting_reading text)
 command_status (Some (Load seed acts)) text = 0
 command_status (Some Help) text = 0
 command_status (Some Version) text = 0
@@ -88,6 +93,7 @@ command_output (Some Plan) text = plan_text text
 command_output (Some Place) text = place_text text
 command_output (Some Audit) text = audit_text text
 command_output (Some (Chain replicas)) text = chain_text replicas (chain_reading replicas text)
+command_output (Some Durable) text = lasting_text (lasting_reading text)
 command_output (Some (Load seed acts)) text = load_text seed acts
 command_output (Some Help) text = help
 command_output (Some Version) text = version
@@ -188,6 +194,7 @@ IsDone (Some Plan) left old new = HasPlan left old new
 IsDone (Some Place) left old new = HasPlacement left old new
 IsDone (Some Audit) left old new = HasVerdict true left old new
 IsDone (Some (Chain replicas)) left old new = HasChained replicas left old new
+IsDone (Some Durable) left old new = HasLasted left old new
 IsDone (Some (Load seed acts)) left old new = HasLoaded seed acts old new
 IsDone (Some Help) left old new = Takes old new help
 IsDone (Some Version) left old new = Takes old new version
@@ -201,6 +208,7 @@ IsRefused (Some Plan) left old new = HasDelayFault left old new
 IsRefused (Some Place) left old new = HasShapeFault left old new
 IsRefused (Some Audit) left old new = HasHistoryFault left old new
 IsRefused (Some (Chain replicas)) left old new = HasChainFault replicas left old new
+IsRefused (Some Durable) left old new = HasLastingFault left old new
 IsRefused _ left old new = ⊥
 
 -- what was found of an input with status 7
@@ -220,6 +228,7 @@ Proves (Some Plan) status text = status ≡ 0 → IsBestPlan text
 Proves (Some Place) status text = IsBestPlacement text
 Proves (Some Audit) status text = IsTrueVerdict text
 Proves (Some (Chain replicas)) status text = IsGoodChainText replicas (chain_reading replicas text)
+Proves (Some Durable) status text = IsGoodLastingText (lasting_reading text)
 Proves (Some (Load seed acts)) status text = IsGoodLoad seed acts
 Proves _ status text = Unit {0}
 

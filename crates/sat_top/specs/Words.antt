@@ -5,7 +5,7 @@ use Rattle.sat_script.specs.Words.{number_up_to}
 use Rattle.sat_settle.specs.declared.load_script.TheConstants.{MOST_LOADED}
 use Rattle.sat_top.specs.declared.words.TheConstants.{MOST_REPLICAS}
 use Rattle.sat_top.specs.declared.words.Command.{Command}
-use Rattle.sat_top.specs.declared.words.Command.TheVariants.{Run, Draw, Plan, Place, Audit, Chain, Load, Help, Version}
+use Rattle.sat_top.specs.declared.words.Command.TheVariants.{Run, Draw, Plan, Place, Audit, Durable, Chain, Load, Help, Version}
 
 -- the command of one word
 unfoldable pub command_named : List ℕ → Option Command
@@ -15,8 +15,9 @@ command_named word =
     if bytes_eq word (codes "plan") then Some Plan else (
     if bytes_eq word (codes "place") then Some Place else (
     if bytes_eq word (codes "audit") then Some Audit else (
+    if bytes_eq word (codes "durable") then Some Durable else (
     if bytes_eq word (codes "--help") then Some Help else (
-    if bytes_eq word (codes "--version") then Some Version else None))))))
+    if bytes_eq word (codes "--version") then Some Version else None)))))))
 
 -- the chains of a number of replicas, which is 1 to 5
 abbrev pub chain_of : Option ℕ → Option Command

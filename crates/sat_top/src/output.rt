@@ -2,7 +2,7 @@
 ghost use Rattle.std.specs.Prelude.{◌≡◌, ◌≢◌, ◌≤◌, ◌+◌, ℕ, List, IfOk, IsErrOf, Some, true, false, length, map, string_bytes};
 ghost use Rattle.std.specs.Io.KnownBytes.{Consumes, IsAtEnd};
 ghost use Rattle.sat_outside.specs.Causes.{Rose};
-ghost use Rattle.sat_top.specs.declared.words.Command.TheVariants.{Audit, Chain, Run};
+ghost use Rattle.sat_top.specs.declared.words.Command.TheVariants.{Audit, Chain, Durable, Run};
 ghost use Rattle.sat_top.specs.Words.{command_of};
 ghost use Rattle.sat_top.specs.Whole.{refusal, reads, IsOutput};
 ghost use Rattle.sat_top.specs.Contract.{most_taken};
@@ -25,7 +25,7 @@ use std::thread::Threads;
 
 // What the program says of itself.
 const HELP: &str =
-    "saturn: causal order between sites that keep some items each\n\nusage: saturn COMMAND < INPUT\n\n  run          reads a script, and writes the report of its run\n  plan         reads a table of delays as JSON, and writes a tree of serializers\n  place        reads the same with a given tree, and writes the best places of its serializers\n  draw         reads a script, and writes a picture of its run as SVG\n  live         reads a script of clients, has nodes on threads do it, and writes its history\n  audit        reads the history of a store, and writes whether it is causal, shown once and fresh\n  chain R      reads a script whose serializers are chains of R replicas, and writes the report of its run\n  load SEED N  makes a script of N acts and six more, runs it, and writes a summary\n  --help       writes this text\n  --version    writes the version\n\nstatus: 0 done; 1 the input is refused, and the last line written says where; 2 no such command;\n        3 the input could not be read; 4 the output could not be written; 5 out of memory;\n        6 and 8 what the nodes did is not whole, and the output says why\n        7 the history that was judged is not causal, not shown once or not fresh\n";
+    "saturn: causal order between sites that keep some items each\n\nusage: saturn COMMAND < INPUT\n\n  run          reads a script, and writes the report of its run\n  plan         reads a table of delays as JSON, and writes a tree of serializers\n  place        reads the same with a given tree, and writes the best places of its serializers\n  draw         reads a script, and writes a picture of its run as SVG\n  live         reads a script of clients, has nodes on threads do it, and writes its history\n  audit        reads the history of a store, and writes whether it is causal, shown once and fresh\n  chain R      reads a script whose serializers are chains of R replicas, and writes the report of its run\n  durable      reads a script whose sites may stop, and writes the report of its run\n  load SEED N  makes a script of N acts and six more, runs it, and writes a summary\n  --help       writes this text\n  --version    writes the version\n\nstatus: 0 done; 1 the input is refused, and the last line written says where; 2 no such command;\n        3 the input could not be read; 4 the output could not be written; 5 out of memory;\n        6 and 8 what the nodes did is not whole, and the output says why\n        7 the history that was judged is not causal, not shown once or not fresh\n";
 
 const VERSION: &str = "saturn 0.1.0\n";
 
@@ -145,6 +145,7 @@ pub(crate) fn make_output<S: Source>(
     source: &mut S,
 ) -> Result<Output, Stop>
     requires run { command_of (map string_bytes words.now) ≢ Some Run }
+    requires durable { command_of (map string_bytes words.now) ≢ Some Durable }
     requires chain { (replicas : ℕ) → command_of (map string_bytes words.now) ≢ Some (Chain replicas) }
     ensures output { IfOk result
         (λ out. IsOutput (command_of (map string_bytes words.now)) (S.left source.old) out.text.items out.status) }
@@ -164,6 +165,7 @@ pub(crate) fn make_output<S: Source>(
     match command_of(words) {
         Some(Command::Run) => unreachable!(),
         Some(Command::Chain { .. }) => unreachable!(),
+        Some(Command::Durable) => unreachable!(),
         Some(Command::Draw) => draw(alloc, source),
         Some(Command::Plan) => plan(alloc, source),
         Some(Command::Place) => place(alloc, source),

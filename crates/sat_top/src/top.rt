@@ -1,17 +1,20 @@
 //! The top call.
 ghost use Rattle.std.specs.Prelude.{ℕ, ◌≡◌, ◌≢◌, ◌≤◌, false, map, string_bytes, Some};
-ghost use Rattle.sat_top.specs.declared.words.Command.TheVariants.{Chain, Place, Run};
+ghost use Rattle.sat_top.specs.declared.words.Command.TheVariants.{Chain, Durable, Place, Run};
 ghost use Rattle.sat_top.specs.declared.words.TheConstants.{MOST_REPLICAS};
 ghost use Rattle.sat_top.specs.Words.{command_of, is_live};
 ghost use Rattle.sat_top.specs.Whole.{reads};
 ghost use Rattle.sat_top.specs.Contract.{Meets, MeetsCommand};
+ghost use Rattle.sat_top.specs.UnderWay.{followed_status};
 
 use crate::living::lived;
 use crate::output::{make_output, place_wide};
 use crate::words::{Command, command_of, is_live};
-use sat_chain_runs::chain_follower;
+use sat_chain_runs::follow_chains;
 use sat_chain_script::good_chain_texts;
-use sat_follow::{Halt, follow, write_text};
+use sat_follow::{Halt, write_text};
+use sat_lasting_runs::follow_lasting;
+use sat_lasting_script::good_lasting_texts;
 use sat_outside::{Gate, Sink, Source};
 use sat_pieces::{Stop, run_script};
 use std::alloc::Global;
@@ -19,11 +22,11 @@ use std::sync::Wait;
 use std::thread::Threads;
 use std::time::Clock;
 
-/// Does the command that the words say, and answers its status. `run` and `chain` read a piece, do each whole line in
-/// it and write its answer before they read more; the other commands write nothing before they have read all. The
-/// statuses: 0, the command was done; 1, the input is refused; 2, the words are no command; 3, the source failed; 4,
-/// the sink failed; 5, memory ran out; 7, a history that was judged is not as it should be. It waits for nobody, and so
-/// `live` is none of its commands.
+/// Does the command that the words say, and answers its status. `run`, `chain` and `durable` read a piece, do each
+/// whole line in it and write its answer before they read more; the other commands write nothing before they have read
+/// all. The statuses: 0, the command was done; 1, the input is refused; 2, the words are no command; 3, the source
+/// failed; 4, the sink failed; 5, memory ran out; 7, a history that was judged is not as it should be. It waits for
+/// nobody, and so `live` is none of its commands.
 pub fn still<S: Source, K: Sink>(
     alloc: Global,
     words: &[String],
@@ -40,6 +43,7 @@ pub fn still<S: Source, K: Sink>(
     match command_of(words) {
         Some(Command::Run) => streamed(alloc, source, sink),
         Some(Command::Chain { replicas }) => chained(alloc, replicas, source, sink),
+        Some(Command::Durable) => lasted(alloc, source, sink),
         _ => told(alloc, words, source, sink),
     }
 }
@@ -60,8 +64,19 @@ fn streamed<S: Source, K: Sink>(alloc: Global, source: &mut S, sink: &mut K) -> 
     }
 }
 
+// The status of a text that was followed.
+fn status_of(followed: Result<u8, Halt>) -> u8
+    ensures { result ≡ followed_status followed }
+{
+    match followed {
+        Ok(status) => status,
+        Err(Halt::Source) => 3,
+        Err(Halt::Sink) => 4,
+        Err(Halt::Memory) => 5,
+    }
+}
+
 // Runs a script whose serializers are chains of replicas, line by line, and answers the status.
-#[tactic(auto, using(crate::proofs::Done::is_done, crate::proofs::Done::is_refused, crate::proofs::Done::is_found, crate::proofs::Done::has_status))]
 fn chained<S: Source, K: Sink>(alloc: Global, replicas: u16, source: &mut S, sink: &mut K) -> u8
     requires some { 1 ≤ replicas }
     requires few { replicas ≤ MOST_REPLICAS }
@@ -72,19 +87,26 @@ fn chained<S: Source, K: Sink>(alloc: Global, replicas: u16, source: &mut S, sin
 {
     // Brings this law into the proof; it does nothing when it runs.
     good_chain_texts();
-    let mut follower = chain_follower(alloc, replicas);
-    match follow(alloc, &mut follower, source, sink) {
-        Ok(status) => status,
-        Err(Halt::Source) => 3,
-        Err(Halt::Sink) => 4,
-        Err(Halt::Memory) => 5,
-    }
+    status_of(follow_chains(alloc, replicas, source, sink))
+}
+
+// Runs a script whose sites may stop, line by line, and answers the status.
+fn lasted<S: Source, K: Sink>(alloc: Global, source: &mut S, sink: &mut K) -> u8
+    ensures meets { MeetsCommand (Some Durable) result (S.left source.old) (S.left source.new)
+        (K.told sink.old) (K.told sink.new)
+        (S.faults source.old) (S.faults source.new) (K.faults sink.old) (K.faults sink.new) (S.ends source.old)
+        (S.ends source.new) }
+{
+    // Brings this law into the proof; it does nothing when it runs.
+    good_lasting_texts();
+    status_of(follow_lasting(alloc, source, sink))
 }
 
 // Does another command: makes its whole output, writes it, and answers the status.
 #[tactic(auto, using(crate::proofs::Done::is_done, crate::proofs::Done::is_refused, crate::proofs::Done::is_found, crate::proofs::Done::has_status))]
 fn told<S: Source, K: Sink>(alloc: Global, words: &[String], source: &mut S, sink: &mut K) -> u8
     requires run { command_of (map string_bytes words.now) ≢ Some Run }
+    requires durable { command_of (map string_bytes words.now) ≢ Some Durable }
     requires chain { (replicas : ℕ) → command_of (map string_bytes words.now) ≢ Some (Chain replicas) }
     ensures meets { MeetsCommand (command_of (map string_bytes words.now)) result (S.left source.old)
         (S.left source.new) (K.told sink.old) (K.told sink.new)

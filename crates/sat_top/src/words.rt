@@ -26,6 +26,8 @@ pub enum Command {
     Audit,
     /// Reads a script whose serializers are chains of so many replicas, and writes the report of its run.
     Chain { replicas: u16 },
+    /// Reads a script whose sites may stop, and writes the report of its run.
+    Durable,
     /// Makes a script of so many acts and six more, runs it and writes a summary.
     Load { seed: u64, acts: u32 },
     /// Writes what the program can do.
@@ -46,6 +48,7 @@ fn command_named(word: &str) -> Option<Command>
         "plan" => Some(Command::Plan),
         "place" => Some(Command::Place),
         "audit" => Some(Command::Audit),
+        "durable" => Some(Command::Durable),
         "--help" => Some(Command::Help),
         "--version" => Some(Command::Version),
         _ => None,

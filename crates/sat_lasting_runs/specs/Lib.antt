@@ -1,0 +1,2 @@
+pub mod LastingTexts
+pub mod Held
