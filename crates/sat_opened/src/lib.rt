@@ -8,7 +8,7 @@ mod opened;
 ghost use Rattle.sat_opened.specs.Laws.{OpenedFit, OpenedAreJournals, SitesAreKept, SerialsAreKept, SiteJournals, SerialJournals, SitesHaveOwners, SerialsHaveOwners, PlacesCover, FitsJoin, OpenedAreRuns};
 ghost use Rattle.sat_opened.specs.Hosts.{HostsFit, HostsJoin, HostsAreRuns, HostsAreGood, OpenedAreHosts};
 
-pub use entries::{serial_journal, site_journal};
+pub use entries::{serial_entries, serial_journal, site_entries, site_journal};
 pub use opened::open_nodes;
 
 /// The journals of all opened nodes are kept lists that fit; with what sessions kept they make one run.

@@ -2,6 +2,7 @@
 #![tactic(auto)]
 
 mod answers;
+mod lent;
 mod noted;
 mod serial;
 mod session;
@@ -9,6 +10,7 @@ mod site;
 
 ghost use Rattle.sat_session.specs.Sessions.{SessionsFit};
 
+pub use lent::Lent;
 pub use noted::Noted;
 pub use session::Session;
 
