@@ -1,5 +1,5 @@
 -- Hosts and sessions note the same.
-use Rattle.std.proofs.Common.{◌≡◌, ◌⊎◌, ◌<◌, ◌≤◌, ◌+◌, max, ℕ, zero, suc, List, [], ◌∷◌, ◌++◌, length, map, set, Option, Some, None, Ok, slice_get, refl, sym, ap, ◌∙◌, subst, append_assoc, arith, inl, inr}
+use Rattle.std.proofs.Common.{◌≡◌, ◌⊎◌, ◌<◌, ◌≤◌, ◌+◌, max, ℕ, zero, suc, false, List, [], ◌∷◌, ◌++◌, length, map, set, Option, Some, None, Ok, slice_get, refl, sym, ap, ◌∙◌, subst, append_assoc, arith, inl, inr}
 use Rattle.std.specs.List.{flat_map}
 use Rattle.sat_label.specs.Members.{In}
 use Rattle.sat_label.specs.Grouped.{list_of}
