@@ -19,6 +19,8 @@ mod lasting;
 #[cfg(test)]
 mod living;
 #[cfg(test)]
+mod lossy;
+#[cfg(test)]
 mod outside;
 #[cfg(test)]
 mod parts;
