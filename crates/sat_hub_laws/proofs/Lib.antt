@@ -1,0 +1,5 @@
+pub mod Sites
+pub mod Lines
+pub mod Parts
+pub mod Joined
+pub mod Replayed

@@ -1,0 +1,9 @@
+use Rattle.sat_hub_laws.proofs.Parts.{parts-have-homes, parts-join, parts-rise}
+use Rattle.sat_hub_laws.proofs.same_parts.Goals as goal
+
+pub returns : goal.returns
+returns c = record {
+  joined = parts-join;
+  homes = parts-have-homes;
+  rising = parts-rise;
+}
