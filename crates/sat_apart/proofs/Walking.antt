@@ -1,7 +1,8 @@
 -- Where two lists whose numbers rise are not the same.
-use Rattle.std.specs.Prelude.{◌≡◌, ◌≢◌, ◌⊎◌, ◌<◌, ◌≤◌, ◌↔◌, ◌+◌, ℕ, zero, suc, Bool, true, false, nat_lt, ◌==◌, List, [], ◌∷◌, ◌++◌, length, Option, Some, None, slice_get, min, if◌then◌else◌, refl}
-use Rattle.std.proofs.Common.{sym, subst, ap, ◌∙◌, arith, inl, inr}
+use Rattle.std.specs.Prelude.{◌≡◌, ◌≢◌, ◌⊎◌, ◌<◌, ◌≤◌, ◌↔◌, IfSome, ◌+◌, ℕ, zero, suc, Bool, true, false, nat_lt, ◌==◌, List, [], ◌∷◌, ◌++◌, length, Option, Some, None, slice_get, slice_index_or, min, if◌then◌else◌, refl}
+use Rattle.std.proofs.Common.{rules, sym, subst, ap, ◌∙◌, arith, inl, inr}
 use Rattle.std.proofs.lemmas.List.{length-append}
+use Rattle.std.proofs.lemmas.Option.{slice_get_read}
 use Rattle.std.proofs.lemmas.Bool.Decides.{nat_tests}
 use Rattle.sat_apart.specs.declared.walk.Apart.{Apart}
 use Rattle.sat_apart.specs.Lists.{under, Rising, member_at, IsApart, SameUpTo, members_apart, right_apart, left_apart, ends_apart}
@@ -26,6 +27,15 @@ is-lt n m e = grind (arith, nat_tests)
 
 is-same : (n m : ℕ) → nat_lt n m ≡ false → nat_lt m n ≡ false → n ≡ m
 is-same n m e f = grind (arith, nat_tests)
+
+one-more : (k : ℕ) → suc k ≡ k + 1
+one-more k = omega arith
+
+less-upto : (k n m : ℕ) → k < n → n ≤ m → k < m
+less-upto k n m l e = omega arith
+
+both-upto : (n a b : ℕ) → n ≡ min a b → (n ≤ a) × (n ≤ b)
+both-upto n a b e = (omega arith, omega arith)
 
 too-long : (n a b : ℕ) → n ≡ min (n + suc a) (n + suc b) → ⊥
 too-long n a b e = omega arith
@@ -215,3 +225,32 @@ module _ {X : Type 0} (number : X → ℕ) where
   same-more (suc k) [] ys x y s a b e = absurd s
   same-more (suc k) (p ∷ xs) [] x y s a b e = absurd s
   same-more (suc k) (p ∷ xs) (q ∷ ys) x y s a b e = (s.0, same-more k xs ys x y s.1 a b e)
+
+  -- ---- as the code meets it
+
+  read-at : (xs : List X) (k n : ℕ) (x : X) → k < n → n ≤ length xs → x ≡ slice_index_or xs k x → slice_get xs k ≡ Some x
+  read-at xs k n x l m e = slice_get_read xs (length xs) k x refl (less-upto k n (length xs) l m) e
+
+  pub apart-here : (xs ys : List X) (k n : ℕ) (x y p q : X) (b : Bool) (a : Apart) → Rising number xs → Rising number ys → SameUpTo k xs ys → n ≡ min (length xs) (length ys) → k < n →
+      x ≡ slice_index_or xs k x → y ≡ slice_index_or ys k y → p ≡ slice_index_or xs k p → q ≡ slice_index_or ys k q → b ≡ false → (x ≡ y → b ≡ true) → a ≡ members_apart (number p) (number q) k → Finds xs ys (Some a)
+  apart-here xs ys k n x y p q b a r s same len l e f g h differs alike is =
+      let upto : (n ≤ length xs) × (n ≤ length ys) = both-upto n (length xs) (length ys) len in
+      let px : p ≡ x = some-is p x (sym (read-at xs k n p l upto.0 g) ∙ read-at xs k n x l upto.0 e) in
+      let qy : q ≡ y = some-is q y (sym (read-at ys k n q l upto.1 h) ∙ read-at ys k n y l upto.1 f) in
+      subst (IsApart number xs ys) (sym is) (apart-at xs ys k p q r s same (read-at xs k n p l upto.0 g) (read-at ys k n q l upto.1 h) (λ w. absurd (never b differs (alike (sym px ∙ (w ∙ qy))))))
+    where
+      never : (b : Bool) → b ≡ false → b ≡ true → ⊥
+      never true e f = cc
+      never false e f = cc
+
+  pub same-here : (xs ys : List X) (k n : ℕ) (x y : X) (b : Bool) → SameUpTo k xs ys → n ≡ min (length xs) (length ys) → k < n → x ≡ slice_index_or xs k x → y ≡ slice_index_or ys k y → b ≡ true → (b ≡ true → x ≡ y) → SameUpTo (k + 1) xs ys
+  same-here xs ys k n x y b same len l e f holds is =
+      let upto : (n ≤ length xs) × (n ≤ length ys) = both-upto n (length xs) (length ys) len in
+      subst (λ (m : ℕ). SameUpTo m xs ys) (one-more k) (same-more k xs ys x y same (read-at xs k n x l upto.0 e) (read-at ys k n y l upto.1 f) (is holds))
+
+  pub ends-here : (xs ys : List X) (k n : ℕ) (o : Option Apart) → Rising number xs → Rising number ys → SameUpTo k xs ys → n ≡ min (length xs) (length ys) → k ≡ n → o ≡ ends_apart number xs ys n → Finds xs ys o
+  ends-here xs ys k n o r s same len at is = subst (Finds xs ys) (sym is) (ends-at xs ys n r s (subst (λ (k : ℕ). SameUpTo k xs ys) at same) len)
+
+  pub finds-some : (xs ys : List X) (o : Option Apart) → Finds xs ys o → IfSome o (λ a. IsApart number xs ys a)
+  finds-some xs ys None w = search rules
+  finds-some xs ys (Some a) w = search rules

@@ -1,6 +1,8 @@
 //! A walk of two lists from the front.
-ghost use Rattle.std.specs.Prelude.{ℕ, ◌≡◌, ◌↔◌, None, IfSome};
+ghost use Rattle.std.specs.Prelude.{ℕ, ◌≡◌, ◌↔◌, None, IfSome, length, min};
 ghost use Rattle.sat_apart.specs.Lists.{IsApart, Rising, ends_apart, members_apart, under};
+
+use std::cmp::min;
 
 /// A value that stands under a number.
 pub trait Numbered {
@@ -24,6 +26,13 @@ pub struct Apart {
     pub number: u64,
     pub left: Option<usize>,
     pub right: Option<usize>,
+}
+
+// How many members the shorter list has.
+fn shorter<T: Numbered>(left: &[T], right: &[T]) -> usize
+    ensures { result ≡ min (length left.now) (length right.now) }
+{
+    min(left.len(), right.len())
 }
 
 // Of two members at this place that are not the same, the one of the lesser number, or both.
@@ -81,7 +90,7 @@ pub fn first_apart<T: Numbered>(left: &[T], right: &[T]) -> Option<Apart>
     ensures apart { IfSome result (λ a. IsApart T.place left.now right.now a) }
     ensures numbers { (left.now ≡ right.now) ↔ ((n : ℕ) → under T.place n left.now ≡ under T.place n right.now) }
 {
-    let shared = left.len().min(right.len());
+    let shared = shorter(left, right);
     for place in 0..shared {
         if !left[place].is_same(&right[place]) {
             return Some(at_members(&left[place], &right[place], place));

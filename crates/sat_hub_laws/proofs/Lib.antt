@@ -3,3 +3,4 @@ pub mod Lines
 pub mod Parts
 pub mod Joined
 pub mod Replayed
+pub mod Changes

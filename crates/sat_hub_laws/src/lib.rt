@@ -1,6 +1,7 @@
 //! A site is its hub and its gears.
 #![tactic(auto)]
 
+ghost use Rattle.sat_hub_laws.specs.Changes.{GearsChange, HubsChange};
 ghost use Rattle.sat_hub_laws.specs.Laws.{GearsAnswer, GearsAreHomes, GearsReplay, HubsAnswer, HubsAreHomes, HubsReplay, JournalsAreRuns, JournalsJoin, SitesAreReplayed};
 ghost use Rattle.sat_hub_laws.specs.Parts.{PartsHaveHomes, PartsJoin, PartsRise};
 ghost use Rattle.sat_hub_laws.specs.Sites.{GearsActAlone, GearsWrite, HubsActAlone, HubsGather, HubsShow};
@@ -15,6 +16,12 @@ pub fn site_acts()
     ensures shows { HubsShow }
     ensures gears { GearsActAlone }
     ensures writes { GearsWrite }
+{}
+
+/// What each act makes of a hub and of a gear: which part of it changes, and how.
+pub fn node_changes()
+    ensures hubs { HubsChange }
+    ensures gears { GearsChange }
 {}
 
 /// Machines of hubs and gears do acts of the table of nodes: each is the home of its own acts, whose answers are the
