@@ -16,6 +16,7 @@ use Rattle.sat_act.specs.Answers.{InRange}
 use Rattle.sat_bulk.specs.Payloads.{Payload}
 use Rattle.sat_machine.specs.Fits.{fits, is_carried, is_gear, is_group as is_items, is_item, is_other, is_site, is_time}
 use Rattle.sat_stitch.specs.Nodes.{stands}
+use Rattle.sat_stitch.specs.Places.{Session}
 use Rattle.sat_joint.specs.Pieces.{Piece, Rises, EachOf, given_of, number_of}
 use Rattle.sat_joint.specs.Table.{Node, AtHub, AtGear, AtSerial, Alone, home_at, is_first, nodes}
 use Rattle.sat_joint.specs.Machines.{HubState, GearNode, IsGearAnswer, IsHubAnswer, IsHomeAnswer, gear_after, hub_after}
@@ -159,7 +160,7 @@ module _ (d : Deployed) (hubs : ℕ → List HubLine) (gears : ℕ → ℕ → L
   abbrev lists : Node → List Piece
   lists = node_lists hubs gears others
 
-  module _ (sessions : _) (fit : JournalsFit d hubs gears others sessions) where
+  module _ (sessions : Session → List Piece) (fit : JournalsFit d hubs gears others sessions) where
     rising-all : (p : Node) → Rises number_of (lists p)
     rising-all (AtHub i) = hub-rises i (hubs i) (fit.of_hubs i).rising
     rising-all (AtGear i g) = gear-rises i g (gears i g) (fit.of_gears i g).rising

@@ -4,3 +4,4 @@ pub mod Parts
 pub mod Joined
 pub mod Replayed
 pub mod Changes
+pub mod Exact

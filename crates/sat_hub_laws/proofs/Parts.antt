@@ -99,7 +99,7 @@ same-home None = refl
 same-home (Some g) = same-number g
 
 -- the home of an act that has a part at a gear of site i is among those that are compared
-shared-node : (d : Deployed) (a : Act) (i : ℕ) → (o : Option ℕ) × (home_by d a i ≡ home_node i o)
+pub shared-node : (d : Deployed) (a : Act) (i : ℕ) → (o : Option ℕ) × (home_by d a i ≡ home_node i o)
 shared-node d (act.Writes c items values) i = (Some _, refl)
 shared-node d _ i = (None, refl)
 

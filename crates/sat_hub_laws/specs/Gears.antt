@@ -86,7 +86,7 @@ gear_fits d g (given.Move seen j) = is_carried d seen && (is_site d j && (0 == g
 gear_fits d g (given.Drain f labels stable) = true
 gear_fits d g (given.Show by p) = is_shown d by p p.label.kind
 
--- what it gives to a gather is its own
+-- what a gear gives to a gather is its own
 abbrev pub GivesOwn : GearNode → GearInput → Type 0
 GivesOwn n (given.Drain f labels stable) = f ≡ drain_of n
 GivesOwn n _ = Unit {0}
@@ -115,7 +115,7 @@ gear_act i g c (given.Move seen j) = act.Move c j
 gear_act i g c (given.Drain f labels stable) = act.Gather i
 gear_act i g c (given.Show by p) = shown_act i c by p
 
--- and what was handed to it. A client that writes, reads or moves has its seat at the site
+-- what was handed to a gear with an input. A client that writes, reads or moves has its seat at the site
 abbrev pub gear_handed : ℕ → GearInput → Handed
 gear_handed i (given.Tick ts) = Plain Nothing
 gear_handed i (given.Write seen items values) = Plain (OfClient seen (Some i))

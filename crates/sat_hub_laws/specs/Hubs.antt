@@ -116,7 +116,7 @@ hub_act i c given.Close = act.Close i
 hub_act i c given.Fall = act.Fall i
 hub_act i c given.Advance = act.Advance i
 
--- and what was handed to it. A client that attaches has no seat
+-- what was handed to a hub with an input. A client that attaches has no seat
 abbrev pub hub_handed : HubInput → Handed
 hub_handed (given.Attach seen) = Plain (OfClient seen None)
 hub_handed (given.Gather f) = Drains f

@@ -18,7 +18,7 @@ pub record HubLine : Type 0 where
   pub input : HubInput
   pub answer : Answer
 
--- and of a gear's
+-- a line of a gear's journal, in the same way
 pub record GearLine : Type 0 where
   pub number : ℕ
   pub client : ℕ
@@ -76,7 +76,8 @@ pub record IsHubLine (d : Deployed) (i : ℕ) (h : HubState) (k : HubLine) : Typ
   pub answer : k.answer ≡ hub_answer d i h k.input
   pub standing : stands k.answer ≡ true
 
--- and of gear g of site i
+-- a line of the journal of gear g of site i, in this state of it: the input fits, what it gives to a gather is its own,
+-- and the answer is the machine's
 pub record IsGearLine (d : Deployed) (i g : ℕ) (n : GearNode) (k : GearLine) : Type 0 where
   pub site : i < d.sites
   pub gear : g < d.gears

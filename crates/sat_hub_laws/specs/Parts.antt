@@ -7,10 +7,11 @@ use Rattle.sat_act.specs.declared.act.Act.{Act}
 use Rattle.sat_act.specs.declared.answer.Answer.{Answer}
 use Rattle.sat_act.specs.declared.answer.Answer.TheVariants as ans
 use Rattle.sat_act.specs.Deployed.{Deployed}
+use Rattle.sat_stitch.specs.Places.{Session}
 use Rattle.sat_joint.specs.Pieces.{Piece, Rises, EachOf, number_of}
 use Rattle.sat_joint.specs.Table.{Node, AtHub, AtGear, stands_in, home_at}
 use Rattle.sat_joint.specs.Machines.{gear_after}
-use Rattle.sat_joint.specs.Joint.{AllJoin, AnswersAtHome, HasHome}
+use Rattle.sat_joint.specs.Joint.{AllJoin, AnswersAtHome, HasHome, JointFit}
 use Rattle.sat_joint.specs.Compare.{Share, gear_share, home_share}
 
 -- a part: the act's number, the act, its answer, and what passed between its home and a gear
@@ -58,15 +59,15 @@ is_given d i g o k = home_at d (home_node i o) k && (stands_in d (AtGear i g) k 
 abbrev pub is_kept : Deployed → ℕ → ℕ → Option ℕ → Piece → Bool
 is_kept d i g o k = not (home_at d (AtGear i g) k) && same_home (written_at k.answer) o
 
--- the parts of gear g of site i in what a home there kept
+-- the parts of gear g of site i, in acts of this home there, in what the home kept
 abbrev pub given_parts : Deployed → ℕ → ℕ → Option ℕ → List Piece → List Part
 given_parts d i g o ks = parts_by (is_given d i g o) (λ before k. home_share d (home_node i o) before g k) ks
 
--- and in what the gear kept
+-- the parts of gear g of site i, in acts of this home, in what the gear kept
 abbrev pub kept_parts : Deployed → ℕ → ℕ → Option ℕ → List Piece → List Part
 kept_parts d i g o ks = parts_by (is_kept d i g o) (λ before k. gear_share (gear_after d g before) k.handed) ks
 
--- for each gear and each home at its site the two are one
+-- for each gear and each home at its site, what the home kept of the gear and what the gear kept are the same parts
 abbrev pub PartsAgree : Deployed → (Node → List Piece) → Type 0
 PartsAgree d lists =
     (i g : ℕ) (o : Option ℕ) →
@@ -83,6 +84,12 @@ abbrev pub PartsHaveHomes : Type 0
 PartsHaveHomes =
     (d : Deployed) (lists : Node → List Piece) → PartsAgree d lists → (i g : ℕ) (k : Piece) →
     In (lists (AtGear i g)) k → (home_at d (AtGear i g) k ≡ true) ⊎ HasHome d lists (AtGear i g) k
+
+-- and lists that fit have parts that agree, so comparing these refuses nothing that fits
+abbrev pub PartsAreExact : Type 0
+PartsAreExact =
+    (d : Deployed) (lists : Node → List Piece) (sessions : Session → List Piece) → JointFit d lists sessions →
+    PartsAgree d lists
 
 -- the numbers of parts rise where those of the list do
 abbrev pub PartsRise : Type 0

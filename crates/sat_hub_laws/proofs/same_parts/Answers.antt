@@ -1,3 +1,4 @@
+use Rattle.sat_hub_laws.proofs.Exact.{parts-are-exact}
 use Rattle.sat_hub_laws.proofs.Parts.{parts-have-homes, parts-join, parts-rise}
 use Rattle.sat_hub_laws.proofs.same_parts.Goals as goal
 
@@ -5,5 +6,6 @@ pub returns : goal.returns
 returns c = record {
   joined = parts-join;
   homes = parts-have-homes;
+  exact = parts-are-exact;
   rising = parts-rise;
 }
