@@ -1,11 +1,11 @@
 -- Where two lists whose numbers rise are not the same.
-use Rattle.std.specs.Prelude.{◌≡◌, ◌≢◌, ◌⊎◌, ◌<◌, ◌≤◌, ◌↔◌, IfSome, ◌+◌, ℕ, zero, suc, Bool, true, false, nat_lt, ◌==◌, List, [], ◌∷◌, ◌++◌, length, Option, Some, None, slice_get, slice_index_or, min, if◌then◌else◌, refl}
-use Rattle.std.proofs.Common.{rules, sym, subst, ap, ◌∙◌, arith, inl, inr}
+use Rattle.std.specs.Prelude.{◌≡◌, ◌<◌, ◌≤◌, ◌↔◌, IfSome, ◌+◌, ℕ, zero, suc, Bool, true, false, nat_lt, ◌==◌, List, [], ◌∷◌, ◌++◌, length, Option, Some, None, slice_get, slice_index_or, min, if◌then◌else◌, refl}
+use Rattle.std.proofs.Common.{rules, sym, subst, ap, ◌∙◌, arith}
 use Rattle.std.proofs.lemmas.List.{length-append}
 use Rattle.std.proofs.lemmas.Option.{slice_get_read}
 use Rattle.std.proofs.lemmas.Bool.Decides.{nat_tests}
 use Rattle.sat_apart.specs.declared.walk.Apart.{Apart}
-use Rattle.sat_apart.specs.Lists.{under, Rising, member_at, IsApart, SameUpTo, members_apart, right_apart, left_apart, ends_apart}
+use Rattle.sat_apart.specs.Lists.{under, Rising, IsApart, SameUpTo, members_apart, left_apart, ends_apart}
 
 not-above : (n m : ℕ) → m < n → (n == m) ≡ false
 not-above n m l = grind (arith, nat_tests)

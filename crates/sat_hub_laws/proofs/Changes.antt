@@ -1,5 +1,5 @@
 -- What acts make of hubs and gears, each by computation.
-use Rattle.std.specs.Prelude.{◌≡◌, ℕ, Bool, true, false, ◌&&◌, ◌==◌, List, [], ◌∷◌, ◌++◌, Option, if◌then◌else◌, refl}
+use Rattle.std.specs.Prelude.{◌≡◌, ℕ, Bool, true, ◌&&◌, List, [], ◌∷◌, ◌++◌, if◌then◌else◌, refl}
 use Rattle.std.proofs.Common.{ap}
 use Rattle.sat_label.proofs.Truth.{same-number}
 use Rattle.sat_label.specs.declared.label.Label.{Label}
@@ -13,7 +13,7 @@ use Rattle.sat_hub_laws.specs.Inputs.{GearInput, HubInput}
 use Rattle.sat_hub_laws.specs.Inputs as given
 use Rattle.sat_hub_laws.specs.Hubs.{hub_then}
 use Rattle.sat_hub_laws.specs.Gears.{gear_then}
-use Rattle.sat_hub_laws.specs.Changes.{GearChanges, GearsChange, HubChanges, HubsChange, input_is_own}
+use Rattle.sat_hub_laws.specs.Changes.{GearsChange, HubsChange, input_is_own}
 
 hub-refused : (d : Deployed) (i : ℕ) (h : HubState) (input : HubInput) (f : Refusal) → hub_then d i h input (ans.Refused f) ≡ h
 hub-refused d i h (given.Gather w) f = refl

@@ -1,8 +1,7 @@
 -- Lists that fit have parts that agree: comparing the parts refuses nothing that fits.
-use Rattle.std.specs.Prelude.{◌≡◌, ◌⊎◌, ◌<◌, ℕ, Bool, true, false, ◌&&◌, ◌||◌, not, ◌==◌, List, [], ◌∷◌, ◌++◌, Option, Some, None, refl}
+use Rattle.std.specs.Prelude.{◌≡◌, ◌⊎◌, ℕ, Bool, true, false, ◌&&◌, ◌||◌, not, ◌==◌, List, [], ◌∷◌, ◌++◌, Option, Some, None, refl}
 use Rattle.std.proofs.Common.{sym, subst, ap, ◌∙◌, inl, inr}
 use Rattle.std.proofs.lemmas.Bool.{and_from, and_parts, eqb-true}
-use Rattle.sat_label.proofs.Truth.{same-number}
 use Rattle.sat_label.specs.Members.{In}
 use Rattle.sat_label.specs.Words.{has}
 use Rattle.sat_label.specs.declared.carried.Carried.{Carried}
@@ -22,13 +21,13 @@ use Rattle.sat_stitch.specs.Nodes.{input_of}
 use Rattle.sat_stitch.specs.Places.{Session}
 use Rattle.sat_joint.specs.Pieces.{Piece, Handed, Plain, Drains, Drained, Showing, EachOf, Rises, given_of, number_of}
 use Rattle.sat_joint.specs.Table.{Node, AtHub, AtGear, home_at, is_first, is_shared, nodes, same_node, stands_in}
-use Rattle.sat_joint.specs.Machines.{HubState, GearNode, IsGearAnswer, IsHomeAnswer, IsHubAnswer, drain_of, gear_after, gear_alone, gathers, hub_after, shown_by, written_by}
+use Rattle.sat_joint.specs.Machines.{HubState, GearNode, IsGearAnswer, IsHomeAnswer, IsHubAnswer, gear_after, gear_alone, hub_after, shown_by, written_by}
 use Rattle.sat_joint.specs.Joint.{AllJoin, AnswersAtHome, AreOne, HandsOver, Hands, HasHome, IsJoined, JointFit, Passes}
 use Rattle.sat_joint.specs.Compare.{Gave, Got, Share, gear_share, home_gear_share, home_share, hub_share}
 use Rattle.sat_joint.proofs.Nodes.{IsBeside, beside, home-one, home_by, shared-home}
 use Rattle.sat_joint.proofs.Pieces.{each-of, rises-one, same-lists, split-one}
 use Rattle.sat_joint.proofs.Sites.{IsWritten, wrote-is, written-is}
-use Rattle.sat_hub_laws.specs.Parts.{Part, PartsAgree, PartsAreExact, given_parts, home_node, is_given, is_kept, kept_parts, part_number, part_of, parts_by, same_home, written_at}
+use Rattle.sat_hub_laws.specs.Parts.{Part, PartsAgree, PartsAreExact, given_parts, home_node, is_given, is_kept, kept_parts, part_number, part_of, same_home, written_at}
 use Rattle.sat_hub_laws.proofs.Parts.{ComesFrom, Stands, from-parts, in-parts, in-stands, rise, shared-node}
 
 -- ---- what a gear was handed where its part is not its home's

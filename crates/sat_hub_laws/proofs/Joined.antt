@@ -1,5 +1,5 @@
 -- Journals of hubs and gears that fit are lists of pieces of acts that fit.
-use Rattle.std.specs.Prelude.{◌≡◌, ◌⊎◌, ◌<◌, ◌≤◌, ℕ, Bool, true, false, ◌&&◌, ◌==◌, nat_le, nat_lt, not, List, [], ◌∷◌, ◌++◌, filter, length, Option, Some, None, refl}
+use Rattle.std.specs.Prelude.{◌≡◌, ◌⊎◌, ◌<◌, ◌≤◌, ℕ, Bool, true, false, ◌&&◌, ◌==◌, nat_le, nat_lt, not, List, [], ◌∷◌, length, refl}
 use Rattle.std.proofs.Common.{sym, subst, ap, ◌∙◌, arith, inl, inr}
 use Rattle.std.proofs.lemmas.Bool.{and_parts, eqb-true}
 use Rattle.std.proofs.lemmas.Bool.Decides.{nat_tests}
@@ -14,20 +14,19 @@ use Rattle.sat_act.specs.declared.answer.Answer.{Answer}
 use Rattle.sat_act.specs.Deployed.{Deployed}
 use Rattle.sat_act.specs.Answers.{InRange}
 use Rattle.sat_bulk.specs.Payloads.{Payload}
-use Rattle.sat_machine.specs.Fits.{fits, is_carried, is_gear, is_group as is_items, is_item, is_other, is_site, is_time}
+use Rattle.sat_machine.specs.Fits.{fits, is_carried, is_gear, is_group as is_items, is_other, is_site}
 use Rattle.sat_stitch.specs.Nodes.{stands}
 use Rattle.sat_stitch.specs.Places.{Session}
-use Rattle.sat_joint.specs.Pieces.{Piece, Rises, EachOf, given_of, number_of}
-use Rattle.sat_joint.specs.Table.{Node, AtHub, AtGear, AtSerial, Alone, home_at, is_first, nodes}
-use Rattle.sat_joint.specs.Machines.{HubState, GearNode, IsGearAnswer, IsHubAnswer, IsHomeAnswer, gear_after, hub_after}
-use Rattle.sat_joint.specs.Joint.{AllJoin, AnswersAtHome, HasHome, JointFit}
+use Rattle.sat_joint.specs.Pieces.{Piece, Rises, EachOf, number_of}
+use Rattle.sat_joint.specs.Table.{Node, AtHub, AtGear, AtSerial, Alone, home_at}
+use Rattle.sat_joint.specs.Machines.{HubState, GearNode, IsGearAnswer, IsHubAnswer, gear_after, hub_after}
+use Rattle.sat_joint.specs.Joint.{AnswersAtHome, HasHome, JointFit}
 use Rattle.sat_hub_laws.specs.Inputs.{HubInput, GearInput, ShownBy, ByTurn, ByStamp, ByWrite}
 use Rattle.sat_hub_laws.specs.Inputs as given
 use Rattle.sat_hub_laws.specs.Hubs.{hub_act, hub_answer, hub_fits, hub_handed}
 use Rattle.sat_hub_laws.specs.Gears.{gear_act, gear_answer, gear_fits, gear_handed, is_own, is_shown, is_write, values_of, write_act, written_act}
-use Rattle.sat_hub_laws.specs.Lines.{HubLine, GearLine, GearLineAt, HubLineAt, IsGearLine, IsHubLine, IsHubJournal, IsGearJournal, gear_number, gear_piece, gear_pieces, gear_replay, hub_number, hub_piece, hub_pieces, hub_replay, node_lists}
-use Rattle.sat_hub_laws.specs.Laws.{IsOtherList, JournalsFit, JournalsJoin}
-use Rattle.sat_hub_laws.specs.Parts.{PartsAgree}
+use Rattle.sat_hub_laws.specs.Lines.{HubLine, GearLine, GearLineAt, HubLineAt, gear_number, gear_piece, gear_pieces, hub_number, hub_piece, hub_pieces, hub_replay, node_lists}
+use Rattle.sat_hub_laws.specs.Laws.{JournalsFit, JournalsJoin}
 use Rattle.sat_hub_laws.proofs.Lines.{gears-answer, gears-are-homes, gears-replay, hubs-answer, hubs-are-homes, hubs-replay}
 use Rattle.sat_hub_laws.proofs.Parts.{parts-have-homes, parts-join}
 

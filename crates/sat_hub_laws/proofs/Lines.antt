@@ -1,6 +1,6 @@
 -- Acts of hubs and gears by the table of nodes, their answers, and their states by pieces of acts.
-use Rattle.std.specs.Prelude.{◌≡◌, ℕ, Bool, true, false, ◌&&◌, ◌==◌, List, [], ◌∷◌, Option, Some, None, refl}
-use Rattle.std.proofs.Common.{sym, subst, ap, ◌∙◌}
+use Rattle.std.specs.Prelude.{◌≡◌, ℕ, Bool, false, ◌&&◌, ◌==◌, List, [], ◌∷◌, Option, Some, refl}
+use Rattle.std.proofs.Common.{sym, ap, ◌∙◌}
 use Rattle.sat_label.proofs.Truth.{same-number}
 use Rattle.sat_label.specs.declared.carried.Carried.{Carried}
 use Rattle.sat_label.specs.declared.items.Items.{Items}
@@ -12,19 +12,19 @@ use Rattle.sat_act.specs.Deployed.{Deployed}
 use Rattle.sat_act.specs.Answers.{gear_of}
 use Rattle.sat_machine.specs.Input.{SiteInput}
 use Rattle.sat_machine.specs.Input as site
-use Rattle.sat_machine.specs.Reply.{gear_for, site_answer, read_by}
+use Rattle.sat_machine.specs.Reply.{gear_for, site_answer}
 use Rattle.sat_machine.specs.State.{SiteState}
 use Rattle.sat_stitch.specs.Kept.{Nothing, OfClient}
 use Rattle.sat_stitch.specs.Nodes.{input_of}
-use Rattle.sat_joint.specs.Pieces.{Drain, given_of}
-use Rattle.sat_joint.specs.Table.{AtHub, AtGear, is_first, nodes}
-use Rattle.sat_joint.specs.Machines.{HubState, GearNode, IsGearAnswer, IsHubAnswer, fresh_hub, gear_after, gear_alone, gear_by, gear_by_input, gathers, hub_after, hub_by}
+use Rattle.sat_joint.specs.Pieces.{Drain}
+use Rattle.sat_joint.specs.Table.{AtGear, is_first, nodes}
+use Rattle.sat_joint.specs.Machines.{HubState, GearNode, IsGearAnswer, fresh_hub, gear_after, gear_alone, gear_by, gear_by_input, gathers, hub_after, hub_by}
 use Rattle.sat_joint.proofs.Sites.{kept-answer}
 use Rattle.sat_hub_laws.specs.Inputs.{HubInput, GearInput, ByTurn, ByStamp, ByWrite}
 use Rattle.sat_hub_laws.specs.Inputs as given
-use Rattle.sat_hub_laws.specs.Hubs.{hub_act, hub_answer, hub_handed, hub_then, site_of_hub}
-use Rattle.sat_hub_laws.specs.Gears.{gear_act, gear_answer, gear_handed, gear_then, is_own, values_of, write_act, written_act}
-use Rattle.sat_hub_laws.specs.Lines.{HubLine, GearLine, gear_pieces, gear_replay, hub_pieces, hub_replay}
+use Rattle.sat_hub_laws.specs.Hubs.{hub_act, hub_answer, hub_handed, hub_then}
+use Rattle.sat_hub_laws.specs.Gears.{gear_act, gear_answer, gear_handed, gear_then, values_of, write_act, written_act}
+use Rattle.sat_hub_laws.specs.Lines.{gear_pieces, gear_replay, hub_pieces, hub_replay}
 use Rattle.sat_hub_laws.specs.Laws.{GearsAnswer, GearsAreHomes, GearsReplay, HubsAnswer, HubsAreHomes, HubsReplay}
 use Rattle.sat_hub_laws.proofs.Sites.{alone-answers}
 

@@ -1,22 +1,22 @@
 -- Where the parts of gears and homes are one, acts are joined.
-use Rattle.std.specs.Prelude.{◌≡◌, ◌⊎◌, ◌<◌, ℕ, Bool, true, false, ◌&&◌, not, ◌==◌, List, [], ◌∷◌, ◌++◌, Option, Some, None, refl}
-use Rattle.std.proofs.Common.{sym, subst, ap, ◌∙◌, arith, inl, inr}
+use Rattle.std.specs.Prelude.{◌≡◌, ◌⊎◌, ◌<◌, ℕ, Bool, true, false, ◌&&◌, not, List, [], ◌∷◌, ◌++◌, Option, Some, None, refl}
+use Rattle.std.proofs.Common.{sym, subst, ap, ◌∙◌, inl, inr}
 use Rattle.std.proofs.lemmas.Bool.{and_from, and_parts}
 use Rattle.sat_label.proofs.Truth.{same-number}
 use Rattle.sat_label.specs.Members.{In}
 use Rattle.sat_act.specs.declared.act.Act.{Act}
 use Rattle.sat_act.specs.declared.act.Act.TheVariants as act
-use Rattle.sat_act.specs.declared.answer.Answer.{Answer}
 use Rattle.sat_act.specs.Deployed.{Deployed}
 use Rattle.sat_joint.specs.Pieces.{Piece, Rises, EachOf, number_of, given_of}
-use Rattle.sat_joint.specs.Table.{Node, AtHub, AtGear, nodes, stands_in, home_at}
-use Rattle.sat_joint.specs.Machines.{gear_after, IsHomeAnswer}
-use Rattle.sat_joint.specs.Joint.{AreOne, AllJoin, AnswersAtHome, HasHome, IsJoined}
-use Rattle.sat_joint.specs.Compare.{Share, gear_share, home_share, IsSamePart, AllSameParts}
+use Rattle.sat_joint.specs.Table.{Node, AtGear, nodes, stands_in, home_at}
+use Rattle.sat_joint.specs.Machines.{gear_after}
+use Rattle.sat_joint.specs.Joint.{AreOne, AllJoin, AnswersAtHome, HasHome}
+use Rattle.sat_hub_laws.specs.Inputs as given
+use Rattle.sat_joint.specs.Compare.{Gave, Share, gear_share, home_share, IsSamePart, AllSameParts}
 use Rattle.sat_joint.proofs.Compare.{same-parts-join}
 use Rattle.sat_joint.proofs.Nodes.{home_by, IsBeside, beside, shared-home, home-one}
 use Rattle.sat_joint.proofs.Pieces.{join-one, each-of}
-use Rattle.sat_hub_laws.specs.Parts.{Part, part_number, part_of, part_if, parts_by, home_node, written_at, same_home, is_given, is_kept, given_parts, kept_parts, PartsAgree, PartsJoin, PartsHaveHomes, PartsRise}
+use Rattle.sat_hub_laws.specs.Parts.{Part, part_number, part_of, part_if, parts_by, home_node, written_at, same_home, is_given, is_kept, given_parts, kept_parts, PartsAgree, PartsJoin, PartsHaveHomes, PartsRise, InputsShare}
 
 -- ---- parts of a list
 
@@ -154,9 +154,14 @@ module _ (d : Deployed) (lists : Node → List Piece) (agree : PartsAgree d list
       part-parts c.piece k (home_share d (home_node i o) c.before g c.piece) (gear_share (gear_after d g s.before) k.handed) c.part in
       let tests : (home_at d (home_node i o) c.piece ≡ true) × ((stands_in d (AtGear i g) c.piece && not (home_at d (AtGear i g) c.piece)) ≡ true) =
       and_parts (home_at d (home_node i o) c.piece) (stands_in d (AtGear i g) c.piece && not (home_at d (AtGear i g) c.piece)) c.test in
-      let there : In (lists (home_node i o)) c.piece = in-list (lists (home_node i o)) c.piece c.later c.before c.there in
-      (home_node i o, c.piece, there, tests.0, (and_parts (stands_in d (AtGear i g) c.piece) (not (home_at d (AtGear i g) c.piece)) tests.1).0,
-      record { number = sym both.0.number; act = sym both.0.act; answer = sym both.0.answer })
+      let there : In (lists (home_node i o)) c.piece = in-list (lists (home_node i o)) c.piece c.later c.before c.there in (
+        home_node i o,
+        c.piece,
+        there,
+        tests.0,
+        (and_parts (stands_in d (AtGear i g) c.piece) (not (home_at d (AtGear i g) c.piece)) tests.1).0,
+        record { number = sym both.0.number; act = sym both.0.act; answer = sym both.0.answer },
+      )
     where
       right : (later : List Piece) (k : Piece) (before : List Piece) → In (later ++ k ∷ before) k
       right [] k before = inl refl
@@ -174,3 +179,10 @@ parts-have-homes d lists agree i g k w = go (home_at d (AtGear i g) k) refl
     go : (b : Bool) → home_at d (AtGear i g) k ≡ b → (home_at d (AtGear i g) k ≡ true) ⊎ HasHome d lists (AtGear i g) k
     go true e = inl e
     go false e = inr (has-home d lists agree i g k w e)
+
+-- ---- shares of inputs
+
+pub inputs-share : InputsShare
+inputs-share i n (given.Drain f labels stable) own = ap Gave (sym own)
+inputs-share i n (given.Show by p) own = refl
+inputs-share i n _ own = refl

@@ -1,5 +1,5 @@
 -- In the run that journals of hubs and gears are, merged, each site's state is that of its hub and its gears.
-use Rattle.std.specs.Prelude.{◌≡◌, ℕ, List, [], ◌∷◌, ◌++◌, filter, refl}
+use Rattle.std.specs.Prelude.{◌≡◌, ℕ, List, [], ◌∷◌, ◌++◌, refl}
 use Rattle.std.proofs.Common.{sym, ap, ◌∙◌}
 use Rattle.sat_act.specs.Deployed.{Deployed}
 use Rattle.sat_act.specs.Runs.{IsRun}
@@ -7,20 +7,19 @@ use Rattle.sat_act.specs.Goals.{IsValid}
 use Rattle.sat_machine.specs.State.{SiteState}
 use Rattle.sat_machine.specs.Replay.{site_state}
 use Rattle.sat_stitch.specs.Kept.{Kept, history}
-use Rattle.sat_stitch.specs.Places.{Place, AtSite, Session, stands_at}
+use Rattle.sat_stitch.specs.Places.{Place, Session}
 use Rattle.sat_stitch.specs.Fit.{IsMerge, LooseFit}
 use Rattle.sat_stitch.specs.Nodes.{site_after}
 use Rattle.sat_stitch.proofs.Steps.{Stood, stands-on}
-use Rattle.sat_joint.specs.Pieces.{Piece, plains}
-use Rattle.sat_joint.specs.Table.{Node, AtHub, AtGear}
-use Rattle.sat_joint.specs.Machines.{HubState, GearNode, gear_after, hub_after, kept_site, whole}
-use Rattle.sat_joint.specs.Joint.{IsJointMerge, JointFit}
-use Rattle.sat_joint.proofs.Assembly.{assembled, gears_of, hub_of}
-use Rattle.sat_joint.proofs.Copies.{Setting, view, view-list}
+use Rattle.sat_joint.specs.Pieces.{plains}
+use Rattle.sat_joint.specs.Table.{AtHub, AtGear}
+use Rattle.sat_joint.specs.Machines.{gear_after, hub_after, kept_site, whole}
+use Rattle.sat_joint.proofs.Assembly.{assembled}
+use Rattle.sat_joint.proofs.Copies.{Setting, view-list}
 use Rattle.sat_joint.proofs.Fits.{site-fit, site-merge, site_lists, site_sessions}
 use Rattle.sat_joint.proofs.Joined.{joint-runs}
-use Rattle.sat_hub_laws.specs.Lines.{HubLine, GearLine, gear_pieces, gear_replay, hub_pieces, hub_replay, node_lists}
-use Rattle.sat_hub_laws.specs.Laws.{JournalsAreRuns, JournalsFit, SitesAreReplayed}
+use Rattle.sat_hub_laws.specs.Lines.{node_lists}
+use Rattle.sat_hub_laws.specs.Laws.{JournalsAreRuns, SitesAreReplayed}
 use Rattle.sat_hub_laws.proofs.Joined.{journals-join}
 use Rattle.sat_hub_laws.proofs.Lines.{gears-replay, hubs-replay}
 

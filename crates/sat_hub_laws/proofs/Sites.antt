@@ -1,8 +1,7 @@
 -- The acts of hubs and gears are the site's.
-use Rattle.std.specs.Prelude.{◌≡◌, ◌⊎◌, ◌<◌, ◌+◌, ℕ, Bool, true, false, ◌==◌, nat_le, nat_lt, not, max, List, length, Option, Some, None, if◌then◌else◌, refl}
-use Rattle.std.proofs.Common.{sym, subst, ap, ◌∙◌, arith, inl, inr}
+use Rattle.std.specs.Prelude.{◌≡◌, ℕ, Bool, true, false, ◌==◌, max, List, if◌then◌else◌, refl}
+use Rattle.std.proofs.Common.{sym, subst, ap, ◌∙◌, inl, inr}
 use Rattle.std.proofs.lemmas.Bool.{eqb-true}
-use Rattle.std.proofs.lemmas.Bool.Decides.{nat_tests}
 use Rattle.sat_label.proofs.Truth.{same-number}
 use Rattle.sat_label.specs.Grouped.{list_of}
 use Rattle.sat_label.specs.declared.carried.Carried.{Carried}
@@ -22,13 +21,13 @@ use Rattle.sat_machine.specs.Input as site
 use Rattle.sat_machine.specs.Next.{payload_at, site_next}
 use Rattle.sat_machine.specs.Reply.{gear_for, site_answer, site_step, write_by, read_by, move_by}
 use Rattle.sat_joint.specs.Pieces.{Drain}
-use Rattle.sat_joint.specs.Machines.{HubState, GearNode, drain_of, fresh_gear, gear_by_input, gear_drained, gear_shows, gear_step as own_step, hub_alone, hub_next, kept_site, no_drain, of_gears, shown_by, whole}
+use Rattle.sat_joint.specs.Machines.{HubState, GearNode, drain_of, gear_drained, gear_shows, gear_step as own_step, hub_alone, hub_next, kept_site, no_drain, of_gears, shown_by, whole}
 use Rattle.sat_joint.proofs.Sites.{IsGearAct, gear-moves, hub-moves, show-moves, drains-are, gather-moves, gather-answers, refused-act, IsWritten, written-is, group-moves, is_gears, is_hubs, is_show, IsOfHub, hub-answers, hub-local, write-act, reads-act, move-act, ticks-act, kept-answer}
 use Rattle.sat_hub_laws.specs.Inputs.{HubInput, GearInput}
 use Rattle.sat_hub_laws.specs.Inputs as given
 use Rattle.sat_hub_laws.specs.Hubs.{drained_in, hub_answer, hub_then, site_of_hub}
-use Rattle.sat_hub_laws.specs.Gears.{gear_answer, gear_then, is_own, site_of_gear}
-use Rattle.sat_hub_laws.specs.Sites.{IsSiteStep, with_gear, has_part, showing, is_gather, is_shown, is_group, written_gears, HubsActAlone, HubsGather, HubsShow, GearsActAlone, GearsWrite}
+use Rattle.sat_hub_laws.specs.Gears.{gear_answer, gear_then}
+use Rattle.sat_hub_laws.specs.Sites.{IsSiteStep, with_gear, showing, is_gather, is_shown, written_gears, HubsActAlone, HubsGather, HubsShow, GearsActAlone, GearsWrite}
 
 -- the two parts of a step
 step-is : (d : Deployed) (i : ℕ) (h : HubState) (gs : ℕ → GearNode) (input : SiteInput) (r : Answer) (k : HubState) (ns : ℕ → GearNode) → r ≡ site_answer d i (whole d i h gs) input →

@@ -12,7 +12,7 @@ use Rattle.sat_act.specs.declared.answer.Answer.TheVariants as ans
 use Rattle.sat_act.specs.Deployed.{Deployed}
 use Rattle.sat_act.specs.Answers.{gear_of}
 use Rattle.sat_bulk.specs.Payloads.{Payload}
-use Rattle.sat_machine.specs.Fits.{is_site, is_item, is_group, is_gear, is_time, is_carried}
+use Rattle.sat_machine.specs.Fits.{is_site, is_item, is_group, is_time, is_carried}
 use Rattle.sat_machine.specs.Input.{SiteInput}
 use Rattle.sat_machine.specs.Input as site
 use Rattle.sat_machine.specs.Reply.{gear_for, write_by, read_by, move_by}

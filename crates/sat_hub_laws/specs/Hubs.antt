@@ -1,5 +1,5 @@
 -- A hub as a machine: what it answers to what it is handed, what it then is, and what its acts are.
-use Rattle.std.specs.Prelude.{ℕ, ◌+◌, Bool, true, false, ◌||◌, not, ◌==◌, nat_le, length, Option, Some, None, is_some, if◌then◌else◌}
+use Rattle.std.specs.Prelude.{ℕ, ◌+◌, Bool, ◌||◌, not, ◌==◌, nat_le, length, Option, Some, None, is_some, if◌then◌else◌}
 use Rattle.sat_label.specs.declared.limits.TheConstants.{PULSE_GEAR}
 use Rattle.sat_label.specs.declared.label.Kind.TheVariants as kind
 use Rattle.sat_label.specs.Order.{point_at}

@@ -1,5 +1,5 @@
 -- What this crate proves of the journals of hubs and gears.
-use Rattle.std.specs.Prelude.{◌≡◌, ℕ, Bool, true, List, Option, Some}
+use Rattle.std.specs.Prelude.{◌≡◌, ℕ, true, List, Some}
 use Rattle.sat_label.specs.Members.{In}
 use Rattle.sat_label.specs.declared.node.NodeId.{NodeId}
 use Rattle.sat_tree.specs.Shape.{TreeShape}

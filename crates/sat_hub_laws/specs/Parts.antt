@@ -10,9 +10,12 @@ use Rattle.sat_act.specs.Deployed.{Deployed}
 use Rattle.sat_stitch.specs.Places.{Session}
 use Rattle.sat_joint.specs.Pieces.{Piece, Rises, EachOf, number_of}
 use Rattle.sat_joint.specs.Table.{Node, AtHub, AtGear, stands_in, home_at}
-use Rattle.sat_joint.specs.Machines.{gear_after}
+use Rattle.sat_joint.specs.Machines.{GearNode, gear_after}
 use Rattle.sat_joint.specs.Joint.{AllJoin, AnswersAtHome, HasHome, JointFit}
-use Rattle.sat_joint.specs.Compare.{Share, gear_share, home_share}
+use Rattle.sat_joint.specs.Compare.{Gave, Got, NoShare, Share, gear_share, home_share}
+use Rattle.sat_hub_laws.specs.Inputs.{GearInput}
+use Rattle.sat_hub_laws.specs.Inputs as given
+use Rattle.sat_hub_laws.specs.Gears.{GivesOwn, gear_handed}
 
 -- a part: the act's number, the act, its answer, and what passed between its home and a gear
 pub record Part : Type 0 where
@@ -58,6 +61,18 @@ is_given d i g o k = home_at d (home_node i o) k && (stands_in d (AtGear i g) k 
 -- whether what gear g kept is its part of an act of this home
 abbrev pub is_kept : Deployed → ℕ → ℕ → Option ℕ → Piece → Bool
 is_kept d i g o k = not (home_at d (AtGear i g) k) && same_home (written_at k.answer) o
+
+-- what passed between a gear and the home of another node's act, as the gear's input tells without the gear's state
+abbrev pub input_share : GearInput → Share
+input_share (given.Drain f labels stable) = Gave f
+input_share (given.Show by p) = Got p
+input_share _ = NoShare
+
+-- of an input whose drain is the gear's own that is what the gear kept of the act
+abbrev pub InputsShare : Type 0
+InputsShare =
+    (i : ℕ) (n : GearNode) (input : GearInput) → GivesOwn n input →
+    gear_share n (gear_handed i input) ≡ input_share input
 
 -- the parts of gear g of site i, in acts of this home there, in what the home kept
 abbrev pub given_parts : Deployed → ℕ → ℕ → Option ℕ → List Piece → List Part

@@ -1,6 +1,6 @@
 -- A site is its hub and its gears: what the nodes of an act answer and become, handed what they give one another, is
 -- what the site answers and becomes.
-use Rattle.std.specs.Prelude.{◌≡◌, ◌<◌, ℕ, Bool, true, false, ◌==◌, nat_lt, List, Option, Some, if◌then◌else◌}
+use Rattle.std.specs.Prelude.{◌≡◌, ◌<◌, ℕ, Bool, true, false, ◌==◌, nat_lt, List, Some, if◌then◌else◌}
 use Rattle.sat_label.specs.Grouped.{list_of}
 use Rattle.sat_label.specs.Words.{has}
 use Rattle.sat_label.specs.declared.carried.Carried.{Carried}

@@ -3,7 +3,7 @@
 
 ghost use Rattle.sat_hub_laws.specs.Changes.{GearsChange, HubsChange};
 ghost use Rattle.sat_hub_laws.specs.Laws.{GearsAnswer, GearsAreHomes, GearsReplay, HubsAnswer, HubsAreHomes, HubsReplay, JournalsAreRuns, JournalsJoin, SitesAreReplayed};
-ghost use Rattle.sat_hub_laws.specs.Parts.{PartsAreExact, PartsHaveHomes, PartsJoin, PartsRise};
+ghost use Rattle.sat_hub_laws.specs.Parts.{InputsShare, PartsAreExact, PartsHaveHomes, PartsJoin, PartsRise};
 ghost use Rattle.sat_hub_laws.specs.Sites.{GearsActAlone, GearsWrite, HubsActAlone, HubsGather, HubsShow};
 
 /// What the hub and the gears of a site answer and become in an act, handed what they give one another, is what the site
@@ -41,10 +41,11 @@ pub fn node_journals()
 
 /// Where for each gear and each home at its site the parts that both kept of their acts are one list, each act of
 /// several nodes stands at all of them, and each part has its home. Of lists that fit they are one list. The numbers of
-/// parts rise.
+/// parts rise. What a gear kept of an act stands in what it was handed.
 pub fn same_parts()
     ensures joined { PartsJoin }
     ensures homes { PartsHaveHomes }
     ensures exact { PartsAreExact }
     ensures rising { PartsRise }
+    ensures shares { InputsShare }
 {}

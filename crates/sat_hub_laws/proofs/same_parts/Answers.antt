@@ -1,5 +1,5 @@
 use Rattle.sat_hub_laws.proofs.Exact.{parts-are-exact}
-use Rattle.sat_hub_laws.proofs.Parts.{parts-have-homes, parts-join, parts-rise}
+use Rattle.sat_hub_laws.proofs.Parts.{inputs-share, parts-have-homes, parts-join, parts-rise}
 use Rattle.sat_hub_laws.proofs.same_parts.Goals as goal
 
 pub returns : goal.returns
@@ -8,4 +8,5 @@ returns c = record {
   homes = parts-have-homes;
   exact = parts-are-exact;
   rising = parts-rise;
+  shares = inputs-share;
 }

@@ -1,5 +1,5 @@
 use Rattle.std.proofs.Common.{◌≡◌, Some, arith}
-use Rattle.sat_apart.proofs.Walking.{Finds, apart-here, ends-here, finds-some, none-is, numbers-are, same-here}
+use Rattle.sat_apart.proofs.Walking.{apart-here, ends-here, finds-some, none-is, numbers-are, same-here}
 use Rattle.sat_apart.proofs.walk.first_apart.Goals as goal
 
 pub loop-place-init : goal.loop-place-init
