@@ -1,18 +1,19 @@
 //! Nodes on one thread and on two, with a machine that puts and takes what it is told.
 ghost use Rattle.std.specs.Prelude.{◌≡◌, ◌<◌, [], ◌∷◌, IfOk, Some, None, slice_get, length};
 ghost use Rattle.sat_label.specs.declared.node.NodeName.TheVariants.{Site};
+ghost use Rattle.sat_node.specs.declared.joint.Part.{Part as PartOf};
 
 use sat_beat::Beat;
 use sat_bulk::Payload;
 use sat_label::{Counts, Kind, Label, NodeName, Point, Points, Value};
 use sat_link::{LinkIn, LinkOut, link};
 use sat_node::{
-    Body, CallFault, Envelope, Held, In, Machine, Made, Names, Node, Out, agree_all, agree_two,
-    agree_within,
+    Body, CallFault, Envelope, Held, In, Locked, Machine, Made, Names, Node, Out, Part, agree_all,
+    agree_two, agree_within, take_all, take_both,
 };
 use std::alloc::{AllocError, Global};
 use std::marker::Brand;
-use std::sync::{Mutex, Wait};
+use std::sync::{Mutex, MutexGuard, Wait};
 use std::test::*;
 use std::thread;
 use std::thread::Threads;
@@ -467,6 +468,95 @@ fn worn(rt: HostRuntime) -> Result<(), Fail> {
         (1, last),
         (0, 0),
     ];
+    assert_eq!(rt; found.as_slice(), rows.as_slice());
+    Ok(())
+}
+
+// Neither puts nor takes.
+fn idle() -> Part<Errand>
+    ensures { (result.copy ≡ result.input) × (result.input.take ≡ None) }
+{
+    Part {
+        input: Errand {
+            put: None,
+            take: None,
+        },
+        copy: Errand {
+            put: None,
+            take: None,
+        },
+    }
+}
+
+// A node's lock, taken.
+fn locked<'a, N: Names>(
+    rt: &impl Wait,
+    alloc: Global,
+    node: &'a Locked<Depot, N>,
+) -> Result<Vec<MutexGuard<'a, Held<Depot, N>>>, AllocError>
+    ensures { IfOk result (λ guards. length guards.items ≡ 1) }
+{
+    let mut guards = Vec::new(alloc);
+    guards.push(node.lock(rt))?;
+    Ok(guards)
+}
+
+// One part, which is idle.
+fn idle_parts(alloc: Global) -> Result<Vec<Part<Errand>>, AllocError>
+    ensures { IfOk result (λ parts. (p : PartOf Errand) × (parts.items ≡ p ∷ []) × (p.copy ≡ p.input)
+        × (p.input.take ≡ None)) }
+{
+    let mut parts = Vec::new(alloc);
+    parts.push(idle())?;
+    Ok(parts)
+}
+
+// An act of a home and of one node under its lock.
+fn listed<N: Names>(
+    rt: &impl Wait,
+    alloc: Global,
+    home: &mut Held<Depot, N>,
+    other: &Locked<Depot, N>,
+    heard: u64,
+) -> Result<u64, CallFault> {
+    let parts = idle_parts(alloc)?;
+    let mut others = locked(rt, alloc, other)?;
+    take_all(home, &mut others, heard, None, idle(), parts)
+}
+
+// Acts of two nodes, and their numbers after each: the second had number 7, then they heard 3 and then 20.
+fn together<N: Names>(
+    rt: &impl Wait,
+    alloc: Global,
+    input: LinkIn<Envelope>,
+    output: LinkOut<Envelope>,
+) -> Result<Vec<u64>, CallFault>
+    requires wires { (input.wire ≡ output.wire) × (N.wires ≡ input.wire ∷ []) }
+    requires fresh { (input.sent ≡ []) × (output.received ≡ []) }
+{
+    let mut found = Vec::new(alloc);
+    let mut home = sender::<N>(alloc, input)?;
+    let mut other = receiver::<N>(alloc, output)?;
+    put(&mut other, 6, None)?;
+    let answer = take_both(&mut home, &mut other, 3, None, idle(), idle())?;
+    note(&mut found, answer)?;
+    note(&mut found, home.node().lamport())?;
+    note(&mut found, other.node().lamport())?;
+    let other = Mutex::new(other);
+    let answer = listed(rt, alloc, &mut home, &other, 20)?;
+    note(&mut found, answer)?;
+    note(&mut found, home.node().lamport())?;
+    note(&mut found, other.into_inner().node().lamport())?;
+    Ok(found)
+}
+
+#[test]
+fn one_number_at_all_nodes(rt: HostRuntime) -> Result<(), Fail> {
+    let (input, output) = link::<Envelope>(rt.alloc(), 3)?;
+    let Ok(found) = together::<Brand>(&rt, rt.alloc(), input, output) else {
+        return Err(Fail::from("no memory"));
+    };
+    let rows = [0, 8, 8, 1, 21, 21];
     assert_eq!(rt; found.as_slice(), rows.as_slice());
     Ok(())
 }

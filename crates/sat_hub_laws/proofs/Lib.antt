@@ -1,0 +1,7 @@
+pub mod Sites
+pub mod Lines
+pub mod Parts
+pub mod Joined
+pub mod Replayed
+pub mod Changes
+pub mod Exact
