@@ -17,10 +17,11 @@ use Rattle.sat_draw.specs.declared.lost.Sending.{Sending}
 use Rattle.sat_draw.specs.Trails.{trail_eq, left_by, comes_from}
 use Rattle.sat_draw.specs.Rows.{spot_of, marks, ways}
 use Rattle.sat_draw.specs.Lost.{is_link, is_settled, takes, after_taking, lost_spot, beside, sending, sending_at, sendings_at, sendings, is_spot, lost_way, cross_for, crosses_by, crosses}
+use Rattle.sat_draw.specs.Rests.{rests}
 use Rattle.sat_draw.specs.Head.{head}
 use Rattle.sat_draw.specs.Drawing.{lines, elements}
 use Rattle.sat_draw.specs.Laws.{ends_way, IsLost, LostAreCrossed}
-use Rattle.sat_draw.proofs.Marks.{IsOfRows, some-is, not-free, head-free, ways-free, marks-free}
+use Rattle.sat_draw.proofs.Marks.{IsOfRows, some-is, not-free, head-free, ways-free, rests-free, marks-free}
 
 -- ---- trails and spots by their numbers
 
@@ -117,7 +118,8 @@ crossed d h t here lost sent = in-flat (cross_for (lost_spot d h)) (sendings d h
 in-drawing : (d : Deployed) (h : List Entry) (x : Element) → In (crosses d h) x → In (elements d h) x
 unfolding elements
 in-drawing d h x within =
-    In-right (head d (length h)) (lines d h ++ marks d h) x (In-left (lines d h) (marks d h) x (In-right (ways d h) (crosses d h) x within))
+    In-right (head d (length h)) (lines d h ++ marks d h) x (In-left (lines d h) (marks d h) x
+    (In-right (ways d h) (crosses d h ++ rests d h) x (In-left (crosses d h) (rests d h) x within)))
 
 each-crossed : (d : Deployed) (h : List Entry) (t : Trail) (here : Spot) → IsLost d h t here → In (elements d h) (Lost t here (beside here))
 each-crossed d h t here is =
@@ -236,9 +238,12 @@ only-lost d h t here to within =
     elim (In-parts (head d (length h)) (lines d h ++ marks d h) (Lost t here to) within) [
       | inl above ↦ absurd (not-free is-lost (head d (length h)) (Lost t here to) (head-free is-lost of-lost d (length h)) refl above)
       | inr rows ↦ elim (In-parts (lines d h) (marks d h) (Lost t here to) rows) [
-        | inl lined ↦ elim (In-parts (ways d h) (crosses d h) (Lost t here to) lined) [
+        | inl lined ↦ elim (In-parts (ways d h) (crosses d h ++ rests d h) (Lost t here to) lined) [
           | inl led ↦ absurd (not-free is-lost (ways d h) (Lost t here to) (ways-free is-lost of-lost (λ i s a b. refl) d h) refl led)
-          | inr crossed ↦ in-crosses d h t here to crossed
+          | inr behind ↦ elim (In-parts (crosses d h) (rests d h) (Lost t here to) behind) [
+            | inl crossed ↦ in-crosses d h t here to crossed
+            | inr stays ↦ absurd (not-free is-lost (rests d h) (Lost t here to) (rests-free is-lost (λ i s a b. refl) d h) refl stays)
+          ]
         ]
         | inr marked ↦ absurd (not-free is-lost (marks d h) (Lost t here to) (marks-free is-lost of-lost (λ i a text. refl) d h) refl marked)
       ]

@@ -3,7 +3,7 @@ use Rattle.std.proofs.Common.{◌≡◌, ℕ, ◌==◌, Bool, true, false, List,
 use Rattle.std.specs.Prelude.{Option, Some, None, unwrap_or, if◌then◌else◌}
 use Rattle.std.specs.Ordering.{nat_cmp}
 use Rattle.std.specs.BTreeMap.{get}
-use Rattle.std.proofs.lemmas.List.{reverse-append, length-reverse}
+use Rattle.std.proofs.lemmas.List.{reverse-append, length-reverse, append_assoc}
 use Rattle.std.proofs.lemmas.List.Concat.{flat_map-append}
 use Rattle.sat_act.specs.declared.act.Act.{Act}
 use Rattle.sat_act.specs.declared.act.Act.TheVariants as act
@@ -22,10 +22,12 @@ use Rattle.sat_draw.specs.declared.tracks.Tracks.{Tracks}
 use Rattle.sat_draw.specs.Columns.{act_column, seat_column, column_x, row_y}
 use Rattle.sat_draw.specs.Elements.{spell, spelled}
 use Rattle.sat_draw.specs.Trails.{left_by, comes_from, reseated, after_change}
-use Rattle.sat_draw.specs.Rows.{spot_at, mark_spot, spot_of, after_leaving, last_spot, arrow, arrows, ways_at, marks_at, ways_of, marks_of, ways, marks, signs}
+use Rattle.sat_draw.specs.Rows.{spot_at, mark_spot, spot_of, after_leaving, last_spot, begin, arrow, arrows, ways_at, marks_at, ways_of, marks_of, ways, marks, signs}
 use Rattle.sat_draw.specs.declared.lost.Sending.{Sending}
 use Rattle.sat_draw.specs.Lost.{is_settled, after_taking, lost_spot, sendings_at, sendings, is_spot, lost_way, cross_for, crosses_by, crosses}
+use Rattle.sat_draw.specs.Rests.{rests_by, rests}
 use Rattle.sat_draw.specs.Tracks.{seat_by, spot_by, Moves, Follows, IsDrawn, HasRows}
+use Rattle.sat_draw.proofs.Staying.{begin-same, rests-same}
 
 -- ---- the same seats and the same trails give the same row
 
@@ -69,7 +71,8 @@ spot-same d h tracks row here entry follows same at = at ∙ mark-same d _ _ row
 ways-same : (d : Deployed) (h : List Entry) (tracks : Tracks) (here : Spot) (entry : Entry) → Follows d h tracks → here ≡ spot_of d h entry → ways_at d (spot_by tracks.spots) here entry ≡ ways_of d h entry
 ways-same d h tracks here entry follows at =
     ap (λ (s : Spot). ways_at d (spot_by tracks.spots) s entry) at
-    ∙ ap (λ (xs : List Element). signs d (spot_of d h entry) entry ++ xs) (arrows-same _ _ follows.spots (spot_of d h entry) (comes_from entry.act entry.answer))
+    ∙ ap (λ (xs : List Element). signs d (spot_of d h entry) entry ++ xs)
+    (arrows-same (begin d (spot_by tracks.spots)) (begin d (last_spot d h)) (begin-same d (spot_by tracks.spots) (last_spot d h) follows.spots) (spot_of d h entry) (comes_from entry.act entry.answer))
 
 marks-same : (d : Deployed) (h : List Entry) (row : ℕ) (here : Spot) (entry : Entry) → row ≡ length h → here ≡ spot_of d h entry → marks_at d row here entry ≡ marks_of d h entry
 marks-same d h row here entry same at =
@@ -268,15 +271,22 @@ unfolding crosses
 crosses-same d h tracks follows =
     cross-same _ (lost_spot d h) follows.under_way tracks.sendings.items ∙ ap (crosses_by (lost_spot d h)) follows.sendings_are
 
-pub rows_done : (d : Deployed) (old mid new lines lines-after words : List ℕ) (tracks : Tracks) (entries : List Entry) (all : List Element)
-    → IsDrawn d lines words tracks entries → all ≡ crosses_by (spot_by tracks.under_way) tracks.sendings.items
-    → lines-after ≡ lines ++ spelled all → mid ≡ old ++ lines-after → new ≡ mid ++ words → HasRows d old new (reverse entries)
-rows_done d old mid new lines lines-after words tracks entries all drawn are added one two =
+pub rows_done : (d : Deployed) (old mid new lines lines-lost lines-after words : List ℕ) (tracks : Tracks) (entries : List Entry) (y : ℕ) (lost stays : List Element)
+    → y ≡ row_y d (length entries) → IsDrawn d lines words tracks entries
+    → lost ≡ crosses_by (spot_by tracks.under_way) tracks.sendings.items → lines-lost ≡ lines ++ spelled lost
+    → stays ≡ rests_by d (seat_by d tracks.seats) (spot_by tracks.spots) (spot_by tracks.under_way) y → lines-after ≡ lines-lost ++ spelled stays
+    → mid ≡ old ++ lines-after → new ≡ mid ++ words → HasRows d old new (reverse entries)
+rows_done d old mid new lines lines-lost lines-after words tracks entries y lost stays at drawn are lost-on stay stays-on one two =
     let h = reverse entries in
-    let together : lines-after ≡ spelled (ways d (reverse entries) ++ crosses d (reverse entries)) =
-    added ∙ (ap (λ (x : List ℕ). x ++ spelled all) drawn.lines_are
-    ∙ (ap (λ (xs : List Element). spelled (ways d h) ++ spelled xs) (are ∙ crosses-same d h tracks drawn.follows)
-    ∙ sym (flat_map-append spell (ways d h) (crosses d h)))) in
+    let down : y ≡ row_y d (length (reverse entries)) = at ∙ ap (row_y d) (sym (length-reverse entries)) in
+    let behind : lines-after ≡ lines ++ spelled (lost ++ stays) =
+    stays-on ∙ (ap (λ (x : List ℕ). x ++ spelled stays) lost-on
+    ∙ (append_assoc lines (spelled lost) (spelled stays) ∙ ap (λ (x : List ℕ). lines ++ x) (sym (flat_map-append spell lost stays)))) in
+    let together : lines-after ≡ spelled (ways d (reverse entries) ++ (crosses d (reverse entries) ++ rests d (reverse entries))) =
+    behind ∙ (ap (λ (x : List ℕ). x ++ spelled (lost ++ stays)) drawn.lines_are
+    ∙ (ap (λ (xs : List Element). spelled (ways d h) ++ spelled (xs ++ stays)) (are ∙ crosses-same d h tracks drawn.follows)
+    ∙ (ap (λ (xs : List Element). spelled (ways d h) ++ spelled (crosses d h ++ xs)) (stay ∙ rests-same d h tracks y drawn.follows down)
+    ∙ sym (flat_map-append spell (ways d h) (crosses d h ++ rests d h))))) in
     record {
       added = two ∙ (ap (λ (x : List ℕ). mid ++ x) drawn.words_are ∙ ap (λ (x : List ℕ). x ++ spelled (marks d h)) (one ∙ ap (λ (x : List ℕ). old ++ x) together));
     }

@@ -8,10 +8,10 @@ use Rattle.sat_act.specs.Deployed.{Deployed}
 use Rattle.sat_draw.specs.declared.element.Element.{Element}
 use Rattle.sat_draw.specs.declared.geometry.TheConstants.{NAMES_APART}
 use Rattle.sat_draw.specs.Columns.{site_column}
-use Rattle.sat_draw.specs.Head.{name_at, names, lane, site_lanes, serializer_elements, serializers_elements, seat_elements, seats_elements}
+use Rattle.sat_draw.specs.Head.{name_at, names, lane, names_for, first_clients, site_lane, site_lanes, serializer_elements, serializers_elements, seat_elements, seats_elements}
 
 -- what is added behind a part of a list
-one-more : (old mid new part piece whole : List Element) → new ≡ mid ++ piece → mid ≡ old ++ part → whole ≡ part ++ piece → new ≡ old ++ whole
+pub one-more : (old mid new part piece whole : List Element) → new ≡ mid ++ piece → mid ≡ old ++ part → whole ≡ part ++ piece → new ≡ old ++ whole
 one-more old mid new part piece whole added so-far next =
     added ∙ ap (λ (x : List Element). x ++ piece) so-far ∙ append_assoc old part piece ∙ ap (λ (x : List Element). old ++ x) (sym next)
 
@@ -19,15 +19,24 @@ pub no_lanes : (old : List Element) (d : Deployed) (top bottom : ℕ) → old �
 unfolding site_lanes
 no_lanes old d top bottom = sym (append-nil old)
 
-next-lane : (d : Deployed) (top bottom i : ℕ) → site_lanes d top bottom (i + 1) ≡ site_lanes d top bottom i ++ lane top bottom (site_column d i) (node_text (Site i))
+next-lane : (d : Deployed) (top bottom i : ℕ) → site_lanes d top bottom (i + 1) ≡ site_lanes d top bottom i ++ site_lane d top bottom i
 unfolding site_lanes
 next-lane d top bottom i = ap (site_lanes d top bottom) (add-one i)
 
-pub more_lanes : (old mid new : List Element) (d : Deployed) (top bottom i column : ℕ) (name : List ℕ) → new ≡ mid ++ lane top bottom column name → column ≡ site_column d i → name ≡ node_text (Site i) → mid ≡ old ++ site_lanes d top bottom i → new ≡ old ++ site_lanes d top bottom (i + 1)
-more_lanes old mid new d top bottom i column name added at named so-far =
-    one-more old mid new _ (lane top bottom (site_column d i) (node_text (Site i))) _
-    (added ∙ ap (λ (c : ℕ). mid ++ lane top bottom c name) at ∙ ap (λ (n : List ℕ). mid ++ lane top bottom (site_column d i) n) named)
-    so-far (next-lane d top bottom i)
+pub more_lanes : (old mid new : List Element) (d : Deployed) (top bottom i : ℕ) → new ≡ mid ++ site_lane d top bottom i → mid ≡ old ++ site_lanes d top bottom i → new ≡ old ++ site_lanes d top bottom (i + 1)
+more_lanes old mid new d top bottom i added so-far = one-more old mid new _ _ _ added so-far (next-lane d top bottom i)
+
+-- a site's column, and the names of its first clients behind it
+pub lane_named : (old mid new : List Element) (d : Deployed) (top bottom i column : ℕ) (name clients : List ℕ) (x : Element)
+    → mid ≡ old ++ lane top bottom column name → new ≡ mid ++ x ∷ [] → x ≡ first_clients top column clients
+    → column ≡ site_column d i → name ≡ node_text (Site i) → clients ≡ names_for d.clients i → new ≡ old ++ site_lane d top bottom i
+lane_named old mid new d top bottom i column name clients x laned added is at named who =
+    added ∙ (ap (λ (m : List Element). m ++ x ∷ []) laned
+    ∙ (append_assoc old (lane top bottom column name) (x ∷ [])
+    ∙ ap (λ (xs : List Element). old ++ xs)
+    (ap (λ (e : Element). lane top bottom column name ++ e ∷ []) (is ∙ ap (first_clients top column) who)
+    ∙ (ap (λ (c : ℕ). lane top bottom c name ++ first_clients top c (names_for d.clients i) ∷ []) at
+    ∙ ap (λ (n : List ℕ). lane top bottom (site_column d i) n ++ first_clients top (site_column d i) (names_for d.clients i) ∷ []) named))))
 
 pub no_names : (old : List Element) (top column : ℕ) (name : List ℕ) → old ≡ old ++ names top column name 0
 unfolding names

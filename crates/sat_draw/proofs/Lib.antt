@@ -1,11 +1,13 @@
 pub mod Trails
 pub mod Pieces
 pub mod Taken
-pub mod Crossed
 pub mod Heads
+pub mod Staying
 pub mod Following
 pub mod Arrows
 pub mod Whole
 pub mod Marks
+pub mod Crossed
 pub mod Arrowed
+pub mod BySeats
 pub mod Seated

@@ -1,7 +1,6 @@
 -- Each act is drawn once.
 use Rattle.std.proofs.Common.{◌≡◌, ℕ, zero, suc, ◌+◌, ◌-◌, Bool, true, false, List, [], ◌∷◌, ◌++◌, ◌*◌, length, codes, refl, ap, ◌∙◌}
 use Rattle.std.specs.Prelude.{filter, Option, Some, None, if◌then◌else◌}
-use Rattle.std.specs.Fmt.{decimal}
 use Rattle.std.proofs.lemmas.List.{append-nil}
 use Rattle.std.proofs.lemmas.List.Elements.{filter-append}
 use Rattle.sat_label.specs.Members.{In}
@@ -17,21 +16,24 @@ use Rattle.sat_act.specs.declared.act.Act.{Act}
 use Rattle.sat_act.specs.declared.answer.Answer.{Answer}
 use Rattle.sat_act.specs.Deployed.{Deployed}
 use Rattle.sat_act.specs.Histories.{listed}
+use Rattle.sat_act.specs.Parts.{seat}
 use Rattle.sat_act.specs.Settling.{is_done}
 use Rattle.sat_draw.specs.declared.element.Ink.{Ink}
 use Rattle.sat_draw.specs.declared.element.Ink.TheVariants as ink
 use Rattle.sat_draw.specs.declared.element.Spot.{Spot}
 use Rattle.sat_draw.specs.declared.element.Element.{Element}
-use Rattle.sat_draw.specs.declared.element.Element.TheVariants.{Line, Way, Lost, Glow, Dot, Word}
+use Rattle.sat_draw.specs.declared.element.Element.TheVariants.{Line, Way, Lost, Rest, Glow, Dot, Word}
 use Rattle.sat_draw.specs.declared.trail.Trail.{Trail}
 use Rattle.sat_draw.specs.declared.trail.Coming.{Coming}
 use Rattle.sat_draw.specs.declared.geometry.TheConstants.{TREES, NAMES_APART}
 use Rattle.sat_draw.specs.Columns.{columns, column_x, plan_height, site_column, serializer_column, rows_top, row_y}
-use Rattle.sat_draw.specs.Trails.{born, comes_from}
-use Rattle.sat_draw.specs.Rows.{spot_at, spot_of, last_spot, arrow, arrows, is_across, rule, cross, is_killed, death, glow, signs, mark_of, answer_of, act_of, ways_of, marks_of, ways, marks}
-use Rattle.sat_draw.specs.Head.{name_at, names, repeats, lane, node, column_name, caption, site_lanes, branch, serializer_spot, site_spot, epoch_name, serializer_elements, serializers_elements, seat_elements, seats_elements, tree_elements, plan_elements, plans_elements, head}
+use Rattle.sat_draw.specs.declared.trail.TheConstants.{SEATED}
+use Rattle.sat_draw.specs.Trails.{client_at, closing, viewing, born, comes_from}
+use Rattle.sat_draw.specs.Rows.{spot_at, spot_of, last_spot, begin, arrow, arrows, is_across, rule, cross, is_killed, death, glow, signs, mark_of, answer_of, act_of, ways_of, marks_of, ways, marks}
+use Rattle.sat_draw.specs.Head.{name_at, names, repeats, lane, names_for, first_clients, site_lane, node, name_above, name_below, column_name, caption, site_lanes, branch, serializer_spot, site_spot, epoch_name, serializer_elements, serializers_elements, seat_elements, seats_elements, tree_elements, plan_elements, plans_elements, head}
 use Rattle.sat_draw.specs.declared.lost.Sending.{Sending}
 use Rattle.sat_draw.specs.Lost.{lost_spot, sendings, is_spot, lost_way, cross_for, crosses_by, crosses}
+use Rattle.sat_draw.specs.Rests.{rest, client_rest, client_rests, site_rest, site_rests, rests}
 use Rattle.sat_draw.specs.Drawing.{lines, elements}
 use Rattle.sat_draw.specs.Laws.{is_done_mark, is_refused_mark, title_of, done_mark, refused_mark, EachIsDrawnOnce}
 
@@ -50,6 +52,7 @@ pub record IsOfActs (p : Element → Bool) : Type 0 where
   pub rows : IsOfRows p
   pub lines : (i : Ink) (t : Trail) (a b : Spot) → p (Way i t a b) ≡ false
   pub losses : (t : Trail) (a b : Spot) → p (Lost t a b) ≡ false
+  pub stays : (i : Ink) (t : Trail) (a b : Spot) → p (Rest i t a b) ≡ false
 
 -- no element of a list passes
 pub record Free (p : Element → Bool) (xs : List Element) : Type 0 where
@@ -97,18 +100,20 @@ site_lanes-free : (p : Element → Bool) → IsOfRows p → (d : Deployed) (top 
 unfolding site_lanes
 site_lanes-free p is d top bottom zero = nothing p
 site_lanes-free p is d top bottom (suc i) =
-    both p (site_lanes d top bottom i) (lane top bottom (site_column d i) (node_text (Site i)))
-    (site_lanes-free p is d top bottom i) (lane-free p is top bottom (site_column d i) (node_text (Site i)))
+    let one = lane top bottom (site_column d i) (node_text (Site i)) in
+    let who = first_clients top (site_column d i) (names_for d.clients i) in
+    both p (site_lanes d top bottom i) (site_lane d top bottom i) (site_lanes-free p is d top bottom i)
+    (both p one (who ∷ []) (lane-free p is top bottom (site_column d i) (node_text (Site i))) (skip p who [] (is.words _ _ _) (nothing p)))
 
 branch-free : (p : Element → Bool) → IsOfRows p → (d : Deployed) (epoch y z : ℕ) (o : Option ℕ) → Free p (branch d epoch y z o)
 branch-free p is d epoch y z None = nothing p
 branch-free p is d epoch y z (Some q) =
     skip p (Line ink.Edge (serializer_spot d epoch y z) (serializer_spot d epoch y q)) [] (is.edges _ _) (nothing p)
 
-node-free : (p : Element → Bool) → IsOfRows p → (at : Spot) (name : List ℕ) → Free p (node at name)
-node-free p is at name =
-    skip p (Dot ink.Node at name) (Word ink.Epoch (spot_at (at.x + 7) (at.y - 5)) name ∷ []) (is.nodes at name)
-    (skip p (Word ink.Epoch (spot_at (at.x + 7) (at.y - 5)) name) [] (is.words _ _ _) (nothing p))
+node-free : (p : Element → Bool) → IsOfRows p → (at there : Spot) (name : List ℕ) → Free p (node at there name)
+node-free p is at there name =
+    skip p (Dot ink.Node at name) (Word ink.Epoch there name ∷ []) (is.nodes at name)
+    (skip p (Word ink.Epoch there name) [] (is.words _ _ _) (nothing p))
 
 serializer-free : (p : Element → Bool) → IsOfRows p → (d : Deployed) (top bottom epoch y : ℕ) (tree : TreeShape) (z : ℕ) → Free p (serializer_elements d top bottom epoch y tree z)
 serializer-free p is d top bottom epoch y tree z =
@@ -116,9 +121,10 @@ serializer-free p is d top bottom epoch y tree z =
     let name = node_text (Serializer z) in
     let column = serializer_column d epoch z in
     let title = column_name epoch z in
-    both p (branch d epoch y z (parent_of tree.parents z)) (node here name ++ lane top bottom column title)
+    let named = node here (name_above here) name in
+    both p (branch d epoch y z (parent_of tree.parents z)) (named ++ lane top bottom column title)
     (branch-free p is d epoch y z (parent_of tree.parents z))
-    (both p (node here name) (lane top bottom column title) (node-free p is here name) (lane-free p is top bottom column title))
+    (both p named (lane top bottom column title) (node-free p is here (name_above here) name) (lane-free p is top bottom column title))
 
 serializers-free : (p : Element → Bool) → IsOfRows p → (d : Deployed) (top bottom epoch y : ℕ) (tree : TreeShape) (n : ℕ) → Free p (serializers_elements d top bottom epoch y tree n)
 unfolding serializers_elements
@@ -129,8 +135,9 @@ serializers-free p is d top bottom epoch y tree (suc z) =
 
 seat-free : (p : Element → Bool) → IsOfRows p → (d : Deployed) (epoch y : ℕ) (tree : TreeShape) (i : ℕ) → Free p (seat_elements d epoch y tree i)
 seat-free p is d epoch y tree i =
-    skip p (Line ink.Edge (site_spot d y tree i) (serializer_spot d epoch y (seat_of tree i))) (node (site_spot d y tree i) (node_text (Site i)))
-    (is.edges _ _) (node-free p is (site_spot d y tree i) (node_text (Site i)))
+    let at = site_spot d y tree i in
+    skip p (Line ink.Edge at (serializer_spot d epoch y (seat_of tree i))) (node at (name_below at) (node_text (Site i)))
+    (is.edges _ _) (node-free p is at (name_below at) (node_text (Site i)))
 
 seats-free : (p : Element → Bool) → IsOfRows p → (d : Deployed) (epoch y : ℕ) (tree : TreeShape) (n : ℕ) → Free p (seats_elements d epoch y tree n)
 unfolding seats_elements
@@ -206,7 +213,7 @@ ways-free p is away d [] = nothing p
 ways-free p is away d (entry ∷ h) =
     let here = spot_of d h entry in
     both p (ways d h) (ways_of d h entry) (ways-free p is away d h)
-    (both p (signs d here entry) (arrows (last_spot d h) here (comes_from entry.act entry.answer)) (signs-free p is d here entry) (arrows-free p away (last_spot d h) here (comes_from entry.act entry.answer)))
+    (both p (signs d here entry) (arrows (begin d (last_spot d h)) here (comes_from entry.act entry.answer)) (signs-free p is d here entry) (arrows-free p away (begin d (last_spot d h)) here (comes_from entry.act entry.answer)))
 
 crosses-by-free : (p : Element → Bool) → ((t : Trail) (a b : Spot) → p (Lost t a b) ≡ false) → (found : Trail → Option Spot) (ss : List Sending) → Free p (crosses_by found ss)
 crosses-by-free p is found [] = nothing p
@@ -221,6 +228,35 @@ pub crosses-free : (p : Element → Bool) → ((t : Trail) (a b : Spot) → p (L
 unfolding crosses
 crosses-free p is d h = crosses-by-free p is (lost_spot d h) (sendings d h)
 
+rest-free : (p : Element → Bool) → ((i : Ink) (t : Trail) (a b : Spot) → p (Rest i t a b) ≡ false) → (i : Ink) (t : Trail) (y : ℕ) (o : Option Spot) → Free p (rest i t y o)
+rest-free p is i t y None = nothing p
+rest-free p is i t y (Some there) = skip p (Rest i t there (spot_at there.x y)) [] (is i t there (spot_at there.x y)) (nothing p)
+
+clients-free : (p : Element → Bool) → ((i : Ink) (t : Trail) (a b : Spot) → p (Rest i t a b) ≡ false) → (seats : ℕ → Option ℕ) (found : Trail → Option Spot) (y n : ℕ) → Free p (client_rests seats found y n)
+unfolding client_rests
+clients-free p is seats found y zero = nothing p
+clients-free p is seats found y (suc c) =
+    both p (client_rests seats found y c) (client_rest found y c (seats c)) (clients-free p is seats found y c) (go (seats c))
+  where
+    go : (o : Option ℕ) → Free p (client_rest found y c o)
+    go None = nothing p
+    go (Some i) = rest-free p is ink.Seat (client_at SEATED c) y (found (client_at SEATED c))
+
+sites-free : (p : Element → Bool) → ((i : Ink) (t : Trail) (a b : Spot) → p (Rest i t a b) ≡ false) → (left : Trail → Option Spot) (y n : ℕ) → Free p (site_rests left y n)
+unfolding site_rests
+sites-free p is left y zero = nothing p
+sites-free p is left y (suc i) =
+    both p (site_rests left y i) (site_rest left y i) (sites-free p is left y i)
+    (both p (rest ink.Switch (closing i) y (left (closing i))) (rest ink.View (viewing i) y (left (viewing i)))
+    (rest-free p is ink.Switch (closing i) y (left (closing i))) (rest-free p is ink.View (viewing i) y (left (viewing i))))
+
+pub rests-free : (p : Element → Bool) → ((i : Ink) (t : Trail) (a b : Spot) → p (Rest i t a b) ≡ false) → (d : Deployed) (h : List Entry) → Free p (rests d h)
+unfolding rests
+rests-free p is d h =
+    let y = row_y d (length h) in
+    both p (client_rests (seat d h) (begin d (last_spot d h)) y (length d.clients)) (site_rests (lost_spot d h) y d.sites)
+    (clients-free p is (seat d h) (begin d (last_spot d h)) y (length d.clients)) (sites-free p is (lost_spot d h) y d.sites)
+
 -- no mark, and no words
 pub marks-free : (p : Element → Bool) → IsOfRows p → ((i : Ink) (a : Spot) (text : List ℕ) → p (Dot i a text) ≡ false) → (d : Deployed) (h : List Entry) → Free p (marks d h)
 unfolding marks
@@ -233,7 +269,9 @@ marks-free p is dots d (entry ∷ h) =
     (skip p (act_of d here entry) [] (is.words _ _ _) (nothing p))))
 
 lines-free : (p : Element → Bool) → IsOfActs p → (d : Deployed) (h : List Entry) → Free p (lines d h)
-lines-free p is d h = both p (ways d h) (crosses d h) (ways-free p is.rows is.lines d h) (crosses-free p is.losses d h)
+lines-free p is d h =
+    both p (ways d h) (crosses d h ++ rests d h) (ways-free p is.rows is.lines d h)
+    (both p (crosses d h) (rests d h) (crosses-free p is.losses d h) (rests-free p is.stays d h))
 
 -- nothing in the whole drawing
 pub all-free : (p : Element → Bool) → IsOfActs p → ((i : Ink) (a : Spot) (text : List ℕ) → p (Dot i a text) ≡ false) → (d : Deployed) (h : List Entry) → Free p (elements d h)
@@ -276,10 +314,10 @@ all-marks p is d f each h =
 -- ---- acts that were done, and acts that changed nothing
 
 of-done : IsOfActs is_done_mark
-of-done = record { rows = record { lanes = λ a b. refl; edges = λ a b. refl; rules = λ a b. refl; words = λ i a text. refl; nodes = λ a text. refl; deaths = λ a b. refl; glows = λ t. refl }; lines = λ i t a b. refl; losses = λ t a b. refl }
+of-done = record { rows = record { lanes = λ a b. refl; edges = λ a b. refl; rules = λ a b. refl; words = λ i a text. refl; nodes = λ a text. refl; deaths = λ a b. refl; glows = λ t. refl }; lines = λ i t a b. refl; losses = λ t a b. refl; stays = λ i t a b. refl }
 
 of-refused : IsOfActs is_refused_mark
-of-refused = record { rows = record { lanes = λ a b. refl; edges = λ a b. refl; rules = λ a b. refl; words = λ i a text. refl; nodes = λ a text. refl; deaths = λ a b. refl; glows = λ t. refl }; lines = λ i t a b. refl; losses = λ t a b. refl }
+of-refused = record { rows = record { lanes = λ a b. refl; edges = λ a b. refl; rules = λ a b. refl; words = λ i a text. refl; nodes = λ a text. refl; deaths = λ a b. refl; glows = λ t. refl }; lines = λ i t a b. refl; losses = λ t a b. refl; stays = λ i t a b. refl }
 
 done-each : (d : Deployed) (h : List Entry) (entry : Entry) → filter is_done_mark (mark_of d (length h) (spot_of d h entry) entry ∷ []) ≡ elim (done_mark d h entry) [ None ↦ [] | Some x ↦ x ∷ [] ]
 done-each d h entry = go (is_done entry.answer)

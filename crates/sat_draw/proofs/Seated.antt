@@ -1,15 +1,19 @@
 -- The paths of clients are at their seats.
-use Rattle.std.proofs.Common.{◌≡◌, ◌⊎◌, ℕ, ◌==◌, Bool, true, false, List, [], ◌∷◌, ◌++◌, map, refl, sym, ap, ◌∙◌, inl, inr, arith}
-use Rattle.std.specs.Prelude.{◌||◌, ◌&&◌, not, Option, Some, None, if◌then◌else◌}
+use Rattle.std.proofs.Common.{◌≡◌, ◌⊎◌, ◌<◌, ℕ, zero, suc, ◌==◌, Bool, true, false, List, [], ◌∷◌, ◌++◌, length, map, refl, sym, ap, subst, ◌∙◌, inl, inr, arith}
+use Rattle.std.specs.Prelude.{◌||◌, ◌&&◌, ◌-◌, nat_lt, Option, Some, None, if◌then◌else◌}
 use Rattle.std.specs.List.{list_any}
 use Rattle.std.proofs.lemmas.Bool.{or_parts, eqb-true}
 use Rattle.std.proofs.lemmas.List.{append-nil, append_assoc}
 use Rattle.std.proofs.lemmas.Bool.Decides.{nat_tests}
 use Rattle.sat_label.specs.declared.label.Label.{Label}
+use Rattle.sat_label.specs.declared.label.Kind.{Kind}
+use Rattle.sat_label.specs.declared.label.Kind.TheVariants as kind
 use Rattle.sat_label.specs.declared.node.NodeId.{NodeId}
 use Rattle.sat_label.specs.declared.node.NodeId.TheVariants.{Site, Serializer}
+use Rattle.sat_label.specs.Order.{kind_rank}
 use Rattle.sat_label.specs.Members.{In}
 use Rattle.sat_label.specs.Words.{has}
+use Rattle.sat_label.proofs.Members.{In-left, In-right}
 use Rattle.sat_act.specs.declared.act.Act.{Act}
 use Rattle.sat_act.specs.declared.act.Act.TheVariants as act
 use Rattle.sat_act.specs.declared.answer.Answer.{Answer}
@@ -18,29 +22,34 @@ use Rattle.sat_act.specs.declared.answer.Refusal.{Refusal}
 use Rattle.sat_act.specs.declared.entry.Entry.{Entry}
 use Rattle.sat_act.specs.Deployed.{Deployed}
 use Rattle.sat_act.specs.Done.{of_client}
-use Rattle.sat_act.specs.Parts.{seat}
+use Rattle.sat_act.specs.Histories.{latest}
+use Rattle.sat_act.specs.Parts.{home, seat}
 use Rattle.sat_draw.specs.declared.element.Ink.{Ink}
 use Rattle.sat_draw.specs.declared.element.Ink.TheVariants as ink
 use Rattle.sat_draw.specs.declared.element.Spot.{Spot}
+use Rattle.sat_draw.specs.declared.element.Element.{Element}
+use Rattle.sat_draw.specs.declared.element.Element.TheVariants.{Rest}
 use Rattle.sat_draw.specs.declared.trail.Trail.{Trail}
 use Rattle.sat_draw.specs.declared.trail.Coming.{Coming}
-use Rattle.sat_draw.specs.declared.trail.TheConstants.{SEATED, AWAY}
-use Rattle.sat_draw.specs.Columns.{act_column, seat_column, site_column, column_x}
+use Rattle.sat_draw.specs.declared.trail.TheConstants.{SEATED, AWAY, CLIENT_RANK}
+use Rattle.sat_draw.specs.declared.geometry.TheConstants.{ABOVE}
+use Rattle.sat_draw.specs.Columns.{act_column, seat_column, site_column, column_x, rows_top, row_y}
 use Rattle.sat_draw.specs.Trails.{trail_eq, client_at, client_trail, client_coming, comes, attaching, is_not_yet, waiting, beat_left, hopped_from, shown_from, took_from, taken_from, toward, left_by, comes_from, reseated, after_change}
-use Rattle.sat_draw.specs.Rows.{spot_of}
-use Rattle.sat_draw.specs.Laws.{IsWay}
-use Rattle.sat_draw.specs.Seats.{is_attach, at_a_seat, without_one, GoesBySeats, IsPath, IsAtSeat, PathsAreAtSeats}
-use Rattle.sat_draw.proofs.Arrowed.{in-all}
+use Rattle.sat_draw.specs.Rows.{spot_at, spot_of, last_spot, top_of, first_spot, or_else, begin, marks, ways}
+use Rattle.sat_draw.specs.Lost.{lost_spot, crosses}
+use Rattle.sat_draw.specs.Rests.{rest, client_rest, client_rests, site_rests, rests}
+use Rattle.sat_draw.specs.Head.{head}
+use Rattle.sat_draw.specs.Drawing.{lines, elements}
+use Rattle.sat_draw.specs.Laws.{IsLeft, IsFirst, Begins, IsWay}
+use Rattle.sat_draw.specs.Seats.{IsOfRun, Sits, SitsSince, SitsFirst, IsPath, IsAtSeat, IsAtLastSeat, HasLastSeat, PathsAreAtSeats}
+use Rattle.sat_draw.proofs.Arrowed.{IsStaying, begins-at, never-left, in-all, stays-in}
 use Rattle.sat_draw.proofs.Following.{seat-step}
+use Rattle.sat_draw.proofs.BySeats.{is_attach, at_a_seat, without_one, GoesBySeats, some-number, goes_by_seats}
 
 -- ---- what a step leaves of a seat
 
 same : (n : ℕ) → (n == n) ≡ true
 same n = grind (arith, nat_tests)
-
-no-both : (b : Bool) → b ≡ true → b ≡ false → ⊥
-no-both true e f = absurd (cc)
-no-both false e f = absurd (cc)
 
 -- who is freed sits nowhere
 freed-none : (q : Option ℕ) (c i : ℕ) (o : Option ℕ) → after_change (elim q [ None ↦ None | Some b ↦ Some (b, None) ]) o c ≡ Some i → o ≡ Some i
@@ -63,119 +72,37 @@ freed-other (Some b) c o out e = go (b == c) out e
 seated-attach : (a : Act) (c i : ℕ) (o : Option ℕ) → has trail_eq (left_by a ans.Attached) (client_at SEATED c) ≡ false
     → after_change (reseated a ans.Attached) o c ≡ Some i → o ≡ Some i
 unfolding left_by reseated
-seated-attach (act.Tick i k ts) c site o out e = e
-seated-attach act.Clock c site o out e = e
-seated-attach (act.Write b x v) c site o out e = e
-seated-attach (act.Writes b items values) c site o out e = e
-seated-attach (act.Read b x) c site o out e = e
-seated-attach (act.Move b j) c site o out e = e
-seated-attach (act.Leave b) c site o out e = e
 seated-attach (act.Attach b j) c site o out e = go (b == c) out e
   where
     go : (t : Bool) → ((t && true) || false) ≡ false → (if t then Some j else o) ≡ Some site → o ≡ Some site
     go true out e = absurd (cc)
     go false out e = e
-seated-attach (act.Gather i) c site o out e = e
-seated-attach (act.Emit i) c site o out e = e
-seated-attach (act.Pulse i) c site o out e = e
-seated-attach (act.Hop n u z) c site o out e = e
-seated-attach (act.Turn j) c site o out e = e
-seated-attach (act.Bulk i k j n) c site o out e = e
-seated-attach (act.Beat i j) c site o out e = e
-seated-attach (act.BeatIn i j n) c site o out e = e
-seated-attach (act.Stamp j) c site o out e = e
-seated-attach (act.Close i) c site o out e = e
-seated-attach (act.Fall j) c site o out e = e
-seated-attach (act.Advance j) c site o out e = e
-seated-attach (act.Kill n z) c site o out e = e
-seated-attach act.Settle c site o out e = e
+seated-attach a c site o out e = e
 
 still-seated : (a : Act) (r : Answer) (c i : ℕ) (o : Option ℕ) → has trail_eq (left_by a r) (client_at SEATED c) ≡ false
     → after_change (reseated a r) o c ≡ Some i → o ≡ Some i
 unfolding left_by reseated
-still-seated a (ans.Ticked p) c i o out e = e
-still-seated a (ans.Clocked p) c i o out e = e
-still-seated a (ans.Wrote l) c i o out e = e
-still-seated a ans.ReadNone c i o out e = e
-still-seated a (ans.ReadSome l v) c i o out e = e
 still-seated a (ans.Moved l) c i o out e = freed-none (of_client a) c i o e
 still-seated a (ans.Left p) c i o out e = freed-none (of_client a) c i o e
 still-seated a ans.Attached c i o out e = seated-attach a c i o out e
-still-seated a (ans.Gathered n t) c i o out e = e
-still-seated a (ans.Emitted l) c i o out e = e
-still-seated a (ans.Pulsed l) c i o out e = e
-still-seated a (ans.Hopped l to) c i o out e = e
-still-seated a (ans.Shown l) c i o out e = e
-still-seated a (ans.Took l) c i o out e = e
-still-seated a (ans.Brought l) c i o out e = e
-still-seated a ans.Again c i o out e = e
-still-seated a (ans.Beat n) c i o out e = e
-still-seated a ans.Taken c i o out e = e
-still-seated a ans.Old c i o out e = e
-still-seated a (ans.Closed n p) c i o out e = e
-still-seated a ans.Fallen c i o out e = e
-still-seated a (ans.View v) c i o out e = e
-still-seated a ans.Killed c i o out e = e
-still-seated a (ans.Settled r n) c i o out e = e
-still-seated a (ans.Refused y) c i o out e = e
+still-seated a r c i o out e = e
 
 away-attach : (a : Act) (c : ℕ) (o : Option ℕ) → after_change (reseated a ans.Attached) o c ≡ None → o ≡ None
 unfolding reseated
-away-attach (act.Tick i k ts) c o e = e
-away-attach act.Clock c o e = e
-away-attach (act.Write b x v) c o e = e
-away-attach (act.Writes b items values) c o e = e
-away-attach (act.Read b x) c o e = e
-away-attach (act.Move b j) c o e = e
-away-attach (act.Leave b) c o e = e
 away-attach (act.Attach b j) c o e = go (b == c) e
   where
     go : (t : Bool) → (if t then Some j else o) ≡ None → o ≡ None
     go true e = absurd (cc)
     go false e = e
-away-attach (act.Gather i) c o e = e
-away-attach (act.Emit i) c o e = e
-away-attach (act.Pulse i) c o e = e
-away-attach (act.Hop n u z) c o e = e
-away-attach (act.Turn j) c o e = e
-away-attach (act.Bulk i k j n) c o e = e
-away-attach (act.Beat i j) c o e = e
-away-attach (act.BeatIn i j n) c o e = e
-away-attach (act.Stamp j) c o e = e
-away-attach (act.Close i) c o e = e
-away-attach (act.Fall j) c o e = e
-away-attach (act.Advance j) c o e = e
-away-attach (act.Kill n z) c o e = e
-away-attach act.Settle c o e = e
+away-attach a c o e = e
 
 still-away : (a : Act) (r : Answer) (c : ℕ) (o : Option ℕ) → has trail_eq (left_by a r) (client_at AWAY c) ≡ false
     → after_change (reseated a r) o c ≡ None → o ≡ None
 unfolding left_by reseated
-still-away a (ans.Ticked p) c o out e = e
-still-away a (ans.Clocked p) c o out e = e
-still-away a (ans.Wrote l) c o out e = e
-still-away a ans.ReadNone c o out e = e
-still-away a (ans.ReadSome l v) c o out e = e
 still-away a (ans.Moved l) c o out e = freed-other (of_client a) c o out e
 still-away a (ans.Left p) c o out e = freed-other (of_client a) c o out e
 still-away a ans.Attached c o out e = away-attach a c o e
-still-away a (ans.Gathered n t) c o out e = e
-still-away a (ans.Emitted l) c o out e = e
-still-away a (ans.Pulsed l) c o out e = e
-still-away a (ans.Hopped l to) c o out e = e
-still-away a (ans.Shown l) c o out e = e
-still-away a (ans.Took l) c o out e = e
-still-away a (ans.Brought l) c o out e = e
-still-away a ans.Again c o out e = e
-still-away a (ans.Beat n) c o out e = e
-still-away a ans.Taken c o out e = e
-still-away a ans.Old c o out e = e
-still-away a (ans.Closed n p) c o out e = e
-still-away a ans.Fallen c o out e = e
-still-away a (ans.View v) c o out e = e
-still-away a ans.Killed c o out e = e
-still-away a (ans.Settled r n) c o out e = e
-still-away a (ans.Refused y) c o out e = e
+still-away a r c o out e = e
 
 -- ---- so a client sits where it sat since it was seen last
 
@@ -197,25 +124,46 @@ fewer p (entry ∷ newer) older none = go (p entry) none (fewer p newer older)
     go true none rest = absurd (cc)
     go false none rest = rest none
 
--- at each moment in between
-path : (d : Deployed) (h : List Entry) (c : ℕ) (t : Trail) (x : Option ℕ) (i : Ink) (from to : Spot)
-    → ((a : Act) (r : Answer) (o : Option ℕ) → has trail_eq (left_by a r) t ≡ false → after_change (reseated a r) o c ≡ x → o ≡ x)
-    → (w : IsWay d h i t from to) → seat d w.before c ≡ x → IsPath d h c x from to
-path d h c t x i from to step w sits = record {
+-- ---- at each moment since
+
+-- what an entry that leaves no such trail does not change
+abbrev Keeps : ℕ → Trail → Option ℕ → Type 0
+Keeps c t x = (a : Act) (r : Answer) (o : Option ℕ) → has trail_eq (left_by a r) t ≡ false → after_change (reseated a r) o c ≡ x → o ≡ x
+
+since-left : (d : Deployed) (h : List Entry) (c : ℕ) (t : Trail) (x : Option ℕ) (from : Spot) → Keeps c t x → (w : IsLeft d h t from) → seat d h c ≡ x → SitsSince d h c x from
+since-left d h c t x from step w sits = record {
   later = w.later;
-  entry = w.entry;
-  middle = w.begins.later;
-  start = w.begins.entry;
-  first = w.begins.before;
-  parts = w.parts ∙ ap (λ (k : List Entry). w.later ++ w.entry ∷ k) w.begins.parts;
-  from_is = w.begins.there_is;
-  to_is = w.ends ∙ ap (λ (k : List Entry). spot_of d k w.entry) w.begins.parts;
+  start = w.entry;
+  first = w.before;
+  parts = w.parts;
+  from_is = w.there_is;
   stays = λ newer older e.
-      let all : seat d (newer ++ (older ++ w.begins.entry ∷ w.begins.before)) c ≡ x =
-      ap (λ (k : List Entry). seat d k c) (sym (append_assoc newer older (w.begins.entry ∷ w.begins.before)) ∙ (ap (λ (k : List Entry). k ++ w.begins.entry ∷ w.begins.before) (sym e) ∙ sym w.begins.parts)) ∙ sits in
-      since d c t x step newer (older ++ w.begins.entry ∷ w.begins.before)
-      (fewer (λ e. has trail_eq (left_by e.act e.answer) t) newer older (ap (λ (k : List Entry). list_any (λ e. has trail_eq (left_by e.act e.answer) t) k) (sym e) ∙ w.begins.last)) all;
+      since d c t x step newer (older ++ w.entry ∷ w.before)
+      (fewer (λ e. has trail_eq (left_by e.act e.answer) t) newer older (ap (λ (k : List Entry). list_any (λ e. has trail_eq (left_by e.act e.answer) t) k) (sym e) ∙ w.last))
+      (ap (λ (k : List Entry). seat d k c) (sym (append_assoc newer older (w.entry ∷ w.before)) ∙ (ap (λ (k : List Entry). k ++ w.entry ∷ w.before) (sym e) ∙ sym w.parts)) ∙ sits);
 }
+
+since-first : (d : Deployed) (h : List Entry) (c : ℕ) (t : Trail) (x : Option ℕ) (from : Spot) → Keeps c t x → (w : IsFirst d h t from) → first_spot d (client_at SEATED c) ≡ Some from → seat d h c ≡ x → SitsFirst d h c x from
+since-first d h c t x from step w at sits = record {
+  from_is = at;
+  stays = λ newer older e.
+      since d c t x step newer older
+      (fewer (λ e. has trail_eq (left_by e.act e.answer) t) newer older (ap (λ (k : List Entry). list_any (λ e. has trail_eq (left_by e.act e.answer) t) k) (sym e) ∙ w.never))
+      (ap (λ (k : List Entry). seat d k c) (sym e) ∙ sits);
+}
+
+-- a trail of a seat may begin at the top, one of a way does not
+sits-seated : (d : Deployed) (h : List Entry) (c i : ℕ) (from : Spot) → Begins d h (client_at SEATED c) from → seat d h c ≡ Some i → Sits d h c (Some i) from
+sits-seated d h c i from (inl w) sits = inl (since-left d h c (client_at SEATED c) (Some i) from (λ a r o. still-seated a r c i o) w sits)
+sits-seated d h c i from (inr w) sits = inr (since-first d h c (client_at SEATED c) (Some i) from (λ a r o. still-seated a r c i o) w w.there_is sits)
+
+no-first : (d : Deployed) (c : ℕ) (from : Spot) → first_spot d (client_at AWAY c) ≡ Some from → ⊥
+unfolding first_spot
+no-first d c from e = absurd (cc)
+
+sits-away : (d : Deployed) (h : List Entry) (c : ℕ) (from : Spot) → Begins d h (client_at AWAY c) from → seat d h c ≡ None → Sits d h c None from
+sits-away d h c from (inl w) sits = inl (since-left d h c (client_at AWAY c) None from (λ a r o. still-away a r c o) w sits)
+sits-away d h c from (inr w) sits = absurd (no-first d c from w.there_is)
 
 -- ---- of what client a trail is, and what its act did
 
@@ -237,404 +185,102 @@ no-nodes l (Site j ∷ to) c e = no-nodes l to c e
 no-nodes l (Serializer z ∷ to) c e = no-nodes l to c e
 
 no-beat : (a : Act) (n c : ℕ) → has trail_eq (beat_left a n) (client_at SEATED c) ≡ true → ⊥
-no-beat (act.Tick i k ts) n c e = absurd (cc)
-no-beat act.Clock n c e = absurd (cc)
-no-beat (act.Write b x v) n c e = absurd (cc)
-no-beat (act.Writes b items values) n c e = absurd (cc)
-no-beat (act.Read b x) n c e = absurd (cc)
-no-beat (act.Move b j) n c e = absurd (cc)
-no-beat (act.Leave b) n c e = absurd (cc)
-no-beat (act.Attach b j) n c e = absurd (cc)
-no-beat (act.Gather i) n c e = absurd (cc)
-no-beat (act.Emit i) n c e = absurd (cc)
-no-beat (act.Pulse i) n c e = absurd (cc)
-no-beat (act.Hop m u z) n c e = absurd (cc)
-no-beat (act.Turn j) n c e = absurd (cc)
-no-beat (act.Bulk i k j m) n c e = absurd (cc)
 no-beat (act.Beat i j) n c e = absurd (cc)
-no-beat (act.BeatIn i j m) n c e = absurd (cc)
-no-beat (act.Stamp j) n c e = absurd (cc)
-no-beat (act.Close i) n c e = absurd (cc)
-no-beat (act.Fall j) n c e = absurd (cc)
-no-beat (act.Advance j) n c e = absurd (cc)
-no-beat (act.Kill m z) n c e = absurd (cc)
-no-beat act.Settle n c e = absurd (cc)
+no-beat a n c e = absurd (cc)
 
 -- it was seated here
-record Begins (a : Act) (r : Answer) (c : ℕ) : Type 0 where
+record Starts (a : Act) (r : Answer) (c : ℕ) : Type 0 where
   client : of_client a ≡ Some c
   does : ((at_a_seat r ≡ true) × ((o : Option ℕ) → after_change (reseated a r) o c ≡ o)) ⊎ (r ≡ ans.Attached)
 
-begins : (a : Act) (r : Answer) (c : ℕ) → has trail_eq (left_by a r) (client_at SEATED c) ≡ true → Begins a r c
+starts : (a : Act) (r : Answer) (c : ℕ) → has trail_eq (left_by a r) (client_at SEATED c) ≡ true → Starts a r c
 unfolding left_by reseated
-begins a (ans.Ticked p) c e = absurd (cc)
-begins a (ans.Clocked p) c e = absurd (cc)
-begins a (ans.Wrote l) c e = record { client = trail-of (of_client a) c e; does = inl (refl, λ o. refl) }
-begins a ans.ReadNone c e = record { client = trail-of (of_client a) c e; does = inl (refl, λ o. refl) }
-begins a (ans.ReadSome l v) c e = record { client = trail-of (of_client a) c e; does = inl (refl, λ o. refl) }
-begins a (ans.Moved l) c e = absurd (other-stop (of_client a) c e)
-begins a (ans.Left p) c e = absurd (other-stop (of_client a) c e)
-begins a ans.Attached c e = record { client = trail-of (of_client a) c e; does = inr refl }
-begins a (ans.Gathered n t) c e = absurd (cc)
-begins a (ans.Emitted l) c e = absurd (cc)
-begins a (ans.Pulsed l) c e = absurd (cc)
-begins a (ans.Hopped l to) c e = absurd (no-nodes l to c e)
-begins a (ans.Shown l) c e = absurd (cc)
-begins a (ans.Took l) c e = absurd (cc)
-begins a (ans.Brought l) c e = absurd (cc)
-begins a ans.Again c e = absurd (cc)
-begins a (ans.Beat n) c e = absurd (no-beat a n c e)
-begins a ans.Taken c e = absurd (cc)
-begins a ans.Old c e = absurd (cc)
-begins a (ans.Closed n p) c e = absurd (cc)
-begins a ans.Fallen c e = absurd (cc)
-begins a (ans.View v) c e = absurd (cc)
-begins a ans.Killed c e = absurd (cc)
-begins a (ans.Settled r n) c e = absurd (cc)
-begins a (ans.Refused y) c e = absurd (other-stop (waiting a y) c e)
-
-some-number : (b c : ℕ) → Some b ≡ Some c → b ≡ c
-some-number b c e = ap (λ (o : Option ℕ). elim o [ None ↦ b | Some x ↦ x ]) e
+starts a (ans.Wrote l) c e = record { client = trail-of (of_client a) c e; does = inl (refl, λ o. refl) }
+starts a ans.ReadNone c e = record { client = trail-of (of_client a) c e; does = inl (refl, λ o. refl) }
+starts a (ans.ReadSome l v) c e = record { client = trail-of (of_client a) c e; does = inl (refl, λ o. refl) }
+starts a (ans.Moved l) c e = absurd (other-stop (of_client a) c e)
+starts a (ans.Left p) c e = absurd (other-stop (of_client a) c e)
+starts a ans.Attached c e = record { client = trail-of (of_client a) c e; does = inr refl }
+starts a (ans.Hopped l to) c e = absurd (no-nodes l to c e)
+starts a (ans.Beat n) c e = absurd (no-beat a n c e)
+starts a (ans.Refused y) c e = absurd (other-stop (waiting a y) c e)
+starts a r c e = absurd (cc)
 
 -- the column of what is no attach
 own-column : (d : Deployed) (f : ℕ → Option ℕ) (a : Act) (c i : ℕ) → of_client a ≡ Some c → is_attach a ≡ false → f c ≡ Some i → act_column d f a ≡ site_column d i
-own-column d f (act.Tick m k ts) c i of other e = absurd (cc)
-own-column d f act.Clock c i of other e = absurd (cc)
 own-column d f (act.Write b x v) c i of other e = ap (λ (m : ℕ). seat_column d (f m)) (some-number b c of) ∙ ap (seat_column d) e
 own-column d f (act.Writes b things values) c i of other e = ap (λ (m : ℕ). seat_column d (f m)) (some-number b c of) ∙ ap (seat_column d) e
 own-column d f (act.Read b x) c i of other e = ap (λ (m : ℕ). seat_column d (f m)) (some-number b c of) ∙ ap (seat_column d) e
 own-column d f (act.Move b j) c i of other e = ap (λ (m : ℕ). seat_column d (f m)) (some-number b c of) ∙ ap (seat_column d) e
 own-column d f (act.Leave b) c i of other e = ap (λ (m : ℕ). seat_column d (f m)) (some-number b c of) ∙ ap (seat_column d) e
-own-column d f (act.Attach b j) c i of other e = absurd (cc)
-own-column d f (act.Gather m) c i of other e = absurd (cc)
-own-column d f (act.Emit m) c i of other e = absurd (cc)
-own-column d f (act.Pulse m) c i of other e = absurd (cc)
-own-column d f (act.Hop n u z) c i of other e = absurd (cc)
-own-column d f (act.Turn j) c i of other e = absurd (cc)
-own-column d f (act.Bulk m k j n) c i of other e = absurd (cc)
-own-column d f (act.Beat m j) c i of other e = absurd (cc)
-own-column d f (act.BeatIn m j n) c i of other e = absurd (cc)
-own-column d f (act.Stamp j) c i of other e = absurd (cc)
-own-column d f (act.Close m) c i of other e = absurd (cc)
-own-column d f (act.Fall j) c i of other e = absurd (cc)
-own-column d f (act.Advance j) c i of other e = absurd (cc)
-own-column d f (act.Kill n z) c i of other e = absurd (cc)
-own-column d f act.Settle c i of other e = absurd (cc)
+own-column d f a c i of other e = absurd (cc)
 
 -- and of one by which a client came to its seat
 new-column : (d : Deployed) (f : ℕ → Option ℕ) (a : Act) (c i : ℕ) → of_client a ≡ Some c → after_change (reseated a ans.Attached) (f c) c ≡ Some i → act_column d f a ≡ site_column d i
 unfolding reseated
-new-column d f (act.Tick m k ts) c i of e = absurd (cc)
-new-column d f act.Clock c i of e = absurd (cc)
-new-column d f (act.Write b x v) c i of e = ap (λ (m : ℕ). seat_column d (f m)) (some-number b c of) ∙ ap (seat_column d) e
-new-column d f (act.Writes b things values) c i of e = ap (λ (m : ℕ). seat_column d (f m)) (some-number b c of) ∙ ap (seat_column d) e
-new-column d f (act.Read b x) c i of e = ap (λ (m : ℕ). seat_column d (f m)) (some-number b c of) ∙ ap (seat_column d) e
-new-column d f (act.Move b j) c i of e = ap (λ (m : ℕ). seat_column d (f m)) (some-number b c of) ∙ ap (seat_column d) e
-new-column d f (act.Leave b) c i of e = ap (λ (m : ℕ). seat_column d (f m)) (some-number b c of) ∙ ap (seat_column d) e
 new-column d f (act.Attach b j) c i of e = go (b == c) (ap (λ (m : ℕ). m == c) (some-number b c of) ∙ same c) e
   where
     go : (t : Bool) → t ≡ true → (if t then Some j else f c) ≡ Some i → site_column d j ≡ site_column d i
     go true k e = ap (site_column d) (some-number j i e)
     go false k e = absurd (cc)
-new-column d f (act.Gather m) c i of e = absurd (cc)
-new-column d f (act.Emit m) c i of e = absurd (cc)
-new-column d f (act.Pulse m) c i of e = absurd (cc)
-new-column d f (act.Hop n u z) c i of e = absurd (cc)
-new-column d f (act.Turn j) c i of e = absurd (cc)
-new-column d f (act.Bulk m k j n) c i of e = absurd (cc)
-new-column d f (act.Beat m j) c i of e = absurd (cc)
-new-column d f (act.BeatIn m j n) c i of e = absurd (cc)
-new-column d f (act.Stamp j) c i of e = absurd (cc)
-new-column d f (act.Close m) c i of e = absurd (cc)
-new-column d f (act.Fall j) c i of e = absurd (cc)
-new-column d f (act.Advance j) c i of e = absurd (cc)
-new-column d f (act.Kill n z) c i of e = absurd (cc)
-new-column d f act.Settle c i of e = absurd (cc)
+new-column d f (act.Write b x v) c i of e = own-column d f (act.Write b x v) c i of refl e
+new-column d f (act.Writes b things values) c i of e = own-column d f (act.Writes b things values) c i of refl e
+new-column d f (act.Read b x) c i of e = own-column d f (act.Read b x) c i of refl e
+new-column d f (act.Move b j) c i of e = own-column d f (act.Move b j) c i of refl e
+new-column d f (act.Leave b) c i of e = own-column d f (act.Leave b) c i of refl e
+new-column d f a c i of e = absurd (cc)
 
--- ---- what ends with the ink of a seat
+-- ---- what ends with the ink of a client
 
-seat-stop : (x : Coming) (c : ℕ) → (x.trail.stop == SEATED) ≡ false → x ≡ record { ink = ink.Seat; trail = client_at SEATED c } → ⊥
-seat-stop x c other e = absurd (let s : x.trail.stop ≡ SEATED = ap (λ (y : Coming). y.trail.stop) e in let t : (x.trail.stop == SEATED) ≡ true = ap (λ (m : ℕ). m == SEATED) s ∙ same SEATED in no-both (x.trail.stop == SEATED) t other)
+-- what a mark comes from is a client's path, of the client that did the act, or no path
+data IsEnd (a : Act) (r : Answer) (x : Coming) : Type 0 where
+  seat-end : (c : ℕ) → x ≡ comes ink.Seat (client_at SEATED c) → of_client a ≡ Some c → at_a_seat r ≡ true → IsEnd a r x
+  away-end : (c : ℕ) → x ≡ comes ink.Away (client_at AWAY c) → of_client a ≡ Some c → without_one r ≡ true → IsEnd a r x
+  no-path : (x.trail.rank == CLIENT_RANK) ≡ false → IsEnd a r x
 
-seat-one : (x : Coming) (c : ℕ) → (x.trail.stop == SEATED) ≡ false → In (x ∷ []) (record { ink = ink.Seat; trail = client_at SEATED c }) → ⊥
-seat-one x c other (inl e) = seat-stop x c other e
-seat-one x c other (inr none) = none
+seat-ends : (a : Act) (r : Answer) (x : Coming) (q : Option ℕ) → q ≡ of_client a → at_a_seat r ≡ true → In (client_coming ink.Seat SEATED q) x → IsEnd a r x
+seat-ends a r x None is does within = absurd within
+seat-ends a r x (Some c) is does (inl e) = seat-end c (sym e) (sym is) does
+seat-ends a r x (Some c) is does (inr none) = absurd none
 
-seat-of : (i : Ink) (stop : ℕ) (q : Option ℕ) (c : ℕ) → In (client_coming i stop q) (record { ink = ink.Seat; trail = client_at SEATED c }) → q ≡ Some c
-seat-of i stop None c within = absurd within
-seat-of i stop (Some b) c (inl e) = ap Some (ap (λ (y : Coming). y.trail.ts) e)
-seat-of i stop (Some b) c (inr none) = absurd none
+away-ends : (a : Act) (r : Answer) (x : Coming) (q : Option ℕ) → ((c : ℕ) → q ≡ Some c → (of_client a ≡ Some c) × (without_one r ≡ true)) → In (client_coming ink.Away AWAY q) x → IsEnd a r x
+away-ends a r x None is within = absurd within
+away-ends a r x (Some c) is (inl e) = let found : (of_client a ≡ Some c) × (without_one r ≡ true) = is c refl in away-end c (sym e) found.0 found.1
+away-ends a r x (Some c) is (inr none) = absurd none
 
-seat-not : (i : Ink) (stop : ℕ) (q : Option ℕ) (c : ℕ) → (stop == SEATED) ≡ false → In (client_coming i stop q) (record { ink = ink.Seat; trail = client_at SEATED c }) → ⊥
-seat-not i stop None c other within = within
-seat-not i stop (Some b) c other within = seat-one (comes i (client_at stop b)) c other within
+one-end : (a : Act) (r : Answer) (x y : Coming) → (y.trail.rank == CLIENT_RANK) ≡ false → In (y ∷ []) x → IsEnd a r x
+one-end a r x y other (inl e) = no-path (ap (λ (z : Coming). z.trail.rank == CLIENT_RANK) (sym e) ∙ other)
+one-end a r x y other (inr none) = absurd none
 
-seat-hopped_from : (a : Act) (l : Label) (c : ℕ) → In (hopped_from a l) (record { ink = ink.Seat; trail = client_at SEATED c }) → ⊥
-seat-hopped_from (act.Tick i k ts) l c within = within
-seat-hopped_from act.Clock l c within = within
-seat-hopped_from (act.Write b x v) l c within = within
-seat-hopped_from (act.Writes b items values) l c within = within
-seat-hopped_from (act.Read b x) l c within = within
-seat-hopped_from (act.Move b j) l c within = within
-seat-hopped_from (act.Leave b) l c within = within
-seat-hopped_from (act.Attach b j) l c within = within
-seat-hopped_from (act.Gather i) l c within = within
-seat-hopped_from (act.Emit i) l c within = within
-seat-hopped_from (act.Pulse i) l c within = within
-seat-hopped_from (act.Hop n (Site i) z) l c within = seat-one _ c refl within
-seat-hopped_from (act.Hop n (Serializer y) z) l c within = seat-one _ c refl within
-seat-hopped_from (act.Turn j) l c within = within
-seat-hopped_from (act.Bulk i k j n) l c within = within
-seat-hopped_from (act.Beat i j) l c within = within
-seat-hopped_from (act.BeatIn i j n) l c within = within
-seat-hopped_from (act.Stamp j) l c within = within
-seat-hopped_from (act.Close i) l c within = within
-seat-hopped_from (act.Fall j) l c within = within
-seat-hopped_from (act.Advance j) l c within = within
-seat-hopped_from (act.Kill n z) l c within = within
-seat-hopped_from act.Settle l c within = within
+-- a label has another rank
+low-rank : (k : Kind) → (kind_rank k == CLIENT_RANK) ≡ false
+low-rank (kind.Update items) = refl
+low-rank (kind.Move j) = refl
+low-rank kind.Pulse = refl
+low-rank (kind.Close n) = refl
 
-seat-shown_from : (a : Act) (l : Label) (c : ℕ) → In (shown_from a l) (record { ink = ink.Seat; trail = client_at SEATED c }) → ⊥
-seat-shown_from (act.Tick i k ts) l c within = within
-seat-shown_from act.Clock l c within = within
-seat-shown_from (act.Write b x v) l c within = within
-seat-shown_from (act.Writes b items values) l c within = within
-seat-shown_from (act.Read b x) l c within = within
-seat-shown_from (act.Move b j) l c within = within
-seat-shown_from (act.Leave b) l c within = within
-seat-shown_from (act.Attach b j) l c within = within
-seat-shown_from (act.Gather i) l c within = within
-seat-shown_from (act.Emit i) l c within = within
-seat-shown_from (act.Pulse i) l c within = within
-seat-shown_from (act.Hop n u z) l c within = within
-seat-shown_from (act.Turn j) l c (inl e) = seat-stop _ c refl e
-seat-shown_from (act.Turn j) l c (inr rest) = seat-one _ c refl rest
-seat-shown_from (act.Bulk i k j n) l c within = within
-seat-shown_from (act.Beat i j) l c within = within
-seat-shown_from (act.BeatIn i j n) l c within = within
-seat-shown_from (act.Stamp j) l c within = seat-one _ c refl within
-seat-shown_from (act.Close i) l c within = within
-seat-shown_from (act.Fall j) l c within = within
-seat-shown_from (act.Advance j) l c within = within
-seat-shown_from (act.Kill n z) l c within = within
-seat-shown_from act.Settle l c within = within
+hop-end : (a b : Act) (r : Answer) (l : Label) (x : Coming) → In (hopped_from b l) x → IsEnd a r x
+hop-end a (act.Hop n (Site i) z) r l x within = one-end a r x _ (low-rank l.kind) within
+hop-end a (act.Hop n (Serializer y) z) r l x within = one-end a r x _ (low-rank l.kind) within
+hop-end a b r l x within = absurd within
 
-seat-took_from : (a : Act) (l : Label) (c : ℕ) → In (took_from a l) (record { ink = ink.Seat; trail = client_at SEATED c }) → ⊥
-seat-took_from (act.Tick i k ts) l c within = within
-seat-took_from act.Clock l c within = within
-seat-took_from (act.Write b x v) l c within = within
-seat-took_from (act.Writes b items values) l c within = within
-seat-took_from (act.Read b x) l c within = within
-seat-took_from (act.Move b j) l c within = within
-seat-took_from (act.Leave b) l c within = within
-seat-took_from (act.Attach b j) l c within = within
-seat-took_from (act.Gather i) l c within = within
-seat-took_from (act.Emit i) l c within = within
-seat-took_from (act.Pulse i) l c within = within
-seat-took_from (act.Hop n u z) l c within = within
-seat-took_from (act.Turn j) l c within = seat-one _ c refl within
-seat-took_from (act.Bulk i k j n) l c within = within
-seat-took_from (act.Beat i j) l c within = within
-seat-took_from (act.BeatIn i j n) l c within = within
-seat-took_from (act.Stamp j) l c within = within
-seat-took_from (act.Close i) l c within = within
-seat-took_from (act.Fall j) l c within = within
-seat-took_from (act.Advance j) l c within = within
-seat-took_from (act.Kill n z) l c within = within
-seat-took_from act.Settle l c within = within
+show-end : (a b : Act) (r : Answer) (l : Label) (x : Coming) → In (shown_from b l) x → IsEnd a r x
+show-end a (act.Turn j) r l x (inl e) = one-end a r x _ (low-rank l.kind) (inl e)
+show-end a (act.Turn j) r l x (inr rest) = one-end a r x _ (low-rank l.kind) rest
+show-end a (act.Stamp j) r l x within = one-end a r x _ (low-rank l.kind) within
+show-end a b r l x within = absurd within
 
-seat-taken_from : (a : Act) (c : ℕ) → In (taken_from a) (record { ink = ink.Seat; trail = client_at SEATED c }) → ⊥
-seat-taken_from (act.Tick i k ts) c within = within
-seat-taken_from act.Clock c within = within
-seat-taken_from (act.Write b x v) c within = within
-seat-taken_from (act.Writes b items values) c within = within
-seat-taken_from (act.Read b x) c within = within
-seat-taken_from (act.Move b j) c within = within
-seat-taken_from (act.Leave b) c within = within
-seat-taken_from (act.Attach b j) c within = within
-seat-taken_from (act.Gather i) c within = within
-seat-taken_from (act.Emit i) c within = within
-seat-taken_from (act.Pulse i) c within = within
-seat-taken_from (act.Hop n u z) c within = within
-seat-taken_from (act.Turn j) c within = within
-seat-taken_from (act.Bulk i k j n) c within = within
-seat-taken_from (act.Beat i j) c within = within
-seat-taken_from (act.BeatIn i j n) c within = seat-one _ c refl within
-seat-taken_from (act.Stamp j) c within = within
-seat-taken_from (act.Close i) c within = within
-seat-taken_from (act.Fall j) c within = within
-seat-taken_from (act.Advance j) c within = within
-seat-taken_from (act.Kill n z) c within = within
-seat-taken_from act.Settle c within = within
+take-end : (a b : Act) (r : Answer) (l : Label) (x : Coming) → In (took_from b l) x → IsEnd a r x
+take-end a (act.Turn j) r l x within = one-end a r x _ (low-rank l.kind) within
+take-end a b r l x within = absurd within
 
--- ---- what ends with the ink of one without
-
-away-stop : (x : Coming) (c : ℕ) → (x.trail.stop == AWAY) ≡ false → x ≡ record { ink = ink.Away; trail = client_at AWAY c } → ⊥
-away-stop x c other e = absurd (let s : x.trail.stop ≡ AWAY = ap (λ (y : Coming). y.trail.stop) e in let t : (x.trail.stop == AWAY) ≡ true = ap (λ (m : ℕ). m == AWAY) s ∙ same AWAY in no-both (x.trail.stop == AWAY) t other)
-
-away-one : (x : Coming) (c : ℕ) → (x.trail.stop == AWAY) ≡ false → In (x ∷ []) (record { ink = ink.Away; trail = client_at AWAY c }) → ⊥
-away-one x c other (inl e) = away-stop x c other e
-away-one x c other (inr none) = none
-
-away-of : (i : Ink) (stop : ℕ) (q : Option ℕ) (c : ℕ) → In (client_coming i stop q) (record { ink = ink.Away; trail = client_at AWAY c }) → q ≡ Some c
-away-of i stop None c within = absurd within
-away-of i stop (Some b) c (inl e) = ap Some (ap (λ (y : Coming). y.trail.ts) e)
-away-of i stop (Some b) c (inr none) = absurd none
-
-away-not : (i : Ink) (stop : ℕ) (q : Option ℕ) (c : ℕ) → (stop == AWAY) ≡ false → In (client_coming i stop q) (record { ink = ink.Away; trail = client_at AWAY c }) → ⊥
-away-not i stop None c other within = within
-away-not i stop (Some b) c other within = away-one (comes i (client_at stop b)) c other within
-
-away-hopped_from : (a : Act) (l : Label) (c : ℕ) → In (hopped_from a l) (record { ink = ink.Away; trail = client_at AWAY c }) → ⊥
-away-hopped_from (act.Tick i k ts) l c within = within
-away-hopped_from act.Clock l c within = within
-away-hopped_from (act.Write b x v) l c within = within
-away-hopped_from (act.Writes b items values) l c within = within
-away-hopped_from (act.Read b x) l c within = within
-away-hopped_from (act.Move b j) l c within = within
-away-hopped_from (act.Leave b) l c within = within
-away-hopped_from (act.Attach b j) l c within = within
-away-hopped_from (act.Gather i) l c within = within
-away-hopped_from (act.Emit i) l c within = within
-away-hopped_from (act.Pulse i) l c within = within
-away-hopped_from (act.Hop n (Site i) z) l c within = away-one _ c refl within
-away-hopped_from (act.Hop n (Serializer y) z) l c within = away-one _ c refl within
-away-hopped_from (act.Turn j) l c within = within
-away-hopped_from (act.Bulk i k j n) l c within = within
-away-hopped_from (act.Beat i j) l c within = within
-away-hopped_from (act.BeatIn i j n) l c within = within
-away-hopped_from (act.Stamp j) l c within = within
-away-hopped_from (act.Close i) l c within = within
-away-hopped_from (act.Fall j) l c within = within
-away-hopped_from (act.Advance j) l c within = within
-away-hopped_from (act.Kill n z) l c within = within
-away-hopped_from act.Settle l c within = within
-
-away-shown_from : (a : Act) (l : Label) (c : ℕ) → In (shown_from a l) (record { ink = ink.Away; trail = client_at AWAY c }) → ⊥
-away-shown_from (act.Tick i k ts) l c within = within
-away-shown_from act.Clock l c within = within
-away-shown_from (act.Write b x v) l c within = within
-away-shown_from (act.Writes b items values) l c within = within
-away-shown_from (act.Read b x) l c within = within
-away-shown_from (act.Move b j) l c within = within
-away-shown_from (act.Leave b) l c within = within
-away-shown_from (act.Attach b j) l c within = within
-away-shown_from (act.Gather i) l c within = within
-away-shown_from (act.Emit i) l c within = within
-away-shown_from (act.Pulse i) l c within = within
-away-shown_from (act.Hop n u z) l c within = within
-away-shown_from (act.Turn j) l c (inl e) = away-stop _ c refl e
-away-shown_from (act.Turn j) l c (inr rest) = away-one _ c refl rest
-away-shown_from (act.Bulk i k j n) l c within = within
-away-shown_from (act.Beat i j) l c within = within
-away-shown_from (act.BeatIn i j n) l c within = within
-away-shown_from (act.Stamp j) l c within = away-one _ c refl within
-away-shown_from (act.Close i) l c within = within
-away-shown_from (act.Fall j) l c within = within
-away-shown_from (act.Advance j) l c within = within
-away-shown_from (act.Kill n z) l c within = within
-away-shown_from act.Settle l c within = within
-
-away-took_from : (a : Act) (l : Label) (c : ℕ) → In (took_from a l) (record { ink = ink.Away; trail = client_at AWAY c }) → ⊥
-away-took_from (act.Tick i k ts) l c within = within
-away-took_from act.Clock l c within = within
-away-took_from (act.Write b x v) l c within = within
-away-took_from (act.Writes b items values) l c within = within
-away-took_from (act.Read b x) l c within = within
-away-took_from (act.Move b j) l c within = within
-away-took_from (act.Leave b) l c within = within
-away-took_from (act.Attach b j) l c within = within
-away-took_from (act.Gather i) l c within = within
-away-took_from (act.Emit i) l c within = within
-away-took_from (act.Pulse i) l c within = within
-away-took_from (act.Hop n u z) l c within = within
-away-took_from (act.Turn j) l c within = away-one _ c refl within
-away-took_from (act.Bulk i k j n) l c within = within
-away-took_from (act.Beat i j) l c within = within
-away-took_from (act.BeatIn i j n) l c within = within
-away-took_from (act.Stamp j) l c within = within
-away-took_from (act.Close i) l c within = within
-away-took_from (act.Fall j) l c within = within
-away-took_from (act.Advance j) l c within = within
-away-took_from (act.Kill n z) l c within = within
-away-took_from act.Settle l c within = within
-
-away-taken_from : (a : Act) (c : ℕ) → In (taken_from a) (record { ink = ink.Away; trail = client_at AWAY c }) → ⊥
-away-taken_from (act.Tick i k ts) c within = within
-away-taken_from act.Clock c within = within
-away-taken_from (act.Write b x v) c within = within
-away-taken_from (act.Writes b items values) c within = within
-away-taken_from (act.Read b x) c within = within
-away-taken_from (act.Move b j) c within = within
-away-taken_from (act.Leave b) c within = within
-away-taken_from (act.Attach b j) c within = within
-away-taken_from (act.Gather i) c within = within
-away-taken_from (act.Emit i) c within = within
-away-taken_from (act.Pulse i) c within = within
-away-taken_from (act.Hop n u z) c within = within
-away-taken_from (act.Turn j) c within = within
-away-taken_from (act.Bulk i k j n) c within = within
-away-taken_from (act.Beat i j) c within = within
-away-taken_from (act.BeatIn i j n) c within = away-one _ c refl within
-away-taken_from (act.Stamp j) c within = within
-away-taken_from (act.Close i) c within = within
-away-taken_from (act.Fall j) c within = within
-away-taken_from (act.Advance j) c within = within
-away-taken_from (act.Kill n z) c within = within
-away-taken_from act.Settle c within = within
-
--- a solid path ends where its client does something at its seat
-ends-seated : (a : Act) (r : Answer) (c : ℕ) → In (comes_from a r) (record { ink = ink.Seat; trail = client_at SEATED c }) → (of_client a ≡ Some c) × (at_a_seat r ≡ true)
-unfolding comes_from
-ends-seated a (ans.Ticked p) c within = absurd within
-ends-seated a (ans.Clocked p) c within = absurd within
-ends-seated a (ans.Wrote l) c within = (seat-of ink.Seat SEATED (of_client a) c within, refl)
-ends-seated a ans.ReadNone c within = (seat-of ink.Seat SEATED (of_client a) c within, refl)
-ends-seated a (ans.ReadSome l v) c within = (seat-of ink.Seat SEATED (of_client a) c within, refl)
-ends-seated a (ans.Moved l) c within = (seat-of ink.Seat SEATED (of_client a) c within, refl)
-ends-seated a (ans.Left p) c within = (seat-of ink.Seat SEATED (of_client a) c within, refl)
-ends-seated a ans.Attached c within = absurd (seat-not ink.Away AWAY (of_client a) c refl within)
-ends-seated a (ans.Gathered n t) c within = absurd within
-ends-seated a (ans.Emitted l) c within = absurd (seat-one _ c refl within)
-ends-seated a (ans.Pulsed l) c within = absurd within
-ends-seated a (ans.Hopped l to) c within = absurd (seat-hopped_from a l c within)
-ends-seated a (ans.Shown l) c within = absurd (seat-shown_from a l c within)
-ends-seated a (ans.Took l) c within = absurd (seat-took_from a l c within)
-ends-seated a (ans.Brought l) c within = absurd (seat-one _ c refl within)
-ends-seated a ans.Again c within = absurd within
-ends-seated a (ans.Beat n) c within = absurd within
-ends-seated a ans.Taken c within = absurd (seat-taken_from a c within)
-ends-seated a ans.Old c within = absurd within
-ends-seated a (ans.Closed n p) c within = absurd within
-ends-seated a ans.Fallen c within = absurd within
-ends-seated a (ans.View v) c within = absurd (seat-one _ c refl within)
-ends-seated a ans.Killed c within = absurd within
-ends-seated a (ans.Settled r n) c within = absurd within
-ends-seated a (ans.Refused y) c within = absurd (seat-not ink.Away AWAY (waiting a y) c refl within)
+beat-end : (a b : Act) (r : Answer) (x : Coming) → In (taken_from b) x → IsEnd a r x
+beat-end a (act.BeatIn i j n) r x within = one-end a r x _ refl within
+beat-end a b r x within = absurd within
 
 attaching-of : (a : Act) (c : ℕ) → attaching a ≡ Some c → of_client a ≡ Some c
-attaching-of (act.Tick i k ts) c e = absurd (cc)
-attaching-of act.Clock c e = absurd (cc)
-attaching-of (act.Write b x v) c e = absurd (cc)
-attaching-of (act.Writes b items values) c e = absurd (cc)
-attaching-of (act.Read b x) c e = absurd (cc)
-attaching-of (act.Move b j) c e = absurd (cc)
-attaching-of (act.Leave b) c e = absurd (cc)
 attaching-of (act.Attach b j) c e = e
-attaching-of (act.Gather i) c e = absurd (cc)
-attaching-of (act.Emit i) c e = absurd (cc)
-attaching-of (act.Pulse i) c e = absurd (cc)
-attaching-of (act.Hop n u z) c e = absurd (cc)
-attaching-of (act.Turn j) c e = absurd (cc)
-attaching-of (act.Bulk i k j n) c e = absurd (cc)
-attaching-of (act.Beat i j) c e = absurd (cc)
-attaching-of (act.BeatIn i j n) c e = absurd (cc)
-attaching-of (act.Stamp j) c e = absurd (cc)
-attaching-of (act.Close i) c e = absurd (cc)
-attaching-of (act.Fall j) c e = absurd (cc)
-attaching-of (act.Advance j) c e = absurd (cc)
-attaching-of (act.Kill n z) c e = absurd (cc)
-attaching-of act.Settle c e = absurd (cc)
+attaching-of a c e = absurd (cc)
 
 waiting-of : (a : Act) (y : Refusal) (c : ℕ) → waiting a y ≡ Some c → (of_client a ≡ Some c) × (is_not_yet y ≡ true)
 waiting-of a y c e = go (is_not_yet y) refl e
@@ -643,70 +289,186 @@ waiting-of a y c e = go (is_not_yet y) refl e
     go true k e = (attaching-of a c e, k)
     go false k e = absurd (cc)
 
--- a dashed one where it comes to a seat, or waits for one
-ends-away : (a : Act) (r : Answer) (c : ℕ) → In (comes_from a r) (record { ink = ink.Away; trail = client_at AWAY c }) → (of_client a ≡ Some c) × (without_one r ≡ true)
+end-of : (a : Act) (r : Answer) (x : Coming) → In (comes_from a r) x → IsEnd a r x
 unfolding comes_from
-ends-away a (ans.Ticked p) c within = absurd within
-ends-away a (ans.Clocked p) c within = absurd within
-ends-away a (ans.Wrote l) c within = absurd (away-not ink.Seat SEATED (of_client a) c refl within)
-ends-away a ans.ReadNone c within = absurd (away-not ink.Seat SEATED (of_client a) c refl within)
-ends-away a (ans.ReadSome l v) c within = absurd (away-not ink.Seat SEATED (of_client a) c refl within)
-ends-away a (ans.Moved l) c within = absurd (away-not ink.Seat SEATED (of_client a) c refl within)
-ends-away a (ans.Left p) c within = absurd (away-not ink.Seat SEATED (of_client a) c refl within)
-ends-away a ans.Attached c within = (away-of ink.Away AWAY (of_client a) c within, refl)
-ends-away a (ans.Gathered n t) c within = absurd within
-ends-away a (ans.Emitted l) c within = absurd (away-one _ c refl within)
-ends-away a (ans.Pulsed l) c within = absurd within
-ends-away a (ans.Hopped l to) c within = absurd (away-hopped_from a l c within)
-ends-away a (ans.Shown l) c within = absurd (away-shown_from a l c within)
-ends-away a (ans.Took l) c within = absurd (away-took_from a l c within)
-ends-away a (ans.Brought l) c within = absurd (away-one _ c refl within)
-ends-away a ans.Again c within = absurd within
-ends-away a (ans.Beat n) c within = absurd within
-ends-away a ans.Taken c within = absurd (away-taken_from a c within)
-ends-away a ans.Old c within = absurd within
-ends-away a (ans.Closed n p) c within = absurd within
-ends-away a ans.Fallen c within = absurd within
-ends-away a (ans.View v) c within = absurd (away-one _ c refl within)
-ends-away a ans.Killed c within = absurd within
-ends-away a (ans.Settled r n) c within = absurd within
-ends-away a (ans.Refused y) c within = waiting-of a y c (away-of ink.Away AWAY (waiting a y) c within)
+end-of a (ans.Wrote l) x within = seat-ends a (ans.Wrote l) x (of_client a) refl refl within
+end-of a ans.ReadNone x within = seat-ends a ans.ReadNone x (of_client a) refl refl within
+end-of a (ans.ReadSome l v) x within = seat-ends a (ans.ReadSome l v) x (of_client a) refl refl within
+end-of a (ans.Moved l) x within = seat-ends a (ans.Moved l) x (of_client a) refl refl within
+end-of a (ans.Left p) x within = seat-ends a (ans.Left p) x (of_client a) refl refl within
+end-of a ans.Attached x within = away-ends a ans.Attached x (of_client a) (λ c e. (e, refl)) within
+end-of a (ans.Refused y) x within = away-ends a (ans.Refused y) x (waiting a y) (λ c e. waiting-of a y c e) within
+end-of a (ans.Emitted l) x within = one-end a (ans.Emitted l) x _ (low-rank l.kind) within
+end-of a (ans.Hopped l to) x within = hop-end a a (ans.Hopped l to) l x within
+end-of a (ans.Shown l) x within = show-end a a (ans.Shown l) l x within
+end-of a (ans.Took l) x within = take-end a a (ans.Took l) l x within
+end-of a (ans.Brought l) x within = one-end a (ans.Brought l) x _ (low-rank l.kind) within
+end-of a ans.Taken x within = beat-end a a ans.Taken x within
+end-of a (ans.View v) x within = one-end a (ans.View v) x _ refl within
+end-of a (ans.Closed n p) x within = one-end a (ans.Closed n p) x _ refl within
+end-of a r x within = absurd within
 
--- ---- the law
+client-is : (i j : Ink) (s t b c : ℕ) → comes i (client_at s b) ≡ comes j (client_at t c) → (s ≡ t) × (b ≡ c)
+client-is i j s t b c e = (ap (λ (x : Coming). x.trail.stop) e, ap (λ (x : Coming). x.trail.ts) e)
+
+-- a solid path ends where its client does something at its seat
+ends-seated : (a : Act) (r : Answer) (c : ℕ) → IsEnd a r (comes ink.Seat (client_at SEATED c)) → (of_client a ≡ Some c) × (at_a_seat r ≡ true)
+ends-seated a r c (seat-end b e of does) = (of ∙ ap Some (sym (client-is ink.Seat ink.Seat SEATED SEATED c b e).1), does)
+ends-seated a r c (away-end b e of does) = let two : SEATED ≡ AWAY = (client-is ink.Seat ink.Away SEATED AWAY c b e).0 in absurd (cc)
+ends-seated a r c (no-path other) = absurd (cc)
+
+-- a dashed one where it comes to a seat, or waits for one
+ends-away : (a : Act) (r : Answer) (c : ℕ) → IsEnd a r (comes ink.Away (client_at AWAY c)) → (of_client a ≡ Some c) × (without_one r ≡ true)
+ends-away a r c (away-end b e of does) = (of ∙ ap Some (sym (client-is ink.Away ink.Away AWAY AWAY c b e).1), does)
+ends-away a r c (seat-end b e of does) = let two : AWAY ≡ SEATED = (client-is ink.Away ink.Seat AWAY SEATED c b e).0 in absurd (cc)
+ends-away a r c (no-path other) = absurd (cc)
+
+-- ---- where paths begin
 
 -- the mark at which a path begins stands at the seat
 start-x : (d : Deployed) (h : List Entry) → GoesBySeats d h → (c i : ℕ) (later : List Entry) (entry : Entry) (before : List Entry) → h ≡ later ++ entry ∷ before
     → has trail_eq (left_by entry.act entry.answer) (client_at SEATED c) ≡ true → seat d (entry ∷ before) c ≡ Some i → (spot_of d before entry).x ≡ column_x (site_column d i)
 start-x d h goes c i later entry before parts left sits =
-    let is : Begins entry.act entry.answer c = begins entry.act entry.answer c left in
+    let is : Starts entry.act entry.answer c = starts entry.act entry.answer c left in
     let after : after_change (reseated entry.act entry.answer) (seat d before c) c ≡ Some i = sym (seat-step d before c entry.inner entry.act entry.answer) ∙ sits in
     ap column_x (elim is.does [
-      | inl done ↦ own-column d (seat d before) entry.act c i is.client (goes.seated later entry before c parts is.client done.0).0 (sym (done.1 (seat d before c)) ∙ after)
+      | inl done ↦ own-column d (seat d before) entry.act c i is.client ((goes.each later entry before parts).seated c is.client done.0).0 (sym (done.1 (seat d before c)) ∙ after)
       | inr new ↦ new-column d (seat d before) entry.act c i is.client (ap (λ (r : Answer). after_change (reseated entry.act r) (seat d before c) c) (sym new) ∙ after)
     ])
 
-at-seat : (d : Deployed) (h : List Entry) → GoesBySeats d h → (c : ℕ) (from to : Spot) (w : IsWay d h ink.Seat (client_at SEATED c) from to) → IsAtSeat d h c from to
-unfolding path
+-- and so does the place above the first row
+seat-first : (d : Deployed) (c : ℕ) → seat d [] c ≡ home d c
+unfolding seat latest
+seat-first d c = refl
+
+first-is : (d : Deployed) (c : ℕ) → first_spot d (client_at SEATED c) ≡ top_of d (home d c)
+unfolding first_spot
+first-is d c = refl
+
+top-x : (d : Deployed) (o : Option ℕ) (i : ℕ) (from : Spot) → o ≡ Some i → top_of d o ≡ Some from → from.x ≡ column_x (site_column d i)
+top-x d None i from is e = absurd (cc)
+top-x d (Some j) i from is e =
+    sym (ap (λ (s : Option Spot). elim s [ None ↦ 0 | Some r ↦ r.x ]) e) ∙ ap (λ (k : ℕ). column_x (site_column d k)) (some-number j i is)
+
+-- where a client sits from there on, up to the end of a part of a history
+from-x : (d : Deployed) (h : List Entry) → GoesBySeats d h → (c i : ℕ) (newer before : List Entry) (from : Spot) → h ≡ newer ++ before → Begins d before (client_at SEATED c) from → seat d before c ≡ Some i
+    → from.x ≡ column_x (site_column d i)
+unfolding since-left
+from-x d h goes c i newer before from parts (inl w) sits =
+    let stays : SitsSince d before c (Some i) from = since-left d before c (client_at SEATED c) (Some i) from (λ a r o. still-seated a r c i o) w sits in
+    ap (λ (s : Spot). s.x) w.there_is
+    ∙ start-x d h goes c i (newer ++ w.later) w.entry w.before
+    (parts ∙ (ap (λ (k : List Entry). newer ++ k) w.parts ∙ sym (append_assoc newer w.later (w.entry ∷ w.before)))) w.left
+    (stays.stays w.later [] (sym (append-nil w.later)))
+from-x d h goes c i newer before from parts (inr w) sits =
+    let stays : SitsFirst d before c (Some i) from = since-first d before c (client_at SEATED c) (Some i) from (λ a r o. still-seated a r c i o) w w.there_is sits in
+    top-x d (home d c) i from (sym (seat-first d c) ∙ stays.stays before [] (sym (append-nil before))) (sym (first-is d c) ∙ w.there_is)
+
+-- ---- the law
+
+at-seat : (d : Deployed) (h : List Entry) → GoesBySeats d h → (c : ℕ) (from to : Spot) → IsWay d h ink.Seat (client_at SEATED c) from to → IsAtSeat d h c from to
 at-seat d h goes c from to w =
-    let ends : (of_client w.entry.act ≡ Some c) × (at_a_seat w.entry.answer ≡ true) = ends-seated w.entry.act w.entry.answer c w.comes_from_it in
-    let good : (is_attach w.entry.act ≡ false) × ((i : ℕ) × (seat d w.before c ≡ Some i)) = goes.seated w.later w.entry w.before c w.parts ends.0 ends.1 in
-    let p : IsPath d h c (Some good.1.0) from to = path d h c (client_at SEATED c) (Some good.1.0) ink.Seat from to (λ a r o. still-seated a r c good.1.0 o) w good.1.1 in
+    let ends : (of_client w.entry.act ≡ Some c) × (at_a_seat w.entry.answer ≡ true) = ends-seated w.entry.act w.entry.answer c (end-of w.entry.act w.entry.answer _ w.comes_from_it) in
+    let good : (is_attach w.entry.act ≡ false) × ((i : ℕ) × (seat d w.before c ≡ Some i)) = (goes.each w.later w.entry w.before w.parts).seated c ends.0 ends.1 in
+    let sits : Sits d w.before c (Some good.1.0) from = sits-seated d w.before c good.1.0 from w.begins good.1.1 in
     record {
       site = good.1.0;
-      path = p;
-      from_x = ap (λ (s : Spot). s.x) w.begins.there_is
-          ∙ start-x d h goes c good.1.0 (w.later ++ w.entry ∷ w.begins.later) w.begins.entry w.begins.before
-          (p.parts ∙ sym (append_assoc w.later (w.entry ∷ w.begins.later) (w.begins.entry ∷ w.begins.before))) w.begins.left (p.stays w.begins.later [] (sym (append-nil w.begins.later)));
+      path = record { later = w.later; entry = w.entry; before = w.before; parts = w.parts; since = sits; to_is = w.ends };
+      from_x = from-x d h goes c good.1.0 (w.later ++ w.entry ∷ []) w.before from (w.parts ∙ sym (append_assoc w.later (w.entry ∷ []) w.before)) w.begins good.1.1;
       to_x = ap (λ (s : Spot). s.x) w.ends ∙ ap column_x (own-column d (seat d w.before) w.entry.act c good.1.0 ends.0 good.0 good.1.1);
     }
 
-at-none : (d : Deployed) (h : List Entry) → GoesBySeats d h → (c : ℕ) (from to : Spot) (w : IsWay d h ink.Away (client_at AWAY c) from to) → IsPath d h c None from to
+at-none : (d : Deployed) (h : List Entry) → GoesBySeats d h → (c : ℕ) (from to : Spot) → IsWay d h ink.Away (client_at AWAY c) from to → IsPath d h c None from to
 at-none d h goes c from to w =
-    let ends : (of_client w.entry.act ≡ Some c) × (without_one w.entry.answer ≡ true) = ends-away w.entry.act w.entry.answer c w.comes_from_it in
-    path d h c (client_at AWAY c) None ink.Away from to (λ a r o. still-away a r c o) w (goes.seatless w.later w.entry w.before c w.parts ends.0 ends.1)
+    let ends : (of_client w.entry.act ≡ Some c) × (without_one w.entry.answer ≡ true) = ends-away w.entry.act w.entry.answer c (end-of w.entry.act w.entry.answer _ w.comes_from_it) in
+    record {
+      later = w.later;
+      entry = w.entry;
+      before = w.before;
+      parts = w.parts;
+      since = sits-away d w.before c from w.begins ((goes.each w.later w.entry w.before w.parts).seatless c ends.0 ends.1);
+      to_is = w.ends;
+    }
 
-pub paths_at_seats : (d : Deployed) (h : List Entry) → GoesBySeats d h → PathsAreAtSeats d h
-paths_at_seats d h goes = record {
-  solid = λ c from to within. at-seat d h goes c from to (in-all d h ink.Seat (client_at SEATED c) from to within);
-  dashed = λ c from to within. at-none d h goes c from to (in-all d h ink.Away (client_at AWAY c) from to within);
-}
+-- to the end
+at-last : (d : Deployed) (h : List Entry) → GoesBySeats d h → (c i : ℕ) (from to : Spot) → seat d h c ≡ Some i → begin d (last_spot d h) (client_at SEATED c) ≡ Some from
+    → to ≡ spot_at from.x (row_y d (length h)) → IsAtLastSeat d h c from to
+at-last d h goes c i from to sits found down =
+    let begins : Begins d h (client_at SEATED c) from = begins-at d h (client_at SEATED c) from found in
+    let since : Sits d h c (Some i) from = sits-seated d h c i from begins sits in
+    let x : from.x ≡ column_x (site_column d i) = from-x d h goes c i [] h from refl begins sits in
+    record { site = i; since = since; from_x = x; to_is = down ∙ ap (λ (n : ℕ). spot_at n (row_y d (length h))) x }
+
+to-end : (d : Deployed) (h : List Entry) → GoesBySeats d h → (c : ℕ) (from to : Spot) → IsStaying d h (client_at SEATED c) from to → IsAtLastSeat d h c from to
+to-end d h goes c from to (inl of) =
+    let is : of.client ≡ c = ap (λ (t : Trail). t.ts) of.stays.trail_is in
+    at-last d h goes c of.site from to (ap (seat d h) (sym is) ∙ of.seat_is)
+    (ap (λ (n : ℕ). begin d (last_spot d h) (client_at SEATED n)) (sym is) ∙ of.stays.found) of.stays.down
+to-end d h goes c from to (inr of) =
+    let stop : of.trail.stop ≡ SEATED = ap (λ (t : Trail). t.stop) of.stays.trail_is in
+    let yes : (of.trail.stop == SEATED) ≡ true = ap (λ (n : ℕ). n == SEATED) stop in
+    let no : true ≡ false = sym yes ∙ of.no_seat in
+    absurd (cc)
+
+-- a client that has a seat at the end has such a line
+last-found : (d : Deployed) (h : List Entry) (c i : ℕ) → seat d h c ≡ Some i → (from : Spot) × (begin d (last_spot d h) (client_at SEATED c) ≡ Some from)
+last-found d h c i sits = go (last_spot d h (client_at SEATED c)) refl
+  where
+    go : (o : Option Spot) → last_spot d h (client_at SEATED c) ≡ o → (from : Spot) × (or_else o (first_spot d (client_at SEATED c)) ≡ Some from)
+    go (Some s) e = (s, refl)
+    go None e =
+        let none = never-left d h (client_at SEATED c) e in
+        let at : seat d [] c ≡ Some i = since d c (client_at SEATED c) (Some i) (λ a r o. still-seated a r c i o) h [] none (ap (λ (k : List Entry). seat d k c) (append-nil h) ∙ sits) in
+        (spot_at (column_x (site_column d i)) (rows_top d - ABOVE), first-is d c ∙ ap (top_of d) (sym (seat-first d c) ∙ at))
+
+last-or-before : (c n : ℕ) → c < suc n → (c < n) ⊎ (c ≡ n)
+last-or-before c n low = go (nat_lt c n) refl
+  where
+    go : (b : Bool) → nat_lt c n ≡ b → (c < n) ⊎ (c ≡ n)
+    go true e = inl (grind (arith, nat_tests))
+    go false e = inr (grind (arith, nat_tests))
+
+at-client : (found : Trail → Option Spot) (y c i : ℕ) (from : Spot) (o : Option ℕ) → o ≡ Some i → found (client_at SEATED c) ≡ Some from
+    → In (client_rest found y c o) (Rest ink.Seat (client_at SEATED c) from (spot_at from.x y))
+at-client found y c i from None is at = absurd (cc)
+at-client found y c i from (Some j) is at =
+    subst (λ (q : Option Spot). In (rest ink.Seat (client_at SEATED c) y q) (Rest ink.Seat (client_at SEATED c) from (spot_at from.x y))) (sym at) (inl refl)
+
+client-in : (seats : ℕ → Option ℕ) (found : Trail → Option Spot) (y n c i : ℕ) (from : Spot) → c < n → seats c ≡ Some i → found (client_at SEATED c) ≡ Some from
+    → In (client_rests seats found y n) (Rest ink.Seat (client_at SEATED c) from (spot_at from.x y))
+unfolding client_rests
+client-in seats found y zero c i from low sits at = absurd (omega arith)
+client-in seats found y (suc m) c i from low sits at = go (last-or-before c m low) (λ less. client-in seats found y m c i from less sits at)
+  where
+    go : (c < m) ⊎ (c ≡ m) → (c < m → In (client_rests seats found y m) (Rest ink.Seat (client_at SEATED c) from (spot_at from.x y)))
+        → In (client_rests seats found y m ++ client_rest found y m (seats m)) (Rest ink.Seat (client_at SEATED c) from (spot_at from.x y))
+    go (inl less) earlier = In-left (client_rests seats found y m) (client_rest found y m (seats m)) _ (earlier less)
+    go (inr is) earlier = In-right (client_rests seats found y m) (client_rest found y m (seats m)) _
+        (subst (λ (n : ℕ). In (client_rest found y n (seats n)) (Rest ink.Seat (client_at SEATED c) from (spot_at from.x y))) is (at-client found y c i from (seats c) sits at))
+
+stays-drawn : (d : Deployed) (h : List Entry) (x : Element) → In (client_rests (seat d h) (begin d (last_spot d h)) (row_y d (length h)) (length d.clients)) x → In (elements d h) x
+unfolding elements rests
+stays-drawn d h x within =
+    In-right (head d (length h)) (lines d h ++ marks d h) x (In-left (lines d h) (marks d h) x
+    (In-right (ways d h) (crosses d h ++ rests d h) x (In-right (crosses d h) (rests d h) x
+    (In-left (client_rests (seat d h) (begin d (last_spot d h)) (row_y d (length h)) (length d.clients)) (site_rests (lost_spot d h) (row_y d (length h)) d.sites) x within))))
+
+has-last : (d : Deployed) (h : List Entry) → GoesBySeats d h → (c i : ℕ) → c < length d.clients → seat d h c ≡ Some i → HasLastSeat d h c i
+has-last d h goes c i low sits =
+    let y = row_y d (length h) in
+    let found : (from : Spot) × (begin d (last_spot d h) (client_at SEATED c) ≡ Some from) = last-found d h c i sits in
+    let begins : Begins d h (client_at SEATED c) found.0 = begins-at d h (client_at SEATED c) found.0 found.1 in
+    let x : found.0.x ≡ column_x (site_column d i) = from-x d h goes c i [] h found.0 refl begins sits in
+    let drawn : In (elements d h) (Rest ink.Seat (client_at SEATED c) found.0 (spot_at found.0.x y)) =
+    stays-drawn d h _ (client-in (seat d h) (begin d (last_spot d h)) y (length d.clients) c i found.0 low sits found.1) in
+    (found.0, subst (λ (n : ℕ). In (elements d h) (Rest ink.Seat (client_at SEATED c) found.0 (spot_at n y))) x drawn)
+
+pub paths_at_seats : (d : Deployed) (h : List Entry) → IsOfRun d h → PathsAreAtSeats d h
+paths_at_seats d h of =
+    let goes : GoesBySeats d h = goes_by_seats d h of in
+    record {
+      solid = λ c from to within. at-seat d h goes c from to (in-all d h ink.Seat (client_at SEATED c) from to within);
+      dashed = λ c from to within. at-none d h goes c from to (in-all d h ink.Away (client_at AWAY c) from to within);
+      to_end = λ c from to within. to-end d h goes c from to (stays-in d h ink.Seat (client_at SEATED c) from to within);
+      each = has-last d h goes;
+    }

@@ -1,5 +1,5 @@
 -- What is known of the labels under way once some were taken.
-use Rattle.std.specs.Prelude.{◌≡◌, ◌==◌, ◌&&◌, ◌||◌, ℕ, Bool, true, false, cond, List, [], ◌∷◌, Option, None, if◌then◌else◌}
+use Rattle.std.specs.Prelude.{◌≡◌, ◌||◌, Bool, true, false, cond, List, [], ◌∷◌, Option, None, if◌then◌else◌}
 use Rattle.std.proofs.Common.{refl, ap, ◌∙◌}
 use Rattle.std.specs.BTreeMap.{BTreeMap, is_at}
 use Rattle.sat_draw.specs.declared.element.Spot.{Spot}

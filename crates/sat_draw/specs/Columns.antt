@@ -1,12 +1,14 @@
 -- Where the columns of a drawing stand: first what is outside of all nodes, then half of the sites, the serializers of
 -- each epoch, and the other sites. So the way of a label through a tree leads over the columns between its sites.
-use Rattle.std.specs.Prelude.{ℕ, ◌+◌, ◌-◌, ◌*◌, ◌/◌, ◌==◌, nat_le, nat_lt, List, [], ◌∷◌, length, take, Option, Some, None, slice_get, if◌then◌else◌}
+use Rattle.std.specs.Prelude.{ℕ, ◌+◌, ◌-◌, ◌*◌, ◌/◌, ◌==◌, nat_le, nat_lt, List, [], ◌∷◌, length, take, Option, Some}
+use Rattle.std.specs.Prelude.{None, slice_get, if◌then◌else◌}
 use Rattle.sat_act.specs.declared.deployment.Plan.{Plan}
 use Rattle.sat_act.specs.declared.deployment.Plan.TheVariants as plan
 use Rattle.sat_act.specs.declared.act.Act.{Act}
 use Rattle.sat_act.specs.declared.act.Act.TheVariants as act
 use Rattle.sat_act.specs.Deployed.{Deployed}
-use Rattle.sat_draw.specs.declared.geometry.TheConstants.{OUTSIDE, FIRST_COLUMN, COLUMN, ANSWERS, ROW, TREES, STEP, TREE_MARGINS, NAMES}
+use Rattle.sat_draw.specs.declared.geometry.TheConstants.{OUTSIDE, FIRST_COLUMN, COLUMN, ANSWERS, ROW, TREES, STEP}
+use Rattle.sat_draw.specs.declared.geometry.TheConstants.{TREE_MARGINS, NAMES}
 
 -- how many serializers a plan has
 abbrev pub serializers_of : Plan → ℕ

@@ -9,16 +9,17 @@ use Rattle.sat_draw.specs.Columns.{answers_x, row_y}
 use Rattle.sat_draw.specs.Elements.{spelled}
 use Rattle.sat_draw.specs.Rows.{ways, marks}
 use Rattle.sat_draw.specs.Lost.{crosses}
+use Rattle.sat_draw.specs.Rests.{rests}
 use Rattle.sat_draw.specs.Head.{caption, head}
 use Rattle.sat_draw.specs.Legend.{legend}
 
 -- all lines of the rows
 abbrev pub lines : Deployed → List Entry → List Element
-lines d h = ways d h ++ crosses d h
+lines d h = ways d h ++ (crosses d h ++ rests d h)
 
 -- the elements of a history's drawing, in order: the marks and their words stand in front of all lines
 unfoldable pub elements : Deployed → List Entry → List Element
-unfolding head ways crosses marks
+unfolding head ways crosses rests marks
 elements d h = head d (length h) ++ (lines d h ++ marks d h)
 
 -- how wide and how high it is

@@ -1,12 +1,13 @@
 -- How the elements of a drawing are spelled.
-use Rattle.std.specs.Prelude.{ℕ, ◌==◌, nat_le, nat_lt, List, [], ◌∷◌, ◌++◌, length, take, codes, Bool, true, false, if◌then◌else◌}
+use Rattle.std.specs.Prelude.{ℕ, ◌==◌, nat_le, nat_lt, List, [], ◌∷◌, ◌++◌, length, take, codes}
+use Rattle.std.specs.Prelude.{if◌then◌else◌}
 use Rattle.std.specs.List.{flat_map}
 use Rattle.std.specs.Fmt.{decimal}
 use Rattle.sat_draw.specs.declared.element.Ink.{Ink}
 use Rattle.sat_draw.specs.declared.element.Ink.TheVariants as ink
 use Rattle.sat_draw.specs.declared.element.Spot.{Spot}
 use Rattle.sat_draw.specs.declared.element.Element.{Element}
-use Rattle.sat_draw.specs.declared.element.Element.TheVariants.{Line, Way, Lost, Glow, Dot, Word}
+use Rattle.sat_draw.specs.declared.element.Element.TheVariants.{Line, Way, Lost, Rest, Glow, Dot, Word}
 use Rattle.sat_draw.specs.declared.trail.Trail.{Trail}
 use Rattle.sat_draw.specs.declared.trail.TheConstants.{BEAT_RANK}
 
@@ -27,11 +28,13 @@ ink_word ink.Beat = codes "beat"
 ink_word ink.Seat = codes "seat"
 ink_word ink.Away = codes "seat away"
 ink_word ink.Switch = codes "switch"
+ink_word ink.View = codes "view"
 ink_word ink.Dead = codes "dead"
 ink_word ink.Done = codes "done"
 ink_word ink.Refused = codes "refused"
 ink_word ink.Title = codes "title"
 ink_word ink.Name = codes "name"
+ink_word ink.Client = codes "client"
 ink_word ink.Epoch = codes "epoch"
 ink_word ink.Act = codes "act"
 ink_word ink.Said = codes "said"
@@ -71,6 +74,7 @@ way_word ink.Beat = codes "beat"
 way_word ink.Seat = codes "client"
 way_word ink.Away = codes "on its way: client"
 way_word ink.Switch = codes "closed, not yet advanced: site"
+way_word ink.View = codes "in a later view: site"
 way_word _ = []
 
 -- its title: with the point of its label, or with the number of a beat, a client or a site
@@ -98,6 +102,11 @@ way_ends from to =
 abbrev pub way_text : List ℕ → List ℕ → Trail → Spot → Spot → List ℕ
 way_text class word t from to = way_start class (group_text t) ++ (way_ends from to ++ way_title word t)
 
+-- the class of a label that was lost: that of its kind
+unfoldable pub lost_class : ℕ → List ℕ
+lost_class rank =
+    if rank == 1 then codes "label move lost" else (if rank == 3 then codes "label close lost" else codes "label lost")
+
 -- the style by which the ways of a label stand out: where one of them is under the pointer, each is thick
 abbrev pub under_pointer : List ℕ → List ℕ
 under_pointer group = codes "<style>svg:has(." ++ (group ++ codes ":hover) .")
@@ -123,6 +132,7 @@ abbrev pub room : Ink → ℕ
 room ink.Act = 27
 room ink.Said = 41
 room ink.Denied = 41
+room ink.Client = 16
 room _ = 400
 
 -- a text for which there is no room is the title of what is shown of it
@@ -145,10 +155,11 @@ word_text class at most text =
 
 -- an element's line of the drawing
 unfoldable pub spell : Element → List ℕ
-unfolding ink_word way_word
+unfolding ink_word way_word lost_class
 spell (Line ink from to) = line_text (ink_word ink) from to
 spell (Way ink trail from to) = way_text (ink_word ink) (way_word ink) trail from to
-spell (Lost trail from to) = way_text (codes "label lost") (codes "never taken:") trail from to
+spell (Lost trail from to) = way_text (lost_class trail.rank) (codes "never taken:") trail from to
+spell (Rest ink trail from to) = way_text (ink_word ink) (way_word ink) trail from to
 spell (Glow trail) = glow_text (group_text trail)
 spell (Dot ink at text) = dot_text (ink_word ink) at text
 spell (Word ink at text) = word_text (ink_word ink) at (room ink) text

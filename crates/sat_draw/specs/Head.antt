@@ -1,10 +1,13 @@
 -- What stands above and behind the rows: the columns with their names, and the tree of each epoch.
-use Rattle.std.specs.Prelude.{ℕ, zero, suc, ◌+◌, ◌-◌, ◌*◌, ◌/◌, ◌==◌, nat_lt, List, [], ◌∷◌, ◌++◌, length, Option, Some, None, codes, if◌then◌else◌}
+use Rattle.std.specs.List.{flat_map}
+use Rattle.std.specs.Prelude.{ℕ, zero, suc, ◌+◌, ◌-◌, ◌*◌, ◌/◌, ◌==◌, nat_lt, List, [], ◌∷◌, ◌++◌, length, Option, Some}
+use Rattle.std.specs.Prelude.{None, codes, if◌then◌else◌}
 use Rattle.std.specs.Fmt.{decimal}
 use Rattle.sat_label.specs.declared.node.NodeId.TheVariants.{Site, Serializer}
 use Rattle.sat_label.specs.Text.{node_text}
 use Rattle.sat_tree.specs.Shape.{TreeShape}
 use Rattle.sat_tree.specs.Cut.{parent_of, seat_of}
+use Rattle.sat_act.specs.declared.deployment.ClientLine.{ClientLine}
 use Rattle.sat_act.specs.declared.deployment.Plan.{Plan}
 use Rattle.sat_act.specs.declared.deployment.Plan.TheVariants as plan
 use Rattle.sat_act.specs.Deployed.{Deployed}
@@ -12,7 +15,7 @@ use Rattle.sat_draw.specs.declared.element.Ink.TheVariants as ink
 use Rattle.sat_draw.specs.declared.element.Spot.{Spot}
 use Rattle.sat_draw.specs.declared.element.Element.{Element}
 use Rattle.sat_draw.specs.declared.element.Element.TheVariants.{Line, Dot, Word}
-use Rattle.sat_draw.specs.declared.geometry.TheConstants.{TREES, STEP, NAMES_APART, NAMES_SPARED}
+use Rattle.sat_draw.specs.declared.geometry.TheConstants.{TREES, STEP, ABOVE, NAMES_APART, NAMES_SPARED}
 use Rattle.sat_draw.specs.Columns.{site_column, serializer_column, column_x, plan_height, rows_top, row_y}
 use Rattle.sat_draw.specs.Rows.{spot_at}
 
@@ -37,11 +40,28 @@ lane top bottom column name =
     ∷ name_at column (top - 30) name ∷ name_at column (bottom + 18) name ∷ [])
     ++ names top column name (repeats top bottom)
 
+-- the names of the clients whose first seat is at a site, each with a blank
+abbrev pub name_for : ℕ → ClientLine → List ℕ
+name_for i client = if client.site == i then client.name ++ 32 ∷ [] else []
+
+abbrev pub names_for : List ClientLine → ℕ → List ℕ
+names_for clients i = flat_map (name_for i) clients
+
+-- they stand beside where their bands begin
+abbrev pub first_clients : ℕ → ℕ → List ℕ → Element
+first_clients top column names = Word ink.Client (spot_at (column_x column + 9) (top - ABOVE)) names
+
+-- the column of a site, with its first clients
+abbrev pub site_lane : Deployed → ℕ → ℕ → ℕ → List Element
+site_lane d top bottom i =
+    lane top bottom (site_column d i) (node_text (Site i))
+    ++ first_clients top (site_column d i) (names_for d.clients i) ∷ []
+
 -- the columns of the first n sites
 unfoldable pub site_lanes : Deployed → ℕ → ℕ → ℕ → List Element
 unfolding node_text names
 site_lanes d top bottom zero = []
-site_lanes d top bottom (suc i) = site_lanes d top bottom i ++ lane top bottom (site_column d i) (node_text (Site i))
+site_lanes d top bottom (suc i) = site_lanes d top bottom i ++ site_lane d top bottom i
 
 -- ---- an epoch's tree, drawn from y downwards: the root above, each serializer below the one it hangs on, the sites at
 -- the bottom
@@ -55,9 +75,15 @@ serializer_spot d epoch y z = spot_at (column_x (serializer_column d epoch z)) (
 abbrev pub site_spot : Deployed → ℕ → TreeShape → ℕ → Spot
 site_spot d y tree i = spot_at (column_x (site_column d i)) (tree_y y (length tree.parents))
 
--- a node and its name
-abbrev pub node : Spot → List ℕ → List Element
-node at name = Dot ink.Node at name ∷ Word ink.Epoch (spot_at (at.x + 7) (at.y - 5)) name ∷ []
+-- a node and its name, which stands there: of a serializer above it, of a site below it, where no edge leads
+abbrev pub node : Spot → Spot → List ℕ → List Element
+node at there name = Dot ink.Node at name ∷ Word ink.Epoch there name ∷ []
+
+abbrev pub name_above : Spot → Spot
+name_above at = spot_at (at.x + 7) (at.y - 5)
+
+abbrev pub name_below : Spot → Spot
+name_below at = spot_at (at.x + 7) (at.y + 13)
 
 -- the edge from a serializer to the one that it hangs on
 abbrev pub branch : Deployed → ℕ → ℕ → ℕ → Option ℕ → List Element
@@ -72,7 +98,7 @@ column_name epoch z = node_text (Serializer z) ++ (codes " of epoch " ++ decimal
 abbrev pub serializer_elements : Deployed → ℕ → ℕ → ℕ → ℕ → TreeShape → ℕ → List Element
 serializer_elements d top bottom epoch y tree z =
     branch d epoch y z (parent_of tree.parents z)
-    ++ (node (serializer_spot d epoch y z) (node_text (Serializer z))
+    ++ (node (serializer_spot d epoch y z) (name_above (serializer_spot d epoch y z)) (node_text (Serializer z))
     ++ lane top bottom (serializer_column d epoch z) (column_name epoch z))
 
 unfoldable pub serializers_elements : Deployed → ℕ → ℕ → ℕ → ℕ → TreeShape → ℕ → List Element
@@ -85,7 +111,7 @@ serializers_elements d top bottom epoch y tree (suc z) =
 abbrev pub seat_elements : Deployed → ℕ → ℕ → TreeShape → ℕ → List Element
 seat_elements d epoch y tree i =
     Line ink.Edge (site_spot d y tree i) (serializer_spot d epoch y (seat_of tree i))
-    ∷ node (site_spot d y tree i) (node_text (Site i))
+    ∷ node (site_spot d y tree i) (name_below (site_spot d y tree i)) (node_text (Site i))
 
 unfoldable pub seats_elements : Deployed → ℕ → ℕ → TreeShape → ℕ → List Element
 unfolding node_text seat_of

@@ -1,6 +1,7 @@
--- What holds of every drawing: each act is drawn once, an act that was done as done, and each arrow begins where what
--- it brings was left.
-use Rattle.std.specs.Prelude.{◌≡◌, ℕ, Bool, true, false, List, [], ◌∷◌, ◌++◌, ◌||◌, length, filter, Option, Some, None, if◌then◌else◌}
+-- What holds of every drawing: each act is drawn once, an act that was done as done, and each line begins where what
+-- goes or stays there was left.
+use Rattle.std.specs.Prelude.{◌≡◌, ◌⊎◌, ℕ, Bool, true, false, List, [], ◌∷◌, ◌++◌, ◌||◌, length, filter, Option, Some}
+use Rattle.std.specs.Prelude.{None, if◌then◌else◌}
 use Rattle.std.specs.List.{list_any}
 use Rattle.sat_label.specs.Members.{In}
 use Rattle.sat_label.specs.Words.{has}
@@ -12,10 +13,11 @@ use Rattle.sat_draw.specs.declared.element.Ink.{Ink}
 use Rattle.sat_draw.specs.declared.element.Ink.TheVariants as ink
 use Rattle.sat_draw.specs.declared.element.Spot.{Spot}
 use Rattle.sat_draw.specs.declared.element.Element.{Element}
-use Rattle.sat_draw.specs.declared.element.Element.TheVariants.{Line, Way, Lost, Dot}
+use Rattle.sat_draw.specs.declared.element.Element.TheVariants.{Line, Way, Lost, Rest, Dot}
 use Rattle.sat_draw.specs.declared.trail.Trail.{Trail}
 use Rattle.sat_draw.specs.Trails.{trail_eq, left_by, comes_from}
-use Rattle.sat_draw.specs.Rows.{spot_of, mark_title}
+use Rattle.sat_draw.specs.Columns.{row_y}
+use Rattle.sat_draw.specs.Rows.{spot_at, spot_of, first_spot, mark_title}
 use Rattle.sat_draw.specs.Lost.{is_link, is_settled, takes, beside}
 use Rattle.sat_draw.specs.Drawing.{elements}
 
@@ -68,6 +70,15 @@ pub record IsLeft (d : Deployed) (h : List Entry) (t : Trail) (there : Spot) : T
   pub last : list_any (λ e. has trail_eq (left_by e.act e.answer) t) later ≡ false
   pub there_is : there ≡ spot_of d before entry
 
+-- no entry of a history left a trail, and it begins there
+pub record IsFirst (d : Deployed) (h : List Entry) (t : Trail) (there : Spot) : Type 0 where
+  pub never : list_any (λ e. has trail_eq (left_by e.act e.answer) t) h ≡ false
+  pub there_is : first_spot d t ≡ Some there
+
+-- where a trail was left last, or where it begins
+abbrev pub Begins : Deployed → List Entry → Trail → Spot → Type 0
+Begins d h t there = IsLeft d h t there ⊎ IsFirst d h t there
+
 -- the inks of what moves or waits: of labels, payloads, beats, clients and sites
 abbrev pub is_way_ink : Ink → Bool
 is_way_ink ink.Label = true
@@ -81,17 +92,24 @@ is_way_ink ink.Beat = true
 is_way_ink ink.Seat = true
 is_way_ink ink.Away = true
 is_way_ink ink.Switch = true
+is_way_ink ink.View = true
 is_way_ink _ = false
 
 -- a line of a trail that ends at the mark of an entry which comes from it, and begins where it was left last before
+-- that, or where it begins
 pub record IsWay (d : Deployed) (h : List Entry) (ink : Ink) (trail : Trail) (from to : Spot) : Type 0 where
   pub later : List Entry
   pub entry : Entry
   pub before : List Entry
   pub parts : h ≡ later ++ entry ∷ before
   pub comes_from_it : In (comes_from entry.act entry.answer) (record { ink = ink; trail = trail })
-  pub begins : IsLeft d before trail from
+  pub begins : Begins d before trail from
   pub ends : to ≡ spot_of d before entry
+
+-- a line of a trail that nothing ended: from where it was left last, or begins, straight down to below the last row
+pub record IsRest (d : Deployed) (h : List Entry) (trail : Trail) (from to : Spot) : Type 0 where
+  pub begins : Begins d h trail from
+  pub down : to ≡ spot_at from.x (row_y d (length h))
 
 -- a line that looks like a way and has no trail
 abbrev pub is_loose_way : Element → Bool
@@ -122,9 +140,12 @@ pub record LostAreCrossed (d : Deployed) (h : List Entry) : Type 0 where
   pub each : (t : Trail) (here : Spot) → IsLost d h t here → In (elements d h) (Lost t here (beside here))
   pub only : (t : Trail) (here to : Spot) → In (elements d h) (Lost t here to) → IsLost d h t here
 
--- each line of a label, a payload or a beat is such a way, nothing else looks like one, and what was lost is crossed
+-- each line of a label, a payload, a beat, a client or a site is such a way, or goes down to the end, nothing else
+-- looks like one, and what was lost is crossed
 pub record WaysAreTold (d : Deployed) (h : List Entry) : Type 0 where
   pub each : (ink : Ink) (trail : Trail) (from to : Spot) → In (elements d h) (Way ink trail from to)
       → IsWay d h ink trail from to
+  pub rests : (ink : Ink) (trail : Trail) (from to : Spot) → In (elements d h) (Rest ink trail from to)
+      → IsRest d h trail from to
   pub no_others : filter is_loose_way (elements d h) ≡ []
   pub lost : LostAreCrossed d h

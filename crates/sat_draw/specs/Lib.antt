@@ -3,6 +3,7 @@ pub mod Columns
 pub mod Trails
 pub mod Rows
 pub mod Lost
+pub mod Rests
 pub mod Tracks
 pub mod Head
 pub mod Legend

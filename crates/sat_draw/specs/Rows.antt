@@ -1,5 +1,6 @@
 -- The rows of a drawing: one for each entry, the oldest first.
-use Rattle.std.specs.Prelude.{ℕ, ◌+◌, ◌-◌, Bool, true, false, List, [], ◌∷◌, ◌++◌, length, Option, Some, None, if◌then◌else◌}
+use Rattle.std.specs.Prelude.{ℕ, ◌+◌, ◌-◌, ◌==◌, Bool, true, false, List, [], ◌∷◌, ◌++◌, length, Option, Some, None}
+use Rattle.std.specs.Prelude.{if◌then◌else◌}
 use Rattle.std.specs.List.{flat_map}
 use Rattle.sat_label.specs.Words.{has}
 use Rattle.sat_act.specs.declared.act.Act.{Act}
@@ -8,7 +9,7 @@ use Rattle.sat_act.specs.declared.answer.Answer.{Answer}
 use Rattle.sat_act.specs.declared.answer.Answer.TheVariants as ans
 use Rattle.sat_act.specs.declared.entry.Entry.{Entry}
 use Rattle.sat_act.specs.Deployed.{Deployed}
-use Rattle.sat_act.specs.Parts.{seat}
+use Rattle.sat_act.specs.Parts.{home, seat}
 use Rattle.sat_act.specs.Settling.{is_done}
 use Rattle.sat_report.specs.Answers.{answer_line}
 use Rattle.sat_draw.specs.declared.element.Ink.{Ink}
@@ -18,7 +19,9 @@ use Rattle.sat_draw.specs.declared.element.Element.{Element}
 use Rattle.sat_draw.specs.declared.element.Element.TheVariants.{Line, Way, Glow, Dot, Word}
 use Rattle.sat_draw.specs.declared.trail.Trail.{Trail}
 use Rattle.sat_draw.specs.declared.trail.Coming.{Coming}
-use Rattle.sat_draw.specs.Columns.{act_column, columns, column_x, answers_x, row_y}
+use Rattle.sat_draw.specs.declared.trail.TheConstants.{SEATED}
+use Rattle.sat_draw.specs.declared.geometry.TheConstants.{ABOVE}
+use Rattle.sat_draw.specs.Columns.{site_column, act_column, columns, column_x, answers_x, rows_top, row_y}
 use Rattle.sat_draw.specs.Trails.{trail_eq, left_by, born, comes_from}
 use Rattle.sat_script.specs.Spelled.{act_text}
 use Rattle.sat_script.specs.Table.{act_words}
@@ -44,6 +47,24 @@ unfolding left_by seat
 last_spot d [] t = None
 last_spot d (entry ∷ before) t =
     after_leaving (left_by entry.act entry.answer) (spot_of d before entry) (last_spot d before t) t
+
+-- a place above the first row, in the column of a client's first seat
+abbrev pub top_of : Deployed → Option ℕ → Option Spot
+top_of d None = None
+top_of d (Some i) = Some (spot_at (column_x (site_column d i)) (rows_top d - ABOVE))
+
+-- where a trail begins that no entry left: a client is at its first seat
+unfoldable pub first_spot : Deployed → Trail → Option Spot
+unfolding home
+first_spot d t = if t.stop == SEATED then top_of d (home d t.ts) else None
+
+abbrev pub or_else : Option Spot → Option Spot → Option Spot
+or_else None other = other
+or_else (Some s) other = Some s
+
+-- where a trail was left last, or begins
+abbrev pub begin : Deployed → (Trail → Option Spot) → Trail → Option Spot
+begin d found t = or_else (found t) (first_spot d t)
 
 -- a line to here from where a trail was left, if it was
 abbrev pub arrow : Coming → Spot → Option Spot → List Element
@@ -115,7 +136,7 @@ signs d here entry = rule d entry.act here ++ (death entry.answer here ++ glow (
 
 -- and with what leads to a mark that stands here, by where trails were left
 abbrev pub ways_at : Deployed → (Trail → Option Spot) → Spot → Entry → List Element
-ways_at d found here entry = signs d here entry ++ arrows found here (comes_from entry.act entry.answer)
+ways_at d found here entry = signs d here entry ++ arrows (begin d found) here (comes_from entry.act entry.answer)
 
 -- the mark, and its words
 abbrev pub marks_at : Deployed → ℕ → Spot → Entry → List Element
@@ -131,7 +152,7 @@ marks_of d before entry = marks_at d (length before) (spot_of d before entry) en
 
 -- those of a history, of which the newest entry stands first and is drawn last
 unfoldable pub ways : Deployed → List Entry → List Element
-unfolding last_spot comes_from born seat
+unfolding last_spot first_spot comes_from born seat
 ways d [] = []
 ways d (entry ∷ before) = ways d before ++ ways_of d before entry
 

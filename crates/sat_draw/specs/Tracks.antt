@@ -11,6 +11,7 @@ use Rattle.sat_draw.specs.declared.tracks.Tracks.{Tracks}
 use Rattle.sat_draw.specs.Trails.{trail_cmp, left_by, comes_from, reseated, after_change}
 use Rattle.sat_draw.specs.Rows.{after_leaving, last_spot, ways, marks}
 use Rattle.sat_draw.specs.Lost.{is_settled, after_taking, lost_spot, sendings_at, sendings, crosses}
+use Rattle.sat_draw.specs.Rests.{rests}
 use Rattle.sat_draw.specs.Elements.{spelled}
 
 -- the seat of a client by the seats that changed: the one of its header line where it has not changed
@@ -46,4 +47,4 @@ pub record IsDrawn (d : Deployed) (lines words : List ℕ) (tracks : Tracks) (en
 
 -- the lines and the marks of a history's rows were added
 pub record HasRows (d : Deployed) (old new : List ℕ) (h : List Entry) : Type 0 where
-  pub added : new ≡ (old ++ spelled (ways d h ++ crosses d h)) ++ spelled (marks d h)
+  pub added : new ≡ (old ++ spelled (ways d h ++ (crosses d h ++ rests d h))) ++ spelled (marks d h)

@@ -1,5 +1,6 @@
 -- What an entry leaves for later ones, and what it comes from.
-use Rattle.std.specs.Prelude.{ℕ, Bool, true, false, ◌&&◌, ◌==◌, List, [], ◌∷◌, map, Option, Some, None, unwrap_or, if◌then◌else◌}
+use Rattle.std.specs.Prelude.{ℕ, Bool, true, false, ◌&&◌, ◌==◌, List, [], ◌∷◌, map, Option, Some, None, unwrap_or}
+use Rattle.std.specs.Prelude.{if◌then◌else◌}
 use Rattle.std.specs.Ordering.{nat_cmp, ordering_then}
 use Rattle.std.specs.declared.cmp.Ordering.{Ordering}
 use Rattle.sat_label.specs.declared.label.Label.{Label}
@@ -20,7 +21,9 @@ use Rattle.sat_draw.specs.declared.element.Ink.{Ink}
 use Rattle.sat_draw.specs.declared.element.Ink.TheVariants as ink
 use Rattle.sat_draw.specs.declared.trail.Trail.{Trail}
 use Rattle.sat_draw.specs.declared.trail.Coming.{Coming}
-use Rattle.sat_draw.specs.declared.trail.TheConstants.{MADE, SENT, TO_SITE, TO_SERIALIZER, BROUGHT, BEAT, SEATED, AWAY, CLOSING, BEAT_RANK, CLIENT_RANK, CLOSING_RANK}
+use Rattle.sat_draw.specs.declared.trail.TheConstants.{MADE, SENT, TO_SITE, TO_SERIALIZER, BROUGHT, BEAT, SEATED, AWAY}
+use Rattle.sat_draw.specs.declared.trail.TheConstants.{CLOSING, VIEWING, BEAT_RANK, CLIENT_RANK, CLOSING_RANK}
+use Rattle.sat_draw.specs.declared.trail.TheConstants.{VIEWING_RANK}
 
 -- ---- trails
 
@@ -34,7 +37,15 @@ kind_number (Close e) = e
 -- a label at a stop of its way
 abbrev pub label_at : ℕ → ℕ → Label → Trail
 label_at stop at l =
-    record { stop = stop; at = at; ts = l.point.ts; site = l.point.site; gear = l.point.gear; rank = kind_rank l.kind; number = kind_number l.kind }
+    record {
+      stop = stop;
+      at = at;
+      ts = l.point.ts;
+      site = l.point.site;
+      gear = l.point.gear;
+      rank = kind_rank l.kind;
+      number = kind_number l.kind;
+    }
 
 -- a label that was made
 abbrev pub made : Label → Trail
@@ -64,6 +75,10 @@ client_at stop c = record { stop = stop; at = 0; ts = c; site = 0; gear = 0; ran
 -- site i between its close and its advance
 abbrev pub closing : ℕ → Trail
 closing i = record { stop = CLOSING; at = i; ts = i; site = 0; gear = 0; rank = CLOSING_RANK; number = 0 }
+
+-- site i in a view that it advanced to
+abbrev pub viewing : ℕ → Trail
+viewing i = record { stop = VIEWING; at = i; ts = i; site = 0; gear = 0; rank = VIEWING_RANK; number = 0 }
 
 -- two trails are the same
 abbrev pub trail_eq : Trail → Trail → Bool
@@ -109,7 +124,7 @@ client_trail stop None = []
 client_trail stop (Some c) = client_at stop c ∷ []
 
 -- the trails that an act with this answer leaves: a label that was made, sent or handed on, a payload that was brought,
--- a beat; its client at its seat or on its way; its site, that has closed
+-- a beat; its client at its seat or on its way; its site, that has closed or advanced
 unfoldable pub left_by : Act → Answer → List Trail
 left_by a (ans.Wrote l) = made l ∷ client_trail SEATED (of_client a)
 left_by a ans.ReadNone = client_trail SEATED (of_client a)
@@ -124,6 +139,7 @@ left_by a (ans.Closed e p) = sent (record { point = p; kind = Close e }) ∷ clo
 left_by a (ans.Hopped l to) = map (toward l) to
 left_by a (ans.Brought l) = brought l (site_in a) ∷ []
 left_by a (ans.Beat n) = beat_left a n
+left_by a (ans.View v) = viewing (site_in a) ∷ []
 left_by a _ = []
 
 -- the trail of a label on which it is made: an update and a move before they are sent, a pulse and a close as they are
@@ -173,7 +189,7 @@ client_coming ink stop (Some c) = comes ink (client_at stop c) ∷ []
 -- the trails on which an act with this answer ends, and how each is drawn: a label waits in the sink from its making to
 -- its sending, and then goes over links; a payload goes from its write to its site, and waits there until its update is
 -- shown; a beat goes from site to site; a client comes from its last act, and without a seat from its leave, over the
--- attaches that were refused; a site from its close to its advance
+-- attaches that were refused; a site from its close to its advance, and from there to its next close
 unfoldable pub comes_from : Act → Answer → List Coming
 comes_from a (ans.Wrote l) = client_coming ink.Seat SEATED (of_client a)
 comes_from a ans.ReadNone = client_coming ink.Seat SEATED (of_client a)
@@ -183,6 +199,7 @@ comes_from a (ans.Left p) = client_coming ink.Seat SEATED (of_client a)
 comes_from a ans.Attached = client_coming ink.Away AWAY (of_client a)
 comes_from a (ans.Refused r) = client_coming ink.Away AWAY (waiting a r)
 comes_from a (ans.View v) = comes ink.Switch (closing (site_in a)) ∷ []
+comes_from a (ans.Closed e p) = comes ink.View (viewing (site_in a)) ∷ []
 comes_from a (ans.Emitted l) = comes ink.Sink (made l) ∷ []
 comes_from a (ans.Hopped l to) = hopped_from a l
 comes_from a (ans.Brought l) = comes ink.Payload (made l) ∷ []

@@ -1,7 +1,9 @@
 //! Where the columns and the rows of a drawing stand.
 ghost use Rattle.std.specs.Prelude.{◌≡◌, ◌≤◌, ◌*◌, ◌+◌, length, take, ℕ, Option};
 ghost use Rattle.sat_act.specs.Limits.{IsDeployment};
-ghost use Rattle.sat_draw.specs.Columns.{serializers_of, serializers_in, left_sites, site_column, serializer_column, columns, seat_column, column_x, answers_x, plan_height, plans_height, rows_top, row_y};
+ghost use Rattle.sat_draw.specs.Columns.{serializers_of, serializers_in, left_sites, site_column, serializer_column};
+ghost use Rattle.sat_draw.specs.Columns.{columns, seat_column, column_x, answers_x, plan_height, plans_height};
+ghost use Rattle.sat_draw.specs.Columns.{rows_top, row_y};
 
 use crate::geometry::{ANSWERS, COLUMN, FIRST_COLUMN, NAMES, OUTSIDE, STEP, TREE_MARGINS, TREES};
 use sat_act::{Deployment, Plan};

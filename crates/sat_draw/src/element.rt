@@ -38,6 +38,8 @@ pub enum Ink {
     Away,
     /// A site from its close to its advance.
     Switch,
+    /// A site in a view that it advanced to, up to its next close.
+    View,
     /// A serializer that was killed.
     Dead,
     /// An act that was done.
@@ -48,6 +50,8 @@ pub enum Ink {
     Title,
     /// The name of a column.
     Name,
+    /// The names of the clients that sit at a site from the beginning.
+    Client,
     /// The name of an epoch, or of a node in its tree.
     Epoch,
     /// An act's line.
@@ -122,6 +126,13 @@ pub enum Element {
     },
     /// The short way of a label that was sent and never taken, with a cross at its end.
     Lost {
+        trail: Trail,
+        from: Spot,
+        to: Spot,
+    },
+    /// What stays where it was left to the end, with such a title: a client at its seat, or a site.
+    Rest {
+        ink: Ink,
         trail: Trail,
         from: Spot,
         to: Spot,

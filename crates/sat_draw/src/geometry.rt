@@ -30,6 +30,9 @@ pub const TREE_MARGINS: u64 = 50;
 /// What the names of the columns take, above the rows and below them.
 pub const NAMES: u64 = 50;
 
+/// How far above the first row a client's first seat begins.
+pub const ABOVE: u64 = 12;
+
 /// The columns have their names again behind so many pixels, which are forty rows.
 pub const NAMES_APART: u64 = 880;
 

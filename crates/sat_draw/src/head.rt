@@ -1,19 +1,22 @@
 //! What stands above and behind the rows of a drawing.
-ghost use Rattle.std.specs.Prelude.{◌≡◌, ◌≤◌, ◌<◌, ◌+◌, ◌*◌, ◌^◌, ◌++◌, ◌∷◌, [], List, length, OnOk, IfOk, Some, slice_get};
+ghost use Rattle.std.specs.Prelude.{◌≡◌, ◌≤◌, ◌<◌, ◌+◌, ◌*◌, ◌^◌, ◌++◌, ◌∷◌, [], List, length, OnOk, IfOk, Some};
+ghost use Rattle.std.specs.Prelude.{slice_get};
 ghost use Rattle.std.specs.Fmt.{decimal};
 ghost use Rattle.sat_label.specs.declared.node.NodeId.TheVariants.{Site, Serializer};
 ghost use Rattle.sat_label.specs.Text.{node_text};
 ghost use Rattle.sat_tree.specs.Cut.{parent_of, seat_of};
 ghost use Rattle.sat_draw.specs.Columns.{column_x, rows_top, row_y, site_column, serializer_column};
-ghost use Rattle.sat_draw.specs.Head.{name_at, repeats, names, lane, site_lanes, tree_y, serializer_spot, site_spot};
+ghost use Rattle.sat_draw.specs.Head.{name_at, repeats, names, lane, name_for, names_for, first_clients, site_lane};
+ghost use Rattle.sat_draw.specs.Head.{site_lanes};
+ghost use Rattle.sat_draw.specs.Head.{name_above, name_below, tree_y, serializer_spot, site_spot};
 ghost use Rattle.sat_draw.specs.Head.{node, branch, column_name, serializer_elements, serializers_elements};
 ghost use Rattle.sat_draw.specs.Head.{seat_elements, seats_elements, epoch_name, tree_elements, plan_elements};
 ghost use Rattle.sat_draw.specs.Head.{plans_elements, counted, caption, head};
 
 use crate::columns::{column_x, plan_height, serializer_column, site_column};
 use crate::element::{Element, Ink, Spot, Text};
-use crate::geometry::{NAMES_APART, NAMES_SPARED, ROW, STEP, TREES};
-use sat_act::{Deployment, Plan};
+use crate::geometry::{ABOVE, NAMES_APART, NAMES_SPARED, ROW, STEP, TREES};
+use sat_act::{ClientLine, Deployment, Plan};
 use sat_label::NodeId;
 use sat_tree::Tree;
 use std::alloc::{AllocError, Global};
@@ -111,6 +114,57 @@ fn push_lane(
     push_names(alloc, top, column, name, repeats(top, bottom), out)
 }
 
+// The name of a client, if its first seat is at this site.
+fn push_client(client: &ClientLine, site: u16, out: &mut Vec<u8>) -> Result<(), AllocError>
+    ensures { OnOk result (out.new.items ≡ out.old.items ++ name_for site client.now) }
+{
+    if client.site != site {
+        return Ok(());
+    }
+    out.extend_from_slice(client.name.bytes())?;
+    out.push(b' ')?;
+    Ok(())
+}
+
+fn names_for(alloc: Global, clients: &[ClientLine], site: u16) -> Result<Text, AllocError>
+    ensures { IfOk result (λ text. text ≡ names_for clients.now site) }
+{
+    let mut names = Vec::new(alloc);
+    for client in clients {
+        push_client(client, site, &mut names)?;
+    }
+    Ok(Text::of(names))
+}
+
+// The column of a site, with its first clients.
+fn push_site_lane(
+    alloc: Global,
+    d: &Deployment,
+    top: u64,
+    bottom: u64,
+    site: u16,
+    out: &mut Vec<Element>,
+) -> Result<(), AllocError>
+    requires top { 30 ≤ top }
+    requires low { top ≤ 40000000 }
+    requires bottom { bottom ≤ 2 ^ 40 }
+    ensures { OnOk result (out.new.items ≡ out.old.items ++ site_lane d.now top bottom site) }
+{
+    let name = node_name(alloc, NodeId::Site(site))?;
+    let column = site_column(d, site);
+    push_lane(alloc, top, bottom, column, &name, out)?;
+    let clients = names_for(alloc, d.clients(), site)?;
+    out.push(Element::Word {
+        ink: Ink::Client,
+        at: Spot {
+            x: column_x(column) + 9,
+            y: top - ABOVE,
+        },
+        text: clients,
+    })?;
+    Ok(())
+}
+
 // The columns of the sites.
 fn push_site_lanes(
     alloc: Global,
@@ -125,8 +179,7 @@ fn push_site_lanes(
     ensures { OnOk result (out.new.items ≡ out.old.items ++ site_lanes d.now top bottom d.now.sites) }
 {
     for site in 0..d.sites() {
-        let name = node_name(alloc, NodeId::Site(site))?;
-        push_lane(alloc, top, bottom, site_column(d, site), &name, out)?;
+        push_site_lane(alloc, d, top, bottom, site, out)?;
     }
     Ok(())
 }
@@ -135,6 +188,7 @@ fn tree_y(y: u64, place: u16) -> u64
     requires { y ≤ 40000000 }
     ensures result_is { result ≡ tree_y y place }
     ensures below { 20 ≤ result }
+    ensures high { result ≤ 50000000 }
 {
     y + 20 + u64::from(place) * STEP
 }
@@ -155,7 +209,7 @@ fn site_spot(d: &Deployment, y: u64, tree: &Tree, site: u16) -> Spot
     requires { y ≤ 40000000 }
     ensures spot { result ≡ site_spot d.now y tree.now site }
     ensures right { result.x ≤ 400000000 }
-    ensures below { 20 ≤ result.y }
+    ensures high { result.y ≤ 50000000 }
 {
     Spot {
         x: column_x(site_column(d, site)),
@@ -163,11 +217,37 @@ fn site_spot(d: &Deployment, y: u64, tree: &Tree, site: u16) -> Spot
     }
 }
 
-// A node and its name.
-fn push_node(alloc: Global, at: Spot, name: Text, out: &mut Vec<Element>) -> Result<(), AllocError>
+fn name_above(at: Spot) -> Spot
     requires right { at.x ≤ 400000000 }
-    requires below { 20 ≤ at.y }
-    ensures { OnOk result (out.new.items ≡ out.old.items ++ node at name) }
+    requires low { 20 ≤ at.y }
+    ensures { result ≡ name_above at }
+{
+    Spot {
+        x: at.x + 7,
+        y: at.y - 5,
+    }
+}
+
+fn name_below(at: Spot) -> Spot
+    requires right { at.x ≤ 400000000 }
+    requires high { at.y ≤ 50000000 }
+    ensures { result ≡ name_below at }
+{
+    Spot {
+        x: at.x + 7,
+        y: at.y + 13,
+    }
+}
+
+// A node and its name, which stands there.
+fn push_node(
+    alloc: Global,
+    at: Spot,
+    there: Spot,
+    name: Text,
+    out: &mut Vec<Element>,
+) -> Result<(), AllocError>
+    ensures { OnOk result (out.new.items ≡ out.old.items ++ node at there name) }
 {
     let title = name.bytes().to_vec(alloc)?;
     out.push(Element::Dot {
@@ -177,10 +257,7 @@ fn push_node(alloc: Global, at: Spot, name: Text, out: &mut Vec<Element>) -> Res
     })?;
     out.push(Element::Word {
         ink: Ink::Epoch,
-        at: Spot {
-            x: at.x + 7,
-            y: at.y - 5,
-        },
+        at: there,
         text: name,
     })?;
     Ok(())
@@ -257,7 +334,8 @@ fn push_serializer(
 {
     push_branch(d, epoch, y, z, parent_of(tree, z), out)?;
     let name = node_name(alloc, NodeId::Serializer(z))?;
-    push_node(alloc, serializer_spot(d, epoch, y, z), name, out)?;
+    let at = serializer_spot(d, epoch, y, z);
+    push_node(alloc, at, name_above(at), name, out)?;
     let name = column_name(alloc, epoch, z)?;
     push_lane(
         alloc,
@@ -314,7 +392,7 @@ fn push_seat(
         out,
     )?;
     let name = node_name(alloc, NodeId::Site(site))?;
-    push_node(alloc, at, name, out)
+    push_node(alloc, at, name_below(at), name, out)
 }
 
 fn push_seats(

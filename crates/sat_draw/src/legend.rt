@@ -17,17 +17,18 @@ line{fill:none;stroke-width:1}\n\
 .pulse{stroke-width:1}\n\
 .payload{stroke-width:1.7;marker-end:url(#p)}\n\
 .beat{stroke-width:1.6;stroke-dasharray:2 4;marker-end:url(#b)}\n\
-.sink{stroke-width:2;stroke-dasharray:2 3;transform:translate(-3px,0)}\n\
-.store{stroke-width:2;stroke-dasharray:2 3;transform:translate(3px,0)}\n\
+.sink{stroke-width:2;stroke-dasharray:2 3;transform:translate(-5px,0)}\n\
+.store{stroke-width:2;stroke-dasharray:2 3;transform:translate(5px,0)}\n\
 .dead{stroke-width:3}\n\
 circle.refused{stroke-width:1.4}\n\
 .name{font-weight:bold;text-anchor:middle}\n\
 .title{font:bold 15px system-ui,sans-serif}\n\
 .how{font:12px system-ui,sans-serif}\n\
 .lost{marker-end:url(#x)}\n\
-.seat{stroke-width:6;stroke-linecap:round;opacity:.35}\n\
+.seat{stroke-width:6;stroke-linecap:round;opacity:.65}\n\
 .away{stroke-dasharray:1 9}\n\
-.switch{stroke-width:14;opacity:.3}\n\
+.switch{stroke-width:14;opacity:.45}\n\
+.view{stroke-width:14;opacity:.22}\n\
 .ground{fill:#fff}\n\
 text{fill:#1b1b1f;stroke:#fff}\n\
 .lane{stroke:#d0d0d8}\n\
@@ -45,8 +46,10 @@ circle.refused{fill:#fff;stroke:#65656f}\n\
 .hp{fill:#1f6fc0}\n\
 .hb{fill:#5c5c66}\n\
 .hx{fill:none;stroke:#c22;stroke-width:2}\n\
-.seat{stroke:#1a7f4b}\n\
+.seat{stroke:#0b7040}\n\
+.client{fill:#1a7f4b}\n\
 .switch{stroke:#c98a2b}\n\
+.view{stroke:#5a6b8c}\n\
 @media (prefers-color-scheme:dark){\n\
 .ground{fill:#16171b}\n\
 text{fill:#ececf1;stroke:#16171b}\n\
@@ -66,7 +69,9 @@ circle.refused{fill:#16171b;stroke:#a6a6b2}\n\
 .hb{fill:#b9b9c6}\n\
 .hx{fill:none;stroke:#ff6b6b;stroke-width:2}\n\
 .seat{stroke:#58c98d}\n\
+.client{fill:#58c98d}\n\
 .switch{stroke:#b5893f}\n\
+.view{stroke:#8fa3c8}\n\
 }\n\
 </style>\n\
 <defs>\n\
@@ -89,7 +94,7 @@ markerUnits='userSpaceOnUse'><path class='hx' d='M1 1L9 9M9 1L1 9'/></marker>\n\
 <line class='label close' x1='194' y1='74' x2='228' y2='74'/>\n\
 <text class='epoch' x='236' y='78'>close</text>\n\
 <line class='label lost' x1='287' y1='74' x2='321' y2='74'/>\n\
-<text class='epoch' x='329' y='78'>never taken</text>\n\
+<text class='epoch' x='333' y='78'>never taken</text>\n\
 <line class='sink' x1='420' y1='74' x2='454' y2='74'/>\n\
 <text class='epoch' x='462' y='78'>in its sink</text>\n\
 <line class='payload' x1='8' y1='90' x2='42' y2='90'/>\n\
@@ -111,6 +116,8 @@ markerUnits='userSpaceOnUse'><path class='hx' d='M1 1L9 9M9 1L1 9'/></marker>\n\
 <text class='epoch' x='150' y='110'>client on its way</text>\n\
 <line class='switch' x1='280' y1='106' x2='314' y2='106'/>\n\
 <text class='epoch' x='322' y='110'>site between close and advance</text>\n\
+<line class='view' x1='540' y1='106' x2='574' y2='106'/>\n\
+<text class='epoch' x='582' y='110'>site in a later view</text>\n\
 ";
 
 /// What it is, the style, and the legend.

@@ -8,6 +8,7 @@ mod head;
 mod legend;
 mod lost;
 mod picture;
+mod rests;
 mod rows;
 mod spell;
 mod tracks;

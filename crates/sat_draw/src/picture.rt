@@ -7,13 +7,14 @@ ghost use Rattle.sat_draw.specs.Head.{head};
 ghost use Rattle.sat_draw.specs.Tracks.{IsDrawn, HasRows};
 ghost use Rattle.sat_draw.specs.Drawing.{opening, title_text, start, drawing};
 ghost use Rattle.sat_draw.specs.Laws.{EachIsDrawnOnce, WaysAreTold};
-ghost use Rattle.sat_draw.specs.Seats.{GoesBySeats, PathsAreAtSeats};
+ghost use Rattle.sat_draw.specs.Seats.{IsOfRun, PathsAreAtSeats};
 
 use crate::columns::{answers_x, rows_top};
 use crate::geometry::{NAMES, RIGHT, ROW};
 use crate::head::{caption, head};
 use crate::legend::legend;
 use crate::lost::crosses;
+use crate::rests::rests;
 use crate::rows::append_row;
 use crate::spell::append_elements;
 use crate::tracks::Tracks;
@@ -73,22 +74,25 @@ fn append_head(
     append_elements(all.as_slice(), out)
 }
 
-// The rows' lines and then their words, with the labels that were lost.
+// The rows' lines and then their words, with the labels that were lost and with what stays down to y.
 fn append_drawn(
     alloc: Global,
     d: &Deployment,
     tracks: &Tracks,
+    y: u64,
     lines: Vec<u8>,
     words: &[u8],
     out: &mut Vec<u8>,
 ) -> Result<(), AllocError>
-    ensures { OnOk result ((entries : List Entry) → IsDrawn d.now lines.items words.now tracks.now entries
+    ensures { OnOk result ((entries : List Entry) → y ≡ row_y d.now (length entries)
+        → IsDrawn d.now lines.items words.now tracks.now entries
         → HasRows d.now out.old.items out.new.items (reverse entries)) }
 {
-    let _ = d;
     let mut lines = lines;
-    let all = crosses(alloc, &tracks.under_way, tracks.sendings.as_slice())?;
-    append_elements(all.as_slice(), &mut lines)?;
+    let lost = crosses(alloc, &tracks.under_way, tracks.sendings.as_slice())?;
+    append_elements(lost.as_slice(), &mut lines)?;
+    let stays = rests(alloc, d, tracks, y)?;
+    append_elements(stays.as_slice(), &mut lines)?;
     out.extend_from_slice(lines.as_slice())?;
     out.extend_from_slice(words)?;
     Ok(())
@@ -121,7 +125,8 @@ fn append_rows(
             &mut words,
         )?;
     }
-    append_drawn(alloc, d, &tracks, lines, words.as_slice(), out)?;
+    let bottom = top + entries.len() as u64 * ROW;
+    append_drawn(alloc, d, &tracks, bottom, lines, words.as_slice(), out)?;
     Ok(())
 }
 
@@ -133,7 +138,7 @@ pub fn draw(alloc: Global, d: &Deployment, entries: &[Entry]) -> Result<Vec<u8>,
     ensures text { IfOk result (λ text. text.items ≡ drawing d.now (reverse entries.now)) }
     ensures once { IfOk result (λ _. EachIsDrawnOnce d.now (reverse entries.now)) }
     ensures told { IfOk result (λ _. WaysAreTold d.now (reverse entries.now)) }
-    ensures seats { IfOk result (λ _. GoesBySeats d.now (reverse entries.now)
+    ensures seats { IfOk result (λ _. IsOfRun d.now (reverse entries.now)
         → PathsAreAtSeats d.now (reverse entries.now)) }
 {
     let top = rows_top(d);

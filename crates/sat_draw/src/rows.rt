@@ -6,7 +6,8 @@ ghost use Rattle.sat_report.specs.Answers.{answer_line};
 ghost use Rattle.sat_script.specs.Spelled.{act_text};
 ghost use Rattle.sat_draw.specs.Columns.{act_column, answers_x, rows_top};
 ghost use Rattle.sat_draw.specs.Elements.{spelled};
-ghost use Rattle.sat_draw.specs.Rows.{mark_spot, arrow, arrow_for, arrows, is_across, rule, cross, is_killed, death};
+ghost use Rattle.sat_draw.specs.Rows.{mark_spot, begin, arrow, arrow_for, arrows, is_across, rule, cross, is_killed};
+ghost use Rattle.sat_draw.specs.Rows.{death};
 ghost use Rattle.sat_draw.specs.Rows.{glow, signs, mark_ink, answer_ink, mark_title, mark_of, answer_of, act_of};
 ghost use Rattle.sat_draw.specs.Rows.{ways_at, marks_at};
 ghost use Rattle.sat_draw.specs.Trails.{born, comes_from};
@@ -15,8 +16,9 @@ ghost use Rattle.sat_draw.specs.Tracks.{seat_by, spot_by, IsDrawn};
 use crate::columns::{answers_x, column_x, columns, seat_column, serializer_column, site_column};
 use crate::element::{Element, Ink, Spot, Text};
 use crate::geometry::ROW;
+use crate::rests::begin;
 use crate::spell::append_elements;
-use crate::tracks::{Tracks, seat_by, spot_by};
+use crate::tracks::{Tracks, seat_by};
 use crate::trail::{Coming, Trail, born, comes_from};
 use sat_act::{Act, Answer, Deployment, Entry};
 use sat_report::write_answer;
@@ -79,14 +81,15 @@ fn mark_spot(
 }
 
 fn push_arrow(
+    d: &Deployment,
     spots: &BTreeMap<Trail, Spot>,
     here: Spot,
     coming: Coming,
     out: &mut Vec<Element>,
 ) -> Result<(), AllocError>
-    ensures { OnOk result (out.new.items ≡ out.old.items ++ arrow_for (spot_by spots.now) here coming) }
+    ensures { OnOk result (out.new.items ≡ out.old.items ++ arrow_for (begin d.now (spot_by spots.now)) here coming) }
 {
-    match spot_by(spots, coming.trail) {
+    match begin(d, spots, coming.trail) {
         None => Ok(()),
         Some(there) => {
             out.push(Element::Way {
@@ -101,15 +104,16 @@ fn push_arrow(
 }
 
 fn push_arrows(
+    d: &Deployment,
     spots: &BTreeMap<Trail, Spot>,
     here: Spot,
     all: &[Coming],
     out: &mut Vec<Element>,
 ) -> Result<(), AllocError>
-    ensures { OnOk result (out.new.items ≡ out.old.items ++ arrows (spot_by spots.now) here all.now) }
+    ensures { OnOk result (out.new.items ≡ out.old.items ++ arrows (begin d.now (spot_by spots.now)) here all.now) }
 {
     for coming in all {
-        push_arrow(spots, here, *coming, out)?;
+        push_arrow(d, spots, here, *coming, out)?;
     }
     Ok(())
 }
@@ -373,7 +377,7 @@ fn ways_at(
     let mut all = Vec::new(alloc);
     push_signs(d, here, entry, &mut all)?;
     let coming = comes_from(alloc, entry)?;
-    push_arrows(spots, here, coming.as_slice(), &mut all)?;
+    push_arrows(d, spots, here, coming.as_slice(), &mut all)?;
     Ok(all)
 }
 

@@ -1,8 +1,9 @@
 //! How elements are spelled.
 ghost use Rattle.std.specs.Prelude.{◌≡◌, ◌++◌, OnOk, OnErr, IfOk, codes};
-ghost use Rattle.sat_draw.specs.Elements.{ink_word, escape, escaped, line_text, group_text, way_word};
+ghost use Rattle.sat_draw.specs.Elements.{ink_word, escape, escaped, line_text, group_text, way_word, lost_class};
 ghost use Rattle.sat_draw.specs.Elements.{label_title, number_title, way_title};
-ghost use Rattle.sat_draw.specs.Elements.{way_class, way_start, way_ends, way_text, under_pointer, are_thick, glow_text, dot_start, dot_text, room};
+ghost use Rattle.sat_draw.specs.Elements.{way_class, way_start, way_ends, way_text, under_pointer, are_thick};
+ghost use Rattle.sat_draw.specs.Elements.{glow_text, dot_start, dot_text, room};
 ghost use Rattle.sat_draw.specs.Elements.{whole_of, front_of, word_start, word_text, spell, spelled};
 ghost use Rattle.sat_report.specs.Fronts.{Keeps};
 
@@ -30,11 +31,13 @@ fn ink_word(ink: Ink) -> &'static str
         Ink::Seat => "seat",
         Ink::Away => "seat away",
         Ink::Switch => "switch",
+        Ink::View => "view",
         Ink::Dead => "dead",
         Ink::Done => "done",
         Ink::Refused => "refused",
         Ink::Title => "title",
         Ink::Name => "name",
+        Ink::Client => "client",
         Ink::Epoch => "epoch",
         Ink::Act => "act",
         Ink::Said => "said",
@@ -108,6 +111,7 @@ fn way_word(ink: Ink) -> &'static str
         Ink::Seat => "client",
         Ink::Away => "on its way: client",
         Ink::Switch => "closed, not yet advanced: site",
+        Ink::View => "in a later view: site",
         _ => "",
     }
 }
@@ -244,6 +248,7 @@ fn room(ink: Ink) -> usize
         Ink::Act => 27,
         Ink::Said => 41,
         Ink::Denied => 41,
+        Ink::Client => 16,
         _ => 400,
     }
 }
@@ -296,6 +301,20 @@ fn append_word(
     out.extend_from_slice(b"</text>\n")
 }
 
+// The class of a label that was lost.
+#[tactic(auto, unfolding(crate::specs::Elements::lost_class))]
+fn lost_class(rank: u16) -> &'static str
+    ensures { result.now ≡ lost_class rank }
+{
+    if rank == 1 {
+        "label move lost"
+    } else if rank == 3 {
+        "label close lost"
+    } else {
+        "label lost"
+    }
+}
+
 #[tactic(auto, unfolding(crate::specs::Elements::spell))]
 fn append_element(element: &Element, out: &mut Vec<u8>) -> Result<(), AllocError>
     ensures ok { OnOk result (out.new.items ≡ out.old.items ++ spell element.now) }
@@ -310,8 +329,21 @@ fn append_element(element: &Element, out: &mut Vec<u8>) -> Result<(), AllocError
             to,
         } => { append_way(ink_word(*ink), way_word(*ink), *trail, *from, *to, out) }
         Element::Lost { trail, from, to } => {
-            append_way("label lost", "never taken:", *trail, *from, *to, out)
+            append_way(
+                lost_class(trail.rank),
+                "never taken:",
+                *trail,
+                *from,
+                *to,
+                out,
+            )
         }
+        Element::Rest {
+            ink,
+            trail,
+            from,
+            to,
+        } => { append_way(ink_word(*ink), way_word(*ink), *trail, *from, *to, out) }
         Element::Glow { trail } => append_glow(*trail, out),
         Element::Dot { ink, at, text } => append_dot(ink_word(*ink), *at, text.bytes(), out),
         Element::Word { ink, at, text } => append_word(

@@ -29,7 +29,7 @@ pub struct Tracks {
 
 // The site of a client's header line.
 #[tactic(auto, unfolding(sat_act::specs::Parts::home))]
-fn home(d: &Deployment, client: u16) -> Option<u16>
+pub(crate) fn home(d: &Deployment, client: u64) -> Option<u16>
     ensures { result ≡ home d.now client }
 {
     match d.clients().get(client as usize) {
@@ -48,7 +48,7 @@ pub(crate) fn seat_by(
 {
     match seats.get(&client) {
         Some(seat) => *seat,
-        None => home(d, client),
+        None => home(d, u64::from(client)),
     }
 }
 

@@ -5,8 +5,11 @@ ghost use Rattle.sat_label.specs.declared.label.Kind.TheVariants.{Close};
 ghost use Rattle.sat_act.specs.Done.{of_client};
 ghost use Rattle.sat_label.specs.declared.node.NodeId.TheVariants.{Site};
 ghost use Rattle.sat_draw.specs.declared.element.Ink.TheVariants as ink;
-ghost use Rattle.sat_draw.specs.Trails.{client_at, closing, attaching, is_not_yet, waiting, client_trail, client_coming};
-ghost use Rattle.sat_draw.specs.Trails.{kind_number, label_at, made, sent, toward, brought, beat, site_in, beat_left, left_by, born, kind_ink, comes, hopped_from, shown_from, took_from, taken_from, comes_from, attached_by, freed_by, reseated};
+ghost use Rattle.sat_draw.specs.Trails.{client_at, closing, viewing, attaching, is_not_yet, waiting, client_trail};
+ghost use Rattle.sat_draw.specs.Trails.{client_coming};
+ghost use Rattle.sat_draw.specs.Trails.{kind_number, label_at, made, sent, toward, brought, beat, site_in, beat_left};
+ghost use Rattle.sat_draw.specs.Trails.{left_by, born, kind_ink, comes, hopped_from, shown_from, took_from, taken_from};
+ghost use Rattle.sat_draw.specs.Trails.{comes_from, attached_by, freed_by, reseated};
 
 use crate::element::Ink;
 use sat_act::{Act, Answer, Entry, Refusal};
@@ -41,6 +44,9 @@ pub const AWAY: u16 = 7;
 /// A site that has closed.
 pub const CLOSING: u16 = 8;
 
+/// A site in a view that it advanced to.
+pub const VIEWING: u16 = 9;
+
 /// The rank of a beat's trail, which no label has.
 pub const BEAT_RANK: u16 = 4;
 
@@ -49,6 +55,9 @@ pub const CLIENT_RANK: u16 = 5;
 
 /// The rank of the trail of a site that has closed.
 pub const CLOSING_RANK: u16 = 6;
+
+/// The rank of the trail of a site that has advanced.
+pub const VIEWING_RANK: u16 = 7;
 
 /// A stop on the way of a label, of a payload, which goes by the label of its update, or of a beat.
 #[derive(Clone, Copy, Debug, PartialEq, Eq, PartialOrd, Ord)]
@@ -132,7 +141,7 @@ fn beat(from: u16, to: u16, number: u64) -> Trail
     }
 }
 
-fn client_at(stop: u16, client: u16) -> Trail
+pub(crate) fn client_at(stop: u16, client: u16) -> Trail
     ensures { result ≡ client_at stop client }
 {
     Trail {
@@ -146,7 +155,7 @@ fn client_at(stop: u16, client: u16) -> Trail
     }
 }
 
-fn closing(site: u16) -> Trail
+pub(crate) fn closing(site: u16) -> Trail
     ensures { result ≡ closing site }
 {
     Trail {
@@ -156,6 +165,20 @@ fn closing(site: u16) -> Trail
         site: 0,
         gear: 0,
         rank: CLOSING_RANK,
+        number: 0,
+    }
+}
+
+pub(crate) fn viewing(site: u16) -> Trail
+    ensures { result ≡ viewing site }
+{
+    Trail {
+        stop: VIEWING,
+        at: site,
+        ts: u64::from(site),
+        site: 0,
+        gear: 0,
+        rank: VIEWING_RANK,
         number: 0,
     }
 }
@@ -296,6 +319,7 @@ pub(crate) fn left_by(alloc: Global, entry: &Entry) -> Result<Vec<Trail>, AllocE
         Answer::Hopped { label, to } => handed_on(alloc, *label, to.as_slice()),
         Answer::Brought(label) => one(alloc, label_at(BROUGHT, site_in(act), *label)),
         Answer::Beat(number) => beat_left(alloc, act, *number),
+        Answer::View(_) => one(alloc, viewing(site_in(act))),
         _ => Ok(Vec::new(alloc)),
     }
 }
@@ -424,6 +448,7 @@ pub(crate) fn comes_from(alloc: Global, entry: &Entry) -> Result<Vec<Coming>, Al
         Answer::Attached => client_coming(alloc, Ink::Away, AWAY, of_client(act)),
         Answer::Refused(refusal) => client_coming(alloc, Ink::Away, AWAY, waiting(act, refusal)),
         Answer::View(_) => one_coming(alloc, Ink::Switch, closing(site_in(act))),
+        Answer::Closed { .. } => one_coming(alloc, Ink::View, viewing(site_in(act))),
         Answer::Emitted(label) => one_coming(alloc, Ink::Sink, label_at(MADE, 0, *label)),
         Answer::Hopped { label, .. } => hopped_from(alloc, act, *label),
         Answer::Brought(label) => one_coming(alloc, Ink::Payload, label_at(MADE, 0, *label)),

@@ -6,5 +6,5 @@ loop-site-init c = no_lanes c.args.out.now.items c.args.d.now c.args.top c.args.
 
 pub loop-site-preserved : goal.loop-site-preserved
 loop-site-preserved c =
-    more_lanes c.args.out.now.items c.loop-site.out.items c.push_lane.new.out.items c.args.d.now c.args.top c.args.bottom c.loop-site.site c.site_column.result c.in_ok-name.name
-    c.in_ok-push_lane.ensures c.site_column.ensures.column c.in_ok-name.ensures c.loop-site.invariant
+    more_lanes c.args.out.now.items c.loop-site.out.items c.push_site_lane.new.out.items c.args.d.now c.args.top c.args.bottom c.loop-site.site
+    c.in_ok-push_site_lane.ensures c.loop-site.invariant

@@ -5,7 +5,7 @@ use Rattle.std.specs.Ordering.{nat_cmp}
 use Rattle.sat_draw.specs.declared.element.Spot.{Spot}
 use Rattle.sat_draw.specs.declared.trail.Trail.{Trail}
 use Rattle.sat_draw.specs.declared.trail.Coming.{Coming}
-use Rattle.sat_draw.specs.Trails.{left_by, comes_from, after_change}
+use Rattle.sat_draw.specs.Trails.{left_by, after_change}
 use Rattle.sat_draw.specs.Rows.{after_leaving}
 use Rattle.sat_draw.specs.Lost.{is_settled, after_taking, sendings_at}
 use Rattle.sat_draw.specs.Tracks.{spot_by}
