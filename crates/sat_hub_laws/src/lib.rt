@@ -6,10 +6,10 @@ ghost use Rattle.sat_hub_laws.specs.Laws.{GearsAnswer, GearsAreHomes, GearsRepla
 ghost use Rattle.sat_hub_laws.specs.Parts.{InputsShare, PartsAreExact, PartsHaveHomes, PartsJoin, PartsRise};
 ghost use Rattle.sat_hub_laws.specs.Sites.{GearsActAlone, GearsWrite, HubsActAlone, HubsGather, HubsShow};
 
-/// What the hub and the gears of a site answer and become in an act, handed what they give one another, is what the site
-/// answers and becomes: in an act of the hub or of a gear alone the other nodes stay; a gather drains the gears that gave
-/// what it was handed; in a turn or a stamp that shows, and in a write of several items, the gears of the items show the
-/// payload.
+/// What the hub and the gears of a site answer and become in an act, handed what they give one another, is what the
+/// site answers and becomes: in an act of the hub or of a gear alone the other nodes stay; a gather drains the gears
+/// that gave what it was handed; in a turn or a stamp that shows, and in a write of several items, the gears of the
+/// items show the payload.
 pub fn site_acts()
     ensures hubs { HubsActAlone }
     ensures gather { HubsGather }
