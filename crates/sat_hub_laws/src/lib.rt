@@ -2,7 +2,7 @@
 #![tactic(auto)]
 
 ghost use Rattle.sat_hub_laws.specs.Changes.{GearsChange, HubsChange};
-ghost use Rattle.sat_hub_laws.specs.Laws.{GearsAnswer, GearsAreHomes, GearsReplay, HubsAnswer, HubsAreHomes, HubsReplay, JournalsAreRuns, JournalsJoin, SitesAreReplayed};
+ghost use Rattle.sat_hub_laws.specs.Laws.{GearsAnswer, GearsAreHomes, GearsReplay, HubsAnswer, HubsAreHomes, HubsReplay, HubsStandAt, JournalsAreRuns, JournalsJoin, SitesAreReplayed, WritesStandAt};
 ghost use Rattle.sat_hub_laws.specs.Parts.{InputsShare, PartsAreExact, PartsHaveHomes, PartsJoin, PartsRise};
 ghost use Rattle.sat_hub_laws.specs.Sites.{GearsActAlone, GearsWrite, HubsActAlone, HubsGather, HubsShow};
 
@@ -30,6 +30,8 @@ pub fn node_changes()
 pub fn node_journals()
     ensures hubs { HubsAreHomes }
     ensures gears { GearsAreHomes }
+    ensures beside { HubsStandAt }
+    ensures written { WritesStandAt }
     ensures hub_answers { HubsAnswer }
     ensures gear_answers { GearsAnswer }
     ensures hub_states { HubsReplay }
