@@ -5,3 +5,4 @@ pub mod Joined
 pub mod Replayed
 pub mod Changes
 pub mod Exact
+pub mod Tables

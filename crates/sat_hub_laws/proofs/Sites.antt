@@ -154,7 +154,7 @@ module _ (d : Deployed) (i : ℕ) (h : HubState) (gs : ℕ → GearNode) (seen :
   home = gear_for d items
 
   abbrev StepFor : Answer → Type 0
-  StepFor r = kept_site d i (site_next d i (whole d i h gs) (site.Write seen items values) r) ≡ whole d i h (with_gear (written_gears d i home gs items values r) home (own_step d home (gs home) (site.Write seen items values) r))
+  StepFor r = kept_site d i (site_next d i (whole d i h gs) (site.Write seen items values) r) ≡ whole d i h (with_gear (written_gears d i gs items values r) home (own_step d home (gs home) (site.Write seen items values) r))
 
   write-refused : (f : Refusal) → StepFor (ans.Refused f)
   write-refused f =
@@ -175,7 +175,7 @@ module _ (d : Deployed) (i : ℕ) (h : HubState) (gs : ℕ → GearNode) (seen :
   abbrev WriteStep : SiteInput → Type 0
   WriteStep s =
       IsSiteStep d i h gs s (gear_answer d i (gs home) (given.Write seen items values)) h
-      (with_gear (written_gears d i home gs items values (gear_answer d i (gs home) (given.Write seen items values))) home (gear_then d home (gs home) (given.Write seen items values) (gear_answer d i (gs home) (given.Write seen items values))))
+      (with_gear (written_gears d i gs items values (gear_answer d i (gs home) (given.Write seen items values))) home (gear_then d home (gs home) (given.Write seen items values) (gear_answer d i (gs home) (given.Write seen items values))))
 
   write-whole : WriteStep (site.Write seen items values)
   unfolding gear_answer site_answer

@@ -157,12 +157,14 @@ HubsChange = (d : Deployed) (i : ℕ) (h : HubState) → HubChanges d i h
 
 -- ---- a gear
 
--- it made this label
+-- a gear that made this label
 abbrev pub gear_moved : GearNode → Label → GearNode
-gear_moved n l =
-    record { gear = record { promise = l.point.ts; fresh = n.gear.fresh ++ l ∷ []; lanes = n.gear.lanes }; store = n.store }
+gear_moved n l = record {
+  gear = record { promise = l.point.ts; fresh = n.gear.fresh ++ l ∷ []; lanes = n.gear.lanes };
+  store = n.store;
+}
 
--- it made this update, which joins the lanes of its targets, and shows the values of all of its items
+-- a gear that made this update, which joins the lanes of its targets, and shows the values of all of its items
 abbrev pub gear_wrote : Deployed → GearNode → Label → List (List ℕ) → GearNode
 gear_wrote d n l values = record {
   gear = record {
@@ -174,6 +176,7 @@ gear_wrote d n l values = record {
       then put (n.store x) (version_at l (value_for (items_of l.kind) values x)) else n.store x;
 }
 
+-- whether an input is an act of the gear's own, and no part of another node's
 abbrev pub input_is_own : GearInput → Bool
 input_is_own (given.Drain f labels stable) = false
 input_is_own (given.Show by p) = false
@@ -181,7 +184,8 @@ input_is_own _ = true
 
 -- what each act of its own makes of gear g. Its parts of other nodes' acts are `gear_drained` and `gear_shows`
 pub record GearChanges (d : Deployed) (g : ℕ) (n : GearNode) : Type 0 where
-  pub refused : (input : GearInput) (f : Refusal) → input_is_own input ≡ true → gear_then d g n input (ans.Refused f) ≡ n
+  pub refused : (input : GearInput) (f : Refusal) → input_is_own input ≡ true
+      → gear_then d g n input (ans.Refused f) ≡ n
   pub tick : (ts t : ℕ) → gear_then d g n (given.Tick ts) (ans.Ticked t)
       ≡ record { gear = record { promise = t; fresh = n.gear.fresh; lanes = n.gear.lanes }; store = n.store }
   pub write : (seen : Carried) (items : Items) (values : List (List ℕ)) (l : Label) → (l.point.gear == g) ≡ true

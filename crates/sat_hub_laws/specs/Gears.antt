@@ -80,7 +80,8 @@ is_shown d by p _ = false
 -- whether an input fits gear g
 abbrev pub gear_fits : Deployed → ℕ → GearInput → Bool
 gear_fits d g (given.Tick ts) = is_time ts
-gear_fits d g (given.Write seen items values) = is_carried d seen && (is_write d items values && (gear_for d items == g))
+gear_fits d g (given.Write seen items values) =
+    is_carried d seen && (is_write d items values && (gear_for d items == g))
 gear_fits d g (given.Read seen x) = is_carried d seen && (is_item d x && (gear_of d x == g))
 gear_fits d g (given.Move seen j) = is_carried d seen && (is_site d j && (0 == g))
 gear_fits d g (given.Drain f labels stable) = true

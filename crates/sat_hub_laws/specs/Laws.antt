@@ -1,5 +1,13 @@
 -- What this crate proves of the journals of hubs and gears.
-use Rattle.std.specs.Prelude.{◌≡◌, ℕ, true, List, Some}
+use Rattle.std.specs.Prelude.{◌≡◌, ℕ, Bool, true, false, ◌||◌, ◌==◌, nat_lt, List, Option, Some}
+use Rattle.sat_label.specs.Grouped.{list_of}
+use Rattle.sat_label.specs.Words.{has}
+use Rattle.sat_label.specs.declared.carried.Carried.{Carried}
+use Rattle.sat_label.specs.declared.items.Items.{Items}
+use Rattle.sat_label.specs.declared.label.Label.{Label}
+use Rattle.sat_act.specs.declared.act.Act.{Act}
+use Rattle.sat_act.specs.declared.act.Act.TheVariants as act
+use Rattle.sat_act.specs.declared.answer.Answer.TheVariants as ans
 use Rattle.sat_label.specs.Members.{In}
 use Rattle.sat_label.specs.declared.node.NodeId.{NodeId}
 use Rattle.sat_tree.specs.Shape.{TreeShape}
@@ -7,25 +15,32 @@ use Rattle.sat_tree.specs.Cut.{is_edge}
 use Rattle.sat_act.specs.declared.answer.Answer.{Answer}
 use Rattle.sat_act.specs.Deployed.{Deployed}
 use Rattle.sat_act.specs.Answers.{InRange}
-use Rattle.sat_act.specs.Parts.{tree_of}
+use Rattle.sat_act.specs.Parts.{items_of, tree_of}
+use Rattle.sat_machine.specs.Reply.{gear_for}
 use Rattle.sat_act.specs.Runs.{IsRun}
 use Rattle.sat_act.specs.Goals.{IsValid}
 use Rattle.sat_machine.specs.Replay.{site_state}
-use Rattle.sat_stitch.specs.Kept.{history, marks}
+use Rattle.sat_stitch.specs.Kept.{Given, OfClient, history, marks}
 use Rattle.sat_stitch.specs.Places.{Session, Client}
 use Rattle.sat_stitch.specs.Fit.{IsHanded}
 use Rattle.sat_stitch.specs.Nodes.{put_on, stands, took_from}
-use Rattle.sat_joint.specs.Pieces.{Piece, Rises, EachOf, given_of, number_of, plains}
-use Rattle.sat_joint.specs.Table.{Node, AtHub, AtGear, AtSerial, Alone, home_at, is_first, link_node, nodes}
+use Rattle.sat_joint.specs.Pieces.{Drain, Piece, Rises, EachOf, given_of, number_of, plains}
+use Rattle.sat_joint.specs.Table.{Node, AtHub, AtGear, AtSerial, Alone, home_at, is_first, link_node, nodes, same_node}
 use Rattle.sat_joint.specs.Machines.{HubState, GearNode, IsGearAnswer, IsHubAnswer, gear_after, hub_after, kept_site, whole}
 use Rattle.sat_joint.specs.Joint.{AnswersAtHome, BeatsFit, IsJointMerge, IsSessionList, JointFit, KnowsClient, PayloadsFit}
 use Rattle.sat_hub_laws.specs.Inputs.{HubInput, GearInput}
+use Rattle.sat_hub_laws.specs.Inputs as given
+use Rattle.sat_hub_laws.specs.Sites.{has_part, is_gather, is_shown}
 use Rattle.sat_hub_laws.specs.Hubs.{hub_act, hub_answer, hub_handed}
 use Rattle.sat_hub_laws.specs.Gears.{gear_act, gear_answer, gear_handed, is_own}
 use Rattle.sat_hub_laws.specs.Lines.{HubLine, GearLine, IsHubJournal, IsGearJournal, gear_pieces, gear_replay, hub_pieces, hub_replay, node_lists}
 use Rattle.sat_hub_laws.specs.Parts.{PartsAgree}
 
 -- ---- the table of nodes, and answers
+
+-- whether an entry stands at gear g of site i
+abbrev pub is_beside : Deployed → ℕ → ℕ → Act → Given → Answer → Bool
+is_beside d i g a x r = has same_node (nodes d a x r) (AtGear i g)
 
 -- a hub is the home of all that it is handed
 abbrev pub HubsAreHomes : Type 0
@@ -38,6 +53,27 @@ abbrev pub GearsAreHomes : Type 0
 GearsAreHomes =
     (d : Deployed) (i g c : ℕ) (input : GearInput) (r : Answer) →
     is_first (AtGear i g) (nodes d (gear_act i g c input) (given_of (gear_handed i input)) r) ≡ is_own d g input
+
+-- the gears at which the acts of a hub stand: at a gather all of the deployment's, at a turn or a stamp that shows those
+-- of the items, and else none
+pub record HubsGears (d : Deployed) (i c g : ℕ) (x : Given) : Type 0 where
+  pub gather : (f : ℕ → Drain) (r : Answer) → is_beside d i g (hub_act i c (given.Gather f)) x r ≡ nat_lt g d.gears
+  pub turn : (front : Option Label) (l : Label)
+      → is_beside d i g (hub_act i c (given.Turn front)) x (ans.Shown l) ≡ has_part d i (items_of l.kind) g
+  pub stamp : (l : Label) → is_beside d i g (hub_act i c given.Stamp) x (ans.Shown l)
+      ≡ has_part d i (items_of l.kind) g
+  pub other : (input : HubInput) (r : Answer) → is_gather input ≡ false → is_shown r ≡ false
+      → is_beside d i g (hub_act i c input) (given_of (hub_handed input)) r ≡ false
+
+abbrev pub HubsStandAt : Type 0
+HubsStandAt = (d : Deployed) (i c g : ℕ) (x : Given) → HubsGears d i c g x
+
+-- a write of several items at gear h stands at the gears of its items too, once it is done
+abbrev pub WritesStandAt : Type 0
+WritesStandAt =
+    (d : Deployed) (i c g : ℕ) (seen : Carried) (items : Items) (values : List (List ℕ)) (l : Label) →
+    is_beside d i g (act.Writes c items values) (OfClient seen (Some i)) (ans.Wrote l)
+    ≡ ((gear_for d items == g) || has_part d i (list_of items) g)
 
 -- what a hub answers is the answer of the act
 abbrev pub HubsAnswer : Type 0

@@ -20,8 +20,8 @@ use Rattle.sat_joint.specs.Table.{AtGear, same_node, gear_nodes, item_gears}
 use Rattle.sat_joint.specs.Machines.{HubState, GearNode, drain_of, fresh_gear, gear_drained, gear_shows, kept_site, shown_by, whole}
 use Rattle.sat_hub_laws.specs.Inputs.{HubInput, GearInput}
 use Rattle.sat_hub_laws.specs.Inputs as given
-use Rattle.sat_hub_laws.specs.Hubs.{hub_answer, hub_then, site_of_hub}
-use Rattle.sat_hub_laws.specs.Gears.{gear_answer, gear_then, is_own, site_of_gear}
+use Rattle.sat_hub_laws.specs.Hubs.{hub_answer, hub_step, hub_then, site_of_hub}
+use Rattle.sat_hub_laws.specs.Gears.{gear_step, is_own, site_of_gear}
 
 -- a step of a site that was this hub and these gears, handed this: its answer, and the hub and the gears that it then
 -- is. Versions of items that it doesn't keep are left out: nothing reads them
@@ -57,8 +57,7 @@ abbrev pub HubsActAlone : Type 0
 HubsActAlone =
     (d : Deployed) (i : ℕ) (h : HubState) (gs : ℕ → GearNode) (input : HubInput) → is_gather input ≡ false →
     is_shown (hub_answer d i h input) ≡ false →
-    IsSiteStep d i h gs (site_of_hub input) (hub_answer d i h input)
-    (hub_then d i h input (hub_answer d i h input)) gs
+    IsSiteStep d i h gs (site_of_hub input) (hub_step d i h input).0 (hub_step d i h input).1 gs
 
 -- ---- a gather, a turn and a stamp that show
 
@@ -67,8 +66,8 @@ abbrev pub HubsGather : Type 0
 HubsGather =
     (d : Deployed) (i : ℕ) (h : HubState) (gs : ℕ → GearNode) (f : ℕ → Drain) →
     ((g : ℕ) → g < d.gears → f g ≡ drain_of (gs g)) → ((g : ℕ) → nat_lt g d.gears ≡ false → gs g ≡ fresh_gear) →
-    IsSiteStep d i h gs (site_of_hub (given.Gather f)) (hub_answer d i h (given.Gather f))
-    (hub_then d i h (given.Gather f) (hub_answer d i h (given.Gather f))) (λ g. gear_drained (gs g))
+    IsSiteStep d i h gs (site_of_hub (given.Gather f)) (hub_step d i h (given.Gather f)).0
+    (hub_step d i h (given.Gather f)).1 (λ g. gear_drained (gs g))
 
 -- where the hub shows an update, in a turn or in a stamp, the gears of its items show the hub's payload
 abbrev pub HubsShow : Type 0
@@ -90,15 +89,19 @@ abbrev pub GearsActAlone : Type 0
 GearsActAlone =
     (d : Deployed) (i g : ℕ) (h : HubState) (gs : ℕ → GearNode) (input : GearInput) (site : SiteInput) →
     is_own d g input ≡ true → is_group input ≡ false → site_of_gear g input ≡ Some site →
-    IsSiteStep d i h gs site (gear_answer d i (gs g) input) h
-    (with_gear gs g (gear_then d g (gs g) input (gear_answer d i (gs g) input)))
+    IsSiteStep d i h gs site (gear_step d i g (gs g) input).0 h (with_gear gs g (gear_step d i g (gs g) input).1)
 
 -- ---- a write of several items
 
--- what the gears make of a write that was answered so, of which gear g is the home
-abbrev pub written_gears : Deployed → ℕ → ℕ → (ℕ → GearNode) → Items → List (List ℕ) → Answer → ℕ → GearNode
-written_gears d i g gs items values (ans.Wrote l) k = showing d i (list_of items) (payload_at l values) gs k
-written_gears d i g gs items values r k = gs k
+-- what the gears make of a write that was answered so
+abbrev pub written_gears : Deployed → ℕ → (ℕ → GearNode) → Items → List (List ℕ) → Answer → ℕ → GearNode
+written_gears d i gs items values (ans.Wrote l) k = showing d i (list_of items) (payload_at l values) gs k
+written_gears d i gs items values r k = gs k
+
+-- what the least item's gear answers to a write of these, and then is
+abbrev pub home_step : Deployed → ℕ → (ℕ → GearNode) → Carried → Items → List (List ℕ) → Answer × GearNode
+home_step d i gs seen items values =
+    gear_step d i (gear_for d items) (gs (gear_for d items)) (given.Write seen items values)
 
 -- a write of several items is the site's: the least item's gear stamps it, the gears of the others show its payload,
 -- and the hub is left
@@ -107,10 +110,6 @@ GearsWrite =
     (d : Deployed) (i : ℕ) (h : HubState) (gs : ℕ → GearNode) (seen : Carried) (items : Items)
     (values : List (List ℕ)) (site : SiteInput) →
     site_of_gear (gear_for d items) (given.Write seen items values) ≡ Some site →
-    IsSiteStep d i h gs site (gear_answer d i (gs (gear_for d items)) (given.Write seen items values)) h
-    (with_gear
-    (written_gears d i (gear_for d items) gs items values
-    (gear_answer d i (gs (gear_for d items)) (given.Write seen items values)))
-    (gear_for d items)
-    (gear_then d (gear_for d items) (gs (gear_for d items)) (given.Write seen items values)
-    (gear_answer d i (gs (gear_for d items)) (given.Write seen items values))))
+    IsSiteStep d i h gs site (home_step d i gs seen items values).0 h
+    (with_gear (written_gears d i gs items values (home_step d i gs seen items values).0) (gear_for d items)
+    (home_step d i gs seen items values).1)

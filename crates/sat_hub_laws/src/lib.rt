@@ -2,14 +2,14 @@
 #![tactic(auto)]
 
 ghost use Rattle.sat_hub_laws.specs.Changes.{GearsChange, HubsChange};
-ghost use Rattle.sat_hub_laws.specs.Laws.{GearsAnswer, GearsAreHomes, GearsReplay, HubsAnswer, HubsAreHomes, HubsReplay, JournalsAreRuns, JournalsJoin, SitesAreReplayed};
+ghost use Rattle.sat_hub_laws.specs.Laws.{GearsAnswer, GearsAreHomes, GearsReplay, HubsAnswer, HubsAreHomes, HubsReplay, HubsStandAt, JournalsAreRuns, JournalsJoin, SitesAreReplayed, WritesStandAt};
 ghost use Rattle.sat_hub_laws.specs.Parts.{InputsShare, PartsAreExact, PartsHaveHomes, PartsJoin, PartsRise};
 ghost use Rattle.sat_hub_laws.specs.Sites.{GearsActAlone, GearsWrite, HubsActAlone, HubsGather, HubsShow};
 
-/// What the hub and the gears of a site answer and become in an act, handed what they give one another, is what the site
-/// answers and becomes: in an act of the hub or of a gear alone the other nodes stay; a gather drains the gears that gave
-/// what it was handed; in a turn or a stamp that shows, and in a write of several items, the gears of the items show the
-/// payload.
+/// What the hub and the gears of a site answer and become in an act, handed what they give one another, is what the
+/// site answers and becomes: in an act of the hub or of a gear alone the other nodes stay; a gather drains the gears
+/// that gave what it was handed; in a turn or a stamp that shows, and in a write of several items, the gears of the
+/// items show the payload.
 pub fn site_acts()
     ensures hubs { HubsActAlone }
     ensures gather { HubsGather }
@@ -30,6 +30,8 @@ pub fn node_changes()
 pub fn node_journals()
     ensures hubs { HubsAreHomes }
     ensures gears { GearsAreHomes }
+    ensures beside { HubsStandAt }
+    ensures written { WritesStandAt }
     ensures hub_answers { HubsAnswer }
     ensures gear_answers { GearsAnswer }
     ensures hub_states { HubsReplay }
