@@ -1,5 +1,5 @@
 -- What an act with chains, done and answered, makes of a follower.
-use Rattle.std.proofs.Common.{◌≡◌, ℕ, ◌+◌, ◌≤◌, List, [], ◌∷◌, ◌++◌, length, Option, Some, None, Result, Ok, Err, OnOk, refl, sym, ap, subst, ◌∙◌, arith}
+use Rattle.std.proofs.Common.{◌≡◌, ℕ, ◌+◌, ◌≤◌, List, [], ◌∷◌, length, Option, Some, None, Result, Ok, Err, OnOk, sym, ap, subst, ◌∙◌, arith}
 use Rattle.sat_act.specs.Deployed.{Deployed}
 use Rattle.sat_chain.specs.Applies.{ChainApplies}
 use Rattle.sat_chain.specs.Stands.{ChainsSeen, ChainsFor}
@@ -9,7 +9,7 @@ use Rattle.sat_chain_laws.specs.Chains.{ChainEntry}
 use Rattle.sat_chain_laws.specs.Ranges.{IsChainActOf}
 use Rattle.sat_chain_laws.specs.declared.chain_act.ChainAct.{ChainAct}
 use Rattle.sat_chain_laws.specs.declared.chain_answer.ChainAnswer.{ChainAnswer}
-use Rattle.sat_chain_rules.specs.Steps.{ChainState, entries_with, told_with}
+use Rattle.sat_chain_rules.specs.Steps.{ChainState, entries_with}
 use Rattle.sat_chain_rules.specs.Texts.{numbered}
 use Rattle.sat_chain_script.specs.declared.line.ChainParsed.TheVariants as says
 use Rattle.sat_chain_script.proofs.Sound.{chain_fit}
@@ -22,7 +22,6 @@ use Rattle.sat_script.specs.Kept.{IsFit}
 use Rattle.sat_script.specs.State.{Seen, deployment_of, with_one_act}
 use Rattle.sat_script.specs.declared.line.Stage.TheVariants as stage
 use Rattle.sat_script.proofs.Stands.{limits_few}
-use Rattle.sat_chain_runs.specs.ChainTexts.{texts_of}
 use Rattle.sat_chain_runs.specs.Held.{HeldSeen, AreChainsOf, StandFor, IsHeld, StandsAt, StaysKnown, KeepsHistories, HasAnswer, GoesBy}
 use Rattle.sat_chain_runs.proofs.Going.{fit_at, chains_of, header_at}
 

@@ -1,18 +1,16 @@
 -- A follower of scripts with chains, line by line, and the states that it stands for.
-use Rattle.std.proofs.Common.{◌≡◌, ◌≢◌, ◌⊎◌, inl, inr, ℕ, ◌+◌, ◌<◌, ◌≤◌, true, false, ltb, List, [], ◌∷◌, ◌++◌, length, Option, Some, None, Result, Ok, Err, append-nil, refl, sym, ap, subst, ◌∙◌, arith}
-use Rattle.sat_chain.specs.Stands.{ChainsSeen, ChainsFor}
-use Rattle.sat_act.specs.Deployed.{Deployed}
-use Rattle.sat_chain_laws.specs.Chains.{ChainEntry}
-use Rattle.sat_chain_laws.specs.ChainRuns.{IsChainRun}
+use Rattle.std.proofs.Common.{◌≡◌, inl, inr, ℕ, ◌<◌, ◌≤◌, false, ltb, List, [], ◌++◌, length, Option, Some, None, Result, Ok, Err, append-nil, refl, sym, ap, subst, ◌∙◌, arith}
+use Rattle.sat_chain.specs.Stands.{ChainsSeen}
 use Rattle.sat_chain_laws.specs.declared.chain_act.ChainAct.{ChainAct}
+use Rattle.sat_chain_laws.specs.declared.chain_act.ChainAct.TheVariants as chain
 use Rattle.sat_chain_rules.specs.Steps.{ChainState, act_in, entries_with, told_with, state_after, outcome, chain_rules}
 use Rattle.sat_chain_rules.proofs.Bounds.{chain_counted, bytes_few, open_none, open_at, stuck_ended, stuck_long}
 use Rattle.sat_chain_script.specs.Forms.{step_words}
-use Rattle.sat_chain_script.specs.ChainLines.{chain_line, chain_after, form_at, words_after, line_as, of_step}
+use Rattle.sat_chain_script.specs.ChainLines.{chain_line, chain_after, saying, form_at, words_after, line_as, of_step}
 use Rattle.sat_chain_script.specs.declared.form.ChainForm.{ChainForm}
 use Rattle.sat_chain_script.specs.declared.line.ChainParsed.{ChainParsed}
 use Rattle.sat_chain_script.specs.declared.line.ChainParsed.TheVariants as says
-use Rattle.sat_chain_script.proofs.Sound.{IsChainLine, chain_line_is, chain_fit, script_said}
+use Rattle.sat_chain_script.proofs.Sound.{chain_line_is, chain_fit, script_said}
 use Rattle.sat_follow.specs.ByLines.{Begins, GoodLine, IsStuck, IsOpen}
 use Rattle.sat_follow.specs.Rules.{goes}
 use Rattle.sat_script.specs.Grammar.{line_at, after, is_ended}
@@ -26,13 +24,12 @@ use Rattle.sat_script.specs.declared.fault.ScriptFault.{ScriptFault}
 use Rattle.sat_script.specs.declared.limits.TheConstants.{LONGEST_LINE}
 use Rattle.sat_script.specs.declared.line.Line.{Line}
 use Rattle.sat_script.specs.declared.line.Parsed.{Parsed}
-use Rattle.sat_script.specs.declared.line.Stage.{Stage}
 use Rattle.sat_script.specs.declared.line.Stage.TheVariants as stage
 use Rattle.sat_script.proofs.Choices.{passed, skipped}
 use Rattle.sat_script.proofs.Fits.{fit_start, line_is, stands_after}
 use Rattle.sat_script.proofs.Stands.{Stands}
 use Rattle.sat_chain_runs.specs.ChainTexts.{texts_of}
-use Rattle.sat_chain_runs.specs.Held.{HeldSeen, AreChainsOf, StandFor, IsHeld, StandsAt, KeepsHistories, KeepsLine, GoesBy}
+use Rattle.sat_chain_runs.specs.Held.{HeldSeen, AreChainsOf, StandFor, IsHeld, StandsAt, KeepsLine, GoesBy}
 use Rattle.sat_chain_runs.proofs.Reading.{not_ended, deployed_is, deployed_after, IsActLine, act_line_is, reader_moves}
 
 -- ---- what holds of each state that it stands for
@@ -106,6 +103,14 @@ good_act old new line p a text longer held is act goes_by =
     let there = act_line_is r s.script p a (dialect_at old s held st) (chain_line_is r s.script line p fit (line_here old s line p st is)) act in
     subst (λ (x : State). StandsAt new (record { script = x; entries = entries_with s.script.header r s.entries (act_in p) })) (sym there.counted)
     (subst (λ (o : Option ChainAct). StandsAt new (record { script = with_one_act s.script; entries = entries_with s.script.header r s.entries o })) (sym act) (goes_by.stands s st)))
+
+-- the act of a line that says this act
+pub act_saying : (a : ChainAct) → act_in (saying a) ≡ Some a
+act_saying (chain.Plain a) = refl
+act_saying (chain.Enter e u z) = refl
+act_saying (chain.Pass e z k) = refl
+act_saying (chain.Apply e z) = refl
+act_saying (chain.Crash e z k) = refl
 
 -- what the act of such a line asks
 pub act_there : (v : HeldSeen) (line : List ℕ) (p : ChainParsed) (a : ChainAct) → IsHeld v → chain_line v.replicas v.reader.state line ≡ Ok p → act_in p ≡ Some a → IsActLine v.replicas v.reader.state p a

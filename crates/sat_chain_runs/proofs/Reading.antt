@@ -1,5 +1,5 @@
 -- The reader's state and what a line makes of it.
-use Rattle.std.proofs.Common.{◌≡◌, ◌⊎◌, inl, inr, ℕ, ◌+◌, ◌<◌, ◌≤◌, true, false, ltb, List, Option, Some, None, Result, Ok, Err, IsSome, is_some, refl, sym, ap, subst, ◌∙◌, arith}
+use Rattle.std.proofs.Common.{◌≡◌, ◌⊎◌, inl, inr, ℕ, ◌+◌, ◌<◌, ◌≤◌, true, false, ltb, List, Option, Some, None, Result, Ok, Err, IsSome, is_some, refl, ap, subst, ◌∙◌, arith}
 use Rattle.std.proofs.lemmas.Bool.Decides.{nat_tests}
 use Rattle.sat_act.specs.declared.act.Act.{Act}
 use Rattle.sat_act.specs.declared.act.Act.TheVariants as act
@@ -15,7 +15,6 @@ use Rattle.sat_chain_script.proofs.Sound.{IsChainLine, allowed}
 use Rattle.sat_script.specs.Causes.{full}
 use Rattle.sat_script.specs.Dialect.{has_form, is_chained}
 use Rattle.sat_script.specs.Grammar.{line_at, after, next_stage, with_parsed, with_act, with_settle, is_ended}
-use Rattle.sat_script.specs.Kept.{IsFit}
 use Rattle.sat_script.specs.Lines.{Takes}
 use Rattle.sat_script.specs.State.{State, Seen, limits_at, deployed_at, deployment_of, with_one_act}
 use Rattle.sat_script.specs.Table.{form_of}

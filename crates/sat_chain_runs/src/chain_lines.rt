@@ -6,14 +6,14 @@ ghost use Rattle.sat_script.specs.State.{deployment_of, fault_at};
 ghost use Rattle.sat_script.specs.declared.line.Stage.TheVariants as stage;
 ghost use Rattle.sat_report.specs.Faults.{fault_line};
 ghost use Rattle.sat_chain_laws.specs.Ranges.{IsChainActOf};
-ghost use Rattle.sat_chain_script.specs.ChainLines.{chain_line};
+ghost use Rattle.sat_chain_script.specs.ChainLines.{chain_line, saying};
 ghost use Rattle.sat_chain_rules.specs.Steps.{chain_rules, act_in};
 ghost use Rattle.sat_chain_runs.specs.ChainTexts.{texts_of, chain_meaning};
 ghost use Rattle.sat_chain_runs.specs.Held.{HeldSeen, StandsAt, StaysKnown, KeepsHistories, HasAnswer, GoesBy, KeepsLine, HasHoldings};
 
 use sat_chain::{ChainAct, Chains};
 use sat_chain_rules::chain_lines_make_texts;
-use sat_chain_script::{ChainParsed, chain_line};
+use sat_chain_script::{ChainParsed, chain_line, good_chain_act};
 use sat_chain_texts::write_chain_numbered;
 use sat_follow::{Follower, LineFollower, Lines};
 use sat_report::{LineFront, write_fault, write_holdings};
@@ -73,6 +73,10 @@ impl LineFollower for ChainLines {
     ghost stands_for = { λ v s. StandsAt v s };
 
     fn line(&mut self, line: &[u8], text: &mut Vec<u8>) -> Result<bool, AllocError> {
+        if let Some(act) = good_chain_act(&self.reader, self.replicas, line) {
+            self.answer_good(&act, line, text)?;
+            return Ok(true);
+        }
         match chain_line(&self.reader, self.replicas, line) {
             Ok(parsed) => {
                 self.take(parsed, line, text)?;
@@ -170,6 +174,23 @@ impl ChainLines {
         }
     }
 
+    // Does the act that the next line says, which was found quickly.
+    fn answer_good(
+        &mut self,
+        act: &ChainAct,
+        line: &[u8],
+        text: &mut Vec<u8>,
+    ) -> Result<(), AllocError>
+        requires says { chain_line self.old.replicas self.old.reader.state line.now ≡ Ok (saying act.now) }
+        ensures replicas { self.new.replicas ≡ self.old.replicas }
+        ensures ok { OnOk result (GoodLine (chain_rules (texts_of self.old.replicas) self.old.replicas)
+            (StandsAt self.old) (StandsAt self.new) line.now text.old.items text.new.items) }
+    {
+        let _ = &self.replicas;
+        let _ = line;
+        self.answer(act, text)
+    }
+
     // Says why the next line is refused.
     fn refuse(&mut self, cause: Cause, text: &mut Vec<u8>) -> Result<(), AllocError>
         ensures replicas { self.new.replicas ≡ self.old.replicas }
@@ -211,7 +232,8 @@ impl ChainLines {
         }
     }
 
-    // Makes chains to which nothing has happened, of the deployment that was read, where there are none yet.
+    // Sees to it that there are chains. They are made by the first act, or by the end.
+    #[inline(always)]
     fn make_chains(&mut self) -> Result<(), AllocError>
         requires begun { IsSome (deployment_of self.old.reader.state) }
         ensures reader { self.new.reader ≡ self.old.reader }
@@ -223,6 +245,20 @@ impl ChainLines {
         if self.chains.is_some() {
             return Ok(());
         }
+        self.begin_chains()
+    }
+
+    // Makes chains to which nothing has happened, of the deployment that was read.
+    #[inline(never)]
+    fn begin_chains(&mut self) -> Result<(), AllocError>
+        requires begun { IsSome (deployment_of self.old.reader.state) }
+        requires none { self.old.chains ≡ None }
+        ensures reader { self.new.reader ≡ self.old.reader }
+        ensures replicas { self.new.replicas ≡ self.old.replicas }
+        ensures number { self.new.number ≡ self.old.number }
+        ensures keeps { KeepsHistories self.old.chains self.new.chains }
+        ensures some { OnOk result (IsSome self.new.chains) }
+    {
         let Some(deployment) = self.reader.deployment() else {
             unreachable!()
         };
