@@ -35,7 +35,7 @@ given-label [] g l i = absurd i
 given-label (d ∷ drained) zero l i = (d, refl, i)
 given-label (d ∷ drained) (suc g) l i = given-label drained g l i
 
-past-end : (queues : List (List Label)) (g : ℕ) (l : Label) → In (get_or queues g []) l → g < length queues
+pub past-end : (queues : List (List Label)) (g : ℕ) (l : Label) → In (get_or queues g []) l → g < length queues
 past-end [] g l i = absurd i
 past-end (q ∷ queues) zero l i = omega arith
 past-end (q ∷ queues) (suc g) l i = let k : g < length queues = past-end queues g l i in omega arith
@@ -108,7 +108,7 @@ pub close-here : (x : HubSeen) → IsHub x → (cut_of x.sink).site ≡ x.shape.
 close-here x k e = record { own = own-here x (cut_of x.sink).site k e; kind = tt }
 
 pub sent-hub : (x : HubSeen) (l : Label) → IsHub x → l.point.site ≡ x.shape.site → IsHub (sent x l)
-sent-hub x l k own = sink-hub x (after_emit_of x.sink l) k (record { own = k.sink.own; promises = k.sink.promises; rows = length-map x.sink.pending (filter (λ m. not (label_eq l m))) ∙ k.sink.rows; last = own }) 
+sent-hub x l k own = sink-hub x (after_emit_of x.sink l) k (record { own = k.sink.own; promises = k.sink.promises; rows = length-map x.sink.pending (filter (λ m. not (label_eq l m))) ∙ k.sink.rows; last = own })
     (λ g m i. (In-filter (λ m. not (label_eq l m)) (get_or x.sink.pending g []) m (subst (λ (ls : List Label). In ls m) (without-get l x.sink.pending g) i)).0)
 
 pub pulsed-hub : (x : HubSeen) → IsHub x → IsHub (pulsed x)

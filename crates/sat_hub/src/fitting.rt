@@ -54,13 +54,6 @@ fn keeps_some(shape: &Shape, items: &Items) -> bool
     }
 }
 
-/// Whether a number is that of a site.
-pub fn is_site(shape: &Shape, site: u16) -> bool
-    ensures { result ≡ is_site_here shape.now site }
-{
-    site < shape.sites
-}
-
 /// Whether a number is that of another site.
 pub fn is_other(shape: &Shape, site: u16) -> bool
     ensures { result ≡ is_other_here shape.now site }
@@ -108,9 +101,7 @@ fn is_goal(shape: &Shape, goal: Option<u16>) -> bool
 pub fn is_carried(shape: &Shape, carried: &Carried) -> bool
     ensures { result ≡ is_carried_here shape.now carried.now }
 {
-    carried.point.ts <= TS_END
-        && carried.point.site < shape.sites
-        && is_goal(shape, carried.moving)
+    carried.point.ts <= TS_END && carried.point.site < shape.sites && is_goal(shape, carried.moving)
 }
 
 /// Whether items are those of one update of the deployment.
@@ -133,6 +124,13 @@ pub fn is_read(shape: &Shape, carried: &Carried, item: u16) -> bool
     ensures { result ≡ (is_carried_here shape.now carried.now && is_item_here shape.now item) }
 {
     is_carried(shape, carried) && is_item(shape, item)
+}
+
+/// Whether a client may move to a site.
+pub fn is_move(shape: &Shape, carried: &Carried, to: u16) -> bool
+    ensures { result ≡ (is_carried_here shape.now carried.now && is_site_here shape.now to) }
+{
+    is_carried(shape, carried) && to < shape.sites
 }
 
 fn is_kind(shape: &Shape, view: u16, kind: Kind) -> bool
@@ -296,8 +294,7 @@ fn are_own(shape: &Shape, labels: &[Label]) -> bool
 pub fn is_given(shape: &Shape, given: &Drained) -> bool
     ensures { result ≡ is_given_here shape.now given.now }
 {
-    are_own(shape, given.labels.as_slice())
-        && given.counts.as_slice().len() == shape.sites as usize
+    are_own(shape, given.labels.as_slice()) && given.counts.as_slice().len() == shape.sites as usize
 }
 
 /// Whether gears of the site may give these.

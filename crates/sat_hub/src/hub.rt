@@ -1,5 +1,5 @@
 //! Hubs.
-ghost use Rattle.std.specs.Prelude.{◌≡◌, ◌≤◌, ◌<◌, ◌%◌, ◌^◌, length, map, is_none, is_some, slice_get, Some, IfOk, IfSome, MatchOption, OnOk, OnErr, option_copied};
+ghost use Rattle.std.specs.Prelude.{◌≡◌, ◌≤◌, ◌<◌, ◌%◌, ◌^◌, ◌&&◌, length, map, is_none, is_some, slice_get, Some, IfOk, IfSome, MatchOption, OnOk, OnErr, option_copied};
 ghost use Rattle.std.specs.Bool.{Decides};
 ghost use Rattle.std.specs.List.{flat_map};
 ghost use Rattle.sat_label.specs.declared.limits.TheConstants.{MOST_EPOCHS};
@@ -18,14 +18,12 @@ ghost use Rattle.sat_proxy.specs.Proxy.{front_at, window_of, IsProxy};
 ghost use Rattle.sat_proxy.specs.Steps.{after_beat, after_bulk, has_come, stamp_fault, stamp_shows, turn_shows};
 ghost use Rattle.sat_proxy.specs.Answers.{advance_answer, attach_answer, beat_answer, bulk_answer, stamp_answer, turn_answer};
 ghost use Rattle.sat_hub.specs.Seen.{IsGather, IsGuest, IsHub};
-ghost use Rattle.sat_hub.specs.Inputs.{is_beat_here, is_bulk_here, is_counted, is_front_here, may_turn, BulkFits, IsFront};
+ghost use Rattle.sat_hub.specs.Inputs.{is_beat_here, is_bulk_here, is_counted, is_front_here, is_other_here, may_turn, BulkFits, IsFront};
 ghost use Rattle.sat_hub.specs.Changes.{beat_for, beaten, fresh_hub, gathered, made_for, new_hub, stamped, turned};
 ghost use Rattle.sat_hub.specs.HubSteps.{close_after, close_answer, emit_after, emit_answer, emit_sends, fall_after, fall_answer, gather_answer, next_close, next_pulse, passed_after, pulse_after, pulse_answer, stamp_given, stamp_told, turn_given, turn_told};
 
 use crate::beats::{Made, counts_to, fresh_made, points_of};
-use crate::fitting::{
-    are_given, is_beat, is_bulk_guest, is_for_some, is_front, is_gear, is_other,
-};
+use crate::fitting::{are_given, is_beat, is_bulk_guest, is_for_some, is_front, is_gear, is_other};
 use crate::shape::{shape_of, stamp_plans};
 use crate::tally::Tally;
 use sat_act::{Answer, Deployment, Refusal};
@@ -503,11 +501,13 @@ impl Hub {
         self.made[to as usize].get(number)
     }
 
-    /// Whether a beat says points alone. It takes no memory.
-    pub fn is_beat(&self, beat: &Beat) -> bool
-        ensures { result ≡ is_beat_here self.now.shape (length self.now.views.stamp) beat.now }
+    /// Whether a beat is one that another site may send: it says points alone. It takes no memory.
+    pub fn is_beat(&self, from: u16, beat: &Beat) -> bool
+        ensures { result
+            ≡ (is_other_here self.now.shape from
+            && is_beat_here self.now.shape (length self.now.views.stamp) beat.now) }
     {
-        is_beat(&self.shape, self.views.epochs(), beat)
+        is_other(&self.shape, from) && is_beat(&self.shape, self.views.epochs(), beat)
     }
 
     /// Whether a beat has one count for each gear, and at most as many close cuts as there are epochs. It takes no

@@ -9,7 +9,7 @@ mod shape;
 mod tally;
 
 pub use fitting::{
-    is_carried, is_gear, is_group, is_here, is_item, is_other, is_own, is_read, is_site, is_tick,
+    are_given, is_carried, is_given, is_here, is_move, is_other, is_own, is_read, is_tick,
     is_write, keeps_all,
 };
 pub use hub::Hub;

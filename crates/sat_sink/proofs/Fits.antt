@@ -84,7 +84,7 @@ pub on-goes : (s : Sink) (site gear promise : ℕ) (d : Drained) (ls : List Labe
 on-goes s site gear promise d ls own same labels k = (
   subst (λ (n : ℕ). n ≤ d.promise) same k.promise,
   subst (λ (ls : List Label). are_new site gear d.promise ls promise ≡ true) (sym labels)
-  (are-new site gear d.promise d.labels promise k.rises (λ l i. subst (λ (n : ℕ). IsNew n gear promise d.promise l) own (subst (λ (n : ℕ). IsNew s.site gear n d.promise l) same (k.labels l i)))),
+      (are-new site gear d.promise d.labels promise k.rises (λ l i. subst (λ (n : ℕ). IsNew n gear promise d.promise l) own (subst (λ (n : ℕ). IsNew s.site gear n d.promise l) same (k.labels l i)))),
 )
 
 -- ---- one gear after another

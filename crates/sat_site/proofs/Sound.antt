@@ -1,5 +1,5 @@
 -- What is true of each site stays so.
-use Rattle.std.specs.Prelude.{◌≡◌, ◌<◌, ◌≤◌, ◌-◌, ℕ, zero, suc, Bool, true, false, ◌==◌, ◌&&◌, not, List, [], ◌∷◌, length, map, set, get_or, filter, Option, Some, None, slice_get, if◌then◌else◌, refl}
+use Rattle.std.specs.Prelude.{◌≡◌, ◌<◌, ◌≤◌, ℕ, zero, suc, Bool, true, false, ◌==◌, ◌&&◌, not, List, [], ◌∷◌, length, map, set, get_or, Some, slice_get, refl}
 use Rattle.std.proofs.Common.{subst, ap, sym, ◌∙◌, inl, inr}
 use Rattle.std.proofs.lemmas.List.{length-map, length-set}
 use Rattle.sat_site.proofs.Equals.{eqb-self, eqb-comm}
@@ -9,25 +9,20 @@ use Rattle.sat_label.specs.declared.label.Kind.{Kind}
 use Rattle.sat_label.specs.declared.label.Kind.TheVariants.{Update, Move}
 use Rattle.sat_label.specs.declared.point.Point.{Point}
 use Rattle.sat_label.specs.Grouped.{list_of}
-use Rattle.sat_label.specs.Order.{greater_point, label_eq, mark, point_lt}
 use Rattle.sat_bulk.specs.declared.Drained.{Drained}
 use Rattle.sat_label.specs.Members.{In}
 use Rattle.sat_bulk.specs.Drains.{IsNew}
-use Rattle.sat_label.proofs.Members.{In-parts, In-filter}
+use Rattle.sat_label.proofs.Members.{In-parts}
 use Rattle.sat_sites.specs.declared.shape.Shape.{Shape}
-use Rattle.sat_sites.specs.Interested.{Interested, IsLabelOf, is_for, keeps_one, AreBelow}
+use Rattle.sat_sites.specs.Interested.{Interested, is_for, keeps_one, AreBelow}
 use Rattle.sat_label.specs.Versions.{Version}
 use Rattle.sat_gear.specs.Gear.{GearSeen, IsGear, after_tick, after_move, after_write, after_show, payload_with, stamped, after_drain, drained_of}
-use Rattle.sat_sink.specs.Pending.{labels_of, promise_of, is_up_to, all_of}
-use Rattle.sat_sink.specs.Sink.{Sink, IsDrain, IsDrainOf, after_emit_of, after_gather, after_pulse, cut_of, pulse_of, ready_of, stable_of}
-use Rattle.sat_epoch.specs.Epochs.{Epochs}
-use Rattle.sat_proxy.specs.Proxy.{ProxySeen}
-use Rattle.sat_label.proofs.Least.{IsLeast, least-is}
-use Rattle.sat_sink.proofs.Queues.{In-all, Place, joined-get, length-joined, without-get}
-use Rattle.sat_site.specs.Seen.{SiteSeen, AreGears, HasEpochs, HasPeers, HasSink, IsSite, IsGearAt, IsMadeHere}
-use Rattle.sat_site.specs.SiteSteps.{close_label}
-use Rattle.sat_site.specs.Changes.{with_gear, gathered_all, sent, pulsed, counts_of, clocked, ticked_to, HasGear}
-use Rattle.sat_site.proofs.Lists.{set-cases, map-cases, Mapped, get-within}
+use Rattle.sat_sink.specs.Pending.{labels_of, promise_of}
+use Rattle.sat_sink.specs.Sink.{Sink, IsDrain, IsDrainOf, after_gather}
+use Rattle.sat_sink.proofs.Queues.{joined-get, length-joined}
+use Rattle.sat_site.specs.Seen.{SiteSeen, AreGears, IsSite, IsGearAt, IsMadeHere}
+use Rattle.sat_site.specs.Changes.{with_gear, gathered_all, counts_of, clocked, ticked_to, HasGear}
+use Rattle.sat_hub.proofs.Lists.{set-cases, map-cases, Mapped, get-within}
 use Rattle.sat_site.proofs.Gathers.{promise-at, labels-at, each-gear, length-drained}
 
 -- ---- one gear

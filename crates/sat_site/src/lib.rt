@@ -4,17 +4,14 @@
 
 ghost use Rattle.sat_site.specs.Laws.{EachClock, EachFits, EachStep};
 
-mod beats;
 mod gears;
 mod input;
 mod output;
-mod shape;
 mod site;
-mod tally;
 
 pub use input::SiteInput;
 pub use output::{SiteOutput, SiteView};
-pub use shape::interest;
+pub use sat_hub::interest;
 pub use site::Site;
 
 /// Of all that a site keeps and all that it is handed: a site answers as the machine of the model does at each state

@@ -1,0 +1,27 @@
+use Rattle.std.proofs.Common.{Err, refl, ap, ◌∙◌}
+use Rattle.sat_site.proofs.Hubs.{made-site, stamp-after, stamp-guest, stamp-told}
+use Rattle.sat_site.proofs.site.Site.stamp.Goals as goal
+
+pub show_guest-requires : goal.show_guest-requires
+show_guest-requires c = stamp-guest _ _ c.stamp-shown.result c.in-Ok.payload c.stamp-shown.ensures.guest c.stamp-shown.ensures.after c.in-Ok.is
+
+pub invariant_of-self : goal.invariant_of-self
+invariant_of-self c = made-site _ _ _ _ c.self.invariant c.limits_of.ensures c.stamp-shown.ensures.after refl refl
+
+pub returns-in-Ok-clause-answer : goal.returns-in-Ok-clause-answer
+returns-in-Ok-clause-answer c = stamp-told _ _ _ c.stamp-shown.result _ _ c.self.view_is c.stamp-shown.ensures.answer c.in-Ok.is c.show_guest.ensures.answer
+
+pub returns-in-Ok-clause-after : goal.returns-in-Ok-clause-after
+returns-in-Ok-clause-after c = stamp-after _ _ _ _ _ c.stamp-shown.result _ c.self.view_is c.stamp-shown.ensures.after c.stamp-shown.ensures.shows c.in-Ok.is c.show_guest.ensures.after
+
+pub returns-in-Err-TreeOrder-clause-answer : goal.returns-in-Err-TreeOrder-clause-answer
+returns-in-Err-TreeOrder-clause-answer c = stamp-told _ _ _ c.stamp-shown.result _ _ c.self.view_is c.stamp-shown.ensures.answer (c.in-Err-TreeOrder.is ∙ ap Err c.in-Err-TreeOrder.field-0-is) refl
+
+pub returns-in-Err-TreeOrder-clause-after : goal.returns-in-Err-TreeOrder-clause-after
+returns-in-Err-TreeOrder-clause-after c = stamp-after _ _ _ _ _ c.stamp-shown.result _ c.self.view_is c.stamp-shown.ensures.after c.stamp-shown.ensures.shows (c.in-Err-TreeOrder.is ∙ ap Err c.in-Err-TreeOrder.field-0-is) refl
+
+pub returns-in-Err-NotYet-clause-answer : goal.returns-in-Err-NotYet-clause-answer
+returns-in-Err-NotYet-clause-answer c = stamp-told _ _ _ c.stamp-shown.result _ _ c.self.view_is c.stamp-shown.ensures.answer (c.in-Err-NotYet.is ∙ ap Err c.in-Err-NotYet.field-0-is) refl
+
+pub returns-in-Err-NotYet-clause-after : goal.returns-in-Err-NotYet-clause-after
+returns-in-Err-NotYet-clause-after c = stamp-after _ _ _ _ _ c.stamp-shown.result _ c.self.view_is c.stamp-shown.ensures.after c.stamp-shown.ensures.shows (c.in-Err-NotYet.is ∙ ap Err c.in-Err-NotYet.field-0-is) refl
