@@ -1,6 +1,6 @@
 -- A hub of a site at which nothing has happened.
-use Rattle.std.specs.Prelude.{◌≡◌, ◌<◌, ◌^◌, ℕ, zero, suc, Bool, false, List, [], length, map, replicate, get_or, Some, slice_get, refl}
-use Rattle.std.proofs.Common.{subst, ap, sym, ◌∙◌, arith}
+use Rattle.std.specs.Prelude.{◌≡◌, ◌<◌, ◌^◌, ℕ, zero, suc, Bool, false, List, [], length, map, replicate, get_or, Some, IfOk, slice_get, refl}
+use Rattle.std.proofs.Common.{Result, Ok, Err, subst, ap, sym, ◌∙◌, arith}
 use Rattle.std.proofs.lemmas.List.{length-map, length-replicate}
 use Rattle.sat_label.specs.declared.label.Label.{Label}
 use Rattle.sat_bulk.specs.Payloads.{Payload}
@@ -56,5 +56,6 @@ shape-sound d i shape limits lt a e = record {
   items = subst (λ (s : Shape). length s.interest.replicas < 2 ^ 16) (sym e) (let few = limits.few_items in omega (arith, length-map d.items replicas_of));
 }
 
-pub made-same : (d : Deployed) (i : ℕ) (shape : Shape) (stamp : List Bool) (made : HubSeen) → shape ≡ shape_for d i → stamp ≡ map is_stamp_plan d.plans → made ≡ fresh_hub shape stamp → made ≡ new_hub d i
-made-same d i shape stamp made e f g = g ∙ (λ j. fresh_hub (e j) (f j))
+pub made-ok : {E : Type 0} (d : Deployed) (i : ℕ) (shape : Shape) (stamp : List Bool) (r : Result HubSeen E) → shape ≡ shape_for d i → stamp ≡ map is_stamp_plan d.plans → IfOk r (λ made. made ≡ fresh_hub shape stamp) → IfOk r (λ made. made ≡ new_hub d i)
+made-ok d i shape stamp (Ok made) e f g = g ∙ (λ j. fresh_hub (e j) (f j))
+made-ok d i shape stamp (Err fault) e f g = tt

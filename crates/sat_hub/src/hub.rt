@@ -369,8 +369,10 @@ impl Hub {
         ensures shows { option_copied result ≡ turn_shows self.now.views self.now.proxy front.now }
         ensures guest { IfSome result (λ p. IsGuest self.now.shape p.now) }
     {
-        let front = front.as_ref();
-        self.proxy.turn_shows(&self.views, front)
+        match front {
+            None => None,
+            Some(label) => self.proxy.turn_shows(&self.views, Some(label)),
+        }
     }
 
     /// Gives the next update in timestamp order, for the gears of its items to show. It takes no memory; where it

@@ -1,34 +1,32 @@
 //! Sites.
-ghost use Rattle.std.specs.Prelude.{ℕ, ◌%◌, ◌*◌, ◌≡◌, ◌≢◌, ◌≤◌, ◌<◌, ◌==◌, ◌^◌, ◌&&◌, ◌||◌, not, get_or, is_some, length, true, false, slice_get, Some, None, Option, IfOk, IfSome, IsNone, OnOk, OnErr, IsOk, MatchOption, option_copied};
-ghost use Rattle.std.specs.List.{list_all, list_any};
+ghost use Rattle.std.specs.Prelude.{ℕ, ◌%◌, ◌*◌, ◌≡◌, ◌≤◌, ◌<◌, ◌==◌, ◌^◌, ◌&&◌, not, length, true, false, slice_get, Some, None, Option, IfOk, IfSome, IsNone, OnOk, OnErr, IsOk, MatchOption, option_copied};
+ghost use Rattle.std.specs.List.{list_any};
 ghost use Rattle.sat_label.specs.declared.label.Label.{Label};
 ghost use Rattle.sat_label.specs.Grouped.{list_of};
 ghost use Rattle.sat_label.specs.Words.{below};
-ghost use Rattle.sat_sites.specs.Interested.{are_below, keeps_one, AreBelow, IsLabelOf};
+ghost use Rattle.sat_sites.specs.Interested.{AreBelow};
 ghost use Rattle.sat_bulk.specs.Windows.{has_number};
-ghost use Rattle.sat_pool.specs.Pool.{all_waiting, waiting_at};
-ghost use Rattle.sat_epoch.specs.Epochs.{advance_fault, close_fault, fall_fault, in_stamp, is_stamp, IsEpochs};
-ghost use Rattle.sat_gear.specs.Gear.{GearSeen, IsShape, is_due};
+ghost use Rattle.sat_pool.specs.Pool.{all_waiting};
+ghost use Rattle.sat_epoch.specs.Epochs.{advance_fault, close_fault, fall_fault, in_stamp};
+ghost use Rattle.sat_gear.specs.Gear.{GearSeen, is_due};
 ghost use Rattle.sat_sink.specs.Sink.{ready_of};
-ghost use Rattle.sat_label.specs.declared.limits.TheConstants.{MOST_EPOCHS};
 ghost use Rattle.sat_act.specs.Deployed.{Deployed};
 ghost use Rattle.sat_act.specs.declared.answer.Answer.TheVariants as ans;
-ghost use Rattle.sat_act.specs.Parts.{items_of, replicates};
+ghost use Rattle.sat_act.specs.Parts.{replicates};
 ghost use Rattle.sat_act.specs.Settling.{is_done};
 ghost use Rattle.sat_machine.specs.Interests.{interest_of};
 ghost use Rattle.sat_machine.specs.State.{SiteState, fresh_site};
-ghost use Rattle.sat_machine.specs.Fits.{is_time};
 ghost use Rattle.sat_machine.specs.Look.{front_of, mode_of};
-ghost use Rattle.sat_proxy.specs.Proxy.{front_at, window_of, IsProxy};
+ghost use Rattle.sat_proxy.specs.Proxy.{front_at, window_of};
 ghost use Rattle.sat_proxy.specs.Steps.{after_beat, after_bulk, has_come};
 ghost use Rattle.sat_proxy.specs.Answers.{advance_answer, attach_answer, beat_answer, bulk_answer, stamp_answer, turn_answer};
-ghost use Rattle.sat_site.specs.Seen.{has_parts_here, IsGuest, IsSite, SiteSeen};
+ghost use Rattle.sat_site.specs.Seen.{IsGuest, IsSite, SiteSeen};
 ghost use Rattle.sat_site.specs.Lanes.{lane_of};
-ghost use Rattle.sat_site.specs.Inputs.{fits_here, fits_in, is_beat_here, is_bulk_here, is_carried_here, is_counted, is_cut_here, is_front_here, is_gear_here, is_goal_here, is_group_here, is_guest_here, is_item_here, is_kept_here, is_kind_here, is_other_here, is_point_here, is_site_here, is_asked, is_sized, takes_none, BulkFits, IsFront};
+ghost use Rattle.sat_site.specs.Inputs.{fits_here, fits_in, is_counted, is_asked, is_sized, takes_none, BulkFits, IsFront};
 ghost use Rattle.sat_site.specs.Stands.{StandsSite, version_seen};
 ghost use Rattle.sat_site.specs.Gives.{PromisesUpTo, IsOfLane};
-ghost use Rattle.sat_site.specs.Changes.{beat_for, beaten, clocked, fresh_seen, made_for, new_site, HasGear};
-ghost use Rattle.sat_site.specs.SiteSteps.{close_after, close_answer, emit_sends, fall_after, fall_answer, has_target, keeps_each, keeps_item, may_turn, move_after, move_answer, next_close, next_pulse, passed_after, pulse_after, pulse_answer, shown_of, shown_parts, shown_version, site_after, site_answers, site_beat, site_epoch, site_sends, stamped_after, turned_after};
+ghost use Rattle.sat_site.specs.Changes.{beat_for, beaten, clocked, made_for, new_site, HasGear};
+ghost use Rattle.sat_site.specs.SiteSteps.{close_after, close_answer, fall_after, fall_answer, keeps_each, keeps_item, move_after, move_answer, next_pulse, passed_after, pulse_after, pulse_answer, shown_of, shown_parts, shown_version, site_after, site_answers, site_beat, site_epoch, site_sends, stamped_after, turned_after};
 ghost use Rattle.sat_site.specs.Does.{Does, Reads, Stamps, Writes};
 
 use crate::gears::{
@@ -42,7 +40,7 @@ use sat_gear::{Gear, GearFault};
 use sat_hub::{
     Hub, interest, is_carried, is_here, is_move, is_other, is_read, is_tick, is_write, keeps_all,
 };
-use sat_label::{Carried, Items, Kind, Label, Point, Value, Values, Version};
+use sat_label::{Carried, Items, Kind, Label, Point, Value, Version};
 use sat_proxy::{StampFault, TurnFault, Turned};
 use sat_sites::Interest;
 use std::alloc::{AllocError, Global};
@@ -388,8 +386,8 @@ impl Site {
             (self.new ≡ move_after self.old (to == self.old.shape.site) (slice_get self.old.gears 0) carried to) }
         ensures err { OnErr result (self.new ≡ self.old) }
     {
-        let site = self.hub.shape().site;
-        if to == site {
+        let shape = self.hub.shape();
+        if to == shape.site {
             return Ok(Answer::Refused(Refusal::SameSite));
         }
         let gear = &mut self.gears[0];

@@ -7,22 +7,22 @@ use Rattle.sat_site.proofs.Asked.{asks-attach, asks-beat, asks-beat-in, asks-bul
 use Rattle.sat_site.proofs.site.Site.fits_here.Goals as goal
 
 pub returns-in-Tick : goal.returns-in-Tick
-returns-in-Tick c = asks-tick _ _ _ _ _ _ (c.shape.ensures.shape ∙ ap (λ (x : SiteSeen). x.shape) c.self.view_is) c.in-Tick.is c.is_tick.ensures
+returns-in-Tick c = asks-tick _ _ _ _ _ _ (c.shape-shape.ensures.shape ∙ ap (λ (x : SiteSeen). x.shape) c.self.view_is) c.in-Tick.is c.is_tick.ensures
 
 pub returns-in-Write : goal.returns-in-Write
-returns-in-Write c = asks-write _ _ _ _ _ _ _ (c.shape.ensures.shape ∙ ap (λ (x : SiteSeen). x.shape) c.self.view_is) c.in-Write.is c.is_write.ensures
+returns-in-Write c = asks-write _ _ _ _ _ _ _ (c.shape-shape.ensures.shape ∙ ap (λ (x : SiteSeen). x.shape) c.self.view_is) c.in-Write.is c.is_write.ensures
 
 pub returns-in-Read : goal.returns-in-Read
-returns-in-Read c = asks-read _ _ _ _ _ _ (c.shape.ensures.shape ∙ ap (λ (x : SiteSeen). x.shape) c.self.view_is) c.in-Read.is c.is_read.ensures
+returns-in-Read c = asks-read _ _ _ _ _ _ (c.shape-shape.ensures.shape ∙ ap (λ (x : SiteSeen). x.shape) c.self.view_is) c.in-Read.is c.is_read.ensures
 
 pub returns-in-Move : goal.returns-in-Move
-returns-in-Move c = asks-move _ _ _ _ _ _ (c.shape.ensures.shape ∙ ap (λ (x : SiteSeen). x.shape) c.self.view_is) c.in-Move.is c.is_move.ensures
+returns-in-Move c = asks-move _ _ _ _ _ _ (c.shape-shape.ensures.shape ∙ ap (λ (x : SiteSeen). x.shape) c.self.view_is) c.in-Move.is c.is_move.ensures
 
 pub returns-in-Attach : goal.returns-in-Attach
-returns-in-Attach c = asks-attach _ _ _ _ _ (c.shape.ensures.shape ∙ ap (λ (x : SiteSeen). x.shape) c.self.view_is) c.in-Attach.is c.is_carried.ensures
+returns-in-Attach c = asks-attach _ _ _ _ _ (c.shape-shape.ensures.shape ∙ ap (λ (x : SiteSeen). x.shape) c.self.view_is) c.in-Attach.is c.is_carried.ensures
 
 pub returns-in-Beat : goal.returns-in-Beat
-returns-in-Beat c = asks-beat _ _ _ _ _ (c.shape.ensures.shape ∙ ap (λ (x : SiteSeen). x.shape) c.self.view_is) c.in-Beat.is c.is_other.ensures
+returns-in-Beat c = asks-beat _ _ _ _ _ (c.shape-shape.ensures.shape ∙ ap (λ (x : SiteSeen). x.shape) c.self.view_is) c.in-Beat.is c.is_other.ensures
 
 pub returns-in-None : goal.returns-in-None
 unfolding fits_here
