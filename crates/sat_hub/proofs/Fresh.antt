@@ -1,6 +1,6 @@
 -- A hub of a site at which nothing has happened.
 use Rattle.std.specs.Prelude.{◌≡◌, ◌<◌, ◌^◌, ℕ, zero, suc, Bool, false, List, [], length, map, replicate, get_or, Some, IfOk, slice_get, refl}
-use Rattle.std.proofs.Common.{Result, Ok, Err, subst, ap, sym, ◌∙◌, arith}
+use Rattle.std.proofs.Common.{Result, Ok, Err, subst, sym, ◌∙◌, arith}
 use Rattle.std.proofs.lemmas.List.{length-map, length-replicate}
 use Rattle.sat_label.specs.declared.label.Label.{Label}
 use Rattle.sat_bulk.specs.Payloads.{Payload}

@@ -1,5 +1,5 @@
 -- What gears gave, as the code tests and counts it.
-use Rattle.std.specs.Prelude.{◌≡◌, ◌<◌, ◌≤◌, ◌+◌, ◌^◌, ◌==◌, ◌&&◌, not, nat_lt, ℕ, zero, suc, Bool, true, false, List, [], ◌∷◌, ◌++◌, length, map, take, get_or, slice_get, Some, refl}
+use Rattle.std.specs.Prelude.{◌≡◌, ◌<◌, ◌≤◌, ◌+◌, ◌^◌, ◌==◌, ◌&&◌, not, nat_lt, ℕ, zero, suc, Bool, true, false, List, [], ◌∷◌, ◌++◌, length, take, get_or, slice_get, Some, refl}
 use Rattle.std.specs.Bool.{Decides}
 use Rattle.std.specs.List.{flat_map, list_all}
 use Rattle.std.proofs.Common.{ap, subst, sym, ◌∙◌, arith, inl, inr, length-append}
@@ -14,16 +14,16 @@ use Rattle.sat_label.specs.declared.label.Kind.TheVariants.{Update, Move, Pulse,
 use Rattle.sat_label.specs.declared.label.Label.{Label}
 use Rattle.sat_label.specs.declared.point.Point.{Point}
 use Rattle.sat_label.specs.Grouped.{list_of}
-use Rattle.sat_label.specs.Members.{In, is_made}
+use Rattle.sat_label.specs.Members.{In}
 use Rattle.sat_bulk.specs.declared.Drained.{Drained}
-use Rattle.sat_sites.specs.Interested.{Interested, IsKindOf, are_below, is_for, keeps_one, AreBelow}
+use Rattle.sat_sites.specs.Interested.{Interested, are_below, is_for, keeps_one, AreBelow}
 use Rattle.sat_sites.specs.declared.shape.Shape.{Shape}
 use Rattle.sat_sites.proofs.Below.{below_is}
 use Rattle.sat_gear.specs.Gear.{IsShape}
 use Rattle.sat_sink.specs.Pending.{labels_of}
 use Rattle.sat_sink.specs.Sink.{IsDrain}
 use Rattle.sat_hub.specs.Seen.{HubSeen, IsGather, IsGiven, IsHub, IsMadeHere}
-use Rattle.sat_hub.specs.Inputs.{is_given_here, is_other_here, is_own_here, is_own_kind_here, is_site_here}
+use Rattle.sat_hub.specs.Inputs.{is_given_here, is_own_here, is_own_kind_here, is_site_here}
 
 -- ---- how many labels
 

@@ -1,5 +1,4 @@
 pub mod Lists
-pub mod Sets
 pub mod Wholes
 pub mod Waits
 pub mod Quiet

@@ -12,7 +12,6 @@ use Rattle.sat_beat.specs.declared.Beat.{Beat}
 use Rattle.sat_label.specs.Members.{In}
 use Rattle.sat_label.proofs.Members.{In-parts, In-filter}
 use Rattle.sat_gear.proofs.Spreads.{slice-more}
-use Rattle.sat_sites.specs.declared.shape.Shape.{Shape}
 use Rattle.sat_sites.specs.Interested.{IsLabelOf}
 use Rattle.sat_sink.specs.Pending.{labels_of, promise_of, is_up_to, all_of}
 use Rattle.sat_sink.specs.Sink.{Sink, after_close as sink_closed, after_emit, after_emit_of, after_gather, after_pulse, IsDrain, cut_of, may_pulse, pulse_of, ready_of, stable_of}

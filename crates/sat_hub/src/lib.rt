@@ -13,4 +13,4 @@ pub use fitting::{
     is_write, keeps_all,
 };
 pub use hub::Hub;
-pub use shape::{interest, shape_of, stamp_plans};
+pub use shape::shape_of;

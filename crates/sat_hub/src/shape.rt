@@ -1,39 +1,13 @@
 //! What the parts of a site of a deployment are made from.
-ghost use Rattle.std.specs.Prelude.{◌≡◌, ◌<◌, map, IfOk};
+ghost use Rattle.std.specs.Prelude.{◌≡◌, map, IfOk};
 ghost use Rattle.sat_machine.specs.Interests.{interest_of};
 ghost use Rattle.sat_sites.specs.Interested.{IsInterest};
 ghost use Rattle.sat_act.specs.Limits.{IsDeployment};
 ghost use Rattle.sat_hub.specs.Changes.{is_stamp_plan, shape_for};
 
 use sat_act::{Deployment, Plan};
-use sat_label::SiteSet;
-use sat_sites::{Interest, InterestFault, Shape};
+use sat_sites::{Interest, Shape};
 use std::alloc::{AllocError, Global};
-
-// The sites that keep each item.
-fn replicas(alloc: Global, d: &Deployment) -> Result<Vec<SiteSet>, AllocError>
-    ensures replicas { IfOk result (λ sets. sets.items ≡ (interest_of d.now).replicas) }
-    ensures limits { IsDeployment d.now }
-{
-    let mut sets = Vec::new(alloc);
-    for item in d.items() {
-        sets.push(item.replicas)?;
-    }
-    Ok(sets)
-}
-
-/// Which sites of a deployment keep which items.
-pub fn interest(alloc: Global, d: &Deployment) -> Result<Interest, AllocError>
-    ensures interest { IfOk result (λ interest. interest ≡ interest_of d.now) }
-    ensures limits { IsDeployment d.now }
-{
-    let sets = replicas(alloc, d)?;
-    match Interest::new(alloc, d.sites(), sets.as_slice()) {
-        Ok(interest) => Ok(interest),
-        Err(InterestFault::Memory) => Err(AllocError),
-        Err(InterestFault::BadItem(_)) => unreachable!(),
-    }
-}
 
 /// The shape of a site with this number, by which sites keep which items.
 pub fn shape_of(d: &Deployment, interest: &Interest, site: u16) -> Result<Shape, AllocError>

@@ -1,5 +1,5 @@
 -- A site whose gear has changed is one.
-use Rattle.std.specs.Prelude.{◌≡◌, ◌<◌, ◌%◌, ◌==◌, ℕ, Bool, true, false, length, get_or, slice_get, Option, Some, refl}
+use Rattle.std.specs.Prelude.{◌≡◌, ◌<◌, ◌%◌, ◌==◌, ℕ, Bool, true, false, length, get_or, slice_get, Option, Some}
 use Rattle.std.proofs.Common.{subst, ap, sym, ◌∙◌}
 use Rattle.sat_label.specs.declared.carried.Carried.{Carried}
 use Rattle.sat_label.specs.declared.label.Kind.TheVariants.{Move}

@@ -1,5 +1,5 @@
 -- What the code read and wrote in an act. Here w is what the code found, and v the same by its name.
-use Rattle.std.specs.Prelude.{◌≡◌, ◌<◌, ◌≤◌, ◌%◌, ℕ, Bool, true, false, zero, suc, max, List, [], ◌∷◌, length, map, set, get_or, if◌then◌else◌, Option, Some, None, refl}
+use Rattle.std.specs.Prelude.{◌≡◌, ◌<◌, ◌%◌, ℕ, Bool, true, false, zero, suc, max, List, [], ◌∷◌, length, map, set, get_or, Some, None, refl}
 use Rattle.std.specs.List.{flat_map, list_all}
 use Rattle.std.proofs.Common.{subst, ap, sym, ◌∙◌, arith}
 use Rattle.std.proofs.lemmas.Bool.{and_parts, false_from_ne_true, true_from_ne_false}

@@ -1,9 +1,8 @@
 -- A site at which nothing has happened.
-use Rattle.std.specs.Prelude.{◌≡◌, ◌⊎◌, ◌<◌, ◌≤◌, ◌-◌, ◌/◌, ◌^◌, ℕ, zero, suc, Bool, true, false, ◌==◌, if◌then◌else◌, is_none, List, [], ◌∷◌, ◌++◌, length, map, replicate, get_or, Option, Some, None, slice_get, refl}
+use Rattle.std.specs.Prelude.{◌≡◌, ◌⊎◌, ◌<◌, ◌≤◌, ◌-◌, ◌/◌, ℕ, zero, suc, Bool, true, false, ◌==◌, if◌then◌else◌, is_none, List, [], ◌∷◌, ◌++◌, length, map, replicate, get_or, Option, Some, None, slice_get, refl}
 use Rattle.std.proofs.Common.{subst, ap, sym, ◌∙◌, arith, inl, inr}
 use Rattle.std.proofs.lemmas.List.{length-map}
 use Rattle.sat_label.proofs.Numbers.{length-below}
-use Rattle.sat_label.specs.declared.label.Label.{Label}
 use Rattle.sat_label.specs.Words.{below}
 use Rattle.sat_sites.specs.declared.shape.Shape.{Shape}
 use Rattle.sat_gear.specs.Gear.{GearSeen, IsShape, fresh_gear, version_of, places}
@@ -13,7 +12,6 @@ use Rattle.sat_act.specs.declared.deployment.Plan.{Plan}
 use Rattle.sat_act.specs.declared.deployment.Plan.TheVariants as plan
 use Rattle.sat_act.specs.Answers.{gear_of}
 use Rattle.sat_act.specs.Deployed.{Deployed}
-use Rattle.sat_act.specs.Limits.{IsDeployment}
 use Rattle.sat_act.specs.Parts.{planned_tree, tree_of}
 use Rattle.sat_machine.specs.State.{fresh_site}
 use Rattle.std.proofs.lemmas.Bool.{ne_eqb}

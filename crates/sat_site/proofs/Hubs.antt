@@ -1,5 +1,5 @@
 -- A site whose hub did something: that it is a site, and what it answers and keeps.
-use Rattle.std.specs.Prelude.{◌≡◌, ◌<◌, ℕ, List, length, map, get_or, slice_get, Option, Some, None, IfOk, OnErr, OnOk, refl}
+use Rattle.std.specs.Prelude.{◌≡◌, ◌<◌, ℕ, List, length, map, get_or, Option, Some, None, IfOk, OnErr, OnOk, refl}
 use Rattle.std.proofs.Common.{Result, Ok, Err, subst, ap, sym, ◌∙◌}
 use Rattle.std.proofs.lemmas.List.{length-map}
 use Rattle.sat_label.specs.declared.label.Label.{Label}

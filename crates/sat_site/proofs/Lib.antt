@@ -28,3 +28,4 @@ pub mod Acted
 pub mod Asked
 pub mod Made
 pub mod Taken
+pub mod Sets

@@ -1,7 +1,6 @@
 -- The parts of an update, which are taken and shown one after the other.
-use Rattle.std.specs.Prelude.{◌≡◌, ◌≢◌, ◌||◌, ℕ, Bool, true, false, not, List, [], ◌∷◌, length, set, get_or, Option, Some, None, is_some, refl}
+use Rattle.std.specs.Prelude.{◌≡◌, ◌≢◌, ℕ, Bool, true, false, List, [], ◌∷◌, length, set, get_or, Option, Some, None, refl}
 use Rattle.std.proofs.Common.{ap, sym, subst, ◌∙◌, arith}
-use Rattle.std.proofs.lemmas.Bool.{and_parts}
 use Rattle.std.proofs.lemmas.List.{get_or-set_other}
 use Rattle.sat_label.specs.declared.items.Items.{Items}
 use Rattle.sat_label.specs.declared.items.Items.TheVariants.{One, Two, Three, Four}
@@ -11,7 +10,7 @@ use Rattle.sat_label.specs.declared.label.Label.{Label}
 use Rattle.sat_label.specs.Grouped.{list_of}
 use Rattle.sat_label.specs.Versions.{Version}
 use Rattle.sat_bulk.specs.Payloads.{Payload, version_for, version_in}
-use Rattle.sat_sites.specs.Interested.{keeps, AreBelow}
+use Rattle.sat_sites.specs.Interested.{AreBelow}
 use Rattle.sat_sites.specs.declared.shape.Shape.{Shape}
 use Rattle.sat_act.specs.Parts.{items_of}
 use Rattle.sat_hub.proofs.Wholes.{whole-count}

@@ -1,17 +1,13 @@
 -- A turn, and the next update in timestamp order.
-use Rattle.std.specs.Prelude.{◌≡◌, ◌<◌, ◌&&◌, not, ℕ, Bool, true, false, List, [], ◌∷◌, map, Option, Some, None, if◌then◌else◌, refl}
-use Rattle.std.proofs.Common.{subst, ap, sym, ◌∙◌, inl, inr}
+use Rattle.std.specs.Prelude.{◌≡◌, ◌<◌, ℕ, Bool, true, false, Option, Some, None, if◌then◌else◌, refl}
+use Rattle.std.proofs.Common.{subst, ap, sym, ◌∙◌}
 use Rattle.sat_label.specs.declared.label.Label.{Label}
 use Rattle.sat_label.specs.declared.items.Items.{Items}
 use Rattle.sat_label.specs.declared.label.Kind.{Kind}
 use Rattle.sat_label.specs.declared.label.Kind.TheVariants.{Update, Move, Pulse, Close}
-use Rattle.sat_label.specs.Order.{label_eq}
 use Rattle.sat_label.specs.Members.{In}
-use Rattle.sat_label.proofs.Orders.{same-label}
-use Rattle.sat_label.proofs.Least.{least-is}
 use Rattle.sat_bulk.specs.Payloads.{Payload}
-use Rattle.sat_pool.specs.Pool.{Waiting, all_waiting, labels_waiting, labelled, waiting_at}
-use Rattle.sat_pool.proofs.Members.{found-in, in-found}
+use Rattle.sat_pool.specs.Pool.{all_waiting, waiting_at}
 use Rattle.sat_epoch.specs.Epochs.{in_stamp}
 use Rattle.sat_act.specs.declared.answer.Answer.TheVariants as ans
 use Rattle.sat_act.specs.declared.answer.Answer.{Answer}
@@ -21,9 +17,6 @@ use Rattle.sat_act.specs.Settling.{is_done}
 use Rattle.sat_machine.specs.Input as given
 use Rattle.sat_machine.specs.State.{SiteState}
 use Rattle.sat_machine.specs.Next.{proxy_next, site_next, views_next}
-use Rattle.sat_machine.specs.Reply.{candidate_by, own_passed, past_by}
-use Rattle.sat_proxy.specs.Proxy.{outlook_here}
-use Rattle.sat_proxy.specs.Asks.{all_passed}
 use Rattle.sat_proxy.specs.Steps as made
 use Rattle.sat_proxy.specs.Answers.{done_answer, front_answer, next_answer, turn_answer, stamp_answer}
 use Rattle.sat_proxy.specs.Stands.{StandsProxy}

@@ -29,7 +29,8 @@ use Rattle.sat_proxy.specs.Answers.{advance_answer, attach_answer, beat_answer, 
 use Rattle.sat_hub.specs.Changes.{stamped as hub_stamped, turned as hub_turned}
 use Rattle.sat_hub.specs.HubSteps as hub
 use Rattle.sat_hub.specs.Inputs.{may_turn as hub_may_turn}
-pub use Rattle.sat_hub.specs.HubSteps.{emit_answer, emit_sends, fall_answer, has_target, next_pulse, pulse_answer, sent_epoch, some_site}
+pub use Rattle.sat_hub.specs.HubSteps.{emit_answer, emit_sends, fall_answer, has_target, next_pulse, pulse_answer, sent_epoch}
+unfoldable pub use Rattle.sat_hub.specs.HubSteps.{some_site}
 use Rattle.sat_site.specs.declared.input.SiteInput as code
 use Rattle.sat_site.specs.declared.input.SiteInput.TheVariants as input
 use Rattle.sat_site.specs.Seen.{SiteSeen, hub_of, with_hub}

@@ -7,11 +7,12 @@ ghost use Rattle.sat_site.specs.Laws.{EachClock, EachFits, EachStep};
 mod gears;
 mod input;
 mod output;
+mod shape;
 mod site;
 
 pub use input::SiteInput;
 pub use output::{SiteOutput, SiteView};
-pub use sat_hub::interest;
+pub use shape::interest;
 pub use site::Site;
 
 /// Of all that a site keeps and all that it is handed: a site answers as the machine of the model does at each state

@@ -32,14 +32,13 @@ ghost use Rattle.sat_site.specs.Does.{Does, Reads, Stamps, Writes};
 use crate::gears::{
     all_limits, any_due, count_labels, drain_all, fresh_gears, limits, limits_of, move_at, tick_all,
 };
+use crate::shape::interest;
 use crate::{SiteInput, SiteOutput, SiteView};
 use sat_act::{Answer, Deployment, Refusal};
 use sat_beat::Beat;
 use sat_bulk::{Parts, Payload};
 use sat_gear::{Gear, GearFault};
-use sat_hub::{
-    Hub, interest, is_carried, is_here, is_move, is_other, is_read, is_tick, is_write, keeps_all,
-};
+use sat_hub::{Hub, is_carried, is_here, is_move, is_other, is_read, is_tick, is_write, keeps_all};
 use sat_label::{Carried, Items, Kind, Label, Point, Value, Version};
 use sat_proxy::{StampFault, TurnFault, Turned};
 use sat_sites::Interest;

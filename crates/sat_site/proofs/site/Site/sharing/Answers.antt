@@ -1,6 +1,4 @@
 use Rattle.std.proofs.Common.{subst}
-use Rattle.sat_gear.specs.Gear.{IsShape}
-use Rattle.sat_sites.specs.declared.shape.Shape.{Shape}
 use Rattle.sat_site.specs.Seen.{AreGears}
 use Rattle.sat_site.proofs.Fresh.{hub-shape, fresh-site, made-same, made-stands}
 use Rattle.sat_site.proofs.site.Site.sharing.Goals as goal

@@ -1,6 +1,6 @@
 use Rattle.std.proofs.Common.{◌∙◌}
-use Rattle.sat_hub.proofs.Sets.{never-bad}
-use Rattle.sat_hub.proofs.shape.interest.Goals as goal
+use Rattle.sat_site.proofs.Sets.{never-bad}
+use Rattle.sat_site.proofs.shape.interest.Goals as goal
 
 pub unreachable-requires : goal.unreachable-requires
 unreachable-requires c =
