@@ -1,6 +1,6 @@
 -- What a turn and a stamp give, and what they are given.
-use Rattle.std.specs.Prelude.{◌≡◌, ◌<◌, ℕ, Bool, true, false, Option, Some, None, option_map, IfOk, MatchResult, OnErr, OnOk, if◌then◌else◌, refl}
-use Rattle.std.proofs.Common.{Result, Ok, Err, subst, ap, sym, ◌∙◌}
+use Rattle.std.specs.Prelude.{◌≡◌, ◌<◌, ℕ, Bool, true, false, Option, Some, None, option_copied, option_map, IfOk, IfSome, MatchResult, OnErr, OnOk, if◌then◌else◌, refl}
+use Rattle.std.proofs.Common.{Bor, Result, Ok, Err, subst, ap, sym, ◌∙◌}
 use Rattle.std.proofs.lemmas.Bool.{eqb-false}
 use Rattle.sat_label.specs.declared.label.Label.{Label}
 use Rattle.sat_label.specs.declared.items.Items.{Items}
@@ -118,6 +118,10 @@ shows-waits views p front q e = go (in_stamp views) front e
 pub shows-guest : (w x : HubSeen) (front : Option Label) (q : Payload) → w ≡ x → IsHub w → made.turn_shows x.views x.proxy front ≡ Some q → IsGuest x.shape q
 shows-guest w x front q same k e = (subst IsHub same k).proxy.waiting q (shows-waits x.views x.proxy front q e)
 
+pub shown-guest : (w x : HubSeen) (front : Option Label) (r : Option (Bor Payload)) → w ≡ x → IsHub w → option_copied r ≡ made.turn_shows w.views w.proxy front → IfSome r (λ p. IsGuest x.shape p.now)
+shown-guest w x front None same k e = tt
+shown-guest w x front (Some p) same k e = subst (λ (y : HubSeen). IsGuest y.shape p.now) same (k.proxy.waiting p.now (shows-waits w.views w.proxy front p.now (sym e)))
+
 -- ---- what a turn shows and leaves
 
 -- a payload that a turn gives is shown
@@ -222,6 +226,10 @@ stamp-gave x q k e = go (in_stamp x.views) refl e
 
 pub stamps-guest : (w x : HubSeen) (q : Payload) → w ≡ x → IsHub w → made.stamp_shows x.views x.proxy ≡ Some q → IsGuest x.shape q
 stamps-guest w x q same k e = let n : IsHub x = subst IsHub same k in n.proxy.waiting q (stamp-gave x q n e).waits
+
+pub next-guest : (w x : HubSeen) (r : Option (Bor Payload)) → w ≡ x → IsHub w → option_copied r ≡ made.stamp_shows w.views w.proxy → IfSome r (λ p. IsGuest x.shape p.now)
+next-guest w x None same k e = tt
+next-guest w x (Some p) same k e = subst (λ (y : HubSeen). IsGuest y.shape p.now) same (k.proxy.waiting p.now (stamp-gave w p.now k (sym e)).waits)
 
 pub stamp-ok : (w x : HubSeen) (r : Result Payload StampFault) → w ≡ x → IsHub w → IfOk r (λ q. made.stamp_shows w.views w.proxy ≡ Some q) → IfOk r (λ q. IsGuest x.shape q)
 stamp-ok w x (Ok q) same k e = stamps-guest w x q same k (ap (λ (y : HubSeen). made.stamp_shows y.views y.proxy) (sym same) ∙ e)

@@ -15,14 +15,15 @@ use Rattle.sat_gear.proofs.Spreads.{slice-more}
 use Rattle.sat_sites.specs.Interested.{IsLabelOf}
 use Rattle.sat_sink.specs.Pending.{labels_of, promise_of, is_up_to, all_of}
 use Rattle.sat_sink.specs.Sink.{Sink, after_close as sink_closed, after_emit, after_emit_of, after_gather, after_pulse, IsDrain, cut_of, may_pulse, pulse_of, ready_of, stable_of}
-use Rattle.sat_epoch.specs.Epochs.{Epochs, IsEpochs, after_close}
+use Rattle.sat_epoch.specs.declared.views.CloseFault.{CloseFault}
+use Rattle.sat_epoch.specs.Epochs.{Epochs, IsEpochs, after_close, close_fault}
 use Rattle.sat_proxy.specs.Proxy.{ProxySeen}
 use Rattle.sat_label.proofs.Least.{IsLeast, least-is}
 use Rattle.sat_sink.proofs.Queues.{In-all, Place, joined-get, length-joined, without-get}
 use Rattle.sat_hub.specs.Seen.{HubSeen, HasEpochs, HasPeers, HasSink, IsBeatOf, IsGather, IsHub, IsMadeHere}
 use Rattle.sat_act.specs.declared.answer.Answer.TheVariants as ans
 use Rattle.sat_act.specs.declared.answer.Refusal.TheVariants as why
-use Rattle.sat_hub.specs.HubSteps.{close_label, emit_after, emit_answer, gather_answer}
+use Rattle.sat_hub.specs.HubSteps.{close_label, emit_after, emit_answer, gather_answer, next_close, next_pulse}
 use Rattle.sat_hub.specs.Changes.{beat_for, beaten, count_to, counts_of, gathered, made_for, pulsed, sent}
 use Rattle.sat_hub.proofs.Lists.{get-is, same-get}
 
@@ -164,6 +165,21 @@ close-hub w v s cut k epochs at closed e =
     let y : IsHub (record w { sink = sink_closed w.sink }) = closed-sink w k in
     subst (λ (t : Sink). IsHub (record w { views = v; sink = t })) (sym e)
     (views-hub (record w { sink = sink_closed w.sink }) v y (record { sound = epochs; own = ap (λ (x : Epochs). x.site) closed ∙ k.views.own; heard = ap (λ (x : Epochs). length x.heard) closed ∙ k.views.heard }) (ap (λ (x : Epochs). length x.stamp) closed))
+
+-- the pulse and the close that the site may send
+pub pulse-label : (w v : HubSeen) (o : Option Label) → w ≡ v → IsHub w → o ≡ next_pulse v.sink → (l : Label) → o ≡ Some l → IsLabelOf v.shape.interest l
+pulse-label w v o same k e l f = go (may_pulse v.sink) (sym e ∙ f)
+  where
+    go : (b : Bool) → (if b then Some (pulse_of v.sink) else None) ≡ Some l → IsLabelOf v.shape.interest l
+    go true e = let is : pulse_of v.sink ≡ l = cc in subst (IsLabelOf v.shape.interest) is (pulse-here v (subst IsHub same k))
+    go false e = absurd (cc)
+
+pub close-sent : (w v : HubSeen) (o : Option Label) → w ≡ v → IsHub w → o ≡ next_close (close_fault v.views) v → (l : Label) → o ≡ Some l → IsLabelOf v.shape.interest l
+close-sent w v o same k e l f = go (close_fault v.views) (sym e ∙ f)
+  where
+    go : (o : Option CloseFault) → next_close o v ≡ Some l → IsLabelOf v.shape.interest l
+    go None e = let is : close_label v ≡ l = cc in let h : IsHub v = subst IsHub same k in subst (IsLabelOf v.shape.interest) is (close-here v h (cut-site v h))
+    go (Some fault) e = absurd (cc)
 
 -- ---- an emission
 

@@ -190,6 +190,7 @@ impl Hub {
         ensures { result
             ≡ emit_sends (is_stamp self.now.views self.now.views.emission) self.now.shape (next_pulse self.now.sink) }
     {
+        let _ = &self.shape;
         self.leaving(self.next_pulse())
     }
 
@@ -199,6 +200,7 @@ impl Hub {
             ≡ emit_sends (is_stamp self.now.views self.now.views.emission) self.now.shape
             (next_close (close_fault self.now.views) self.now) }
     {
+        let _ = &self.shape;
         self.leaving(self.next_close())
     }
 

@@ -14,7 +14,7 @@ invariant_of-self-2 c = gather-hub _ _ c.args.drained.now _ _ c.self.view_is c.s
 
 pub returns-clause-answer : goal.returns-clause-answer
 returns-clause-answer c =
-    gather-answer c.args.drained.now _ _ _ _ (counted c.count_given.result c.in_ok-labels.labels _ c.count_given.ensures (c.ok_or.ensures.ok_part ∙ ap result_ok c.in_ok-labels.was)) c.in_ok-gather.ensures.sink c.stable.ensures
+    gather-answer c.args.drained.now _ c.self.inside.sink _ _ (counted c.count_given.result c.in_ok-labels.labels _ c.count_given.ensures (c.ok_or.ensures.ok_part ∙ ap result_ok c.in_ok-labels.was)) c.in_ok-gather.ensures.sink c.stable.ensures
 
 pub returns-clause-after : goal.returns-clause-after
 returns-clause-after c = gather-after _ _ c.args.drained.now _ _ c.self.view_is c.in_ok-gather.ensures.sink c.in_ok-gather.ensures.counts
