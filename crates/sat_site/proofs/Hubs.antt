@@ -108,19 +108,19 @@ passed-leaves h None = record { shape = refl; promises = refl }
 passed-leaves h (Some f) = record { shape = refl; promises = refl }
 
 pub emit-site : (h n : HubSeen) (o : Option Label) (gears : List GearSeen) → IsSite (site_of h gears) → IsHub n → n ≡ hub.emit_after h o → IsSite (site_of n gears)
-emit-site h n o gears k hub is = made-site h n (hub.emit_after h o) gears k hub is (emit-leaves h o).shape (emit-leaves h o).promises
+emit-site h n o gears k good is = made-site h n (hub.emit_after h o) gears k good is (emit-leaves h o).shape (emit-leaves h o).promises
 
 pub pulse-site : (h n : HubSeen) (o : Option Label) (gears : List GearSeen) → IsSite (site_of h gears) → IsHub n → n ≡ hub.pulse_after h o → IsSite (site_of n gears)
-pulse-site h n o gears k hub is = made-site h n (hub.pulse_after h o) gears k hub is (pulse-leaves h o).shape (pulse-leaves h o).promises
+pulse-site h n o gears k good is = made-site h n (hub.pulse_after h o) gears k good is (pulse-leaves h o).shape (pulse-leaves h o).promises
 
 pub close-site : (h n : HubSeen) (o : Option CloseFault) (gears : List GearSeen) → IsSite (site_of h gears) → IsHub n → n ≡ hub.close_after o h → IsSite (site_of n gears)
-close-site h n o gears k hub is = made-site h n (hub.close_after o h) gears k hub is (close-leaves h o).shape (close-leaves h o).promises
+close-site h n o gears k good is = made-site h n (hub.close_after o h) gears k good is (close-leaves h o).shape (close-leaves h o).promises
 
 pub fall-site : (h n : HubSeen) (o : Option FallFault) (gears : List GearSeen) → IsSite (site_of h gears) → IsHub n → n ≡ hub.fall_after o h → IsSite (site_of n gears)
-fall-site h n o gears k hub is = made-site h n (hub.fall_after o h) gears k hub is (fall-leaves h o).shape (fall-leaves h o).promises
+fall-site h n o gears k good is = made-site h n (hub.fall_after o h) gears k good is (fall-leaves h o).shape (fall-leaves h o).promises
 
 pub passed-site : (h n : HubSeen) (o : Option AdvanceFault) (gears : List GearSeen) → IsSite (site_of h gears) → IsHub n → n ≡ hub.passed_after o h → IsSite (site_of n gears)
-passed-site h n o gears k hub is = made-site h n (hub.passed_after o h) gears k hub is (passed-leaves h o).shape (passed-leaves h o).promises
+passed-site h n o gears k good is = made-site h n (hub.passed_after o h) gears k good is (passed-leaves h o).shape (passed-leaves h o).promises
 
 -- ---- what the site then is
 
@@ -183,6 +183,13 @@ pub turn-after : (h n : HubSeen) (gears : List GearSeen) (x y : SiteSeen) (front
 turn-after h n gears x y front r s same after shows e is =
     is ∙ ((λ j. show_some (site_of (after j) gears) ((ap hub.turn_given (sym e) ∙ shows) j)) ∙ ap (λ (z : SiteSeen). turned_after z front) same)
 
+-- by what the fault is
+pub fault-told : (h : HubSeen) (gears : List GearSeen) (x : SiteSeen) (front : Option Label) (r : Result Turned TurnFault) (f g : TurnFault) (a : Answer) → site_of h gears ≡ x → hub.turn_told r ≡ turn_answer h.views h.proxy front → r ≡ Err f → f ≡ g → a ≡ hub.turn_told (Err g) → a ≡ turn_answer x.views x.proxy front
+fault-told h gears x front r f g a same told e i is = turn-told h gears x front r (Err g) a same told (e ∙ ap Err i) is
+
+pub fault-after : (h n : HubSeen) (gears : List GearSeen) (x : SiteSeen) (front : Option Label) (r : Result Turned TurnFault) (f : TurnFault) → site_of h gears ≡ x → n ≡ hub_turned h front → hub.turn_given r ≡ turn_shows h.views h.proxy front → r ≡ Err f → site_of n gears ≡ turned_after x front
+fault-after h n gears x front r f same after shows e = turn-after h n gears x (site_of n gears) front r (Err f) same after shows e refl
+
 pub stamp-guest : (h n : HubSeen) (r : Result Payload StampFault) (q : Payload) → IfOk r (λ p. IsGuest h.shape p) → n ≡ hub_stamped h → r ≡ Ok q → IsGuest n.shape q
 stamp-guest h n (Ok p) q guest after e = let same : p ≡ q = cc in subst (λ (m : HubSeen). IsGuest m.shape q) (sym after) (subst (IsGuest h.shape) same guest)
 stamp-guest h n (Err f) q guest after e = absurd (cc)
@@ -193,3 +200,10 @@ stamp-told h gears x r s a same told e is = is ∙ (ap hub.stamp_told (sym e) �
 pub stamp-after : (h n : HubSeen) (gears : List GearSeen) (x y : SiteSeen) (r s : Result Payload StampFault) → site_of h gears ≡ x → n ≡ hub_stamped h → hub.stamp_given r ≡ stamp_shows h.views h.proxy → r ≡ s → y ≡ show_some (site_of n gears) (hub.stamp_given s) → y ≡ stamped_after x
 stamp-after h n gears x y r s same after shows e is =
     is ∙ ((λ j. show_some (site_of (after j) gears) ((ap hub.stamp_given (sym e) ∙ shows) j)) ∙ ap stamped_after same)
+
+-- by what the fault is
+pub unstamped-told : (h : HubSeen) (gears : List GearSeen) (x : SiteSeen) (r : Result Payload StampFault) (f g : StampFault) (a : Answer) → site_of h gears ≡ x → hub.stamp_told r ≡ stamp_answer h.views h.proxy → r ≡ Err f → f ≡ g → a ≡ hub.stamp_told (Err g) → a ≡ stamp_answer x.views x.proxy
+unstamped-told h gears x r f g a same told e i is = stamp-told h gears x r (Err g) a same told (e ∙ ap Err i) is
+
+pub unstamped-after : (h n : HubSeen) (gears : List GearSeen) (x : SiteSeen) (r : Result Payload StampFault) (f : StampFault) → site_of h gears ≡ x → n ≡ hub_stamped h → hub.stamp_given r ≡ stamp_shows h.views h.proxy → r ≡ Err f → site_of n gears ≡ stamped_after x
+unstamped-after h n gears x r f same after shows e = stamp-after h n gears x (site_of n gears) r (Err f) same after shows e refl

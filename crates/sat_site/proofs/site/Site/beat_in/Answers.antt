@@ -6,11 +6,11 @@ use Rattle.sat_site.specs.Seen.{SiteSeen}
 use Rattle.sat_site.proofs.Hubs.{err-by, ok-by, result-site}
 use Rattle.sat_site.proofs.site.Site.beat_in.Goals as goal
 
-pub beat_in-requires-clause-from : goal.beat_in-requires-clause-from
-beat_in-requires-clause-from c = subst (λ (x : SiteSeen). c.args.from < x.shape.sites) (sym c.self.view_is) c.requires.from
+pub beat_in-answer-requires-clause-from : goal.beat_in-answer-requires-clause-from
+beat_in-answer-requires-clause-from c = subst (λ (x : SiteSeen). c.args.from < x.shape.sites) (sym c.self.view_is) c.requires.from
 
-pub beat_in-requires-clause-counts : goal.beat_in-requires-clause-counts
-beat_in-requires-clause-counts c = subst (λ (x : SiteSeen). length c.args.beat.counts ≡ x.shape.gears) (sym c.self.view_is) c.requires.counts
+pub beat_in-answer-requires-clause-counts : goal.beat_in-answer-requires-clause-counts
+beat_in-answer-requires-clause-counts c = subst (λ (x : SiteSeen). length c.args.beat.counts ≡ x.shape.gears) (sym c.self.view_is) c.requires.counts
 
 pub invariant_of-self : goal.invariant_of-self
 invariant_of-self c = result-site c.beat_in-answer.result _ _ _ _ c.self.invariant c.limits_of.ensures c.beat_in-answer.ensures.after c.beat_in-answer.ensures.err refl refl

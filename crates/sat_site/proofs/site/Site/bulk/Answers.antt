@@ -7,8 +7,8 @@ use Rattle.sat_site.specs.Seen.{SiteSeen}
 use Rattle.sat_site.proofs.Hubs.{err-by, ok-by, result-site}
 use Rattle.sat_site.proofs.site.Site.bulk.Goals as goal
 
-pub bulk-requires : goal.bulk-requires
-bulk-requires c = subst (λ (x : SiteSeen). BulkFits x c.args.from c.args.gear c.args.number c.args.payload) (sym c.self.view_is) c.requires
+pub bulk-answer-requires : goal.bulk-answer-requires
+bulk-answer-requires c = subst (λ (x : SiteSeen). BulkFits x c.args.from c.args.gear c.args.number c.args.payload) (sym c.self.view_is) c.requires
 
 pub invariant_of-self : goal.invariant_of-self
 invariant_of-self c = result-site c.bulk-answer.result _ _ _ _ c.self.invariant c.limits_of.ensures c.bulk-answer.ensures.after c.bulk-answer.ensures.err refl refl

@@ -7,8 +7,8 @@ use Rattle.sat_site.specs.Seen.{SiteSeen}
 use Rattle.sat_site.proofs.Hubs.{err-by, ok-by, result-site}
 use Rattle.sat_site.proofs.site.Site.make_beat.Goals as goal
 
-pub make_beat-requires : goal.make_beat-requires
-make_beat-requires c = subst (λ (x : SiteSeen). c.args.to < x.shape.sites) (sym c.self.view_is) c.requires
+pub make_beat-answer-requires : goal.make_beat-answer-requires
+make_beat-answer-requires c = subst (λ (x : SiteSeen). c.args.to < x.shape.sites) (sym c.self.view_is) c.requires
 
 pub invariant_of-self : goal.invariant_of-self
 invariant_of-self c = result-site c.make_beat-answer.result _ _ _ _ c.self.invariant c.limits_of.ensures c.make_beat-answer.ensures.after c.make_beat-answer.ensures.err refl refl
