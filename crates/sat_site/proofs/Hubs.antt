@@ -184,9 +184,6 @@ turn-after h n gears x y front r s same after shows e is =
     is ∙ ((λ j. show_some (site_of (after j) gears) ((ap hub.turn_given (sym e) ∙ shows) j)) ∙ ap (λ (z : SiteSeen). turned_after z front) same)
 
 -- by what the fault is
-pub fault-told : (h : HubSeen) (gears : List GearSeen) (x : SiteSeen) (front : Option Label) (r : Result Turned TurnFault) (f g : TurnFault) (a : Answer) → site_of h gears ≡ x → hub.turn_told r ≡ turn_answer h.views h.proxy front → r ≡ Err f → f ≡ g → a ≡ hub.turn_told (Err g) → a ≡ turn_answer x.views x.proxy front
-fault-told h gears x front r f g a same told e i is = turn-told h gears x front r (Err g) a same told (e ∙ ap Err i) is
-
 pub fault-after : (h n : HubSeen) (gears : List GearSeen) (x : SiteSeen) (front : Option Label) (r : Result Turned TurnFault) (f : TurnFault) → site_of h gears ≡ x → n ≡ hub_turned h front → hub.turn_given r ≡ turn_shows h.views h.proxy front → r ≡ Err f → site_of n gears ≡ turned_after x front
 fault-after h n gears x front r f same after shows e = turn-after h n gears x (site_of n gears) front r (Err f) same after shows e refl
 
@@ -202,8 +199,5 @@ stamp-after h n gears x y r s same after shows e is =
     is ∙ ((λ j. show_some (site_of (after j) gears) ((ap hub.stamp_given (sym e) ∙ shows) j)) ∙ ap stamped_after same)
 
 -- by what the fault is
-pub unstamped-told : (h : HubSeen) (gears : List GearSeen) (x : SiteSeen) (r : Result Payload StampFault) (f g : StampFault) (a : Answer) → site_of h gears ≡ x → hub.stamp_told r ≡ stamp_answer h.views h.proxy → r ≡ Err f → f ≡ g → a ≡ hub.stamp_told (Err g) → a ≡ stamp_answer x.views x.proxy
-unstamped-told h gears x r f g a same told e i is = stamp-told h gears x r (Err g) a same told (e ∙ ap Err i) is
-
 pub unstamped-after : (h n : HubSeen) (gears : List GearSeen) (x : SiteSeen) (r : Result Payload StampFault) (f : StampFault) → site_of h gears ≡ x → n ≡ hub_stamped h → hub.stamp_given r ≡ stamp_shows h.views h.proxy → r ≡ Err f → site_of n gears ≡ stamped_after x
 unstamped-after h n gears x r f same after shows e = stamp-after h n gears x (site_of n gears) r (Err f) same after shows e refl

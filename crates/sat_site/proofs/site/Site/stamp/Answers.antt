@@ -1,6 +1,5 @@
 use Rattle.std.proofs.Common.{refl}
-use Rattle.sat_proxy.specs.declared.proxy.StampFault.TheVariants as stamp
-use Rattle.sat_site.proofs.Hubs.{made-site, stamp-after, stamp-guest, stamp-told, unstamped-after, unstamped-told}
+use Rattle.sat_site.proofs.Hubs.{made-site, stamp-after, stamp-guest, stamp-told, unstamped-after}
 use Rattle.sat_site.proofs.site.Site.stamp.Goals as goal
 
 pub show_guest-requires : goal.show_guest-requires
@@ -15,14 +14,8 @@ returns-in-Ok-clause-answer c = stamp-told _ _ _ c.stamp-shown.result _ _ c.self
 pub returns-in-Ok-clause-after : goal.returns-in-Ok-clause-after
 returns-in-Ok-clause-after c = stamp-after _ _ _ _ _ c.stamp-shown.result _ c.self.view_is c.stamp-shown.ensures.after c.stamp-shown.ensures.shows c.in-Ok.is c.show_guest.ensures.after
 
-pub returns-in-Err-TreeOrder-clause-answer : goal.returns-in-Err-TreeOrder-clause-answer
-returns-in-Err-TreeOrder-clause-answer c = unstamped-told c.self.inside.hub _ _ c.stamp-shown.result c.in-Err-TreeOrder.field-0 stamp.TreeOrder _ c.self.view_is c.stamp-shown.ensures.answer c.in-Err-TreeOrder.is c.in-Err-TreeOrder.field-0-is refl
-
 pub returns-in-Err-TreeOrder-clause-after : goal.returns-in-Err-TreeOrder-clause-after
 returns-in-Err-TreeOrder-clause-after c = unstamped-after c.self.inside.hub c.stamp-shown.new.self _ _ c.stamp-shown.result c.in-Err-TreeOrder.field-0 c.self.view_is c.stamp-shown.ensures.after c.stamp-shown.ensures.shows c.in-Err-TreeOrder.is
-
-pub returns-in-Err-NotYet-clause-answer : goal.returns-in-Err-NotYet-clause-answer
-returns-in-Err-NotYet-clause-answer c = unstamped-told c.self.inside.hub _ _ c.stamp-shown.result c.in-Err-NotYet.field-0 stamp.NotYet _ c.self.view_is c.stamp-shown.ensures.answer c.in-Err-NotYet.is c.in-Err-NotYet.field-0-is refl
 
 pub returns-in-Err-NotYet-clause-after : goal.returns-in-Err-NotYet-clause-after
 returns-in-Err-NotYet-clause-after c = unstamped-after c.self.inside.hub c.stamp-shown.new.self _ _ c.stamp-shown.result c.in-Err-NotYet.field-0 c.self.view_is c.stamp-shown.ensures.after c.stamp-shown.ensures.shows c.in-Err-NotYet.is

@@ -1,8 +1,7 @@
 use Rattle.std.proofs.Common.{Ok, refl, subst, sym, ap, ◌∙◌}
-use Rattle.sat_proxy.specs.declared.proxy.TurnFault.TheVariants as turn
 use Rattle.sat_site.specs.Inputs.{IsFront}
 use Rattle.sat_site.specs.Seen.{SiteSeen}
-use Rattle.sat_site.proofs.Hubs.{fault-after, fault-told, made-site, turn-after, turn-guest, turn-told}
+use Rattle.sat_site.proofs.Hubs.{fault-after, made-site, turn-after, turn-guest, turn-told}
 use Rattle.sat_site.proofs.site.Site.turn.Goals as goal
 
 pub turn-turned-requires : goal.turn-turned-requires
@@ -29,20 +28,11 @@ returns-in-Ok-Took-clause-answer c = turn-told _ _ _ c.args.front c.turn-turned.
 pub returns-in-Ok-Took-clause-after : goal.returns-in-Ok-Took-clause-after
 returns-in-Ok-Took-clause-after c = turn-after _ _ _ _ _ c.args.front c.turn-turned.result _ c.self.view_is c.turn-turned.ensures.after c.turn-turned.ensures.shows (c.in-Ok-Took.is ∙ ap Ok c.in-Ok-Took.field-0-is) refl
 
-pub returns-in-Err-StampOrder-clause-answer : goal.returns-in-Err-StampOrder-clause-answer
-returns-in-Err-StampOrder-clause-answer c = fault-told c.self.inside.hub _ _ c.args.front c.turn-turned.result c.in-Err-StampOrder.field-0 turn.StampOrder _ c.self.view_is c.turn-turned.ensures.answer c.in-Err-StampOrder.is c.in-Err-StampOrder.field-0-is refl
-
 pub returns-in-Err-StampOrder-clause-after : goal.returns-in-Err-StampOrder-clause-after
 returns-in-Err-StampOrder-clause-after c = fault-after c.self.inside.hub c.turn-turned.new.self _ _ c.args.front c.turn-turned.result c.in-Err-StampOrder.field-0 c.self.view_is c.turn-turned.ensures.after c.turn-turned.ensures.shows c.in-Err-StampOrder.is
 
-pub returns-in-Err-Empty-clause-answer : goal.returns-in-Err-Empty-clause-answer
-returns-in-Err-Empty-clause-answer c = fault-told c.self.inside.hub _ _ c.args.front c.turn-turned.result c.in-Err-Empty.field-0 turn.Empty _ c.self.view_is c.turn-turned.ensures.answer c.in-Err-Empty.is c.in-Err-Empty.field-0-is refl
-
 pub returns-in-Err-Empty-clause-after : goal.returns-in-Err-Empty-clause-after
 returns-in-Err-Empty-clause-after c = fault-after c.self.inside.hub c.turn-turned.new.self _ _ c.args.front c.turn-turned.result c.in-Err-Empty.field-0 c.self.view_is c.turn-turned.ensures.after c.turn-turned.ensures.shows c.in-Err-Empty.is
-
-pub returns-in-Err-NoPayload-clause-answer : goal.returns-in-Err-NoPayload-clause-answer
-returns-in-Err-NoPayload-clause-answer c = fault-told c.self.inside.hub _ _ c.args.front c.turn-turned.result c.in-Err-NoPayload.field-0 (turn.NoPayload c.in-Err-NoPayload.label) _ c.self.view_is c.turn-turned.ensures.answer c.in-Err-NoPayload.is c.in-Err-NoPayload.field-0-is refl
 
 pub returns-in-Err-NoPayload-clause-after : goal.returns-in-Err-NoPayload-clause-after
 returns-in-Err-NoPayload-clause-after c = fault-after c.self.inside.hub c.turn-turned.new.self _ _ c.args.front c.turn-turned.result c.in-Err-NoPayload.field-0 c.self.view_is c.turn-turned.ensures.after c.turn-turned.ensures.shows c.in-Err-NoPayload.is
