@@ -95,8 +95,8 @@ abbrev pub sent_epoch : Option Label → ℕ → ℕ
 sent_epoch None epoch = 0
 sent_epoch (Some l) epoch = epoch
 
--- ---- a turn, and the next update in timestamp order: what the call gives says what the site answers, and which payload
--- its gears are to show
+-- ---- a turn, and the next update in timestamp order: what the call gives says what the site answers, and which
+-- payload its gears are to show
 
 abbrev pub turn_told : Result Turned TurnFault → Answer
 turn_told (Ok (turned.Show p)) = ans.Shown p.label

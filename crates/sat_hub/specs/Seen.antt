@@ -17,8 +17,8 @@ use Rattle.sat_pool.specs.Pool.{all_waiting}
 use Rattle.sat_proxy.specs.Proxy.{ProxySeen, IsProxy}
 use Rattle.sat_act.specs.Parts.{items_of}
 
--- what the site was made from; its sink, and by gear how much of its lane to each site was gathered; its epochs; what it
--- has of the other sites; and by site the beats that it made for it
+-- what the site was made from; its sink, and by gear how much of its lane to each site was gathered; its epochs; what
+-- it has of the other sites; and by site the beats that it made for it
 pub record HubSeen : Type 0 where
   pub shape : Shape
   pub sink : Sink

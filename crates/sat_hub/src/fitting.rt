@@ -224,8 +224,8 @@ fn is_whole(shape: &Shape, payload: &Payload) -> bool
     has_parts(shape, &items, payload)
 }
 
-/// Whether a payload of a lane is an update that this other site made, of which the site keeps an item, with a value for
-/// each item that it keeps.
+/// Whether a payload of a lane is an update that this other site made, of which the site keeps an item, with a value
+/// for each item that it keeps.
 pub fn is_bulk_guest(shape: &Shape, from: u16, payload: &Payload) -> bool
     ensures { result
         ≡ (is_guest_here shape.now from payload.now.label

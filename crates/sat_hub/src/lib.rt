@@ -1,5 +1,5 @@
-//! The hub of a site: what its gears share. It has the label sink, the epochs and the remote proxy (Bravo, Rodrigues and
-//! Van Roy, EuroSys 2017), and no gear: it is handed what gears gave, and answers what they are to show.
+//! The hub of a site: what its gears share. It has the label sink, the epochs and the remote proxy (Bravo, Rodrigues
+//! and Van Roy, EuroSys 2017), and no gear: it is handed what gears gave, and answers what they are to show.
 #![tactic(auto)]
 
 mod beats;

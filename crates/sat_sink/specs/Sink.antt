@@ -84,7 +84,8 @@ pub record IsDrain (s : Sink) (drained : List Drained) : Type 0 where
 -- a made label of site i and gear g, above one timestamp and up to another
 abbrev pub is_new : ℕ → ℕ → ℕ → ℕ → Label → Bool
 is_new i g low high l =
-    ((l.point.site == i) && (l.point.gear == g)) && (is_made l.kind && (nat_lt low l.point.ts && nat_le l.point.ts high))
+    ((l.point.site == i) && (l.point.gear == g))
+    && (is_made l.kind && (nat_lt low l.point.ts && nat_le l.point.ts high))
 
 -- each label is a new one, and above those before it
 abbrev pub are_new : ℕ → ℕ → ℕ → List Label → ℕ → Bool

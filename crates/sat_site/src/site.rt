@@ -1,9 +1,8 @@
 //! Sites.
-ghost use Rattle.std.specs.Prelude.{ℕ, ◌%◌, ◌*◌, ◌≡◌, ◌≤◌, ◌<◌, ◌==◌, ◌^◌, ◌&&◌, not, length, true, false, slice_get, Some, None, Option, IfOk, IfSome, IsNone, OnOk, OnErr, IsOk, MatchOption, option_copied};
+ghost use Rattle.std.specs.Prelude.{ℕ, ◌%◌, ◌*◌, ◌≡◌, ◌≤◌, ◌<◌, ◌==◌, ◌^◌, ◌&&◌, length, true, false, slice_get, Some, None, Option, IfOk, IfSome, IsNone, OnOk, OnErr, IsOk, MatchOption, option_copied};
 ghost use Rattle.std.specs.List.{list_any};
 ghost use Rattle.sat_label.specs.declared.label.Label.{Label};
 ghost use Rattle.sat_label.specs.Grouped.{list_of};
-ghost use Rattle.sat_label.specs.Words.{below};
 ghost use Rattle.sat_sites.specs.Interested.{AreBelow};
 ghost use Rattle.sat_bulk.specs.Windows.{has_number};
 ghost use Rattle.sat_pool.specs.Pool.{all_waiting};
