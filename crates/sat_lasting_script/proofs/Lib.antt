@@ -1,2 +1,3 @@
 pub mod LinesSay
 pub mod Sound
+pub mod Quick

@@ -41,7 +41,7 @@ words_first (a ∷ b ∷ c ∷ []) f is = refl
 words_first (a ∷ b ∷ c ∷ d ∷ []) f is = refl
 words_first (a ∷ b ∷ c ∷ d ∷ e ∷ ws) f is = absurd (let never : None ≡ Some f = sym (none_many a (length (b ∷ c ∷ d ∷ e ∷ ws)) (omega arith)) ∙ is in cc)
 
-say_none : (s : State) (ws : List (List ℕ)) → lasting_form ws ≡ None → words_say s ws ≡ None
+pub say_none : (s : State) (ws : List (List ℕ)) → lasting_form ws ≡ None → words_say s ws ≡ None
 unfolding words_say
 say_none s ws none = ap (step_by s ws) none
 

@@ -12,7 +12,7 @@ use crate::step::step_words;
 use arrayvec::ArrayVec;
 use sat_lasting_laws::LastingAct;
 use sat_own_acts::OwnParsed;
-use sat_script::{Cause, LONGEST_LINE, Reader, first_words};
+use sat_script::{Cause, LONGEST_LINE, Parsed, Reader, first_words};
 
 // Whether the next line stands behind `begin` and before `end`.
 fn is_in_body(reader: &Reader) -> bool
@@ -53,8 +53,8 @@ fn words_line(reader: &Reader, line: &[u8], words: &[&[u8]]) -> Result<OwnParsed
     }
 }
 
-/// What the next line says, without its byte 10. `Memory` comes last, and for want of memory alone.
-pub fn lasting_line(reader: &Reader, line: &[u8]) -> Result<OwnParsed<LastingAct>, Cause>
+// What a line says, whatever it is.
+fn any_line(reader: &Reader, line: &[u8]) -> Result<OwnParsed<LastingAct>, Cause>
     ensures { Gives result (own_line lasting_acts reader.now.state line.now) }
 {
     if !is_in_body(reader) {
@@ -68,4 +68,15 @@ pub fn lasting_line(reader: &Reader, line: &[u8]) -> Result<OwnParsed<LastingAct
         return Err(Cause::NotText);
     }
     words_line(reader, line, words.as_slice())
+}
+
+/// What the next line says, without its byte 10. `Memory` comes last, and for want of memory alone. Most lines are plain
+/// acts that are found quickly.
+pub fn lasting_line(reader: &Reader, line: &[u8]) -> Result<OwnParsed<LastingAct>, Cause>
+    ensures { Gives result (own_line lasting_acts reader.now.state line.now) }
+{
+    if let Some(act) = reader.good_act(line) {
+        return Ok(OwnParsed::Plain(Parsed::Act(act)));
+    }
+    any_line(reader, line)
 }
