@@ -21,7 +21,7 @@ use Rattle.sat_opened.specs.Keeping.{site_kept, serial_kept, newest, kept_under}
 use Rattle.sat_opened.specs.Opened.{AllOpened, name_in, tree_names, serial_names, lists_of, place_at, node_places}
 use Rattle.sat_opened.specs.Laws.{SiteHeld, SerialHeld}
 use Rattle.sat_opened.proofs.Layouts.{in-mapped}
-use Rattle.sat_opened.proofs.Distincts.{sites_kept, serials_kept}
+use Rattle.sat_opened.proofs.Distincts.{opened_are_journals, sites_kept, serials_kept}
 use Rattle.sat_opened.proofs.Oldest.{site_journals, serial_journals}
 use Rattle.sat_session.proofs.Owned.{in-flat}
 use Rattle.sat_finish.specs.Finishing.{Lines, site_lines, serial_lines, at_places, node_lines}
@@ -121,7 +121,7 @@ module _ (d : Deployed) (sites : List SiteHeld) (serials : List SerialHeld) (alo
   site-line h m =
       let w : (i : ℕ) × In (below d.sites) i × (named.Site i ≡ h.node.name) = in-mapped named.Site (below d.sites) h.node.name (subst (λ (ns : List NodeName). In ns h.node.name) all.all_sites (in-names sites h m)) in
       let v : (n : ℕ) × (slice_get sites n ≡ Some h) = In-place sites h m in
-      let kept : lists (AtSite w.0) ≡ newest (site_kept w.0) h.node.entries = sites_kept d sites serials alone all v.0 w.0 h v.1 (sym w.2) in
+      let kept : lists (AtSite w.0) ≡ newest (site_kept w.0) h.node.entries = sites_kept d sites serials alone (opened_are_journals d sites serials all) v.0 w.0 h v.1 (sym w.2) in
       ap (λ (n : NodeName). map (kept_under (site_kept (number_of n))) h.node.entries) (sym w.2)
       ∙ (site_journals w.0 h.node.entries ∙ (ap (λ (ks : List Kept). map entry_under (oldest ks)) (sym kept) ∙ ap (λ (n : NodeName). lines_in lists (place_at n)) w.2))
 
@@ -135,7 +135,7 @@ module _ (d : Deployed) (sites : List SiteHeld) (serials : List SerialHeld) (alo
   serial-line h m =
       let w : (e : ℕ) × ((z : ℕ) × (h.node.name ≡ named.Serializer e z)) = serial-named h m in
       let v : (n : ℕ) × (slice_get serials n ≡ Some h) = In-place serials h m in
-      let kept : lists (AtSerializer w.0 w.1.0) ≡ newest (serial_kept w.0 w.1.0) h.node.entries = serials_kept d sites serials alone all v.0 w.0 w.1.0 h v.1 w.1.1 in
+      let kept : lists (AtSerializer w.0 w.1.0) ≡ newest (serial_kept w.0 w.1.0) h.node.entries = serials_kept d sites serials alone (opened_are_journals d sites serials all) v.0 w.0 w.1.0 h v.1 w.1.1 in
       ap (λ (n : NodeName). map (kept_under (serial_kept (epoch_in n) (serial_in n))) h.node.entries) w.1.1
       ∙ (serial_journals w.0 w.1.0 h.node.entries ∙ (ap (λ (ks : List Kept). map entry_under (oldest ks)) (sym kept) ∙ ap (λ (n : NodeName). lines_in lists (place_at n)) (sym w.1.1)))
 

@@ -18,7 +18,7 @@ use Rattle.sat_opened.specs.Keeping.{site_kept, serial_kept, newest}
 use Rattle.sat_opened.specs.Opened.{AllOpened, serial_names, lists_of, place_at, node_places}
 use Rattle.sat_opened.specs.Laws.{SiteHeld, SerialHeld, NodesFit}
 use Rattle.sat_opened.proofs.Whole.{fits_join}
-use Rattle.sat_opened.proofs.Distincts.{places_cover, sites_kept, serials_kept}
+use Rattle.sat_opened.proofs.Distincts.{opened_are_journals, places_cover, sites_kept, serials_kept}
 use Rattle.sat_session.specs.Notes.{SessionSeen, session_at, node_notes, session_notes}
 use Rattle.sat_session.specs.Sessions.{kept_by, alone_in, AreSessions, SameNotes}
 use Rattle.sat_session.proofs.Whole.{sessions_fit}
@@ -61,7 +61,7 @@ module _ (d : Deployed) (sites : List SiteHeld) (serials : List SerialHeld) (xs 
     runs =
         subst (λ (j : List Entry). Runs (reverse j)) (sym merged)
         (one-run d lists (kept_by d xs) rank names (is_valid d dep)
-        (fits_join d lists (kept_by d xs) (nodes (alone_in d xs)) (sessions_fit d sites serials xs dep all are same))
+        (fits_join d lists (kept_by d xs) (nodes (alone_in d xs)) (sessions_fit d sites serials xs (opened_are_journals d sites serials all) are same))
         (all-distinct d xs are sites serials all) (all-covered d xs are sites serials all) all-journals)
 
     pub one-journal : IsJournal d sites serials xs journal
@@ -70,8 +70,8 @@ module _ (d : Deployed) (sites : List SiteHeld) (serials : List SerialHeld) (xs 
       merged = merged;
       is_run = runs.0;
       of_acts = runs.1;
-      site_parts = λ n i h at name. runs.2 (AtSite i) ∙ ap history (sites_kept d sites serials (alone_in d xs) all n i h at name);
-      serial_parts = λ n e z h at name. runs.2 (AtSerializer e z) ∙ ap history (serials_kept d sites serials (alone_in d xs) all n e z h at name);
+      site_parts = λ n i h at name. runs.2 (AtSite i) ∙ ap history (sites_kept d sites serials (alone_in d xs) (opened_are_journals d sites serials all) n i h at name);
+      serial_parts = λ n e z h at name. runs.2 (AtSerializer e z) ∙ ap history (serials_kept d sites serials (alone_in d xs) (opened_are_journals d sites serials all) n e z h at name);
       session_parts = λ x i. runs.3 (session_at d x.number) ∙ kept-entries d xs are x i;
       no_others = λ s f. runs.3 s ∙ no-entries d xs are s f;
     }

@@ -7,11 +7,11 @@ use Rattle.sat_node.specs.declared.kept.Made.{Made}
 use Rattle.sat_node.specs.declared.kept.Made.TheVariants as made
 use Rattle.sat_node.specs.declared.kept.Envelope.{Envelope}
 use Rattle.sat_node.specs.Puts.{envelope, Putting, putting, puttings, numbered, sealed, put_by}
-use Rattle.sat_host_laws.specs.Delivered.{labels_in}
+use Rattle.sat_opened.specs.Delivered.{labels_in}
 use Rattle.sat_host_laws.specs.Messages.{IsSent}
 use Rattle.sat_message.specs.declared.message.Message.{Message}
 use Rattle.sat_message.specs.Numbering.{GivesOne, is_label, labels_of, message_of, put_before}
-use Rattle.sat_host_laws.proofs.Deliveries.{labels-append}
+use Rattle.sat_opened.proofs.Deliveries.{labels-append}
 
 get-behind : {X : Type 0} (xs ys : List X) (y : X) → slice_get (xs ++ y ∷ ys) (length xs) ≡ Some y
 get-behind [] ys y = refl

@@ -20,12 +20,12 @@ use Rattle.sat_opened.specs.Opened.{name_in}
 use Rattle.sat_opened.proofs.Handings.{get-mapped}
 use Rattle.sat_message.specs.declared.message.Message.{Message}
 use Rattle.sat_message.specs.declared.message.Slip.{Slip}
-use Rattle.sat_host_laws.specs.Delivered.{label_of, labels_in, IsOneOf, Delivered, DeliveredTo, DeliveredAll, DeliveredWithin}
-use Rattle.sat_host_laws.specs.Hosts.{IsHost, AllHosts}
+use Rattle.sat_opened.specs.Delivered.{label_of, labels_in, IsOneOf, Delivered, DeliveredTo, DeliveredAll, DeliveredWithin}
+use Rattle.sat_opened.specs.Hosts.{IsHost, AllHosts}
 use Rattle.sat_host_laws.specs.Messages.{WasPut, IsSent, IsWanted, wanted_after, TookFrom, on_link, message, messages, HostSeen, IsKept, held_of, host_name, CarriedTo, CarriedAll, CarriedWithin, SiteHost, SerialHost, Carried, AllKept, StoresFit, StoresAreRuns, StoresAreGood, OneMore, StaysSent, StaysSentBy}
-use Rattle.sat_host_laws.proofs.Deliveries.{labels-append, get-more}
+use Rattle.sat_opened.proofs.Deliveries.{labels-append, get-more}
 use Rattle.sat_host_laws.proofs.Senders.{puttings-append, sealed-append}
-use Rattle.sat_host_laws.proofs.Whole.{hosts_join, hosts_are_runs, hosts_are_good}
+use Rattle.sat_opened.proofs.Whole.{hosts_join, hosts_are_runs, hosts_are_good}
 
 -- ---- one link
 

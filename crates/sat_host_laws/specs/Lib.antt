@@ -1,3 +1,1 @@
-pub mod Delivered
-pub mod Hosts
 pub mod Messages

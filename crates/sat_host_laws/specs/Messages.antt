@@ -24,8 +24,8 @@ use Rattle.sat_machines.specs.declared.serial_act.SerialAnswer.{SerialAnswer}
 use Rattle.sat_opened.specs.Opened.{serial_names}
 use Rattle.sat_message.specs.declared.message.Message.{Message}
 use Rattle.sat_message.specs.declared.message.Slip.{Slip}
-use Rattle.sat_host_laws.specs.Delivered.{labels_in}
-use Rattle.sat_host_laws.specs.Hosts.{HostsJoinOf, HostsRunOf, HostsGoodOf}
+use Rattle.sat_opened.specs.Delivered.{labels_in}
+use Rattle.sat_opened.specs.Hosts.{HostsJoinOf, HostsRunOf, HostsGoodOf}
 
 -- ---- the transport
 

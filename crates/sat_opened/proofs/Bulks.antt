@@ -1,8 +1,7 @@
--- All payloads and beats of opened sites.
+-- All payloads and beats of hosts.
 use Rattle.std.proofs.Common.{◌≡◌, ℕ, Bool, true, false, ◌==◌, List, [], Option, Some, refl, sym, ap, ◌∙◌, subst, inl, inr}
 use Rattle.sat_label.proofs.Truth.{same-number}
 use Rattle.sat_label.specs.Members.{In}
-use Rattle.sat_label.specs.declared.node.NodeName.{NodeName}
 use Rattle.sat_label.specs.declared.node.NodeName.TheVariants as named
 use Rattle.sat_beat.specs.declared.Beat.{Beat}
 use Rattle.sat_bulk.specs.Payloads.{Payload}
@@ -16,10 +15,9 @@ use Rattle.sat_site.specs.declared.input.SiteInput.TheVariants as input
 use Rattle.sat_node.specs.declared.kept.Kept.{Kept as Line}
 use Rattle.sat_node.specs.declared.kept.Body.TheVariants as body
 use Rattle.sat_node.specs.Puts.{put_by}
-use Rattle.sat_node.specs.Links.{HeldSeen, Handed, takings}
-use Rattle.sat_node.specs.Opened.{AgreeNodes}
+use Rattle.sat_node.specs.Links.{HeldSeen, takings}
 use Rattle.sat_machines.specs.Acts.{ActSeen}
-use Rattle.sat_machines.specs.Layout.{Bulk, peer}
+use Rattle.sat_machines.specs.Layout.{Bulk, peer, place_of}
 use Rattle.sat_machines.specs.declared.site_answer.SiteAnswer.{SiteAnswer}
 use Rattle.sat_machines.specs.declared.serial_act.SerialAct.{SerialAct}
 use Rattle.sat_machines.specs.declared.serial_act.SerialAnswer.{SerialAnswer}
@@ -29,15 +27,18 @@ use Rattle.sat_stitch.specs.Places.{Place}
 use Rattle.sat_stitch.specs.Nodes.{site_after, makes_payload, makes_beat, asked}
 use Rattle.sat_stitch.specs.Fit.{IsMade, PayloadsHanded, BeatsHanded}
 use Rattle.sat_opened.specs.Keeping.{client_in, site_act, site_given, site_kept, newest}
-use Rattle.sat_opened.specs.Opened.{AllOpened, entries_at, lists_of}
+use Rattle.sat_opened.specs.Opened.{entries_at, lists_of}
+use Rattle.sat_opened.specs.Delivered.{Delivered}
+use Rattle.sat_opened.specs.Hosts.{AllHosts}
 use Rattle.sat_opened.proofs.Numbers.{same-turned}
 use Rattle.sat_opened.proofs.Walks.{along-more, each-behind}
 use Rattle.sat_opened.proofs.Found.{look-up, two-places}
-use Rattle.sat_opened.proofs.Handings.{sort_of, payload_sort, beat_sort, payload-made, beat-made}
-use Rattle.sat_opened.proofs.Layouts.{OutAt, InAt, out-at, in-at, between, bulk-end, IsEnd, end-at}
+use Rattle.sat_opened.proofs.Handings.{sort_of, payload_sort, beat_sort}
+use Rattle.sat_opened.proofs.Layouts.{bulk-end, IsEnd, end-at}
 use Rattle.sat_opened.proofs.SiteKept.{SiteStep, IsOther, from-other}
 use Rattle.sat_opened.proofs.Lanes.{lane-puts, beat-puts}
-use Rattle.sat_opened.proofs.Links.{within, SiteAt, site-at, find-site}
+use Rattle.sat_opened.proofs.Deliveries.{payload-made, beat-made}
+use Rattle.sat_opened.proofs.Links.{place-out, place-in, between, SiteAt, site-at, find-site}
 
 -- ---- inputs by their acts
 
@@ -78,7 +79,7 @@ beat-input j c i n note _ e f = absurd (cc)
 taken-if : {X : Type 0} (a b : ℕ) (x : X) → b ≡ a → some_if (a == b) x ≡ Some x
 taken-if a b x e = ap (λ (m : ℕ). some_if (a == m) x) e ∙ ap (λ (t : Bool). some_if t x) (same-number a)
 
-module _ {M K : Type 0} (d : Deployed) (sites : List (HeldSeen M ActSeen SiteAnswer)) (serials : List (HeldSeen K SerialAct SerialAnswer)) (dep : IsDeployment d) (all : AllOpened d sites serials) where
+module _ {M K : Type 0} (d : Deployed) (sites : List (HeldSeen M ActSeen SiteAnswer)) (serials : List (HeldSeen K SerialAct SerialAnswer)) (dep : IsDeployment d) (all : AllHosts d sites serials) where
   names-same : (i j : ℕ) → named.Site i ≡ named.Site j → i ≡ j
   names-same i j e = cc
 
@@ -91,25 +92,24 @@ module _ {M K : Type 0} (d : Deployed) (sites : List (HeldSeen M ActSeen SiteAns
     into : ℕ
     to : peer i out ≡ j
     back : peer j into ≡ i
-    came : Handed (takings (site_takes (named.Site j) into) r.found.held.node.entries) (put_by (site_puts (named.Site i) out) s.found.held.node.entries)
+    came : Delivered (takings (site_takes (named.Site j) into) r.found.held.node.entries) (put_by (site_puts (named.Site i) out) s.found.held.node.entries)
 
   lane : (i j : ℕ) → (i == j) ≡ false → (s : SiteAt d sites serials dep all i) (r : SiteAt d sites serials dep all j) → Lane i j s r
   lane i j ne s r =
       let out : (k : ℕ) × IsEnd d i j k = end-at d i j s.inside r.inside (same-turned j i ∙ ne) in
       let into : (k : ℕ) × IsEnd d j i k = end-at d j i r.inside s.inside ne in
-      let agree : AgreeNodes (site_meaning d) (site_meaning d) s.found.held r.found.held =
-      within (site_meaning d) sites s.found.index r.found.index s.found.held r.found.held all.between_sites (two-places (named.Site i) (named.Site j) sites s.found r.found (λ w. not-one i j ne (names-same i j w))) s.found.there r.found.there in
-      let from : OutAt d s.found.held out.0 (Bulk i (peer i out.0)) = out-at d s.found.held (named.Site i) out.0 (Bulk i (peer i out.0)) s.outs (bulk-end d i out.0 out.1.within) in
-      let at : InAt d r.found.held into.0 (Bulk j (peer j into.0)) = in-at d r.found.held (named.Site j) into.0 (Bulk j (peer j into.0)) r.ins (bulk-end d j into.0 into.1.within) in
-      let came : Handed (takings (site_takes r.found.held.node.name into.0) r.found.held.node.entries) (put_by (site_puts s.found.held.node.name out.0) s.found.held.node.entries) =
-      between (site_meaning d) (site_meaning d) d s.found.held r.found.held out.0 into.0 (Bulk i (peer i out.0)) (Bulk j (peer j into.0)) agree from at (λ k. Bulk (into.1.peer k) (sym out.1.peer k)) in
+      let came : Delivered (takings (site_takes (named.Site j) into.0) r.found.held.node.entries) (put_by (site_puts (named.Site i) out.0) s.found.held.node.entries) =
+      between (site_meaning d) (site_meaning d) s.found.held r.found.held (named.Site i) (named.Site j) s.found.is_named r.found.is_named
+      (all.between_sites s.found.index r.found.index s.found.held r.found.held (two-places (named.Site i) (named.Site j) sites s.found r.found (λ w. not-one i j ne (names-same i j w))) s.found.there r.found.there)
+      out.0 into.0 (place_of d (Bulk i (peer i out.0)))
+      (place-out d (named.Site i) out.0 (Bulk i (peer i out.0)) (bulk-end d i out.0 out.1.within))
+      (place-in d (named.Site j) into.0 (Bulk i (peer i out.0)) (Bulk j (peer j into.0)) (bulk-end d j into.0 into.1.within) (λ k. Bulk (into.1.peer k) (sym out.1.peer k))) in
       record {
         out = out.0;
         into = into.0;
         to = out.1.peer;
         back = into.1.peer;
-        came = subst (λ (n : NodeName). Handed (takings (site_takes (named.Site j) into.0) r.found.held.node.entries) (put_by (site_puts n out.0) s.found.held.node.entries)) s.found.is_named
-            (subst (λ (n : NodeName). Handed (takings (site_takes n into.0) r.found.held.node.entries) (put_by (site_puts s.found.held.node.name out.0) s.found.held.node.entries)) r.found.is_named came);
+        came = came;
       }
 
   abbrev made_list : ℕ → List Kept

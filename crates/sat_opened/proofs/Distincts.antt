@@ -20,7 +20,7 @@ use Rattle.sat_stitch.specs.Kept.{Kept}
 use Rattle.sat_stitch.specs.Stitch.{Distinct}
 use Rattle.sat_opened.specs.Keeping.{site_kept, serial_kept, newest}
 use Rattle.sat_opened.specs.Opened.{tree_names, serial_names, AllOpened, lists_of, place_at, node_places}
-use Rattle.sat_opened.specs.Laws.{SitesAreKept, SerialsAreKept, PlacesCover}
+use Rattle.sat_opened.specs.Laws.{OpenedAreJournals, SitesAreKept, SerialsAreKept, PlacesCover}
 use Rattle.sat_opened.proofs.Layouts.{in-mapped, in-less}
 use Rattle.sat_opened.proofs.Found.{look-up, found-named, entries-of}
 
@@ -117,6 +117,9 @@ in-map : {X Y : Type 0} (f : X → Y) (xs : List X) (x : X) → In xs x → In (
 in-map f [] x i = absurd i
 in-map f (y ∷ xs) x (inl e) = inl (ap f e)
 in-map f (y ∷ xs) x (inr i) = inr (in-map f xs x i)
+
+pub opened_are_journals : OpenedAreJournals
+opened_are_journals d sites serials all = record { all_sites = all.all_sites; all_serials = all.all_serials; each_site = λ k h at. (all.each_site k h at).runs }
 
 pub sites_kept : SitesAreKept
 sites_kept d sites serials alone all n i h at name = ap (newest (site_kept i)) (entries-of (named.Site i) sites (subst Distinct (sym all.all_sites) (distinct-sites d.sites)) n h at name)

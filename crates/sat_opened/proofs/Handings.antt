@@ -1,9 +1,8 @@
 -- What entries took from a link and what entries put there, as marks of kept lists.
-use Rattle.std.proofs.Common.{◌≡◌, ◌<◌, ℕ, ◌+◌, zero, suc, Bool, true, false, ◌==◌, List, [], ◌∷◌, ◌++◌, length, map, Option, Some, None, slice_get, if◌then◌else◌, refl, sym, ap, ◌∙◌, subst, append_assoc, arith, inl, inr}
+use Rattle.std.proofs.Common.{◌≡◌, ℕ, ◌+◌, zero, suc, Bool, true, false, ◌==◌, List, [], ◌∷◌, ◌++◌, length, map, Option, Some, None, slice_get, if◌then◌else◌, refl, sym, ap, ◌∙◌, subst, append_assoc, arith, inl, inr}
 use Rattle.std.proofs.lemmas.List.{map-append}
 use Rattle.sat_label.specs.Members.{In}
 use Rattle.sat_label.specs.declared.label.Label.{Label}
-use Rattle.sat_label.proofs.Numbers.{get-map}
 use Rattle.sat_bulk.specs.Payloads.{Payload}
 use Rattle.sat_beat.specs.declared.Beat.{Beat}
 use Rattle.sat_act.specs.Parts.{BeatNote}
@@ -15,14 +14,10 @@ use Rattle.sat_node.specs.declared.kept.Body.TheVariants as body
 use Rattle.sat_node.specs.declared.kept.Made.{Made}
 use Rattle.sat_node.specs.declared.kept.Made.TheVariants as made
 use Rattle.sat_node.specs.declared.kept.Envelope.{Envelope}
-use Rattle.sat_node.specs.Puts.{envelope, Putting, putting, puttings, is_payload_of, is_beat, payloads_of, beats_of, numbered as sealed_as, sealed, put_by}
-use Rattle.sat_node.specs.Links.{onto, takings, may_pass, Handed}
-use Rattle.sat_node.specs.Laws.{IsFor}
-use Rattle.sat_node.proofs.Laws.{labels_in_order, taken_came, puts_are_numbered}
-use Rattle.sat_stitch.specs.Kept.{Kept, numbered, marks}
-use Rattle.sat_stitch.specs.Fit.{IsHanded, IsMade}
-use Rattle.sat_opened.specs.Keeping.{newest}
-use Rattle.sat_opened.proofs.Walks.{Along, later, marks-newest}
+use Rattle.sat_node.specs.Puts.{envelope, Putting, putting, puttings, is_payload_of, is_beat, payloads_of, beats_of, numbered as sealed_as, sealed}
+use Rattle.sat_node.specs.Links.{onto, takings}
+use Rattle.sat_stitch.specs.Kept.{Kept, numbered}
+use Rattle.sat_opened.proofs.Walks.{Along, later}
 use Rattle.sat_label.proofs.Truth.{same-number}
 
 -- ---- lists
@@ -70,30 +65,6 @@ module _ {I A : Type 0} (of : Line I A → Kept) (f : List Kept → Kept → Opt
       ap (λ (o : Option Made). sealed before (putting x.lamport o ++ puttings put xs)) a.0 ∙
       (seal-one before x.lamport (of x).number (f ks (of x)) (puttings put xs) (map label_on (later of f (of x ∷ ks) xs)) (same x) (λ b. sealed-are put b (of x ∷ ks) xs same a.1) ∙
       sym (map-append label_on (numbered (of x).number (f ks (of x))) (later of f (of x ∷ ks) xs)))
-
--- where entries take and put labels alone, what the history says was taken is what it says was put
-all-labels : (ps : List (ℕ × Label)) (k : ℕ) (e : Envelope) → slice_get (map label_on ps) k ≡ Some e → may_pass e.body ≡ false
-all-labels ps k e at = (let w : (p : ℕ × Label) × (slice_get ps k ≡ Some p) × (label_on p ≡ e) = get-mapped label_on ps k e at in subst (λ (e : Envelope). may_pass e.body ≡ false) w.2 refl)
-
-same-label : (l m : Label) → body.Label l ≡ body.Label m → l ≡ m
-same-label l m e = cc
-
-handed-labels : (took put : List (ℕ × Label)) → Handed (map label_on took) (map label_on put) → IsHanded took put
-handed-labels took put h k n l at =
-    let w : (e : Envelope) × (slice_get (map label_on put) k ≡ Some e) × IsFor e (label_on (n, l)) =
-    labels_in_order (map label_on took) (map label_on put) h (all-labels put) k (label_on (n, l)) (get-map label_on took k (n, l) at) in
-    let v : (p : ℕ × Label) × (slice_get put k ≡ Some p) × (label_on p ≡ w.0) = get-mapped label_on put k w.0 w.1 in
-    let same : v.0.1 ≡ l = same-label v.0.1 l (ap (λ (e : Envelope). e.body) v.2 ∙ sym w.2.0) in
-    (v.0.0, v.1 ∙ ap (λ (l : Label). Some (v.0.0, l)) same, subst (λ (e : Envelope). e.lamport < n) (sym v.2) w.2.1)
-
-pub handed-on : {I A J B : Type 0} (put : I → A → Option Made) (take : J → B → Option Body) (of : Line I A → Kept) (on : Line J B → Kept) (f g : List Kept → Kept → Option Label) (es : List (Line I A)) (fs : List (Line J B)) →
-    ((x : Line I A) → (of x).number ≡ x.lamport) → ((x : Line J B) → (on x).number ≡ x.lamport) →
-    Along of (λ b x. put x.input x.answer ≡ label_made (f b (of x))) [] es → Along on (λ b x. take x.input x.answer ≡ label_body (g b (on x))) [] fs →
-    Handed (takings take fs) (put_by put es) → IsHanded (marks g (newest on fs)) (marks f (newest of es))
-handed-on put take of on f g es fs sent taken a b h =
-    subst (λ (ps : List (ℕ × Label)). IsHanded ps (marks f (newest of es))) (sym (marks-newest on g fs))
-    (subst (λ (ps : List (ℕ × Label)). IsHanded (later on g [] fs) ps) (sym (marks-newest of f es))
-    (handed-labels (later on g [] fs) (later of f [] es) (subst (λ (ts : List Envelope). Handed ts (map label_on (later of f [] es))) (takings-are on g take [] fs taken b) (subst (λ (ps : List Envelope). Handed (takings take fs) ps) (sealed-are of f put [] [] es sent a) h))))
 
 -- ---- payloads and beats: things of one sort, by what of a made thing is of that sort
 
@@ -154,7 +125,7 @@ payload-step g n (made.Label l) zs c e = count-none zs c e
 payload-step g n (made.Payload gear p) zs c e = count-payload g gear n p c zs (gear == g) e
 payload-step g n (made.Beat b) zs c e = count-none zs c e
 
-payloads-count : (g : ℕ) (ps : List Putting) → length (sorted (payload_sort g) ps) ≡ payloads_of g ps
+pub payloads-count : (g : ℕ) (ps : List Putting) → length (sorted (payload_sort g) ps) ≡ payloads_of g ps
 payloads-count g [] = refl
 payloads-count g (p ∷ ps) = payload-step g p.number p.made (sorted (payload_sort g) ps) (payloads_of g ps) (payloads-count g ps)
 
@@ -163,16 +134,16 @@ beat-step n (made.Label l) zs c e = count-none zs c e
 beat-step n (made.Payload gear p) zs c e = count-none zs c e
 beat-step n (made.Beat b) zs c e = count-one (n, note_of b) zs c e
 
-beats-count : (ps : List Putting) → length (sorted beat_sort ps) ≡ beats_of ps
+pub beats-count : (ps : List Putting) → length (sorted beat_sort ps) ≡ beats_of ps
 beats-count [] = refl
 beats-count (p ∷ ps) = beat-step p.number p.made (sorted beat_sort ps) (beats_of ps) (beats-count ps)
 
 -- a thing that travels as the payload of this number is one of the gear, of which so many were put before it
-record IsPayload (g n : ℕ) (p : Payload) (before : List Putting) (m : Made) : Type 0 where
-  is : payload_sort g m ≡ Some p
-  number : payloads_of g before ≡ n
+pub record IsPayload (g n : ℕ) (p : Payload) (before : List Putting) (m : Made) : Type 0 where
+  pub is : payload_sort g m ≡ Some p
+  pub number : payloads_of g before ≡ n
 
-payload-is : (before : List Putting) (m : Made) (g n : ℕ) (p : Payload) → sealed_as before m ≡ body.Payload g n p → IsPayload g n p before m
+pub payload-is : (before : List Putting) (m : Made) (g n : ℕ) (p : Payload) → sealed_as before m ≡ body.Payload g n p → IsPayload g n p before m
 payload-is before (made.Label l) g n p e = absurd (cc)
 payload-is before (made.Beat b) g n p e = absurd (cc)
 payload-is before (made.Payload gear q) g n p e =
@@ -181,11 +152,11 @@ payload-is before (made.Payload gear q) g n p e =
     let count : payloads_of gear before ≡ n = cc in
     record { is = ap (λ (k : ℕ). if k == g then Some q else None) same ∙ (ap (λ (b : Bool). if b then Some q else None) (same-number g) ∙ ap (λ (q : Payload). Some q) thing); number = ap (λ (k : ℕ). payloads_of k before) (sym same) ∙ count }
 
-record IsBeatOf (n : ℕ) (b : Beat) (before : List Putting) (m : Made) : Type 0 where
-  is : beat_sort m ≡ Some (note_of b)
-  number : beats_of before ≡ n
+pub record IsBeatOf (n : ℕ) (b : Beat) (before : List Putting) (m : Made) : Type 0 where
+  pub is : beat_sort m ≡ Some (note_of b)
+  pub number : beats_of before ≡ n
 
-beat-is : (before : List Putting) (m : Made) (n : ℕ) (b : Beat) → sealed_as before m ≡ body.Beat n b → IsBeatOf n b before m
+pub beat-is : (before : List Putting) (m : Made) (n : ℕ) (b : Beat) → sealed_as before m ≡ body.Beat n b → IsBeatOf n b before m
 beat-is before (made.Label l) n b e = absurd (cc)
 beat-is before (made.Payload gear q) n b e = absurd (cc)
 beat-is before (made.Beat c) n b e =
@@ -211,52 +182,3 @@ taking-there {I} {A} take (y ∷ ys) x b (inl same) e = (
 taking-there take (y ∷ ys) x b (inr m) e =
     let w : (n : ℕ) × (slice_get (takings take ys) n ≡ Some (envelope x.lamport b)) = taking-there take ys x b m e in
     get-after (onto y.lamport (take y.input y.answer)) (takings take ys) w.0 (envelope x.lamport b) w.1
-
--- what came to an entry was put, under a smaller number
-record IsPut (ps : List Putting) (b : Body) (lamport : ℕ) : Type 0 where
-  before : List Putting
-  thing : Putting
-  after : List Putting
-  all : ps ≡ before ++ thing ∷ after
-  same : sealed_as before thing.made ≡ b
-  less : thing.number < lamport
-
-came-put : {I A J B : Type 0} (put : I → A → Option Made) (take : J → B → Option Body) (es : List (Line I A)) (fs : List (Line J B)) (x : Line J B) (b : Body) → Handed (takings take fs) (put_by put es) → In fs x → take x.input x.answer ≡ Some b →
-    IsPut (puttings put es) b x.lamport
-came-put put take es fs x b h m e =
-    let at : (n : ℕ) × (slice_get (takings take fs) n ≡ Some (envelope x.lamport b)) = taking-there take fs x b m e in
-    let came = taken_came (takings take fs) (put_by put es) h in
-    let w : (t : Envelope) × (slice_get (put_by put es) (came.0 at.0) ≡ Some t) × IsFor t (envelope x.lamport b) = came.1 at.0 (envelope x.lamport b) at.1 in
-    let v = puts_are_numbered (puttings put es) (came.0 at.0) w.0 w.1 in
-    record {
-      before = v.0;
-      thing = v.1;
-      after = v.2;
-      all = v.3;
-      same = ap (λ (t : Envelope). t.body) (sym v.5) ∙ sym w.2.0;
-      less = subst (λ (t : Envelope). t.lamport < x.lamport) v.5 w.2.1;
-    }
-
-module _ {I A J B : Type 0} (put : I → A → Option Made) (take : J → B → Option Body) (of : Line I A → Kept) (same : (x : Line I A) → (of x).number ≡ x.lamport) (es : List (Line I A)) (fs : List (Line J B)) (h : Handed (takings take fs) (put_by put es)) where
-  made-at : {Y : Type 0} (sort : Made → Option Y) (f : List Kept → Kept → Option Y) (x : Line J B) (b : Body) (n : ℕ) (y : Y) → Along of (λ b x. sort_of sort (put x.input x.answer) ≡ f b (of x)) [] es → (p : IsPut (puttings put es) b x.lamport) →
-      sort p.thing.made ≡ Some y → length (sorted sort p.before) ≡ n → IsMade (marks f (newest of es)) n y x.lamport
-  made-at {Y} sort f x b n y a p is count = (
-    p.thing.number,
-    ap (λ (zs : List (ℕ × Y)). slice_get zs n) (marks-newest of f es ∙ (sym (sorted-are sort of f put [] es same a) ∙ ap (sorted sort) p.all)) ∙
-        (ap (λ (k : ℕ). slice_get (sorted sort (p.before ++ p.thing ∷ p.after)) k) (sym count) ∙ sorted-at sort p.before p.thing p.after y is),
-    p.less,
-  )
-
-  pub payload-made : (g n : ℕ) (p : Payload) (f : List Kept → Kept → Option Payload) (x : Line J B) → Along of (λ b x. sort_of (payload_sort g) (put x.input x.answer) ≡ f b (of x)) [] es → In fs x → take x.input x.answer ≡ Some (body.Payload g n p) →
-      IsMade (marks f (newest of es)) n p x.lamport
-  payload-made g n p f x a m e =
-      let w : IsPut (puttings put es) (body.Payload g n p) x.lamport = came-put put take es fs x (body.Payload g n p) h m e in
-      let v : IsPayload g n p w.before w.thing.made = payload-is w.before w.thing.made g n p w.same in
-      made-at (payload_sort g) f x (body.Payload g n p) n p a w v.is (payloads-count g w.before ∙ v.number)
-
-  pub beat-made : (n : ℕ) (b : Beat) (f : List Kept → Kept → Option BeatNote) (x : Line J B) → Along of (λ b x. sort_of beat_sort (put x.input x.answer) ≡ f b (of x)) [] es → In fs x → take x.input x.answer ≡ Some (body.Beat n b) →
-      IsMade (marks f (newest of es)) n (note_of b) x.lamport
-  beat-made n b f x a m e =
-      let w : IsPut (puttings put es) (body.Beat n b) x.lamport = came-put put take es fs x (body.Beat n b) h m e in
-      let v : IsBeatOf n b w.before w.thing.made = beat-is w.before w.thing.made n b w.same in
-      made-at beat_sort f x (body.Beat n b) n (note_of b) a w v.is (beats-count w.before ∙ v.number)

@@ -9,7 +9,6 @@ use Rattle.sat_label.specs.Members.{In}
 use Rattle.sat_label.specs.Words.{below}
 use Rattle.sat_label.specs.declared.node.NodeId.{NodeId}
 use Rattle.sat_label.specs.declared.node.NodeId.TheVariants.{Site, Serializer}
-use Rattle.sat_label.specs.declared.node.NodeName.{NodeName}
 use Rattle.sat_label.specs.declared.node.NodeName.TheVariants as named
 use Rattle.sat_tree.specs.Shape.{TreeShape}
 use Rattle.sat_tree.specs.Cut.{is_edge, neighbours, seat_of, IsNode}
@@ -19,14 +18,9 @@ use Rattle.sat_act.specs.Deployed.{Deployed}
 use Rattle.sat_act.specs.Parts.{tree_of, planned_tree}
 use Rattle.sat_laws.proofs.Labels.{some_is}
 use Rattle.sat_laws.proofs.Links.{In-place}
-use Rattle.sat_node.specs.Puts.{OutSeen, put_by}
-use Rattle.sat_node.specs.Links.{InSeen, HeldSeen, Handed, takings, out_places as outs_at, in_places as ins_at}
-use Rattle.sat_node.specs.Meanings.{Meaning}
-use Rattle.sat_node.specs.Opened.{AgreeNodes, AgreeOut, AgreeEnds}
-use Rattle.sat_machines.specs.Layout.{Link, Bulk, Edge, turned, peer, Planted, planted, trees_of, serial_links, links_at, links_of, place_of, place_back, out_places, in_places, label_links, label_link}
+use Rattle.sat_machines.specs.Layout.{Link, Bulk, Edge, peer, Planted, planted, trees_of, serial_links, links_at, links_of, label_links, label_link}
 use Rattle.sat_opened.specs.Opened.{tree_names, serial_names}
 use Rattle.sat_opened.proofs.Numbers.{same-is, differ, less-is, not-less, above-is}
-use Rattle.sat_opened.proofs.Handings.{get-mapped}
 
 -- ---- trees
 
@@ -220,38 +214,6 @@ end-at d i j a b ne = go (nat_lt j i) refl
     go false e =
         let lt : i < j = above-is i j e ne in
         (j - 1, record { within = more-here i j d.sites b lt; peer = choose-false (nat_lt (j - 1) i) (j - 1) ((j - 1) + 1) (after-end i j lt).0 ∙ (after-end i j lt).1 })
-
--- ---- the places of ends
-
-pub record OutAt {M I A : Type 0} (d : Deployed) (h : HeldSeen M I A) (k : ℕ) (l : Link) : Type 0 where
-  pub out : OutSeen
-  pub there : slice_get h.outs k ≡ Some out
-  pub place_is : out.place ≡ place_of d l
-
-pub record InAt {M I A : Type 0} (d : Deployed) (h : HeldSeen M I A) (k : ℕ) (l : Link) : Type 0 where
-  pub into : InSeen
-  pub there : slice_get h.ins k ≡ Some into
-  pub place_is : into.place ≡ place_of d (turned l)
-
-pub out-at : {M I A : Type 0} (d : Deployed) (h : HeldSeen M I A) (name : NodeName) (k : ℕ) (l : Link) → outs_at h.outs ≡ out_places d name → slice_get (links_of d name) k ≡ Some l → OutAt d h k l
-unfolding out_places
-out-at d h name k l e at =
-    let w : (o : OutSeen) × (slice_get h.outs k ≡ Some o) × (o.place ≡ place_of d l) =
-    get-mapped (λ (o : OutSeen). o.place) h.outs k (place_of d l) (ap (λ (ns : List ℕ). slice_get ns k) e ∙ get-map (place_of d) (links_of d name) k l at) in
-    record { out = w.0; there = w.1; place_is = w.2 }
-
-pub in-at : {M I A : Type 0} (d : Deployed) (h : HeldSeen M I A) (name : NodeName) (k : ℕ) (l : Link) → ins_at h.ins ≡ in_places d name → slice_get (links_of d name) k ≡ Some l → InAt d h k l
-unfolding in_places
-in-at d h name k l e at =
-    let w : (o : InSeen) × (slice_get h.ins k ≡ Some o) × (o.place ≡ place_of d (turned l)) =
-    get-mapped (λ (o : InSeen). o.place) h.ins k (place_of d (turned l)) (ap (λ (ns : List ℕ). slice_get ns k) e ∙ get-map (place_back d) (links_of d name) k l at) in
-    record { into = w.0; there = w.1; place_is = w.2 }
-
--- two ends of a link carried what was put there
-pub between : {S T M K I A J B : Type 0} (m : Meaning S I A) (n : Meaning T J B) (d : Deployed) (sender : HeldSeen M I A) (receiver : HeldSeen K J B) (k j : ℕ) (l q : Link) → AgreeNodes m n sender receiver →
-    OutAt d sender k l → InAt d receiver j q → turned q ≡ l → Handed (takings (n.takes receiver.node.name j) receiver.node.entries) (put_by (m.puts sender.node.name k) sender.node.entries)
-unfolding AgreeNodes AgreeOut AgreeEnds
-between m n d sender receiver k j l q agree o i e = agree k j o.out i.into o.there i.there (o.place_is ∙ sym (i.place_is ∙ ap (place_of d) e))
 
 -- ---- names
 

@@ -5,6 +5,7 @@ pub mod Says
 pub mod SiteKept
 pub mod SerialKept
 pub mod Handings
+pub mod Deliveries
 pub mod Layouts
 pub mod Found
 pub mod SiteLinks

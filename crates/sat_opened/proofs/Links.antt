@@ -1,6 +1,7 @@
--- All links of opened nodes.
+-- All links of hosts.
 use Rattle.std.proofs.Common.{◌≡◌, ◌<◌, ℕ, Bool, true, false, ◌==◌, List, [], ◌∷◌, ◌++◌, length, nat_lt, Option, Some, None, slice_get, refl, sym, ap, ◌∙◌, subst, inl, inr}
 use Rattle.sat_label.proofs.Truth.{same-number}
+use Rattle.sat_label.proofs.Numbers.{get-map}
 use Rattle.sat_label.specs.Members.{In}
 use Rattle.sat_label.specs.declared.node.NodeId.TheVariants.{Site, Serializer}
 use Rattle.sat_label.specs.declared.node.NodeName.{NodeName}
@@ -14,10 +15,9 @@ use Rattle.sat_net.proofs.Edges.{turned-edge, at-seat, apart, AreApart, edge-wit
 use Rattle.sat_node.specs.declared.kept.Kept.{Kept as Line}
 use Rattle.sat_node.specs.Meanings.{Meaning, Runs}
 use Rattle.sat_node.specs.Puts.{put_by}
-use Rattle.sat_node.specs.Links.{HeldSeen, Handed, takings, out_places as outs_at, in_places as ins_at}
-use Rattle.sat_node.specs.Opened.{AgreeNodes, AgreeRow, AgreeAll, AgreeWithin}
+use Rattle.sat_node.specs.Links.{HeldSeen, takings}
 use Rattle.sat_machines.specs.Acts.{ActSeen}
-use Rattle.sat_machines.specs.Layout.{Edge, label_link, out_places, in_places}
+use Rattle.sat_machines.specs.Layout.{Link, Edge, turned, links_of, place_of, place_back, label_link, out_places, in_places}
 use Rattle.sat_machines.specs.declared.site_answer.SiteAnswer.{SiteAnswer}
 use Rattle.sat_machines.specs.declared.serial_act.SerialAct.{SerialAct}
 use Rattle.sat_machines.specs.declared.serial_act.SerialAnswer.{SerialAnswer}
@@ -27,16 +27,19 @@ use Rattle.sat_stitch.specs.Kept.{Kept, numbered, marks}
 use Rattle.sat_stitch.specs.Nodes.{put_on, took_from}
 use Rattle.sat_stitch.specs.Fit.{IsHanded}
 use Rattle.sat_opened.specs.Keeping.{site_kept, serial_kept, newest}
-use Rattle.sat_opened.specs.Opened.{IsOpened, AllOpened, entries_at}
+use Rattle.sat_opened.specs.Opened.{entries_at}
+use Rattle.sat_opened.specs.Delivered.{Delivered, DeliveredTo}
+use Rattle.sat_opened.specs.Hosts.{IsHost, AllHosts}
 use Rattle.sat_opened.proofs.Numbers.{less-is, is-less}
 use Rattle.sat_opened.proofs.Walks.{Along, along-more, later, marks-newest}
 use Rattle.sat_opened.proofs.Found.{Found, look-up, find, found-named, two-places}
-use Rattle.sat_opened.proofs.Handings.{label_made, label_body, handed-on}
-use Rattle.sat_opened.proofs.Layouts.{OutAt, InAt, out-at, in-at, between, tree-end, serial-end, neighbour-there, serial-named, site-named, site-below}
+use Rattle.sat_opened.proofs.Handings.{label_made, label_body}
+use Rattle.sat_opened.proofs.Layouts.{tree-end, serial-end, neighbour-there, serial-named, site-named, site-below}
 use Rattle.sat_opened.proofs.SiteKept.{SiteStep, site-steps}
 use Rattle.sat_opened.proofs.SerialKept.{SerialStep, serial-steps}
 use Rattle.sat_opened.proofs.SiteLinks.{site-enters, site-takes-in}
 use Rattle.sat_opened.proofs.SerialLinks.{serial-enters, serial-takes-over, none-taken}
+use Rattle.sat_opened.proofs.Deliveries.{delivered-on}
 
 -- ---- nothing taken
 
@@ -51,42 +54,44 @@ later-none {X} {Y} of f ks (x ∷ xs) a =
 none-handed : {X Y : Type 0} (of : X → Kept) (f : List Kept → Kept → Option Y) (xs : List X) (put : List (ℕ × Y)) → Along of (λ b x. f b (of x) ≡ None) [] xs → IsHanded (marks f (newest of xs)) put
 none-handed {X} {Y} of f xs put a = subst (λ (took : List (ℕ × Y)). IsHanded took put) (sym (marks-newest of f xs ∙ later-none of f [] xs a)) (nothing-handed put)
 
--- ---- agreements
+-- ---- places
 
-pub within : {S M I A : Type 0} (m : Meaning S I A) (hs : List (HeldSeen M I A)) (a b : ℕ) (sender receiver : HeldSeen M I A) → AgreeWithin m hs → (a ≡ b → ⊥) → slice_get hs a ≡ Some sender → slice_get hs b ≡ Some receiver → AgreeNodes m m sender receiver
-unfolding AgreeWithin
-within m hs a b sender receiver agree apart one two = agree a b sender receiver apart one two
+pub place-out : (d : Deployed) (name : NodeName) (k : ℕ) (l : Link) → slice_get (links_of d name) k ≡ Some l → slice_get (out_places d name) k ≡ Some (place_of d l)
+unfolding out_places
+place-out d name k l at = get-map (place_of d) (links_of d name) k l at
 
-pub across : {S T M K I A J B : Type 0} (m : Meaning S I A) (n : Meaning T J B) (hs : List (HeldSeen M I A)) (gs : List (HeldSeen K J B)) (a b : ℕ) (sender : HeldSeen M I A) (receiver : HeldSeen K J B) → AgreeAll m n hs gs →
-    slice_get hs a ≡ Some sender → slice_get gs b ≡ Some receiver → AgreeNodes m n sender receiver
-unfolding AgreeAll AgreeRow
-across m n hs gs a b sender receiver agree one two = agree a sender one b receiver two
+pub place-in : (d : Deployed) (name : NodeName) (k : ℕ) (l q : Link) → slice_get (links_of d name) k ≡ Some q → turned q ≡ l → slice_get (in_places d name) k ≡ Some (place_of d l)
+unfolding in_places
+place-in d name k l q at e = get-map (place_back d) (links_of d name) k q at ∙ ap (λ (l : Link). Some (place_of d l)) e
 
--- ---- opened nodes
+pub between : {S T M K I A J B : Type 0} (m : Meaning S I A) (n : Meaning T J B) (sender : HeldSeen M I A) (receiver : HeldSeen K J B) (a b : NodeName) → sender.node.name ≡ a → receiver.node.name ≡ b → DeliveredTo m n sender receiver →
+    (k j place : ℕ) → slice_get (m.outs a) k ≡ Some place → slice_get (n.ins b) j ≡ Some place → Delivered (takings (n.takes b j) receiver.node.entries) (put_by (m.puts a k) sender.node.entries)
+between m n sender receiver a b e f h k j place out into =
+    subst (λ (x : NodeName). Delivered (takings (n.takes x j) receiver.node.entries) (put_by (m.puts a k) sender.node.entries)) f
+    (subst (λ (x : NodeName). Delivered (takings (n.takes receiver.node.name j) receiver.node.entries) (put_by (m.puts x k) sender.node.entries)) e
+    (h k j place (subst (λ (x : NodeName). slice_get (m.outs x) k ≡ Some place) (sym e) out) (subst (λ (x : NodeName). slice_get (n.ins x) j ≡ Some place) (sym f) into)))
 
-module _ {M K : Type 0} (d : Deployed) (sites : List (HeldSeen M ActSeen SiteAnswer)) (serials : List (HeldSeen K SerialAct SerialAnswer)) (dep : IsDeployment d) (all : AllOpened d sites serials) where
-  -- a site that was opened, with its journal
+-- ---- hosts
+
+module _ {M K : Type 0} (d : Deployed) (sites : List (HeldSeen M ActSeen SiteAnswer)) (serials : List (HeldSeen K SerialAct SerialAnswer)) (dep : IsDeployment d) (all : AllHosts d sites serials) where
+  -- a site, with its journal
   pub record SiteAt (i : ℕ) : Type 0 where
     pub found : Found (named.Site i) sites
     pub inside : i < d.sites
-    pub opened : IsOpened (site_meaning d) found.held
+    pub host : IsHost (site_meaning d) found.held
     pub runs : Runs (site_meaning d) (named.Site i) found.held.node.entries
     pub steps : Along (site_kept i) (SiteStep d i) [] found.held.node.entries
-    pub outs : outs_at found.held.outs ≡ out_places d (named.Site i)
-    pub ins : ins_at found.held.ins ≡ in_places d (named.Site i)
 
   pub site-at : (i : ℕ) → Found (named.Site i) sites → SiteAt i
   site-at i f =
-      let is : IsOpened (site_meaning d) f.held = all.each_site f.index f.held f.there in
+      let is : IsHost (site_meaning d) f.held = all.each_site f.index f.held f.there in
       let run : Runs (site_meaning d) (named.Site i) f.held.node.entries = subst (λ (n : NodeName). Runs (site_meaning d) n f.held.node.entries) f.is_named is.runs in
       record {
         found = f;
         inside = site-below d.sites i (subst (λ (ns : List NodeName). In ns (named.Site i)) all.all_sites (found-named (named.Site i) sites f));
-        opened = is;
+        host = is;
         runs = run;
         steps = site-steps d i f.held.node.entries run;
-        outs = is.tied.outs ∙ ap (out_places d) f.is_named;
-        ins = is.tied.ins ∙ ap (in_places d) f.is_named;
       }
 
   pub find-site : (i : ℕ) → i < d.sites → SiteAt i
@@ -95,24 +100,15 @@ module _ {M K : Type 0} (d : Deployed) (sites : List (HeldSeen M ActSeen SiteAns
   -- and a serializer
   pub record SerialAt (e z : ℕ) : Type 0 where
     pub found : Found (named.Serializer e z) serials
-    pub opened : IsOpened (serial_meaning d) found.held
+    pub host : IsHost (serial_meaning d) found.held
     pub runs : Runs (serial_meaning d) (named.Serializer e z) found.held.node.entries
     pub steps : Along (serial_kept e z) (SerialStep d e z) [] found.held.node.entries
-    pub outs : outs_at found.held.outs ≡ out_places d (named.Serializer e z)
-    pub ins : ins_at found.held.ins ≡ in_places d (named.Serializer e z)
 
   pub serial-at : (e z : ℕ) → Found (named.Serializer e z) serials → SerialAt e z
   serial-at e z f =
-      let is : IsOpened (serial_meaning d) f.held = all.each_serial f.index f.held f.there in
+      let is : IsHost (serial_meaning d) f.held = all.each_serial f.index f.held f.there in
       let run : Runs (serial_meaning d) (named.Serializer e z) f.held.node.entries = subst (λ (n : NodeName). Runs (serial_meaning d) n f.held.node.entries) f.is_named is.runs in
-      record {
-        found = f;
-        opened = is;
-        runs = run;
-        steps = serial-steps d e z f.held.node.entries run;
-        outs = is.tied.outs ∙ ap (out_places d) f.is_named;
-        ins = is.tied.ins ∙ ap (in_places d) f.is_named;
-      }
+      record { found = f; host = is; runs = run; steps = serial-steps d e z f.held.node.entries run }
 
   pub find-serial : (e z : ℕ) (t : TreeShape) → tree_of d e ≡ Some t → z < length t.parents → SerialAt e z
   find-serial e z t tree lt = serial-at e z (find (named.Serializer e z) serials (subst (λ (ns : List NodeName). In ns (named.Serializer e z)) (sym all.all_serials) (serial-named d e z t tree lt)))
@@ -128,34 +124,32 @@ module _ {M K : Type 0} (d : Deployed) (sites : List (HeldSeen M ActSeen SiteAns
         IsHanded (marks (took_from d e (Site i) (Serializer z)) (newest (serial_kept e z) r.found.held.node.entries)) (marks (put_on d e t (Site i) (Serializer z)) (newest (site_kept i) s.found.held.node.entries))
     up-handed i z seat edge s r =
         let at : (k : ℕ) × (slice_get (neighbours t z) k ≡ Some (Site i)) = neighbour-there t z (Site i) (seated i s.inside) (turned-edge t (Serializer z) (Site i) ∙ edge) in
-        let agree : AgreeNodes (site_meaning d) (serial_meaning d) s.found.held r.found.held = across (site_meaning d) (serial_meaning d) sites serials s.found.index r.found.index s.found.held r.found.held all.from_sites s.found.there r.found.there in
-        let out : OutAt d s.found.held (label_link d e) (Edge e (Site i) (Serializer (seat_of t i))) = out-at d s.found.held (named.Site i) (label_link d e) (Edge e (Site i) (Serializer (seat_of t i))) s.outs (tree-end d i e t tree) in
-        let into : InAt d r.found.held at.0 (Edge e (Serializer z) (Site i)) = in-at d r.found.held (named.Serializer e z) at.0 (Edge e (Serializer z) (Site i)) r.ins (serial-end d e z at.0 t (Site i) tree at.1) in
-        let came : Handed (takings (λ act a. serial_takes at.0 act a) r.found.held.node.entries) (put_by (site_puts s.found.held.node.name (label_link d e)) s.found.held.node.entries) =
-        between (site_meaning d) (serial_meaning d) d s.found.held r.found.held (label_link d e) at.0 (Edge e (Site i) (Serializer (seat_of t i))) (Edge e (Serializer z) (Site i)) agree out into (ap (λ (y : ℕ). Edge e (Site i) (Serializer y)) (sym seat)) in
-        handed-on (site_puts (named.Site i) (label_link d e)) (λ act a. serial_takes at.0 act a) (site_kept i) (serial_kept e z) (put_on d e t (Site i) (Serializer z)) (took_from d e (Site i) (Serializer z)) s.found.held.node.entries r.found.held.node.entries
+        let came : Delivered (takings (λ act a. serial_takes at.0 act a) r.found.held.node.entries) (put_by (site_puts (named.Site i) (label_link d e)) s.found.held.node.entries) =
+        between (site_meaning d) (serial_meaning d) s.found.held r.found.held (named.Site i) (named.Serializer e z) s.found.is_named r.found.is_named (all.from_sites s.found.index r.found.index s.found.held r.found.held s.found.there r.found.there) (label_link d e) at.0 (place_of d (Edge e (Site i) (Serializer (seat_of t i))))
+        (place-out d (named.Site i) (label_link d e) (Edge e (Site i) (Serializer (seat_of t i))) (tree-end d i e t tree))
+        (place-in d (named.Serializer e z) at.0 (Edge e (Site i) (Serializer (seat_of t i))) (Edge e (Serializer z) (Site i)) (serial-end d e z at.0 t (Site i) tree at.1) (ap (λ (y : ℕ). Edge e (Site i) (Serializer y)) (sym seat))) in
+        delivered-on (site_puts (named.Site i) (label_link d e)) (λ act a. serial_takes at.0 act a) (site_kept i) (serial_kept e z) (put_on d e t (Site i) (Serializer z)) (took_from d e (Site i) (Serializer z)) s.found.held.node.entries r.found.held.node.entries
         (λ x. refl) (λ x. refl)
         (subst (λ (y : ℕ). Along (site_kept i) (λ b x. site_puts (named.Site i) (label_link d e) x.input x.answer ≡ label_made (put_on d e t (Site i) (Serializer y) b (site_kept i x))) [] s.found.held.node.entries) seat
         (along-more (site_kept i) (SiteStep d i) (λ b x. site_puts (named.Site i) (label_link d e) x.input x.answer ≡ label_made (put_on d e t (Site i) (Serializer (seat_of t i)) b (site_kept i x))) [] s.found.held.node.entries (λ b x m step. site-enters d dep i s.inside e t tree b x step) s.steps))
         (along-more (serial_kept e z) (SerialStep d e z) (λ b x. serial_takes at.0 x.input x.answer ≡ label_body (took_from d e (Site i) (Serializer z) b (serial_kept e z x))) [] r.found.held.node.entries (λ b x m step. serial-takes-over d e z t tree at.0 (Site i) at.1 b x step) r.steps)
-        (subst (λ (n : NodeName). Handed (takings (λ act a. serial_takes at.0 act a) r.found.held.node.entries) (put_by (site_puts n (label_link d e)) s.found.held.node.entries)) s.found.is_named came)
+        came
 
     -- from a serializer to a site
     down-handed : (i z : ℕ) → seat_of t i ≡ z → is_edge t (Serializer z) (Site i) ≡ true → (s : SerialAt e z) (r : SiteAt i) →
         IsHanded (marks (took_from d e (Serializer z) (Site i)) (newest (site_kept i) r.found.held.node.entries)) (marks (put_on d e t (Serializer z) (Site i)) (newest (serial_kept e z) s.found.held.node.entries))
     down-handed i z seat edge s r =
         let at : (k : ℕ) × (slice_get (neighbours t z) k ≡ Some (Site i)) = neighbour-there t z (Site i) (seated i r.inside) edge in
-        let agree : AgreeNodes (serial_meaning d) (site_meaning d) s.found.held r.found.held = across (serial_meaning d) (site_meaning d) serials sites s.found.index r.found.index s.found.held r.found.held all.from_serials s.found.there r.found.there in
-        let out : OutAt d s.found.held at.0 (Edge e (Serializer z) (Site i)) = out-at d s.found.held (named.Serializer e z) at.0 (Edge e (Serializer z) (Site i)) s.outs (serial-end d e z at.0 t (Site i) tree at.1) in
-        let into : InAt d r.found.held (label_link d e) (Edge e (Site i) (Serializer (seat_of t i))) = in-at d r.found.held (named.Site i) (label_link d e) (Edge e (Site i) (Serializer (seat_of t i))) r.ins (tree-end d i e t tree) in
-        let came : Handed (takings (site_takes r.found.held.node.name (label_link d e)) r.found.held.node.entries) (put_by (λ act a. serial_puts at.0 a) s.found.held.node.entries) =
-        between (serial_meaning d) (site_meaning d) d s.found.held r.found.held at.0 (label_link d e) (Edge e (Serializer z) (Site i)) (Edge e (Site i) (Serializer (seat_of t i))) agree out into (ap (λ (y : ℕ). Edge e (Serializer y) (Site i)) seat) in
-        handed-on (λ act a. serial_puts at.0 a) (site_takes (named.Site i) (label_link d e)) (serial_kept e z) (site_kept i) (put_on d e t (Serializer z) (Site i)) (took_from d e (Serializer z) (Site i)) s.found.held.node.entries r.found.held.node.entries
+        let came : Delivered (takings (site_takes (named.Site i) (label_link d e)) r.found.held.node.entries) (put_by (λ act a. serial_puts at.0 a) s.found.held.node.entries) =
+        between (serial_meaning d) (site_meaning d) s.found.held r.found.held (named.Serializer e z) (named.Site i) s.found.is_named r.found.is_named (all.from_serials s.found.index r.found.index s.found.held r.found.held s.found.there r.found.there) at.0 (label_link d e) (place_of d (Edge e (Serializer z) (Site i)))
+        (place-out d (named.Serializer e z) at.0 (Edge e (Serializer z) (Site i)) (serial-end d e z at.0 t (Site i) tree at.1))
+        (place-in d (named.Site i) (label_link d e) (Edge e (Serializer z) (Site i)) (Edge e (Site i) (Serializer (seat_of t i))) (tree-end d i e t tree) (ap (λ (y : ℕ). Edge e (Serializer y) (Site i)) seat)) in
+        delivered-on (λ act a. serial_puts at.0 a) (site_takes (named.Site i) (label_link d e)) (serial_kept e z) (site_kept i) (put_on d e t (Serializer z) (Site i)) (took_from d e (Serializer z) (Site i)) s.found.held.node.entries r.found.held.node.entries
         (λ x. refl) (λ x. refl)
         (along-more (serial_kept e z) (SerialStep d e z) (λ b x. serial_puts at.0 x.answer ≡ label_made (put_on d e t (Serializer z) (Site i) b (serial_kept e z x))) [] s.found.held.node.entries (λ b x m step. serial-enters d e z t tree at.0 (Site i) at.1 b x step) s.steps)
         (subst (λ (y : ℕ). Along (site_kept i) (λ b x. site_takes (named.Site i) (label_link d e) x.input x.answer ≡ label_body (took_from d e (Serializer y) (Site i) b (site_kept i x))) [] r.found.held.node.entries) seat
         (along-more (site_kept i) (SiteStep d i) (λ b x. site_takes (named.Site i) (label_link d e) x.input x.answer ≡ label_body (took_from d e (Serializer (seat_of t i)) (Site i) b (site_kept i x))) [] r.found.held.node.entries (λ b x m step. site-takes-in d dep i r.inside e t tree b x step) r.steps))
-        (subst (λ (n : NodeName). Handed (takings (site_takes n (label_link d e)) r.found.held.node.entries) (put_by (λ act a. serial_puts at.0 a) s.found.held.node.entries)) r.found.is_named came)
+        came
 
     -- from a serializer to another
     names-same : (y z : ℕ) → named.Serializer e y ≡ named.Serializer e z → y ≡ z
@@ -169,14 +163,13 @@ module _ {M K : Type 0} (d : Deployed) (sites : List (HeldSeen M ActSeen SiteAns
     over-handed y z ne less more edge s r =
         let from : (k : ℕ) × (slice_get (neighbours t y) k ≡ Some (Serializer z)) = neighbour-there t y (Serializer z) more edge in
         let at : (k : ℕ) × (slice_get (neighbours t z) k ≡ Some (Serializer y)) = neighbour-there t z (Serializer y) less (turned-edge t (Serializer z) (Serializer y) ∙ edge) in
-        let agree : AgreeNodes (serial_meaning d) (serial_meaning d) s.found.held r.found.held =
-        within (serial_meaning d) serials s.found.index r.found.index s.found.held r.found.held all.between_serials
-        (two-places (named.Serializer e y) (named.Serializer e z) serials s.found r.found (λ w. not-one y z ne (names-same y z w))) s.found.there r.found.there in
-        let out : OutAt d s.found.held from.0 (Edge e (Serializer y) (Serializer z)) = out-at d s.found.held (named.Serializer e y) from.0 (Edge e (Serializer y) (Serializer z)) s.outs (serial-end d e y from.0 t (Serializer z) tree from.1) in
-        let into : InAt d r.found.held at.0 (Edge e (Serializer z) (Serializer y)) = in-at d r.found.held (named.Serializer e z) at.0 (Edge e (Serializer z) (Serializer y)) r.ins (serial-end d e z at.0 t (Serializer y) tree at.1) in
-        let came : Handed (takings (λ act a. serial_takes at.0 act a) r.found.held.node.entries) (put_by (λ act a. serial_puts from.0 a) s.found.held.node.entries) =
-        between (serial_meaning d) (serial_meaning d) d s.found.held r.found.held from.0 at.0 (Edge e (Serializer y) (Serializer z)) (Edge e (Serializer z) (Serializer y)) agree out into refl in
-        handed-on (λ act a. serial_puts from.0 a) (λ act a. serial_takes at.0 act a) (serial_kept e y) (serial_kept e z) (put_on d e t (Serializer y) (Serializer z)) (took_from d e (Serializer y) (Serializer z)) s.found.held.node.entries r.found.held.node.entries
+        let came : Delivered (takings (λ act a. serial_takes at.0 act a) r.found.held.node.entries) (put_by (λ act a. serial_puts from.0 a) s.found.held.node.entries) =
+        between (serial_meaning d) (serial_meaning d) s.found.held r.found.held (named.Serializer e y) (named.Serializer e z) s.found.is_named r.found.is_named
+        (all.between_serials s.found.index r.found.index s.found.held r.found.held (two-places (named.Serializer e y) (named.Serializer e z) serials s.found r.found (λ w. not-one y z ne (names-same y z w))) s.found.there r.found.there)
+        from.0 at.0 (place_of d (Edge e (Serializer y) (Serializer z)))
+        (place-out d (named.Serializer e y) from.0 (Edge e (Serializer y) (Serializer z)) (serial-end d e y from.0 t (Serializer z) tree from.1))
+        (place-in d (named.Serializer e z) at.0 (Edge e (Serializer y) (Serializer z)) (Edge e (Serializer z) (Serializer y)) (serial-end d e z at.0 t (Serializer y) tree at.1) refl) in
+        delivered-on (λ act a. serial_puts from.0 a) (λ act a. serial_takes at.0 act a) (serial_kept e y) (serial_kept e z) (put_on d e t (Serializer y) (Serializer z)) (took_from d e (Serializer y) (Serializer z)) s.found.held.node.entries r.found.held.node.entries
         (λ x. refl) (λ x. refl)
         (along-more (serial_kept e y) (SerialStep d e y) (λ b x. serial_puts from.0 x.answer ≡ label_made (put_on d e t (Serializer y) (Serializer z) b (serial_kept e y x))) [] s.found.held.node.entries (λ b x m step. serial-enters d e y t tree from.0 (Serializer z) from.1 b x step) s.steps)
         (along-more (serial_kept e z) (SerialStep d e z) (λ b x. serial_takes at.0 x.input x.answer ≡ label_body (took_from d e (Serializer y) (Serializer z) b (serial_kept e z x))) [] r.found.held.node.entries (λ b x m step. serial-takes-over d e z t tree at.0 (Serializer y) at.1 b x step) r.steps)

@@ -38,7 +38,7 @@ along-at of P ks (y ∷ ys) (suc n) x a e = along-at of P (of y ∷ ks) ys n x a
 
 pub sites_have_owners : SitesHaveOwners
 sites_have_owners d sites serials all n i m h k at name there =
-    let runs : Runs (site_meaning d) (named.Site i) h.node.entries = subst (λ (x : NodeName). Runs (site_meaning d) x h.node.entries) name (all.each_site n h at).runs in
+    let runs : Runs (site_meaning d) (named.Site i) h.node.entries = subst (λ (x : NodeName). Runs (site_meaning d) x h.node.entries) name (all.each_site n h at) in
     let step : (b : List Kept) × SiteStep d i b k = along-at (site_kept i) (SiteStep d i) [] h.node.entries m k (site-steps d i h.node.entries runs) there in
     owned d i k.input.by k.input.input step.1.fits_there.by
 

@@ -1,5 +1,5 @@
--- The journals of all opened nodes fit.
-use Rattle.std.proofs.Common.{◌≡◌, ℕ, true, false, List, Some, sym, subst, inl, inr}
+-- The journals of all hosts fit, and so do those of all opened nodes.
+use Rattle.std.proofs.Common.{◌≡◌, ℕ, true, false, List, Some, slice_get, sym, ap, ◌∙◌, subst, inl, inr}
 use Rattle.sat_label.specs.declared.node.NodeId.{NodeId}
 use Rattle.sat_label.specs.declared.node.NodeId.TheVariants.{Site, Serializer}
 use Rattle.sat_label.specs.declared.node.NodeName.TheVariants as named
@@ -11,8 +11,13 @@ use Rattle.sat_act.specs.Limits.{IsDeployment}
 use Rattle.sat_act.specs.Parts.{tree_of}
 use Rattle.sat_net.proofs.Edges.{no-edge}
 use Rattle.sat_node.specs.declared.kept.Kept.{Kept as Line}
-use Rattle.sat_node.specs.Links.{HeldSeen}
+use Rattle.sat_node.specs.Meanings.{Meaning}
+use Rattle.sat_node.specs.Puts.{OutSeen}
+use Rattle.sat_node.specs.Links.{HeldSeen, InSeen, Each, out_places, in_places}
+use Rattle.sat_node.specs.Opened.{AgreeEnds, AgreeOut, AgreeNodes, AgreeRow, AgreeAll, AgreeWithin}
 use Rattle.sat_machines.specs.Acts.{ActSeen}
+use Rattle.sat_machines.specs.Sites.{site_meaning}
+use Rattle.sat_machines.specs.Serials.{serial_meaning}
 use Rattle.sat_machines.specs.declared.site_answer.SiteAnswer.{SiteAnswer}
 use Rattle.sat_machines.specs.declared.serial_act.SerialAct.{SerialAct}
 use Rattle.sat_machines.specs.declared.serial_act.SerialAnswer.{SerialAnswer}
@@ -20,25 +25,29 @@ use Rattle.sat_stitch.specs.Kept.{Kept, marks}
 use Rattle.sat_stitch.specs.Places.{Place, AtSite, AtSerializer, InSession, node_place, Session}
 use Rattle.sat_stitch.specs.Nodes.{put_on, took_from}
 use Rattle.sat_stitch.specs.Fit.{IsHanded, Fit}
-use Rattle.sat_stitch.proofs.Merges.{merges-run}
+use Rattle.sat_stitch.proofs.Merges.{merges-run, merges-good}
 use Rattle.sat_opened.specs.Keeping.{site_kept, serial_kept, newest}
-use Rattle.sat_opened.specs.Opened.{AllOpened, entries_at, lists_of}
+use Rattle.sat_opened.specs.Opened.{IsOpened, entries_at, lists_of}
 use Rattle.sat_opened.specs.Fits.{FitsPlace, FitsNodes, FitsSessions}
 use Rattle.sat_opened.specs.Laws.{OpenedFit, FitsJoin, OpenedAreRuns}
+use Rattle.sat_opened.specs.Delivered.{DeliveredTo, DeliveredAll, DeliveredWithin}
+use Rattle.sat_opened.specs.Hosts.{IsHost, AllHosts, HostsFit, HostsJoin, HostsAreRuns, HostsAreGood, OpenedAreHosts}
 use Rattle.sat_opened.proofs.Found.{look-up}
+use Rattle.sat_opened.proofs.Handings.{get-mapped}
 use Rattle.sat_opened.proofs.SiteKept.{site-fits}
 use Rattle.sat_opened.proofs.SerialKept.{serial-fits, nothing-fits}
+use Rattle.sat_opened.proofs.Deliveries.{handed-delivered}
 use Rattle.sat_opened.proofs.Links.{SiteAt, site-at, SerialAt, serial-at, up-link, down-link, over-link}
 use Rattle.sat_opened.proofs.Bulks.{payloads, beats}
 
-module _ {M K : Type 0} (d : Deployed) (sites : List (HeldSeen M ActSeen SiteAnswer)) (serials : List (HeldSeen K SerialAct SerialAnswer)) (dep : IsDeployment d) (all : AllOpened d sites serials) where
+module _ {M K : Type 0} (d : Deployed) (sites : List (HeldSeen M ActSeen SiteAnswer)) (serials : List (HeldSeen K SerialAct SerialAnswer)) (dep : IsDeployment d) (all : AllHosts d sites serials) where
   site-place : (i : ℕ) → FitsPlace d (AtSite i) (newest (site_kept i) (entries_at (named.Site i) sites))
   site-place i = elim (look-up (named.Site i) sites) [
     | inr none ↦ subst (λ (ls : List (Line ActSeen SiteAnswer)). FitsPlace d (AtSite i) (newest (site_kept i) ls)) (sym none) (nothing-fits d (AtSite i))
     | inl f ↦
         let s : SiteAt d sites serials dep all i = site-at d sites serials dep all i f in
         subst (λ (ls : List (Line ActSeen SiteAnswer)). FitsPlace d (AtSite i) (newest (site_kept i) ls)) (sym s.found.entries_are)
-        (site-fits d i s.found.held.node.entries s.inside s.runs s.opened.rises s.opened.tied.standing)
+        (site-fits d i s.found.held.node.entries s.inside s.runs s.host.rises s.host.standing)
   ]
 
   serial-place : (e z : ℕ) → FitsPlace d (AtSerializer e z) (newest (serial_kept e z) (entries_at (named.Serializer e z) serials))
@@ -47,7 +56,7 @@ module _ {M K : Type 0} (d : Deployed) (sites : List (HeldSeen M ActSeen SiteAns
     | inl f ↦
         let s : SerialAt d sites serials dep all e z = serial-at d sites serials dep all e z f in
         subst (λ (ls : List (Line SerialAct SerialAnswer)). FitsPlace d (AtSerializer e z) (newest (serial_kept e z) ls)) (sym s.found.entries_are)
-        (serial-fits d e z s.found.held.node.entries s.runs s.opened.rises)
+        (serial-fits d e z s.found.held.node.entries s.runs s.host.rises)
   ]
 
   module _ (alone : ℕ → List Kept) where
@@ -60,7 +69,7 @@ module _ {M K : Type 0} (d : Deployed) (sites : List (HeldSeen M ActSeen SiteAns
     links e t (Serializer z) (Site i) tree edge = down-link d sites serials dep all e t tree i z edge
     links e t (Serializer y) (Serializer z) tree edge = over-link d sites serials dep all e t tree y z edge
 
-    fits : FitsNodes d lists
+    pub fits : FitsNodes d lists
     fits = record {
       sites = site-place;
       serials = serial-place;
@@ -69,8 +78,8 @@ module _ {M K : Type 0} (d : Deployed) (sites : List (HeldSeen M ActSeen SiteAns
       beats = beats d sites serials dep all alone;
     }
 
-pub opened_fit : OpenedFit
-opened_fit d sites serials dep all alone = fits d sites serials dep all alone
+pub hosts_fit : HostsFit
+hosts_fit d sites serials dep all alone = fits d sites serials dep all alone
 
 -- ---- with sessions
 
@@ -97,6 +106,51 @@ module _ (d : Deployed) (lists : Place → List Kept) (sessions : Session → Li
 pub fits_join : FitsJoin
 fits_join d lists sessions nodes clients = joined d lists sessions nodes clients
 
+pub hosts_join : HostsJoin
+hosts_join d sites serials dep all alone sessions clients = fits_join d (lists_of sites serials alone) sessions (hosts_fit d sites serials dep all alone) clients
+
+pub hosts_are_runs : HostsAreRuns
+hosts_are_runs d sites serials dep hosts alone sessions all clients merge =
+    merges-run d (lists_of sites serials alone) sessions all (is_valid d dep) (hosts_join d sites serials dep hosts alone sessions clients) merge
+
+pub hosts_are_good : HostsAreGood
+hosts_are_good d sites serials dep hosts alone sessions all trees clients merge =
+    merges-good d (lists_of sites serials alone) sessions all (is_valid d dep) trees (hosts_join d sites serials dep hosts alone sessions clients) merge
+
+-- ---- nodes whose links keep order
+
+delivers : {S T M K I A J B : Type 0} (m : Meaning S I A) (n : Meaning T J B) (sender : HeldSeen M I A) (receiver : HeldSeen K J B) → out_places sender.outs ≡ m.outs sender.node.name → in_places receiver.ins ≡ n.ins receiver.node.name → AgreeNodes m n sender receiver → DeliveredTo m n sender receiver
+unfolding AgreeNodes AgreeOut AgreeEnds
+delivers m n sender receiver outs ins agree k j place out into =
+    let o : (x : OutSeen) × (slice_get sender.outs k ≡ Some x) × (x.place ≡ place) = get-mapped (λ (x : OutSeen). x.place) sender.outs k place (ap (λ (ps : List ℕ). slice_get ps k) outs ∙ out) in
+    let i : (x : InSeen) × (slice_get receiver.ins j ≡ Some x) × (x.place ≡ place) = get-mapped (λ (x : InSeen). x.place) receiver.ins j place (ap (λ (ps : List ℕ). slice_get ps j) ins ∙ into) in
+    handed-delivered _ _ (agree k j o.0 i.0 o.1 i.1 (o.2 ∙ sym i.2))
+
+delivers-within : {S M I A : Type 0} (m : Meaning S I A) (nodes : List (HeldSeen M I A)) → Each nodes (λ _ h. IsOpened m h) → AgreeWithin m nodes → DeliveredWithin m nodes
+unfolding AgreeWithin
+delivers-within m nodes each agree a b sender receiver apart one two = delivers m m sender receiver (each a sender one).tied.outs (each b receiver two).tied.ins (agree a b sender receiver apart one two)
+
+delivers-all : {S T M K I A J B : Type 0} (m : Meaning S I A) (n : Meaning T J B) (senders : List (HeldSeen M I A)) (receivers : List (HeldSeen K J B)) → Each senders (λ _ h. IsOpened m h) → Each receivers (λ _ h. IsOpened n h) → AgreeAll m n senders receivers → DeliveredAll m n senders receivers
+unfolding AgreeAll AgreeRow
+delivers-all m n senders receivers each all agree a b sender receiver one two = delivers m n sender receiver (each a sender one).tied.outs (all b receiver two).tied.ins (agree a sender one b receiver two)
+
+is-host : {S M I A : Type 0} (m : Meaning S I A) (h : HeldSeen M I A) → IsOpened m h → IsHost m h
+is-host m h o = record { runs = o.runs; rises = o.rises; standing = o.tied.standing }
+
+pub opened_are_hosts : OpenedAreHosts
+opened_are_hosts d sites serials all = record {
+  all_sites = all.all_sites;
+  all_serials = all.all_serials;
+  each_site = λ k h at. is-host (site_meaning d) h (all.each_site k h at);
+  each_serial = λ k h at. is-host (serial_meaning d) h (all.each_serial k h at);
+  between_sites = delivers-within (site_meaning d) sites all.each_site all.between_sites;
+  between_serials = delivers-within (serial_meaning d) serials all.each_serial all.between_serials;
+  from_sites = delivers-all (site_meaning d) (serial_meaning d) sites serials all.each_site all.each_serial all.from_sites;
+  from_serials = delivers-all (serial_meaning d) (site_meaning d) serials sites all.each_serial all.each_site all.from_serials;
+}
+
+pub opened_fit : OpenedFit
+opened_fit d sites serials dep all alone = hosts_fit d sites serials dep (opened_are_hosts d sites serials all) alone
+
 pub opened_are_runs : OpenedAreRuns
-opened_are_runs d sites serials alone sessions all dep opened clients merge =
-    merges-run d (lists_of sites serials alone) sessions all (is_valid d dep) (fits_join d (lists_of sites serials alone) sessions (opened_fit d sites serials dep opened alone) clients) merge
+opened_are_runs d sites serials alone sessions all dep opened clients merge = hosts_are_runs d sites serials dep (opened_are_hosts d sites serials opened) alone sessions all clients merge

@@ -19,7 +19,7 @@ use Rattle.sat_stitch.specs.Places.{Place, AtSite, AtSerializer, Session, sessio
 use Rattle.sat_stitch.specs.Fit.{Fit, IsMerge}
 use Rattle.sat_stitch.specs.Stitch.{Distinct, oldest, entry_under}
 use Rattle.sat_opened.specs.Keeping.{site_kept, serial_kept, owner_of, serial_owner, newest, kept_under}
-use Rattle.sat_opened.specs.Opened.{AllOpened, lists_of, place_at, node_places}
+use Rattle.sat_opened.specs.Opened.{AllOpened, AreJournals, lists_of, place_at, node_places}
 use Rattle.sat_opened.specs.Fits.{FitsNodes, FitsSessions}
 
 -- a site, and a serializer, with its link ends
@@ -38,16 +38,21 @@ abbrev pub OpenedFit : Type 0
 OpenedFit = (d : Deployed) (sites : List SiteHeld) (serials : List SerialHeld) → IsDeployment d
     → AllOpened d sites serials → NodesFit d sites serials
 
+-- opened nodes have journals that ran, whatever their links
+abbrev pub OpenedAreJournals : Type 0
+OpenedAreJournals = (d : Deployed) (sites : List SiteHeld) (serials : List SerialHeld) → AllOpened d sites serials
+    → AreJournals d sites serials
+
 -- the list of a node's place is its journal
 abbrev pub SitesAreKept : Type 0
 SitesAreKept = (d : Deployed) (sites : List SiteHeld) (serials : List SerialHeld) (alone : ℕ → List Kept)
-    → AllOpened d sites serials →
+    → AreJournals d sites serials →
     (n i : ℕ) (h : SiteHeld) → slice_get sites n ≡ Some h → h.node.name ≡ named.Site i
     → lists_of sites serials alone (AtSite i) ≡ newest (site_kept i) h.node.entries
 
 abbrev pub SerialsAreKept : Type 0
 SerialsAreKept = (d : Deployed) (sites : List SiteHeld) (serials : List SerialHeld) (alone : ℕ → List Kept)
-    → AllOpened d sites serials →
+    → AreJournals d sites serials →
     (n e z : ℕ) (h : SerialHeld) → slice_get serials n ≡ Some h → h.node.name ≡ named.Serializer e z
     → lists_of sites serials alone (AtSerializer e z) ≡ newest (serial_kept e z) h.node.entries
 
@@ -62,7 +67,7 @@ SerialJournals = (e z : ℕ) (es : List (Line SerialAct SerialAnswer))
 
 -- an entry is of its client's session, or of the operator's, or of none
 abbrev pub SitesHaveOwners : Type 0
-SitesHaveOwners = (d : Deployed) (sites : List SiteHeld) (serials : List SerialHeld) → AllOpened d sites serials →
+SitesHaveOwners = (d : Deployed) (sites : List SiteHeld) (serials : List SerialHeld) → AreJournals d sites serials →
     (n i m : ℕ) (h : SiteHeld) (k : Line ActSeen SiteAnswer) → slice_get sites n ≡ Some h → h.node.name ≡ named.Site i
     → slice_get h.node.entries m ≡ Some k → session_of (site_kept i k).act ≡ owner_of k.input.by k.input.input
 

@@ -10,12 +10,40 @@ ghost use Rattle.sat_stitch.specs.Kept.{entry_of};
 use sat_act::{Act, Entry};
 use sat_label::{Items, NodeName, Values};
 use sat_machines::{Laid, SerialAct, SerialAnswer, SerialNode, SiteAct, SiteAnswer, SiteNode};
-use sat_node::{Held, Kept, Names};
+use sat_node::{Held, Kept, Names, Node};
 use sat_site::SiteInput;
 use sat_stitch::KeptEntries;
 use std::alloc::{AllocError, Global};
 
-/// All that a site took, the oldest first, each entry an act by name under its number.
+/// All that a site's node took, the oldest first, each entry an act by name under its number.
+pub fn site_entries<N: Laid>(
+    alloc: Global,
+    node: &Node<SiteNode<N>>,
+) -> Result<KeptEntries, AllocError>
+    ensures { IfOk result (λ list. list ≡ map (kept_under (site_kept (number_of node.now.name))) node.now.entries) }
+{
+    let site = site_number(node.name());
+    let mut list = KeptEntries::new(alloc);
+    add_site(&mut list, site, node.journal())?;
+    Ok(list)
+}
+
+/// All that a serializer's node took, the oldest first, each entry an act by name under its number.
+pub fn serial_entries<N: Laid>(
+    alloc: Global,
+    node: &Node<SerialNode<N>>,
+) -> Result<KeptEntries, AllocError>
+    ensures { IfOk result (λ list. list
+        ≡ map (kept_under (serial_kept (epoch_in node.now.name) (serial_in node.now.name))) node.now.entries) }
+{
+    let epoch = epoch_number(node.name());
+    let number = serial_number(node.name());
+    let mut list = KeptEntries::new(alloc);
+    add_serial(&mut list, epoch, number, node.journal())?;
+    Ok(list)
+}
+
+/// The same of a site that is lent with its link ends.
 pub fn site_journal<N: Laid, W: Names>(
     alloc: Global,
     held: &Held<SiteNode<N>, W>,
@@ -23,14 +51,10 @@ pub fn site_journal<N: Laid, W: Names>(
     ensures { IfOk result (λ list. list ≡ map (kept_under (site_kept (number_of held.now.node.name)))
         held.now.node.entries) }
 {
-    let node = held.node();
-    let site = site_number(node.name());
-    let mut list = KeptEntries::new(alloc);
-    add_site(&mut list, site, node.journal())?;
-    Ok(list)
+    site_entries(alloc, held.node())
 }
 
-/// All that a serializer took, the oldest first, each entry an act by name under its number.
+/// The same of a serializer that is lent with its link ends.
 pub fn serial_journal<N: Laid, W: Names>(
     alloc: Global,
     held: &Held<SerialNode<N>, W>,
@@ -39,12 +63,7 @@ pub fn serial_journal<N: Laid, W: Names>(
         ≡ map (kept_under (serial_kept (epoch_in held.now.node.name) (serial_in held.now.node.name)))
         held.now.node.entries) }
 {
-    let node = held.node();
-    let epoch = epoch_number(node.name());
-    let number = serial_number(node.name());
-    let mut list = KeptEntries::new(alloc);
-    add_serial(&mut list, epoch, number, node.journal())?;
-    Ok(list)
+    serial_entries(alloc, held.node())
 }
 
 fn site_number(name: NodeName) -> u16

@@ -1,5 +1,5 @@
--- What sessions kept fits the journals of opened nodes.
-use Rattle.std.proofs.Common.{◌≡◌, ◌⊎◌, ◌≤◌, ℕ, true, List, [], ◌∷◌, length, map, Option, Some, None, slice_get, refl, sym, ap, ◌∙◌, subst, inl, inr}
+-- What sessions kept fits the journals of nodes.
+use Rattle.std.proofs.Common.{◌≡◌, ◌⊎◌, ℕ, true, List, [], ◌∷◌, length, map, Option, Some, None, slice_get, refl, sym, ap, ◌∙◌, subst, inl, inr}
 use Rattle.std.specs.List.{flat_map}
 use Rattle.sat_label.specs.declared.node.NodeName.{NodeName}
 use Rattle.sat_label.specs.declared.node.NodeName.TheVariants as named
@@ -11,40 +11,31 @@ use Rattle.sat_laws.proofs.Links.{In-place}
 use Rattle.sat_act.specs.declared.act.Act.{Act}
 use Rattle.sat_act.specs.declared.act.Act.TheVariants as act
 use Rattle.sat_act.specs.declared.answer.Answer.{Answer}
-use Rattle.sat_act.specs.declared.answer.Answer.TheVariants as ans
-use Rattle.sat_act.specs.declared.answer.Refusal.TheVariants as why
 use Rattle.sat_act.specs.Deployed.{Deployed}
 use Rattle.sat_act.specs.Answers.{InRange}
 use Rattle.sat_node.specs.declared.kept.Kept.{Kept as Line}
-use Rattle.sat_node.specs.Meanings.{Runs}
 use Rattle.sat_machines.specs.Acts.{ActSeen, IsBy}
 use Rattle.sat_machines.specs.Layout.{Planted, trees_of}
-use Rattle.sat_machines.specs.Serials.{SerialSeen}
 use Rattle.sat_machines.specs.Sites.{site_meaning}
 use Rattle.sat_machines.specs.declared.site_answer.SiteAnswer.{SiteAnswer}
 use Rattle.sat_machines.specs.declared.serial_act.SerialAct.{SerialAct}
 use Rattle.sat_machines.specs.declared.serial_act.SerialAnswer.{SerialAnswer}
-use Rattle.sat_machine.specs.State.{fresh_site}
-use Rattle.sat_site.specs.Seen.{SiteSeen}
-use Rattle.sat_stitch.specs.Kept.{Given, Nothing, OfClient, Kept, Each, Rising}
+use Rattle.sat_stitch.specs.Kept.{Given, Nothing, OfClient, Kept}
 use Rattle.sat_stitch.specs.Places.{Place, AtSite, AtSerializer, InSession, places, Session, Client as Owner, Operator, session_of}
-use Rattle.sat_stitch.specs.Nodes.{IsAnswerAt, IsSessionAnswer, stands}
-use Rattle.sat_stitch.specs.Fit.{IsKnown, IsSessionOf}
+use Rattle.sat_stitch.specs.Nodes.{IsSessionAnswer, stands}
 use Rattle.sat_opened.specs.Keeping.{site_kept, serial_kept, owner_of, serial_owner, newest}
-use Rattle.sat_opened.specs.Opened.{AllOpened, entries_at, lists_of, name_in, serial_names, tree_names}
+use Rattle.sat_opened.specs.Opened.{AreJournals, entries_at, lists_of, name_in, tree_names}
 use Rattle.sat_opened.specs.Fits.{FitsPlace, FitsSessions}
 use Rattle.sat_opened.specs.Laws.{SiteHeld, SerialHeld}
-use Rattle.sat_opened.proofs.Found.{Found, look-up, found-named}
+use Rattle.sat_opened.proofs.Found.{look-up}
 use Rattle.sat_opened.proofs.Layouts.{in-mapped}
 use Rattle.sat_opened.proofs.Distincts.{sites_kept, serials_kept}
 use Rattle.sat_opened.proofs.Owners.{sites_have_owners, serials_have_owners}
-use Rattle.sat_opened.proofs.SerialKept.{nothing-fits}
 use Rattle.sat_session.specs.declared.noted.Noted.{Noted}
 use Rattle.sat_session.specs.Notes.{SessionSeen, session_at, site_note, site_notes, serial_note, serial_notes, notes_at_site, notes_at_serial, node_notes, own_notes, notes_of, session_notes}
-use Rattle.sat_session.specs.Owned.{Owned}
-use Rattle.sat_session.specs.Sessions.{note_given, note_kept, kept_behind, alone_behind, kept_notes, alone_notes, notes_by, kept_by, alone_in, note_places, IsNote, NotesFrom, NotesRise, IsSession, AreSessions, SameNotes, SessionsFit}
+use Rattle.sat_session.specs.Sessions.{note_given, note_kept, notes_by, kept_by, alone_in, note_places, IsNote, NotesFrom, NotesRise, IsSession, AreSessions, SameNotes, SessionsFit}
 use Rattle.sat_session.proofs.Walks.{Comes, in-kept, note-comes, Alone, in-alone, alone-kept, kept-rises, alone-rises, kept-known, alone-answers}
-use Rattle.sat_session.proofs.Owned.{in-flat, into-flat, into-behind, in-behind, OfSite, in-site, into-site, OfSerial, in-serial, into-serial, OfSession, in-own, into-own, Among, look-up as find-session, found, one-session, same-session}
+use Rattle.sat_session.proofs.Owned.{in-flat, into-flat, into-behind, in-behind, OfSite, in-site, into-site, OfSerial, in-serial, into-serial, OfSession, in-own, into-own, look-up as find-session, found, one-session, same-session}
 use Rattle.sat_session.proofs.Matches.{by-client, site-matches, serial-matches}
 
 -- a session's own answers stand
@@ -66,7 +57,7 @@ operator-places (act.Kill f z) x e w = cc
 operator-places _ x e w = cc
 
 -- the same notes of a session, and so what it kept
-module _ (d : Deployed) (sites : List SiteHeld) (serials : List SerialHeld) (xs : List SessionSeen) (opened : AllOpened d sites serials) (are : AreSessions d xs) (same : SameNotes (node_notes sites serials) (session_notes d xs)) where
+module _ (d : Deployed) (sites : List SiteHeld) (serials : List SerialHeld) (xs : List SessionSeen) (opened : AreJournals d sites serials) (are : AreSessions d xs) (same : SameNotes (node_notes sites serials) (session_notes d xs)) where
   abbrev alone : ℕ → List Kept
   alone c = alone_in d xs c
 
@@ -150,7 +141,7 @@ module _ (d : Deployed) (sites : List SiteHeld) (serials : List SerialHeld) (xs 
   site-by : (h : SiteHeld) (k : Line ActSeen SiteAnswer) → In sites h → In h.node.entries k → IsBy d k.input.by k.input.input
   site-by h k m i =
       let w : (n : ℕ) × (slice_get sites n ≡ Some h) = In-place sites h m in
-      by-client d h.node.name ((site_meaning d).fresh h.node.name) h.node.entries k (opened.each_site w.0 h w.1).runs i
+      by-client d h.node.name ((site_meaning d).fresh h.node.name) h.node.entries k (opened.each_site w.0 h w.1) i
 
   -- one that a site noted
   from-site : (h : SiteHeld) (s : Session) (before : List Kept) (n : Noted) → In sites h → IsNote d s before n → In (notes_at_site h) (s, n) → Somewhere (note_kept d s before n)
@@ -288,4 +279,4 @@ module _ (d : Deployed) (sites : List SiteHeld) (serials : List SerialHeld) (xs 
   }
 
 pub sessions_fit : SessionsFit
-sessions_fit d sites serials xs dep opened are same = fits d sites serials xs opened are same
+sessions_fit d sites serials xs all are same = fits d sites serials xs all are same

@@ -3,7 +3,6 @@ use Rattle.std.specs.Prelude.{◌≡◌, ◌<◌, ◌≤◌, ℕ, true, false, L
 use Rattle.sat_label.specs.declared.node.NodeName.{NodeName}
 use Rattle.sat_label.specs.Members.{In}
 use Rattle.sat_act.specs.Deployed.{Deployed}
-use Rattle.sat_act.specs.Limits.{IsDeployment}
 use Rattle.sat_act.specs.Parts.{seat}
 use Rattle.sat_act.specs.Answers.{InRange}
 use Rattle.sat_client.specs.declared.client.Client.{Client}
@@ -13,7 +12,7 @@ use Rattle.sat_stitch.specs.Kept.{Given, Nothing, OfClient, Kept, history}
 use Rattle.sat_stitch.specs.Places.{Place, InSession, places, Session, Client as Owner, Operator, session_eq, session_of}
 use Rattle.sat_stitch.specs.Nodes.{IsSessionAnswer}
 use Rattle.sat_stitch.specs.Stitch.{Distinct}
-use Rattle.sat_opened.specs.Opened.{AllOpened, lists_of, place_at}
+use Rattle.sat_opened.specs.Opened.{AreJournals, lists_of, place_at}
 use Rattle.sat_opened.specs.Fits.{FitsSessions}
 use Rattle.sat_opened.specs.Laws.{SiteHeld, SerialHeld}
 use Rattle.sat_session.specs.declared.noted.Noted.{Noted}
@@ -132,9 +131,10 @@ pub record AreSessions (d : Deployed) (xs : List SessionSeen) : Type 0 where
 abbrev pub SameNotes : List Owned → List Owned → Type 0
 SameNotes a b = (s : Session) (n : Noted) → (In a (s, n) → In b (s, n)) × (In b (s, n) → In a (s, n))
 
--- what sessions kept fits the journals of opened nodes, where nodes and sessions noted the same acts at nodes
+-- what sessions kept fits the journals of nodes, whatever links those have, where nodes and sessions noted the same
+-- acts at nodes
 abbrev pub SessionsFit : Type 0
 SessionsFit = (d : Deployed) (sites : List SiteHeld) (serials : List SerialHeld) (xs : List SessionSeen)
-    → IsDeployment d → AllOpened d sites serials → AreSessions d xs →
+    → AreJournals d sites serials → AreSessions d xs →
     SameNotes (node_notes sites serials) (session_notes d xs)
     → FitsSessions d (lists_of sites serials (alone_in d xs)) (kept_by d xs)

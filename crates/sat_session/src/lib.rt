@@ -2,6 +2,7 @@
 #![tactic(auto)]
 
 mod answers;
+mod lent;
 mod noted;
 mod serial;
 mod session;
@@ -9,10 +10,11 @@ mod site;
 
 ghost use Rattle.sat_session.specs.Sessions.{SessionsFit};
 
+pub use lent::Lent;
 pub use noted::Noted;
 pub use session::Session;
 
-/// What sessions kept, with the journals of opened nodes that noted the same, makes one run.
+/// What sessions kept fits the journals of nodes that noted the same, whatever links those have; so they make one run.
 pub fn sessions()
     ensures fit { SessionsFit }
 {}

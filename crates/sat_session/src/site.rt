@@ -10,31 +10,28 @@ ghost use Rattle.sat_machines.specs.Sites.{number_of, site_meaning};
 ghost use Rattle.sat_session.specs.Calls.{AtNode, IsGroup, of_site, asked_by};
 ghost use Rattle.sat_session.specs.Replies.{Asks, Looked};
 
-use crate::Session;
 use crate::answers::keep;
+use crate::{Lent, Session};
 use sat_act::{Act, Answer};
 use sat_label::{Items, NodeName, TS_END, Value, Values};
 use sat_machines::{Laid, SiteAct, SiteAnswer, SiteNode};
-use sat_node::{CallFault, Held, Machine, Names};
+use sat_node::{CallFault, Machine};
 use sat_site::SiteInput;
 use std::alloc::{AllocError, Global};
 
 /// Whether it is the node of this name.
-pub(crate) fn is_at<M: Machine, W: Names>(held: &Held<M, W>, place: NodeName) -> bool
-    ensures { result ≡ name_eq held.now.node.name place }
+pub(crate) fn is_at<M: Machine, H: Lent<M>>(held: &H, place: NodeName) -> bool
+    ensures { result ≡ name_eq (H.node_of held.now).name place }
 {
     held.node().name().is_same(&place)
 }
 
 // What a read would answer, where that is a value. Its point is one of the deployment; else the answer is want of
 // memory.
-fn look<N: Laid, W: Names>(
-    held: &Held<SiteNode<N>, W>,
-    item: u16,
-) -> Result<Option<Answer>, AllocError>
+fn look<N: Laid, H: Lent<SiteNode<N>>>(held: &H, item: u16) -> Result<Option<Answer>, AllocError>
     requires { item < length N.deployment.items }
-    ensures { IfOk result (λ spare. Looked N.deployment (number_of held.now.node.name)
-        (replay (site_meaning N.deployment) held.now.node.name held.now.node.entries) item spare) }
+    ensures { IfOk result (λ spare. Looked N.deployment (number_of (H.node_of held.now).name)
+        (replay (site_meaning N.deployment) (H.node_of held.now).name (H.node_of held.now).entries) item spare) }
 {
     let machine = held.node().machine();
     let sites = machine.sites();
@@ -62,22 +59,21 @@ fn one_value(alloc: Global, value: &Value) -> Result<Values, AllocError>
 
 impl<N: Laid> Session<N> {
     // Takes an act to the site at which it stands.
-    fn at_site<W: Names>(
+    fn at_site<H: Lent<SiteNode<N>>>(
         &mut self,
-        held: &mut Held<SiteNode<N>, W>,
+        held: &mut H,
         input: SiteAct<N>,
         act: Act,
         spare: Option<Answer>,
     ) -> Result<Answer, CallFault>
-        requires { Asks N.deployment (site_meaning N.deployment) of_site self.old held.old.node input act spare }
-        ensures done { AtNode act input of_site result held.old.node held.new.node self.old self.new }
-        ensures outs { held.new.outs ≡ held.old.outs }
-        ensures ins { held.new.ins ≡ held.old.ins }
+        requires { Asks N.deployment (site_meaning N.deployment) of_site self.old (H.node_of held.old) input act spare }
+        ensures done { AtNode act input of_site result (H.node_of held.old) (H.node_of held.new) self.old self.new }
+        ensures beside { H.beside held.new ≡ H.beside held.old }
     {
         let Ok(copy) = input.copy() else {
             return Err(CallFault::Memory);
         };
-        if !held.fits(&input) {
+        if !held.node().machine().fits(&input) {
             return Err(CallFault::Memory);
         }
         if self.noted.reserve(1).is_err() {
@@ -111,9 +107,9 @@ impl<N: Laid> Session<N> {
     }
 
     // Takes a write to the site where the client is seated, with the act that it is.
-    fn take_write<W: Names>(
+    fn take_write<H: Lent<SiteNode<N>>>(
         &mut self,
-        held: &mut Held<SiteNode<N>, W>,
+        held: &mut H,
         items: Items,
         values: Values,
         act: Act,
@@ -121,9 +117,8 @@ impl<N: Laid> Session<N> {
         requires client { self.old.number < length N.deployment.clients }
         requires act { write_in act ≡ Some (record { client = self.old.number; items = items; values = values }) }
         ensures done { AtNode act (asked_by (Some self.old.number) (given.Write self.old.client.carried items values))
-            of_site result held.old.node held.new.node self.old self.new }
-        ensures outs { held.new.outs ≡ held.old.outs }
-        ensures ins { held.new.ins ≡ held.old.ins }
+            of_site result (H.node_of held.old) (H.node_of held.new) self.old self.new }
+        ensures beside { H.beside held.new ≡ H.beside held.old }
     {
         let Some(seat) = self.client.seat else {
             return Err(CallFault::Memory);
@@ -146,9 +141,9 @@ impl<N: Laid> Session<N> {
     /// for want of memory;
     /// `Worn`, with the greatest u64, comes only where the session's number or the node's is that. After an error all
     /// is as before.
-    pub fn write<W: Names>(
+    pub fn write<H: Lent<SiteNode<N>>>(
         &mut self,
-        held: &mut Held<SiteNode<N>, W>,
+        held: &mut H,
         item: u16,
         value: &Value,
     ) -> Result<Answer, CallFault>
@@ -156,9 +151,8 @@ impl<N: Laid> Session<N> {
         requires item { item < length N.deployment.items }
         ensures done { AtNode (Act.Write self.old.number item value.now)
             (asked_by (Some self.old.number) (given.Write self.old.client.carried (One item) (value.now ∷ []))) of_site
-            result held.old.node held.new.node self.old self.new }
-        ensures outs { held.new.outs ≡ held.old.outs }
-        ensures ins { held.new.ins ≡ held.old.ins }
+            result (H.node_of held.old) (H.node_of held.new) self.old self.new }
+        ensures beside { H.beside held.new ≡ H.beside held.old }
     {
         let Ok(values) = one_value(*self.noted.allocator(), value) else {
             return Err(CallFault::Memory);
@@ -175,9 +169,9 @@ impl<N: Laid> Session<N> {
     }
 
     /// Writes several items under one label at the site where the client is seated. Errors come as in `write`.
-    pub fn writes<W: Names>(
+    pub fn writes<H: Lent<SiteNode<N>>>(
         &mut self,
-        held: &mut Held<SiteNode<N>, W>,
+        held: &mut H,
         items: Items,
         values: &Values,
     ) -> Result<Answer, CallFault>
@@ -185,9 +179,8 @@ impl<N: Laid> Session<N> {
         requires group { IsGroup N.deployment items values.now }
         ensures done { AtNode (Act.Writes self.old.number items values.now)
             (asked_by (Some self.old.number) (given.Write self.old.client.carried items values.now)) of_site result
-            held.old.node held.new.node self.old self.new }
-        ensures outs { held.new.outs ≡ held.old.outs }
-        ensures ins { held.new.ins ≡ held.old.ins }
+            (H.node_of held.old) (H.node_of held.new) self.old self.new }
+        ensures beside { H.beside held.new ≡ H.beside held.old }
     {
         let Ok(first) = values.copy() else {
             return Err(CallFault::Memory);
@@ -204,18 +197,17 @@ impl<N: Laid> Session<N> {
     }
 
     /// Reads an item at the site where the client is seated. Errors come as in `write`.
-    pub fn read<W: Names>(
+    pub fn read<H: Lent<SiteNode<N>>>(
         &mut self,
-        held: &mut Held<SiteNode<N>, W>,
+        held: &mut H,
         item: u16,
     ) -> Result<Answer, CallFault>
         requires client { self.old.number < length N.deployment.clients }
         requires item { item < length N.deployment.items }
         ensures done { AtNode (Act.Read self.old.number item)
-            (asked_by (Some self.old.number) (given.Read self.old.client.carried item)) of_site result held.old.node
-            held.new.node self.old self.new }
-        ensures outs { held.new.outs ≡ held.old.outs }
-        ensures ins { held.new.ins ≡ held.old.ins }
+            (asked_by (Some self.old.number) (given.Read self.old.client.carried item)) of_site result (H.node_of held.old)
+            (H.node_of held.new) self.old self.new }
+        ensures beside { H.beside held.new ≡ H.beside held.old }
     {
         let Some(seat) = self.client.seat else {
             return Err(CallFault::Memory);
@@ -241,18 +233,17 @@ impl<N: Laid> Session<N> {
     }
 
     /// Gives up the client's seat at its site, to go to another one. Errors come as in `write`.
-    pub fn move_to<W: Names>(
+    pub fn move_to<H: Lent<SiteNode<N>>>(
         &mut self,
-        held: &mut Held<SiteNode<N>, W>,
+        held: &mut H,
         site: u16,
     ) -> Result<Answer, CallFault>
         requires client { self.old.number < length N.deployment.clients }
         requires site { site < N.deployment.sites }
         ensures done { AtNode (Act.Move self.old.number site)
-            (asked_by (Some self.old.number) (given.Move self.old.client.carried site)) of_site result held.old.node
-            held.new.node self.old self.new }
-        ensures outs { held.new.outs ≡ held.old.outs }
-        ensures ins { held.new.ins ≡ held.old.ins }
+            (asked_by (Some self.old.number) (given.Move self.old.client.carried site)) of_site result (H.node_of held.old)
+            (H.node_of held.new) self.old self.new }
+        ensures beside { H.beside held.new ≡ H.beside held.old }
     {
         let Some(seat) = self.client.seat else {
             return Err(CallFault::Memory);
@@ -276,18 +267,17 @@ impl<N: Laid> Session<N> {
 
     /// Asks a site for a seat. Where the client has one, or this is another site, the answer is `Memory`; errors come
     /// as in `write`.
-    pub fn attach<W: Names>(
+    pub fn attach<H: Lent<SiteNode<N>>>(
         &mut self,
-        held: &mut Held<SiteNode<N>, W>,
+        held: &mut H,
         site: u16,
     ) -> Result<Answer, CallFault>
         requires client { self.old.number < length N.deployment.clients }
         requires site { site < N.deployment.sites }
         ensures done { AtNode (Act.Attach self.old.number site)
-            (asked_by (Some self.old.number) (given.Attach self.old.client.carried)) of_site result held.old.node
-            held.new.node self.old self.new }
-        ensures outs { held.new.outs ≡ held.old.outs }
-        ensures ins { held.new.ins ≡ held.old.ins }
+            (asked_by (Some self.old.number) (given.Attach self.old.client.carried)) of_site result (H.node_of held.old)
+            (H.node_of held.new) self.old self.new }
+        ensures beside { H.beside held.new ≡ H.beside held.old }
     {
         if self.client.seat.is_some() {
             return Err(CallFault::Memory);
@@ -310,16 +300,15 @@ impl<N: Laid> Session<N> {
 
     /// The operator closes the emission epoch of a site. Where this is another site, the answer is `Memory`; errors
     /// come as in `write`.
-    pub fn close<W: Names>(
+    pub fn close<H: Lent<SiteNode<N>>>(
         &mut self,
-        held: &mut Held<SiteNode<N>, W>,
+        held: &mut H,
         site: u16,
     ) -> Result<Answer, CallFault>
         requires { self.old.number ≡ length N.deployment.clients }
-        ensures done { AtNode (Act.Close site) (asked_by None given.Close) of_site result held.old.node held.new.node
+        ensures done { AtNode (Act.Close site) (asked_by None given.Close) of_site result (H.node_of held.old) (H.node_of held.new)
             self.old self.new }
-        ensures outs { held.new.outs ≡ held.old.outs }
-        ensures ins { held.new.ins ≡ held.old.ins }
+        ensures beside { H.beside held.new ≡ H.beside held.old }
     {
         if !is_at(held, NodeName::Site(site)) {
             return Err(CallFault::Memory);
@@ -331,16 +320,15 @@ impl<N: Laid> Session<N> {
 
     /// The operator makes a site go by timestamp order. Where this is another site, the answer is `Memory`; errors come
     /// as in `write`.
-    pub fn fall<W: Names>(
+    pub fn fall<H: Lent<SiteNode<N>>>(
         &mut self,
-        held: &mut Held<SiteNode<N>, W>,
+        held: &mut H,
         site: u16,
     ) -> Result<Answer, CallFault>
         requires { self.old.number ≡ length N.deployment.clients }
-        ensures done { AtNode (Act.Fall site) (asked_by None given.Fall) of_site result held.old.node held.new.node
+        ensures done { AtNode (Act.Fall site) (asked_by None given.Fall) of_site result (H.node_of held.old) (H.node_of held.new)
             self.old self.new }
-        ensures outs { held.new.outs ≡ held.old.outs }
-        ensures ins { held.new.ins ≡ held.old.ins }
+        ensures beside { H.beside held.new ≡ H.beside held.old }
     {
         if !is_at(held, NodeName::Site(site)) {
             return Err(CallFault::Memory);

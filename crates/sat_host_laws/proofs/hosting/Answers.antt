@@ -1,14 +1,8 @@
-use Rattle.sat_host_laws.proofs.Whole.{hosts_fit, hosts_join, hosts_are_runs, hosts_are_good, opened_are_hosts}
 use Rattle.sat_host_laws.proofs.Taken.{stores_fit, stores_are_runs, stores_are_good, one_more, stays_sent}
 use Rattle.sat_host_laws.proofs.hosting.Goals as goal
 
 pub returns : goal.returns
 returns c = record {
-  fit = hosts_fit;
-  join = hosts_join;
-  runs = hosts_are_runs;
-  good = hosts_are_good;
-  opened = opened_are_hosts;
   stores = stores_fit;
   store_runs = stores_are_runs;
   store_good = stores_are_good;

@@ -8,7 +8,7 @@ use Rattle.sat_session.proofs.site.look.Goals as goal
 pub returns-in_default : goal.returns-in_default
 returns-in_default g c =
     let d = g.N.Laid.deployment in
-    let node = c.args.held.now.node in
+    let node = g.H.Lent.node_of c.args.held.now in
     let state = replay (site_meaning d) node.name node.entries in
     let machine = subst (λ z. Stands d z.name z.machine (replay (site_meaning d) z.name z.entries)) c.node.ensures.node c.machine-machine.ensures.stands in
     let same = c.site.ensures ∙ (c.machine-machine.ensures.machine ∙ ap (λ z. z.machine) c.node.ensures.node) in
@@ -17,7 +17,7 @@ returns-in_default g c =
 pub returns : goal.returns
 returns g c =
     let d = g.N.Laid.deployment in
-    let node = c.args.held.now.node in
+    let node = g.H.Lent.node_of c.args.held.now in
     let state = replay (site_meaning d) node.name node.entries in
     let machine = subst (λ z. Stands d z.name z.machine (replay (site_meaning d) z.name z.entries)) c.node.ensures.node c.machine-machine.ensures.stands in
     let same = c.site.ensures ∙ (c.machine-machine.ensures.machine ∙ ap (λ z. z.machine) c.node.ensures.node) in

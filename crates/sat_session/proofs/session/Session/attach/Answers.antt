@@ -11,5 +11,5 @@ use Rattle.sat_session.proofs.session.Session.attach.Goals as goal
 pub at_site-requires : goal.at_site-requires
 at_site-requires g c =
     let y : SessionSeen = record { number = c.self.inside.number; client = c.self.inside.client; lamport = c.self.inside.lamport; noted = c.self.inside.noted.items } in
-    asks-by g.N.Laid.deployment c.args.self.now y c.args.held.now.node (asked_by (Some c.self.inside.number) (input.Attach c.self.inside.client.carried)) c.of_client-input.result (act.Attach c.self.inside.number c.args.site) None c.self.view_is c.of_client-input.ensures
-    (asks-attach g.N.Laid.deployment y c.args.held.now.node c.self.invariant (subst (λ (z : SessionSeen). z.number < length g.N.Laid.deployment.clients) (sym c.self.view_is) c.requires.client) c.args.site (same-name c.args.held.now.node.name (named.Site c.args.site) (sym c.is_at.ensures ∙ c.if-not-is_at.false)) (none-is c.self.inside.client.seat (sym c.is_some.ensures ∙ c.if-is_some.false)) (is-less c.args.site g.N.Laid.deployment.sites c.requires.site))
+    asks-by g.N.Laid.deployment c.args.self.now y (g.H.Lent.node_of c.args.held.now) (asked_by (Some c.self.inside.number) (input.Attach c.self.inside.client.carried)) c.of_client-input.result (act.Attach c.self.inside.number c.args.site) None c.self.view_is c.of_client-input.ensures
+    (asks-attach g.N.Laid.deployment y (g.H.Lent.node_of c.args.held.now) c.self.invariant (subst (λ (z : SessionSeen). z.number < length g.N.Laid.deployment.clients) (sym c.self.view_is) c.requires.client) c.args.site (same-name (g.H.Lent.node_of c.args.held.now).name (named.Site c.args.site) (sym c.is_at.ensures ∙ c.if-not-is_at.false)) (none-is c.self.inside.client.seat (sym c.is_some.ensures ∙ c.if-is_some.false)) (is-less c.args.site g.N.Laid.deployment.sites c.requires.site))

@@ -8,5 +8,5 @@ use Rattle.sat_session.proofs.session.Session.fall.Goals as goal
 
 pub at_site-requires : goal.at_site-requires
 at_site-requires g c =
-    asks-by g.N.Laid.deployment c.args.self.now c.args.self.now c.args.held.now.node (asked_by None input.Fall) c.of_site-input.result (act.Fall c.args.site) None refl c.of_site-input.ensures
-    (asks-fall g.N.Laid.deployment c.args.self.now c.args.held.now.node c.requires c.args.site (same-name c.args.held.now.node.name (named.Site c.args.site) (sym c.is_at.ensures ∙ c.if-not-is_at.false)))
+    asks-by g.N.Laid.deployment c.args.self.now c.args.self.now (g.H.Lent.node_of c.args.held.now) (asked_by None input.Fall) c.of_site-input.result (act.Fall c.args.site) None refl c.of_site-input.ensures
+    (asks-fall g.N.Laid.deployment c.args.self.now (g.H.Lent.node_of c.args.held.now) c.requires c.args.site (same-name (g.H.Lent.node_of c.args.held.now).name (named.Site c.args.site) (sym c.is_at.ensures ∙ c.if-not-is_at.false)))

@@ -10,5 +10,5 @@ use Rattle.sat_session.proofs.session.Session.read.Goals as goal
 pub at_site-requires : goal.at_site-requires
 at_site-requires g c =
     let y : SessionSeen = record { number = c.self.inside.number; client = c.self.inside.client; lamport = c.self.inside.lamport; noted = c.self.inside.noted.items } in
-    asks-by g.N.Laid.deployment c.args.self.now y c.args.held.now.node (asked_by (Some c.self.inside.number) (input.Read c.self.inside.client.carried c.args.item)) c.of_client-input.result (act.Read c.self.inside.number c.args.item) c.in-Ok.spare c.self.view_is c.of_client-input.ensures
-    (asks-read g.N.Laid.deployment y c.args.held.now.node c.self.invariant (subst (λ (z : SessionSeen). z.number < length g.N.Laid.deployment.clients) (sym c.self.view_is) c.requires.client) c.in-Some.seat (same-name c.args.held.now.node.name (named.Site c.in-Some.seat) (sym c.is_at.ensures ∙ c.if-not-is_at.false)) c.in-Some.is c.args.item c.in-Ok.spare c.in-Ok.ensures)
+    asks-by g.N.Laid.deployment c.args.self.now y (g.H.Lent.node_of c.args.held.now) (asked_by (Some c.self.inside.number) (input.Read c.self.inside.client.carried c.args.item)) c.of_client-input.result (act.Read c.self.inside.number c.args.item) c.in-Ok.spare c.self.view_is c.of_client-input.ensures
+    (asks-read g.N.Laid.deployment y (g.H.Lent.node_of c.args.held.now) c.self.invariant (subst (λ (z : SessionSeen). z.number < length g.N.Laid.deployment.clients) (sym c.self.view_is) c.requires.client) c.in-Some.seat (same-name (g.H.Lent.node_of c.args.held.now).name (named.Site c.in-Some.seat) (sym c.is_at.ensures ∙ c.if-not-is_at.false)) c.in-Some.is c.args.item c.in-Ok.spare c.in-Ok.ensures)

@@ -1,8 +1,7 @@
 -- What was delivered, as marks of kept lists.
-use Rattle.std.proofs.Common.{◌≡◌, ◌<◌, ℕ, ◌+◌, zero, suc, Bool, true, false, ◌==◌, List, [], ◌∷◌, ◌++◌, length, map, Option, Some, None, slice_get, if◌then◌else◌, refl, sym, ap, ◌∙◌, subst, append_assoc, arith, inl, inr}
+use Rattle.std.proofs.Common.{◌≡◌, ◌<◌, ℕ, zero, suc, true, List, [], ◌∷◌, ◌++◌, length, map, Option, Some, None, slice_get, refl, sym, ap, ◌∙◌, subst, append_assoc, inl, inr}
 use Rattle.sat_label.specs.Members.{In}
 use Rattle.sat_label.specs.declared.label.Label.{Label}
-use Rattle.sat_label.proofs.Truth.{same-number}
 use Rattle.sat_bulk.specs.Payloads.{Payload}
 use Rattle.sat_beat.specs.declared.Beat.{Beat}
 use Rattle.sat_act.specs.Parts.{BeatNote}
@@ -12,18 +11,17 @@ use Rattle.sat_node.specs.declared.kept.Kept.{Kept as Line}
 use Rattle.sat_node.specs.declared.kept.Body.{Body}
 use Rattle.sat_node.specs.declared.kept.Body.TheVariants as body
 use Rattle.sat_node.specs.declared.kept.Made.{Made}
-use Rattle.sat_node.specs.declared.kept.Made.TheVariants as made
 use Rattle.sat_node.specs.declared.kept.Envelope.{Envelope}
-use Rattle.sat_node.specs.Puts.{envelope, Putting, puttings, is_payload_of, is_beat, payloads_of, beats_of, numbered as sealed_as, put_by}
+use Rattle.sat_node.specs.Puts.{envelope, Putting, puttings, numbered as sealed_as, put_by}
 use Rattle.sat_node.specs.Links.{takings, may_pass, Passes, Handed}
 use Rattle.sat_node.specs.Laws.{IsFor}
 use Rattle.sat_node.proofs.Laws.{taken_came, puts_are_numbered}
 use Rattle.sat_stitch.specs.Kept.{Kept, numbered, marks}
 use Rattle.sat_stitch.specs.Fit.{IsHanded, IsMade}
 use Rattle.sat_opened.specs.Keeping.{newest}
+use Rattle.sat_opened.specs.Delivered.{label_of, labels_in, IsOneOf, Delivered}
 use Rattle.sat_opened.proofs.Walks.{Along, later, marks-newest}
-use Rattle.sat_opened.proofs.Handings.{label_made, label_body, label_on, takings-are, sealed-are, sort_of, sorted, sorted-at, sorted-are, payload_sort, beat_sort, taking-there}
-use Rattle.sat_host_laws.specs.Delivered.{label_of, labels_in, IsOneOf, Delivered}
+use Rattle.sat_opened.proofs.Handings.{label_made, label_body, label_on, takings-are, sealed-are, sort_of, sorted, sorted-at, sorted-are, payload_sort, beat_sort, payloads-count, beats-count, IsPayload, payload-is, IsBeatOf, beat-is, taking-there}
 
 -- ---- links that keep order deliver
 
@@ -89,59 +87,6 @@ delivered-on put take of on f g es fs sent taken a b h =
     (subst (λ (ps : List (ℕ × Label)). IsHanded ps (labels_in (put_by put es))) (ap labels_in (takings-are on g take [] fs taken b) ∙ labels-on (later on g [] fs)) h.labels)))
 
 -- ---- payloads and beats
-
-count-payload : (g n : ℕ) (p : Payload) (m : ℕ) (zs : List (ℕ × Payload)) (b : Bool) → length zs ≡ m → length (numbered n (if b then Some p else None) ++ zs) ≡ (if b then 1 else 0) + m
-count-payload g n p m zs true e = omega arith
-count-payload g n p m zs false e = omega arith
-
-count-none : {Y : Type 0} (zs : List Y) (m : ℕ) → length zs ≡ m → length zs ≡ 0 + m
-count-none zs m e = omega arith
-
-count-one : {Y : Type 0} (z : Y) (zs : List Y) (m : ℕ) → length zs ≡ m → length (z ∷ zs) ≡ 1 + m
-count-one z zs m e = omega arith
-
-payload-step : (g n : ℕ) (m : Made) (zs : List (ℕ × Payload)) (c : ℕ) → length zs ≡ c → length (numbered n (payload_sort g m) ++ zs) ≡ is_payload_of g m + c
-payload-step g n (made.Label l) zs c e = count-none zs c e
-payload-step g n (made.Payload gear p) zs c e = count-payload g n p c zs (gear == g) e
-payload-step g n (made.Beat b) zs c e = count-none zs c e
-
-payloads-count : (g : ℕ) (ps : List Putting) → length (sorted (payload_sort g) ps) ≡ payloads_of g ps
-payloads-count g [] = refl
-payloads-count g (p ∷ ps) = payload-step g p.number p.made (sorted (payload_sort g) ps) (payloads_of g ps) (payloads-count g ps)
-
-beat-step : (n : ℕ) (m : Made) (zs : List (ℕ × BeatNote)) (c : ℕ) → length zs ≡ c → length (numbered n (beat_sort m) ++ zs) ≡ is_beat m + c
-beat-step n (made.Label l) zs c e = count-none zs c e
-beat-step n (made.Payload gear p) zs c e = count-none zs c e
-beat-step n (made.Beat b) zs c e = count-one (n, note_of b) zs c e
-
-beats-count : (ps : List Putting) → length (sorted beat_sort ps) ≡ beats_of ps
-beats-count [] = refl
-beats-count (p ∷ ps) = beat-step p.number p.made (sorted beat_sort ps) (beats_of ps) (beats-count ps)
-
-record IsPayload (g n : ℕ) (p : Payload) (before : List Putting) (m : Made) : Type 0 where
-  is : payload_sort g m ≡ Some p
-  number : payloads_of g before ≡ n
-
-payload-is : (before : List Putting) (m : Made) (g n : ℕ) (p : Payload) → sealed_as before m ≡ body.Payload g n p → IsPayload g n p before m
-payload-is before (made.Label l) g n p e = absurd (cc)
-payload-is before (made.Beat b) g n p e = absurd (cc)
-payload-is before (made.Payload gear q) g n p e =
-    let same : gear ≡ g = cc in
-    let thing : q ≡ p = cc in
-    let count : payloads_of gear before ≡ n = cc in
-    record { is = ap (λ (k : ℕ). if k == g then Some q else None) same ∙ (ap (λ (b : Bool). if b then Some q else None) (same-number g) ∙ ap (λ (q : Payload). Some q) thing); number = ap (λ (k : ℕ). payloads_of k before) (sym same) ∙ count }
-
-record IsBeatOf (n : ℕ) (b : Beat) (before : List Putting) (m : Made) : Type 0 where
-  is : beat_sort m ≡ Some (note_of b)
-  number : beats_of before ≡ n
-
-beat-is : (before : List Putting) (m : Made) (n : ℕ) (b : Beat) → sealed_as before m ≡ body.Beat n b → IsBeatOf n b before m
-beat-is before (made.Label l) n b e = absurd (cc)
-beat-is before (made.Payload gear q) n b e = absurd (cc)
-beat-is before (made.Beat c) n b e =
-    let same : c ≡ b = cc in
-    let count : beats_of before ≡ n = cc in
-    record { is = ap (λ (c : Beat). Some (note_of c)) same; number = count }
 
 -- what came to an entry was put, under a smaller number
 record IsPut (ps : List Putting) (b : Body) (lamport : ℕ) : Type 0 where

@@ -20,7 +20,7 @@ use Rattle.sat_stitch.specs.Fit.{Fit, IsMerge}
 use Rattle.sat_opened.specs.Opened.{AllOpened, name_in, serial_names, lists_of}
 use Rattle.sat_opened.specs.Fits.{FitsNodes, FitsSessions}
 use Rattle.sat_opened.specs.Laws.{SiteHeld, SerialHeld}
-use Rattle.sat_host_laws.specs.Delivered.{DeliveredAll, DeliveredWithin}
+use Rattle.sat_opened.specs.Delivered.{DeliveredAll, DeliveredWithin}
 
 -- one node: each input fitted and has its answer, the numbers rise, and each entry stands
 pub record IsHost {S M I A : Type 0} (m : Meaning S I A) (h : HeldSeen M I A) : Type 0 where
