@@ -2,7 +2,7 @@
 ghost use Rattle.std.specs.Prelude.{◌≡◌, ℕ, ◌+◌, ◌<◌, ◌==◌, max, false, true, [], ◌∷◌, ◌++◌, get_or, length, map, vec_len, vec_capacity, if◌then◌else◌, IfErr, IfOk, IfSome, OnOk, OnErr};
 ghost use Rattle.sat_node.specs.Meanings.{replay};
 ghost use Rattle.sat_node.specs.Puts.{put_by};
-ghost use Rattle.sat_node.specs.Seen.{entry, SameNode};
+ghost use Rattle.sat_node.specs.Seen.{entry, SameNode, Takes};
 ghost use Rattle.sat_node.specs.Links.{IsLocal, IsOf};
 ghost use Rattle.sat_message.specs.Numbering.{Gives, put_before};
 ghost use Rattle.sat_host_laws.specs.Messages.{IsBounded, IsKept, IsSent, IsWanted, SameHost, messages_on, slip, wanted_then};
@@ -11,6 +11,7 @@ ghost use Rattle.sat_host.specs.Turns.{FailsBy, message_at};
 
 use sat_message::{Cursor, Message, Slip};
 use sat_node::{Body, CallFault, Machine, Node};
+use sat_session::Lent;
 use std::alloc::{AllocError, Global};
 use std::marker::Model;
 
@@ -40,6 +41,26 @@ impl<M: Machine> Model for Host<M> {
         Slipped M.meaning
         (record { node = h.node; slips = h.slips.items; wanted = h.wanted.items; cursors = map next_of h.cursors.items })
         × AreAt M.meaning h.node.name h.node.entries h.cursors.items };
+}
+
+/// What it keeps of messages stays as it is when a session asks something of it.
+impl<M: Machine> Lent<M> for Host<M> {
+    ghost use Rattle.std.specs.Prelude.{ℕ, List};
+    ghost use Rattle.sat_message.specs.declared.message.Slip.{Slip};
+
+    ghost node_of = { λ h. h.node };
+
+    ghost Beside = { List Slip × List ℕ × List ℕ };
+
+    ghost beside = { λ h. (h.slips, h.wanted, h.cursors) };
+
+    fn node(&self) -> &Node<M> {
+        Host::node(self)
+    }
+
+    fn act(&mut self, heard: u64, input: M::Input, copy: M::Input) -> Result<M::Answer, CallFault> {
+        Host::act(self, heard, input, copy)
+    }
 }
 
 impl<M: Machine> Host<M> {
@@ -96,6 +117,7 @@ impl<M: Machine> Host<M> {
         requires fits { M.takes_in self.old.node.machine input ≡ true }
         requires copy { copy ≡ input }
         requires local { IsLocal M.meaning self.old.node input }
+        ensures takes { Takes heard input (M.may_fail self.old.node.machine input) result self.old.node self.new.node }
         ensures taken { IfOk result (λ a. self.new.node.entries ≡ self.old.node.entries
             ++ entry (max self.old.node.number heard + 1) input a ∷ []) }
         ensures answer { IfOk result (λ a. M.meaning.answers self.old.node.name

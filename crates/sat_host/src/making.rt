@@ -153,6 +153,9 @@ impl<N: Laid> Hosts<N> {
         add_trees(&mut serials, alloc, d, 1, d.plans())?;
         Ok(Hosts { sites, serials })
     }
+
+    /// Lets all hosts go, with their journals.
+    pub fn let_go(self) {}
 }
 
 /// What all hosts of a deployment keep true at any time, whatever they were handed: the first premise of the laws on
