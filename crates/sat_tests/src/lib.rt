@@ -17,6 +17,8 @@ mod judged;
 #[cfg(test)]
 mod living;
 #[cfg(test)]
+mod lossy;
+#[cfg(test)]
 mod outside;
 #[cfg(test)]
 mod parts;

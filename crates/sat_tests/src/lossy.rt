@@ -1,17 +1,25 @@
-//! Three sites and two serializers, each a host. What carries their messages is a list that is gone through in an order
-//! of its own: some are passed over, some are handed twice, and all are asked for again.
+//! Three sites and two serializers, each a host, and sessions at them. What carries the hosts' messages is a list that is
+//! gone through in an order of its own: some are passed over, some are handed twice, and all are asked for again. In the
+//! end all journals, merged, are a script, of which `run` prints what the hosts answered.
 ghost use Rattle.std.specs.Prelude.{◌≡◌, ◌<◌, false, length, IfOk};
 ghost use Rattle.sat_machines.specs.Acts.{is_clients};
 
-use sat_act::{Answer, ClientLine, Deployment, Item, Plan};
+use sat_act::{Answer, ClientLine, Deployment, Entries, Entry, Item, Plan, Refusal};
 use sat_host::{
     Host, Hosts, Received, act_at_site, kill_at_serializer, receive_at_serializer, receive_at_site,
 };
-use sat_label::{Carried, Items, Name, Point, SiteSet, Value, Values};
-use sat_machines::{Laid, SiteAct, SiteNode};
+use sat_label::{Name, SiteSet, Value};
+use sat_machines::{Laid, SerialNode, SiteAct, SiteNode};
 use sat_message::Message;
 use sat_node::{CallFault, Machine};
+use sat_opened::{serial_entries, site_entries};
+use sat_outside::CleanSink;
+use sat_report::write_line;
+use sat_script::write_script;
+use sat_session::Session;
 use sat_site::SiteInput;
+use sat_stitch::{Journal, stitch};
+use sat_top::still_in_memory;
 use sat_tree::Tree;
 use std::alloc::{AllocError, Global};
 use std::marker::Brand;
@@ -29,7 +37,9 @@ fn name(alloc: Global, text: &[u8]) -> Result<Name, Fail> {
 }
 
 // The photo is kept at the sites 0 and 1, the album at 1 and 2.
-fn items(alloc: Global) -> Result<Vec<Item>, Fail> {
+fn items(alloc: Global) -> Result<Vec<Item>, Fail>
+    ensures { IfOk result (λ items. length items.items ≡ 2) }
+{
     let mut items = Vec::new(alloc);
     items.push(Item {
         name: name(alloc, b"photo")?,
@@ -42,8 +52,9 @@ fn items(alloc: Global) -> Result<Vec<Item>, Fail> {
     Ok(items)
 }
 
+// A client at each site.
 fn clients(alloc: Global) -> Result<Vec<ClientLine>, Fail>
-    ensures { IfOk result (λ clients. length clients.items ≡ 2) }
+    ensures { IfOk result (λ clients. length clients.items ≡ 3) }
 {
     let mut clients = Vec::new(alloc);
     clients.push(ClientLine {
@@ -54,12 +65,17 @@ fn clients(alloc: Global) -> Result<Vec<ClientLine>, Fail>
         name: name(alloc, b"bob")?,
         site: 1,
     })?;
+    clients.push(ClientLine {
+        name: name(alloc, b"cid")?,
+        site: 2,
+    })?;
     Ok(clients)
 }
 
 // The sites 0 and 1 sit at serializer 0, and site 2 at serializer 1 below it.
 fn deployment(alloc: Global) -> Result<Deployment, Fail>
-    ensures { IfOk result (λ d. length d.clients ≡ 2) }
+    ensures clients { IfOk result (λ d. length d.clients ≡ 3) }
+    ensures items { IfOk result (λ d. length d.items ≡ 2) }
 {
     let tree = Tree::new(alloc, &[None, Some(0)], &[0, 0, 1])?;
     let mut plans = Vec::new(alloc);
@@ -273,124 +289,92 @@ fn rounds<N: Laid>(
 
 // ---- the clients
 
-// A client's act at a site.
-fn ask<N: Laid>(
+// A client writes at its site.
+fn write<N: Laid>(
+    alloc: Global,
     sites: &mut Vec<Host<SiteNode<N>>>,
     site: usize,
-    act: SiteAct<N>,
-) -> Result<Answer, Fail> {
+    client: &mut Session<N>,
+    item: u16,
+    text: &[u8],
+) -> Result<(), Fail>
+    requires client { client.old.number < length N.deployment.clients }
+    requires item { item < length N.deployment.items }
+    ensures { client.new.number ≡ client.old.number }
+{
     if site >= sites.len() {
         return Err(Fail::from("no such site"));
     }
-    match act_at_site(&mut sites[site], 0, act)? {
-        Some(answer) => Ok(answer.answer),
-        None => Err(Fail::from("unfit")),
-    }
-}
-
-// A client writes at its site, who saw this point. The point of its write.
-fn write<N: Laid>(
-    alloc: Global,
-    hosts: &mut Hosts<N>,
-    client: u16,
-    seen: Point,
-    item: u16,
-    text: &[u8],
-) -> Result<Point, Fail>
-    requires { client < length N.deployment.clients }
-{
     let value = Value::of(alloc, text)?.ok_or("no value")?;
-    let carried = Carried {
-        point: seen,
-        moving: None,
-    };
-    let input = SiteInput::Write {
-        carried,
-        items: Items::One(item),
-        values: Values::one(alloc, value)?,
-    };
-    let act = SiteAct::of_client(client, input);
-    match ask(&mut hosts.sites, usize::from(client), act)? {
-        Answer::Wrote(label) => Ok(label.point),
+    match client.write(&mut sites[site], item, &value)? {
+        Answer::Wrote(_) => Ok(()),
         _ => Err(Fail::from("refused")),
     }
 }
 
-// Whether a read at a site answers this text, made at this time by this site.
-fn reads<N: Laid>(hosts: &mut Hosts<N>, want: &Want) -> Result<bool, Fail>
-    requires { 0 < length N.deployment.clients }
+// Whether a client that reads at its site is answered this text.
+fn reads<N: Laid>(
+    sites: &mut Vec<Host<SiteNode<N>>>,
+    site: usize,
+    client: &mut Session<N>,
+    item: u16,
+    text: &[u8],
+) -> Result<bool, Fail>
+    requires client { client.old.number < length N.deployment.clients }
+    requires item { item < length N.deployment.items }
+    ensures { client.new.number ≡ client.old.number }
 {
-    let carried = Carried {
-        point: Point::zero(),
-        moving: None,
-    };
-    let input = SiteInput::Read {
-        carried,
-        item: want.item,
-    };
-    let act = SiteAct::of_client(0, input);
-    match ask(&mut hosts.sites, want.at, act)? {
-        Answer::ReadSome { label, value } => Ok(
-            value.bytes() == want.text && label.point.ts == want.ts && label.point.site == want.by,
-        ),
+    if site >= sites.len() {
+        return Err(Fail::from("no such site"));
+    }
+    match client.read(&mut sites[site], item)? {
+        Answer::ReadSome { label: _, value } => Ok(value.bytes() == text),
         _ => Ok(false),
     }
 }
 
-// What a read at a site is to answer.
-#[derive(Clone, Copy)]
-struct Want {
-    at: usize,
-    item: u16,
-    text: &'static [u8],
-    ts: u64,
-    by: u16,
+// ---- the journals, merged
+
+// All that the hosts did, in one order.
+fn merged<N: Laid>(alloc: Global, hosts: &Hosts<N>) -> Result<Entries, AllocError> {
+    let mut journals = Vec::new(alloc);
+    let mut place = 0u32;
+    for host in &hosts.sites {
+        let kept = site_entries(alloc, host.node())?;
+        journals.push(Journal { place, kept })?;
+        place = place.wrapping_add(1);
+    }
+    for host in &hosts.serials {
+        let kept = serial_entries(alloc, host.node())?;
+        journals.push(Journal { place, kept })?;
+        place = place.wrapping_add(1);
+    }
+    stitch(alloc, journals.as_slice())
 }
 
-// The photo's third version has the timestamp 3, and the album's, made behind it, 4.
-const PHOTOS: [Want; 2] = [
-    Want {
-        at: 0,
-        item: PHOTO,
-        text: b"dunes",
-        ts: 3,
-        by: 0,
-    },
-    Want {
-        at: 1,
-        item: PHOTO,
-        text: b"dunes",
-        ts: 3,
-        by: 0,
-    },
-];
+// What `run` prints of a script.
+fn ran(alloc: Global, script: Vec<u8>) -> Result<CleanSink, Fail> {
+    let mut words = Vec::new(alloc);
+    words.push(String::from_str(alloc, "run")?)?;
+    let (_, sink) = still_in_memory(alloc, words.as_slice(), script, 4096, 65_536)?;
+    Ok(sink)
+}
 
-const ALBUMS: [Want; 2] = [
-    Want {
-        at: 1,
-        item: ALBUM,
-        text: b"dunes.jpg",
-        ts: 4,
-        by: 1,
-    },
-    Want {
-        at: 2,
-        item: ALBUM,
-        text: b"dunes.jpg",
-        ts: 4,
-        by: 1,
-    },
-];
-
-fn all_read<N: Laid>(hosts: &mut Hosts<N>, wants: &[Want]) -> Result<bool, Fail>
-    requires { 0 < length N.deployment.clients }
-{
-    for want in wants {
-        if !reads(hosts, want)? {
-            return Ok(false);
-        }
+// Whether `run` answers the acts of the hosts as these did.
+fn is_run(alloc: Global, d: &Deployment, all: &[Entry]) -> Result<bool, Fail> {
+    let mut acts = Vec::new(alloc);
+    let mut report = Vec::new(alloc);
+    let mut number = 0u64;
+    for entry in all {
+        number = number.wrapping_add(1);
+        acts.push(entry.act.copy()?)?;
+        write_line(d, number, &entry.act, &entry.answer, &mut report)?;
     }
-    Ok(true)
+    report.extend_from_slice(b"holdings\n")?;
+    let mut script = Vec::new(alloc);
+    write_script(d, acts.as_slice(), &mut script)?;
+    let sink = ran(alloc, script)?;
+    Ok(sink.held().starts_with(report.as_slice()))
 }
 
 // ---- the run
@@ -410,54 +394,94 @@ fn labels<N: Laid>(alloc: Global, hosts: &Hosts<N>) -> Result<Vec<u64>, AllocErr
     Ok(counts)
 }
 
-// Whether the last serializer is dead after a kill, and not before.
-fn kills<N: Laid>(hosts: &mut Hosts<N>) -> Result<bool, CallFault> {
-    let Some(host) = hosts.serials.last_mut() else {
-        return Ok(false);
+// Whether the operator kills the last serializer once: it then is dead, and another kill is refused.
+fn kills<N: Laid>(
+    serials: &mut Vec<Host<SerialNode<N>>>,
+    operator: &mut Session<N>,
+) -> Result<bool, Fail>
+    requires { operator.old.number ≡ length N.deployment.clients }
+{
+    let Some(host) = serials.last_mut() else {
+        return Err(Fail::from("no serializer"));
     };
-    let before = host.node().machine().is_dead();
-    kill_at_serializer(host, 0)?;
-    Ok(!before && host.node().machine().is_dead())
+    let first = operator.kill(host, 1, 1)?;
+    let dead = host.node().machine().is_dead();
+    let second = kill_at_serializer(host, operator.lamport())?.answer;
+    Ok(first == Answer::Killed && dead && second == Answer::Refused(Refusal::Already))
 }
 
-// The photo goes from site 0 to site 1 in three versions, and the album from there to site 2.
+// The photo goes from site 0 to site 1 in three versions, and the album from there to site 2. Whether each client read
+// what came.
 fn share<N: Laid>(
     alloc: Global,
     hosts: &mut Hosts<N>,
     d: &Deployment,
     tally: &mut Tally,
-) -> Result<bool, Fail>
+) -> Result<[bool; 2], Fail>
     requires deployment { N.deployment ≡ d.now }
-    requires clients { length N.deployment.clients ≡ 2 }
+    requires clients { length N.deployment.clients ≡ 3 }
+    requires items { length N.deployment.items ≡ 2 }
 {
-    write(alloc, hosts, 0, Point::zero(), PHOTO, b"sea")?;
-    write(alloc, hosts, 0, Point::zero(), PHOTO, b"beach")?;
-    let dunes = write(alloc, hosts, 0, Point::zero(), PHOTO, b"dunes")?;
+    let mut ann = Session::<N>::of_client(alloc, d, 0);
+    let mut bob = Session::<N>::of_client(alloc, d, 1);
+    let mut cid = Session::<N>::of_client(alloc, d, 2);
+    write(alloc, &mut hosts.sites, 0, &mut ann, PHOTO, b"sea")?;
+    write(alloc, &mut hosts.sites, 0, &mut ann, PHOTO, b"beach")?;
+    write(alloc, &mut hosts.sites, 0, &mut ann, PHOTO, b"dunes")?;
     rounds(alloc, hosts, d, tally)?;
-    let came = all_read(hosts, &PHOTOS)?;
-    write(alloc, hosts, 1, dunes, ALBUM, b"dunes.jpg")?;
+    let photo = reads(&mut hosts.sites, 1, &mut bob, PHOTO, b"dunes")?;
+    write(alloc, &mut hosts.sites, 1, &mut bob, ALBUM, b"dunes.jpg")?;
     rounds(alloc, hosts, d, tally)?;
-    Ok(came)
+    let album = reads(&mut hosts.sites, 2, &mut cid, ALBUM, b"dunes.jpg")?;
+    Ok([photo, album])
 }
 
-// Whether all came, how many labels each node took, and what became of all that was handed on.
-fn run<N: Laid>(alloc: Global, d: &Deployment) -> Result<([bool; 4], Vec<u64>, Tally), Fail>
+// What became of all of it: what the clients read, whether the kill stopped the serializer, how many labels each node
+// took, what became of all messages, and all that the hosts did.
+#[derive(Drop)]
+struct Story {
+    read: [bool; 2],
+    killed: bool,
+    labels: Vec<u64>,
+    tally: Tally,
+    all: Entries,
+}
+
+fn tell<N: Laid>(alloc: Global, hosts: &mut Hosts<N>, d: &Deployment) -> Result<Story, Fail>
     requires deployment { N.deployment ≡ d.now }
-    requires clients { length N.deployment.clients ≡ 2 }
+    requires clients { length N.deployment.clients ≡ 3 }
+    requires items { length N.deployment.items ≡ 2 }
 {
-    let mut hosts = Hosts::<N>::new(alloc, d)?;
     let mut tally = Tally {
         taken: 0,
         early: 0,
         again: 0,
         unfit: 0,
     };
-    let came = share(alloc, &mut hosts, d, &mut tally)?;
-    let photos = all_read(&mut hosts, &PHOTOS)?;
-    let albums = all_read(&mut hosts, &ALBUMS)?;
-    let killed = kills(&mut hosts)?;
-    let counts = labels(alloc, &hosts)?;
-    Ok(([came, photos, albums, killed], counts, tally))
+    let read = share(alloc, hosts, d, &mut tally)?;
+    let mut operator = Session::<N>::of_operator(alloc, d);
+    let killed = kills(&mut hosts.serials, &mut operator)?;
+    let all = merged(alloc, hosts)?;
+    let labels = labels(alloc, hosts)?;
+    Ok(Story {
+        read,
+        killed,
+        labels,
+        tally,
+        all,
+    })
+}
+
+// The hosts are lent, and let go whatever came of it.
+fn run<N: Laid>(alloc: Global, d: &Deployment) -> Result<Story, Fail>
+    requires deployment { N.deployment ≡ d.now }
+    requires clients { length N.deployment.clients ≡ 3 }
+    requires items { length N.deployment.items ≡ 2 }
+{
+    let mut hosts = Hosts::<N>::new(alloc, d)?;
+    let story = tell(alloc, &mut hosts, d);
+    hosts.let_go();
+    story
 }
 
 // Three photos go to site 1 and one album to site 2: each label is taken once, by the serializer 0, the album's by the
@@ -466,12 +490,14 @@ fn run<N: Laid>(alloc: Global, d: &Deployment) -> Result<([bool; 4], Vec<u64>, T
 fn what_is_lost_doubled_and_out_of_order_comes_at_last(rt: HostRuntime) -> Result<(), Fail> {
     let alloc = rt.alloc();
     let d = deployment(alloc)?;
-    let (came, counts, tally) = run::<Brand>(alloc, &d)?;
-    assert_eq!(rt; came, [true; 4]);
-    assert_eq!(rt; counts.as_slice(), [0u64, 3, 1, 4, 1].as_slice());
-    assert!(rt; tally.taken > 0);
-    assert!(rt; tally.early > 0);
-    assert!(rt; tally.again > 0);
-    assert_eq!(rt; tally.unfit, 0);
+    let story = run::<Brand>(alloc, &d)?;
+    assert_eq!(rt; story.read, [true; 2]);
+    assert!(rt; story.killed);
+    assert_eq!(rt; story.labels.as_slice(), [0u64, 3, 1, 4, 1].as_slice());
+    assert!(rt; story.tally.taken > 0);
+    assert!(rt; story.tally.early > 0);
+    assert!(rt; story.tally.again > 0);
+    assert_eq!(rt; story.tally.unfit, 0);
+    assert!(rt; is_run(alloc, &d, story.all.as_slice())?);
     Ok(())
 }
