@@ -4,3 +4,4 @@ pub mod Fronts
 pub mod Sinks
 pub mod Deeds
 pub mod Finding
+pub mod Fits

@@ -1,12 +1,12 @@
 -- What a sink keeps, what is read off it, and what its calls make of it.
-use Rattle.std.specs.Prelude.{ℕ, ◌≡◌, ◌≤◌, ◌<◌, ◌-◌, Bool, true, ◌&&◌, not, List, [], length, get_or, map, replicate, Option, Some, None, is_some, nat_lt}
+use Rattle.std.specs.Prelude.{ℕ, ◌≡◌, ◌≤◌, ◌<◌, ◌-◌, ◌==◌, Bool, true, ◌&&◌, not, List, [], ◌∷◌, length, get_or, map, replicate, Option, Some, None, is_some, nat_le, nat_lt}
 use Rattle.sat_label.specs.declared.point.Point.{Point}
 use Rattle.sat_label.specs.declared.label.Kind.TheVariants.{Pulse}
 use Rattle.sat_label.specs.declared.label.Label.{Label}
 use Rattle.sat_label.specs.declared.limits.TheConstants.{PULSE_GEAR}
 use Rattle.sat_label.specs.Order.{point_at, point_lt, point_le, mark, greater_point}
 use Rattle.sat_bulk.specs.declared.Drained.{Drained}
-use Rattle.sat_label.specs.Members.{In}
+use Rattle.sat_label.specs.Members.{In, is_made}
 use Rattle.sat_bulk.specs.Drains.{Rises, IsNew}
 use Rattle.sat_sink.specs.Pending.{least, is_up_to, all_of, without, joined, labels_of, promise_of}
 use Rattle.sat_label.specs.Least.{least_label}
@@ -78,6 +78,19 @@ pub record IsDrainOf (s : Sink) (g : ℕ) (d : Drained) : Type 0 where
 pub record IsDrain (s : Sink) (drained : List Drained) : Type 0 where
   pub count : length drained ≡ length s.promises
   pub each : (g : ℕ) (d : Drained) → g < length drained → IsDrainOf s g (get_or drained g d)
+
+-- ---- the same as tests
+
+-- a made label of site i and gear g, above one timestamp and up to another
+abbrev pub is_new : ℕ → ℕ → ℕ → ℕ → Label → Bool
+is_new i g low high l =
+    ((l.point.site == i) && (l.point.gear == g))
+    && (is_made l.kind && (nat_lt low l.point.ts && nat_le l.point.ts high))
+
+-- each label is a new one, and above those before it
+abbrev pub are_new : ℕ → ℕ → ℕ → List Label → ℕ → Bool
+are_new i g high [] low = true
+are_new i g high (l ∷ ls) low = is_new i g low high l && are_new i g high ls l.point.ts
 
 -- ---- what is true of each sink
 

@@ -2,6 +2,7 @@
 //! and Van Roy, EuroSys 2017). A label may leave once every gear has promised to make none below it.
 #![tactic(auto)]
 
+mod given;
 mod queue;
 mod sink;
 

@@ -1,10 +1,12 @@
 //! The label sink.
 ghost use Rattle.std.specs.Prelude.{◌≡◌, ◌<◌, length, map, true, is_some, Some, None, if◌then◌else◌, IfOk, IfSome, OnOk, OnErr};
+ghost use Rattle.std.specs.Bool.{Decides};
 ghost use Rattle.sat_label.specs.Order.{point_le, point_lt};
 ghost use Rattle.sat_gear.specs.Gear.{drained_of};
 ghost use Rattle.sat_sink.specs.Pending.{least, promise_of};
 ghost use Rattle.sat_sink.specs.Sink.{after_emit, after_close, cut_of, fresh_sink, after_gather, may_pulse, pulse_of, after_pulse, ready_of, stable_of, AllAbove, IsDrain};
 
+use crate::given::goes_on;
 use crate::queue::{extend_all, extend_from, least_up_to, reserve_all, reserve_from};
 use sat_bulk::Drained;
 use sat_gear::Gear;
@@ -89,6 +91,21 @@ impl LabelSink {
             },
             pulse: 0,
         })
+    }
+
+    /// Whether `gather` may be handed this. It takes no memory.
+    pub fn may_gather(&self, drained: &[Drained]) -> bool
+        ensures { Decides result (IsDrain self.now drained.now) }
+    {
+        if drained.len() != self.promises.len() {
+            return false;
+        }
+        for (gear, given) in drained.iter().enumerate() {
+            if !goes_on(given, self.site, gear as u16, self.promises[gear]) {
+                return false;
+            }
+        }
+        true
     }
 
     /// Takes in what was drained from each gear, in their order: each gear's promise, which doesn't fall, and its new
