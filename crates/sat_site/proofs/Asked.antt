@@ -1,5 +1,5 @@
 -- Whether a site would do what it can be asked for.
-use Rattle.std.specs.Prelude.{◌≡◌, ℕ, Bool, true, false, ◌&&◌, Option, Some, None, is_none, is_some, if◌then◌else◌, refl}
+use Rattle.std.specs.Prelude.{◌≡◌, ℕ, Bool, true, false, ◌&&◌, ◌==◌, List, length, Option, Some, None, is_none, is_some, if◌then◌else◌, refl}
 use Rattle.std.proofs.Common.{ap, sym, ◌∙◌}
 use Rattle.sat_label.specs.declared.label.Kind.{Kind}
 use Rattle.sat_label.specs.declared.label.Kind.TheVariants.{Update, Move, Pulse, Close}
@@ -20,7 +20,14 @@ use Rattle.sat_proxy.specs.Steps.{has_come}
 use Rattle.sat_sink.specs.Sink.{ready_of}
 use Rattle.sat_site.specs.declared.input.SiteInput as code
 use Rattle.sat_site.specs.declared.input.SiteInput.TheVariants as input
-use Rattle.sat_site.specs.Inputs.{fits_here, fits_in, is_front_here}
+use Rattle.sat_label.specs.declared.carried.Carried.{Carried}
+use Rattle.sat_label.specs.declared.items.Items.{Items}
+use Rattle.sat_label.specs.Grouped.{list_of}
+use Rattle.sat_bulk.specs.Payloads.{Payload}
+use Rattle.sat_beat.specs.declared.Beat.{Beat}
+use Rattle.sat_sites.specs.declared.shape.Shape.{Shape}
+use Rattle.sat_machine.specs.Fits.{is_time}
+use Rattle.sat_site.specs.Inputs.{fits_here, fits_in, is_beat_here, is_bulk_here, is_carried_here, is_front_here, is_gear_here, is_group_here, is_item_here, is_other_here, is_site_here}
 use Rattle.sat_site.specs.Seen.{SiteSeen}
 use Rattle.sat_site.specs.SiteSteps.{emit_answer, may_turn, next_pulse, pulse_answer, site_answers}
 
@@ -103,3 +110,41 @@ stamp-would x = stamp-done x.views x.proxy
 pub advance-would : (x : SiteSeen) → is_none (advance_fault x.views (has_come x.views x.proxy)) ≡ would x input.Advance
 unfolding fits_here site_answers
 advance-would x = view-done (advance_fault x.views (has_come x.views x.proxy)) x.views.view
+
+-- ---- by what the code asks: s is the shape that it read
+
+pub asks-tick : (s : Shape) (x : SiteSeen) (g t : ℕ) (r : Bool) (given : code.SiteInput) → s ≡ x.shape → given ≡ input.Tick g t → r ≡ (is_gear_here s g && is_time t) → r ≡ fits_here x given
+unfolding fits_here
+asks-tick s x g t r given same is e = e ∙ (ap (λ (s : Shape). is_gear_here s g && is_time t) same ∙ ap (fits_here x) (sym is))
+
+pub asks-write : (s : Shape) (x : SiteSeen) (seen : Carried) (items : Items) (values : List (List ℕ)) (r : Bool) (given : code.SiteInput) → s ≡ x.shape → given ≡ input.Write seen items values → r ≡ (is_carried_here s seen && (is_group_here s items && (length values == length (list_of items)))) → r ≡ fits_here x given
+unfolding fits_here
+asks-write s x seen items values r given same is e = e ∙ (ap (λ (s : Shape). is_carried_here s seen && (is_group_here s items && (length values == length (list_of items)))) same ∙ ap (fits_here x) (sym is))
+
+pub asks-read : (s : Shape) (x : SiteSeen) (seen : Carried) (n : ℕ) (r : Bool) (given : code.SiteInput) → s ≡ x.shape → given ≡ input.Read seen n → r ≡ (is_carried_here s seen && is_item_here s n) → r ≡ fits_here x given
+unfolding fits_here
+asks-read s x seen n r given same is e = e ∙ (ap (λ (s : Shape). is_carried_here s seen && is_item_here s n) same ∙ ap (fits_here x) (sym is))
+
+pub asks-move : (s : Shape) (x : SiteSeen) (seen : Carried) (j : ℕ) (r : Bool) (given : code.SiteInput) → s ≡ x.shape → given ≡ input.Move seen j → r ≡ (is_carried_here s seen && is_site_here s j) → r ≡ fits_here x given
+unfolding fits_here
+asks-move s x seen j r given same is e = e ∙ (ap (λ (s : Shape). is_carried_here s seen && is_site_here s j) same ∙ ap (fits_here x) (sym is))
+
+pub asks-attach : (s : Shape) (x : SiteSeen) (seen : Carried) (r : Bool) (given : code.SiteInput) → s ≡ x.shape → given ≡ input.Attach seen → r ≡ (is_carried_here s seen) → r ≡ fits_here x given
+unfolding fits_here
+asks-attach s x seen r given same is e = e ∙ (ap (λ (s : Shape). is_carried_here s seen) same ∙ ap (fits_here x) (sym is))
+
+pub asks-beat : (s : Shape) (x : SiteSeen) (j : ℕ) (r : Bool) (given : code.SiteInput) → s ≡ x.shape → given ≡ input.Beat j → r ≡ (is_other_here s j) → r ≡ fits_here x given
+unfolding fits_here
+asks-beat s x j r given same is e = e ∙ (ap (λ (s : Shape). is_other_here s j) same ∙ ap (fits_here x) (sym is))
+
+pub asks-turn : (w x : SiteSeen) (l : Label) (r : Bool) (given : code.SiteInput) → w ≡ x → given ≡ input.Turn (Some l) → r ≡ (is_front_here w.shape w.views.view l) → r ≡ fits_here x given
+unfolding fits_here
+asks-turn w x l r given same is e = e ∙ (ap (λ (x : SiteSeen). is_front_here x.shape x.views.view l) same ∙ ap (fits_here x) (sym is))
+
+pub asks-bulk : (w x : SiteSeen) (from gear number : ℕ) (p : Payload) (r : Bool) (given : code.SiteInput) → w ≡ x → given ≡ input.Bulk from gear number p → r ≡ (is_bulk_here w.shape w.proxy from gear number p) → r ≡ fits_here x given
+unfolding fits_here
+asks-bulk w x from gear number p r given same is e = e ∙ (ap (λ (x : SiteSeen). is_bulk_here x.shape x.proxy from gear number p) same ∙ ap (fits_here x) (sym is))
+
+pub asks-beat-in : (w x : SiteSeen) (from number : ℕ) (beat : Beat) (r : Bool) (given : code.SiteInput) → w ≡ x → given ≡ input.BeatIn from number beat → r ≡ (is_other_here w.shape from && is_beat_here w.shape (length w.views.stamp) beat) → r ≡ fits_here x given
+unfolding fits_here
+asks-beat-in w x from number beat r given same is e = e ∙ (ap (λ (x : SiteSeen). is_other_here x.shape from && is_beat_here x.shape (length x.views.stamp) beat) same ∙ ap (fits_here x) (sym is))

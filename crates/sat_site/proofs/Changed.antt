@@ -1,36 +1,15 @@
--- A site whose sink, or whose gear, has changed is one.
-use Rattle.std.specs.Prelude.{◌≡◌, ◌<◌, ◌%◌, ◌==◌, ℕ, Bool, true, false, length, get_or, slice_get, Option, Some, if◌then◌else◌, refl}
+-- A site whose gear has changed is one.
+use Rattle.std.specs.Prelude.{◌≡◌, ◌<◌, ◌%◌, ◌==◌, ℕ, Bool, true, false, length, get_or, slice_get, Option, Some}
 use Rattle.std.proofs.Common.{subst, ap, sym, ◌∙◌}
 use Rattle.sat_label.specs.declared.carried.Carried.{Carried}
 use Rattle.sat_label.specs.declared.label.Kind.TheVariants.{Move}
-use Rattle.sat_label.specs.declared.point.Point.{Point}
 use Rattle.sat_label.specs.Versions.{Version}
-use Rattle.sat_epoch.specs.Epochs.{Epochs, IsEpochs, after_close}
 use Rattle.sat_gear.specs.Gear.{GearSeen, IsGear, after_show, is_spent, stamped}
-use Rattle.sat_sink.specs.Sink.{Sink, after_close as sink_closed, after_pulse, cut_of, may_pulse}
 use Rattle.sat_site.specs.Seen.{SiteSeen, IsGearAt, IsSite}
 use Rattle.sat_site.specs.Changes.{gear_at, with_gear, HasGear}
 use Rattle.sat_site.specs.SiteSteps.{keeps_item, move_after, moved_gear, shown_at, shown_by, shown_version}
 use Rattle.sat_site.proofs.Deeds.{at-place}
-use Rattle.sat_site.proofs.Sound.{cut-site, moved-gear as moved-at, pulsed-site, shown-gear, sink-site, views-site, with-gear-site}
-
--- ---- the sink
-
-pub pulse-site : (w : SiteSeen) (s : Sink) → IsSite w → s ≡ (if may_pulse w.sink then after_pulse w.sink else w.sink) → IsSite (record w { sink = s })
-pulse-site w s k e = subst (λ (t : Sink). IsSite (record w { sink = t })) (sym e) (go (may_pulse w.sink))
-  where
-    go : (b : Bool) → IsSite (record w { sink = if b then after_pulse w.sink else w.sink })
-    go true = pulsed-site w k
-    go false = k
-
-closed-sink : (w : SiteSeen) → IsSite w → IsSite (record w { sink = sink_closed w.sink })
-closed-sink w k = sink-site w (sink_closed w.sink) k (record { own = k.sink.own; promises = k.sink.promises; rows = k.sink.rows; last = cut-site w k }) (λ g. refl) (λ g m i. i)
-
-pub close-site : (w : SiteSeen) (v : Epochs) (s : Sink) (cut : Point) → IsSite w → IsEpochs v → cut ≡ cut_of w.sink → v ≡ after_close w.views cut → s ≡ sink_closed w.sink → IsSite (record w { views = v; sink = s })
-close-site w v s cut k epochs at closed e =
-    let y : IsSite (record w { sink = sink_closed w.sink }) = closed-sink w k in
-    subst (λ (t : Sink). IsSite (record w { views = v; sink = t })) (sym e)
-    (views-site (record w { sink = sink_closed w.sink }) v y (record { sound = epochs; own = ap (λ (x : Epochs). x.site) closed ∙ k.views.own; heard = ap (λ (x : Epochs). length x.heard) closed ∙ k.views.heard }) (ap (λ (x : Epochs). length x.stamp) closed))
+use Rattle.sat_site.proofs.Sound.{moved-gear as moved-at, shown-gear, with-gear-site}
 
 -- ---- a gear
 

@@ -1,5 +1,5 @@
 -- What the code read and wrote in an act. Here w is what the code found, and v the same by its name.
-use Rattle.std.specs.Prelude.{◌≡◌, ◌<◌, ◌≤◌, ◌%◌, ◌^◌, ℕ, Bool, true, false, zero, suc, max, List, [], ◌∷◌, length, map, set, get_or, if◌then◌else◌, Option, Some, None, MatchOption, refl}
+use Rattle.std.specs.Prelude.{◌≡◌, ◌<◌, ◌%◌, ℕ, Bool, true, false, zero, suc, max, List, [], ◌∷◌, length, map, set, get_or, Some, None, refl}
 use Rattle.std.specs.List.{flat_map, list_all}
 use Rattle.std.proofs.Common.{subst, ap, sym, ◌∙◌, arith}
 use Rattle.std.proofs.lemmas.Bool.{and_parts, false_from_ne_true, true_from_ne_false}
@@ -19,23 +19,24 @@ use Rattle.sat_label.specs.declared.label.Kind.TheVariants.{Update}
 use Rattle.sat_label.specs.declared.point.Point.{Point}
 use Rattle.sat_label.specs.Grouped.{least_item, list_of}
 use Rattle.sat_bulk.specs.Payloads.{Payload}
-use Rattle.sat_sites.specs.Interested.{keeps, AreBelow, IsLabelOf}
+use Rattle.sat_sites.specs.Interested.{keeps, AreBelow}
 use Rattle.sat_sites.specs.declared.shape.Shape.{Shape}
 use Rattle.sat_label.specs.Versions.{Version}
 use Rattle.sat_gear.specs.Gear.{GearSeen, AreItemsOf, IsGear, IsItemOf, after_tick, after_write, payload_with, stamped, is_spent, after_drain, drained_of, version_of}
 use Rattle.sat_sink.specs.Pending.{promise_of, least}
-use Rattle.sat_sink.specs.Sink.{Sink, after_emit_of, after_gather, ready_of, stable_of, after_emit}
 use Rattle.sat_act.specs.declared.answer.Answer.{Answer}
 use Rattle.sat_act.specs.declared.answer.Answer.TheVariants as ans
 use Rattle.sat_act.specs.declared.answer.Refusal.TheVariants as why
 use Rattle.sat_site.specs.declared.input.SiteInput as code
 use Rattle.sat_site.specs.declared.input.SiteInput.TheVariants as input
 use Rattle.sat_site.specs.Inputs.{fits_in}
-use Rattle.sat_site.specs.Seen.{SiteSeen, AreGears, IsSite, IsGearAt}
-use Rattle.sat_site.specs.Changes.{with_gear, counts_of, gathered_all, gear_for, ticked_to, fresh_of, HasGear}
-use Rattle.sat_site.specs.Does.{Does, Stamps, stamps_none, stamps_short, stamps, ticks, gathers, idles, emits, Writes, spends, writes, Reads, reads_none, reads}
+use Rattle.sat_hub.specs.Changes.{gathered}
+use Rattle.sat_hub.specs.Seen.{HubSeen}
+use Rattle.sat_site.specs.Seen.{SiteSeen, AreGears, IsSite, IsGearAt, site_of}
+use Rattle.sat_site.specs.Changes.{with_gear, gathered_all, gear_for, ticked_to, fresh_of, HasGear}
+use Rattle.sat_site.specs.Does.{Does, Stamps, stamps_none, stamps_short, stamps, ticks, gathers, Writes, spends, writes, Reads, reads_none, reads}
 use Rattle.sat_site.specs.SiteSteps.{keeps_each, keeps_item, shown_parts, written}
-use Rattle.sat_site.proofs.Sound.{with-gear-site, ticked-gear, wrote-gear, gathered-site, sent-site, ready-here, label-here, clocked-site}
+use Rattle.sat_site.proofs.Sound.{with-gear-site, ticked-gear, wrote-gear, clocked-site}
 
 pub at-place : (x : SiteSeen) (g : ℕ) (gear : GearSeen) → g < length x.gears → gear ≡ get_or x.gears g gear → HasGear x g gear
 at-place x g gear lt e = slice_get_read x.gears (length x.gears) g gear refl lt e
@@ -185,47 +186,12 @@ short-writes x seen items values r y (stamps gear at good e) is = absurd (cc)
 
 -- ---- gather
 
-pub gather-site : (w : SiteSeen) (gears : List GearSeen) (s : Sink) (counts : List (List ℕ)) → IsSite w → gears ≡ map after_drain w.gears → s ≡ after_gather w.sink (map drained_of w.gears) → counts ≡ map counts_of (map drained_of w.gears) → AreGears gears →
-    IsSite (record w { gears = gears; sink = s; counts = counts })
-gather-site w gears s counts k e f c good = subst (λ (q : SiteSeen). IsSite q) (λ j. record w { gears = sym e j; sink = sym f j; counts = sym c j }) (gathered-site w k (subst AreGears e good))
-
-pub did-gather : (w v : SiteSeen) (gears : List GearSeen) (s : Sink) (counts : List (List ℕ)) (n t : ℕ) → w ≡ v → gears ≡ map after_drain w.gears → s ≡ after_gather w.sink (map drained_of w.gears) → counts ≡ map counts_of (map drained_of w.gears) →
-    n ≡ length (flat_map fresh_of w.gears) → t ≡ stable_of s → Does v input.Gather (ans.Gathered n t) (record w { gears = gears; sink = s; counts = counts })
-did-gather w v gears s counts n t same e f c count q =
-    let low : t ≡ least (map promise_of (map drained_of w.gears)) = q ∙ ap stable_of f in
-    subst (λ (x : SiteSeen). Does x input.Gather (ans.Gathered n t) (record w { gears = gears; sink = s; counts = counts })) same
-    (subst (λ (y : SiteSeen). Does w input.Gather (ans.Gathered n t) y) (λ j. record w { gears = sym e j; sink = sym f j; counts = sym c j })
-    (subst (λ (r : Answer). Does w input.Gather r (gathered_all w)) (λ j. ans.Gathered (sym count j) (sym low j)) gathers))
-
--- ---- emit
-
-pub did-idle : (w v : SiteSeen) (s : Sink) (o : Option Label) → w ≡ v → o ≡ ready_of w.sink → o ≡ None → s ≡ after_emit w.sink → Does v input.Emit (ans.Refused why.Idle) (record w { sink = s })
-did-idle w v s o same e f h =
-    let none : ready_of w.sink ≡ None = sym e ∙ f in
-    let still : s ≡ w.sink = h ∙ ap (λ (o : Option Label). elim o [ None ↦ w.sink | Some l ↦ after_emit_of w.sink l ]) none in
-    subst (λ (x : SiteSeen). Does x input.Emit (ans.Refused why.Idle) (record w { sink = s })) same
-    (subst (λ (t : Sink). Does w input.Emit (ans.Refused why.Idle) (record w { sink = t })) (sym still) (idles none))
-
-emitted-is : (w : SiteSeen) (s : Sink) (o : Option Label) (l : Label) → o ≡ ready_of w.sink → o ≡ Some l → s ≡ after_emit w.sink → s ≡ after_emit_of w.sink l
-emitted-is w s o l e f h = h ∙ ap (λ (o : Option Label). elim o [ None ↦ w.sink | Some l ↦ after_emit_of w.sink l ]) (sym e ∙ f)
-
-pub emit-site : (w : SiteSeen) (s : Sink) (o : Option Label) (l : Label) → IsSite w → o ≡ ready_of w.sink → o ≡ Some l → s ≡ after_emit w.sink → IsSite (record w { sink = s })
-emit-site w s o l k e f h = subst (λ (t : Sink). IsSite (record w { sink = t })) (sym (emitted-is w s o l e f h)) (sent-site w l k (ready-here w l k (sym e ∙ f)).site)
-
--- the labels that the site may send
-pub emit-label : (w v : SiteSeen) (o : Option Label) → w ≡ v → IsSite w → o ≡ ready_of w.sink → (l : Label) → o ≡ Some l → IsLabelOf v.shape.interest l
-emit-label w v o same k e l f = subst (λ (x : SiteSeen). IsLabelOf x.shape.interest l) same (label-here w l k (ready-here w l k (sym e ∙ f)))
-
-pub did-emit : (w v : SiteSeen) (s : Sink) (o : Option Label) (l : Label) → w ≡ v → o ≡ ready_of w.sink → o ≡ Some l → s ≡ after_emit w.sink → Does v input.Emit (ans.Emitted l) (record w { sink = s })
-did-emit w v s o l same e f h =
-    subst (λ (x : SiteSeen). Does x input.Emit (ans.Emitted l) (record w { sink = s })) same
-    (subst (λ (t : Sink). Does w input.Emit (ans.Emitted l) (record w { sink = t })) (sym (emitted-is w s o l e f h)) (emits (sym e ∙ f)))
-
--- ---- steps of the code
-
-pub counted : (o : Option ℕ) (n m : ℕ) → MatchOption o (2 ^ 64 ≤ m) (λ count. count ≡ m) → o ≡ Some n → n ≡ m
-counted None n m h e = absurd (cc)
-counted (Some k) n m h e = let q : k ≡ n = cc in sym q ∙ h
+pub did-gather : (h n : HubSeen) (v : SiteSeen) (old gears : List GearSeen) (count t : ℕ) → site_of h old ≡ v → gears ≡ map after_drain old → n ≡ gathered h (map drained_of old) → count ≡ length (flat_map fresh_of old) → t ≡ least (map promise_of (map drained_of old)) →
+    Does v input.Gather (ans.Gathered count t) (site_of n gears)
+did-gather h n v old gears count t same drained is many low =
+    subst (λ (x : SiteSeen). Does x input.Gather (ans.Gathered count t) (site_of n gears)) same
+    (subst (λ (y : SiteSeen). Does (site_of h old) input.Gather (ans.Gathered count t) y) (λ j. site_of (sym is j) (sym drained j))
+    (subst (λ (r : Answer). Does (site_of h old) input.Gather r (gathered_all (site_of h old))) (λ j. ans.Gathered (sym many j) (sym low j)) gathers))
 
 -- ---- clock
 

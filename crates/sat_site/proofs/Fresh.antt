@@ -1,42 +1,31 @@
 -- A site at which nothing has happened.
-use Rattle.std.specs.Prelude.{◌≡◌, ◌⊎◌, ◌<◌, ◌≤◌, ◌-◌, ◌/◌, ◌^◌, ℕ, zero, suc, Bool, true, false, ◌==◌, if◌then◌else◌, is_none, List, [], ◌∷◌, ◌++◌, length, map, replicate, get_or, Option, Some, None, slice_get, refl}
+use Rattle.std.specs.Prelude.{◌≡◌, ◌⊎◌, ◌<◌, ◌≤◌, ◌-◌, ◌/◌, ℕ, zero, suc, Bool, true, false, ◌==◌, if◌then◌else◌, is_none, List, [], ◌∷◌, ◌++◌, length, map, replicate, get_or, Option, Some, None, slice_get, refl}
 use Rattle.std.proofs.Common.{subst, ap, sym, ◌∙◌, arith, inl, inr}
-use Rattle.std.proofs.lemmas.List.{length-map, length-replicate}
+use Rattle.std.proofs.lemmas.List.{length-map}
 use Rattle.sat_label.proofs.Numbers.{length-below}
-use Rattle.sat_label.specs.declared.label.Label.{Label}
 use Rattle.sat_label.specs.Words.{below}
-use Rattle.sat_bulk.specs.Payloads.{Payload}
-use Rattle.sat_label.specs.Members.{In}
-use Rattle.sat_sites.specs.Interested.{IsInterest}
 use Rattle.sat_sites.specs.declared.shape.Shape.{Shape}
 use Rattle.sat_gear.specs.Gear.{GearSeen, IsShape, fresh_gear, version_of, places}
-use Rattle.sat_sink.specs.Sink.{Sink, fresh_sink}
+use Rattle.sat_sink.specs.Sink.{fresh_sink}
 use Rattle.sat_tree.specs.Shape.{TreeShape}
 use Rattle.sat_act.specs.declared.deployment.Plan.{Plan}
 use Rattle.sat_act.specs.declared.deployment.Plan.TheVariants as plan
 use Rattle.sat_act.specs.Answers.{gear_of}
 use Rattle.sat_act.specs.Deployed.{Deployed}
-use Rattle.sat_act.specs.Limits.{IsDeployment}
 use Rattle.sat_act.specs.Parts.{planned_tree, tree_of}
 use Rattle.sat_machine.specs.State.{fresh_site}
 use Rattle.std.proofs.lemmas.Bool.{ne_eqb}
 use Rattle.sat_label.specs.declared.point.Point.{Point}
-use Rattle.sat_beat.specs.declared.Beat.{Beat}
-use Rattle.sat_pool.proofs.Members.{none-all}
-use Rattle.sat_proxy.specs.Proxy.{ProxySeen, IsProxy, fresh_proxy, note_of}
+use Rattle.sat_proxy.specs.Proxy.{fresh_proxy, note_of}
 use Rattle.sat_proxy.specs.Stands.{StandsProxy}
 use Rattle.sat_proxy.specs.Laws.{Starts}
-use Rattle.sat_epoch.specs.Epochs.{Epochs, IsEpochs, first_epochs}
-use Rattle.sat_machine.specs.Interests.{replicas_of}
-use Rattle.sat_site.specs.Seen.{SiteSeen, AreGears, IsSite, IsGearAt}
+use Rattle.sat_hub.specs.Changes as hub
+use Rattle.sat_hub.specs.Seen.{HubSeen, IsHub}
+use Rattle.sat_hub.proofs.Fresh.{always, none-pending}
+use Rattle.sat_site.specs.Seen.{SiteSeen, AreGears, IsSite, IsGearAt, site_of}
 use Rattle.sat_site.specs.Changes.{fresh_seen, is_stamp_plan, new_site, shape_for}
 use Rattle.sat_site.specs.Stands.{StandsSite, StandsGear, version_seen}
-use Rattle.sat_site.proofs.Lists.{map-cases, Mapped}
-
-always : {X : Type 0} (n i : ℕ) (x : X) → get_or (replicate n x) i x ≡ x
-always zero i x = refl
-always (suc n) zero x = refl
-always (suc n) (suc i) x = always n i x
+use Rattle.sat_hub.proofs.Lists.{map-cases, Mapped}
 
 below-at : (n g k : ℕ) → slice_get (below n) g ≡ Some k → k ≡ g
 below-at zero g k e = absurd (cc)
@@ -57,9 +46,6 @@ fresh-at shape g gear at =
 no-version : (shape : Shape) (g n : ℕ) → version_of (fresh_gear shape g) n ≡ None
 no-version shape g n = always (places (length shape.interest.replicas) shape.gears) (n / shape.gears) None
 
-none-pending : (n g : ℕ) (l : Label) → In (get_or (replicate n []) g []) l → ⊥
-none-pending n g l i = subst (λ (ls : List Label). In ls l) (always n g []) i
-
 pub fresh-gear-site : (shape : Shape) (g : ℕ) (gear : GearSeen) → fresh_gear shape g ≡ gear → IsGearAt shape (fresh_sink shape.site shape.gears) g gear
 fresh-gear-site shape g gear e = subst (IsGearAt shape (fresh_sink shape.site shape.gears) g) e (record {
   shape = refl;
@@ -69,29 +55,33 @@ fresh-gear-site shape g gear e = subst (IsGearAt shape (fresh_sink shape.site sh
   pending = λ l i. absurd (none-pending shape.gears g l i);
 })
 
-no-beat : (n j m : ℕ) (beat : Beat) → slice_get (get_or (replicate n []) j []) m ≡ Some beat → ⊥
-no-beat n j m beat at = let none : slice_get {X = Beat} [] m ≡ Some beat = subst (λ (bs : List Beat). slice_get bs m ≡ Some beat) (always n j []) at in cc
+-- the shape of a hub is one of a site
+pub hub-shape : (h : HubSeen) (shape : Shape) → IsHub h → shape ≡ h.shape → IsShape shape
+hub-shape h shape k e = subst IsShape (sym e) k.shape
 
-pub fresh-is : (shape : Shape) (stamp : List Bool) → IsShape shape → AreGears (map (fresh_gear shape) (below shape.gears)) → IsEpochs (first_epochs shape.sites shape.site stamp) → IsProxy (fresh_proxy shape.sites shape.gears shape.site) → IsSite (fresh_seen shape stamp)
-fresh-is shape stamp k good epochs proxy = record {
-  shape = k;
+fresh-is : (shape : Shape) (stamp : List Bool) → IsHub (hub.fresh_hub shape stamp) → AreGears (map (fresh_gear shape) (below shape.gears)) → IsSite (fresh_seen shape stamp)
+fresh-is shape stamp k good = record {
+  shape = k.shape;
   gears = record {
     count = length-map (below shape.gears) (fresh_gear shape) ∙ length-below shape.gears;
     each = λ g gear at. fresh-gear-site shape g gear (fresh-at shape g gear at);
     are = good;
   };
-  sink = record { own = refl; promises = length-replicate shape.gears 0; rows = length-replicate shape.gears []; last = refl };
-  counts = length-replicate shape.gears [];
-  views = record { sound = epochs; own = refl; heard = length-replicate shape.sites false };
-  proxy = record { sound = proxy; sites = refl; gears = refl; own = refl; waiting = λ p i. absurd (subst (λ (ps : List Payload). In ps p) (none-all shape.sites) i) };
-  made = record { count = length-replicate shape.sites []; each = λ j n beat at. absurd (no-beat shape.sites j n beat at) };
+  sink = k.sink;
+  counts = k.counts;
+  views = k.views;
+  proxy = k.proxy;
+  made = k.made;
 }
 
-pub fresh-site : (shape : Shape) (stamp : List Bool) (gears : List GearSeen) (s : Sink) (counts : List (List ℕ)) (views : Epochs) (proxy : ProxySeen) (made : List (List Beat)) → IsShape shape → AreGears gears → IsEpochs views → IsProxy proxy →
-    gears ≡ map (fresh_gear shape) (below shape.gears) → s ≡ fresh_sink shape.site shape.gears → counts ≡ replicate shape.gears [] → views ≡ first_epochs shape.sites shape.site stamp → proxy ≡ fresh_proxy shape.sites shape.gears shape.site → made ≡ replicate shape.sites [] →
-    IsSite (record { shape = shape; gears = gears; sink = s; counts = counts; views = views; proxy = proxy; made = made })
-fresh-site shape stamp gears s counts views proxy made k good epochs sound e f c v p m =
-    subst IsSite (λ j. record { shape = shape; gears = sym e j; sink = sym f j; counts = sym c j; views = sym v j; proxy = sym p j; made = sym m j }) (fresh-is shape stamp k (subst AreGears e good) (subst IsEpochs v epochs) (subst IsProxy p sound))
+-- the gears of a new hub's shape
+gears-are : (d : Deployed) (i : ℕ) (h : HubSeen) (shape : Shape) (gears : List GearSeen) → h ≡ hub.new_hub d i → shape ≡ h.shape → gears ≡ map (fresh_gear shape) (below shape.gears) → gears ≡ map (fresh_gear (shape_for d i)) (below d.gears)
+gears-are d i h shape gears is same e = e ∙ ap (λ (s : Shape). map (fresh_gear s) (below s.gears)) (same ∙ ap (λ (y : HubSeen). y.shape) is)
+
+pub fresh-site : (d : Deployed) (i : ℕ) (h : HubSeen) (shape : Shape) (gears : List GearSeen) → IsHub h → h ≡ hub.new_hub d i → shape ≡ h.shape → gears ≡ map (fresh_gear shape) (below shape.gears) → AreGears gears → IsSite (site_of h gears)
+fresh-site d i h shape gears k is same e good =
+    let all : gears ≡ map (fresh_gear (shape_for d i)) (below d.gears) = gears-are d i h shape gears is same e in
+    subst IsSite (λ j. site_of (sym is j) (sym all j)) (fresh-is (shape_for d i) (map is_stamp_plan d.plans) (subst IsHub is k) (subst AreGears all good))
 
 fresh-stands-gear : (d : Deployed) (shape : Shape) (g : ℕ) (gear : GearSeen) → fresh_gear shape g ≡ gear → StandsGear d gear (record { promise = 0; fresh = []; lanes = λ j. [] })
 fresh-stands-gear d shape g gear e = subst (λ (y : GearSeen). StandsGear d y (record { promise = 0; fresh = []; lanes = λ j. [] })) e (record { promise = refl; fresh = refl; lanes = λ j lt. always shape.sites j [] })
@@ -149,18 +139,9 @@ fresh-stands d i shape starts e = record {
   made = λ j lt. ap (map note_of) (always shape.sites j []);
 }
 
-pub shape-sound : (d : Deployed) (i : ℕ) (shape : Shape) → IsDeployment d → i < d.sites → IsInterest shape.interest → shape ≡ shape_for d i → IsShape shape
-shape-sound d i shape limits lt a e = record {
-  interest = a;
-  sites = (λ j. (e j).interest.sites) ∙ (λ j. (sym e j).sites);
-  site = subst (λ (s : Shape). s.site < s.sites) (sym e) lt;
-  gears = subst (λ (s : Shape). 0 < s.gears) (sym e) limits.some_gear;
-  items = subst (λ (s : Shape). length s.interest.replicas < 2 ^ 16) (sym e) (let few = limits.few_items in omega (arith, length-map d.items replicas_of));
-}
+pub made-same : (d : Deployed) (i : ℕ) (h : HubSeen) (shape : Shape) (gears : List GearSeen) → h ≡ hub.new_hub d i → shape ≡ h.shape → gears ≡ map (fresh_gear shape) (below shape.gears) → site_of h gears ≡ new_site d i
+made-same d i h shape gears is same e = λ j. site_of (is j) (gears-are d i h shape gears is same e j)
 
-pub made-same : (d : Deployed) (i : ℕ) (shape : Shape) (stamp : List Bool) (made : SiteSeen) → shape ≡ shape_for d i → stamp ≡ map is_stamp_plan d.plans → made ≡ fresh_seen shape stamp → made ≡ new_site d i
-made-same d i shape stamp made e f g = g ∙ (λ j. fresh_seen (e j) (f j))
-
-pub made-stands : (d : Deployed) (i : ℕ) (shape : Shape) (stamp : List Bool) (made : SiteSeen) → Starts → shape ≡ shape_for d i → stamp ≡ map is_stamp_plan d.plans → made ≡ fresh_seen shape stamp → StandsSite d i made (fresh_site i)
-made-stands d i shape stamp made starts e f g =
-    subst (λ (x : SiteSeen). StandsSite d i x (fresh_site i)) (sym (g ∙ ap (fresh_seen shape) f)) (fresh-stands d i shape starts e)
+pub made-stands : (d : Deployed) (i : ℕ) (h : HubSeen) (shape : Shape) (gears : List GearSeen) → Starts → h ≡ hub.new_hub d i → shape ≡ h.shape → gears ≡ map (fresh_gear shape) (below shape.gears) → StandsSite d i (site_of h gears) (fresh_site i)
+made-stands d i h shape gears starts is same e =
+    subst (λ (x : SiteSeen). StandsSite d i x (fresh_site i)) (sym (made-same d i h shape gears is same e)) (fresh-stands d i (shape_for d i) starts refl)

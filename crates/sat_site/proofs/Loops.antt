@@ -11,7 +11,7 @@ use Rattle.sat_label.specs.declared.label.Label.{Label}
 use Rattle.sat_gear.specs.Gear.{GearSeen, IsGear, fresh_gear}
 use Rattle.sat_sites.specs.declared.shape.Shape.{Shape}
 use Rattle.sat_site.specs.Changes.{fresh_of}
-use Rattle.sat_site.proofs.Lists.{get-default}
+use Rattle.sat_hub.proofs.Lists.{get-default}
 
 pub fresh_more : (shape : Shape) (n : ℕ) → map (fresh_gear shape) (below (n + 1)) ≡ map (fresh_gear shape) (below n) ++ fresh_gear shape n ∷ []
 fresh_more shape n = let e : n + 1 ≡ suc n = omega arith in ap (λ (m : ℕ). map (fresh_gear shape) (below m)) e ∙ map-append (fresh_gear shape) (below n) (n ∷ [])

@@ -21,7 +21,7 @@ use Rattle.sat_site.specs.Seen.{SiteSeen, IsSite}
 use Rattle.sat_site.specs.Stands.{StandsSite, StandsGear}
 use Rattle.sat_site.specs.Changes.{with_gear, HasGear}
 use Rattle.sat_site.specs.SiteSteps.{move_answer, move_after, moved_answer, moved_gear}
-use Rattle.sat_site.proofs.Lists.{chosen, passed}
+use Rattle.sat_hub.proofs.Lists.{chosen, passed}
 use Rattle.sat_site.proofs.Gathers.{each-gear}
 use Rattle.sat_site.proofs.Parts.{gears-set, site-is, store-set}
 use Rattle.sat_site.proofs.Still.{refuses}

@@ -11,7 +11,7 @@ use Rattle.sat_site.specs.Changes.{gear_at}
 use Rattle.sat_site.specs.Seen.{SiteSeen}
 use Rattle.sat_site.specs.Stands.{StandsSite, StandsGear, StandsGears, StandsStore, version_seen}
 use Rattle.sat_site.proofs.Interests.{items-are}
-use Rattle.sat_site.proofs.Lists.{set-cases, map-cases, Mapped}
+use Rattle.sat_hub.proofs.Lists.{set-cases, map-cases, Mapped}
 
 -- ---- the shape
 

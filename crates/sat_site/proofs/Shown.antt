@@ -22,7 +22,7 @@ use Rattle.sat_site.specs.SiteSteps.{keeps_item}
 use Rattle.sat_site.specs.Gives.{IsOfLane}
 use Rattle.sat_site.proofs.Interests.{keeps-here}
 use Rattle.sat_site.proofs.Parts.{sites-are}
-use Rattle.sat_site.proofs.Lists.{same-get}
+use Rattle.sat_hub.proofs.Lists.{same-get}
 use Rattle.sat_site.proofs.Writes.{shows-none, shows-some}
 
 pub no-version : (d : Deployed) (i : ℕ) (x : SiteSeen) (s : SiteState) (g n : ℕ) (gear : GearSeen) → HasGear x g gear → g ≡ n % x.shape.gears → n < length x.shape.interest.replicas → keeps_item x n ≡ true → StandsSite d i x s → version_of gear n ≡ None → s.store n ≡ None

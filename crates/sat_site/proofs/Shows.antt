@@ -36,7 +36,7 @@ use Rattle.sat_site.specs.Stands.{StandsSite, StandsGear, StandsGears, StandsSto
 use Rattle.sat_site.specs.Changes.{shape_for}
 use Rattle.sat_site.specs.SiteSteps.{shown_at, shown_by, shown_each, shown_of}
 use Rattle.sat_site.proofs.Interests.{items-are, keeps-is}
-use Rattle.sat_site.proofs.Lists.{get-is, passed, set-cases}
+use Rattle.sat_hub.proofs.Lists.{get-is, passed, set-cases}
 use Rattle.sat_site.proofs.Parts.{gears-set, store-set}
 use Rattle.sat_site.proofs.Stores.{newer-stored}
 

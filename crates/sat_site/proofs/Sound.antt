@@ -1,5 +1,5 @@
 -- What is true of each site stays so.
-use Rattle.std.specs.Prelude.{◌≡◌, ◌<◌, ◌≤◌, ◌-◌, ℕ, zero, suc, Bool, true, false, ◌==◌, ◌&&◌, not, List, [], ◌∷◌, length, map, set, get_or, filter, Option, Some, None, slice_get, if◌then◌else◌, refl}
+use Rattle.std.specs.Prelude.{◌≡◌, ◌<◌, ◌≤◌, ℕ, zero, suc, Bool, true, false, ◌==◌, ◌&&◌, not, List, [], ◌∷◌, length, map, set, get_or, Some, slice_get, refl}
 use Rattle.std.proofs.Common.{subst, ap, sym, ◌∙◌, inl, inr}
 use Rattle.std.proofs.lemmas.List.{length-map, length-set}
 use Rattle.sat_site.proofs.Equals.{eqb-self, eqb-comm}
@@ -9,25 +9,20 @@ use Rattle.sat_label.specs.declared.label.Kind.{Kind}
 use Rattle.sat_label.specs.declared.label.Kind.TheVariants.{Update, Move}
 use Rattle.sat_label.specs.declared.point.Point.{Point}
 use Rattle.sat_label.specs.Grouped.{list_of}
-use Rattle.sat_label.specs.Order.{greater_point, label_eq, mark, point_lt}
 use Rattle.sat_bulk.specs.declared.Drained.{Drained}
 use Rattle.sat_label.specs.Members.{In}
 use Rattle.sat_bulk.specs.Drains.{IsNew}
-use Rattle.sat_label.proofs.Members.{In-parts, In-filter}
+use Rattle.sat_label.proofs.Members.{In-parts}
 use Rattle.sat_sites.specs.declared.shape.Shape.{Shape}
-use Rattle.sat_sites.specs.Interested.{Interested, IsLabelOf, is_for, keeps_one, AreBelow}
+use Rattle.sat_sites.specs.Interested.{Interested, is_for, keeps_one, AreBelow}
 use Rattle.sat_label.specs.Versions.{Version}
 use Rattle.sat_gear.specs.Gear.{GearSeen, IsGear, after_tick, after_move, after_write, after_show, payload_with, stamped, after_drain, drained_of}
-use Rattle.sat_sink.specs.Pending.{labels_of, promise_of, is_up_to, all_of}
-use Rattle.sat_sink.specs.Sink.{Sink, IsDrain, IsDrainOf, after_emit_of, after_gather, after_pulse, cut_of, pulse_of, ready_of, stable_of}
-use Rattle.sat_epoch.specs.Epochs.{Epochs}
-use Rattle.sat_proxy.specs.Proxy.{ProxySeen}
-use Rattle.sat_label.proofs.Least.{IsLeast, least-is}
-use Rattle.sat_sink.proofs.Queues.{In-all, Place, joined-get, length-joined, without-get}
-use Rattle.sat_site.specs.Seen.{SiteSeen, AreGears, HasEpochs, HasPeers, HasSink, IsSite, IsGearAt, IsMadeHere}
-use Rattle.sat_site.specs.SiteSteps.{close_label}
-use Rattle.sat_site.specs.Changes.{with_gear, gathered_all, sent, pulsed, counts_of, clocked, ticked_to, HasGear}
-use Rattle.sat_site.proofs.Lists.{set-cases, map-cases, Mapped, get-within}
+use Rattle.sat_sink.specs.Pending.{labels_of, promise_of}
+use Rattle.sat_sink.specs.Sink.{Sink, IsDrain, IsDrainOf, after_gather}
+use Rattle.sat_sink.proofs.Queues.{joined-get, length-joined}
+use Rattle.sat_site.specs.Seen.{SiteSeen, AreGears, IsSite, IsGearAt, IsMadeHere}
+use Rattle.sat_site.specs.Changes.{with_gear, gathered_all, counts_of, clocked, ticked_to, HasGear}
+use Rattle.sat_hub.proofs.Lists.{set-cases, map-cases, Mapped, get-within}
 use Rattle.sat_site.proofs.Gathers.{promise-at, labels-at, each-gear, length-drained}
 
 -- ---- one gear
@@ -189,86 +184,4 @@ gathered-site x k good = record {
   views = k.views;
   proxy = k.proxy;
   made = k.made;
-}
-
--- ---- what is sent
-
--- a sink with other labels sent, whose pending ones are some of those that were
-pub sink-site : (x : SiteSeen) (s : Sink) → IsSite x → HasSink x.shape s → ((g : ℕ) → get_or s.promises g 0 ≡ get_or x.sink.promises g 0) → ((g : ℕ) (l : Label) → In (get_or s.pending g []) l → In (get_or x.sink.pending g []) l) → IsSite (record x { sink = s })
-sink-site x s k has same some = record {
-  shape = k.shape;
-  gears = record {
-    count = k.gears.count;
-    each = λ g gear at.
-        let a : IsGearAt x.shape x.sink g gear = k.gears.each g gear at in
-        record { shape = a.shape; number = a.number; gathered = same g ∙ a.gathered; fresh = a.fresh; pending = λ m i. a.pending m (some g m i) };
-    are = k.gears.are;
-  };
-  sink = has;
-  counts = k.counts;
-  views = k.views;
-  proxy = k.proxy;
-  made = k.made;
-}
-
--- a pending label is one that the site made
-pub ready-here : (x : SiteSeen) (l : Label) → IsSite x → ready_of x.sink ≡ Some l → IsMadeHere x.shape l
-ready-here x l k e =
-    let w : IsLeast (is_up_to (stable_of x.sink)) (all_of x.sink.pending) l = least-is (is_up_to (stable_of x.sink)) (all_of x.sink.pending) l e in
-    let p : Place x.sink.pending l = In-all x.sink.pending l w.member in
-    let y = each-gear x p.gear (subst (λ (n : ℕ). p.gear < n) (k.sink.rows ∙ sym k.gears.count) p.within) in
-    (k.gears.each p.gear y.0 y.1).pending l p.there
-
-own-here : (x : SiteSeen) (n : ℕ) → IsSite x → n ≡ x.shape.site → n < x.shape.interest.sites
-own-here x n k e = subst (λ (n : ℕ). n < x.shape.interest.sites) (sym e) (subst (λ (n : ℕ). x.shape.site < n) (sym k.shape.sites) k.shape.site)
-
-pub label-here : (x : SiteSeen) (l : Label) → IsSite x → IsMadeHere x.shape l → IsLabelOf x.shape.interest l
-label-here x l k u = record { own = own-here x l.point.site k u.site; kind = u.kind }
-
--- a pulse and a close of the site
-pub pulse-here : (x : SiteSeen) → IsSite x → IsLabelOf x.shape.interest (pulse_of x.sink)
-pulse-here x k = record { own = own-here x x.sink.site k k.sink.own; kind = tt }
-
-pub close-here : (x : SiteSeen) → IsSite x → (cut_of x.sink).site ≡ x.shape.site → IsLabelOf x.shape.interest (close_label x)
-close-here x k e = record { own = own-here x (cut_of x.sink).site k e; kind = tt }
-
-pub sent-site : (x : SiteSeen) (l : Label) → IsSite x → l.point.site ≡ x.shape.site → IsSite (sent x l)
-sent-site x l k own = sink-site x (after_emit_of x.sink l) k (record { own = k.sink.own; promises = k.sink.promises; rows = length-map x.sink.pending (filter (λ m. not (label_eq l m))) ∙ k.sink.rows; last = own }) (λ g. refl)
-    (λ g m i. (In-filter (λ m. not (label_eq l m)) (get_or x.sink.pending g []) m (subst (λ (ls : List Label). In ls m) (without-get l x.sink.pending g) i)).0)
-
-pub pulsed-site : (x : SiteSeen) → IsSite x → IsSite (pulsed x)
-pulsed-site x k = sink-site x (after_pulse x.sink) k (record { own = k.sink.own; promises = k.sink.promises; rows = k.sink.rows; last = k.sink.own }) (λ g. refl) (λ g m i. i)
-
-abbrev cut_by : Sink → Option Label → Point
-cut_by s o = elim o [ None ↦ mark (stable_of s) s.site | Some l ↦ greater_point s.last (mark (l.point.ts - 1) s.site) ]
-
-abbrev chosen_point : Bool → Point → Point → Point
-chosen_point b p q = if b then p else q
-
--- the cut is of the site
-pub cut-site : (x : SiteSeen) → IsSite x → (cut_of x.sink).site ≡ x.shape.site
-cut-site x k = go (ready_of x.sink)
-  where
-    greater : (p q : Point) (b : Bool) → p.site ≡ x.shape.site → q.site ≡ x.shape.site → (chosen_point b q p).site ≡ x.shape.site
-    greater p q true e f = f
-    greater p q false e f = e
-
-    go : (o : Option Label) → (cut_by x.sink o).site ≡ x.shape.site
-    go None = k.sink.own
-    go (Some l) = greater x.sink.last (mark (l.point.ts - 1) x.sink.site) (point_lt x.sink.last (mark (l.point.ts - 1) x.sink.site)) k.sink.last k.sink.own
-
--- ---- what the site has of the others
-
-pub proxy-site : (x : SiteSeen) (p : ProxySeen) → IsSite x → HasPeers x.shape p → IsSite (record x { proxy = p })
-proxy-site x p k has = record { shape = k.shape; gears = k.gears; sink = k.sink; counts = k.counts; views = k.views; proxy = has; made = k.made }
-
-pub views-site : (x : SiteSeen) (v : Epochs) → IsSite x → HasEpochs x.shape v → length v.stamp ≡ length x.views.stamp → IsSite (record x { views = v })
-views-site x v k has same = record {
-  shape = k.shape;
-  gears = k.gears;
-  sink = k.sink;
-  counts = k.counts;
-  views = has;
-  proxy = k.proxy;
-  made = record { count = k.made.count; each = λ j n beat at. let b = k.made.each j n beat at in record { counts = b.counts; closes = subst (λ (m : ℕ). length beat.closes ≤ m) (sym same) b.closes } };
 }

@@ -45,7 +45,7 @@ use Rattle.sat_proxy.specs.Proxy.{ProxySeen, best_of, note_of, outlook_here, win
 use Rattle.sat_proxy.specs.Stands.{StandsProxy}
 use Rattle.sat_proxy.specs.Steps.{advance_after, beaten as proxy_beaten, brought, has_come}
 use Rattle.sat_site.specs.declared.input.SiteInput.TheVariants as input
-use Rattle.sat_site.specs.Seen.{SiteSeen, IsSite}
+use Rattle.sat_site.specs.Seen.{SiteSeen, IsSite, hub_of}
 use Rattle.sat_site.specs.Changes.{beat_for, beaten, closed, count_to, fell, gear_at, gear_for, made_for, HasGear}
 use Rattle.sat_site.specs.Inputs.{fits_in, BulkFits, IsFront}
 use Rattle.sat_site.specs.Gives.{label_sent}
@@ -58,9 +58,10 @@ use Rattle.sat_site.proofs.Fitting.{fits-attach, fits-beat, fits-beat-in, fits-b
 use Rattle.sat_site.proofs.Gathers.{each-gear, emits-answer, emits-stand, gathers-answer, gathers-stand, idles-answer, pulses-answer, pulses-stand}
 use Rattle.sat_site.proofs.Moves.{moves-answer, moves-refused, moves-stand}
 use Rattle.sat_site.proofs.Parts.{count-is, sites-are}
-use Rattle.sat_site.proofs.Quiet.{quiet, sends}
+use Rattle.sat_hub.proofs.Quiet.{quiet, sends}
 use Rattle.sat_site.proofs.Rows.{cut-same}
-use Rattle.sat_site.proofs.Sound.{close-here, cut-site, label-here, pulse-here, ready-here}
+use Rattle.sat_hub.proofs.Sound.{close-here, cut-site, label-here, pulse-here, ready-here}
+use Rattle.sat_site.proofs.Hubs.{hub-is}
 use Rattle.sat_site.proofs.Still.{attaches, clocks-stand, olds, refuses, repeats, ticks-answer, ticks-stand}
 use Rattle.sat_site.proofs.Turns.{stamp-quiet, stamp-refused, stamps-stand, turn-quiet, turn-refused, turns-stand}
 use Rattle.sat_site.proofs.Writes.{read-answer, read-stand, write-answer, write-stand}
@@ -232,7 +233,7 @@ unfolding site_answers site_after site_sends
 emit-holds x k = record {
   answers = λ d i s v st. answers d i s st (sink.ready_of x.sink) refl;
   stands = λ d i s v st. stands d i s st (sink.ready_of x.sink);
-  sent = sends x.shape x.views _ (sink.ready_of x.sink) (label (sink.ready_of x.sink)) (λ l e. let w = ready-here x l k e in (label-here x l k w, w.site));
+  sent = sends x.shape x.views _ (sink.ready_of x.sink) (label (sink.ready_of x.sink)) (λ l e. let h = hub-is x k in let w = ready-here (hub_of x) l h e in (label-here (hub_of x) l h w, w.site));
   refused = refused (sink.ready_of x.sink);
   shape = shape (sink.ready_of x.sink);
 }
@@ -276,7 +277,7 @@ pulse-holds x k = record {
     label (Some l) = refl
 
     here : (l : Label) (b : Bool) → (if b then Some (sink.pulse_of x.sink) else None) ≡ Some l → IsLabelOf x.shape.interest l × (l.point.site ≡ x.shape.site)
-    here l true e = let same : sink.pulse_of x.sink ≡ l = cc in subst (λ (m : Label). IsLabelOf x.shape.interest m × (m.point.site ≡ x.shape.site)) same (pulse-here x k, k.sink.own)
+    here l true e = let same : sink.pulse_of x.sink ≡ l = cc in subst (λ (m : Label). IsLabelOf x.shape.interest m × (m.point.site ≡ x.shape.site)) same (pulse-here (hub_of x) (hub-is x k), k.sink.own)
     here l false e = absurd (cc)
 
     refused : (o : Option Label) → is_done (pulse_answer o) ≡ false → pulse_after x o ≡ x
@@ -481,7 +482,7 @@ close-holds x k = record {
 
     here : (l : Label) (o : Option CloseFault) → next_close o x ≡ Some l → IsLabelOf x.shape.interest l × (l.point.site ≡ x.shape.site)
     here l (Some fault) e = absurd (cc)
-    here l None e = let same : close_label x ≡ l = cc in subst (λ (m : Label). IsLabelOf x.shape.interest m × (m.point.site ≡ x.shape.site)) same (close-here x k (cut-site x k), cut-site x k)
+    here l None e = let same : close_label x ≡ l = cc in subst (λ (m : Label). IsLabelOf x.shape.interest m × (m.point.site ≡ x.shape.site)) same (let h = hub-is x k in let own = cut-site (hub_of x) h in (close-here (hub_of x) h own, own))
 
     refused : (o : Option CloseFault) → is_done (close_answer o x) ≡ false → close_after o x ≡ x
     refused (Some close.NoNextEpoch) e = refl

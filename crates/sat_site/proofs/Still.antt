@@ -16,7 +16,7 @@ use Rattle.sat_site.specs.Seen.{SiteSeen}
 use Rattle.sat_site.specs.Stands.{StandsSite, StandsGear}
 use Rattle.sat_site.specs.Changes.{with_gear, clocked, ticked_to, HasGear}
 use Rattle.sat_site.specs.Gives.{PromisesUpTo}
-use Rattle.sat_site.proofs.Lists.{chosen, passed}
+use Rattle.sat_hub.proofs.Lists.{chosen, passed}
 use Rattle.sat_site.proofs.Parts.{gears-set, gears-map, store-set, store-map}
 
 pub refuses : (d : Deployed) (i : ℕ) (x : SiteSeen) (s : SiteState) (input : SiteInput) (r : Refusal) → StandsSite d i x s → StandsSite d i x (site_next d i s input (ans.Refused r))

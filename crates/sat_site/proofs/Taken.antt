@@ -1,7 +1,6 @@
 -- The parts of an update, which are taken and shown one after the other.
-use Rattle.std.specs.Prelude.{◌≡◌, ◌≢◌, ◌||◌, ℕ, Bool, true, false, not, List, [], ◌∷◌, length, set, get_or, Option, Some, None, is_some, refl}
+use Rattle.std.specs.Prelude.{◌≡◌, ◌≢◌, ℕ, Bool, true, false, List, [], ◌∷◌, length, set, get_or, Option, Some, None, refl}
 use Rattle.std.proofs.Common.{ap, sym, subst, ◌∙◌, arith}
-use Rattle.std.proofs.lemmas.Bool.{and_parts}
 use Rattle.std.proofs.lemmas.List.{get_or-set_other}
 use Rattle.sat_label.specs.declared.items.Items.{Items}
 use Rattle.sat_label.specs.declared.items.Items.TheVariants.{One, Two, Three, Four}
@@ -11,9 +10,10 @@ use Rattle.sat_label.specs.declared.label.Label.{Label}
 use Rattle.sat_label.specs.Grouped.{list_of}
 use Rattle.sat_label.specs.Versions.{Version}
 use Rattle.sat_bulk.specs.Payloads.{Payload, version_for, version_in}
-use Rattle.sat_sites.specs.Interested.{keeps, AreBelow}
+use Rattle.sat_sites.specs.Interested.{AreBelow}
 use Rattle.sat_sites.specs.declared.shape.Shape.{Shape}
 use Rattle.sat_act.specs.Parts.{items_of}
+use Rattle.sat_hub.proofs.Wholes.{whole-count}
 use Rattle.sat_site.specs.Seen.{SiteSeen, IsGuest, has_parts_here}
 use Rattle.sat_site.specs.SiteSteps.{keeps_item, shown_at, shown_each, shown_of, shown_part, shown_parts, shown_version}
 
@@ -127,23 +127,6 @@ taken-four x y z t o items a b c d p q r n u v w j is many e s f m g l h i k fir
     refl (left-values p q 0 s) refl (left-values q r 1 m) refl (left-values r n 2 l) refl
     (part-shown x y p p 0 a u refl e i) (part-shown y z p q 1 b v (left-label p q 0 s) f k) (part-shown z t p r 2 c w (left-label q r 1 m ∙ left-label p q 0 s) g first)
     (part-shown t o p n 3 d j (left-label r n 2 l ∙ (left-label q r 1 m ∙ left-label p q 0 s)) h second)
-
--- ---- as many parts as items
-
-whole-count : (shape : Shape) (ns : List ℕ) (ps : List (Option (List ℕ))) → has_parts_here shape ns ps ≡ true → length ps ≡ length ns
-whole-count shape [] [] e = refl
-whole-count shape [] (p ∷ ps) e = absurd (cc)
-whole-count shape (n ∷ ns) [] e = absurd (cc)
-whole-count shape (n ∷ ns) (p ∷ ps) e =
-    let rest : length ps ≡ length ns = whole-count shape ns ps (and_parts (not (keeps shape.interest n shape.site) || is_some p) (has_parts_here shape ns ps) e).1 in
-    omega (arith, rest)
-
-pub not-whole : (shape : Shape) (ns : List ℕ) (ps : List (Option (List ℕ))) → length ps ≢ length ns → false ≡ has_parts_here shape ns ps
-not-whole shape ns ps other = go (has_parts_here shape ns ps) refl
-  where
-    go : (b : Bool) → has_parts_here shape ns ps ≡ b → false ≡ b
-    go false e = refl
-    go true e = absurd (other (whole-count shape ns ps e))
 
 -- ---- a guest: its label was read as l, and its parts are q
 

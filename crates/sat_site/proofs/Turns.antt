@@ -1,17 +1,13 @@
 -- A turn, and the next update in timestamp order.
-use Rattle.std.specs.Prelude.{◌≡◌, ◌<◌, ◌&&◌, not, ℕ, Bool, true, false, List, [], ◌∷◌, map, Option, Some, None, if◌then◌else◌, refl}
-use Rattle.std.proofs.Common.{subst, ap, sym, ◌∙◌, inl, inr}
+use Rattle.std.specs.Prelude.{◌≡◌, ◌<◌, ℕ, Bool, true, false, Option, Some, None, if◌then◌else◌, refl}
+use Rattle.std.proofs.Common.{subst, ap, sym, ◌∙◌}
 use Rattle.sat_label.specs.declared.label.Label.{Label}
 use Rattle.sat_label.specs.declared.items.Items.{Items}
 use Rattle.sat_label.specs.declared.label.Kind.{Kind}
 use Rattle.sat_label.specs.declared.label.Kind.TheVariants.{Update, Move, Pulse, Close}
-use Rattle.sat_label.specs.Order.{label_eq}
 use Rattle.sat_label.specs.Members.{In}
-use Rattle.sat_label.proofs.Orders.{same-label}
-use Rattle.sat_label.proofs.Least.{least-is}
 use Rattle.sat_bulk.specs.Payloads.{Payload}
-use Rattle.sat_pool.specs.Pool.{Waiting, all_waiting, labels_waiting, labelled, waiting_at}
-use Rattle.sat_pool.proofs.Members.{found-in, in-found}
+use Rattle.sat_pool.specs.Pool.{all_waiting, waiting_at}
 use Rattle.sat_epoch.specs.Epochs.{in_stamp}
 use Rattle.sat_act.specs.declared.answer.Answer.TheVariants as ans
 use Rattle.sat_act.specs.declared.answer.Answer.{Answer}
@@ -21,9 +17,6 @@ use Rattle.sat_act.specs.Settling.{is_done}
 use Rattle.sat_machine.specs.Input as given
 use Rattle.sat_machine.specs.State.{SiteState}
 use Rattle.sat_machine.specs.Next.{proxy_next, site_next, views_next}
-use Rattle.sat_machine.specs.Reply.{candidate_by, own_passed, past_by}
-use Rattle.sat_proxy.specs.Proxy.{outlook_here}
-use Rattle.sat_proxy.specs.Asks.{all_passed}
 use Rattle.sat_proxy.specs.Steps as made
 use Rattle.sat_proxy.specs.Answers.{done_answer, front_answer, next_answer, turn_answer, stamp_answer}
 use Rattle.sat_proxy.specs.Stands.{StandsProxy}
@@ -34,26 +27,10 @@ use Rattle.sat_site.specs.Stands.{StandsSite, StandsViews}
 use Rattle.sat_site.specs.Inputs.{IsFront}
 use Rattle.sat_site.specs.SiteSteps.{show_some, turned_after, stamped_after}
 use Rattle.sat_site.specs.Gives.{label_sent}
+use Rattle.sat_hub.proofs.Waits.{Found, found, Next, next-payload}
 use Rattle.sat_site.proofs.Epochs.{took-views}
 use Rattle.sat_site.proofs.Shows.{shown-stands}
 use Rattle.sat_site.proofs.Still.{refuses}
-
--- ---- the payload of a label
-
-pub record Found (w : Waiting) (l : Label) (p : Payload) : Type 0 where
-  pub label : p.label ≡ l
-  pub there : In (all_waiting w) p
-
-pub found : (w : Waiting) (l : Label) (p : Payload) → made.waiting_of w l ≡ Some p → Found w l p
-found w l p e = go (waiting_at w l.point) refl e
-  where
-    by : (q : Payload) (b : Bool) → waiting_at w l.point ≡ Some q → label_eq q.label l ≡ b → (if b then Some q else None) ≡ Some p → Found w l p
-    by q true at same e = let is : q ≡ p = cc in subst (λ (x : Payload). Found w l x) is (record { label = same-label q.label l same; there = (found-in w l.point q at).0 })
-    by q false at same e = absurd (cc)
-
-    go : (o : Option Payload) → waiting_at w l.point ≡ o → (elim o [ None ↦ None | Some p ↦ if label_eq p.label l then Some p else None ]) ≡ Some p → Found w l p
-    go None at e = absurd (cc)
-    go (Some q) at e = by q (label_eq q.label l) at refl e
 
 -- ---- a turn
 
@@ -168,48 +145,13 @@ turn-refused x front = go (in_stamp x.views) front
 
 -- ---- the next update in timestamp order
 
--- the candidate waits
-next-waits : (x : SiteSeen) (l : Label) → made.stamp_label x.views x.proxy ≡ Some l → In (labels_waiting x.proxy.pool) l
-next-waits x l e = go (candidate_by (outlook_here x.views x.proxy)) refl e
-  where
-    by : (m : Label) (b : Bool) → candidate_by (outlook_here x.views x.proxy) ≡ Some m → (if b then Some m else None) ≡ Some l → In (labels_waiting x.proxy.pool) l
-    by m true c e = let same : m ≡ l = cc in subst (λ (n : Label). In (labels_waiting x.proxy.pool) n) same (least-is (λ l. not (past_by (outlook_here x.views x.proxy) l)) (labels_waiting x.proxy.pool) m c).member
-    by m false c e = absurd (cc)
-
-    go : (o : Option Label) → candidate_by (outlook_here x.views x.proxy) ≡ o →
-        (elim o [ None ↦ None | Some l ↦ if all_passed x.proxy.sites (outlook_here x.views x.proxy) x.proxy.site l && own_passed (outlook_here x.views x.proxy) l then Some l else None ]) ≡ Some l → In (labels_waiting x.proxy.pool) l
-    go None c e = absurd (cc)
-    go (Some m) c e = by m (all_passed x.proxy.sites (outlook_here x.views x.proxy) x.proxy.site m && own_passed (outlook_here x.views x.proxy) m) c e
-
-labelled-in : (ps : List Payload) (l : Label) → In (map labelled ps) l → (p : Payload) × In ps p × (p.label ≡ l)
-labelled-in [] l i = absurd i
-labelled-in (p ∷ ps) l (inl e) = (p, inl refl, e)
-labelled-in (p ∷ ps) l (inr i) = let w = labelled-in ps l i in (w.0, inr w.1, w.2)
-
--- the payload of the next update
-pub record Next (x : SiteSeen) (l : Label) : Type 0 where
-  pub payload : Payload
-  pub label : payload.label ≡ l
-  pub there : In (all_waiting x.proxy.pool) payload
-  pub found : waiting_at x.proxy.pool l.point ≡ Some payload
-
-pub next-payload : (x : SiteSeen) (l : Label) → IsSite x → made.stamp_label x.views x.proxy ≡ Some l → Next x l
-next-payload x l k e =
-    let w = labelled-in (all_waiting x.proxy.pool) l (next-waits x l e) in
-    record {
-      payload = w.0;
-      label = w.2;
-      there = w.1;
-      found = subst (λ (m : Label). waiting_at x.proxy.pool m.point ≡ Some w.0) w.2 (in-found x.proxy.pool w.0 k.proxy.sound.pool w.1);
-    }
-
 abbrev stamp_stands : Deployed → ℕ → SiteSeen → SiteState → Type 0
 stamp_stands d i x s = StandsProxy (made.stamp_after x.views x.proxy) (proxy_next d i s given.Stamp (stamp_answer x.views x.proxy)) → StandsSite d i (stamped_after x) (site_next d i s given.Stamp (stamp_answer x.views x.proxy))
 
 pub stamps-stand : (d : Deployed) (i : ℕ) (x : SiteSeen) (s : SiteState) → IsSite x → StandsSite d i x s → stamp_stands d i x s
 stamps-stand d i x s k st = go (in_stamp x.views)
   where
-    payload : (l : Label) (o : Option Payload) → waiting_at x.proxy.pool l.point ≡ o → Next x l →
+    payload : (l : Label) (o : Option Payload) → waiting_at x.proxy.pool l.point ≡ o → Next x.views x.proxy l →
         StandsProxy (made.left_after x.proxy o) (proxy_next d i s given.Stamp (ans.Shown l)) → StandsSite d i (show_some (record x { proxy = made.left_after x.proxy o }) o) (site_next d i s given.Stamp (ans.Shown l))
     payload l None at n proxy = absurd (let clash : Some n.payload ≡ None = sym n.found ∙ at in cc)
     payload l (Some p) at n proxy =
@@ -224,7 +166,7 @@ stamps-stand d i x s k st = go (in_stamp x.views)
         StandsProxy (made.left_after x.proxy (made.payload_at x.proxy.pool o)) (proxy_next d i s given.Stamp (next_answer (made.not_yet o) o)) →
         StandsSite d i (show_some (record x { proxy = made.left_after x.proxy (made.payload_at x.proxy.pool o) }) (made.payload_at x.proxy.pool o)) (site_next d i s given.Stamp (next_answer (made.not_yet o) o))
     label None e proxy = refuses d i x s given.Stamp why.NotYet st
-    label (Some l) e proxy = payload l (waiting_at x.proxy.pool l.point) refl (next-payload x l k e) proxy
+    label (Some l) e proxy = payload l (waiting_at x.proxy.pool l.point) refl (next-payload x.views x.proxy l k.proxy.sound e) proxy
 
     go : (b : Bool) →
         StandsProxy (made.left_after x.proxy (if b then made.payload_at x.proxy.pool (made.stamp_label x.views x.proxy) else None)) (proxy_next d i s given.Stamp (next_answer (if b then made.not_yet (made.stamp_label x.views x.proxy) else Some stamp.TreeOrder) (made.stamp_label x.views x.proxy))) →

@@ -33,7 +33,7 @@ use Rattle.sat_site.specs.Stands.{StandsSite, StandsGear, version_seen}
 use Rattle.sat_site.specs.Changes.{gear_at, gear_for, HasGear}
 use Rattle.sat_site.specs.SiteSteps.{keeps_item, shown_each, written}
 use Rattle.sat_site.specs.Does.{Writes, write_not_here, spends, writes, Reads, read_not_here, reads_none, reads}
-use Rattle.sat_site.proofs.Lists.{chosen, passed}
+use Rattle.sat_hub.proofs.Lists.{chosen, passed}
 use Rattle.sat_site.proofs.Parts.{count-is, gear-of-is, gears-set, interest-is, item-known, site-is, sites-are, store-set}
 use Rattle.sat_site.proofs.Shows.{are-of, each-shown, gears-each, put_parts, set-of, store-same}
 use Rattle.sat_site.proofs.Interests.{keeps-each-here, keeps-here, target-is}

@@ -1,21 +1,16 @@
 -- What the calls of a site make of what it keeps.
-use Rattle.std.specs.Prelude.{ℕ, ◌≡◌, ◌%◌, Bool, true, false, List, [], ◌∷◌, ◌++◌, map, replicate, set, get_or, slice_get, Some}
+use Rattle.std.specs.Prelude.{ℕ, ◌≡◌, ◌%◌, Bool, List, map, set, slice_get, Some}
 use Rattle.sat_label.specs.declared.items.Items.{Items}
 use Rattle.sat_label.specs.declared.label.Label.{Label}
 use Rattle.sat_label.specs.Grouped.{least_item, list_of}
 use Rattle.sat_label.specs.Words.{below}
-use Rattle.sat_bulk.specs.declared.Drained.{Drained}
 use Rattle.sat_beat.specs.declared.Beat.{Beat}
 use Rattle.sat_sites.specs.declared.shape.Shape.{Shape}
 use Rattle.sat_gear.specs.Gear.{GearSeen, after_drain, drained_of, fresh_gear, after_tick}
-use Rattle.sat_sink.specs.Sink.{after_emit_of, after_close, after_pulse, cut_of, fresh_sink, after_gather}
 use Rattle.sat_act.specs.Deployed.{Deployed}
-use Rattle.sat_act.specs.declared.deployment.Plan.{Plan}
-use Rattle.sat_act.specs.declared.deployment.Plan.TheVariants as plan
-use Rattle.sat_epoch.specs.Epochs.{after_close as views_closed, after_fall, first_epochs}
-use Rattle.sat_proxy.specs.Proxy.{fresh_proxy}
-use Rattle.sat_machine.specs.Interests.{interest_of}
-use Rattle.sat_site.specs.Seen.{SiteSeen}
+use Rattle.sat_hub.specs.Changes as hub
+pub use Rattle.sat_hub.specs.Changes.{count_to, counts_of, is_stamp_plan, shape_for}
+use Rattle.sat_site.specs.Seen.{SiteSeen, hub_of, site_of, with_hub}
 
 abbrev pub with_gear : SiteSeen → ℕ → GearSeen → SiteSeen
 with_gear x g gear = record x { gears = set x.gears g gear }
@@ -30,43 +25,36 @@ clocked x t = record x { gears = map (ticked_to t) x.gears }
 abbrev pub fresh_of : GearSeen → List Label
 fresh_of gear = gear.fresh
 
-abbrev pub counts_of : Drained → List ℕ
-counts_of d = d.counts
-
 -- the sink has what the gears made since the last gather, and how far their lanes go was counted
 abbrev pub gathered_all : SiteSeen → SiteSeen
-gathered_all x =
-    record x { gears = map after_drain x.gears; sink = after_gather x.sink (map drained_of x.gears); counts = map counts_of (map drained_of x.gears) }
+gathered_all x = site_of (hub.gathered (hub_of x) (map drained_of x.gears)) (map after_drain x.gears)
 
 abbrev pub sent : SiteSeen → Label → SiteSeen
-sent x l = record x { sink = after_emit_of x.sink l }
+sent x l = with_hub x (hub.sent (hub_of x) l)
 
 abbrev pub pulsed : SiteSeen → SiteSeen
-pulsed x = record x { sink = after_pulse x.sink }
+pulsed x = with_hub x (hub.pulsed (hub_of x))
 
 -- a label was sent at the cut, which closed the epoch
 abbrev pub closed : SiteSeen → SiteSeen
-closed x = record x { sink = after_close x.sink; views = views_closed x.views (cut_of x.sink) }
+closed x = with_hub x (hub.closed (hub_of x))
 
 abbrev pub fell : SiteSeen → SiteSeen
-fell x = record x { views = after_fall x.views }
+fell x = with_hub x (hub.fell (hub_of x))
 
 -- ---- beats
 
-abbrev pub count_to : ℕ → List ℕ → ℕ
-count_to j row = get_or row j 0
-
 -- what a beat for site j would say
 abbrev pub beat_for : SiteSeen → ℕ → Beat
-beat_for x j = record { cut = cut_of x.sink; closes = x.views.closes; counts = map (count_to j) x.counts }
+beat_for x j = hub.beat_for (hub_of x) j
 
 -- the beats that were made for site j
 abbrev pub made_for : SiteSeen → ℕ → List Beat
-made_for x j = get_or x.made j []
+made_for x j = hub.made_for (hub_of x) j
 
 -- one more was made
 abbrev pub beaten : SiteSeen → ℕ → SiteSeen
-beaten x j = record x { made = set x.made j (made_for x j ++ beat_for x j ∷ []) }
+beaten x j = with_hub x (hub.beaten (hub_of x) j)
 
 -- ---- gears
 
@@ -83,26 +71,9 @@ HasGear x g gear = slice_get x.gears g ≡ Some gear
 
 -- ---- the start
 
--- what the parts of site i of a deployment are made from
-abbrev pub shape_for : Deployed → ℕ → Shape
-shape_for d i = record { sites = d.sites; gears = d.gears; site = i; interest = interest_of d }
-
--- whether the plan of an epoch is stamp order
-abbrev pub is_stamp_plan : Plan → Bool
-is_stamp_plan plan.Stamp = true
-is_stamp_plan (plan.Tree tree) = false
-
 -- a site of a shape, at which nothing has happened, by whether the plan of each epoch is stamp order
 abbrev pub fresh_seen : Shape → List Bool → SiteSeen
-fresh_seen shape stamp = record {
-  shape = shape;
-  gears = map (fresh_gear shape) (below shape.gears);
-  sink = fresh_sink shape.site shape.gears;
-  counts = replicate shape.gears [];
-  views = first_epochs shape.sites shape.site stamp;
-  proxy = fresh_proxy shape.sites shape.gears shape.site;
-  made = replicate shape.sites [];
-}
+fresh_seen shape stamp = site_of (hub.fresh_hub shape stamp) (map (fresh_gear shape) (below shape.gears))
 
 -- a new site of a deployment
 abbrev pub new_site : Deployed → ℕ → SiteSeen

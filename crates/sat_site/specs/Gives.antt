@@ -1,16 +1,13 @@
 -- What the calls of a site promise.
-use Rattle.std.specs.Prelude.{ℕ, ◌≡◌, ◌≤◌, ◌<◌, true, false, List, length, map, slice_get, Option, Some, None}
+use Rattle.std.specs.Prelude.{ℕ, ◌≡◌, ◌≤◌, true, List, length, map, slice_get, Some}
 use Rattle.sat_label.specs.declared.items.Items.{Items}
-use Rattle.sat_label.specs.declared.label.Kind.TheVariants.{Update, Close}
-use Rattle.sat_label.specs.declared.label.Label.{Label}
+use Rattle.sat_label.specs.declared.label.Kind.TheVariants.{Update}
 use Rattle.sat_label.specs.Grouped.{list_of}
 use Rattle.sat_bulk.specs.Payloads.{Payload}
-use Rattle.sat_epoch.specs.Epochs.{Epochs, is_stamp}
-use Rattle.sat_sites.specs.Interested.{is_for, AreBelow, IsLabelOf}
+use Rattle.sat_sites.specs.Interested.{is_for, AreBelow}
 use Rattle.sat_sites.specs.declared.shape.Shape.{Shape}
 use Rattle.sat_gear.specs.Gear.{GearSeen}
 use Rattle.sat_act.specs.declared.answer.Answer.{Answer}
-use Rattle.sat_act.specs.declared.answer.Answer.TheVariants as ans
 use Rattle.sat_act.specs.Deployed.{Deployed}
 use Rattle.sat_act.specs.Limits.{IsDeployment}
 use Rattle.sat_act.specs.Parts.{items_of}
@@ -18,6 +15,7 @@ use Rattle.sat_machine.specs.Input.{SiteInput}
 use Rattle.sat_machine.specs.State.{SiteState}
 use Rattle.sat_machine.specs.Reply.{site_answer}
 use Rattle.sat_machine.specs.Next.{site_next}
+pub use Rattle.sat_hub.specs.Gives.{HasTarget, IsLeaving, label_sent, IsSent, IsSentOf}
 use Rattle.sat_site.specs.Seen.{SiteSeen}
 use Rattle.sat_site.specs.Stands.{StandsSite}
 
@@ -30,34 +28,6 @@ AnswersBy x input answer =
 abbrev pub StandsBy : SiteSeen → SiteInput → Answer → SiteSeen → Type 0
 StandsBy x input answer y = (d : Deployed) (i : ℕ) (s : SiteState) → IsDeployment d → StandsSite d i x s
     → StandsSite d i y (site_next d i s input answer)
-
--- some other site is a target of the label
-abbrev pub HasTarget : Shape → Label → Type 0
-HasTarget shape l = (k : ℕ) × (k < shape.sites) × (is_for shape.interest l k ≡ true)
-
--- a label of the site that enters the tree
-pub record IsLeaving (shape : Shape) (l : Label) : Type 0 where
-  pub label : IsLabelOf shape.interest l
-  pub own : l.point.site ≡ shape.site
-  pub target : HasTarget shape l
-
--- the label that an answer says was sent
-abbrev pub label_sent : Answer → Option Label
-label_sent (ans.Emitted l) = Some l
-label_sent (ans.Pulsed l) = Some l
-label_sent (ans.Closed epoch cut) = Some (record { point = cut; kind = Close epoch })
-label_sent answer = None
-
--- the label of an answer is sent exactly where the plan of the emission epoch is a tree and the label has a target
-abbrev pub IsSentOf : Shape → Epochs → Option Label → Option Label → Type 0
-IsSentOf shape views None o = o ≡ None
-IsSentOf shape views (Some l) None = is_stamp views views.emission ≡ false → HasTarget shape l → ⊥
-IsSentOf shape views (Some l) (Some m) = (m ≡ l) × (is_stamp views views.emission ≡ false) × IsLeaving shape l
-
--- the label that a site hands on beside an answer is the one that the answer says was sent, and to whom it may
--- concern
-abbrev pub IsSent : Shape → Epochs → Answer → Option Label → Type 0
-IsSent shape views answer o = IsSentOf shape views (label_sent answer) o
 
 abbrev pub PromisesUpTo : SiteSeen → ℕ → Type 0
 PromisesUpTo x ts = (g : ℕ) (gear : GearSeen) → slice_get x.gears g ≡ Some gear → gear.promise ≤ ts

@@ -1,28 +1,18 @@
 -- What a site is handed: as the machine of the model reads it, and what the site asks of it.
-use Rattle.std.specs.Prelude.{ℕ, ◌≡◌, ◌<◌, ◌^◌, ◌==◌, Bool, true, false, ◌&&◌, ◌||◌, not, nat_le, nat_lt, length, slice_get, Option, Some, None, is_none}
-use Rattle.std.specs.List.{list_all}
-use Rattle.sat_label.specs.declared.carried.Carried.{Carried}
-use Rattle.sat_label.specs.declared.items.Items.{Items}
-use Rattle.sat_label.specs.declared.label.Kind.{Kind}
-use Rattle.sat_label.specs.declared.label.Kind.TheVariants as kind
+use Rattle.std.specs.Prelude.{ℕ, ◌^◌, ◌==◌, Bool, true, false, ◌&&◌, nat_lt, length, Some, None}
 use Rattle.sat_label.specs.declared.label.Label.{Label}
-use Rattle.sat_label.specs.declared.point.Point.{Point}
-use Rattle.sat_label.specs.Grouped.{are_items, list_of}
-use Rattle.sat_label.specs.Words.{below}
+use Rattle.sat_label.specs.Grouped.{list_of}
 use Rattle.sat_bulk.specs.Payloads.{Payload}
-use Rattle.sat_bulk.specs.Windows.{has_number}
 use Rattle.sat_beat.specs.declared.Beat.{Beat}
-use Rattle.sat_pool.specs.Pool.{waiting_at}
-use Rattle.sat_proxy.specs.Proxy.{ProxySeen, note_of, window_of}
-use Rattle.sat_sites.specs.Interested.{are_below, keeps_one}
-use Rattle.sat_sites.specs.declared.shape.Shape.{Shape}
-use Rattle.sat_act.specs.Parts.{items_of}
+use Rattle.sat_proxy.specs.Proxy.{note_of}
 use Rattle.sat_machine.specs.Fits.{is_time}
 use Rattle.sat_machine.specs.Input.{SiteInput}
 use Rattle.sat_machine.specs.Input as given
+use Rattle.sat_hub.specs.Inputs as hub
+pub use Rattle.sat_hub.specs.Inputs.{is_site_here, is_item_here, is_gear_here, is_point_here, is_other_here, is_goal_here, is_carried_here, is_group_here, is_kind_here, is_front_here, is_kept_here, is_guest_here, is_bulk_here, is_cut_here, is_beat_here}
 use Rattle.sat_site.specs.declared.input.SiteInput as code
 use Rattle.sat_site.specs.declared.input.SiteInput.TheVariants as input
-use Rattle.sat_site.specs.Seen.{SiteSeen, IsGuest, has_parts_here}
+use Rattle.sat_site.specs.Seen.{SiteSeen, hub_of}
 
 abbrev pub input_of : code.SiteInput → SiteInput
 input_of (input.Tick g t) = given.Tick g t
@@ -41,78 +31,6 @@ input_of input.Stamp = given.Stamp
 input_of input.Close = given.Close
 input_of input.Fall = given.Fall
 input_of input.Advance = given.Advance
-
--- ---- numbers and points, by the shape of the site
-
-abbrev pub is_site_here : Shape → ℕ → Bool
-is_site_here shape k = nat_lt k shape.sites
-
-abbrev pub is_item_here : Shape → ℕ → Bool
-is_item_here shape n = nat_lt n (length shape.interest.replicas)
-
-abbrev pub is_gear_here : Shape → ℕ → Bool
-is_gear_here shape g = nat_lt g shape.gears
-
--- a point with a timestamp, and of one of the sites
-abbrev pub is_point_here : Shape → Point → Bool
-is_point_here shape p = is_time p.ts && is_site_here shape p.site
-
--- another site
-abbrev pub is_other_here : Shape → ℕ → Bool
-is_other_here shape k = is_site_here shape k && not (k == shape.site)
-
--- where a client is moving to: nowhere, or to a site
-abbrev pub is_goal_here : Shape → Option ℕ → Bool
-is_goal_here shape o = elim o [ None ↦ true | Some j ↦ is_site_here shape j ]
-
-abbrev pub is_carried_here : Shape → Carried → Bool
-is_carried_here shape seen = is_point_here shape seen.point && is_goal_here shape seen.moving
-
--- ---- fronts and payloads
-
--- the items of one update, which ascend, and each of which is one of the deployment's
-abbrev pub is_group_here : Shape → Items → Bool
-is_group_here shape items = are_items (list_of items) && are_below (length shape.interest.replicas) (list_of items)
-
--- a kind that names items, which ascend, or a site of the deployment, and of closes one of the view's epoch
-abbrev pub is_kind_here : Shape → ℕ → Kind → Bool
-is_kind_here shape view (kind.Update items) = is_group_here shape items
-is_kind_here shape view (kind.Move j) = is_site_here shape j
-is_kind_here shape view kind.Pulse = true
-is_kind_here shape view (kind.Close e) = e == view
-
--- a label that another site sent
-abbrev pub is_front_here : Shape → ℕ → Label → Bool
-is_front_here shape view l = is_time l.point.ts && (is_other_here shape l.point.site && is_kind_here shape view l.kind)
-
--- an update of items of the deployment, which ascend, and of which the site keeps one
-abbrev pub is_kept_here : Shape → Kind → Bool
-is_kept_here shape (kind.Update items) =
-    is_group_here shape items && keeps_one shape.interest (list_of items) shape.site
-is_kept_here shape _ = false
-
--- an update that another site made, of which this one keeps an item
-abbrev pub is_guest_here : Shape → ℕ → Label → Bool
-is_guest_here shape from l = (is_time l.point.ts && (l.point.site == from)) && is_kept_here shape l.kind
-
--- a payload of a lane of another site, with a value for each item that the site keeps. Where its number is new, no
--- payload that waits has its point
-abbrev pub is_bulk_here : Shape → ProxySeen → ℕ → ℕ → ℕ → Payload → Bool
-is_bulk_here shape proxy from gear number p =
-    (is_other_here shape from && is_gear_here shape gear)
-    && ((is_guest_here shape from p.label && has_parts_here shape (items_of p.label.kind) p.values)
-    && (has_number (window_of proxy from gear) number || is_none (waiting_at proxy.pool p.label.point)))
-
--- ---- beats
-
--- a close cut, if there is one
-abbrev pub is_cut_here : Shape → Option Point → Bool
-is_cut_here shape o = elim o [ None ↦ true | Some p ↦ is_point_here shape p ]
-
--- a beat whose cut, and close cut of each of so many epochs, if any, are points
-abbrev pub is_beat_here : Shape → ℕ → Beat → Bool
-is_beat_here shape epochs beat =
-    is_point_here shape beat.cut && list_all (λ n. is_cut_here shape (slice_get beat.closes n)) (below epochs)
 
 -- ---- inputs
 
@@ -140,7 +58,7 @@ fits_here x input.Advance = true
 
 -- a beat with one count for each gear, and at most as many close cuts as there are epochs
 abbrev pub is_counted : SiteSeen → Beat → Bool
-is_counted x beat = (length beat.counts == x.shape.gears) && nat_le (length beat.closes) (length x.views.stamp)
+is_counted x beat = hub.is_counted (hub_of x) beat
 
 -- a number of 63 bits, and a beat of the site's numbers: what a history says nothing of
 abbrev pub is_sized : SiteSeen → code.SiteInput → Bool
@@ -155,19 +73,12 @@ fits_in x given = fits_here x given && is_sized x given
 -- ---- what the code uses of it
 
 -- a label of another site; if it is a Close, then of the view's epoch
-pub record IsFront (x : SiteSeen) (l : Label) : Type 0 where
-  pub from : l.point.site < x.shape.sites
-  pub other : (l.point.site == x.shape.site) ≡ false
-  pub close : (e : ℕ) → l.kind ≡ kind.Close e → e ≡ x.views.view
+abbrev pub IsFront : SiteSeen → Label → Type 0
+IsFront x l = hub.IsFront (hub_of x) l
 
 -- a payload of a lane that fits
-pub record BulkFits (x : SiteSeen) (from gear n : ℕ) (p : Payload) : Type 0 where
-  pub sender : from < x.shape.sites
-  pub number : gear < x.shape.gears
-  pub small : n < 2 ^ 63
-  pub made : p.label.point.site ≡ from
-  pub guest : IsGuest x.shape p
-  pub alone : has_number (window_of x.proxy from gear) n ≡ false → waiting_at x.proxy.pool p.label.point ≡ None
+abbrev pub BulkFits : SiteSeen → ℕ → ℕ → ℕ → Payload → Type 0
+BulkFits x from gear n p = hub.BulkFits (hub_of x) from gear n p
 
 -- inputs of which a site can be asked whether it would do them
 abbrev pub is_asked : code.SiteInput → Bool

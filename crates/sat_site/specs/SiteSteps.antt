@@ -1,38 +1,40 @@
 -- A site's step as a function: what it answers to an input, what it sends, and what it then keeps, by what it kept
 -- alone. A gear, a payload or a version that is not there leaves all as it is.
-use Rattle.std.specs.Prelude.{ℕ, zero, suc, ◌%◌, Bool, true, false, ◌&&◌, ◌||◌, ◌==◌, max, List, [], ◌∷◌, length, map, set, slice_get, Option, Some, None, is_none, if◌then◌else◌}
+use Rattle.std.specs.Prelude.{ℕ, ◌%◌, Bool, true, false, ◌==◌, max, List, [], ◌∷◌, length, map, set, slice_get, Option, Some, None}
 use Rattle.std.specs.List.{flat_map, list_all}
 use Rattle.sat_label.specs.declared.carried.Carried.{Carried}
 use Rattle.sat_label.specs.declared.items.Items.{Items}
 use Rattle.sat_label.specs.declared.label.Kind.{Kind}
-use Rattle.sat_label.specs.declared.label.Kind.TheVariants.{Update, Move, Close}
+use Rattle.sat_label.specs.declared.label.Kind.TheVariants.{Update, Move}
 use Rattle.sat_label.specs.declared.label.Label.{Label}
 use Rattle.sat_label.specs.declared.point.Point.{Point}
 use Rattle.sat_label.specs.Grouped.{list_of}
 use Rattle.sat_bulk.specs.Payloads.{Payload}
 use Rattle.sat_beat.specs.declared.Beat.{Beat}
-use Rattle.sat_sites.specs.Interested.{is_for, keeps}
+use Rattle.sat_sites.specs.Interested.{keeps}
 use Rattle.sat_sites.specs.declared.shape.Shape.{Shape}
 use Rattle.sat_label.specs.Versions.{Version}
 use Rattle.sat_gear.specs.Gear.{GearSeen, drained_of, is_spent, after_move, after_show, stamped, after_tick, version_of, after_write, payload_with}
 use Rattle.sat_sink.specs.Pending.{least, promise_of}
-use Rattle.sat_sink.specs.Sink.{Sink, cut_of, may_pulse, pulse_of, ready_of}
+use Rattle.sat_sink.specs.Sink.{ready_of}
 use Rattle.sat_act.specs.declared.answer.Answer.{Answer}
 use Rattle.sat_act.specs.declared.answer.Answer.TheVariants as ans
 use Rattle.sat_act.specs.declared.answer.Refusal.TheVariants as why
+use Rattle.sat_epoch.specs.declared.views.CloseFault.{CloseFault}
+use Rattle.sat_epoch.specs.declared.views.FallFault.{FallFault}
+use Rattle.sat_epoch.specs.declared.views.AdvanceFault.{AdvanceFault}
+use Rattle.sat_epoch.specs.Epochs.{advance_fault, close_fault, fall_fault, is_stamp}
+use Rattle.sat_proxy.specs.Steps.{after_beat, after_bulk, has_come, stamp_shows, turn_shows}
+use Rattle.sat_proxy.specs.Answers.{advance_answer, attach_answer, beat_answer, bulk_answer, stamp_answer, turn_answer}
+use Rattle.sat_hub.specs.Changes.{stamped as hub_stamped, turned as hub_turned}
+use Rattle.sat_hub.specs.HubSteps as hub
+use Rattle.sat_hub.specs.Inputs.{may_turn as hub_may_turn}
+pub use Rattle.sat_hub.specs.HubSteps.{emit_answer, emit_sends, fall_answer, has_target, next_pulse, pulse_answer, sent_epoch}
+unfoldable pub use Rattle.sat_hub.specs.HubSteps.{some_site}
 use Rattle.sat_site.specs.declared.input.SiteInput as code
 use Rattle.sat_site.specs.declared.input.SiteInput.TheVariants as input
-use Rattle.sat_epoch.specs.declared.views.CloseFault.{CloseFault}
-use Rattle.sat_epoch.specs.declared.views.CloseFault.TheVariants as close
-use Rattle.sat_epoch.specs.declared.views.FallFault.{FallFault}
-use Rattle.sat_epoch.specs.declared.views.FallFault.TheVariants as fall
-use Rattle.sat_epoch.specs.declared.views.AdvanceFault.{AdvanceFault}
-use Rattle.sat_epoch.specs.Epochs.{advance_fault, after_advance, close_fault, fall_fault, is_stamp}
-use Rattle.sat_proxy.specs.Steps.{advance_after, after_beat, after_bulk, has_come, stamp_after, stamp_shows, turn_after, turn_fault, turn_shows, turn_views}
-use Rattle.sat_proxy.specs.Answers.{advance_answer, attach_answer, beat_answer, bulk_answer, stamp_answer, turn_answer}
-use Rattle.sat_site.specs.Seen.{SiteSeen}
-use Rattle.sat_site.specs.Inputs.{is_front_here}
-use Rattle.sat_site.specs.Changes.{with_gear, gathered_all, sent, pulsed, closed, fell, fresh_of, gear_at, gear_for, beat_for, made_for, beaten}
+use Rattle.sat_site.specs.Seen.{SiteSeen, hub_of, with_hub}
+use Rattle.sat_site.specs.Changes.{with_gear, gathered_all, fresh_of, gear_at, gear_for, beat_for, made_for, beaten}
 
 -- whether the site keeps an item
 abbrev pub keeps_item : SiteSeen → ℕ → Bool
@@ -159,93 +161,46 @@ move_after x false (Some gear) seen j =
 abbrev pub gather_answer : SiteSeen → Answer
 gather_answer x = ans.Gathered (length (flat_map fresh_of x.gears)) (least (map promise_of (map drained_of x.gears)))
 
-abbrev pub emit_answer : Option Label → Answer
-emit_answer None = ans.Refused why.Idle
-emit_answer (Some l) = ans.Emitted l
-
 abbrev pub emit_after : SiteSeen → Option Label → SiteSeen
-emit_after x None = x
-emit_after x (Some l) = sent x l
-
--- the pulse that the sink would send
-abbrev pub next_pulse : Sink → Option Label
-next_pulse s = if may_pulse s then Some (pulse_of s) else None
-
-abbrev pub pulse_answer : Option Label → Answer
-pulse_answer None = ans.Refused why.Idle
-pulse_answer (Some l) = ans.Pulsed l
+emit_after x o = with_hub x (hub.emit_after (hub_of x) o)
 
 abbrev pub pulse_after : SiteSeen → Option Label → SiteSeen
-pulse_after x None = x
-pulse_after x (Some l) = pulsed x
+pulse_after x o = with_hub x (hub.pulse_after (hub_of x) o)
 
 -- ---- a close of the emission epoch
 
 abbrev pub close_answer : Option CloseFault → SiteSeen → Answer
-close_answer (Some close.NoNextEpoch) x = ans.Refused why.NoNextEpoch
-close_answer (Some close.Behind) x = ans.Refused why.Behind
-close_answer None x = ans.Closed x.views.emission (cut_of x.sink)
+close_answer o x = hub.close_answer o (hub_of x)
 
 abbrev pub close_after : Option CloseFault → SiteSeen → SiteSeen
-close_after (Some fault) x = x
-close_after None x = closed x
+close_after o x = with_hub x (hub.close_after o (hub_of x))
 
 abbrev pub close_label : SiteSeen → Label
-close_label x = record { point = cut_of x.sink; kind = Close x.views.emission }
+close_label x = hub.close_label (hub_of x)
 
 -- the close that the site would send
 abbrev pub next_close : Option CloseFault → SiteSeen → Option Label
-next_close (Some fault) x = None
-next_close None x = Some (close_label x)
-
--- ---- what is sent
-
--- whether one of the first n sites passes
-unfoldable pub some_site : (ℕ → Bool) → ℕ → Bool
-some_site test zero = false
-some_site test (suc n) = test n || some_site test n
-
--- whether some site is a target of the label
-abbrev pub has_target : Shape → Label → Bool
-has_target shape l = some_site (is_for shape.interest l) shape.sites
-
--- what is sent of a label, by whether the plan of the emission epoch is stamp order
-abbrev pub emit_sends : Bool → Shape → Option Label → Option Label
-emit_sends true shape o = None
-emit_sends false shape None = None
-emit_sends false shape (Some l) = if has_target shape l then Some l else None
-
--- the epoch of what is sent, 0 where nothing is
-abbrev pub sent_epoch : Option Label → ℕ → ℕ
-sent_epoch None epoch = 0
-sent_epoch (Some l) epoch = epoch
+next_close o x = hub.next_close o (hub_of x)
 
 -- ---- a turn, and the next update in timestamp order
 
 -- a turn takes the front of the link to the site
 abbrev pub turned : SiteSeen → Option Label → SiteSeen
-turned x front = record x { views = turn_views x.views front; proxy = turn_after x.views x.proxy front }
+turned x front = with_hub x (hub_turned (hub_of x) front)
 
 abbrev pub turned_after : SiteSeen → Option Label → SiteSeen
 turned_after x front = show_some (turned x front) (turn_shows x.views x.proxy front)
 
 abbrev pub stamped_after : SiteSeen → SiteSeen
-stamped_after x = show_some (record x { proxy = stamp_after x.views x.proxy }) (stamp_shows x.views x.proxy)
+stamped_after x = show_some (with_hub x (hub_stamped (hub_of x))) (stamp_shows x.views x.proxy)
 
 -- ---- a fall, and an advance
 
-abbrev pub fall_answer : Option FallFault → Answer
-fall_answer (Some fall.StampOrder) = ans.Refused why.StampOrder
-fall_answer (Some fall.NotClosed) = ans.Refused why.NotClosed
-fall_answer None = ans.Fallen
-
 abbrev pub fall_after : Option FallFault → SiteSeen → SiteSeen
-fall_after (Some fault) x = x
-fall_after None x = fell x
+fall_after o x = with_hub x (hub.fall_after o (hub_of x))
 
 abbrev pub passed_after : Option AdvanceFault → SiteSeen → SiteSeen
-passed_after (Some fault) x = x
-passed_after None x = record x { views = after_advance x.views; proxy = advance_after x.views x.proxy }
+passed_after o x = with_hub x (hub.passed_after o (hub_of x))
 
 -- ---- all inputs
 
@@ -310,5 +265,4 @@ site_after x input.Advance = passed_after (advance_fault x.views (has_come x.vie
 
 -- whether a turn with this front is one, and does something
 abbrev pub may_turn : SiteSeen → Option Label → Bool
-may_turn x None = false
-may_turn x (Some l) = is_front_here x.shape x.views.view l && is_none (turn_fault x.views x.proxy (Some l))
+may_turn x o = hub_may_turn (hub_of x) o

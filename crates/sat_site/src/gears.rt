@@ -4,12 +4,14 @@ ghost use Rattle.sat_label.specs.declared.label.Kind.TheVariants.{Move};
 ghost use Rattle.std.specs.List.{flat_map, list_any};
 ghost use Rattle.sat_label.specs.Words.{below};
 ghost use Rattle.sat_gear.specs.Gear.{after_drain, fresh_gear, is_due, is_spent, stamped, IsGear, IsShape};
+ghost use Rattle.sat_hub.specs.Seen.{IsHub};
 ghost use Rattle.sat_site.specs.Changes.{fresh_of, ticked_to};
 ghost use Rattle.sat_site.specs.SiteSteps.{moved_answer, moved_gear};
 ghost use Rattle.sat_site.specs.Seen.{AreGears};
 
 use sat_act::{Answer, Refusal};
 use sat_gear::{Gear, GearFault};
+use sat_hub::Hub;
 use sat_label::Carried;
 use sat_sites::Shape;
 use std::alloc::{AllocError, Global};
@@ -33,6 +35,13 @@ pub fn limits(gear: &Gear)
     ensures { IsGear gear.now }
 {
     let _ = gear.promise();
+}
+
+/// What is true of a hub.
+pub fn limits_of(hub: &Hub)
+    ensures { IsHub hub.now }
+{
+    let _ = hub.shape();
 }
 
 /// What is true of each gear.

@@ -4,13 +4,11 @@
 
 ghost use Rattle.sat_site.specs.Laws.{EachClock, EachFits, EachStep};
 
-mod beats;
 mod gears;
 mod input;
 mod output;
 mod shape;
 mod site;
-mod tally;
 
 pub use input::SiteInput;
 pub use output::{SiteOutput, SiteView};

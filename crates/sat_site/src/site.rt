@@ -1,52 +1,46 @@
 //! Sites.
-ghost use Rattle.std.specs.Prelude.{ℕ, ◌%◌, ◌*◌, ◌≡◌, ◌≢◌, ◌≤◌, ◌<◌, ◌==◌, ◌^◌, ◌&&◌, ◌||◌, not, get_or, is_some, length, true, false, slice_get, Some, None, Option, IfOk, IfSome, IsNone, OnOk, OnErr, IsOk, MatchOption, option_copied};
-ghost use Rattle.std.specs.List.{list_all, list_any};
+ghost use Rattle.std.specs.Prelude.{ℕ, ◌%◌, ◌*◌, ◌≡◌, ◌≤◌, ◌<◌, ◌==◌, ◌^◌, ◌&&◌, length, true, false, slice_get, Some, None, Option, IfOk, IfSome, IsNone, OnOk, OnErr, IsOk, MatchOption, option_copied};
+ghost use Rattle.std.specs.List.{list_any};
 ghost use Rattle.sat_label.specs.declared.label.Label.{Label};
 ghost use Rattle.sat_label.specs.Grouped.{list_of};
-ghost use Rattle.sat_label.specs.Words.{below};
-ghost use Rattle.sat_sites.specs.Interested.{are_below, keeps_one, AreBelow, IsLabelOf};
+ghost use Rattle.sat_sites.specs.Interested.{AreBelow};
 ghost use Rattle.sat_bulk.specs.Windows.{has_number};
-ghost use Rattle.sat_pool.specs.Pool.{all_waiting, waiting_at};
-ghost use Rattle.sat_epoch.specs.Epochs.{advance_fault, close_fault, fall_fault, in_stamp, is_stamp, IsEpochs};
-ghost use Rattle.sat_gear.specs.Gear.{GearSeen, IsShape, is_due};
+ghost use Rattle.sat_pool.specs.Pool.{all_waiting};
+ghost use Rattle.sat_epoch.specs.Epochs.{advance_fault, close_fault, fall_fault, in_stamp};
+ghost use Rattle.sat_gear.specs.Gear.{GearSeen, is_due};
 ghost use Rattle.sat_sink.specs.Sink.{ready_of};
-ghost use Rattle.sat_label.specs.declared.limits.TheConstants.{MOST_EPOCHS};
 ghost use Rattle.sat_act.specs.Deployed.{Deployed};
 ghost use Rattle.sat_act.specs.declared.answer.Answer.TheVariants as ans;
-ghost use Rattle.sat_act.specs.Parts.{items_of, replicates};
+ghost use Rattle.sat_act.specs.Parts.{replicates};
 ghost use Rattle.sat_act.specs.Settling.{is_done};
 ghost use Rattle.sat_machine.specs.Interests.{interest_of};
 ghost use Rattle.sat_machine.specs.State.{SiteState, fresh_site};
-ghost use Rattle.sat_machine.specs.Fits.{is_time};
 ghost use Rattle.sat_machine.specs.Look.{front_of, mode_of};
-ghost use Rattle.sat_proxy.specs.Proxy.{front_at, window_of, IsProxy};
+ghost use Rattle.sat_proxy.specs.Proxy.{front_at, window_of};
 ghost use Rattle.sat_proxy.specs.Steps.{after_beat, after_bulk, has_come};
 ghost use Rattle.sat_proxy.specs.Answers.{advance_answer, attach_answer, beat_answer, bulk_answer, stamp_answer, turn_answer};
-ghost use Rattle.sat_site.specs.Seen.{has_parts_here, IsGuest, IsSite, SiteSeen};
+ghost use Rattle.sat_site.specs.Seen.{IsGuest, IsSite, SiteSeen};
 ghost use Rattle.sat_site.specs.Lanes.{lane_of};
-ghost use Rattle.sat_site.specs.Inputs.{fits_here, fits_in, is_beat_here, is_bulk_here, is_carried_here, is_counted, is_cut_here, is_front_here, is_gear_here, is_goal_here, is_group_here, is_guest_here, is_item_here, is_kept_here, is_kind_here, is_other_here, is_point_here, is_site_here, is_asked, is_sized, takes_none, BulkFits, IsFront};
+ghost use Rattle.sat_site.specs.Inputs.{fits_here, fits_in, is_counted, is_asked, is_sized, takes_none, BulkFits, IsFront};
 ghost use Rattle.sat_site.specs.Stands.{StandsSite, version_seen};
 ghost use Rattle.sat_site.specs.Gives.{PromisesUpTo, IsOfLane};
-ghost use Rattle.sat_site.specs.Changes.{beat_for, beaten, clocked, fresh_seen, made_for, new_site, HasGear};
-ghost use Rattle.sat_site.specs.SiteSteps.{close_after, close_answer, emit_sends, fall_after, fall_answer, has_target, keeps_each, keeps_item, may_turn, move_after, move_answer, next_close, next_pulse, passed_after, pulse_after, pulse_answer, shown_of, shown_parts, shown_version, site_after, site_answers, site_beat, site_epoch, site_sends, stamped_after, turned_after};
+ghost use Rattle.sat_site.specs.Changes.{beat_for, beaten, clocked, made_for, new_site, HasGear};
+ghost use Rattle.sat_site.specs.SiteSteps.{close_after, close_answer, fall_after, fall_answer, keeps_each, keeps_item, move_after, move_answer, next_pulse, passed_after, pulse_after, pulse_answer, shown_of, shown_parts, shown_version, site_after, site_answers, site_beat, site_epoch, site_sends, stamped_after, turned_after};
 ghost use Rattle.sat_site.specs.Does.{Does, Reads, Stamps, Writes};
 
-use crate::beats::{Made, counts_to, fresh_made, points_of};
 use crate::gears::{
-    all_limits, any_due, count_labels, drain_all, fresh_gears, limits, move_at, tick_all,
+    all_limits, any_due, count_labels, drain_all, fresh_gears, limits, limits_of, move_at, tick_all,
 };
-use crate::shape::{interest, shape_of, stamp_plans};
-use crate::tally::Tally;
+use crate::shape::interest;
 use crate::{SiteInput, SiteOutput, SiteView};
 use sat_act::{Answer, Deployment, Refusal};
-use sat_beat::{Beat, BeatTake};
-use sat_bulk::{Parts, Payload, Take};
-use sat_epoch::{AdvanceFault, CloseFault, FallFault, Views};
+use sat_beat::Beat;
+use sat_bulk::{Parts, Payload};
 use sat_gear::{Gear, GearFault};
-use sat_label::{Carried, Items, Kind, Label, PULSE_GEAR, Point, TS_END, Value, Values, Version};
-use sat_proxy::{Proxy, StampFault, TurnFault, Turned};
-use sat_sink::LabelSink;
-use sat_sites::{Interest, Shape};
+use sat_hub::{Hub, is_carried, is_here, is_move, is_other, is_read, is_tick, is_write, keeps_all};
+use sat_label::{Carried, Items, Kind, Label, Point, Value, Version};
+use sat_proxy::{StampFault, TurnFault, Turned};
+use sat_sites::Interest;
 use std::alloc::{AllocError, Global};
 use std::marker::Model;
 
@@ -55,35 +49,18 @@ use std::marker::Model;
 /// machine of the model does the same.
 #[derive(Drop)]
 pub struct Site {
-    alloc: Global,
-    shape: Shape,
+    hub: Hub,
     gears: Vec<Gear>,
-    sink: LabelSink,
-    counts: Tally,
-    views: Views,
-    proxy: Proxy,
-    made: Vec<Made>,
 }
 
 impl Model for Site {
-    ghost use Rattle.sat_site.specs.Seen.{SiteSeen, IsSite};
+    ghost use Rattle.sat_site.specs.Seen.{SiteSeen, IsSite, site_of};
 
     ghost Value = { SiteSeen };
 
-    ghost view = { λ a. record { shape = a.shape; gears = a.gears.items; sink = a.sink; counts = a.counts; views = a.views; proxy = a.proxy; made = a.made.items } };
+    ghost view = { λ a. site_of a.hub a.gears.items };
 
-    ghost invariant = { λ a.
-        IsSite
-        (record { shape = a.shape; gears = a.gears.items; sink = a.sink; counts = a.counts; views = a.views; proxy = a.proxy; made = a.made.items }) };
-}
-
-// What is true of a site's epochs, and of what it has of the others.
-fn sound(views: &Views, proxy: &Proxy)
-    ensures views { IsEpochs views.now }
-    ensures proxy { IsProxy proxy.now }
-{
-    let _ = views.view();
-    let _ = proxy.waiting();
+    ghost invariant = { λ a. IsSite (site_of a.hub a.gears.items) };
 }
 
 impl Site {
@@ -111,39 +88,12 @@ impl Site {
         ensures stands { IfOk result (λ made. StandsSite d.now site made (fresh_site site)) }
         ensures same { IfOk result (λ made. made ≡ new_site d.now site) }
     {
-        let shape = shape_of(d, interest, site)?;
-        let stamp = stamp_plans(alloc, d.plans())?;
+        let hub = Hub::new(alloc, d, interest, site)?;
+        let gears = fresh_gears(alloc, hub.shape())?;
+        all_limits(&gears);
         // Brings this law into the proof; it does nothing when it runs.
         sat_proxy::proxy_laws();
-        let made = Site::fresh(alloc, shape, &stamp)?;
-        Ok(made)
-    }
-
-    // A site of a shape, at which nothing has happened, by whether the plan of each epoch is stamp order.
-    fn fresh(alloc: Global, shape: Shape, stamp: &[bool]) -> Result<Site, AllocError>
-        requires shape { IsShape shape }
-        requires some { 0 < length stamp.now }
-        requires few { length stamp.now ≤ MOST_EPOCHS }
-        ensures { IfOk result (λ made. made ≡ fresh_seen shape stamp.now) }
-    {
-        let gears = fresh_gears(alloc, &shape)?;
-        all_limits(&gears);
-        let sink = LabelSink::new(alloc, shape.site, shape.gears)?;
-        let views = Views::new(alloc, shape.sites, shape.site, stamp)?;
-        let proxy = Proxy::new(alloc, shape.sites, shape.gears, shape.site)?;
-        sound(&views, &proxy);
-        let counts = Tally::new(alloc, shape.gears)?;
-        let made = fresh_made(alloc, shape.sites)?;
-        Ok(Site {
-            alloc,
-            shape,
-            gears,
-            sink,
-            counts,
-            views,
-            proxy,
-            made,
-        })
+        Ok(Site { hub, gears })
     }
 
     /// Does one act, by what it is handed, and answers it. It takes no memory for a Tick, an Emit, a Pulse, a Turn, a
@@ -160,7 +110,7 @@ impl Site {
         ensures spare { takes_none input ≡ true → IsOk result }
         ensures err { OnErr result (self.new ≡ self.old) }
     {
-        let _ = &self.shape;
+        let _ = &self.gears;
         let sent = self.sends(&input);
         let epoch = self.epoch(&input, &sent);
         let beat = self.beat_of(&input)?;
@@ -178,9 +128,9 @@ impl Site {
         ensures { result ≡ site_sends self.now input.now }
     {
         match input {
-            SiteInput::Emit => self.leaving(self.sink.next()),
-            SiteInput::Pulse => self.leaving(self.next_pulse()),
-            SiteInput::Close => self.leaving(self.next_close()),
+            SiteInput::Emit => self.hub.sends_ready(),
+            SiteInput::Pulse => self.hub.sends_pulse(),
+            SiteInput::Close => self.hub.sends_close(),
             _ => None,
         }
     }
@@ -190,8 +140,8 @@ impl Site {
         ensures next { result ≡ ready_of self.now.sink }
         ensures site { IsSite self.now }
     {
-        let _ = &self.shape;
-        self.sink.next()
+        let _ = &self.gears;
+        self.hub.next()
     }
 
     /// The label that an `emit` would send, where `next` answered this. It takes no memory.
@@ -199,63 +149,7 @@ impl Site {
         requires { next ≡ ready_of self.now.sink }
         ensures { result ≡ site_sends self.now SiteInput.Emit }
     {
-        let _ = &self.shape;
-        self.leaving(next)
-    }
-
-    // The pulse that the sink would send.
-    fn next_pulse(&self) -> Option<Label>
-        ensures { result ≡ next_pulse self.now.sink }
-    {
-        if !self.sink.pulse_ready() {
-            return None;
-        }
-        let point = Point {
-            ts: self.sink.stable(),
-            site: self.shape.site,
-            gear: PULSE_GEAR,
-        };
-        Some(Label {
-            point,
-            kind: Kind::Pulse,
-        })
-    }
-
-    // The close that the site would send.
-    fn next_close(&self) -> Option<Label>
-        ensures { result ≡ next_close (close_fault self.now.views) self.now }
-    {
-        if self.views.close_fault().is_some() {
-            return None;
-        }
-        Some(Label {
-            point: self.sink.cut(),
-            kind: Kind::Close(self.views.emission()),
-        })
-    }
-
-    // What is sent of a label: the label, where it has a target and the plan of the emission epoch is a tree.
-    fn leaving(&self, next: Option<Label>) -> Option<Label>
-        requires { (l : Label) → next ≡ Some l → IsLabelOf self.now.shape.interest l }
-        ensures { result ≡ emit_sends (is_stamp self.now.views self.now.views.emission) self.now.shape next }
-    {
-        if self.views.is_stamp(self.views.emission()) {
-            return None;
-        }
-        let label = next?;
-        if !self.has_target(&label) {
-            return None;
-        }
-        Some(label)
-    }
-
-    // Whether a label is for some site.
-    fn has_target(&self, label: &Label) -> bool
-        requires { IsLabelOf self.now.shape.interest label.now }
-        ensures { result ≡ has_target self.now.shape label.now }
-    {
-        let targets = self.shape.interest.targets(label);
-        targets.meets(&targets)
+        self.hub.sends_next(next)
     }
 
     // The epoch of what is sent, or of what a turn takes.
@@ -264,10 +158,10 @@ impl Site {
         ensures { result ≡ site_epoch self.now input.now }
     {
         match input {
-            SiteInput::Turn { .. } => self.views.view(),
+            SiteInput::Turn { .. } => self.hub.view(),
             _ => match sent {
                 None => 0,
-                Some(_) => self.views.emission(),
+                Some(_) => self.hub.emission(),
             },
         }
     }
@@ -295,7 +189,7 @@ impl Site {
         ensures spare { takes_none input ≡ true → IsOk result }
         ensures err { OnErr result (self.new ≡ self.old) }
     {
-        let _ = &self.shape;
+        let _ = &self.gears;
         // The calls below do one kind of act each.
         match input {
             SiteInput::Tick { gear, ts } => Ok(Answer::Ticked(self.tick(gear, ts))),
@@ -343,7 +237,7 @@ impl Site {
         requires { item < length self.now.shape.interest.replicas }
         ensures { result ≡ keeps_item self.now item }
     {
-        self.shape.interest.replicas(item).has(self.shape.site)
+        is_here(self.hub.shape(), item)
     }
 
     // A gear by its number.
@@ -360,7 +254,7 @@ impl Site {
         ensures number { result ≡ item % self.now.shape.gears }
         ensures gear { result < self.now.shape.gears }
     {
-        item % self.shape.gears
+        self.hub.gear_of(item)
     }
 
     // Whether the site keeps each of some items.
@@ -368,14 +262,7 @@ impl Site {
         requires { AreBelow (length self.now.shape.interest.replicas) (list_of items.now) }
         ensures { result ≡ keeps_each self.now (list_of items.now) }
     {
-        match *items {
-            Items::One(a) => self.keeps(a),
-            Items::Two(a, b) => self.keeps(a) && self.keeps(b),
-            Items::Three(a, b, c) => self.keeps(a) && self.keeps(b) && self.keeps(c),
-            Items::Four(a, b, c, d) => {
-                self.keeps(a) && self.keeps(b) && self.keeps(c) && self.keeps(d)
-            }
-        }
+        keeps_all(self.hub.shape(), items)
     }
 
     /// Does a client's write of items, each with its value, with what the client carries, and answers it: it is refused
@@ -452,23 +339,20 @@ impl Site {
         ensures err { OnErr result (self.new ≡ self.old) }
     {
         let labels = count_labels(&self.gears).ok_or(AllocError)?;
-        self.counts.gather(&mut self.sink, &self.gears)?;
+        let stable = self.hub.gather_from(&self.gears)?;
         drain_all(&mut self.gears);
         all_limits(&self.gears);
-        Ok(Answer::Gathered {
-            labels,
-            stable: self.sink.stable(),
-        })
+        limits_of(&self.hub);
+        Ok(Answer::Gathered { labels, stable })
     }
 
     /// Takes the sink's next label, and answers it. It takes no memory.
     pub fn emit(&mut self) -> Answer
         ensures { Does self.old SiteInput.Emit result self.new }
     {
-        let Some(label) = self.sink.emit() else {
-            return Answer::Refused(Refusal::Idle);
-        };
-        Answer::Emitted(label)
+        let answer = self.hub.emit();
+        limits_of(&self.hub);
+        answer
     }
 
     /// Takes the label that `next` answers, as `emit` does, which has to look for it. It takes no memory.
@@ -476,7 +360,8 @@ impl Site {
         requires { ready_of self.old.sink ≡ Some label }
         ensures { Does self.old SiteInput.Emit result self.new }
     {
-        self.sink.emit_known(label);
+        self.hub.emit_known(label);
+        limits_of(&self.hub);
         Answer::Emitted(label)
     }
 
@@ -485,10 +370,9 @@ impl Site {
         ensures answer { result ≡ pulse_answer (next_pulse self.old.sink) }
         ensures after { self.new ≡ pulse_after self.old (next_pulse self.old.sink) }
     {
-        match self.sink.pulse() {
-            None => Answer::Refused(Refusal::Idle),
-            Some(label) => Answer::Pulsed(label),
-        }
+        let answer = self.hub.pulse();
+        limits_of(&self.hub);
+        answer
     }
 
     // A client's move to another site, stamped by gear 0.
@@ -500,7 +384,8 @@ impl Site {
             (self.new ≡ move_after self.old (to == self.old.shape.site) (slice_get self.old.gears 0) carried to) }
         ensures err { OnErr result (self.new ≡ self.old) }
     {
-        if to == self.shape.site {
+        let shape = self.hub.shape();
+        if to == shape.site {
             return Ok(Answer::Refused(Refusal::SameSite));
         }
         let gear = &mut self.gears[0];
@@ -514,11 +399,7 @@ impl Site {
         requires { carried.now.point.site < self.now.shape.sites }
         ensures { result ≡ attach_answer self.now.views self.now.proxy carried.now }
     {
-        if self.proxy.may_attach(&self.views, carried) {
-            Answer::Attached
-        } else {
-            Answer::Refused(Refusal::NotYet)
-        }
+        self.hub.attach(carried)
     }
 
     /// Shows or takes the front of the link to the site, and answers it. It takes no memory.
@@ -527,8 +408,8 @@ impl Site {
         ensures answer { result ≡ turn_answer self.old.views self.old.proxy front }
         ensures after { self.new ≡ turned_after self.old front }
     {
-        let turned = self.proxy.turn(&mut self.views, front);
-        sound(&self.views, &self.proxy);
+        let turned = self.hub.turn(front);
+        limits_of(&self.hub);
         match turned {
             Ok(Turned::Show(payload)) => self.show_guest(payload),
             Ok(Turned::Took(label)) => Answer::Took(label),
@@ -543,8 +424,8 @@ impl Site {
         ensures answer { result ≡ stamp_answer self.old.views self.old.proxy }
         ensures after { self.new ≡ stamped_after self.old }
     {
-        let shown = self.proxy.stamp(&self.views);
-        sound(&self.views, &self.proxy);
+        let shown = self.hub.stamp();
+        limits_of(&self.hub);
         match shown {
             Ok(payload) => self.show_guest(payload),
             Err(StampFault::TreeOrder) => Answer::Refused(Refusal::TreeOrder),
@@ -625,14 +506,9 @@ impl Site {
             (self.new ≡ record self.old { proxy = after_bulk self.old.proxy from gear number payload }) }
         ensures err { OnErr result (self.new ≡ self.old) }
     {
-        let label = payload.label();
-        let taken = self.proxy.bulk(from, gear, number, payload);
-        sound(&self.views, &self.proxy);
-        match taken {
-            Ok(Take::New) => Ok(Answer::Brought(label)),
-            Ok(Take::Again) => Ok(Answer::Again),
-            Err(_) => Err(AllocError),
-        }
+        let answer = self.hub.bulk(from, gear, number, payload);
+        limits_of(&self.hub);
+        answer
     }
 
     /// The beat that a step would make for another site now. It changes nothing.
@@ -641,14 +517,8 @@ impl Site {
         ensures beat { IfOk result (λ beat. beat ≡ beat_for self.now to) }
         ensures site { IsSite self.now }
     {
-        let _ = &self.shape;
-        let closes = points_of(self.alloc, self.views.closes())?;
-        let counts = counts_to(self.alloc, self.counts.rows(), to)?;
-        Ok(Beat {
-            cut: self.sink.cut(),
-            closes,
-            counts,
-        })
+        let _ = &self.gears;
+        self.hub.beat(to)
     }
 
     // Makes a beat for another site, and keeps it.
@@ -658,10 +528,9 @@ impl Site {
         ensures after { OnOk result (self.new ≡ beaten self.old to) }
         ensures err { OnErr result (self.new ≡ self.old) }
     {
-        let beat = self.beat(to)?;
-        let made = &mut self.made[to as usize];
-        let number = made.add(beat)?;
-        Ok(Answer::Beat(number))
+        let answer = self.hub.make_beat(to);
+        limits_of(&self.hub);
+        answer
     }
 
     fn beat_in(&mut self, from: u16, number: u64, beat: Beat) -> Result<Answer, AllocError>
@@ -672,14 +541,9 @@ impl Site {
             (self.new ≡ record self.old { proxy = after_beat self.old.proxy from number beat }) }
         ensures err { OnErr result (self.new ≡ self.old) }
     {
-        let taken = self.proxy.beat_in(from, number, beat);
-        sound(&self.views, &self.proxy);
-        match taken {
-            Ok(BeatTake::New) => Ok(Answer::Taken),
-            Ok(BeatTake::Again) => Ok(Answer::Again),
-            Ok(BeatTake::Old) => Ok(Answer::Old),
-            Err(_) => Err(AllocError),
-        }
+        let answer = self.hub.beat_in(from, number, beat);
+        limits_of(&self.hub);
+        answer
     }
 
     // Closes the emission epoch at the site's cut.
@@ -687,30 +551,18 @@ impl Site {
         ensures answer { result ≡ close_answer (close_fault self.old.views) self.old }
         ensures after { self.new ≡ close_after (close_fault self.old.views) self.old }
     {
-        let cut = self.sink.cut();
-        let closed = self.views.close(cut);
-        sound(&self.views, &self.proxy);
-        match closed {
-            Ok(epoch) => {
-                self.sink.closed();
-                Answer::Closed { epoch, cut }
-            }
-            Err(CloseFault::NoNextEpoch) => Answer::Refused(Refusal::NoNextEpoch),
-            Err(CloseFault::Behind) => Answer::Refused(Refusal::Behind),
-        }
+        let answer = self.hub.close();
+        limits_of(&self.hub);
+        answer
     }
 
     fn fall(&mut self) -> Answer
         ensures answer { result ≡ fall_answer (fall_fault self.old.views) }
         ensures after { self.new ≡ fall_after (fall_fault self.old.views) self.old }
     {
-        let fell = self.views.fall();
-        sound(&self.views, &self.proxy);
-        match fell {
-            Ok(()) => Answer::Fallen,
-            Err(FallFault::StampOrder) => Answer::Refused(Refusal::StampOrder),
-            Err(FallFault::NotClosed) => Answer::Refused(Refusal::NotClosed),
-        }
+        let answer = self.hub.fall();
+        limits_of(&self.hub);
+        answer
     }
 
     fn advance(&mut self) -> Answer
@@ -718,13 +570,9 @@ impl Site {
         ensures after { self.new
             ≡ passed_after (advance_fault self.old.views (has_come self.old.views self.old.proxy)) self.old }
     {
-        let passed = self.proxy.advance(&mut self.views);
-        sound(&self.views, &self.proxy);
-        match passed {
-            Ok(view) => Answer::View(view),
-            Err(AdvanceFault::NotClosed) => Answer::Refused(Refusal::NotClosed),
-            Err(AdvanceFault::NotYet) => Answer::Refused(Refusal::NotYet),
-        }
+        let answer = self.hub.advance();
+        limits_of(&self.hub);
+        answer
     }
 
     /// Raises the promise of each gear to a timestamp that none of them is above. It takes no memory.
@@ -751,22 +599,12 @@ impl Site {
         ensures { result ≡ (fits_in self.now input.now && is_done (site_answers self.now input.now)) }
     {
         match input {
-            SiteInput::Emit => self.sink.next().is_some(),
-            SiteInput::Pulse => self.sink.pulse_ready(),
-            SiteInput::Turn { front } => self.can_turn(front),
-            SiteInput::Stamp => self.proxy.can_stamp(&self.views),
-            SiteInput::Advance => self.proxy.can_advance(&self.views),
+            SiteInput::Emit => self.hub.can_emit(),
+            SiteInput::Pulse => self.hub.can_pulse(),
+            SiteInput::Turn { front } => self.hub.can_turn(front),
+            SiteInput::Stamp => self.hub.can_stamp(),
+            SiteInput::Advance => self.hub.can_advance(),
             _ => false,
-        }
-    }
-
-    // Whether a turn would do something, with this front.
-    fn can_turn(&self, front: &Option<Label>) -> bool
-        ensures { result ≡ may_turn self.now front.now }
-    {
-        match front {
-            None => false,
-            Some(label) => self.is_front(label) && self.proxy.can_turn(&self.views, Some(label)),
         }
     }
 
@@ -782,28 +620,29 @@ impl Site {
     fn fits_here(&self, input: &SiteInput) -> bool
         ensures { result ≡ fits_here self.now input.now }
     {
+        let shape = self.hub.shape();
         match input {
-            SiteInput::Tick { gear, ts } => self.is_tick(*gear, *ts),
+            SiteInput::Tick { gear, ts } => is_tick(shape, *gear, *ts),
             SiteInput::Write {
                 carried,
                 items,
                 values,
-            } => self.is_write(carried, items, values),
-            SiteInput::Read { carried, item } => self.is_read(carried, *item),
-            SiteInput::Move { carried, to } => self.is_carried(carried) && self.is_site(*to),
-            SiteInput::Attach { carried } => self.is_carried(carried),
+            } => is_write(shape, carried, items, values),
+            SiteInput::Read { carried, item } => is_read(shape, carried, *item),
+            SiteInput::Move { carried, to } => is_move(shape, carried, *to),
+            SiteInput::Attach { carried } => is_carried(shape, carried),
             SiteInput::Turn { front } => match front {
                 None => true,
-                Some(label) => self.is_front(label),
+                Some(label) => self.hub.is_front(label),
             },
             SiteInput::Bulk {
                 from,
                 gear,
                 number,
                 payload,
-            } => self.is_bulk(*from, *gear, *number, payload),
-            SiteInput::Beat { to } => self.is_other(*to),
-            SiteInput::BeatIn { from, beat, .. } => self.is_other(*from) && self.is_beat(beat),
+            } => self.hub.is_bulk(*from, *gear, *number, payload),
+            SiteInput::Beat { to } => is_other(shape, *to),
+            SiteInput::BeatIn { from, beat, .. } => self.hub.is_beat(*from, beat),
             SiteInput::Gather => true,
             SiteInput::Emit => true,
             SiteInput::Pulse => true,
@@ -821,235 +660,10 @@ impl Site {
         match input {
             SiteInput::Bulk { number, .. } => *number < (1 << 63),
             SiteInput::BeatIn { number, beat, .. } => {
-                *number < (1 << 63) && self.is_counted(beat)
+                *number < (1 << 63) && self.hub.is_counted(beat)
             }
             _ => true,
         }
-    }
-
-    fn is_counted(&self, beat: &Beat) -> bool
-        ensures { result ≡ is_counted self.now beat.now }
-    {
-        beat.counts.as_slice().len() == self.shape.gears as usize
-            && beat.closes.as_slice().len() <= self.views.epochs() as usize
-    }
-
-    fn is_site(&self, site: u16) -> bool
-        ensures { result ≡ is_site_here self.now.shape site }
-    {
-        site < self.shape.sites
-    }
-
-    fn is_point(&self, point: &Point) -> bool
-        ensures { result ≡ is_point_here self.now.shape point.now }
-    {
-        point.ts <= TS_END && point.site < self.shape.sites
-    }
-
-    // A close cut, if there is one.
-    fn is_cut(&self, closes: &[Point], place: usize) -> bool
-        ensures { result ≡ is_cut_here self.now.shape (slice_get closes.now place) }
-    {
-        match closes.get(place) {
-            None => true,
-            Some(point) => self.is_point(point),
-        }
-    }
-
-    // Whether the close cut of each epoch is a point, if there is one.
-    #[tactic(auto, using(sat_epoch::proofs::AllBelow::all_start, sat_epoch::proofs::AllBelow::all_more, sat_epoch::proofs::AllBelow::all_stops))]
-    fn are_cuts(&self, closes: &[Point]) -> bool
-        ensures { result ≡ list_all (λ n. is_cut_here self.now.shape (slice_get closes.now n))
-            (below (length self.now.views.stamp)) }
-    {
-        for place in 0..self.views.epochs() as usize {
-            if !self.is_cut(closes, place) {
-                return false;
-            }
-        }
-        true
-    }
-
-    fn is_beat(&self, beat: &Beat) -> bool
-        ensures { result ≡ is_beat_here self.now.shape (length self.now.views.stamp) beat.now }
-    {
-        self.is_point(&beat.cut) && self.are_cuts(beat.closes.as_slice())
-    }
-
-    fn is_gear(&self, gear: u16) -> bool
-        ensures { result ≡ is_gear_here self.now.shape gear }
-    {
-        gear < self.shape.gears
-    }
-
-    fn is_tick(&self, gear: u16, ts: u64) -> bool
-        ensures { result ≡ (is_gear_here self.now.shape gear && is_time ts) }
-    {
-        self.is_gear(gear) && ts <= TS_END
-    }
-
-    fn is_item(&self, item: u16) -> bool
-        ensures { result ≡ is_item_here self.now.shape item }
-    {
-        (item as usize) < self.shape.interest.items()
-    }
-
-    fn is_other(&self, site: u16) -> bool
-        ensures { result ≡ is_other_here self.now.shape site }
-    {
-        site < self.shape.sites && site != self.shape.site
-    }
-
-    fn is_goal(&self, goal: Option<u16>) -> bool
-        ensures { result ≡ is_goal_here self.now.shape goal }
-    {
-        match goal {
-            None => true,
-            Some(site) => site < self.shape.sites,
-        }
-    }
-
-    fn is_carried(&self, carried: &Carried) -> bool
-        ensures { result ≡ is_carried_here self.now.shape carried.now }
-    {
-        carried.point.ts <= TS_END
-            && carried.point.site < self.shape.sites
-            && self.is_goal(carried.moving)
-    }
-
-    // The items of one update of the deployment.
-    fn is_group(&self, items: &Items) -> bool
-        ensures { result ≡ is_group_here self.now.shape items.now }
-    {
-        items.ascend() && self.shape.interest.knows(items)
-    }
-
-    fn is_write(&self, carried: &Carried, items: &Items, values: &Values) -> bool
-        ensures { result ≡ (is_carried_here self.now.shape carried.now
-            && (is_group_here self.now.shape items.now && (length values.now == length (list_of items.now)))) }
-    {
-        self.is_carried(carried) && self.is_group(items) && values.as_slice().len() == items.len()
-    }
-
-    fn is_read(&self, carried: &Carried, item: u16) -> bool
-        ensures { result ≡ (is_carried_here self.now.shape carried.now && is_item_here self.now.shape item) }
-    {
-        self.is_carried(carried) && self.is_item(item)
-    }
-
-    fn is_kind(&self, kind: Kind) -> bool
-        ensures { result ≡ is_kind_here self.now.shape self.now.views.view kind }
-    {
-        match kind {
-            Kind::Update(items) => self.is_group(&items),
-            Kind::Move(site) => site < self.shape.sites,
-            Kind::Pulse => true,
-            Kind::Close(epoch) => epoch == self.views.view(),
-        }
-    }
-
-    fn is_front(&self, label: &Label) -> bool
-        ensures { result ≡ is_front_here self.now.shape self.now.views.view label.now }
-    {
-        label.point.ts <= TS_END && self.is_other(label.point.site) && self.is_kind(label.kind)
-    }
-
-    // Whether the site keeps one of some items.
-    fn keeps_one(&self, items: &Items) -> bool
-        requires { AreBelow (length self.now.shape.interest.replicas) (list_of items.now) }
-        ensures { result ≡ keeps_one self.now.shape.interest (list_of items.now) self.now.shape.site }
-    {
-        match *items {
-            Items::One(a) => self.keeps(a),
-            Items::Two(a, b) => self.keeps(a) || self.keeps(b),
-            Items::Three(a, b, c) => self.keeps(a) || self.keeps(b) || self.keeps(c),
-            Items::Four(a, b, c, d) => {
-                self.keeps(a) || self.keeps(b) || self.keeps(c) || self.keeps(d)
-            }
-        }
-    }
-
-    // The items of one update of the deployment, of which the site keeps one.
-    #[tactic(auto, using(sat_sites::proofs::Below::below_is))]
-    fn is_group_kept(&self, items: &Items) -> bool
-        ensures { result ≡ (is_group_here self.now.shape items.now
-            && keeps_one self.now.shape.interest (list_of items.now) self.now.shape.site) }
-    {
-        self.is_group(items) && self.keeps_one(items)
-    }
-
-    // An update of items of the deployment, of which the site keeps one.
-    fn is_kept(&self, kind: Kind) -> bool
-        ensures { result ≡ is_kept_here self.now.shape kind }
-    {
-        match kind {
-            Kind::Update(items) => self.is_group_kept(&items),
-            _ => false,
-        }
-    }
-
-    fn is_guest(&self, from: u16, label: &Label) -> bool
-        ensures { result ≡ is_guest_here self.now.shape from label.now }
-    {
-        label.point.ts <= TS_END && label.point.site == from && self.is_kept(label.kind)
-    }
-
-    // Whether a payload has a part of this place, where the site keeps the item.
-    fn has_part(&self, item: u16, payload: &Payload, place: usize) -> bool
-        requires item { item < length self.now.shape.interest.replicas }
-        requires place { place < length payload.now.values }
-        ensures { result ≡ (not (keeps_item self.now item) || is_some (get_or payload.now.values place None)) }
-    {
-        !self.keeps(item) || payload.has(place)
-    }
-
-    // Whether a payload has as many parts as there are items, and a value for each item that the site keeps.
-    fn has_parts(&self, items: &Items, payload: &Payload) -> bool
-        requires { AreBelow (length self.now.shape.interest.replicas) (list_of items.now) }
-        ensures { result ≡ has_parts_here self.now.shape (list_of items.now) payload.now.values }
-    {
-        if payload.len() != items.len() {
-            return false;
-        }
-        match *items {
-            Items::One(a) => self.has_part(a, payload, 0),
-            Items::Two(a, b) => self.has_part(a, payload, 0) && self.has_part(b, payload, 1),
-            Items::Three(a, b, c) => {
-                self.has_part(a, payload, 0)
-                    && self.has_part(b, payload, 1)
-                    && self.has_part(c, payload, 2)
-            }
-            Items::Four(a, b, c, d) => {
-                self.has_part(a, payload, 0)
-                    && self.has_part(b, payload, 1)
-                    && self.has_part(c, payload, 2)
-                    && self.has_part(d, payload, 3)
-            }
-        }
-    }
-
-    // Whether a payload has as many parts as its label has items, and a value for each item that the site keeps.
-    fn is_whole(&self, payload: &Payload) -> bool
-        requires { is_kept_here self.now.shape payload.now.label.kind ≡ true }
-        ensures { result ≡ has_parts_here self.now.shape (items_of payload.now.label.kind) payload.now.values }
-    {
-        let Kind::Update(items) = payload.label().kind else {
-            unreachable!()
-        };
-        self.has_parts(&items, payload)
-    }
-
-    fn is_bulk(&self, from: u16, gear: u16, number: u64, payload: &Payload) -> bool
-        ensures { result ≡ is_bulk_here self.now.shape self.now.proxy from gear number payload.now }
-    {
-        if !self.is_other(from) || !self.is_gear(gear) {
-            return false;
-        }
-        let label = payload.label();
-        if !self.is_guest(from, &label) || !self.is_whole(payload) {
-            return false;
-        }
-        self.proxy.has(from, gear, number) || self.proxy.payload(&label.point).is_none()
     }
 
     /// What the site shows of itself.
@@ -1062,10 +676,10 @@ impl Site {
             ≡ record { view = s.views.view; emission = s.views.emission; stamp = mode_of d s; waiting = length s.proxy.pool } }
     {
         SiteView {
-            view: self.views.view(),
-            emission: self.views.emission(),
-            stamp: self.views.in_stamp_mode(),
-            waiting: self.proxy.waiting(),
+            view: self.hub.view(),
+            emission: self.hub.emission(),
+            stamp: self.hub.in_stamp_mode(),
+            waiting: self.hub.waiting(),
         }
     }
 
@@ -1116,7 +730,8 @@ impl Site {
         ensures has { result ≡ has_number (window_of self.now.proxy from gear) number }
         ensures site { IsSite self.now }
     {
-        self.proxy.has(from, gear, number)
+        let _ = &self.gears;
+        self.hub.has(from, gear, number)
     }
 
     /// The beat with this number of those that the site made for another one, None where there is none. It takes no
@@ -1126,8 +741,8 @@ impl Site {
         ensures beat { option_copied result ≡ slice_get (made_for self.now to) number }
         ensures sound { IsSite self.now }
     {
-        let _ = &self.shape;
-        self.made[to as usize].get(number)
+        let _ = &self.gears;
+        self.hub.made_beat(to, number)
     }
 
     /// The timestamp up to which a gear makes no label any more.
@@ -1151,6 +766,6 @@ impl Site {
             → result ≡ front_of s from gear }
         ensures seen { result ≡ front_at self.now.proxy from gear }
     {
-        self.proxy.front(from, gear)
+        self.hub.front(from, gear)
     }
 }

@@ -1,6 +1,6 @@
 use Rattle.std.proofs.Common.{arith}
 use Rattle.sat_site.proofs.Loops.{limits-more}
-use Rattle.sat_site.proofs.Lists.{get-within}
+use Rattle.sat_hub.proofs.Lists.{get-within}
 use Rattle.sat_site.proofs.gears.all_limits.Goals as goal
 
 pub loop-gear-preserved : goal.loop-gear-preserved

@@ -2,56 +2,40 @@ use Rattle.std.proofs.Common.{Option, sym, ap, ◌∙◌}
 use Rattle.sat_label.specs.declared.label.Label.{Label}
 use Rattle.sat_site.specs.declared.input.SiteInput.TheVariants as input
 use Rattle.sat_site.specs.Inputs.{fits_here}
-use Rattle.sat_site.proofs.Acted.{and-off, and-on}
+use Rattle.sat_site.specs.Seen.{SiteSeen}
+use Rattle.sat_site.proofs.Asked.{asks-attach, asks-beat, asks-beat-in, asks-bulk, asks-move, asks-read, asks-tick, asks-turn, asks-write}
 use Rattle.sat_site.proofs.site.Site.fits_here.Goals as goal
 
 pub returns-in-Tick : goal.returns-in-Tick
-unfolding fits_here
-returns-in-Tick c = c.is_tick.ensures ∙ ap (fits_here c.args.self.now) (sym c.in-Tick.is)
+returns-in-Tick c = asks-tick _ _ _ _ _ _ (c.shape-shape.ensures.shape ∙ ap (λ (x : SiteSeen). x.shape) c.self.view_is) c.in-Tick.is c.is_tick.ensures
 
 pub returns-in-Write : goal.returns-in-Write
-unfolding fits_here
-returns-in-Write c = c.is_write.ensures ∙ ap (fits_here c.args.self.now) (sym c.in-Write.is)
+returns-in-Write c = asks-write _ _ _ _ _ _ _ (c.shape-shape.ensures.shape ∙ ap (λ (x : SiteSeen). x.shape) c.self.view_is) c.in-Write.is c.is_write.ensures
 
 pub returns-in-Read : goal.returns-in-Read
-unfolding fits_here
-returns-in-Read c = c.is_read.ensures ∙ ap (fits_here c.args.self.now) (sym c.in-Read.is)
+returns-in-Read c = asks-read _ _ _ _ _ _ (c.shape-shape.ensures.shape ∙ ap (λ (x : SiteSeen). x.shape) c.self.view_is) c.in-Read.is c.is_read.ensures
 
-pub returns-then-is_carried : goal.returns-then-is_carried
-unfolding fits_here
-returns-then-is_carried c = c.is_site.ensures ∙ (sym (and-on _ _ (sym c.if-is_carried.ensures)) ∙ ap (fits_here c.args.self.now) (sym c.in-Move.is))
-
-pub returns-else-is_carried : goal.returns-else-is_carried
-unfolding fits_here
-returns-else-is_carried c = and-off _ _ _ c.is_carried.ensures (sym c.if-is_carried.ensures) ∙ ap (fits_here c.args.self.now) (sym c.in-Move.is)
+pub returns-in-Move : goal.returns-in-Move
+returns-in-Move c = asks-move _ _ _ _ _ _ (c.shape-shape.ensures.shape ∙ ap (λ (x : SiteSeen). x.shape) c.self.view_is) c.in-Move.is c.is_move.ensures
 
 pub returns-in-Attach : goal.returns-in-Attach
-unfolding fits_here
-returns-in-Attach c = c.is_carried-in-Attach.ensures ∙ ap (fits_here c.args.self.now) (sym c.in-Attach.is)
+returns-in-Attach c = asks-attach _ _ _ _ _ (c.shape-shape.ensures.shape ∙ ap (λ (x : SiteSeen). x.shape) c.self.view_is) c.in-Attach.is c.is_carried.ensures
+
+pub returns-in-Beat : goal.returns-in-Beat
+returns-in-Beat c = asks-beat _ _ _ _ _ (c.shape-shape.ensures.shape ∙ ap (λ (x : SiteSeen). x.shape) c.self.view_is) c.in-Beat.is c.is_other.ensures
 
 pub returns-in-None : goal.returns-in-None
 unfolding fits_here
 returns-in-None c = ap (λ (o : Option Label). fits_here c.args.self.now (input.Turn o)) (sym c.in-None.is) ∙ ap (fits_here c.args.self.now) (sym c.in-Turn.is)
 
 pub returns-in-Some : goal.returns-in-Some
-unfolding fits_here
-returns-in-Some c = c.is_front.ensures ∙ (ap (λ (o : Option Label). fits_here c.args.self.now (input.Turn o)) (sym c.in-Some.is) ∙ ap (fits_here c.args.self.now) (sym c.in-Turn.is))
+returns-in-Some c = asks-turn _ _ _ _ _ c.self.view_is (c.in-Turn.is ∙ ap input.Turn c.in-Some.is) c.is_front.ensures
 
 pub returns-in-Bulk : goal.returns-in-Bulk
-unfolding fits_here
-returns-in-Bulk c = c.is_bulk.ensures ∙ ap (fits_here c.args.self.now) (sym c.in-Bulk.is)
+returns-in-Bulk c = asks-bulk _ _ _ _ _ _ _ _ c.self.view_is c.in-Bulk.is c.is_bulk.ensures
 
-pub returns-in-Beat : goal.returns-in-Beat
-unfolding fits_here
-returns-in-Beat c = c.is_other.ensures ∙ ap (fits_here c.args.self.now) (sym c.in-Beat.is)
-
-pub returns-then-is_other : goal.returns-then-is_other
-unfolding fits_here
-returns-then-is_other c = c.is_beat.ensures ∙ (sym (and-on _ _ (sym c.if-is_other.ensures)) ∙ ap (fits_here c.args.self.now) (sym c.in-BeatIn.is))
-
-pub returns-else-is_other : goal.returns-else-is_other
-unfolding fits_here
-returns-else-is_other c = and-off _ _ _ c.is_other-in-BeatIn.ensures (sym c.if-is_other.ensures) ∙ ap (fits_here c.args.self.now) (sym c.in-BeatIn.is)
+pub returns-in-BeatIn : goal.returns-in-BeatIn
+returns-in-BeatIn c = asks-beat-in _ _ _ _ _ _ _ c.self.view_is c.in-BeatIn.is c.is_beat.ensures
 
 pub returns-in-Gather : goal.returns-in-Gather
 unfolding fits_here

@@ -1,47 +1,38 @@
-use Rattle.sat_site.proofs.Given.{turn-from, turn-other, turn-close, turn-guest, turn-leaves, turn-shown, turn-shows, turn-takes, turn-took}
-use Rattle.sat_site.proofs.Peers.{turn-site}
+use Rattle.std.proofs.Common.{Ok, refl, subst, sym, ap, ◌∙◌}
+use Rattle.sat_site.specs.Inputs.{IsFront}
+use Rattle.sat_site.specs.Seen.{SiteSeen}
+use Rattle.sat_site.proofs.Hubs.{fault-after, made-site, turn-after, turn-guest, turn-told}
 use Rattle.sat_site.proofs.site.Site.turn.Goals as goal
 
-pub turn-turned-requires-clause-from : goal.turn-turned-requires-clause-from
-turn-turned-requires-clause-from c = turn-from _ _ c.args.front c.self.view_is c.self.invariant c.requires
-
-pub turn-turned-requires-clause-other : goal.turn-turned-requires-clause-other
-turn-turned-requires-clause-other c = turn-other _ _ c.args.front c.self.view_is c.self.invariant c.requires
-
-pub turn-turned-requires-clause-close : goal.turn-turned-requires-clause-close
-turn-turned-requires-clause-close c = turn-close _ _ c.args.front c.self.view_is c.requires
+pub turn-turned-requires : goal.turn-turned-requires
+turn-turned-requires c = λ l e. subst (λ (x : SiteSeen). IsFront x l) (sym c.self.view_is) (c.requires l e)
 
 pub show_guest-requires : goal.show_guest-requires
-show_guest-requires c = turn-guest _ c.args.front c.in-Ok-Show.field-0 c.in-Ok-Show.payload c.self.invariant c.in-Ok-Show.ensures.gives c.in-Ok-Show.field-0-is
+show_guest-requires c = turn-guest c.self.inside.hub _ c.args.front c.turn-turned.result c.in-Ok-Show.field-0 c.in-Ok-Show.payload c.turn-turned.ensures.guest c.turn-turned.ensures.after c.in-Ok-Show.is c.in-Ok-Show.field-0-is
 
 pub invariant_of-self : goal.invariant_of-self
-invariant_of-self c = turn-site _ c.turn-turned.result c.turn-turned.new.views c.turn-turned.new.self c.args.front c.self.invariant c.sound.ensures.views c.sound.ensures.proxy c.turn-turned.ensures.new c.turn-turned.ensures.heard c.turn-turned.ensures.err c.turn-turned.ensures.unheard
+invariant_of-self c = made-site _ _ _ _ c.self.invariant c.limits_of.ensures c.turn-turned.ensures.after refl refl
 
 pub invariant_of-self-in-Ok-Took : goal.invariant_of-self-in-Ok-Took
-invariant_of-self-in-Ok-Took c = turn-site _ c.turn-turned.result c.turn-turned.new.views c.turn-turned.new.self c.args.front c.self.invariant c.sound.ensures.views c.sound.ensures.proxy c.turn-turned.ensures.new c.turn-turned.ensures.heard c.turn-turned.ensures.err c.turn-turned.ensures.unheard
+invariant_of-self-in-Ok-Took c = made-site _ _ _ _ c.self.invariant c.limits_of.ensures c.turn-turned.ensures.after refl refl
 
 pub returns-in-Ok-Show-clause-answer : goal.returns-in-Ok-Show-clause-answer
-returns-in-Ok-Show-clause-answer c = turn-shown _ _ c.args.front c.in-Ok-Show.field-0 c.in-Ok-Show.payload _ c.self.view_is c.in-Ok-Show.ensures.gives c.in-Ok-Show.field-0-is c.show_guest.ensures.answer
-
-pub returns-in-Ok-Took-clause-answer : goal.returns-in-Ok-Took-clause-answer
-returns-in-Ok-Took-clause-answer c = turn-took _ _ c.args.front c.in-Ok-Took.field-0 c.in-Ok-Took.label c.self.view_is c.in-Ok-Took.ensures.gives c.in-Ok-Took.field-0-is
+returns-in-Ok-Show-clause-answer c = turn-told _ _ _ c.args.front c.turn-turned.result _ _ c.self.view_is c.turn-turned.ensures.answer (c.in-Ok-Show.is ∙ ap Ok c.in-Ok-Show.field-0-is) c.show_guest.ensures.answer
 
 pub returns-in-Ok-Show-clause-after : goal.returns-in-Ok-Show-clause-after
-returns-in-Ok-Show-clause-after c =
-    turn-shows _ _ c.args.front c.in-Ok-Show.field-0 c.in-Ok-Show.payload c.turn-turned.new.views c.turn-turned.new.self _ c.self.view_is c.in-Ok-Show.ensures.gives c.in-Ok-Show.field-0-is c.in-Ok-Show.ensures.new c.in-Ok-Show.ensures.heard c.show_guest.ensures.after
+returns-in-Ok-Show-clause-after c = turn-after _ _ _ _ _ c.args.front c.turn-turned.result _ c.self.view_is c.turn-turned.ensures.after c.turn-turned.ensures.shows (c.in-Ok-Show.is ∙ ap Ok c.in-Ok-Show.field-0-is) c.show_guest.ensures.after
+
+pub returns-in-Ok-Took-clause-answer : goal.returns-in-Ok-Took-clause-answer
+returns-in-Ok-Took-clause-answer c = turn-told _ _ _ c.args.front c.turn-turned.result _ _ c.self.view_is c.turn-turned.ensures.answer (c.in-Ok-Took.is ∙ ap Ok c.in-Ok-Took.field-0-is) refl
 
 pub returns-in-Ok-Took-clause-after : goal.returns-in-Ok-Took-clause-after
-returns-in-Ok-Took-clause-after c =
-    turn-takes _ _ c.args.front c.in-Ok-Took.field-0 c.in-Ok-Took.label c.turn-turned.new.views c.turn-turned.new.self c.self.view_is c.in-Ok-Took.ensures.gives c.in-Ok-Took.field-0-is c.in-Ok-Took.ensures.new c.in-Ok-Took.ensures.heard
+returns-in-Ok-Took-clause-after c = turn-after _ _ _ _ _ c.args.front c.turn-turned.result _ c.self.view_is c.turn-turned.ensures.after c.turn-turned.ensures.shows (c.in-Ok-Took.is ∙ ap Ok c.in-Ok-Took.field-0-is) refl
 
 pub returns-in-Err-StampOrder-clause-after : goal.returns-in-Err-StampOrder-clause-after
-returns-in-Err-StampOrder-clause-after c =
-    turn-leaves _ _ c.args.front c.turn-turned.result c.in-Err-StampOrder.field-0 c.turn-turned.new.views c.turn-turned.new.self c.in-Err-StampOrder.is c.self.view_is c.turn-turned.ensures.fault c.turn-turned.ensures.err c.turn-turned.ensures.unheard
+returns-in-Err-StampOrder-clause-after c = fault-after c.self.inside.hub c.turn-turned.new.self _ _ c.args.front c.turn-turned.result c.in-Err-StampOrder.field-0 c.self.view_is c.turn-turned.ensures.after c.turn-turned.ensures.shows c.in-Err-StampOrder.is
 
 pub returns-in-Err-Empty-clause-after : goal.returns-in-Err-Empty-clause-after
-returns-in-Err-Empty-clause-after c =
-    turn-leaves _ _ c.args.front c.turn-turned.result c.in-Err-Empty.field-0 c.turn-turned.new.views c.turn-turned.new.self c.in-Err-Empty.is c.self.view_is c.turn-turned.ensures.fault c.turn-turned.ensures.err c.turn-turned.ensures.unheard
+returns-in-Err-Empty-clause-after c = fault-after c.self.inside.hub c.turn-turned.new.self _ _ c.args.front c.turn-turned.result c.in-Err-Empty.field-0 c.self.view_is c.turn-turned.ensures.after c.turn-turned.ensures.shows c.in-Err-Empty.is
 
 pub returns-in-Err-NoPayload-clause-after : goal.returns-in-Err-NoPayload-clause-after
-returns-in-Err-NoPayload-clause-after c =
-    turn-leaves _ _ c.args.front c.turn-turned.result c.in-Err-NoPayload.field-0 c.turn-turned.new.views c.turn-turned.new.self c.in-Err-NoPayload.is c.self.view_is c.turn-turned.ensures.fault c.turn-turned.ensures.err c.turn-turned.ensures.unheard
+returns-in-Err-NoPayload-clause-after c = fault-after c.self.inside.hub c.turn-turned.new.self _ _ c.args.front c.turn-turned.result c.in-Err-NoPayload.field-0 c.self.view_is c.turn-turned.ensures.after c.turn-turned.ensures.shows c.in-Err-NoPayload.is

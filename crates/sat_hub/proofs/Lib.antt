@@ -1,0 +1,10 @@
+pub mod Lists
+pub mod Wholes
+pub mod Waits
+pub mod Quiet
+pub mod Targets
+pub mod Sound
+pub mod Peers
+pub mod Given
+pub mod Fresh
+pub mod Gathering

@@ -1,0 +1,5 @@
+pub mod Seen
+pub mod Changes
+pub mod Inputs
+pub mod Gives
+pub mod HubSteps

@@ -1,5 +1,0 @@
-use Rattle.std.proofs.Common.{◌≡◌, [], replicate}
-use Rattle.sat_site.proofs.beats.fresh_made.Given as goal
-
-abbrev pub invariant-sites : goal.invariant-sites
-invariant-sites l = l.made.items ≡ replicate l.counter []
