@@ -70,8 +70,8 @@ fn any_line(reader: &Reader, line: &[u8]) -> Result<OwnParsed<LastingAct>, Cause
     words_line(reader, line, words.as_slice())
 }
 
-/// What the next line says, without its byte 10. `Memory` comes last, and for want of memory alone. Most lines are plain
-/// acts that are found quickly.
+/// What the next line says, without its byte 10. `Memory` comes last, and for want of memory alone. Most lines are
+/// plain acts that are found quickly.
 pub fn lasting_line(reader: &Reader, line: &[u8]) -> Result<OwnParsed<LastingAct>, Cause>
     ensures { Gives result (own_line lasting_acts reader.now.state line.now) }
 {
