@@ -1,4 +1,5 @@
-//! Messages of a store over a transport that loses, delays, doubles and reorders: the journals of its nodes fit together.
+//! Messages of a store over a transport that loses, delays, doubles and reorders: the journals of its nodes fit
+//! together.
 #![tactic(auto)]
 
 ghost use Rattle.sat_host_laws.specs.Messages.{StoresFit, StoresAreRuns, StoresAreGood, OneMore, StaysSent};

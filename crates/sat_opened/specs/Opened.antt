@@ -52,7 +52,8 @@ pub record AllOpened {M K : Type 0} (d : Deployed) (sites : List (HeldSeen M Act
   pub from_serials : AgreeAll (serial_meaning d) (site_meaning d) serials sites
 
 -- each node once, in order, and each site's journal ran. Nothing is said of links
-pub record AreJournals {M K : Type 0} (d : Deployed) (sites : List (HeldSeen M ActSeen SiteAnswer)) (serials : List (HeldSeen K SerialAct SerialAnswer)) : Type 0 where
+pub record AreJournals {M K : Type 0} (d : Deployed) (sites : List (HeldSeen M ActSeen SiteAnswer))
+    (serials : List (HeldSeen K SerialAct SerialAnswer)) : Type 0 where
   pub all_sites : map name_in sites ≡ map named.Site (below d.sites)
   pub all_serials : map name_in serials ≡ serial_names d
   pub each_site : Each sites (λ _ h. Runs (site_meaning d) h.node.name h.node.entries)

@@ -1,8 +1,8 @@
 //! Nodes that are lent to a session.
 use sat_node::{CallFault, Held, Machine, Names, Node};
 
-/// A node that is lent to a session, with what its owner keeps beside it: the ends of its links, or what a host keeps of
-/// messages.
+/// A node that is lent to a session, with what its owner keeps beside it: the ends of its links, or what a host keeps
+/// of messages.
 pub trait Lent<M: Machine> {
     ghost use Rattle.std.specs.Prelude.{◌≡◌, true, IfOk};
     ghost use Rattle.sat_node.specs.Links.{IsLocal};

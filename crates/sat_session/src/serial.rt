@@ -23,8 +23,8 @@ impl<N: Laid> Session<N> {
         serializer: u16,
     ) -> Result<Answer, CallFault>
         requires { self.old.number ≡ length N.deployment.clients }
-        ensures done { AtNode (Act.Kill epoch serializer) given.Kill of_serial result (H.node_of held.old) (H.node_of held.new)
-            self.old self.new }
+        ensures done { AtNode (Act.Kill epoch serializer) given.Kill of_serial result (H.node_of held.old)
+            (H.node_of held.new) self.old self.new }
         ensures beside { H.beside held.new ≡ H.beside held.old }
     {
         let name = NodeName::Serializer {

@@ -205,8 +205,8 @@ impl<N: Laid> Session<N> {
         requires client { self.old.number < length N.deployment.clients }
         requires item { item < length N.deployment.items }
         ensures done { AtNode (Act.Read self.old.number item)
-            (asked_by (Some self.old.number) (given.Read self.old.client.carried item)) of_site result (H.node_of held.old)
-            (H.node_of held.new) self.old self.new }
+            (asked_by (Some self.old.number) (given.Read self.old.client.carried item)) of_site result
+            (H.node_of held.old) (H.node_of held.new) self.old self.new }
         ensures beside { H.beside held.new ≡ H.beside held.old }
     {
         let Some(seat) = self.client.seat else {
@@ -241,8 +241,8 @@ impl<N: Laid> Session<N> {
         requires client { self.old.number < length N.deployment.clients }
         requires site { site < N.deployment.sites }
         ensures done { AtNode (Act.Move self.old.number site)
-            (asked_by (Some self.old.number) (given.Move self.old.client.carried site)) of_site result (H.node_of held.old)
-            (H.node_of held.new) self.old self.new }
+            (asked_by (Some self.old.number) (given.Move self.old.client.carried site)) of_site result
+            (H.node_of held.old) (H.node_of held.new) self.old self.new }
         ensures beside { H.beside held.new ≡ H.beside held.old }
     {
         let Some(seat) = self.client.seat else {
@@ -306,8 +306,8 @@ impl<N: Laid> Session<N> {
         site: u16,
     ) -> Result<Answer, CallFault>
         requires { self.old.number ≡ length N.deployment.clients }
-        ensures done { AtNode (Act.Close site) (asked_by None given.Close) of_site result (H.node_of held.old) (H.node_of held.new)
-            self.old self.new }
+        ensures done { AtNode (Act.Close site) (asked_by None given.Close) of_site result (H.node_of held.old)
+            (H.node_of held.new) self.old self.new }
         ensures beside { H.beside held.new ≡ H.beside held.old }
     {
         if !is_at(held, NodeName::Site(site)) {
@@ -326,8 +326,8 @@ impl<N: Laid> Session<N> {
         site: u16,
     ) -> Result<Answer, CallFault>
         requires { self.old.number ≡ length N.deployment.clients }
-        ensures done { AtNode (Act.Fall site) (asked_by None given.Fall) of_site result (H.node_of held.old) (H.node_of held.new)
-            self.old self.new }
+        ensures done { AtNode (Act.Fall site) (asked_by None given.Fall) of_site result (H.node_of held.old)
+            (H.node_of held.new) self.old self.new }
         ensures beside { H.beside held.new ≡ H.beside held.old }
     {
         if !is_at(held, NodeName::Site(site)) {

@@ -1,6 +1,6 @@
-//! Three sites and two serializers, each a host, and sessions at them. What carries the hosts' messages is a list that is
-//! gone through in an order of its own: some are passed over, some are handed twice, and all are asked for again. In the
-//! end all journals, merged, are a script, of which `run` prints what the hosts answered.
+//! Three sites and two serializers, each a host, and sessions at them. What carries the hosts' messages is a list that
+//! is gone through in an order of its own: some are passed over, some are handed twice, and all are asked for again. In
+//! the end all journals, merged, are a script, of which `run` prints what the hosts answered.
 ghost use Rattle.std.specs.Prelude.{◌≡◌, ◌<◌, false, length, IfOk};
 ghost use Rattle.sat_machines.specs.Acts.{is_clients};
 
