@@ -75,6 +75,7 @@ draw-done left text old new o took =
       written = subst (λ (bytes : List ℕ). Takes old new bytes) (o.output ∙ good.written) took;
       once = good.once;
       told = good.told;
+      seats = good.seats;
       good = good.good;
     }
 

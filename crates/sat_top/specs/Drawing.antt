@@ -10,6 +10,7 @@ use Rattle.sat_script.specs.Spelled.{Spells}
 use Rattle.sat_report.specs.Faults.{fault_line}
 use Rattle.sat_draw.specs.Drawing.{drawing}
 use Rattle.sat_draw.specs.Laws.{EachIsDrawnOnce, WaysAreTold}
+use Rattle.sat_draw.specs.Seats.{PathsAreAtSeats}
 use Rattle.sat_runs.specs.Good.{IsGoodRun}
 use Rattle.sat_runs.specs.Runs.{history}
 
@@ -34,8 +35,8 @@ abbrev pub draw_text : Reading → List ℕ
 draw_text r = drawn r.deployment r.acts r.fault
 
 -- the text spells a deployment and acts, and what `draw` makes of it is the drawing of their run: each act is drawn
--- once, an act that was done as done, and each line of a label, a payload or a beat begins where it was left last. This
--- run is good
+-- once, an act that was done as done, each line of a label, a payload or a beat begins where it was left last, and each
+-- line of a client is at its seat. This run is good
 pub record IsGoodDrawing (text : List ℕ) : Type 0 where
   pub deployment : Deployed
   pub acts : List Act
@@ -43,6 +44,7 @@ pub record IsGoodDrawing (text : List ℕ) : Type 0 where
   pub written : draw_text (reading false text) ≡ drawing deployment (told_history deployment acts)
   pub once : EachIsDrawnOnce deployment (told_history deployment acts)
   pub told : WaysAreTold deployment (told_history deployment acts)
+  pub seats : PathsAreAtSeats deployment (told_history deployment acts)
   pub good : IsGoodRun deployment acts
 
 -- so it is with each text that is read without a fault
