@@ -120,8 +120,8 @@ impl Place {
         first + self.header.lines() + u64::from(self.acts)
     }
 
-    /// Whether the next line may be an act of any form that most lines are, but a hop perhaps. Where it says no, it
-    /// still may be.
+    /// Whether the next line may be an act of any form that most lines are, but a hop perhaps. Where it says no, it still
+    /// may be.
     #[inline(always)]
     pub fn takes_acts(&self) -> bool
         ensures { IsTrue result → TakesActs self.now }
