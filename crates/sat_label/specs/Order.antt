@@ -84,9 +84,14 @@ node_eq (Serializer y) (Serializer z) = y == z
 node_eq (Site i) (Serializer z) = false
 node_eq (Serializer y) (Site k) = false
 
--- whether two nodes' names are the same; of serializers, epoch and number
+-- whether two nodes' names are the same: of serializers epoch and number, of gears site and number
 abbrev pub name_eq : NodeName → NodeName → Bool
 name_eq (named.Site i) (named.Site k) = i == k
 name_eq (named.Serializer e y) (named.Serializer f z) = (e == f) && (y == z)
+name_eq (named.Gear i g) (named.Gear k h) = (i == k) && (g == h)
 name_eq (named.Site i) (named.Serializer e z) = false
+name_eq (named.Site i) (named.Gear k h) = false
 name_eq (named.Serializer e y) (named.Site k) = false
+name_eq (named.Serializer e y) (named.Gear k h) = false
+name_eq (named.Gear i g) (named.Site k) = false
+name_eq (named.Gear i g) (named.Serializer e z) = false

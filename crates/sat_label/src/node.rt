@@ -12,11 +12,13 @@ pub enum NodeId {
     Serializer(u16),
 }
 
-/// A node of a deployment: a site, or a serializer of an epoch's tree.
+/// A node of a deployment: a site or, where its parts have locks of their own, its hub; a gear of a site; or a
+/// serializer of an epoch's tree.
 #[derive(Clone, Copy, Debug, PartialEq, Eq)]
 pub enum NodeName {
     Site(u16),
     Serializer { epoch: u16, number: u16 },
+    Gear { site: u16, gear: u16 },
 }
 
 impl NodeId {
