@@ -57,6 +57,7 @@ impl<N: Laid + Names> Cluster<N> {
         match node {
             NodeName::Site(site) => self.round_site(rt, site),
             NodeName::Serializer { epoch, number } => self.round_serial(rt, epoch, number, gate),
+            NodeName::Gear { .. } => Err(CallFault::Memory),
         }
     }
 }

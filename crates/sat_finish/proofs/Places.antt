@@ -64,6 +64,7 @@ index-ranks k (p ∷ ps) apart = (
 of-name : (base : ℕ) (ps : List Place) (name : NodeName) → rank_at base ps (place_at name) ≡ index_from 0 ps (place_at name)
 of-name base ps (named.Site i) = refl
 of-name base ps (named.Serializer e z) = refl
+of-name base ps (named.Gear i g) = refl
 
 -- the rank of each node's place is its index
 pub node-ranks : (base : ℕ) (names : List NodeName) → Distinct (map place_at names) → Ranks (rank_at base (map place_at names)) 0 (map place_at names)

@@ -50,6 +50,7 @@ distinct-sessions (x ∷ xs) a = (distinct-sessions xs a.0, λ i. a.1 (number-th
 no-node : (name : NodeName) (c : ℕ) → place_at name ≡ InSession c → ⊥
 no-node (named.Site i) c e = cc
 no-node (named.Serializer f z) c e = cc
+no-node (named.Gear i g) c e = cc
 
 -- the session of a number that a client has
 at-client : (d : Deployed) (n c : ℕ) → session_at d n ≡ Owner c → (n ≡ c) × (nat_lt n (length d.clients) ≡ true)

@@ -48,6 +48,7 @@ fn site_of<N: Laid>(host: &Host<SiteNode<N>>) -> u16
     match host.node().name() {
         NodeName::Site(site) => site,
         NodeName::Serializer { .. } => 0,
+        NodeName::Gear { site, .. } => site,
     }
 }
 

@@ -212,14 +212,17 @@ writes-are c (Four a b e f) values lt = refl
 site-at : (i : ℕ) (name : NodeName) → AtSite i ∷ [] ≡ place_at name ∷ [] → number_of name ≡ i
 site-at i (named.Site j) e = cc
 site-at i (named.Serializer f z) e = absurd (cc)
+site-at i (named.Gear j g) e = cc
 
 attach-at : (c j : ℕ) (o : Option ℕ) (name : NodeName) → attach_places c j o ≡ place_at name ∷ [] → number_of name ≡ j
 attach-at c j None name e = site-at j name e
 attach-at c j (Some k) (named.Site i) e = absurd (cc)
 attach-at c j (Some k) (named.Serializer f z) e = absurd (cc)
+attach-at c j (Some k) (named.Gear i g) e = absurd (cc)
 
 kill-at : (e z : ℕ) (name : NodeName) → AtSerializer e z ∷ [] ≡ place_at name ∷ [] → act.Kill (epoch_in name) (serial_in name) ≡ act.Kill e z
 kill-at e z (named.Site j) w = absurd (cc)
+kill-at e z (named.Gear j g) w = absurd (cc)
 kill-at e z (named.Serializer f y) w =
     let a : f ≡ e = cc in
     let b : y ≡ z = cc in

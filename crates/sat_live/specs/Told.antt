@@ -46,9 +46,10 @@ pub record HasLived (d : Deployed) (acts : List Act) (text : List ℕ) : Type 0 
       → text ≡ spelling e others ++ rest
       → (d ≡ e) × (done ≡ others) × (report d (history d done) ≡ rest)
 
--- a site of the deployment, or a serializer of an epoch's tree
+-- a site of the deployment, a gear of a site, or a serializer of an epoch's tree
 abbrev pub IsNodeOf : Deployed → NodeName → Type 0
 IsNodeOf d (named.Site i) = i < d.sites
+IsNodeOf d (named.Gear i g) = (i < d.sites) × (g < d.gears)
 IsNodeOf d (named.Serializer e z) = (tree : TreeShape) × (1 ≤ e) × (tree_of d e ≡ Some tree) × (z < length tree.parents)
 
 -- a note of an act that stands for itself, and is no part of a settle, at a node of the deployment

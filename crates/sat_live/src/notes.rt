@@ -1,5 +1,5 @@
 //! What may be told of two notes that are not the same.
-ghost use Rattle.std.specs.Prelude.{◌≡◌, true, None, IfSome};
+ghost use Rattle.std.specs.Prelude.{◌≡◌, ◌<◌, true, None, IfSome};
 ghost use Rattle.sat_label.specs.Members.{In};
 ghost use Rattle.sat_live.specs.Told.{IsAtNode, IsNodeOf};
 ghost use Rattle.sat_live.specs.Telling.{CanBeTold};
@@ -9,12 +9,19 @@ use sat_act::{Act, Deployment};
 use sat_label::NodeName;
 use sat_session::Noted;
 
+fn is_gear(d: &Deployment, site: u16, gear: u16) -> bool
+    ensures { result ≡ true → (site < d.now.sites) × (gear < d.now.gears) }
+{
+    is_site(d, site) && gear < d.gears()
+}
+
 // Whether a name is that of a node of the deployment.
 fn is_node(d: &Deployment, name: NodeName) -> bool
     ensures { result ≡ true → IsNodeOf d.now name }
 {
     match name {
         NodeName::Site(site) => is_site(d, site),
+        NodeName::Gear { site, gear } => is_gear(d, site, gear),
         NodeName::Serializer { epoch, number } => is_kill(d, epoch, number),
     }
 }

@@ -167,8 +167,10 @@ pub named-answers : EachStep → (d : Deployed) (name : NodeName) (x : SiteSeen)
     Gave d x act.input a → Stands d name x s → AnswersAt d (number_of name) s act a
 named-answers steps d (named.Site i) x s act a dep site e g st = answers-at steps d i x s act a dep site st e g
 named-answers steps d (named.Serializer f z) x s act a dep site e g st = absurd st
+named-answers steps d (named.Gear k h) x s act a dep site e g st = absurd st
 
 pub named-fits : EachFits → (d : Deployed) (name : NodeName) (x : SiteSeen) (s : SiteState) (act : ActSeen) → IsDeployment d → IsSite x → IsBy d act.by act.input → fits_in x act.input ≡ true → Stands d name x s →
     FitsAt d (number_of name) s act
 named-fits each d (named.Site i) x s act dep site by e st = fits-at each d i x s act dep site st by e
 named-fits each d (named.Serializer f z) x s act dep site by e st = absurd st
+named-fits each d (named.Gear k h) x s act dep site by e st = absurd st

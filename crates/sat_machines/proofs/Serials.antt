@@ -108,6 +108,7 @@ kill_alive d s e = sym (ap (λ (b : Bool). serial_answer d s.tree s.number b giv
 pub serial-fits : (d : Deployed) (name : NodeName) (x : SerialSeen) (dead : Bool) (act : SerialAct) → (e z : ℕ) → IsSerial d e z x.serial x.serial.tree (interest_of d) → serial_takes_in d x act ≡ true → SerialStands d name x dead →
     SerialFits d (epoch_in name) (serial_in name) act
 serial-fits d (named.Site i) x dead act e z k f st = absurd st
+serial-fits d (named.Gear i g) x dead act e z k f st = absurd st
 serial-fits d (named.Serializer g y) x dead (given.Hop u l) e z k f st = (x.serial.tree, st.tree, subst (λ (n : ℕ). Arrives (interest_of d) x.serial.tree n u l) st.number (arrives_in d e z x.serial u l k f))
 serial-fits d (named.Serializer g y) x dead given.Kill e z k f st = tt
 

@@ -61,10 +61,11 @@ abbrev pub links_at : List Planted → ℕ → ℕ → List Link
 links_at [] e z = []
 links_at (p ∷ ps) e z = if p.epoch == e then serial_links p z else links_at ps e z
 
--- the links out of a node, in the order of its ends
+-- the links out of a node, in the order of its ends; a gear that is a site's own has none
 abbrev pub links_of : Deployed → NodeName → List Link
 links_of d (named.Site i) = site_links d i
 links_of d (named.Serializer e z) = links_at (trees_of d) e z
+links_of d (named.Gear i g) = []
 
 -- all links, in the order of the nodes that they lead out of
 abbrev pub tree_links : Planted → List Link

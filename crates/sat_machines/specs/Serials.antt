@@ -49,6 +49,7 @@ pub record StandsAt (d : Deployed) (e z : ℕ) (x : SerialSeen) (dead : Bool) : 
 abbrev pub SerialStands : Deployed → NodeName → SerialSeen → Bool → Type 0
 SerialStands d (named.Site i) x dead = ⊥
 SerialStands d (named.Serializer e z) x dead = StandsAt d e z x dead
+SerialStands d (named.Gear i g) x dead = ⊥
 
 -- what the machine keeps beside its serializer
 pub record IsSerial (d : Deployed) (epoch number : ℕ) (serial : SerializerSeen) (tree : TreeShape)
@@ -140,10 +141,12 @@ serial_takes k given.Kill a = None
 abbrev pub epoch_in : NodeName → ℕ
 epoch_in (named.Site i) = 0
 epoch_in (named.Serializer e z) = e
+epoch_in (named.Gear i g) = 0
 
 abbrev pub serial_in : NodeName → ℕ
 serial_in (named.Site i) = 0
 serial_in (named.Serializer e z) = z
+serial_in (named.Gear i g) = 0
 
 -- what a serializer is as a node: its state is whether it is dead
 abbrev pub serial_meaning : Deployed → Meaning Bool SerialAct SerialAnswer

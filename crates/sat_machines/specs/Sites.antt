@@ -37,11 +37,13 @@ use Rattle.sat_machines.specs.Layout.{peer, label_link, out_places, in_places}
 abbrev pub number_of : NodeName → ℕ
 number_of (named.Site i) = i
 number_of (named.Serializer e z) = 0
+number_of (named.Gear i g) = i
 
 -- the site of this name stands for a state
 abbrev pub Stands : Deployed → NodeName → SiteSeen → SiteState → Type 0
 Stands d (named.Site i) x s = StandsSite d i x s
 Stands d (named.Serializer e z) x s = ⊥
+Stands d (named.Gear i g) x s = ⊥
 
 -- ---- answers
 
@@ -117,6 +119,7 @@ label_or (Some l) here rest = some_if here (made.Label l)
 abbrev pub site_puts : NodeName → ℕ → ActSeen → SiteAnswer → Option Made
 site_puts (named.Site i) k act a = label_or a.sent (a.link == k) (bulk_to (peer i k) act.input a)
 site_puts (named.Serializer e z) k act a = None
+site_puts (named.Gear i g) k act a = None
 
 -- ---- what entries take from links
 
@@ -139,6 +142,7 @@ taken_on j k _ a = None
 abbrev pub site_takes : NodeName → ℕ → ActSeen → SiteAnswer → Option Body
 site_takes (named.Site i) k act a = taken_on (peer i k) k act.input a
 site_takes (named.Serializer e z) k act a = None
+site_takes (named.Gear i g) k act a = None
 
 -- answers that speak of what other nodes have done don't stand
 abbrev pub is_standing : Answer → Bool

@@ -59,6 +59,11 @@ fn each_text_says_what_is_missing(rt: HostRuntime) -> Result<(), Fail> {
         Act::Read { client: 0, item: 0 },
         Answer::ReadNone,
     );
+    let at_gear = note(
+        Some(NodeName::Gear { site: 0, gear: 0 }),
+        Act::Read { client: 0, item: 0 },
+        Answer::ReadNone,
+    );
     let killed = note(
         Some(NodeName::Serializer {
             epoch: 2,
@@ -70,12 +75,12 @@ fn each_text_says_what_is_missing(rt: HostRuntime) -> Result<(), Fail> {
         },
         Answer::Killed,
     );
-    write_differ(&d, &Some(read), &None, &mut out)?;
+    write_differ(&d, &Some(read), &Some(at_gear), &mut out)?;
     write_differ(&d, &None, &Some(killed), &mut out)?;
     write_undone(&d, &Act::Leave { client: 0 }, &mut out)?;
     write_unsettled(2, 31, &mut out)?;
     let want =
-        b"differ\n7 0 5.0.0 - read a x -> read none\nnone\ndiffer\nnone\n7 2 5.0.0 - kill 2 z0 -> killed\nundone\nleave a\nundone\nsettled 2 31\n";
+        b"differ\n7 0 5.0.0 - read a x -> read none\n7 1 5.0.0 - read a x -> read none\ndiffer\nnone\n7 3 5.0.0 - kill 2 z0 -> killed\nundone\nleave a\nundone\nsettled 2 31\n";
     assert_eq!(rt; out.as_slice(), want.as_slice());
     Ok(())
 }

@@ -1,5 +1,5 @@
 -- No node's name, and no node's place, stands twice.
-use Rattle.std.proofs.Common.{◌≡◌, ◌⊎◌, ◌<◌, ◌≤◌, ℕ, ◌+◌, zero, suc, List, [], ◌∷◌, ◌++◌, length, map, refl, sym, ap, ◌∙◌, subst, arith, inl, inr}
+use Rattle.std.proofs.Common.{◌≡◌, ◌⊎◌, ◌<◌, ◌≤◌, ℕ, ◌+◌, zero, suc, List, [], ◌∷◌, ◌++◌, length, map, refl, sym, ap, ◌∙◌, subst, arith, inl, inr, ⊤, ⊥, tt}
 use Rattle.std.specs.List.{flat_map}
 use Rattle.sat_label.proofs.Members.{In-left, In-right, In-parts}
 use Rattle.sat_label.specs.Members.{In}
@@ -17,6 +17,7 @@ use Rattle.sat_machines.specs.declared.site_answer.SiteAnswer.{SiteAnswer}
 use Rattle.sat_machines.specs.declared.serial_act.SerialAct.{SerialAct}
 use Rattle.sat_machines.specs.declared.serial_act.SerialAnswer.{SerialAnswer}
 use Rattle.sat_stitch.specs.Kept.{Kept}
+use Rattle.sat_stitch.specs.Places.{AtSite}
 use Rattle.sat_stitch.specs.Stitch.{Distinct}
 use Rattle.sat_opened.specs.Keeping.{site_kept, serial_kept, newest}
 use Rattle.sat_opened.specs.Opened.{tree_names, serial_names, AllOpened, lists_of, place_at, node_places}
@@ -30,10 +31,14 @@ distinct-join : {X : Type 0} (xs ys : List X) → Distinct xs → Distinct ys �
 distinct-join [] ys a b f = b
 distinct-join (x ∷ xs) ys a b f = (distinct-join xs ys a.0 b (λ y i j. f y (inr i) j), λ i. elim (In-parts xs ys x i) [ inl j ↦ a.1 j | inr j ↦ f x (inl refl) j ])
 
+distinct-among : {X Y : Type 0} (f : X → Y) (xs : List X) → ((x y : X) → In xs x → In xs y → f x ≡ f y → x ≡ y) → Distinct xs → Distinct (map f xs)
+distinct-among f [] one a = tt
+distinct-among {X} {Y} f (x ∷ xs) one a =
+    (distinct-among f xs (λ y z i j e. one y z (inr i) (inr j) e) a.0,
+     λ i. let w : (y : X) × In xs y × (f y ≡ f x) = in-mapped f xs (f x) i in a.1 (subst (λ (y : X). In xs y) (one w.0 x (inr w.1) (inl refl) w.2) w.1))
+
 distinct-map : {X Y : Type 0} (f : X → Y) (xs : List X) → ((x y : X) → f x ≡ f y → x ≡ y) → Distinct xs → Distinct (map f xs)
-distinct-map f [] one a = tt
-distinct-map {X} {Y} f (x ∷ xs) one a =
-    (distinct-map f xs one a.0, λ i. let w : (y : X) × In xs y × (f y ≡ f x) = in-mapped f xs (f x) i in a.1 (subst (λ (y : X). In xs y) (one w.0 x w.2) w.1))
+distinct-map f xs one a = distinct-among f xs (λ x y i j e. one x y e) a
 
 apart : (n k : ℕ) → k < n → n ≡ k → ⊥
 apart n k lt e = omega arith
@@ -105,11 +110,26 @@ distinct-names d =
     distinct-join (map named.Site (below d.sites)) (serial_names d) (distinct-sites d.sites) (distinct-trees 1 d.plans)
     (λ name i j. let w : (k : ℕ) × In (below d.sites) k × (named.Site k ≡ name) = in-mapped named.Site (below d.sites) name i in let v : IsFrom 1 name = of-trees 1 d.plans name j in no-site w.0 v.epoch v.number (w.2 ∙ v.is))
 
-place-one : (m n : NodeName) → place_at m ≡ place_at n → m ≡ n
-place-one (named.Site i) (named.Site j) e = let w : i ≡ j = cc in ap named.Site w
-place-one (named.Serializer e y) (named.Serializer f z) w = let a : e ≡ f = cc in let b : y ≡ z = cc in λ i. named.Serializer (a i) (b i)
-place-one (named.Site i) (named.Serializer f z) w = absurd (cc)
-place-one (named.Serializer e y) (named.Site j) w = absurd (cc)
+-- two names that are no gear's and have one place are one name
+abbrev no_gear : NodeName → Type 0
+no_gear (named.Site i) = ⊤
+no_gear (named.Serializer e z) = ⊤
+no_gear (named.Gear i g) = ⊥
+
+place-one : (m n : NodeName) → no_gear m → no_gear n → place_at m ≡ place_at n → m ≡ n
+place-one (named.Site i) (named.Site j) a b e = let w : i ≡ j = cc in ap named.Site w
+place-one (named.Serializer e y) (named.Serializer f z) a b w = let m : e ≡ f = cc in let n : y ≡ z = cc in λ i. named.Serializer (m i) (n i)
+place-one (named.Site i) (named.Serializer f z) a b w = absurd (cc)
+place-one (named.Serializer e y) (named.Site j) a b w = absurd (cc)
+place-one (named.Gear i g) n a b w = absurd a
+place-one (named.Site i) (named.Gear j h) a b w = absurd b
+place-one (named.Serializer e y) (named.Gear j h) a b w = absurd b
+
+none-a-gear : (d : Deployed) (name : NodeName) → In (map named.Site (below d.sites) ++ serial_names d) name → no_gear name
+none-a-gear d name i = elim (In-parts (map named.Site (below d.sites)) (serial_names d) name i) [
+  | inl s ↦ (let w : (k : ℕ) × In (below d.sites) k × (named.Site k ≡ name) = in-mapped named.Site (below d.sites) name s in subst no_gear w.2 tt)
+  | inr z ↦ (let v : IsFrom 1 name = of-trees 1 d.plans name z in subst no_gear (sym v.is) tt)
+]
 
 -- ---- journals
 
@@ -128,12 +148,16 @@ pub serials_kept : SerialsAreKept
 serials_kept d sites serials alone all n e z h at name = ap (newest (serial_kept e z)) (entries-of (named.Serializer e z) serials (subst Distinct (sym all.all_serials) (distinct-trees 1 d.plans)) n h at name)
 
 module _ {M K : Type 0} (d : Deployed) (sites : List (HeldSeen M ActSeen SiteAnswer)) (serials : List (HeldSeen K SerialAct SerialAnswer)) (all : AllOpened d sites serials) (alone : ℕ → List Kept) where
-  covered : (name : NodeName) → In (node_places d) (place_at name) ⊎ (lists_of sites serials alone (place_at name) ≡ [])
-  covered (named.Site i) = elim (look-up (named.Site i) sites) [
+  covered-site : (i : ℕ) → In (node_places d) (AtSite i) ⊎ (lists_of sites serials alone (AtSite i) ≡ [])
+  covered-site i = elim (look-up (named.Site i) sites) [
     | inl f ↦ inl (in-map place_at (map named.Site (below d.sites) ++ serial_names d) (named.Site i)
         (In-left (map named.Site (below d.sites)) (serial_names d) (named.Site i) (subst (λ (ns : List NodeName). In ns (named.Site i)) all.all_sites (found-named (named.Site i) sites f))))
     | inr none ↦ inr (ap (newest (site_kept i)) none)
   ]
+
+  covered : (name : NodeName) → In (node_places d) (place_at name) ⊎ (lists_of sites serials alone (place_at name) ≡ [])
+  covered (named.Site i) = covered-site i
+  covered (named.Gear i g) = covered-site i
   covered (named.Serializer e z) = elim (look-up (named.Serializer e z) serials) [
     | inl f ↦ inl (in-map place_at (map named.Site (below d.sites) ++ serial_names d) (named.Serializer e z)
         (In-right (map named.Site (below d.sites)) (serial_names d) (named.Serializer e z) (subst (λ (ns : List NodeName). In ns (named.Serializer e z)) all.all_serials (found-named (named.Serializer e z) serials f))))
@@ -141,4 +165,6 @@ module _ {M K : Type 0} (d : Deployed) (sites : List (HeldSeen M ActSeen SiteAns
   ]
 
 pub places_cover : PlacesCover
-places_cover d sites serials alone all = (distinct-map place_at (map named.Site (below d.sites) ++ serial_names d) place-one (distinct-names d), covered d sites serials all alone)
+places_cover d sites serials alone all = (distinct-among place_at (map named.Site (below d.sites) ++ serial_names d)
+      (λ x y i j e. place-one x y (none-a-gear d x i) (none-a-gear d y j) e) (distinct-names d),
+     covered d sites serials all alone)

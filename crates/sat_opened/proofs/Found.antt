@@ -15,12 +15,16 @@ use Rattle.sat_opened.proofs.Numbers.{same-is}
 name-self : (n : NodeName) → name_eq n n ≡ true
 name-self (named.Site i) = same-number i
 name-self (named.Serializer e z) = and_from (e == e) (z == z) (same-number e) (same-number z)
+name-self (named.Gear i g) = and_from (i == i) (g == g) (same-number i) (same-number g)
 
 name-is : (m n : NodeName) → name_eq m n ≡ true → m ≡ n
 name-is (named.Site i) (named.Site k) e = ap named.Site (same-is i k e)
 name-is (named.Serializer e y) (named.Serializer f z) w =
     let k = and_parts (e == f) (y == z) w in
     ap (λ (n : ℕ). named.Serializer n y) (same-is e f k.0) ∙ ap (named.Serializer f) (same-is y z k.1)
+name-is (named.Gear i g) (named.Gear k h) w =
+    let s = and_parts (i == k) (g == h) w in
+    ap (λ (n : ℕ). named.Gear n g) (same-is i k s.0) ∙ ap (named.Gear k) (same-is g h s.1)
 name-is _ _ e = absurd (cc)
 
 -- a node of this name

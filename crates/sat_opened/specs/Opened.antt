@@ -74,6 +74,7 @@ lists_of sites serials alone (InSession c) = alone c
 abbrev pub place_at : NodeName → Place
 place_at (named.Site i) = AtSite i
 place_at (named.Serializer e z) = AtSerializer e z
+place_at (named.Gear i g) = AtSite i
 
 -- the places of all nodes of a deployment
 abbrev pub node_places : Deployed → List Place

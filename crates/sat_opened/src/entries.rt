@@ -72,6 +72,7 @@ fn site_number(name: NodeName) -> u16
     match name {
         NodeName::Site(site) => site,
         NodeName::Serializer { .. } => 0,
+        NodeName::Gear { site, .. } => site,
     }
 }
 
@@ -81,6 +82,7 @@ fn epoch_number(name: NodeName) -> u16
     match name {
         NodeName::Site(_) => 0,
         NodeName::Serializer { epoch, .. } => epoch,
+        NodeName::Gear { .. } => 0,
     }
 }
 
@@ -90,6 +92,7 @@ fn serial_number(name: NodeName) -> u16
     match name {
         NodeName::Site(_) => 0,
         NodeName::Serializer { number, .. } => number,
+        NodeName::Gear { .. } => 0,
     }
 }
 

@@ -1,5 +1,5 @@
 -- What is printed of running nodes whose history is not whole.
-use Rattle.std.specs.Prelude.{ℕ, ◌+◌, nat_lt, List, [], ◌∷◌, ◌++◌, length, Option, Some, None, codes, if◌then◌else◌}
+use Rattle.std.specs.Prelude.{ℕ, ◌+◌, ◌*◌, nat_lt, List, [], ◌∷◌, ◌++◌, length, Option, Some, None, codes, if◌then◌else◌}
 use Rattle.std.specs.Fmt.{decimal}
 use Rattle.sat_label.specs.Text.{point_text}
 use Rattle.sat_label.specs.declared.node.NodeName.{NodeName}
@@ -24,10 +24,11 @@ abbrev pub serials_before : ℕ → ℕ → List Plan → ℕ
 serials_before k e [] = 0
 serials_before k e (p ∷ ps) = if nat_lt k e then serials_in p + serials_before (k + 1) e ps else 0
 
--- the place of a node among all: sites by number, then serializers by epoch and number
+-- the place of a node among all: sites by number, then gears by site and number, then serializers by epoch and number
 abbrev pub node_place : Deployed → NodeName → ℕ
 node_place d (named.Site i) = i
-node_place d (named.Serializer e z) = d.sites + serials_before 1 e d.plans + z
+node_place d (named.Gear i g) = d.sites + i * d.gears + g
+node_place d (named.Serializer e z) = d.sites + d.sites * d.gears + serials_before 1 e d.plans + z
 
 -- ---- lines
 

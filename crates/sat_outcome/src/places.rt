@@ -31,14 +31,18 @@ fn add_serials(more: u64, first: u64, epoch: u16, plans: &[Plan]) -> u64
     add_serials(more + u64::from(serials_in(plan)), first + 1, epoch, rest)
 }
 
-/// The place of a node among all: sites by number, then serializers by epoch and number.
+/// The place of a node among all: sites by number, then gears by site and number, then serializers by epoch and number.
 pub fn node_place(d: &Deployment, name: NodeName) -> u64
     ensures { result ≡ node_place d.now name }
 {
     match name {
         NodeName::Site(site) => u64::from(site),
+        NodeName::Gear { site, gear } => {
+            u64::from(d.sites()) + u64::from(site) * u64::from(d.gears()) + u64::from(gear)
+        }
         NodeName::Serializer { epoch, number } => {
-            add_serials(u64::from(d.sites()), 1, epoch, d.plans()) + u64::from(number)
+            let before = u64::from(d.sites()) + u64::from(d.sites()) * u64::from(d.gears());
+            add_serials(before, 1, epoch, d.plans()) + u64::from(number)
         }
     }
 }

@@ -37,5 +37,6 @@ pub fn site_of<N: Laid + Names>(held: &Held<SiteNode<N>, N>) -> u16
     match held.node().name() {
         NodeName::Site(site) => site,
         NodeName::Serializer { .. } => 0,
+        NodeName::Gear { site, .. } => site,
     }
 }
