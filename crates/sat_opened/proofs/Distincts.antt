@@ -33,9 +33,10 @@ distinct-join (x ∷ xs) ys a b f = (distinct-join xs ys a.0 b (λ y i j. f y (i
 
 distinct-among : {X Y : Type 0} (f : X → Y) (xs : List X) → ((x y : X) → In xs x → In xs y → f x ≡ f y → x ≡ y) → Distinct xs → Distinct (map f xs)
 distinct-among f [] one a = tt
-distinct-among {X} {Y} f (x ∷ xs) one a =
-    (distinct-among f xs (λ y z i j e. one y z (inr i) (inr j) e) a.0,
-     λ i. let w : (y : X) × In xs y × (f y ≡ f x) = in-mapped f xs (f x) i in a.1 (subst (λ (y : X). In xs y) (one w.0 x (inr w.1) (inl refl) w.2) w.1))
+distinct-among {X} {Y} f (x ∷ xs) one a = (
+  distinct-among f xs (λ y z i j e. one y z (inr i) (inr j) e) a.0,
+  λ i. let w : (y : X) × In xs y × (f y ≡ f x) = in-mapped f xs (f x) i in a.1 (subst (λ (y : X). In xs y) (one w.0 x (inr w.1) (inl refl) w.2) w.1),
+)
 
 distinct-map : {X Y : Type 0} (f : X → Y) (xs : List X) → ((x y : X) → f x ≡ f y → x ≡ y) → Distinct xs → Distinct (map f xs)
 distinct-map f xs one a = distinct-among f xs (λ x y i j e. one x y e) a
@@ -165,6 +166,8 @@ module _ {M K : Type 0} (d : Deployed) (sites : List (HeldSeen M ActSeen SiteAns
   ]
 
 pub places_cover : PlacesCover
-places_cover d sites serials alone all = (distinct-among place_at (map named.Site (below d.sites) ++ serial_names d)
+places_cover d sites serials alone all = (
+  distinct-among place_at (map named.Site (below d.sites) ++ serial_names d)
       (λ x y i j e. place-one x y (none-a-gear d x i) (none-a-gear d y j) e) (distinct-names d),
-     covered d sites serials all alone)
+  covered d sites serials all alone,
+)
