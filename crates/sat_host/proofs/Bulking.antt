@@ -82,6 +82,7 @@ taken-away j i k (body.Beat number beat) given a other e =
 pub message_of : (d : Deployed) (name : NodeName) (x : SiteSeen) (entries : List SiteKept) (number room : ℕ) (k : ℕ) (b : Body) (act : ActSeen) → Stands d name x (replay (site_meaning d) name entries)
     → input_from (peer (number_of name) k) b ≡ Some act.input → IsOf (site_meaning d) (record { name = name; machine = x; entries = entries; number = number; room = room }) k b act
 message_of d (named.Serializer e z) x entries number room k b act st is = absurd st
+message_of d (named.Gear e z) x entries number room k b act st is = absurd st
 message_of d (named.Site i) x entries number room k b act st is = record {
   stands = λ a h. ap is_standing h.answer ∙ message-stands d i (peer i k) k (replay (site_meaning d) (named.Site i) entries) b act.input is;
   takes = λ a h. taken-here (peer i k) k b act.input a is;

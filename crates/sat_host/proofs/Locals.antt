@@ -80,6 +80,7 @@ local-stands d i s input.Advance e =
 
 takes-none : (name : NodeName) (k : ℕ) (by : Option ℕ) (given : SiteInput) (a : SiteAnswer) → is_local given ≡ true → site_takes name k (record { by = by; input = given }) a ≡ None
 takes-none (named.Serializer e z) k by given a t = refl
+takes-none (named.Gear e z) k by given a t = refl
 takes-none (named.Site i) k by (input.Turn front) a t = absurd (cc)
 takes-none (named.Site i) k by (input.Bulk from gear number payload) a t = absurd (cc)
 takes-none (named.Site i) k by (input.BeatIn from number beat) a t = absurd (cc)

@@ -55,6 +55,7 @@ use Rattle.sat_passes.proofs.Sendings.{done_by, told_more}
 pub at_site : (d : Deployed) (name : NodeName) (x : SiteSeen) (s : SiteState) → Stands d name x s → StandsSite d (number_of name) x s
 at_site d (named.Site i) x s st = st
 at_site d (named.Serializer e z) x s st = absurd st
+at_site d (named.Gear e z) x s st = absurd st
 
 given-follows : (d : Deployed) (r : Result SiteAnswer CallFault) (number : ℕ) (may : Bool) (old new : SiteHeld) (given : SiteInput) → EachStep → IsDeployment d → IsSite old.node.machine → IsSite new.node.machine
     → Stands d old.node.name old.node.machine (replay (site_meaning d) old.node.name old.node.entries)

@@ -63,6 +63,7 @@ takes-by : (d : Deployed) (name : NodeName) (x : SiteSeen) (s : SiteState) (give
     → fits_in x given ≡ (fits d (number_of name) s (input_of given) && is_small d given)
 takes-by d (named.Site i) x s given law dep site st = law x given d i s dep site st ∙ ap (λ (b : Bool). fits d i s (input_of given) && b) (sized-by d i x s given st)
 takes-by d (named.Serializer e z) x s given law dep site st = absurd st
+takes-by d (named.Gear e z) x s given law dep site st = absurd st
 
 pub takes_now : (d : Deployed) (name : NodeName) (x : SiteSeen) (ks : List SiteKept) (given : SiteInput) → EachFits → IsDeployment d → IsSite x → Stands d name x (replay (site_meaning d) name ks)
     → fits_in x given ≡ may_take d name ks given
@@ -124,6 +125,7 @@ taken-away j i k (body.Beat number beat) given a other e =
 message-of : (d : Deployed) (name : NodeName) (x : SiteSeen) (entries : List SiteKept) (number room : ℕ) (k : ℕ) (b : Body) (act : ActSeen) → Stands d name x (replay (site_meaning d) name entries)
     → input_from (peer (number_of name) k) b ≡ Some act.input → IsOf (site_meaning d) (record { name = name; machine = x; entries = entries; number = number; room = room }) k b act
 message-of d (named.Serializer e z) x entries number room k b act st is = absurd st
+message-of d (named.Gear e z) x entries number room k b act st is = absurd st
 message-of d (named.Site i) x entries number room k b act st is = record {
   stands = λ a h. ap is_standing h.answer ∙ message-stands d i (peer i k) k (replay (site_meaning d) (named.Site i) entries) b act.input is;
   takes = λ a h. taken-here (peer i k) k b act.input a is;

@@ -75,6 +75,7 @@ record AnswersHop (d : Deployed) (x : SerialSeen) (u : NodeId) (l : Label) (a : 
 answers-hop : (d : Deployed) (name : NodeName) (x : SerialSeen) (dead : Bool) (u : NodeId) (l : Label) (a : SerialAnswer) → SerialStands d name x dead → x.serial.killed ≡ false
     → SerialAnswers d (epoch_in name) (serial_in name) dead (given.Hop u l) a → AnswersHop d x u l a
 answers-hop d (named.Site i) x dead u l a st alive h = absurd st
+answers-hop d (named.Gear i g) x dead u l a st alive h = absurd st
 answers-hop d (named.Serializer e z) x dead u l a st alive h =
     let tree : h.tree ≡ x.serial.tree = some-inj h.tree x.serial.tree (sym h.is_tree ∙ st.tree) in
     let here : dead ≡ false = sym st.killed ∙ alive in
@@ -125,6 +126,7 @@ same-self x y e = record { epoch = ap (λ (s : SerialSeen). s.epoch) e; tree = a
 -- two machines of one name that stand for one state
 two-stand : (d : Deployed) (name : NodeName) (x y : SerialSeen) (a b : Bool) → SerialStands d name x a → SerialStands d name y b → a ≡ b → SameSerial x y
 two-stand d (named.Site i) x y a b sx sy e = absurd sx
+two-stand d (named.Gear i h) x y a b sx sy e = absurd sx
 two-stand d (named.Serializer g z) x y a b sx sy e = record {
   epoch = sy.epoch ∙ sym sx.epoch;
   tree = some-inj y.serial.tree x.serial.tree (sym sy.tree ∙ sx.tree);

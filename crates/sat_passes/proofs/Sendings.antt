@@ -72,10 +72,12 @@ told_is x j told e yes' = λ differ. told-at (last_made (made_for x j)) (beat_fo
 pub shape_sites : (d : Deployed) (name : NodeName) (x : SiteSeen) (s : SiteState) → Stands d name x s → x.shape.sites ≡ d.sites
 shape_sites d (named.Site i) x s st = λ n. (st.shape n).sites
 shape_sites d (named.Serializer e z) x s st = absurd st
+shape_sites d (named.Gear e z) x s st = absurd st
 
 pub shape_site : (d : Deployed) (name : NodeName) (x : SiteSeen) (s : SiteState) → Stands d name x s → x.shape.site ≡ number_of name
 shape_site d (named.Site i) x s st = λ n. (st.shape n).site
 shape_site d (named.Serializer e z) x s st = absurd st
+shape_site d (named.Gear e z) x s st = absurd st
 
 other-is : (i j : ℕ) → i ≢ j → (i == j) ≡ false
 other-is i j differ = elim (cases_eq i j) [
@@ -98,6 +100,7 @@ done_stands _ e = refl
 pub done_by : (d : Deployed) (name : NodeName) (x : SiteSeen) (s : SiteState) (given : SiteInput) → EachStep → IsDeployment d → IsSite x → Stands d name x s → would_do x given ≡ true
     → is_done (site_answer d (number_of name) s (input_of given)) ≡ true
 done_by d (named.Serializer e z) x s given law dep site st would = absurd st
+done_by d (named.Gear e z) x s given law dep site st would = absurd st
 done_by d (named.Site i) x s given law dep site st would =
     let w = and_parts (fits_in x given) (is_done (site_answers x given)) would in
     ap is_done (sym ((law x given site w.0).answers d i s dep st)) ∙ w.1
@@ -123,6 +126,7 @@ sending-takes i k input.Advance a e = refl
 takes-none : (name : NodeName) (k : ℕ) (given : SiteInput) (a : SiteAnswer) → is_sending given ≡ true → site_takes name k (of_site given) a ≡ None
 takes-none (named.Site i) k given a e = sending-takes i k given a e
 takes-none (named.Serializer g z) k given a e = refl
+takes-none (named.Gear g z) k given a e = refl
 
 pub sending_local : (d : Deployed) (held : SiteHeld) (given : SiteInput) → EachStep → IsDeployment d → IsSite held.node.machine
     → Stands d held.node.name held.node.machine (replay (site_meaning d) held.node.name held.node.entries)

@@ -67,6 +67,7 @@ own-takes i k input.Fall a e = refl
 takes-none : (name : NodeName) (k : ℕ) (given : SiteInput) (a : SiteAnswer) → is_own given ≡ true → site_takes name k (of_site given) a ≡ None
 takes-none (named.Site i) k given a e = own-takes i k given a e
 takes-none (named.Serializer g z) k given a e = refl
+takes-none (named.Gear g z) k given a e = refl
 
 pub own_local : (d : Deployed) (held : SiteHeld) (given : SiteInput) → EachStep → IsDeployment d → IsSite held.node.machine
     → Stands d held.node.name held.node.machine (replay (site_meaning d) held.node.name held.node.entries)

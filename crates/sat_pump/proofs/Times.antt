@@ -59,6 +59,7 @@ none_past (x ∷ xs) (suc n) e = (let h = none_past xs n e in omega arith)
 pub shape_gears : (d : Deployed) (name : NodeName) (x : SiteSeen) (s : SiteState) → Stands d name x s → x.shape.gears ≡ d.gears
 shape_gears d (named.Site i) x s st = λ n. (st.shape n).gears
 shape_gears d (named.Serializer e z) x s st = absurd st
+shape_gears d (named.Gear e z) x s st = absurd st
 
 pub promise_is : (x : SiteSeen) (g r : ℕ) → IsSite x → g < x.shape.gears → ((gear : GearSeen) → slice_get x.gears g ≡ Some gear → r ≡ gear.promise) → r ≡ promise_at x g
 promise_is x g r site less is = go (slice_get x.gears g) refl where

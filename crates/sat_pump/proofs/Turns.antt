@@ -110,6 +110,7 @@ turn-of : (d : Deployed) (name : NodeName) (x : SiteSeen) (entries : List SiteKe
     → k ≡ label_link d x.views.view → would_do x (input.Turn (Some l)) ≡ true
     → IsOf (site_meaning d) (record { name = name; machine = x; entries = entries; number = number; room = room }) k (body.Label l) (of_site (input.Turn (Some l)))
 turn-of d (named.Serializer e z) x entries number room k l law dep site st at would = absurd st
+turn-of d (named.Gear e z) x entries number room k l law dep site st at would = absurd st
 turn-of d (named.Site i) x entries number room k l law dep site st at would =
     let s = replay (site_meaning d) (named.Site i) entries in
     let given = input.Turn (Some l) in

@@ -48,6 +48,7 @@ takes_none _ = true
 
 takes-none : (name : NodeName) (k : ℕ) (by : Option ℕ) (given : SiteInput) (a : SiteAnswer) → takes_none given ≡ true → site_takes name k (asked_by by given) a ≡ None
 takes-none (named.Serializer e z) k by given a t = refl
+takes-none (named.Gear e z) k by given a t = refl
 takes-none (named.Site i) k by (input.Turn front) a t = absurd (cc)
 takes-none (named.Site i) k by (input.Bulk from gear number payload) a t = absurd (cc)
 takes-none (named.Site i) k by (input.BeatIn from number beat) a t = absurd (cc)
@@ -165,6 +166,9 @@ same-name (named.Site i) (named.Site k) e = ap named.Site (same-is i k e)
 same-name (named.Serializer e y) (named.Serializer f z) w =
     let k = and_parts (e == f) (y == z) w in
     ap (λ (n : ℕ). named.Serializer n y) (same-is e f k.0) ∙ ap (named.Serializer f) (same-is y z k.1)
+same-name (named.Gear i g) (named.Gear k h) w =
+    let s = and_parts (i == k) (g == h) w in
+    ap (λ (n : ℕ). named.Gear n g) (same-is i k s.0) ∙ ap (named.Gear k) (same-is g h s.1)
 same-name _ _ e = absurd (cc)
 
 pub none-is : (o : Option ℕ) → is_some o ≡ false → o ≡ None

@@ -57,6 +57,7 @@ none-looked d i s n none = record {
 pub looked_none : (d : Deployed) (name : NodeName) (x : SiteSeen) (s : SiteState) (n : ℕ) → Stands d name x s → ((e : Deployed) (i : ℕ) (t : SiteState) → StandsSite e i x t → replicates e n i ≡ true → t.store n ≡ None) → Looked d (number_of name) s n None
 looked_none d (named.Site i) x s n st f = none-looked d i s n (f d i s st)
 looked_none d (named.Serializer e z) x s n st f = absurd st
+looked_none d (named.Gear e z) x s n st f = absurd st
 
 -- there is this one
 some-looked : (d : Deployed) (i : ℕ) (s : SiteState) (n : ℕ) (l : Label) (value : List ℕ) → (replicates d n i ≡ true → s.store n ≡ Some (record { label = l; value = value })) → l.point.ts ≤ TS_END → l.point.site < d.sites → Looked d i s n (Some (ans.ReadSome l value))
@@ -71,3 +72,4 @@ pub looked_some : (d : Deployed) (name : NodeName) (x : SiteSeen) (s : SiteState
 looked_some d (named.Site i) x s n version l value sites st f label same le lt here =
     some-looked d i s n l value (λ kept. f d i s st kept ∙ (λ j. Some (record { label = sym label j; value = sym same j }))) le (subst (λ (m : ℕ). l.point.site < m) here lt)
 looked_some d (named.Serializer e z) x s n version l value sites st f label same le lt here = absurd st
+looked_some d (named.Gear e z) x s n version l value sites st f label same le lt here = absurd st
