@@ -4,4 +4,4 @@ pub mod Labels
 pub mod Members
 pub mod Parts
 pub mod Pools
-pub mod Slots
+pub mod Places

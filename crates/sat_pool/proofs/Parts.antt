@@ -15,15 +15,13 @@ use Rattle.sat_label.proofs.Least.{least-append, least-is, least-nil, least-none
 use Rattle.sat_label.proofs.Members.{In-left, In-right, In-parts}
 use Rattle.sat_label.proofs.Orders.{gears-not_eq, labels-lt, lt-not_eq, point_lt-trans, same-point}
 use Rattle.sat_bulk.specs.Payloads.{Payload}
-use Rattle.sat_pool.specs.declared.rising.Slot.{Slot}
-use Rattle.sat_pool.specs.declared.rising.Slot.TheVariants.{Waits}
 use Rattle.sat_pool.specs.Pool.{at_point, labelled, placed, without}
 use Rattle.sat_pool.specs.Rows.{first_label, flat, placed_all, row_view, sets_first, stands_at, Ascends, IsKept, IsParts, MayStand, SameQueues}
-use Rattle.sat_pool.specs.Slots.{waiting_in, AreBelow}
+use Rattle.sat_pool.specs.Places.{AreBelow}
 use Rattle.sat_pool.proofs.Firsts.{least-first}
 use Rattle.sat_pool.proofs.Keyed.{lt-by, placed-ascends, placed-in, without-ascends, without-none}
 use Rattle.sat_pool.proofs.Members.{at-in, eq-turned, in-at, in-placed-new, in-row, in-without, none-at, point-self, row-in, without-in, Place}
-use Rattle.sat_pool.proofs.Slots.{in-slots, none-there, waits_on}
+use Rattle.sat_pool.proofs.Places.{none-there, on-ascends}
 
 abbrev pub every : Label → Bool
 every l = true
@@ -241,16 +239,6 @@ view-placed queues after others aside p is new puts =
 
 -- ---- one more at the end of a queue
 
-on-ascends : (ps : List Payload) (p : Payload) → Ascends ps → ((x : Payload) → In ps x → point_lt x.label.point p.label.point ≡ true) → Ascends (ps ++ p ∷ [])
-on-ascends [] p up f = (λ x i. absurd i, tt)
-on-ascends (q ∷ ps) p up f = (
-  λ x i. elim (In-parts ps (p ∷ []) x i) [
-    | inl a ↦ up.0 x a
-    | inr b ↦ elim b [ inl e ↦ subst (λ (y : Payload). point_lt q.label.point y.label.point ≡ true) e (f q (inl refl)) | inr j ↦ absurd j ]
-  ],
-  on-ascends ps p up.1 (λ x i. f x (inr i)),
-)
-
 on-in : (ps : List Payload) (p x : Payload) → In (ps ++ p ∷ []) x → In ps x ⊎ (x ≡ p)
 on-in ps p x i = elim (In-parts ps (p ∷ []) x i) [ inl a ↦ inl a | inr b ↦ elim b [ inl e ↦ inr (sym e) | inr j ↦ absurd j ] ]
 
@@ -440,13 +428,11 @@ end-none (x ∷ queues) (suc g) = end-none queues g
 end-flat : (queues : List (List Payload)) → flat (queues ++ [] ∷ []) ≡ flat queues
 end-flat queues = flat_map-append (λ (ps : List Payload). ps) queues ([] ∷ []) ∙ append-nil (flat queues)
 
-pub more_queues : (queues : List (List Payload)) (old new : List (List Slot)) → SameQueues queues (map waiting_in old) → new ≡ old ++ [] ∷ [] → SameQueues queues (map waiting_in new)
-more_queues queues old new same e =
-    let m : map waiting_in new ≡ map waiting_in old ++ [] ∷ [] = ap (map waiting_in) e ∙ map-append waiting_in old ([] ∷ []) in
-    record {
-      all = ap flat m ∙ (end-flat (map waiting_in old) ∙ same.all);
-      each = λ g. ap (λ (qs : List (List Payload)). get_or qs g []) m ∙ (end-none (map waiting_in old) g ∙ same.each g);
-    }
+pub more_queues : (queues old new : List (List Payload)) → SameQueues queues old → new ≡ old ++ [] ∷ [] → SameQueues queues new
+more_queues queues old new same e = record {
+  all = ap flat e ∙ (end-flat old ∙ same.all);
+  each = λ g. ap (λ (qs : List (List Payload)). get_or qs g []) e ∙ (end-none old g ∙ same.each g);
+}
 
 -- ---- the first
 
@@ -471,23 +457,22 @@ first-least : (ps : List Payload) → Ascends ps → first_label ps ≡ least_la
 first-least [] up = sym (least-nil every)
 first-least (p ∷ ps) up = sym (least-first every p ps up refl)
 
-pub first_start : (others : List Payload) (queues : List (List Slot)) (o : Option Label) → o ≡ first_label others → Ascends others → o ≡ least_label every (map labelled (others ++ flat (map waiting_in (take 0 queues))))
+pub first_start : (others : List Payload) (queues : List (List Payload)) (o : Option Label) → o ≡ first_label others → Ascends others → o ≡ least_label every (map labelled (others ++ flat (take 0 queues)))
 first_start others queues o e up = e ∙ (first-least others up ∙ ap (λ (ps : List Payload). least_label every (map labelled ps)) (sym (append-nil others)))
 
-pub first_more : (others : List Payload) (queues : List (List Slot)) (i : ℕ) (queue : List Slot) (o u : Option Label) → i < length queues → queue ≡ get_or queues i queue → o ≡ least_label every (map labelled (others ++ flat (map waiting_in (take i queues)))) → u ≡ first_label (waiting_in queue) → Ascends (waiting_in queue) →
-    lesser o u ≡ least_label every (map labelled (others ++ flat (map waiting_in (take (i + 1) queues))))
+pub first_more : (others : List Payload) (queues : List (List Payload)) (i : ℕ) (queue : List Payload) (o u : Option Label) → i < length queues → queue ≡ get_or queues i queue → o ≡ least_label every (map labelled (others ++ flat (take i queues))) → u ≡ first_label queue → Ascends queue →
+    lesser o u ≡ least_label every (map labelled (others ++ flat (take (i + 1) queues)))
 first_more others queues i queue o u lt e a b up =
-    let more : flat (map waiting_in (take (i + 1) queues)) ≡ flat (map waiting_in (take i queues)) ++ waiting_in queue =
-    ap (λ (qs : List (List Slot)). flat (map waiting_in qs)) (take_more queues i queue lt)
-    ∙ (ap flat (map-append waiting_in (take i queues) (get_or queues i queue ∷ []))
-    ∙ (flat_map-append (λ (ps : List Payload). ps) (map waiting_in (take i queues)) (waiting_in (get_or queues i queue) ∷ [])
-    ∙ ap (λ (ps : List Payload). flat (map waiting_in (take i queues)) ++ ps) (append-nil (waiting_in (get_or queues i queue)) ∙ ap waiting_in (sym e)))) in
-    let all : others ++ flat (map waiting_in (take (i + 1) queues)) ≡ (others ++ flat (map waiting_in (take i queues))) ++ waiting_in queue =
-    ap (λ (ps : List Payload). others ++ ps) more ∙ sym (append_assoc others (flat (map waiting_in (take i queues))) (waiting_in queue)) in
+    let more : flat (take (i + 1) queues) ≡ flat (take i queues) ++ queue =
+    ap flat (take_more queues i queue lt)
+    ∙ (flat_map-append (λ (ps : List Payload). ps) (take i queues) (get_or queues i queue ∷ [])
+    ∙ ap (λ (ps : List Payload). flat (take i queues) ++ ps) (append-nil (get_or queues i queue) ∙ sym e)) in
+    let all : others ++ flat (take (i + 1) queues) ≡ (others ++ flat (take i queues)) ++ queue =
+    ap (λ (ps : List Payload). others ++ ps) more ∙ sym (append_assoc others (flat (take i queues)) queue) in
     ap (λ (v : Option Label). lesser v u) a
-    ∙ (ap (λ (v : Option Label). lesser (least_label every (map labelled (others ++ flat (map waiting_in (take i queues))))) v) (b ∙ first-least (waiting_in queue) up)
-    ∙ (sym (least-append every (map labelled (others ++ flat (map waiting_in (take i queues)))) (map labelled (waiting_in queue)))
-    ∙ ap (least_label every) (sym (ap (map labelled) all ∙ map-append labelled (others ++ flat (map waiting_in (take i queues))) (waiting_in queue)))))
+    ∙ (ap (λ (v : Option Label). lesser (least_label every (map labelled (others ++ flat (take i queues)))) v) (b ∙ first-least queue up)
+    ∙ (sym (least-append every (map labelled (others ++ flat (take i queues))) (map labelled queue))
+    ∙ ap (least_label every) (sym (ap (map labelled) all ∙ map-append labelled (others ++ flat (take i queues)) queue))))
 
 -- the first of a list that ascends is the least of any list with its members
 record Labelled (ps : List Payload) (l : Label) : Type 0 where
@@ -520,79 +505,59 @@ first-of ps (q ∷ qs) up f g = go (least_label every (map labelled ps)) refl
         let k : Labelled ps l = of-label ps l least.member in
         head k.one l k.is (least.lowest q.label (in-label ps q (g q (inl refl))) refl) (f k.one k.there)
 
-take-length : (queues : List (List Slot)) → take (length queues) queues ≡ queues
+take-length : (queues : List (List Payload)) → take (length queues) queues ≡ queues
 take-length [] = refl
-take-length (s ∷ queues) = ap (λ (qs : List (List Slot)). s ∷ qs) (take-length queues)
+take-length (s ∷ queues) = ap (λ (qs : List (List Payload)). s ∷ qs) (take-length queues)
 
-pub first_whole : (others : List Payload) (queues : List (List Slot)) (o : Option Label) → IsParts (map waiting_in queues) others → o ≡ least_label every (map labelled (others ++ flat (map waiting_in (take (length queues) queues)))) → o ≡ first_label (row_view (map waiting_in queues) others)
+pub first_whole : (others : List Payload) (queues : List (List Payload)) (o : Option Label) → IsParts queues others → o ≡ least_label every (map labelled (others ++ flat (take (length queues) queues))) → o ≡ first_label (row_view queues others)
 first_whole others queues o is e =
-    e ∙ (ap (λ (qs : List (List Slot)). least_label every (map labelled (others ++ flat (map waiting_in qs)))) (take-length queues)
-    ∙ first-of (others ++ flat (map waiting_in queues)) (row_view (map waiting_in queues) others) (view-ascends (map waiting_in queues) others is)
-    (λ x i. in-view (map waiting_in queues) others x is (elim (In-parts others (flat (map waiting_in queues)) x i) [ inl a ↦ inr a | inr b ↦ inl b ]))
-    (λ x i. elim (view-in (map waiting_in queues) others x i) [ inl a ↦ In-right others (flat (map waiting_in queues)) x a | inr b ↦ In-left others (flat (map waiting_in queues)) x b ]))
+    e ∙ (ap (λ (qs : List (List Payload)). least_label every (map labelled (others ++ flat qs))) (take-length queues)
+    ∙ first-of (others ++ flat queues) (row_view queues others) (view-ascends queues others is)
+    (λ x i. in-view queues others x is (elim (In-parts others (flat queues) x i) [ inl a ↦ inr a | inr b ↦ inl b ]))
+    (λ x i. elim (view-in queues others x i) [ inl a ↦ In-right others (flat queues) x a | inr b ↦ In-left others (flat queues) x b ]))
 
 -- ---- the calls
 
-map-set : (queues : List (List Slot)) (g : ℕ) (s : List Slot) → map waiting_in (set queues g s) ≡ set (map waiting_in queues) g (waiting_in s)
-map-set [] g s = refl
-map-set (x ∷ queues) zero s = refl
-map-set (x ∷ queues) (suc g) s = ap (λ (ys : List (List Payload)). waiting_in x ∷ ys) (map-set queues g s)
-
-get-map : (queues : List (List Slot)) (g : ℕ) → get_or (map waiting_in queues) g [] ≡ waiting_in (get_or queues g [])
-get-map [] g = refl
-get-map (x ∷ queues) zero = refl
-get-map (x ∷ queues) (suc g) = get-map queues g
-
-within-map : (queues : List (List Slot)) (g : ℕ) → g < length queues → g < length (map waiting_in queues)
-within-map [] g lt = absurd (omega arith)
-within-map (x ∷ queues) zero lt = omega arith
-within-map (x ∷ queues) (suc g) lt = let z : g < length (map waiting_in queues) = within-map queues g (omega arith) in omega arith
-
-set-was : (queues : List (List Slot)) (g : ℕ) (was : List Slot) → was ≡ get_or queues g was → set queues g was ≡ queues
+set-was : (queues : List (List Payload)) (g : ℕ) (was : List Payload) → was ≡ get_or queues g was → set queues g was ≡ queues
 set-was [] g was e = refl
-set-was (x ∷ queues) zero was e = ap (λ (s : List Slot). s ∷ queues) e
-set-was (x ∷ queues) (suc g) was e = ap (λ (ys : List (List Slot)). x ∷ ys) (set-was queues g was e)
+set-was (x ∷ queues) zero was e = ap (λ (ps : List Payload). ps ∷ queues) e
+set-was (x ∷ queues) (suc g) was e = ap (λ (ys : List (List Payload)). x ∷ ys) (set-was queues g was e)
 
-pub may_stand : (queues : List (List Slot)) (others : List Payload) (q : Point) (queue : List Slot) → q.gear < length queues → queue ≡ get_or queues q.gear queue → AreBelow queue q → at_point others q ≡ None → MayStand queues others q
+pub may_stand : (queues : List (List Payload)) (others : List Payload) (q : Point) (queue : List Payload) → q.gear < length queues → queue ≡ get_or queues q.gear queue → AreBelow queue q → at_point others q ≡ None → MayStand queues others q
 may_stand queues others q queue lt e below alone = record {
   within = lt;
-  below = subst (λ (ss : List Slot). AreBelow ss q) (e ∙ get_or_default queues q.gear queue [] lt) below;
+  below = subst (λ (ps : List Payload). AreBelow ps q) (e ∙ get_or_default queues q.gear queue [] lt) below;
   alone = alone;
 }
 
-below-queue : (queues : List (List Slot)) (others : List Payload) (q : Point) → MayStand queues others q → (x : Payload) → In (get_or (map waiting_in queues) q.gear []) x → point_lt x.label.point q ≡ true
-below-queue queues others q may x i = may.below.each (Waits x) (in-slots (get_or queues q.gear []) x (subst (λ (ps : List Payload). In ps x) (get-map queues q.gear) i))
-
-push-row : (queues : List (List Slot)) (others : List Payload) (p : Payload) (was new : List Slot) → IsParts (map waiting_in queues) others → MayStand queues others p.label.point → was ≡ get_or queues p.label.point.gear was → new ≡ was ++ Waits p ∷ [] → Pushed (map waiting_in queues) (map waiting_in (set queues p.label.point.gear new)) others p
+push-row : (queues : List (List Payload)) (others : List Payload) (p : Payload) (was new : List Payload) → IsParts queues others → MayStand queues others p.label.point → was ≡ get_or queues p.label.point.gear was → new ≡ was ++ p ∷ [] → Pushed queues (set queues p.label.point.gear new) others p
 push-row queues others p was new is may e n =
-    let seen : waiting_in new ≡ get_or (map waiting_in queues) p.label.point.gear [] ++ p ∷ [] =
-    ap waiting_in n ∙ (waits_on was p ∙ ap (λ (ps : List Payload). ps ++ p ∷ []) (ap waiting_in (e ∙ get_or_default queues p.label.point.gear was [] may.within) ∙ sym (get-map queues p.label.point.gear))) in
-    pushed (map waiting_in queues) (map waiting_in (set queues p.label.point.gear new)) others p is (within-map queues p.label.point.gear may.within)
-    (map-set queues p.label.point.gear new ∙ ap (set (map waiting_in queues) p.label.point.gear) seen)
-    (below-queue queues others p.label.point may) may.alone
+    let seen : new ≡ get_or queues p.label.point.gear [] ++ p ∷ [] =
+    n ∙ ap (λ (ps : List Payload). ps ++ p ∷ []) (e ∙ get_or_default queues p.label.point.gear was [] may.within) in
+    pushed queues (set queues p.label.point.gear new) others p is may.within (ap (set queues p.label.point.gear) seen) may.below.each may.alone
 
-pub push_parts : {X : Type 0} (queues : List (List Slot)) (others : List Payload) (p : Payload) (was new : List Slot) (r : Result X Payload) → IsParts (map waiting_in queues) others → MayStand queues others p.label.point → was ≡ get_or queues p.label.point.gear was → OnOk r (new ≡ was ++ Waits p ∷ []) → OnErr r (new ≡ was) → IsParts (map waiting_in (set queues p.label.point.gear new)) others
+pub push_parts : {X : Type 0} (queues : List (List Payload)) (others : List Payload) (p : Payload) (was new : List Payload) (r : Result X Payload) → IsParts queues others → MayStand queues others p.label.point → was ≡ get_or queues p.label.point.gear was → OnOk r (new ≡ was ++ p ∷ []) → OnErr r (new ≡ was) → IsParts (set queues p.label.point.gear new) others
 push_parts queues others p was new (Ok x) is may e ok err = (push-row queues others p was new is may e ok).parts
-push_parts queues others p was new (Err x) is may e ok err = subst (λ (qs : List (List Slot)). IsParts (map waiting_in qs) others) (sym (ap (set queues p.label.point.gear) err ∙ set-was queues p.label.point.gear was e)) is
+push_parts queues others p was new (Err x) is may e ok err = subst (λ (qs : List (List Payload)). IsParts qs others) (sym (ap (set queues p.label.point.gear) err ∙ set-was queues p.label.point.gear was e)) is
 
-pub push_view : {X : Type 0} (queues : List (List Slot)) (others : List Payload) (p : Payload) (was new : List Slot) (r : Result X Payload) → IsParts (map waiting_in queues) others → MayStand queues others p.label.point → was ≡ get_or queues p.label.point.gear was → OnOk r (new ≡ was ++ Waits p ∷ []) →
-    OnOk r (row_view (map waiting_in (set queues p.label.point.gear new)) others ≡ placed (row_view (map waiting_in queues) others) p)
+pub push_view : {X : Type 0} (queues : List (List Payload)) (others : List Payload) (p : Payload) (was new : List Payload) (r : Result X Payload) → IsParts queues others → MayStand queues others p.label.point → was ≡ get_or queues p.label.point.gear was → OnOk r (new ≡ was ++ p ∷ []) →
+    OnOk r (row_view (set queues p.label.point.gear new) others ≡ placed (row_view queues others) p)
 push_view queues others p was new (Ok x) is may e ok = (push-row queues others p was new is may e ok).view
 push_view queues others p was new (Err x) is may e ok = tt
 
-pub push_before : (queues : List (List Slot)) (others : List Payload) (p : Payload) → IsParts (map waiting_in queues) others → MayStand queues others p.label.point → at_point (row_view (map waiting_in queues) others) p.label.point ≡ None
-push_before queues others p is may = push_alone (map waiting_in queues) others p is (below-queue queues others p.label.point may) may.alone
+pub push_before : (queues : List (List Payload)) (others : List Payload) (p : Payload) → IsParts queues others → MayStand queues others p.label.point → at_point (row_view queues others) p.label.point ≡ None
+push_before queues others p is may = push_alone queues others p is may.below.each may.alone
 
-pub take_rows : (queues : List (List Slot)) (g : ℕ) (q : Point) (was new : List Slot) → was ≡ get_or queues g was → waiting_in new ≡ without (waiting_in was) q → map waiting_in (set queues g new) ≡ set (map waiting_in queues) g (without (get_or (map waiting_in queues) g []) q)
+pub take_rows : (queues : List (List Payload)) (g : ℕ) (q : Point) (was new : List Payload) → was ≡ get_or queues g was → new ≡ without was q → set queues g new ≡ set queues g (without (get_or queues g []) q)
 take_rows [] g q was new e n = refl
-take_rows (x ∷ queues) zero q was new e n = ap (λ (ps : List Payload). ps ∷ map waiting_in queues) (n ∙ ap (λ (s : List Slot). without (waiting_in s) q) e)
-take_rows (x ∷ queues) (suc g) q was new e n = ap (λ (ys : List (List Payload)). waiting_in x ∷ ys) (take_rows queues g q was new e n)
+take_rows (x ∷ queues) zero q was new e n = ap (λ (ps : List Payload). ps ∷ queues) (n ∙ ap (λ (s : List Payload). without s q) e)
+take_rows (x ∷ queues) (suc g) q was new e n = ap (λ (ys : List (List Payload)). x ∷ ys) (take_rows queues g q was new e n)
 
-pub queue_some : (queues : List (List Slot)) (g : ℕ) (was : List Slot) → g < length queues → was ≡ get_or queues g was → get_or (map waiting_in queues) g [] ≡ waiting_in was
-queue_some queues g was lt e = get-map queues g ∙ ap waiting_in (sym (e ∙ get_or_default queues g was [] lt))
+pub queue_some : (queues : List (List Payload)) (g : ℕ) (was : List Payload) → g < length queues → was ≡ get_or queues g was → get_or queues g [] ≡ was
+queue_some queues g was lt e = sym (e ∙ get_or_default queues g was [] lt)
 
-pub queue_none : (queues : List (List Slot)) (g : ℕ) → length queues ≤ g → get_or (map waiting_in queues) g [] ≡ []
-queue_none queues g le = get-map queues g ∙ ap waiting_in (get_or_past queues g [] le)
+pub queue_none : (queues : List (List Payload)) (g : ℕ) → length queues ≤ g → get_or queues g [] ≡ []
+queue_none queues g le = get_or_past queues g [] le
 
 -- taken out of a queue, or from among the others
 pub record Out (queues after : List (List Payload)) (others aside : List Payload) (q : Point) (o : Option Payload) : Type 0 where

@@ -1,4 +1,4 @@
 pub mod Pool
-pub mod Slots
+pub mod Places
 pub mod Rows
 pub mod Laws

@@ -10,9 +10,8 @@ use Rattle.sat_label.specs.declared.label.Label.{Label}
 use Rattle.sat_label.specs.Order.{point_eq, point_lt}
 use Rattle.sat_label.specs.Members.{In}
 use Rattle.sat_bulk.specs.Payloads.{Payload}
-use Rattle.sat_pool.specs.declared.rising.Slot.{Slot}
 use Rattle.sat_pool.specs.Pool.{Waiting, all_waiting, at_point, placed, IsPool, IsRow}
-use Rattle.sat_pool.specs.Slots.{AreBelow}
+use Rattle.sat_pool.specs.Places.{AreBelow}
 
 -- how points compare, as the map compares them
 abbrev pub point_cmp : Point → Point → Ordering
@@ -75,7 +74,7 @@ pub record SameQueues (queues after : List (List Payload)) : Type 0 where
   pub each : (g : ℕ) → get_or after g [] ≡ get_or queues g []
 
 -- the queue of a point's gear is there, all its points are below, and none of the others has it
-pub record MayStand (queues : List (List Slot)) (others : List Payload) (q : Point) : Type 0 where
+pub record MayStand (queues : List (List Payload)) (others : List Payload) (q : Point) : Type 0 where
   pub within : q.gear < length queues
   pub below : AreBelow (get_or queues q.gear []) q
   pub alone : at_point others q ≡ None

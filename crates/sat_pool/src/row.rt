@@ -6,7 +6,6 @@ ghost use Rattle.sat_label.specs.Least.{lesser};
 ghost use Rattle.sat_label.specs.Order.{point_le};
 ghost use Rattle.sat_pool.specs.Pool.{at_point, labelled, placed, without};
 ghost use Rattle.sat_pool.specs.Rows.{first_label, row_view, sets_first, stands_at, Ascends, IsParts, MayStand, SameQueues};
-ghost use Rattle.sat_pool.specs.Slots.{waiting_in};
 
 use crate::others::Others;
 use crate::rising::Rising;
@@ -28,13 +27,12 @@ impl Model for Row {
     ghost use Rattle.std.specs.Prelude.{List, map};
     ghost use Rattle.sat_bulk.specs.Payloads as bulk;
     ghost use Rattle.sat_pool.specs.Rows.{row_view, IsKept};
-    ghost use Rattle.sat_pool.specs.Slots.{waiting_in};
 
     ghost Value = { List bulk.Payload };
 
-    ghost view = { λ a. row_view (map waiting_in a.rising.items) a.others };
+    ghost view = { λ a. row_view a.rising.items a.others };
 
-    ghost invariant = { λ a. IsKept (map waiting_in a.rising.items) a.others a.first };
+    ghost invariant = { λ a. IsKept a.rising.items a.others a.first };
 }
 
 // The lesser of two labels, of which each may be missing.
@@ -86,7 +84,7 @@ fn first_with(first: Option<Label>, label: Label) -> Option<Label>
 // A queue for each gear up to this one. Few gears make labels; what comes of another number stands among the others.
 #[tactic(auto, using(crate::proofs::Parts::more_queues, crate::proofs::Parts::same_queues))]
 fn make_queues(rising: &mut Vec<Rising>, gear: u16) -> Result<(), AllocError>
-    ensures { SameQueues (map waiting_in rising.old.items) (map waiting_in rising.new.items) }
+    ensures { SameQueues rising.old.items rising.new.items }
 {
     if gear >= MOST_GEARS {
         return Ok(());
@@ -113,7 +111,7 @@ fn goes_on(rising: &Vec<Rising>, others: &Others, point: &Point) -> bool
 // The payload at a point in its gear's queue.
 #[tactic(auto, using(crate::proofs::Parts::queue_some, crate::proofs::Parts::queue_none))]
 fn queued_at<'a>(rising: &'a Vec<Rising>, point: &Point) -> Option<&'a Payload>
-    ensures { option_copied result ≡ at_point (get_or (map waiting_in rising.now.items) point.now.gear []) point.now }
+    ensures { option_copied result ≡ at_point (get_or rising.now.items point.now.gear []) point.now }
 {
     let queue = rising.get(point.gear as usize)?;
     queue.get(point)
@@ -121,9 +119,9 @@ fn queued_at<'a>(rising: &'a Vec<Rising>, point: &Point) -> Option<&'a Payload>
 
 // Takes the payload at a point out of its gear's queue.
 fn take_rising(rising: &mut Vec<Rising>, point: &Point) -> Option<Payload>
-    ensures found { result ≡ at_point (get_or (map waiting_in rising.old.items) point.now.gear []) point.now }
-    ensures new { map waiting_in rising.new.items ≡ set (map waiting_in rising.old.items) point.now.gear
-        (without (get_or (map waiting_in rising.old.items) point.now.gear []) point.now) }
+    ensures found { result ≡ at_point (get_or rising.old.items point.now.gear []) point.now }
+    ensures new { rising.new.items ≡ set rising.old.items point.now.gear
+        (without (get_or rising.old.items point.now.gear []) point.now) }
 {
     if point.gear as usize >= rising.len() {
         return None;
@@ -134,15 +132,15 @@ fn take_rising(rising: &mut Vec<Rising>, point: &Point) -> Option<Payload>
 
 // Puts a payload at the end of its gear's queue.
 fn push(rising: &mut Vec<Rising>, others: &Others, payload: Payload) -> Result<(), Payload>
-    requires parts { IsParts (map waiting_in rising.old.items) others.now }
+    requires parts { IsParts rising.old.items others.now }
     requires may { MayStand rising.old.items others.now payload.label.point }
-    ensures parts { IsParts (map waiting_in rising.new.items) others.now }
-    ensures before { at_point (row_view (map waiting_in rising.old.items) others.now) payload.label.point ≡ None }
-    ensures ok { OnOk result (row_view (map waiting_in rising.new.items) others.now
-        ≡ placed (row_view (map waiting_in rising.old.items) others.now) payload) }
+    ensures parts { IsParts rising.new.items others.now }
+    ensures before { at_point (row_view rising.old.items others.now) payload.label.point ≡ None }
+    ensures ok { OnOk result (row_view rising.new.items others.now
+        ≡ placed (row_view rising.old.items others.now) payload) }
     ensures back { IfErr result (λ back. back ≡ payload) }
-    ensures err { OnErr result (row_view (map waiting_in rising.new.items) others.now
-        ≡ row_view (map waiting_in rising.old.items) others.now) }
+    ensures err { OnErr result (row_view rising.new.items others.now
+        ≡ row_view rising.old.items others.now) }
 {
     let queue = &mut rising[payload.label().point.gear as usize];
     queue.push(payload)
@@ -154,15 +152,15 @@ fn put_aside(
     others: &mut Others,
     payload: Payload,
 ) -> Result<Option<Payload>, Payload>
-    requires { IsParts (map waiting_in rising.old.items) others.old }
-    ensures parts { IsParts (map waiting_in rising.new.items) others.new }
+    requires { IsParts rising.old.items others.old }
+    ensures parts { IsParts rising.new.items others.new }
     ensures before { IfOk result (λ before. before
-        ≡ at_point (row_view (map waiting_in rising.old.items) others.old) payload.label.point) }
-    ensures ok { OnOk result (row_view (map waiting_in rising.new.items) others.new
-        ≡ placed (row_view (map waiting_in rising.old.items) others.old) payload) }
+        ≡ at_point (row_view rising.old.items others.old) payload.label.point) }
+    ensures ok { OnOk result (row_view rising.new.items others.new
+        ≡ placed (row_view rising.old.items others.old) payload) }
     ensures back { IfErr result (λ back. back ≡ payload) }
-    ensures err { OnErr result (row_view (map waiting_in rising.new.items) others.new
-        ≡ row_view (map waiting_in rising.old.items) others.old) }
+    ensures err { OnErr result (row_view rising.new.items others.new
+        ≡ row_view rising.old.items others.old) }
 {
     let point = payload.label().point;
     let aside = others.insert(payload)?;
@@ -176,15 +174,15 @@ fn store(
     others: &mut Others,
     payload: Payload,
 ) -> Result<Option<Payload>, Payload>
-    requires { IsParts (map waiting_in rising.old.items) others.old }
-    ensures parts { IsParts (map waiting_in rising.new.items) others.new }
+    requires { IsParts rising.old.items others.old }
+    ensures parts { IsParts rising.new.items others.new }
     ensures before { IfOk result (λ before. before
-        ≡ at_point (row_view (map waiting_in rising.old.items) others.old) payload.label.point) }
-    ensures ok { OnOk result (row_view (map waiting_in rising.new.items) others.new
-        ≡ placed (row_view (map waiting_in rising.old.items) others.old) payload) }
+        ≡ at_point (row_view rising.old.items others.old) payload.label.point) }
+    ensures ok { OnOk result (row_view rising.new.items others.new
+        ≡ placed (row_view rising.old.items others.old) payload) }
     ensures back { IfErr result (λ back. back ≡ payload) }
-    ensures err { OnErr result (row_view (map waiting_in rising.new.items) others.new
-        ≡ row_view (map waiting_in rising.old.items) others.old) }
+    ensures err { OnErr result (row_view rising.new.items others.new
+        ≡ row_view rising.old.items others.old) }
 {
     if goes_on(rising, others, &payload.label().point) {
         push(rising, others, payload)?;
@@ -199,15 +197,15 @@ fn put(
     others: &mut Others,
     payload: Payload,
 ) -> Result<Option<Payload>, Payload>
-    requires { IsParts (map waiting_in rising.old.items) others.old }
-    ensures parts { IsParts (map waiting_in rising.new.items) others.new }
+    requires { IsParts rising.old.items others.old }
+    ensures parts { IsParts rising.new.items others.new }
     ensures before { IfOk result (λ before. before
-        ≡ at_point (row_view (map waiting_in rising.old.items) others.old) payload.label.point) }
-    ensures ok { OnOk result (row_view (map waiting_in rising.new.items) others.new
-        ≡ placed (row_view (map waiting_in rising.old.items) others.old) payload) }
+        ≡ at_point (row_view rising.old.items others.old) payload.label.point) }
+    ensures ok { OnOk result (row_view rising.new.items others.new
+        ≡ placed (row_view rising.old.items others.old) payload) }
     ensures back { IfErr result (λ back. back ≡ payload) }
-    ensures err { OnErr result (row_view (map waiting_in rising.new.items) others.new
-        ≡ row_view (map waiting_in rising.old.items) others.old) }
+    ensures err { OnErr result (row_view rising.new.items others.new
+        ≡ row_view rising.old.items others.old) }
 {
     if make_queues(rising, payload.label().point.gear).is_err() {
         return Err(payload);
@@ -217,11 +215,11 @@ fn put(
 
 // Takes the payload at a point out.
 fn take_out(rising: &mut Vec<Rising>, others: &mut Others, point: &Point) -> Option<Payload>
-    requires { IsParts (map waiting_in rising.old.items) others.old }
-    ensures parts { IsParts (map waiting_in rising.new.items) others.new }
-    ensures found { result ≡ at_point (row_view (map waiting_in rising.old.items) others.old) point.now }
-    ensures new { row_view (map waiting_in rising.new.items) others.new
-        ≡ without (row_view (map waiting_in rising.old.items) others.old) point.now }
+    requires { IsParts rising.old.items others.old }
+    ensures parts { IsParts rising.new.items others.new }
+    ensures found { result ≡ at_point (row_view rising.old.items others.old) point.now }
+    ensures new { row_view rising.new.items others.new
+        ≡ without (row_view rising.old.items others.old) point.now }
 {
     let queued = take_rising(rising, point);
     if queued.is_some() {
@@ -233,8 +231,8 @@ fn take_out(rising: &mut Vec<Rising>, others: &mut Others, point: &Point) -> Opt
 // The first label of all: the least.
 #[tactic(auto, using(crate::proofs::Parts::first_start, crate::proofs::Parts::first_more, crate::proofs::Parts::first_whole))]
 fn first_of(rising: &[Rising], others: &Others) -> Option<Label>
-    requires { IsParts (map waiting_in rising.now) others.now }
-    ensures { result ≡ first_label (row_view (map waiting_in rising.now) others.now) }
+    requires { IsParts rising.now others.now }
+    ensures { result ≡ first_label (row_view rising.now others.now) }
 {
     let mut least = others.first();
     for queue in rising {
@@ -250,9 +248,9 @@ fn first_left(
     others: &Others,
     point: &Point,
 ) -> Option<Label>
-    requires { IsParts (map waiting_in rising.now.items) others.now }
+    requires { IsParts rising.now.items others.now }
     ensures { result ≡ (if stands_at first point.now
-        then first_label (row_view (map waiting_in rising.now.items) others.now) else first) }
+        then first_label (row_view rising.now.items others.now) else first) }
 {
     if stands_at(first, point) {
         return first_of(rising.as_slice(), others);

@@ -7,6 +7,9 @@ use std::alloc::{AllocError, Global};
 use std::collections::VecDeque;
 use std::marker::Model;
 
+// From so many members on a queue is large: it grows by a quarter, and gives its memory back once it is empty.
+const LARGE: usize = 4096;
+
 /// A queue. Contracts see its members, the front first, and for how many it has room.
 #[derive(Drop)]
 pub struct Queue<T> {
@@ -50,8 +53,31 @@ impl<T: Copy> Queue<T> {
         ensures members { self.new.members ≡ self.old.members }
         ensures room { OnOk result (HasRoomFor more self.new) }
     {
-        self.members.reserve(more)?;
+        let len = self.members.len();
+        if len < LARGE {
+            self.members.reserve(more)?;
+        } else {
+            self.members.reserve_exact(more.max(len / 4))?;
+        }
         Ok(())
+    }
+
+    // Gives the memory of a large queue back, once it is empty.
+    #[inline(always)]
+    fn give_back(&mut self)
+        ensures { self.new.members ≡ self.old.members }
+    {
+        if self.members.is_empty() && self.members.capacity() > LARGE {
+            self.release();
+        }
+    }
+
+    // A call of its own, since it is seldom made.
+    #[inline(never)]
+    fn release(&mut self)
+        ensures { self.new.members ≡ self.old.members }
+    {
+        self.members.shrink_to_fit();
     }
 
     /// Puts a member at the end, for which there is room.
@@ -84,7 +110,9 @@ impl<T: Copy> Queue<T> {
         ensures member { self.old.members ≡ option_to_list result ++ self.new.members }
         ensures rest { self.new.members ≡ drop 1 self.old.members }
     {
-        self.members.pop_front()
+        let member = self.members.pop_front();
+        self.give_back();
+        member
     }
 
     /// How many members the queue has.
