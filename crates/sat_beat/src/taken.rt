@@ -268,6 +268,10 @@ impl Taken {
     pub fn refresh(&mut self, fronts: &[u64])
         ensures { self.new ≡ refreshed fronts.now self.old }
     {
+        // Mostly none waits, and this is asked for each payload.
+        if self.later.is_empty() {
+            return;
+        }
         let newest = self.newest(fronts);
         match newest {
             None => {}
