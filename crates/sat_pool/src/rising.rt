@@ -17,8 +17,8 @@ use std::marker::Model;
 // is empty: where many wait, as before a settle's turns, most memory is in these queues.
 const LARGE: usize = 4096;
 
-/// The payloads of a gear that came in the order of their points. The first one is taken mostly: a gear's labels come in
-/// their order. Where another one is, the fewer of those before and behind it move.
+/// The payloads of a gear that came in the order of their points. Mostly the first one is taken, since a gear's labels
+/// come in their order. Where another one is, the fewer of those before and behind it move.
 #[derive(Drop)]
 pub struct Rising {
     waiting: VecDeque<Payload>,
