@@ -12,7 +12,8 @@ use std::alloc::{AllocError, Global};
 use std::marker::Model;
 
 /// The updates that wait at a site for their turn, by the site that made them and their points. No call walks what
-/// waits: the least of a site is its first, and a count is kept.
+/// waits: the least of a site is its first, and a count is kept. Only where the payloads of a gear are not taken in the
+/// order of their points, as those of a gear's labels are, does one that is taken move others of its gear.
 #[derive(Drop)]
 pub struct Pool {
     rows: Vec<Row>,
