@@ -64,7 +64,7 @@ leaves-is : (d : Deployed) (i : ℕ) (x : SiteSeen) (s : SiteState) (o : Option 
     emit_sends (is_stamp x.views x.views.emission) x.shape o ≡ leaves d i s r
 leaves-is d i x s o r site st e = λ n. emit_sends (stamp-is d i x s site st n) (st.shape n) (e n)
 
-sent-is : (d : Deployed) (i : ℕ) (x : SiteSeen) (s : SiteState) (given : SiteInput) → IsSite x → StandsSite d i x s → site_sends x given ≡ sent_by d i s given (site_answers x given)
+pub sent-is : (d : Deployed) (i : ℕ) (x : SiteSeen) (s : SiteState) (given : SiteInput) → IsSite x → StandsSite d i x s → site_sends x given ≡ sent_by d i s given (site_answers x given)
 unfolding site_sends site_answers sent_by
 sent-is d i x s input.Emit site st = leaves-is d i x s (ready_of x.sink) (emit_answer (ready_of x.sink)) site st (sent-of-emit (ready_of x.sink))
 sent-is d i x s input.Pulse site st = leaves-is d i x s (next_pulse x.sink) (pulse_answer (next_pulse x.sink)) site st (sent-of-pulse (next_pulse x.sink))
@@ -85,7 +85,7 @@ sent-is d i x s input.Advance site st = refl
 
 -- ---- its epoch
 
-epoch-is : (d : Deployed) (i : ℕ) (x : SiteSeen) (s : SiteState) (given : SiteInput) → StandsSite d i x s → site_epoch x given ≡ epoch_by s given (site_sends x given)
+pub epoch-is : (d : Deployed) (i : ℕ) (x : SiteSeen) (s : SiteState) (given : SiteInput) → StandsSite d i x s → site_epoch x given ≡ epoch_by s given (site_sends x given)
 unfolding site_epoch epoch_by
 epoch-is d i x s (input.Turn front) st = st.views.view
 epoch-is d i x s (input.Tick g t) st = ap (sent_epoch (site_sends x (input.Tick g t))) st.views.emission
@@ -121,7 +121,7 @@ note-is d i x s j lt k st = λ n. record {
 beat-site : (d : Deployed) (i : ℕ) (x : SiteSeen) (s : SiteState) (j : ℕ) → StandsSite d i x s → fits_in x (input.Beat j) ≡ true → j < d.sites
 beat-site d i x s j st e = subst (λ (shape : Shape). j < shape.sites) st.shape (beat_fits x j e)
 
-beat-is : (d : Deployed) (i : ℕ) (x : SiteSeen) (s : SiteState) (given : SiteInput) → IsSite x → StandsSite d i x s → fits_in x given ≡ true → BeatBy d i s given (site_beat x given)
+pub beat-is : (d : Deployed) (i : ℕ) (x : SiteSeen) (s : SiteState) (given : SiteInput) → IsSite x → StandsSite d i x s → fits_in x given ≡ true → BeatBy d i s given (site_beat x given)
 unfolding site_beat
 beat-is d i x s (input.Beat j) site st e = note-is d i x s j (beat-site d i x s j st e) site st
 beat-is d i x s (input.Tick g t) site st e = refl

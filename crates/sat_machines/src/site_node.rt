@@ -2,12 +2,10 @@
 ghost use Rattle.std.specs.Prelude.{ℕ, ◌≡◌, ◌<◌, ◌-◌, ◌+◌, ◌==◌, true, false, IfOk, OnErr, Some, None, get_or, length};
 ghost use Rattle.sat_label.specs.declared.node.NodeName.{NodeName as Name};
 ghost use Rattle.sat_label.specs.declared.node.NodeName.TheVariants.{Site as AtSite};
-ghost use Rattle.sat_label.specs.Grouped.{list_of};
 ghost use Rattle.sat_label.specs.Words.{bit};
 ghost use Rattle.sat_act.specs.Limits.{IsDeployment};
 ghost use Rattle.sat_machine.specs.Interests.{interest_of};
 ghost use Rattle.sat_machine.specs.State.{SiteState, fresh_site};
-ghost use Rattle.sat_sites.specs.Interested.{keeps, keeps_one};
 ghost use Rattle.sat_site.specs.declared.input.SiteInput.TheVariants as given;
 ghost use Rattle.sat_site.specs.Inputs.{fits_in};
 ghost use Rattle.sat_site.specs.Seen.{IsSite};
@@ -16,12 +14,13 @@ ghost use Rattle.sat_machines.specs.Layout.{label_link, peer};
 ghost use Rattle.sat_machines.specs.Plain.{is_plain, is_spare, IsTwice};
 ghost use Rattle.sat_machines.specs.Sites.{Stands, beat_in, bulk_to, is_keeper, payload_in, site_puts};
 
+use crate::kept_sites::kept_by_one;
 use crate::parts::links;
 use crate::{Laid, SiteAct, SiteAnswer};
 use sat_act::{Answer, Deployment};
 use sat_beat::Beat;
 use sat_bulk::Payload;
-use sat_label::{Carried, Counts, Items, NodeName, SiteSet, Values};
+use sat_label::{Carried, Counts, NodeName, SiteSet, Values};
 use sat_node::{Machine, Made};
 use sat_site::{Site, SiteInput, SiteOutput, interest, site_laws};
 use sat_sites::Interest;
@@ -102,44 +101,13 @@ impl<N: Laid> SiteNode<N> {
         }
     }
 
-    // The sites that keep an item, none where there is no such item.
-    #[tactic(auto, using(crate::proofs::Keepers::kept_here, crate::proofs::Keepers::kept_nowhere))]
-    fn kept_by(&self, item: u16) -> SiteSet
-        ensures { (k : ℕ) → bit result.bits k ≡ keeps (interest_of N.deployment) item k }
-    {
-        if usize::from(item) < self.interest.items() {
-            self.interest.replicas(item)
-        } else {
-            SiteSet::none()
-        }
-    }
-
-    // The sites that keep one of some items.
-    fn kept_by_one(&self, items: &Items) -> SiteSet
-        ensures { (k : ℕ) → bit result.bits k ≡ keeps_one (interest_of N.deployment) (list_of items.now) k }
-    {
-        match *items {
-            Items::One(a) => self.kept_by(a),
-            Items::Two(a, b) => self.kept_by(a).plus(&self.kept_by(b)),
-            Items::Three(a, b, c) => self
-                .kept_by(a)
-                .plus(&self.kept_by(b))
-                .plus(&self.kept_by(c)),
-            Items::Four(a, b, c, d) => self
-                .kept_by(a)
-                .plus(&self.kept_by(b))
-                .plus(&self.kept_by(c))
-                .plus(&self.kept_by(d)),
-        }
-    }
-
     // The sites that keep one of the items of a write.
     #[tactic(auto, using(crate::proofs::Keepers::keeps_one_is))]
     fn keepers(&self, input: &SiteInput) -> SiteSet
         ensures { (k : ℕ) → bit result.bits k ≡ is_keeper N.deployment input.now k }
     {
         match input {
-            SiteInput::Write { items, .. } => self.kept_by_one(items),
+            SiteInput::Write { items, .. } => kept_by_one(&self.interest, items),
             _ => SiteSet::none(),
         }
     }
@@ -353,9 +321,9 @@ impl<N: Laid> Machine for SiteNode<N> {
     }
 }
 
-// Whether a set, as bits, has the site that the end of this number is for.
+/// Whether a set, as bits, has the site that the end of this number is for.
 #[tactic(auto, using(crate::proofs::Peers::far))]
-fn has_peer(bits: u64, site: u16, link: usize) -> bool
+pub fn has_peer(bits: u64, site: u16, link: usize) -> bool
     ensures { result ≡ bit bits (peer site link) }
 {
     if link >= 64 {
@@ -370,9 +338,8 @@ fn has_peer(bits: u64, site: u16, link: usize) -> bool
     }
 }
 
-// Whether the end of this number is for a site.
-
-fn is_peer(to: u16, site: u16, link: usize) -> bool
+/// Whether the end of this number is for a site.
+pub fn is_peer(to: u16, site: u16, link: usize) -> bool
     ensures { result ≡ (to == peer site link) }
 {
     if link < usize::from(site) {
@@ -384,8 +351,8 @@ fn is_peer(to: u16, site: u16, link: usize) -> bool
     usize::from(to) - 1 == link
 }
 
-// The payload of a write, if it is for another site.
-fn payload_for(
+/// The payload of a write, if it is for another site.
+pub fn payload_for(
     alloc: Global,
     here: bool,
     values: &Values,
@@ -405,8 +372,8 @@ fn payload_for(
     }
 }
 
-// The beat, if it is for another site.
-fn beat_for(here: bool, beat: &Option<Beat>) -> Result<Option<Made>, AllocError>
+/// The beat, if it is for another site.
+pub fn beat_for(here: bool, beat: &Option<Beat>) -> Result<Option<Made>, AllocError>
     ensures { IfOk result (λ made. made ≡ beat_in here beat.now) }
 {
     match beat {
