@@ -1,0 +1,26 @@
+-- A hub at which nothing has happened.
+use Rattle.std.specs.Prelude.{◌≡◌, ◌≤◌, ◌^◌, ℕ, refl}
+use Rattle.std.proofs.Common.{subst, sym, arith}
+use Rattle.sat_act.specs.Deployed.{Deployed}
+use Rattle.sat_proxy.specs.Laws.{Starts}
+use Rattle.sat_hub.specs.Changes.{new_hub, shape_for}
+use Rattle.sat_hub.specs.Seen.{HubSeen}
+use Rattle.sat_hub.proofs.Fresh.{always}
+use Rattle.sat_site.proofs.Fresh.{fresh-stands}
+use Rattle.sat_joint.specs.Machines.{fresh_hub}
+use Rattle.sat_parts.specs.HubSteps.{HasTimes}
+use Rattle.sat_parts.specs.Hubs.{StandsHub}
+
+stands-new : (d : Deployed) (i : ℕ) → Starts → StandsHub d i (new_hub d i) (fresh_hub i)
+stands-new d i starts =
+    let st = fresh-stands d i (shape_for d i) starts refl in
+    record { shape = st.shape; sink = st.sink; views = st.views; proxy = st.proxy; made = st.made }
+
+times-new : (d : Deployed) (i : ℕ) → HasTimes (new_hub d i)
+times-new d i g = subst (λ (n : ℕ). n ≤ 2 ^ 62) (sym (always d.gears g 0)) (omega arith)
+
+pub made-stands : (d e : Deployed) (i : ℕ) (h : HubSeen) → Starts → e ≡ d → h ≡ new_hub d i → StandsHub e i h (fresh_hub i)
+made-stands d e i h starts same is = subst (λ (e : Deployed). StandsHub e i h (fresh_hub i)) (sym same) (subst (λ (h : HubSeen). StandsHub d i h (fresh_hub i)) (sym is) (stands-new d i starts))
+
+pub made-times : (d : Deployed) (i : ℕ) (h : HubSeen) → h ≡ new_hub d i → HasTimes h
+made-times d i h is = subst HasTimes (sym is) (times-new d i)

@@ -1,0 +1,13 @@
+pub mod Instead
+pub mod HubReplies
+pub mod HubGathers
+pub mod HubShows
+pub mod HubMachine
+pub mod HubFresh
+pub mod HubCode
+pub mod GearShows
+pub mod GearMachine
+pub mod GearFresh
+pub mod Journals
+pub mod GearCode
+pub mod Locals
