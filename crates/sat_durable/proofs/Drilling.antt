@@ -58,8 +58,8 @@ module _ {T E U F : Type 0} (old mid : DiskState) (with_it without : List ℕ �
 -- ---- a step
 
 module _ (new : DiskState) (P Q V W : List ℕ → Type 0) (p : (c : List ℕ) → P c → V c) (q : (c : List ℕ) → Q c → W c) where
-  leaves : (calls : ℕ) (keep : Bool) → CutLeaves new calls keep P Q → CutLeaves new calls keep V W
-  leaves calls keep s = (s.0, s.1, go (is_kept calls keep) s.2)
+  pub leaves_weaker : (calls : ℕ) (keep : Bool) → CutLeaves new calls keep P Q → CutLeaves new calls keep V W
+  leaves_weaker calls keep s = (s.0, s.1, go (is_kept calls keep) s.2)
     where
       go : (b : Bool) → Chosen b (P (if keep then new.content else s.0)) (Q (if keep then new.content else s.0)) → Chosen b (V (if keep then new.content else s.0)) (W (if keep then new.content else s.0))
       go true x = p (if keep then new.content else s.0) x
@@ -68,10 +68,10 @@ module _ (new : DiskState) (P Q V W : List ℕ → Type 0) (p : (c : List ℕ) �
   pub step-cut : {T E : Type 0} (r : Result T E) (t : Told) → IsErr r → AddsTold new r P Q t → StepsTold new false V W t
   step-cut r drill.untold e s = tt
   step-cut r (drill.told None keep synced) e s = never-both r s.0 e
-  step-cut r (drill.told (Some zero) keep synced) e s = (refl, leaves 0 keep s.1)
-  step-cut r (drill.told (Some (suc zero)) keep synced) e s = (refl, leaves 1 keep s.1)
-  step-cut r (drill.told (Some (suc (suc zero))) keep synced) e s = (refl, leaves 2 keep s.1)
-  step-cut r (drill.told (Some (suc (suc (suc zero)))) keep synced) e s = (refl, leaves 3 keep s.1)
+  step-cut r (drill.told (Some zero) keep synced) e s = (refl, leaves_weaker 0 keep s.1)
+  step-cut r (drill.told (Some (suc zero)) keep synced) e s = (refl, leaves_weaker 1 keep s.1)
+  step-cut r (drill.told (Some (suc (suc zero))) keep synced) e s = (refl, leaves_weaker 2 keep s.1)
+  step-cut r (drill.told (Some (suc (suc (suc zero)))) keep synced) e s = (refl, leaves_weaker 3 keep s.1)
   step-cut r (drill.told (Some (suc (suc (suc (suc k))))) keep synced) e s = never-both r s e
 
   pub step-done : {T E : Type 0} (r : Result T E) (t : Told) → IsOk r → AddsTold new r P Q t → StepsTold new true V W t

@@ -9,6 +9,7 @@ pub mod Journal
 pub mod Machine
 pub mod Settled
 pub mod Durables
+pub mod Journals
 pub mod Fault
 pub mod Replay
 pub mod Recovering

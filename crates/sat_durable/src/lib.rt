@@ -2,6 +2,7 @@
 #![tactic(auto)]
 
 mod adding;
+mod appending;
 mod creation;
 mod disk;
 mod durable;
@@ -14,6 +15,7 @@ mod replay;
 #[cfg(test)]
 mod tests;
 
+pub use appending::{AppendFault, Journal};
 pub use creation::create;
 pub use disk::{Disk, Failed};
 pub use durable::{Durable, DurableFault, StepFault};

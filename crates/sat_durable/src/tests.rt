@@ -2,7 +2,10 @@
 ghost use Rattle.sat_durable.specs.Adding.{one_byte, only_one};
 ghost use Rattle.std.specs.Prelude.{◌+◌, [], ◌∷◌, nat_lt};
 
-use crate::{Disk, Durable, DurableFault, Machine, MemoryDisk, StepFault, create, recover};
+use crate::{
+    AppendFault, Disk, Durable, DurableFault, Journal, Machine, MemoryDisk, StepFault, create,
+    recover,
+};
 use std::alloc::{AllocError, Global};
 use std::test::Fail;
 
@@ -93,6 +96,31 @@ fn cut(alloc: Global, calls: u64, keep: bool) -> Result<(u64, u8), Fail> {
     }
 }
 
+// Appends a body of one byte, and tells whether the disk did all of its calls.
+fn appended(alloc: Global, journal: &mut Journal<MemoryDisk>, byte: u8) -> Result<bool, Fail> {
+    if journal.size() > 1 << 40 || !journal.whole() {
+        return Err(Fail::from("takes no more"));
+    }
+    let mut buffer = Vec::new(alloc);
+    buffer.extend_from_slice(&[7, 7, 7, 7, 7, byte])?;
+    match journal.append(&mut buffer) {
+        Ok(()) => Ok(true),
+        Err(AppendFault::Disk) => Ok(false),
+        Err(AppendFault::Memory) => Err(Fail::from("memory")),
+    }
+}
+
+// What is left of the bodies of 3 and 4, where the second is cut.
+fn cut_in_place(alloc: Global, calls: u64, keep: bool) -> Result<(u64, u8), Fail> {
+    let (mut journal, _) = started(alloc)?.into_parts();
+    if !appended(alloc, &mut journal, 3)? {
+        return Err(Fail::from("cut at once"));
+    }
+    journal.arm(calls, keep);
+    appended(alloc, &mut journal, 4)?;
+    recovered(alloc, journal.into_disk().crash())
+}
+
 #[test]
 fn cuts_keep_the_last_input_only_when_all_is_written(rt: HostRuntime) -> Result<(), Fail> {
     let alloc = rt.alloc();
@@ -100,8 +128,11 @@ fn cuts_keep_the_last_input_only_when_all_is_written(rt: HostRuntime) -> Result<
         assert_eq!(rt; cut(alloc, calls, false)?, (1, 3));
         let kept = if calls == 3 { (2, 7) } else { (1, 3) };
         assert_eq!(rt; cut(alloc, calls, true)?, kept);
+        assert_eq!(rt; cut_in_place(alloc, calls, false)?, (1, 3));
+        assert_eq!(rt; cut_in_place(alloc, calls, true)?, kept);
     }
     assert_eq!(rt; cut(alloc, 4, false)?, (2, 7));
+    assert_eq!(rt; cut_in_place(alloc, 4, false)?, (2, 7));
     Ok(())
 }
 

@@ -10,7 +10,6 @@ use Rattle.sat_act.specs.Answers.{answer}
 use Rattle.sat_act.specs.Limits.{IsDeployment}
 use Rattle.sat_act.proofs.Valid.{is_valid}
 use Rattle.sat_bodies.specs.Bodies.{input_allows}
-use Rattle.sat_durable.specs.Durables.{machine_of}
 use Rattle.sat_durable.specs.Machine.{run_of}
 use Rattle.sat_machine.specs.Replay.{handed, site_state}
 use Rattle.sat_site.specs.declared.input.SiteInput.{SiteInput}
@@ -36,7 +35,6 @@ use Rattle.sat_lasting_laws.proofs.Held.{held, lastings}
 use Rattle.sat_lasting.specs.declared.cut.Cut.{Cut}
 use Rattle.sat_lasting.specs.declared.kept_site.KeptSite.{KeptSite}
 use Rattle.sat_lasting.specs.declared.slot.Slot.{Slot}
-use Rattle.sat_lasting.specs.declared.slot.Slot.TheVariants as slot
 use Rattle.sat_lasting.specs.Cuts.{cut_at}
 use Rattle.sat_lasting.specs.Lasts.{AreInputs, Changes, LastingApplies, LastingSeen, LastsAt, LastsFor, Steps, Stops, whole_answer}
 use Rattle.sat_lasting.specs.Sites.{fresh_kept, site_meaning}
@@ -142,8 +140,10 @@ kept-fits d h a i given machine limits to stands sound =
     both-true (fits_in machine.site given) (input_allows given) fits (all_have_bodies d i machine.site (site_state d h i) given limits stands fits)
 
 slot-fits : (d : Deployed) (h : List Entry) (a : Act) (i : ℕ) (given : SiteInput) (xs : List SiteInput) (here : Slot) → IsDeployment d → IsHandedTo d h a i given → AreInputs d h i xs → SlotKeeps d i xs here → SlotFits given here
-slot-fits d h a i given xs (slot.Up durable) limits to are has = kept-fits d h a i given (machine_of durable) limits to (subst (λ (m : KeptSite). StandsSite d i m.site (site_state d h i)) (sym has.keeps.same) are.stands)
-slot-fits d h a i given xs (slot.Down disk) limits to are has = absurd has
+slot-fits d h a i given xs here limits to are has = record {
+  whole = has.whole;
+  fits = kept-fits d h a i given here.kept limits to (subst (λ (m : KeptSite). StandsSite d i m.site (site_state d h i)) (sym has.has.keeps.same) are.stands);
+}
 
 pub fits-there : (d : Deployed) (s : LastingSeen) (c : List LastingEntry) (a : Act) (i : ℕ) (given : SiteInput) → IsDeployment d → IsHandedTo d (kept c) a i given → LastsAt d s c i → (here : Slot) → slice_get s.slots i ≡ Some here → SlotFits given here
 fits-there d s c a i given limits to x here at =

@@ -1,19 +1,23 @@
 -- One slot of a list becomes another one.
-use Rattle.std.proofs.Common.{◌≡◌, ◌<◌, ℕ, ◌==◌, false, List, length, set, slice_get, Some, sym, ap, subst, ◌∙◌, length-set}
+use Rattle.std.proofs.Common.{◌≡◌, ◌<◌, ℕ, List, length, set, get_or, slice_get, Some}
+use Rattle.sat_site.specs.declared.input.SiteInput.{SiteInput}
+use Rattle.sat_world.proofs.Lists.{index-at}
 use Rattle.sat_lasting.specs.declared.slot.Slot.{Slot}
 use Rattle.sat_lasting.specs.Lasts.{Changes}
+use Rattle.sat_lasting.specs.Slots.{SlotFits}
 use Rattle.sat_lasting.proofs.Sets.{get-set, set-there}
 
-pub placed : (i : ℕ) (old mid new : List Slot) (before after : Slot) (R : Slot → Slot → Type 0) → i < length old → slice_get old i ≡ Some before → length mid ≡ length old →
-    ((k : ℕ) → (i == k) ≡ false → slice_get mid k ≡ slice_get old k) → new ≡ set mid i after → R before after → Changes i old new R
-placed i old mid new before after R lt was long others is holds = record {
-  before = before;
-  was = was;
-  after = after;
-  now = ap (λ (l : List Slot). slice_get l i) is ∙ get-set mid i after (subst (λ (n : ℕ). i < n) (sym long) lt);
-  others = λ k ne. ap (λ (l : List Slot). slice_get l k) is ∙ (set-there mid i k after ne ∙ others k ne);
+-- the one that was lent
+pub lent : (i : ℕ) (xs : List Slot) (x y : Slot) (R : Slot → Slot → Type 0) → i < length xs → x ≡ get_or xs i x → R x y → Changes i xs (set xs i y) R
+lent i xs x y R lt is holds = record {
+  before = x;
+  was = index-at xs i x lt is;
+  after = y;
+  now = get-set xs i y lt;
+  others = λ k ne. set-there xs i k y ne;
   holds = holds;
 }
 
-pub placed-long : (i : ℕ) (old mid new : List Slot) (after : Slot) → length mid ≡ length old → new ≡ set mid i after → length new ≡ length old
-placed-long i old mid new after long is = ap length is ∙ (length-set mid i after ∙ long)
+-- what was asked of the one at the place
+pub lent-fits : (given : SiteInput) (i : ℕ) (xs : List Slot) (x : Slot) → i < length xs → x ≡ get_or xs i x → ((slot : Slot) → slice_get xs i ≡ Some slot → SlotFits given slot) → SlotFits given x
+lent-fits given i xs x lt is fits = fits x (index-at xs i x lt is)

@@ -1,15 +1,18 @@
 -- What a site on its disk has behind it, by what the calls of its disk and its journal say.
-use Rattle.std.proofs.Common.{◌≡◌, ◌≤◌, ℕ, zero, suc, ◌+◌, Bool, true, false, List, [], ◌∷◌, ◌++◌, length, Option, Some, None, Result, Ok, refl, sym, ap, subst, ◌∙◌, arith}
+use Rattle.std.proofs.Common.{◌≡◌, ◌≤◌, ◌<◌, ◌^◌, ℕ, zero, suc, ◌+◌, Bool, true, false, List, [], ◌∷◌, ◌++◌, length, drop, Option, Some, None, Result, Ok, Err, IsErrOf, refl, sym, ap, subst, ◌∙◌, arith, length-append}
 use Rattle.std.specs.Prelude.{if◌then◌else◌}
 use Rattle.sat_act.specs.Deployed.{Deployed}
 use Rattle.sat_durable.specs.declared.memory.MemoryDisk.{MemoryDisk}
-use Rattle.sat_durable.specs.Disk.{DiskState, Rests}
-use Rattle.sat_durable.specs.Durables.{disk_of, machine_of}
+use Rattle.sat_durable.specs.Disk.{DiskState, IsSynced, Rests}
+use Rattle.sat_durable.specs.Journal.{reading, with_last}
+use Rattle.sat_durable.specs.Journals.{is_whole}
 use Rattle.sat_durable.specs.Drills.{Chosen, CutLeaves, IsCalm, StepsTold, is_kept}
 use Rattle.sat_durable.specs.Machine.{Keeps, Recovers, Run, recovered, run_from, run_of, started, taken}
 use Rattle.sat_durable.specs.Memory.{memory_armed, memory_keeps, memory_state, memory_synced}
 use Rattle.sat_durable.specs.Told.{Told}
 use Rattle.sat_durable.specs.Told as drill
+use Rattle.sat_durable.proofs.Drilling.{leaves_weaker}
+use Rattle.sat_durable.proofs.Lifting.{keeps_more, recovers_more, recovers_same}
 use Rattle.sat_lasting_laws.specs.declared.lasting_act.TheConstants.{MOST_CALLS}
 use Rattle.sat_site.specs.Seen.{IsSite}
 use Rattle.sat_site.specs.declared.input.SiteInput.{SiteInput}
@@ -17,11 +20,8 @@ use Rattle.sat_site.specs.declared.output.SiteOutput.{SiteOutput}
 use Rattle.sat_lasting.specs.declared.cut.Cut.{Cut}
 use Rattle.sat_lasting.specs.declared.kept_site.KeptSite.{KeptSite}
 use Rattle.sat_lasting.specs.declared.slot.Slot.{Slot}
-use Rattle.sat_lasting.specs.declared.slot.Slot.TheVariants as slot
-use Rattle.sat_lasting.specs.declared.slot.Stepped.{Stepped}
-use Rattle.sat_lasting.specs.declared.slot.Stepped.TheVariants as stepped
 use Rattle.sat_lasting.specs.Sites.{fresh_kept, site_meaning}
-use Rattle.sat_lasting.specs.Slots.{Arms, CameTo, FitsKept, HasInputs, IsFew, LeftBy, SlotFits, SlotKeeps, StepsKept, StepsSlot, Waits, is_there, slot_disk, with_input}
+use Rattle.sat_lasting.specs.Slots.{Arms, CameTo, FailsBy, FitsKept, HasInputs, IsFew, LeftBy, SlotFits, SlotKeeps, StepsKept, StepsSlot, Waits, is_there, slot_disk, with_input}
 
 abbrev Journalled : Deployed → ℕ → List ℕ → List SiteInput → Type 0
 Journalled d i content inputs = Recovers site_meaning (fresh_kept d i) content inputs
@@ -31,6 +31,13 @@ pub fresh-has : (d : Deployed) (i : ℕ) (fresh machine : KeptSite) (old new : D
 fresh-has d i fresh machine old new is told keeps calm = record {
   keeps = subst (λ (m : KeptSite). Keeps site_meaning m new machine []) is keeps;
   fails = calm (false, [], told);
+}
+
+-- a site and its journal, apart
+pub parts-keep : (d : Deployed) (i : ℕ) (inputs : List SiteInput) (slot : Slot) (disk : MemoryDisk) (machine : KeptSite) → slot_disk slot ≡ disk → slot.kept ≡ machine → is_whole slot.journal ≡ true → HasInputs d i inputs (memory_state disk) machine → SlotKeeps d i inputs slot
+parts-keep d i inputs slot disk machine is same whole has = record {
+  whole = whole;
+  has = subst (λ (x : MemoryDisk). HasInputs d i inputs (memory_state x) slot.kept) (sym is) (subst (λ (m : KeptSite). HasInputs d i inputs (memory_state disk) m) (sym same) has);
 }
 
 -- ---- a cut that waits
@@ -45,14 +52,18 @@ armed-keeps d i inputs machine same old new has is rests = record {
 pub armed-waits : (d : Deployed) (i : ℕ) (inputs : List SiteInput) (machine same : KeptSite) (old new : DiskState) (cut : Cut) (synced : List ℕ) → same ≡ machine → Rests old new → new.told ≡ drill.told (Some cut.calls) cut.keep synced → HasInputs d i inputs old machine → Waits d i inputs (Some cut) new same
 armed-waits d i inputs machine same old new cut synced is rests told has = record { keeps = armed-keeps d i inputs machine same old new has is rests; fails = (synced, told) }
 
--- ---- a step
+-- which error it was
+pub err-is : {T E : Type 0} (r : Result T E) (x e : E) → r ≡ Err x → x ≡ e → IsErrOf r e
+err-is {E = E} r x e is same = subst (λ (y : E). IsErrOf r y) same is
 
--- what a step knows of the disk behind it, by whether it was done
-abbrev ToldOf : Deployed → ℕ → List SiteInput → SiteInput → Bool → DiskState → Told → Type 0
-ToldOf d i inputs given done new t = StepsTold new done (λ c. Journalled d i c (inputs ++ given ∷ [])) (λ c. Journalled d i c inputs) t
+-- ---- a body that was appended
 
-told-by : (d : Deployed) (i : ℕ) (inputs : List SiteInput) (given : SiteInput) (done : Bool) (new : DiskState) (t u : Told) → t ≡ u → ToldOf d i inputs given done new t → ToldOf d i inputs given done new u
-told-by d i inputs given done new t u e told = subst (λ (x : Told). ToldOf d i inputs given done new x) e told
+-- what is known of the disk behind it, by whether it was done
+abbrev ToldOf : DiskState → DiskState → List ℕ → Bool → Told → Type 0
+ToldOf old new body done t = StepsTold new done (λ c. reading c ≡ with_last (reading old.content) body) (λ c. reading c ≡ reading old.content) t
+
+told-by : (old new : DiskState) (body : List ℕ) (done : Bool) (t u : Told) → t ≡ u → ToldOf old new body done t → ToldOf old new body done u
+told-by old new body done t u e told = subst (λ (x : Told). ToldOf old new body done x) e told
 
 never : (new : DiskState) (P Q : List ℕ → Type 0) (calls : ℕ) (keep : Bool) (synced : List ℕ) → calls ≤ MOST_CALLS → StepsTold new true P Q (drill.told (Some calls) keep synced) → ⊥
 never new P Q zero keep synced few steps = absurd (let e : true ≡ false = steps.0 in cc)
@@ -68,31 +79,66 @@ leaves new P Q (suc (suc zero)) keep synced few steps = steps.1
 leaves new P Q (suc (suc (suc zero))) keep synced few steps = steps.1
 leaves new P Q (suc (suc (suc (suc calls)))) keep synced few steps = absurd (omega (arith, few))
 
--- the site behind a step is one into which no cut fell
-pub step-done : (d : Deployed) (i : ℕ) (inputs : List SiteInput) (given : SiteInput) (cut : Option Cut) (machine next : KeptSite) (old new : DiskState) → IsFew cut → Waits d i inputs cut old machine →
-    ((fresh : KeptSite) (xs : List SiteInput) → Keeps site_meaning fresh old machine xs → Keeps site_meaning fresh new next (xs ++ given ∷ [])) →
-    ((fresh : KeptSite) (xs : List SiteInput) → Keeps site_meaning fresh old machine xs → StepsTold new true (λ c. Recovers site_meaning fresh c (xs ++ given ∷ [])) (λ c. Recovers site_meaning fresh c xs) old.told) →
-    (cut ≡ None) × HasInputs d i (inputs ++ given ∷ []) new next
-step-done d i inputs given None machine next old new few waits answered told = (
-  refl,
-  record {
-    keeps = answered (fresh_kept d i) inputs waits.keeps;
-    fails = (told-by d i inputs given true new old.told (drill.told None waits.fails.0 waits.fails.1) waits.fails.2 (told (fresh_kept d i) inputs waits.keeps)).1;
-  },
-)
-step-done d i inputs given (Some cut) machine next old new few waits answered told =
-    absurd (never new (λ c. Journalled d i c (inputs ++ given ∷ [])) (λ c. Journalled d i c inputs) cut.calls cut.keep waits.fails.0 few
-    (told-by d i inputs given true new old.told (drill.told (Some cut.calls) cut.keep waits.fails.0) waits.fails.1 (told (fresh_kept d i) inputs waits.keeps)))
+module _ (d : Deployed) (i : ℕ) (inputs : List SiteInput) (given : SiteInput) (machine next : KeptSite) (old new : DiskState) (body : List ℕ)
+    (keeps : Keeps site_meaning (fresh_kept d i) old machine inputs) (fits : site_meaning.fits machine given ≡ true) (again : site_meaning.input_of (site_meaning.body given) ≡ Some given) (is : body ≡ site_meaning.body given) where
+  -- a disk that says one body more says one input more
+  more : (c : List ℕ) → reading c ≡ with_last (reading old.content) body → Journalled d i c (inputs ++ given ∷ [])
+  more c says = recovers_more site_meaning (fresh_kept d i) old machine inputs keeps given fits again c (says ∙ ap (λ (l : List ℕ). with_last (reading old.content) l) is)
 
--- a disk that failed is one to which a cut said so
-pub step-failed : (d : Deployed) (i : ℕ) (inputs : List SiteInput) (given : SiteInput) (cut : Option Cut) (machine : KeptSite) (old new : DiskState) → IsFew cut → Waits d i inputs cut old machine →
-    ((fresh : KeptSite) (xs : List SiteInput) → Keeps site_meaning fresh old machine xs → StepsTold new false (λ c. Recovers site_meaning fresh c (xs ++ given ∷ [])) (λ c. Recovers site_meaning fresh c xs) old.told) →
-    LeftBy d i inputs given cut new
-step-failed d i inputs given None machine old new few waits told =
-    absurd (let e : false ≡ true = (told-by d i inputs given false new old.told (drill.told None waits.fails.0 waits.fails.1) waits.fails.2 (told (fresh_kept d i) inputs waits.keeps)).0 in cc)
-step-failed d i inputs given (Some cut) machine old new few waits told =
-    leaves new (λ c. Journalled d i c (inputs ++ given ∷ [])) (λ c. Journalled d i c inputs) cut.calls cut.keep waits.fails.0 few
-    (told-by d i inputs given false new old.told (drill.told (Some cut.calls) cut.keep waits.fails.0) waits.fails.1 (told (fresh_kept d i) inputs waits.keeps))
+  as-before : (c : List ℕ) → reading c ≡ reading old.content → Journalled d i c inputs
+  as-before c says = recovers_same site_meaning (fresh_kept d i) old machine inputs keeps c says
+
+  keeps-next : next ≡ site_meaning.after machine given → reading new.content ≡ with_last (reading old.content) body → IsSynced new → Keeps site_meaning (fresh_kept d i) new next (inputs ++ given ∷ [])
+  keeps-next after added synced =
+      keeps_more site_meaning (fresh_kept d i) old machine inputs keeps given fits again new next after (added ∙ ap (λ (l : List ℕ). with_last (reading old.content) l) is) synced
+
+  -- the site behind it is one into which no cut fell
+  pub step-done : (cut : Option Cut) → IsFew cut → FailsBy cut old → next ≡ site_meaning.after machine given → reading new.content ≡ with_last (reading old.content) body → IsSynced new → ToldOf old new body true old.told →
+      (cut ≡ None) × HasInputs d i (inputs ++ given ∷ []) new next
+  step-done None few fails after added synced told = (
+    refl,
+    record { keeps = keeps-next after added synced; fails = (told-by old new body true old.told (drill.told None fails.0 fails.1) fails.2 told).1 },
+  )
+  step-done (Some cut) few fails after added synced told =
+      absurd (never new (λ c. reading c ≡ with_last (reading old.content) body) (λ c. reading c ≡ reading old.content) cut.calls cut.keep fails.0 few
+      (told-by old new body true old.told (drill.told (Some cut.calls) cut.keep fails.0) fails.1 told))
+
+  -- a disk that failed is one to which a cut said so
+  pub step-failed : (cut : Option Cut) → IsFew cut → FailsBy cut old → ToldOf old new body false old.told → LeftBy d i inputs given cut new
+  step-failed None few fails told = absurd (let e : false ≡ true = (told-by old new body false old.told (drill.told None fails.0 fails.1) fails.2 told).0 in cc)
+  step-failed (Some cut) few fails told =
+      leaves_weaker new (λ c. reading c ≡ with_last (reading old.content) body) (λ c. reading c ≡ reading old.content) (λ c. Journalled d i c (inputs ++ given ∷ [])) (λ c. Journalled d i c inputs) more as-before cut.calls cut.keep
+      (leaves new (λ c. reading c ≡ with_last (reading old.content) body) (λ c. reading c ≡ reading old.content) cut.calls cut.keep fails.0 few
+      (told-by old new body false old.told (drill.told (Some cut.calls) cut.keep fails.0) fails.1 told))
+
+-- ---- a record, which begins in five bytes
+
+abbrev Five : List ℕ → Type 0
+Five head = head ≡ 0 ∷ 0 ∷ 0 ∷ 0 ∷ 0 ∷ []
+
+behind-five : (head bytes body : List ℕ) → Five head → bytes ≡ head ++ body → drop 5 bytes ≡ body
+behind-five head bytes body is more = ap (λ (l : List ℕ). drop 5 l) more ∙ ap (λ (l : List ℕ). drop 5 (l ++ body)) is
+
+five-long : (head bytes body : List ℕ) → Five head → bytes ≡ head ++ body → length bytes ≡ 5 + length body
+five-long head bytes body is more = ap length more ∙ (length-append head body ∙ ap (λ (l : List ℕ). length l + length body) is)
+
+pub five-head : (head bytes body : List ℕ) → Five head → bytes ≡ head ++ body → 5 ≤ length bytes
+five-head head bytes body is more = omega (arith, five-long head bytes body is more)
+
+pub five-short : (head bytes body : List ℕ) → Five head → bytes ≡ head ++ body → length body < 2 ^ 32 → length bytes < 2 ^ 32 + 5
+five-short head bytes body is more short = omega (arith, short, five-long head bytes body is more)
+
+module _ (given : SiteInput) (old new : Slot) (head bytes : List ℕ) (sound : IsSite old.kept.site) (fits : SlotFits given old) (again : site_meaning.input_of (site_meaning.body given) ≡ Some given)
+    (five : Five head) (is : bytes ≡ head ++ site_meaning.body given) where
+  pub took-done : new.kept ≡ site_meaning.after old.kept given → is_whole new.journal ≡ true → reading (memory_state (slot_disk new)).content ≡ with_last (reading (memory_state (slot_disk old)).content) (drop 5 bytes) →
+      IsSynced (memory_state (slot_disk new)) → ToldOf (memory_state (slot_disk old)) (memory_state (slot_disk new)) (drop 5 bytes) true (memory_state (slot_disk old)).told → StepsKept old given true new
+  took-done after whole added synced told d i inputs cut few waits =
+      let x = step-done d i inputs given old.kept new.kept (memory_state (slot_disk old)) (memory_state (slot_disk new)) (drop 5 bytes) waits.keeps (fits.fits sound) again (behind-five head bytes (site_meaning.body given) five is) cut few waits.fails after added synced told in
+      (x.0, record { whole = whole; has = x.1 })
+
+  pub took-failed : ToldOf (memory_state (slot_disk old)) (memory_state (slot_disk new)) (drop 5 bytes) false (memory_state (slot_disk old)).told → StepsKept old given false new
+  took-failed told d i inputs cut few waits =
+      step-failed d i inputs given old.kept new.kept (memory_state (slot_disk old)) (memory_state (slot_disk new)) (drop 5 bytes) waits.keeps (fits.fits sound) again (behind-five head bytes (site_meaning.body given) five is) cut few waits.fails told
 
 -- ---- what a slot has behind a step
 
@@ -128,44 +174,37 @@ left-content d i inputs given (Some cut) disk crashed there left content e =
 pub crashed-calm : (disk : MemoryDisk) (crashed : DiskState) → crashed.told ≡ drill.told None (memory_keeps disk) crashed.content → IsCalm crashed
 crashed-calm disk crashed tells = (memory_keeps disk, crashed.content, tells)
 
--- a slot whose site was there
-pub up-has : (d : Deployed) (i : ℕ) (inputs : List SiteInput) (here : Slot) (first : _) → here ≡ slot.Up first → SlotKeeps d i inputs here → HasInputs d i inputs (memory_state (disk_of first)) (machine_of first)
-up-has d i inputs here first is keeps = subst (λ (x : Slot). SlotKeeps d i inputs x) is keeps
+-- an armed slot takes what it took before
+pub armed-fits : (given : SiteInput) (old mid : Slot) → mid.kept ≡ old.kept → is_whole mid.journal ≡ is_whole old.journal → SlotFits given old → SlotFits given mid
+armed-fits given old mid kept whole fits = record { whole = whole ∙ fits.whole; fits = subst (λ (m : KeptSite). FitsKept given m) (sym kept) fits.fits }
 
-pub up-fits : (given : SiteInput) (here : Slot) (first : _) → here ≡ slot.Up first → SlotFits given here → FitsKept given (machine_of first)
-up-fits given here first is fits = subst (λ (x : Slot). SlotFits given x) is fits
+module _ (d : Deployed) (i : ℕ) (inputs : List SiteInput) (given : SiteInput) (cut : Option Cut) (old mid new : Slot) (done : Bool)
+    (few : IsFew cut) (sound : IsSite old.kept.site) (arms : Arms cut (memory_state (slot_disk old)) old.kept (memory_state (slot_disk mid)) mid.kept) (steps : StepsKept mid given done new) (keeps : SlotKeeps d i inputs old) where
+  came-to : CameTo d i inputs given cut done new
+  came-to = steps d i inputs cut few (arms d i inputs keeps.has)
 
-pub same-fits : (given : SiteInput) (machine same : KeptSite) → same ≡ machine → FitsKept given machine → FitsKept given same
-same-fits given machine same is fits = subst (λ (m : KeptSite). FitsKept given m) (sym is) fits
+  pub slot-done : done ≡ true → StepsSlot d i inputs given cut true new
+  slot-done is =
+      let x : CameTo d i inputs given cut true new = subst (λ (b : Bool). CameTo d i inputs given cut b new) is came-to in
+      record { told = there-as cut x.0; keeps = x.1; sound = sound-in d i inputs old.kept (memory_state (slot_disk old)) keeps.has sound }
 
-module _ (d : Deployed) (i : ℕ) (inputs : List SiteInput) (given : SiteInput) (cut : Option Cut) (machine same : KeptSite) (old mid : DiskState) (came : Stepped)
-    (few : IsFew cut) (sound : IsSite machine.site) (arms : Arms cut old machine mid same) (steps : StepsKept mid same given came) (has : HasInputs d i inputs old machine) where
-  came-to : CameTo d i inputs given cut came
-  came-to = steps d i inputs cut few (arms d i inputs has)
-
-  pub slot-done : (durable : _) → came ≡ stepped.Done durable → StepsSlot d i inputs given cut true (slot.Up durable)
-  slot-done durable is =
-      let x : CameTo d i inputs given cut (stepped.Done durable) = subst (λ (y : Stepped). CameTo d i inputs given cut y) is came-to in
-      record { told = there-as cut x.0; keeps = x.1; sound = sound-in d i inputs machine old has sound }
-
-  pub slot-failed : (disk : MemoryDisk) (crashed : DiskState) (there : Bool) (new : Slot) → came ≡ stepped.Failed disk →
-      crashed.content ≡ (if memory_keeps disk then (memory_state disk).content else memory_synced disk) →
-      crashed.told ≡ drill.told None (memory_keeps disk) crashed.content →
-      ((xs : List SiteInput) → Recovers site_meaning (fresh_kept d i) crashed.content xs → IsCalm crashed → SlotKeeps d i xs new) →
-      there ≡ is_there cut → StepsSlot d i inputs given cut there new
-  slot-failed disk crashed there new is content tells made e =
-      let left : LeftBy d i inputs given cut (memory_state disk) = subst (λ (y : Stepped). CameTo d i inputs given cut y) is came-to in
+  pub slot-failed : (crashed : DiskState) (there : Bool) (made : Slot) → done ≡ false →
+      crashed.content ≡ (if memory_keeps (slot_disk new) then (memory_state (slot_disk new)).content else memory_synced (slot_disk new)) →
+      crashed.told ≡ drill.told None (memory_keeps (slot_disk new)) crashed.content →
+      ((xs : List SiteInput) → Recovers site_meaning (fresh_kept d i) crashed.content xs → IsCalm crashed → SlotKeeps d i xs made) →
+      there ≡ is_there cut → StepsSlot d i inputs given cut there made
+  slot-failed crashed there made is content tells makes e =
+      let left : LeftBy d i inputs given cut (memory_state (slot_disk new)) = subst (λ (b : Bool). CameTo d i inputs given cut b new) is came-to in
       record {
         told = e;
-        keeps = made (with_input there inputs given) (left-content d i inputs given cut disk crashed there left content e) (crashed-calm disk crashed tells);
-        sound = sound-in d i inputs machine old has sound;
+        keeps = makes (with_input there inputs given) (left-content d i inputs given cut (slot_disk new) crashed there left content e) (crashed-calm (slot_disk new) crashed tells);
+        sound = sound-in d i inputs old.kept (memory_state (slot_disk old)) keeps.has sound;
       }
 
 -- ---- a site that is made again
 
-pub slot-left : (d : Deployed) (i : ℕ) (inputs : List SiteInput) (old : Slot) (disk : MemoryDisk) (content : List ℕ) → disk ≡ slot_disk old → (memory_state disk).may_leave content → SlotKeeps d i inputs old → Recovers site_meaning (fresh_kept d i) content inputs
-slot-left d i inputs (slot.Up durable) disk content is left has = has.keeps.left content (subst (λ (m : MemoryDisk). (memory_state m).may_leave content) is left)
-slot-left d i inputs (slot.Down other) disk content is left has = absurd has
+pub slot-left : (d : Deployed) (i : ℕ) (inputs : List SiteInput) (old : Slot) (content : List ℕ) → (memory_state (slot_disk old)).may_leave content → SlotKeeps d i inputs old → Recovers site_meaning (fresh_kept d i) content inputs
+slot-left d i inputs old content left has = has.has.keeps.left content left
 
 pub made-has : (d : Deployed) (i : ℕ) (inputs : List SiteInput) (fresh machine : KeptSite) (old new : DiskState) → fresh ≡ fresh_kept d i →
     ((xs : List SiteInput) → Recovers site_meaning fresh old.content xs → Keeps site_meaning fresh new machine xs) → (IsCalm old → IsCalm new) →

@@ -19,7 +19,6 @@ use Rattle.sat_lasting_laws.specs.Lastings.{LastingEntry, armed, kept}
 use Rattle.sat_lasting_laws.specs.LastingRuns.{IsLastingRun}
 use Rattle.sat_lasting.specs.declared.cut.Cut.{Cut}
 use Rattle.sat_lasting.specs.declared.slot.Slot.{Slot}
-use Rattle.sat_lasting.specs.declared.slot.Slot.TheVariants as slot
 use Rattle.sat_lasting.specs.Lasts.{AreFresh, AreInputs, HasPlaces, IsJournalAt, LastingSeen, LastsAt, LastsFor}
 use Rattle.sat_lasting.specs.Sites.{fresh_kept, site_meaning}
 use Rattle.sat_lasting.specs.Slots.{SlotKeeps, slot_disk}
@@ -80,8 +79,7 @@ new-lasts d w slots cuts same stands fresh none = record {
 -- ---- a disk
 
 shown : (d : Deployed) (i : ℕ) (xs : List SiteInput) (here : Slot) → SlotKeeps d i xs here → Recovers site_meaning (fresh_kept d i) (memory_state (slot_disk here)).content xs
-shown d i xs (slot.Up durable) has = has.keeps.shown
-shown d i xs (slot.Down disk) has = absurd has
+shown d i xs here has = has.has.keeps.shown
 
 disk-reads : (s : LastingSeen) (i : ℕ) (here : Slot) (disk : MemoryDisk) → i < s.world.deployment.sites → slice_get s.slots i ≡ Some here → disk ≡ slot_disk here →
     (c : List LastingEntry) → IsLastingRun s.world.deployment c → LastsFor s c → IsJournalAt s.world.deployment (kept c) i (memory_state disk).content

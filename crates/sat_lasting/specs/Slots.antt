@@ -1,10 +1,10 @@
--- A site on its disk, beside the one in the world.
-use Rattle.std.specs.Prelude.{◌≡◌, ◌≤◌, ℕ, Bool, true, List, [], ◌∷◌, ◌++◌, Option, Some, None, if◌then◌else◌}
+-- A site beside its journal, and beside the one in the world.
+use Rattle.std.specs.Prelude.{◌≡◌, ◌≤◌, ℕ, Bool, true, false, List, [], ◌∷◌, ◌++◌, Option, Some, None, if◌then◌else◌}
 use Rattle.sat_act.specs.Deployed.{Deployed}
 use Rattle.sat_durable.specs.declared.memory.MemoryDisk.{MemoryDisk}
 use Rattle.sat_durable.specs.Disk.{DiskState}
 use Rattle.sat_durable.specs.Drills.{CutLeaves, IsCalm}
-use Rattle.sat_durable.specs.Durables.{disk_of, machine_of}
+use Rattle.sat_durable.specs.Journals.{is_whole, journal_disk}
 use Rattle.sat_durable.specs.Machine.{Keeps, Recovers, run_of}
 use Rattle.sat_durable.specs.Memory.{memory_state}
 use Rattle.sat_durable.specs.Told as drill
@@ -15,16 +15,12 @@ use Rattle.sat_site.specs.Seen.{IsSite}
 use Rattle.sat_lasting.specs.declared.cut.Cut.{Cut}
 use Rattle.sat_lasting.specs.declared.kept_site.KeptSite.{KeptSite}
 use Rattle.sat_lasting.specs.declared.slot.Slot.{Slot}
-use Rattle.sat_lasting.specs.declared.slot.Slot.TheVariants as slot
-use Rattle.sat_lasting.specs.declared.slot.Stepped.{Stepped}
-use Rattle.sat_lasting.specs.declared.slot.Stepped.TheVariants as stepped
 use Rattle.sat_lasting.specs.Cuts.{cut_seen}
 use Rattle.sat_lasting.specs.Sites.{fresh_kept, site_meaning}
 
 -- its disk
 abbrev pub slot_disk : Slot → MemoryDisk
-slot_disk (slot.Up durable) = disk_of durable
-slot_disk (slot.Down disk) = disk
+slot_disk slot = journal_disk slot.journal
 
 -- where a disk fails: nowhere, or where the cut that waits at its site says
 abbrev pub FailsBy : Option Cut → DiskState → Type 0
@@ -41,19 +37,19 @@ pub record Waits (d : Deployed) (i : ℕ) (inputs : List SiteInput) (cut : Optio
 abbrev pub HasInputs : Deployed → ℕ → List SiteInput → DiskState → KeptSite → Type 0
 HasInputs d i inputs disk machine = Waits d i inputs None disk machine
 
--- the same of a site on its disk; a disk alone has no site
-abbrev pub SlotKeeps : Deployed → ℕ → List SiteInput → Slot → Type 0
-SlotKeeps d i inputs (slot.Up durable) = HasInputs d i inputs (memory_state (disk_of durable)) (machine_of durable)
-SlotKeeps d i inputs (slot.Down disk) = ⊥
+-- the same of a site and its journal, which takes a body more
+pub record SlotKeeps (d : Deployed) (i : ℕ) (inputs : List SiteInput) (slot : Slot) : Type 0 where
+  pub whole : is_whole slot.journal ≡ true
+  pub has : HasInputs d i inputs (memory_state (slot_disk slot)) slot.kept
 
 -- a site takes this
 abbrev pub FitsKept : SiteInput → KeptSite → Type 0
 FitsKept given kept = IsSite kept.site → site_meaning.fits kept given ≡ true
 
--- the same of a site on its disk
-abbrev pub SlotFits : SiteInput → Slot → Type 0
-SlotFits given (slot.Up durable) = FitsKept given (machine_of durable)
-SlotFits given (slot.Down disk) = ⊥
+-- a site takes this, and its journal a body
+pub record SlotFits (given : SiteInput) (slot : Slot) : Type 0 where
+  pub whole : is_whole slot.journal ≡ true
+  pub fits : FitsKept given slot.kept
 
 -- with one input more, if it is there
 abbrev pub with_input : Bool → List SiteInput → SiteInput → List SiteInput
@@ -84,16 +80,16 @@ LeftBy d i inputs given (Some cut) disk =
     CutLeaves disk cut.calls cut.keep (λ c. Recovers site_meaning (fresh_kept d i) c (inputs ++ given ∷ []))
     (λ c. Recovers site_meaning (fresh_kept d i) c inputs)
 
--- what came of a step: the site goes on where no cut fell into it, and else its disk failed
-abbrev pub CameTo : Deployed → ℕ → List SiteInput → SiteInput → Option Cut → Stepped → Type 0
-CameTo d i inputs given cut (stepped.Done durable) =
-    (cut ≡ None) × HasInputs d i (inputs ++ given ∷ []) (memory_state (disk_of durable)) (machine_of durable)
-CameTo d i inputs given cut (stepped.Failed disk) = LeftBy d i inputs given cut (memory_state disk)
+-- what came of an input that was handed to a site, by whether its disk did all of its calls: it goes on where no cut
+-- fell into it, and else its disk failed
+abbrev pub CameTo : Deployed → ℕ → List SiteInput → SiteInput → Option Cut → Bool → Slot → Type 0
+CameTo d i inputs given cut true new = (cut ≡ None) × SlotKeeps d i (inputs ++ given ∷ []) new
+CameTo d i inputs given cut false new = LeftBy d i inputs given cut (memory_state (slot_disk new))
 
--- a step of a site with this disk came to this, whichever cut waits at the site
-abbrev pub StepsKept : DiskState → KeptSite → SiteInput → Stepped → Type 0
-StepsKept old machine given came = (d : Deployed) (i : ℕ) (inputs : List SiteInput) (cut : Option Cut) → IsFew cut
-    → Waits d i inputs cut old machine → CameTo d i inputs given cut came
+-- a site that was handed an input came to this, whichever cut waits at it
+abbrev pub StepsKept : Slot → SiteInput → Bool → Slot → Type 0
+StepsKept old given done new = (d : Deployed) (i : ℕ) (inputs : List SiteInput) (cut : Option Cut) → IsFew cut
+    → Waits d i inputs cut (memory_state (slot_disk old)) old.kept → CameTo d i inputs given cut done new
 
 -- a site and its disk were armed by a cut, or by none
 abbrev pub Arms : Option Cut → DiskState → KeptSite → DiskState → KeptSite → Type 0

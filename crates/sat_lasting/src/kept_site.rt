@@ -1,9 +1,9 @@
 //! A site whose inputs can be journalled.
-ghost use Rattle.std.specs.Prelude.{◌≡◌, ◌<◌, IfOk};
+ghost use Rattle.std.specs.Prelude.{◌≡◌, ◌<◌, ◌^◌, ◌++◌, true, length, Some, IfOk, OnOk, OnErr};
 ghost use Rattle.sat_lasting.specs.Sites.{fresh_kept, site_meaning};
 
 use sat_act::Deployment;
-use sat_bodies::{body_of, input_of, is_allowed};
+use sat_bodies::{body_of, input_of, is_allowed, size, write};
 use sat_durable::Machine;
 use sat_site::{Site, SiteInput, SiteOutput};
 use std::alloc::{AllocError, Global};
@@ -32,6 +32,30 @@ impl KeptSite {
         ensures { result.now ≡ site_of self.now }
     {
         &self.site
+    }
+
+    /// Puts the body of an input that fits behind other bytes, as `encode` of the machine gives it. For want of memory
+    /// they are as before.
+    pub(crate) fn write(&self, input: &SiteInput, out: &mut Vec<u8>) -> Result<(), AllocError>
+        requires { site_meaning.fits self.now input.now ≡ true }
+        ensures body { OnOk result (out.new.items ≡ out.old.items ++ site_meaning.body input.now) }
+        ensures again { site_meaning.input_of (site_meaning.body input.now) ≡ Some input.now }
+        ensures short { length (site_meaning.body input.now) < 2 ^ 32 }
+    {
+        let bytes = size(input);
+        out.reserve(bytes)?;
+        write(input, out);
+        Ok(())
+    }
+
+    /// Takes an input that fits, as `step` of the machine does, and answers nothing. After an error nothing changed.
+    pub(crate) fn take(&mut self, input: SiteInput) -> Result<(), AllocError>
+        requires { site_meaning.fits self.old input ≡ true }
+        ensures after { OnOk result (self.new ≡ site_meaning.after self.old input) }
+        ensures err { OnErr result (self.new ≡ self.old) }
+    {
+        self.site.act(input)?;
+        Ok(())
     }
 
     // What is true of each site. It does nothing.

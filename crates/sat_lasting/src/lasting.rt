@@ -17,15 +17,17 @@ use sat_world::World;
 use std::alloc::{AllocError, Global};
 use std::marker::Model;
 
-/// A world, and each of its sites once more on a disk. An act goes first to the site on its disk, and only where its
-/// input is there to the world: so the world never knows of an input that a stop could take away. Sites are held twice,
-/// which costs the memory of a second copy of each and the time of a second step; both are the replay of the same
-/// inputs.
+/// A world, and each of its sites once more beside the journal of its inputs. An act goes first to the journal, and
+/// only where its input is there to the world: so the world never knows of an input that a stop could take away. Sites
+/// are held twice, which costs the memory of a second copy of each and the time of a second step: the copy is what the
+/// journal's inputs make, and so a recovery.
 #[derive(Drop)]
 pub struct Lasting {
     world: World,
     slots: Vec<Slot>,
     cuts: Vec<Option<Cut>>,
+    // for the record of an input, while it is written
+    buffer: Vec<u8>,
 }
 
 impl Model for Lasting {
@@ -77,7 +79,12 @@ impl Lasting {
         let slots = fresh_slots(alloc, &d)?;
         let cuts = no_cuts(alloc, &d)?;
         let world = World::new(alloc, d)?;
-        Ok(Lasting { world, slots, cuts })
+        Ok(Lasting {
+            world,
+            slots,
+            cuts,
+            buffer: Vec::new(alloc),
+        })
     }
 
     /// Does an act and answers it. A site whose records on its disk come to more than 2^40 bytes takes no further
@@ -134,6 +141,7 @@ impl Lasting {
             site,
             input,
             cut,
+            &mut self.buffer,
         )?;
         if !there {
             return Ok(LastingAnswer::StoppedWithout);

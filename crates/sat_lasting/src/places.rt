@@ -7,7 +7,6 @@ ghost use Rattle.sat_lasting.specs.Slots.{IsFew, SlotFits};
 use crate::cut::Cut;
 use crate::slot::Slot;
 use sat_act::Deployment;
-use sat_durable::MemoryDisk;
 use sat_site::SiteInput;
 use std::alloc::{AllocError, Global};
 
@@ -38,24 +37,6 @@ pub(crate) fn slot_at(slots: &Vec<Slot>, site: u16) -> &Slot
     &slots.as_slice()[site as usize]
 }
 
-// Takes a site off its place for as long as it is under way.
-fn take_slot(slots: &mut Vec<Slot>, alloc: Global, site: u16) -> Slot
-    requires { site < length slots.old.items }
-    ensures slot { slice_get slots.old.items site ≡ Some result }
-    ensures long { length slots.new.items ≡ length slots.old.items }
-    ensures others { (k : ℕ) → (site == k) ≡ false → slice_get slots.new.items k ≡ slice_get slots.old.items k }
-{
-    let away = Slot::Down(MemoryDisk::new(alloc));
-    std::mem::replace(&mut slots[site as usize], away)
-}
-
-fn put_slot(slots: &mut Vec<Slot>, site: u16, slot: Slot)
-    requires { site < length slots.old.items }
-    ensures { slots.new.items ≡ set slots.old.items site slot }
-{
-    slots[site as usize] = slot;
-}
-
 /// Hands a site an input, and tells whether the input is there.
 pub(crate) fn step_at(
     slots: &mut Vec<Slot>,
@@ -64,6 +45,7 @@ pub(crate) fn step_at(
     site: u16,
     input: SiteInput,
     cut: Option<Cut>,
+    buffer: &mut Vec<u8>,
 ) -> Result<bool, AllocError>
     requires place { site < length slots.old.items }
     requires site { site < d.now.sites }
@@ -73,9 +55,8 @@ pub(crate) fn step_at(
     ensures steps { IfOk result
         (λ there. Changes site slots.old.items slots.new.items (Steps d.now site input cut there)) }
 {
-    let slot = take_slot(slots, alloc, site);
-    let (slot, there) = slot.step(alloc, d, site, input, cut)?;
-    put_slot(slots, site, slot);
+    let slot = &mut slots[site as usize];
+    let there = slot.step(alloc, d, site, input, cut, buffer)?;
     Ok(there)
 }
 
@@ -91,8 +72,7 @@ pub(crate) fn stop_at(
     ensures long { length slots.new.items ≡ length slots.old.items }
     ensures stops { IfOk result (λ count. Changes site slots.old.items slots.new.items (Stops d.now site count)) }
 {
-    let slot = take_slot(slots, alloc, site);
-    let (slot, count) = slot.stop(alloc, d, site)?;
-    put_slot(slots, site, slot);
+    let slot = &mut slots[site as usize];
+    let count = slot.stop(alloc, d, site)?;
     Ok(count)
 }

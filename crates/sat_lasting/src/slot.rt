@@ -1,40 +1,29 @@
-//! A site on its disk, beside the one in the world.
-ghost use Rattle.std.specs.Prelude.{◌≡◌, ◌<◌, List, [], length, Some, IfOk};
-ghost use Rattle.sat_durable.specs.Disk.{Rests};
+//! A site beside its journal, and beside the one in the world.
+ghost use Rattle.std.specs.Prelude.{◌≡◌, ◌<◌, List, [], ◌∷◌, length, None, IfOk, OnOk, if◌then◌else◌};
 ghost use Rattle.sat_durable.specs.Drills.{IsCalm};
-ghost use Rattle.sat_durable.specs.Durables.{disk_of, machine_of};
+ghost use Rattle.sat_durable.specs.Journals.{is_whole};
 ghost use Rattle.sat_durable.specs.Machine.{Recovers};
-ghost use Rattle.sat_durable.specs.Memory.{memory_state, memory_synced};
+ghost use Rattle.sat_durable.specs.Memory.{memory_keeps, memory_state, memory_synced};
 ghost use Rattle.sat_durable.specs.Told.{told as told_of};
 ghost use Rattle.sat_site.specs.declared.input.SiteInput.{SiteInput as InputSeen};
 ghost use Rattle.sat_lasting.specs.Sites.{fresh_kept, site_meaning};
-ghost use Rattle.sat_lasting.specs.Slots.{Arms, FitsKept, IsFew, SlotFits, SlotKeeps, StepsKept, StepsSlot, is_there, slot_disk};
+ghost use Rattle.sat_lasting.specs.Slots.{Arms, IsFew, SlotFits, SlotKeeps, StepsKept, StepsSlot, is_there, slot_disk};
 
 use crate::KeptSite;
 use crate::cut::Cut;
 use sat_act::Deployment;
-use sat_durable::{Durable, MemoryDisk, StepFault, create, recover};
-use sat_site::{SiteInput, SiteOutput};
+use sat_durable::{AppendFault, Journal, MemoryDisk, create, recover};
+use sat_site::SiteInput;
 use std::alloc::{AllocError, Global};
 
 /// The most bytes of records behind which one more is written. Two copies of so many are in no memory.
 const MOST_BYTES: u64 = 1 << 40;
 
-/// A site with its disk.
-type Kept = Durable<MemoryDisk, KeptSite>;
-
-/// A site with its disk; or the disk alone, where memory was missing to make the site again.
+/// A site, and the journal of its inputs. Where memory was missing to make the site again the journal isn't whole.
 #[derive(Drop)]
-pub(crate) enum Slot {
-    Up(Kept),
-    Down(MemoryDisk),
-}
-
-/// What came of a step: the site behind it, or a disk that failed.
-#[derive(Drop)]
-pub(crate) enum Stepped {
-    Done(Kept),
-    Failed(MemoryDisk),
+pub(crate) struct Slot {
+    journal: Journal<MemoryDisk>,
+    kept: KeptSite,
 }
 
 impl Slot {
@@ -46,7 +35,10 @@ impl Slot {
         let fresh = KeptSite::new(alloc, d, site)?;
         let disk = MemoryDisk::new(alloc);
         match create(disk, fresh) {
-            Ok(durable) => Ok(Slot::Up(durable)),
+            Ok(durable) => {
+                let (journal, kept) = durable.into_parts();
+                Ok(Slot { journal, kept })
+            }
             Err(_) => Err(AllocError),
         }
     }
@@ -55,69 +47,105 @@ impl Slot {
     pub(crate) fn disk(&self) -> &MemoryDisk
         ensures { result.now ≡ slot_disk self.now }
     {
-        match self {
-            Slot::Up(durable) => durable.disk(),
-            Slot::Down(disk) => disk,
-        }
+        self.journal.disk()
     }
 
-    // The disk alone.
-    fn into_disk(self) -> MemoryDisk
-        ensures { result ≡ slot_disk self }
+    // Takes the disk out, as it is after a crash.
+    fn crashed(&mut self, alloc: Global) -> MemoryDisk
+        ensures left { (memory_state (slot_disk self.old)).may_leave (memory_state result).content }
+        ensures content { (memory_state result).content ≡ (if memory_keeps (slot_disk self.old)
+            then (memory_state (slot_disk self.old)).content else memory_synced (slot_disk self.old)) }
+        ensures told { (memory_state result).told
+            ≡ told_of None (memory_keeps (slot_disk self.old)) (memory_state result).content }
     {
-        match self {
-            Slot::Up(durable) => durable.into_disk(),
-            Slot::Down(disk) => disk,
-        }
+        let away = Journal::unread(MemoryDisk::new(alloc));
+        let journal = std::mem::replace(&mut self.journal, away);
+        journal.into_disk().crash()
     }
 
     /// Stops the site between two acts and makes it again from its disk, and tells from how many inputs.
     pub(crate) fn stop(
-        self,
+        &mut self,
         alloc: Global,
         d: &Deployment,
         site: u16,
-    ) -> Result<(Slot, u64), AllocError>
+    ) -> Result<u64, AllocError>
         requires { site < d.now.sites }
-        ensures keeps { IfOk result (λ made. (inputs : List InputSeen) → SlotKeeps d.now site inputs self
-            → SlotKeeps d.now site inputs made.0) }
-        ensures count { IfOk result (λ made. (inputs : List InputSeen) → SlotKeeps d.now site inputs self
-            → made.1 ≡ length inputs) }
+        ensures { IfOk result (λ count. (inputs : List InputSeen) → SlotKeeps d.now site inputs self.old
+            → SlotKeeps d.now site inputs self.new × (count ≡ length inputs)) }
     {
-        let disk = self.into_disk().crash();
+        let disk = self.crashed(alloc);
         let (slot, count) = made_again(alloc, d, site, disk)?;
-        Ok((slot, count))
+        *self = slot;
+        Ok(count)
     }
 
     /// Hands the site an input, which is cut off where a cut falls into it, and tells whether the input is there. Where
-    /// the site was cut off it is made again.
+    /// the site was cut off it is made again. The buffer is for the input's record.
     pub(crate) fn step(
-        self,
+        &mut self,
         alloc: Global,
         d: &Deployment,
         site: u16,
         input: SiteInput,
         cut: Option<Cut>,
-    ) -> Result<(Slot, bool), AllocError>
+        buffer: &mut Vec<u8>,
+    ) -> Result<bool, AllocError>
         requires site { site < d.now.sites }
-        requires fits { SlotFits input self }
+        requires fits { SlotFits input self.old }
         requires few { IsFew cut }
-        ensures { IfOk result (λ done. (inputs : List InputSeen) → SlotKeeps d.now site inputs self
-            → StepsSlot d.now site inputs input cut done.1 done.0) }
+        ensures { IfOk result (λ there. (inputs : List InputSeen) → SlotKeeps d.now site inputs self.old
+            → StepsSlot d.now site inputs input cut there self.new) }
     {
-        let Slot::Up(durable) = self else {
-            unreachable!();
-        };
-        durable.machine().sound();
-        let durable = armed(durable, cut);
-        match handed(alloc, durable, input)? {
-            Stepped::Done(durable) => Ok((Slot::Up(durable), true)),
-            Stepped::Failed(disk) => {
-                let (slot, _) = made_again(alloc, d, site, disk.crash())?;
-                Ok((slot, is_left(cut)))
-            }
+        self.kept.sound();
+        self.arm(cut);
+        if self.take(input, buffer)? {
+            return Ok(true);
+        }
+        let disk = self.crashed(alloc);
+        let (slot, _) = made_again(alloc, d, site, disk)?;
+        *self = slot;
+        Ok(is_left(cut))
+    }
+
+    // Arms the disk, where a cut waits.
+    fn arm(&mut self, cut: Option<Cut>)
+        ensures kept { self.new.kept ≡ self.old.kept }
+        ensures whole { is_whole self.new.journal ≡ is_whole self.old.journal }
+        ensures waits { Arms cut (memory_state (slot_disk self.old)) self.old.kept (memory_state (slot_disk self.new))
+            self.new.kept }
+    {
+        if let Some(cut) = cut {
+            self.journal.arm(cut.calls, cut.keep);
         }
     }
+
+    // Hands the site an input, and tells whether its disk did all of its calls, and did not fail where it was armed.
+    fn take(&mut self, input: SiteInput, buffer: &mut Vec<u8>) -> Result<bool, AllocError>
+        requires { SlotFits input self.old }
+        ensures { IfOk result (λ done. StepsKept self.old input done self.new) }
+    {
+        self.kept.sound();
+        if self.journal.size() > MOST_BYTES {
+            return Err(AllocError);
+        }
+        begin(buffer)?;
+        self.kept.write(&input, buffer)?;
+        self.kept.take(input)?;
+        match self.journal.append(buffer) {
+            Ok(()) => Ok(true),
+            Err(AppendFault::Disk) => Ok(false),
+            Err(AppendFault::Memory) => Err(AllocError),
+        }
+    }
+}
+
+// Empties a buffer but for the five bytes in which a record begins.
+fn begin(buffer: &mut Vec<u8>) -> Result<(), AllocError>
+    ensures { OnOk result (buffer.new.items ≡ 0 ∷ 0 ∷ 0 ∷ 0 ∷ 0 ∷ []) }
+{
+    buffer.clear();
+    buffer.extend_from_slice(&[0, 0, 0, 0, 0])
 }
 
 // Whether an input is there afterwards, by the cut that fell into it.
@@ -127,64 +155,6 @@ fn is_left(cut: Option<Cut>) -> bool
     match cut {
         None => true,
         Some(cut) => cut.keeps_input(),
-    }
-}
-
-// The site with its disk armed, where a cut waits.
-fn armed(durable: Kept, cut: Option<Cut>) -> Kept
-    ensures machine { machine_of result ≡ machine_of durable }
-    ensures waits { Arms cut (memory_state (disk_of durable)) (machine_of durable) (memory_state (disk_of result))
-        (machine_of result) }
-{
-    match cut {
-        None => durable,
-        Some(cut) => armed_by(durable, cut),
-    }
-}
-
-fn armed_by(durable: Kept, cut: Cut) -> Kept
-    ensures machine { machine_of result ≡ machine_of durable }
-    ensures rests { Rests (memory_state (disk_of durable)) (memory_state (disk_of result)) }
-    ensures told { (memory_state (disk_of result)).told
-        ≡ told_of (Some cut.calls) cut.keep (memory_synced (disk_of durable)) }
-{
-    let mut durable = durable;
-    durable.arm(cut.calls, cut.keep);
-    durable
-}
-
-// Hands a site an input. It fails for want of memory, or where its disk was armed to fail.
-fn handed(alloc: Global, durable: Kept, input: SiteInput) -> Result<Stepped, AllocError>
-    requires { FitsKept input (machine_of durable) }
-    ensures { IfOk result (λ came. StepsKept (memory_state (disk_of durable)) (machine_of durable) input came) }
-{
-    durable.machine().sound();
-    if durable.size() > MOST_BYTES {
-        return Err(AllocError);
-    }
-    match durable.step(alloc, input) {
-        Ok(done) => Ok(Stepped::Done(without_output(done))),
-        Err(fault) => {
-            let disk = failed(fault)?;
-            Ok(Stepped::Failed(disk))
-        }
-    }
-}
-
-fn without_output(done: (Kept, SiteOutput)) -> Kept
-    ensures { result ≡ done.0 }
-{
-    let (durable, _) = done;
-    durable
-}
-
-// The disk, where it failed.
-fn failed(fault: StepFault<MemoryDisk, KeptSite>) -> Result<MemoryDisk, AllocError>
-    ensures { IfOk result (λ disk. fault ≡ StepFault.Disk disk) }
-{
-    match fault {
-        StepFault::Disk(disk) => Ok(disk),
-        StepFault::Memory(_) => Err(AllocError),
     }
 }
 
@@ -205,7 +175,10 @@ fn made_again(
 {
     let fresh = KeptSite::new(alloc, d, site)?;
     match recover(alloc, disk, fresh) {
-        Ok(made) => Ok((Slot::Up(made.durable), made.inputs)),
+        Ok(made) => {
+            let (journal, kept) = made.durable.into_parts();
+            Ok((Slot { journal, kept }, made.inputs))
+        }
         Err(_) => Err(AllocError),
     }
 }

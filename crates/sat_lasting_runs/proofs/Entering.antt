@@ -1,5 +1,5 @@
 -- What sites that last make of an act, for their follower.
-use Rattle.std.proofs.Common.{◌≡◌, ℕ, ◌+◌, ◌-◌, ◌^◌, ◌≤◌, min, List, [], ◌∷◌, ◌++◌, Option, Some, None, Result, Ok, Err, OnOk, IfOk, sym, ap, subst, ◌∙◌, arith}
+use Rattle.std.proofs.Common.{◌≡◌, ℕ, ◌+◌, ◌-◌, ◌^◌, ◌≤◌, min, List, [], ◌∷◌, ◌++◌, Option, Some, None, Result, Ok, Err, OnOk, IfOk, is_some, true, false, refl, sym, ap, subst, ◌∙◌, arith}
 use Rattle.sat_act.specs.Deployed.{Deployed}
 use Rattle.sat_act.specs.declared.entry.Entry.{Entry}
 use Rattle.sat_act.specs.Runs.{IsRun}
@@ -10,12 +10,16 @@ use Rattle.sat_lasting_laws.proofs.Held.{held as run_of_kept}
 use Rattle.sat_lasting_laws.specs.Ranges.{IsLastingActOf}
 use Rattle.sat_lasting_laws.specs.declared.lasting_act.LastingAct.{LastingAct}
 use Rattle.sat_lasting_laws.specs.declared.lasting_answer.LastingAnswer.{LastingAnswer}
+use Rattle.sat_lasting_script.specs.Forms.{lasting_acts}
 use Rattle.sat_lasting_texts.specs.Texts.{lasting_answer_text, lasting_line_text}
-use Rattle.sat_lasting_runs.specs.Held.{LastingHeld, IsLastingHeld, LastingReady, LastingEnters, HistoryOf, AtAnyTime, deployed}
-use Rattle.sat_own_acts.proofs.Doing.{ready_made}
+use Rattle.sat_lasting_runs.specs.Held.{AsksAct, EntersIn, LastingHeld, IsLastingHeld, LastingReady, LastingStarted, LastingEnters, HistoryOf, AtAnyTime, deployed}
+use Rattle.std.specs.Prelude.{IfSome}
+use Rattle.sat_own_acts.specs.Held.{IsMachineOf, StandFor}
+use Rattle.sat_own_acts.proofs.Doing.{ready_held, ready_made}
 use Rattle.sat_own_acts.proofs.Reading.{deployed_is}
 use Rattle.sat_report.specs.Holdings.{holdings}
-use Rattle.sat_script.specs.State.{State, deployment_of}
+use Rattle.sat_script.specs.Kept.{IsFit}
+use Rattle.sat_script.specs.State.{Seen, State, deployment_of}
 use Rattle.sat_script.proofs.Stands.{limits_few}
 use Rattle.sat_world.specs.Seen.{WorldSeen}
 use Rattle.sat_world.specs.Stands.{StandsFor}
@@ -26,9 +30,12 @@ unfolding IsLastingRun
 stands_new l fresh = (tt, fresh)
 
 -- those that were made of the deployment that was read, where there were none
-pub new_ready : {X : Type 0} (result : Result LastingSeen X) (v : LastingHeld) (d : Deployed) → v.machine ≡ None → deployment_of v.reader.state ≡ Some d → IfOk result (λ l. l.world.deployment ≡ d) → IfOk result (λ l. LastsFor l []) → IfOk result (λ l. LastingReady v l)
-new_ready (Ok l) v d none is deployment fresh = ready_made deployed AtAnyTime HistoryOf v l none (is ∙ ap (λ (x : Deployed). Some x) (sym deployment)) tt (stands_new l fresh)
-new_ready (Err e) v d none is deployment fresh = tt
+pub new_there : (v : LastingHeld) (l : LastingSeen) (d : Deployed) → v.machine ≡ None → deployment_of v.reader.state ≡ Some d → l.world.deployment ≡ d → LastsFor l [] → LastingReady v l
+new_there v l d none is deployment fresh = ready_made deployed AtAnyTime HistoryOf v l none (is ∙ ap (λ (x : Deployed). Some x) (sym deployment)) tt (stands_new l fresh)
+
+pub not_there : (held : Option LastingSeen) → is_some held ≡ false → held ≡ None
+not_there None away = refl
+not_there (Some l) away = absurd (cc)
 
 -- an act that they did is entered
 pub enters : {T E : Type 0} (result : Result T E) (old new : LastingSeen) (a : LastingAct) (r : LastingAnswer) (d : Deployed) (number : ℕ) (text longer : List ℕ) → LastingApplies old a r new → d ≡ new.world.deployment
@@ -69,3 +76,40 @@ holds l w text longer is wrote c had =
 pub when_ok : {T E P Q : Type 0} (result : Result T E) → OnOk result P → (P → Q) → OnOk result Q
 when_ok (Ok t) p gives = gives p
 when_ok (Err e) p gives = tt
+
+-- ---- sites that are there
+
+some_is : (l m : LastingSeen) → Some l ≡ Some m → l ≡ m
+some_is l m is = cc
+
+-- already
+pub started_there : (v : LastingHeld) (held : Option LastingSeen) → v.machine ≡ held → is_some held ≡ true → IsLastingHeld v → LastingStarted v held
+started_there v (Some l) is there had = record { lasting = l; there = refl; ready = ready_held lasting_acts deployed AtAnyTime HistoryOf v l had is }
+started_there v None is there had = absurd (cc)
+
+-- they may be asked to do the act
+pub asks : (v : LastingHeld) (held : Option LastingSeen) (a : LastingAct) → IsLastingHeld v → LastingStarted v held → IsLastingActOf v.reader.state.header a → AsksAct held a
+asks v held a had started fits =
+    record { lasting = started.lasting; there = started.there; act = asks_act v started.lasting a started.ready fits; sound = is_sound v started.lasting had started.ready }
+
+-- those that were there are ready
+pub ready_there : (v : LastingHeld) (held : Option LastingSeen) (l : LastingSeen) → LastingStarted v held → held ≡ Some l → LastingReady v l
+ready_there v held l started is = subst (λ (m : LastingSeen). LastingReady v m) (some_is started.lasting l (sym started.there ∙ is)) started.ready
+
+-- they are the follower's from then on
+pub held_started : (old new : LastingHeld) (l : LastingSeen) → IsLastingHeld old → LastingReady old l → new.reader ≡ old.reader → new.answered ≡ old.answered → new.machine ≡ Some l → IsLastingHeld new
+held_started old new l held ready reader answered is = record {
+  fit = subst (λ (x : Seen). IsFit x.state) (sym reader) held.fit;
+  dialect_is = ap (λ (x : Seen). x.state.dialect) reader ∙ held.dialect_is;
+  machine_of = subst (λ (o : Option LastingSeen). IsMachineOf deployed (deployment_of new.reader.state) o) (sym is) (ap (λ (x : Seen). deployment_of x.state) reader ∙ ready.deployment);
+  fits = subst (λ (o : Option LastingSeen). IfSome o (λ m. AtAnyTime new.answered m)) (sym is) tt;
+  counted = rw (reader, answered) held.counted;
+  known = (held.known.0, subst (λ (o : Option LastingSeen). StandFor HistoryOf o held.known.0) (sym is) (ready.keeps held.known.0 held.known.1));
+}
+
+-- what was asked of them
+pub asked_act : (held : Option LastingSeen) (a : LastingAct) (l : LastingSeen) → AsksAct held a → held ≡ Some l → IsLastingActOf l.world.deployment a
+asked_act held a l asks is = subst (λ (m : LastingSeen). IsLastingActOf m.world.deployment a) (some_is asks.lasting l (sym asks.there ∙ is)) asks.act
+
+pub asked_sound : (held : Option LastingSeen) (a : LastingAct) (l : LastingSeen) → AsksAct held a → held ≡ Some l → IsSound l
+asked_sound held a l asks is = subst (λ (m : LastingSeen). IsSound m) (some_is asks.lasting l (sym asks.there ∙ is)) asks.sound

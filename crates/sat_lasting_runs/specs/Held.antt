@@ -1,9 +1,10 @@
 -- What a follower of scripts for sites that last keeps.
-use Rattle.std.specs.Prelude.{ℕ, List}
+use Rattle.std.specs.Prelude.{◌≡◌, ℕ, List, Option, Some}
 use Rattle.sat_act.specs.Deployed.{Deployed}
-use Rattle.sat_lasting.specs.Lasts.{LastingSeen, LastsFor}
+use Rattle.sat_lasting.specs.Lasts.{IsSound, LastingSeen, LastsFor}
 use Rattle.sat_lasting_laws.specs.Lastings.{LastingEntry}
 use Rattle.sat_lasting_laws.specs.LastingRuns.{IsLastingRun}
+use Rattle.sat_lasting_laws.specs.Ranges.{IsLastingActOf}
 use Rattle.sat_lasting_laws.specs.declared.lasting_act.LastingAct.{LastingAct}
 use Rattle.sat_lasting_script.specs.Forms.{lasting_acts}
 use Rattle.sat_lasting_runs.specs.LastingTexts.{lasting_telling}
@@ -45,3 +46,25 @@ LastingGoes old a new text longer = GoesBy lasting_telling HistoryOf old a new t
 
 abbrev pub LastingKeeps : LastingHeld → List ℕ → LastingHeld → Type 0
 LastingKeeps old line new = KeepsLine HistoryOf old line new
+
+-- sites are there, and they are ready
+pub record LastingStarted (v : LastingHeld) (held : Option LastingSeen) : Type 0 where
+  pub lasting : LastingSeen
+  pub there : held ≡ Some lasting
+  pub ready : LastingReady v lasting
+
+-- sites are there, which may be asked to do this act
+pub record AsksAct (held : Option LastingSeen) (a : LastingAct) : Type 0 where
+  pub lasting : LastingSeen
+  pub there : held ≡ Some lasting
+  pub act : IsLastingActOf lasting.world.deployment a
+  pub sound : IsSound lasting
+
+-- sites that were there did an act, and its answer's line, with this number, stands behind what the text was
+pub record EntersIn (old : Option LastingSeen) (a : LastingAct) (new : Option LastingSeen) (number : ℕ)
+    (text longer : List ℕ) : Type 0 where
+  pub before : LastingSeen
+  pub was : old ≡ Some before
+  pub after : LastingSeen
+  pub now : new ≡ Some after
+  pub enters : LastingEnters before a after number text longer

@@ -1,5 +1,5 @@
 //! A follower of scripts for sites that last.
-ghost use Rattle.std.specs.Prelude.{◌≡◌, ◌≢◌, ◌++◌, [], None, Ok, IsSome, IfOk, OnOk};
+ghost use Rattle.std.specs.Prelude.{◌≡◌, ◌≢◌, ◌++◌, [], None, Ok, IsSome, OnErr, OnOk};
 ghost use Rattle.sat_lasting.specs.Lasts.{IsSound};
 ghost use Rattle.sat_follow.specs.ByLines.{Begins, GoodLine};
 ghost use Rattle.sat_script.specs.Causes.{full};
@@ -11,7 +11,7 @@ ghost use Rattle.sat_lasting_script.specs.Forms.{lasting_acts};
 ghost use Rattle.sat_own_acts.specs.Lines.{own_line};
 ghost use Rattle.sat_own_acts.specs.Steps.{own_rules, act_in};
 ghost use Rattle.sat_lasting_runs.specs.LastingTexts.{lasting_telling, lasting_meaning};
-ghost use Rattle.sat_lasting_runs.specs.Held.{LastingStands, LastingReady, LastingEnters, LastingGoes, LastingKeeps};
+ghost use Rattle.sat_lasting_runs.specs.Held.{AsksAct, EntersIn, LastingStands, LastingStarted, LastingEnters, LastingGoes, LastingKeeps};
 
 use sat_follow::{Follower, LineFollower, Lines};
 use sat_lasting::Lasting;
@@ -97,7 +97,10 @@ impl LineFollower for LastingLines {
             write_fault(&fault, text)?;
             return Ok(1);
         }
-        let lasting = self.ready()?;
+        self.start()?;
+        let Some(lasting) = &self.lasting else {
+            unreachable!()
+        };
         write_holdings(lasting.world(), text)?;
         Ok(0)
     }
@@ -141,6 +144,25 @@ fn answer_act(
     write_lasting_line(lasting.world().deployment(), number, act, &answer, text)
 }
 
+// The same by sites that are there. For want of memory they are given up.
+fn answer_in(
+    held: &mut Option<Lasting>,
+    number: u64,
+    act: &LastingAct,
+    text: &mut Vec<u8>,
+) -> Result<(), AllocError>
+    requires { AsksAct held.old act.now }
+    ensures ok { OnOk result (EntersIn held.old act.now held.new number text.old.items text.new.items) }
+    ensures err { OnErr result (held.new ≡ None) }
+{
+    let Some(lasting) = held else { unreachable!() };
+    if let Err(fault) = answer_act(lasting, number, act, text) {
+        *held = None;
+        return Err(fault);
+    }
+    Ok(())
+}
+
 impl LastingLines {
     // Takes what the next line says.
     fn take(
@@ -181,12 +203,11 @@ impl LastingLines {
         ensures ok { OnOk result (LastingGoes self.old act.now self.new text.old.items text.new.items) }
     {
         let _ = &self.alloc;
-        let mut lasting = self.ready()?;
+        self.start()?;
         self.reader.count_act();
         let number = self.answered.saturating_add(1);
-        answer_act(&mut lasting, number, act, text)?;
+        answer_in(&mut self.lasting, number, act, text)?;
         self.answered = number;
-        self.lasting = Some(lasting);
         Ok(())
     }
 
@@ -200,21 +221,21 @@ impl LastingLines {
         }
     }
 
-    // The sites, taken out; where there are none yet, those of the deployment that was read, to which nothing has
-    // happened.
-    fn ready(&mut self) -> Result<Lasting, AllocError>
+    // Makes the sites of the deployment that was read, to which nothing has happened, where there are none yet.
+    fn start(&mut self) -> Result<(), AllocError>
         requires begun { IsSome (deployment_of self.old.reader.state) }
         ensures reader { self.new.reader ≡ self.old.reader }
-        ensures out { self.new.machine ≡ None }
         ensures answered { self.new.answered ≡ self.old.answered }
-        ensures ready { IfOk result (λ lasting. LastingReady self.old lasting) }
+        ensures started { OnOk result (LastingStarted self.old self.new.machine) }
     {
-        if let Some(lasting) = self.lasting.take() {
-            return Ok(lasting);
+        if self.lasting.is_some() {
+            return Ok(());
         }
         let Some(deployment) = self.reader.deployment() else {
             unreachable!()
         };
-        Lasting::new(self.alloc, deployment.copy()?)
+        let lasting = Lasting::new(self.alloc, deployment.copy()?)?;
+        self.lasting = Some(lasting);
+        Ok(())
     }
 }

@@ -3,12 +3,13 @@ ghost use Rattle.std.specs.Prelude.{◌≡◌, ◌++◌, ◌∷◌, [], OnOk, On
 ghost use Rattle.std.specs.Fmt.{decimal};
 ghost use Rattle.sat_report.specs.Fronts.{Keeps};
 ghost use Rattle.sat_report.specs.Answers.{answer_text};
+ghost use Rattle.sat_lasting_laws.specs.declared.lasting_act.LastingAct.TheVariants.{Plain};
 ghost use Rattle.sat_lasting_texts.specs.Texts.{plain_act, lasting_answer_text, lasting_line_text};
 
 use itoa::write_digits;
 use sat_act::{Act, Answer, Deployment};
 use sat_lasting_laws::{LastingAct, LastingAnswer};
-use sat_report::append_answer;
+use sat_report::{append_answer, write_line};
 use std::alloc::AllocError;
 
 /// The most digits of a number.
@@ -111,9 +112,8 @@ fn append_line(
     out.extend_from_slice(b"\n")
 }
 
-/// Appends the line of the answer to an act for sites that last: its number and a space, the answer's text and then a
-/// newline. No memory is taken but what `out` grows by. For want of memory `out` is as before.
-pub fn write_lasting_line(
+// The same, put together piece by piece. For want of memory `out` is as before.
+fn write_pieces(
     d: &Deployment,
     number: u64,
     act: &LastingAct,
@@ -130,4 +130,44 @@ pub fn write_lasting_line(
         out.truncate(length);
     }
     written
+}
+
+// The line of the answer to a plain act: in one piece, where no cut fell into it.
+#[tactic(auto, unfolding(crate::specs::Texts::lasting_answer_text), using(crate::proofs::Plain::plain_line))]
+fn write_plain(
+    d: &Deployment,
+    number: u64,
+    act: &LastingAct,
+    plain: &Act,
+    answer: &LastingAnswer,
+    out: &mut Vec<u8>,
+) -> Result<(), AllocError>
+    requires { act.now ≡ Plain plain.now }
+    ensures ok { OnOk result (out.new.items ≡ out.old.items
+        ++ lasting_line_text number (lasting_answer_text d.now act.now answer.now)) }
+    ensures err { OnErr result (out.new.items ≡ out.old.items) }
+{
+    match answer {
+        LastingAnswer::Plain(told) => write_line(d, number, plain, told, out),
+        _ => write_pieces(d, number, act, answer, out),
+    }
+}
+
+/// Appends the line of the answer to an act for sites that last: its number and a space, the answer's text and then a
+/// newline. No memory is taken but what `out` grows by. For want of memory `out` is as before.
+pub fn write_lasting_line(
+    d: &Deployment,
+    number: u64,
+    act: &LastingAct,
+    answer: &LastingAnswer,
+    out: &mut Vec<u8>,
+) -> Result<(), AllocError>
+    ensures ok { OnOk result (out.new.items ≡ out.old.items
+        ++ lasting_line_text number (lasting_answer_text d.now act.now answer.now)) }
+    ensures err { OnErr result (out.new.items ≡ out.old.items) }
+{
+    match act {
+        LastingAct::Plain(plain) => write_plain(d, number, act, plain, answer, out),
+        _ => write_pieces(d, number, act, answer, out),
+    }
 }

@@ -1,8 +1,5 @@
-use Rattle.sat_lasting.proofs.Placing.{placed, placed-long}
+use Rattle.sat_lasting.proofs.Placing.{lent}
 use Rattle.sat_lasting.proofs.places.stop_at.Goals as goal
 
 pub returns-clause-stops : goal.returns-clause-stops
-returns-clause-stops c = placed c.args.site _ _ _ _ _ _ c.requires.place c.take_slot-slot.ensures.slot c.take_slot-slot.ensures.long c.take_slot-slot.ensures.others c.put_slot.ensures (λ xs has. (c.in_ok-slot.ensures.keeps xs has, c.in_ok-slot.ensures.count xs has))
-
-pub returns-clause-long : goal.returns-clause-long
-returns-clause-long c = placed-long c.args.site _ _ _ _ c.take_slot-slot.ensures.long c.put_slot.ensures
+returns-clause-stops c = lent c.args.site _ _ _ _ c.requires.place c.index_mut-slot.ensures.value c.in_ok-count.ensures
