@@ -58,7 +58,7 @@ module _ (d : Deployed) (seen : Carried) where
   version-reply c n None f = read_none c n
   version-reply c n (Some p) f = read_some c n p.label p.value (f p refl)
 
-  read-reply : (i c n : ℕ) (o : Option Version) → (replicates d n i ≡ true → (p : Version) → o ≡ Some p → is_point d p.label.point ≡ true) → IsReply d seen (act.Read c n) (read_by d i n o)
+  pub read-reply : (i c n : ℕ) (o : Option Version) → (replicates d n i ≡ true → (p : Version) → o ≡ Some p → is_point d p.label.point ≡ true) → IsReply d seen (act.Read c n) (read_by d i n o)
   read-reply i c n o f = refused (act.Read c n) (not (replicates d n i)) why.NotHere _ refl (λ e. version-reply c n o (f (kept (replicates d n i) e)))
 
   move-reply : (i c j : ℕ) (promise : ℕ) → is_site d i ≡ true → is_site d j ≡ true → IsReply d seen (act.Move c j) (move_by i j promise seen.point.ts)

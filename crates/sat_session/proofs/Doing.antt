@@ -20,19 +20,25 @@ use Rattle.sat_session.specs.declared.noted.Noted.{Noted}
 use Rattle.sat_session.specs.Notes.{SessionSeen, session_at}
 use Rattle.sat_session.specs.Sessions.{note_places, IsSession}
 use Rattle.sat_session.specs.Calls.{note, told, Notes, IsFault}
-use Rattle.sat_session.specs.Replies.{IsReply, refuses, left, MayMove, given_of, own_answer, Asks}
+use Rattle.sat_session.specs.Replies.{IsReply, refuses, left, HasSpare, MayMove, given_of, own_answer, Asks}
 use Rattle.sat_session.proofs.More.{session_then, session-more, may-move}
 use Rattle.sat_session.proofs.Begins.{of-client}
 
 -- ---- at a node
 
-above : (a b n : ℕ) → n ≡ max a b + 1 → b < n
+pub above : (a b n : ℕ) → n ≡ max a b + 1 → b < n
 above a b n e = omega arith
 
+pub above_said : (a b c n : ℕ) → n ≡ max a c + 1 → b ≤ c → b < n
+above_said a b c n e le = omega arith
+
+pub said_as : (x y : SessionSeen) (n : ℕ) → y ≡ x → x.lamport ≤ n → y.lamport ≤ n
+said_as x y n same le = subst (λ (z : SessionSeen). z.lamport ≤ n) (sym same) le
+
 pub node-session : {S M I A : Type 0} (d : Deployed) (m : Meaning S I A) (answer_of : A → Answer) (x : SessionSeen) (node : NodeSeen M I A) (input : I) (a : Act) (spare : Option Answer) (given : A) (n : ℕ) →
-    IsSession d x → Asks d m answer_of x node input a spare → m.answers node.name (replay m node.name node.entries) input given → n ≡ max node.number x.lamport + 1 → IsSession d (session_then n (Some node.name) a (answer_of given) x)
+    IsSession d x → Asks d m answer_of x node input a spare → m.answers node.name (replay m node.name node.entries) input given → x.lamport < n → IsSession d (session_then n (Some node.name) a (answer_of given) x)
 node-session d m answer_of x node input a spare given n is asks answers e =
-    session-more d x n (Some node.name) a (answer_of given) is (above node.number x.lamport n e) asks.own asks.placed (λ w. absurd (cc)) (λ w. absurd (cc)) (asks.replies given answers)
+    session-more d x n (Some node.name) a (answer_of given) is e asks.own asks.placed (λ w. absurd (cc)) (λ w. absurd (cc)) (asks.replies given answers)
 
 -- the same of the code's values: what the session was, by its fields, and what became of them
 module _ {S M I A : Type 0} (d : Deployed) (m : Meaning S I A) (answer_of : A → Answer) (x : SessionSeen) (node : NodeSeen M I A) (input : I) (a : Act) (spare : Option Answer) (given : A) (y : SessionSeen) (same : y ≡ x)
@@ -43,12 +49,25 @@ module _ {S M I A : Type 0} (d : Deployed) (m : Meaning S I A) (answer_of : A �
   pub node_moves : MayMove (answer_of given) y.client
   node_moves = may-move d y.client a (answer_of given) (asked.replies given answers)
 
-  pub node_kept : (n : ℕ) (name : NodeName) (client : Client) (olds news : List Noted) → IsSession d y → n ≡ max node.number y.lamport + 1 → name ≡ node.name → olds ≡ y.noted → news ≡ olds ++ note n (Some name) y.client.carried a (answer_of given) ∷ [] →
+  pub node_kept : (n : ℕ) (name : NodeName) (client : Client) (olds news : List Noted) → IsSession d y → y.lamport < n → name ≡ node.name → olds ≡ y.noted → news ≡ olds ++ note n (Some name) y.client.carried a (answer_of given) ∷ [] →
       client ≡ told a (answer_of given) y.client → IsSession d (record { number = y.number; client = client; lamport = n; noted = news })
   node_kept n name client olds news is number named kept noted tells =
       subst (λ (z : SessionSeen). IsSession d z)
       (λ i. record { number = y.number; client = sym tells i; lamport = n; noted = sym (noted ∙ (λ j. kept j ++ note n (Some (named j)) y.client.carried a (answer_of given) ∷ [])) i })
       (node-session d m answer_of y node input a spare given n is asked answers number)
+
+  -- and of an answer that was taken out
+  module _ (r : Answer) (is : r ≡ answer_of given) where
+    pub moves_as : MayMove r y.client
+    moves_as = subst (λ (z : Answer). MayMove z y.client) (sym is) node_moves
+
+    pub spare_as : HasSpare r spare
+    spare_as = subst (λ (z : Answer). HasSpare z spare) (sym is) (asks.spares given answers)
+
+    pub kept_as : (n : ℕ) (name : NodeName) (client : Client) (olds news : List Noted) → IsSession d y → y.lamport < n → name ≡ node.name → olds ≡ y.noted → news ≡ olds ++ note n (Some name) y.client.carried a r ∷ [] → client ≡ told a r y.client →
+        IsSession d (record { number = y.number; client = client; lamport = n; noted = news })
+    kept_as n name client olds news sound number named kept noted tells =
+        node_kept n name client olds news sound number named kept (noted ∙ ap (λ (z : Answer). olds ++ note n (Some name) y.client.carried a z ∷ []) is) (tells ∙ ap (λ (z : Answer). told a z y.client) is)
 
 -- ---- at none
 

@@ -48,7 +48,7 @@ site-is : (a b : ℕ) → a < b → nat_lt a b ≡ true
 site-is a b lt = grind (arith, nat_tests)
 
 -- there is no version
-none-looked : (d : Deployed) (i : ℕ) (s : SiteState) (n : ℕ) → (replicates d n i ≡ true → s.store n ≡ None) → Looked d i s n None
+pub none-looked : (d : Deployed) (i : ℕ) (s : SiteState) (n : ℕ) → (replicates d n i ≡ true → s.store n ≡ None) → Looked d i s n None
 none-looked d i s n none = record {
   points = λ kept p e. absurd (let w : None ≡ Some p = sym (none kept) ∙ e in cc);
   spares = λ seen r e f. absurd (let w : is_plain r ≡ true = none-plain (replicates d n i) (s.store n) r none (read-is d i s n seen r e) in cc);
@@ -60,7 +60,7 @@ looked_none d (named.Serializer e z) x s n st f = absurd st
 looked_none d (named.Gear e z) x s n st f = absurd st
 
 -- there is this one
-some-looked : (d : Deployed) (i : ℕ) (s : SiteState) (n : ℕ) (l : Label) (value : List ℕ) → (replicates d n i ≡ true → s.store n ≡ Some (record { label = l; value = value })) → l.point.ts ≤ TS_END → l.point.site < d.sites → Looked d i s n (Some (ans.ReadSome l value))
+pub some-looked : (d : Deployed) (i : ℕ) (s : SiteState) (n : ℕ) (l : Label) (value : List ℕ) → (replicates d n i ≡ true → s.store n ≡ Some (record { label = l; value = value })) → l.point.ts ≤ TS_END → l.point.site < d.sites → Looked d i s n (Some (ans.ReadSome l value))
 some-looked d i s n l value at le lt = record {
   points = λ kept p e. subst (λ (q : Version). is_point d q.label.point ≡ true) (some_is (record { label = l; value = value }) p (sym (at kept) ∙ e))
       (and_from (nat_le l.point.ts TS_END) (nat_lt l.point.site d.sites) (time-is l.point.ts TS_END le) (site-is l.point.site d.sites lt));

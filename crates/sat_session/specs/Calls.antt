@@ -65,20 +65,26 @@ pub record AtNone (a : Act) (result : Result Answer CallFault) (old new : Sessio
   pub worn : IsErrOf result (fault.Worn last_number) ↔ (old.lamport ≡ last_number)
   pub only : IfErr result IsFault
 
--- a call at a node: the node has one entry more, the input with the answer that comes back, and the session notes it
--- under the number of that entry. Worn comes only where the greater of their numbers is the greatest, and there no call
--- is done. After an error both are as before
-pub record AtNode {M I A : Type 0} (a : Act) (input : I) (answer_of : A → Answer) (result : Result Answer CallFault)
-    (old new : NodeSeen M I A) (before after : SessionSeen) : Type 0 where
+-- a call at a node: the node has one entry more, the input with the answer that comes back, under one above this
+-- number, and the session notes it under the number of that entry. Worn comes only where this number is the greatest,
+-- and there no call is done. After an error both are as before
+pub record AtNodeAbove {M I A : Type 0} (last : ℕ) (a : Act) (input : I) (answer_of : A → Answer)
+    (result : Result Answer CallFault) (old new : NodeSeen M I A) (before after : SessionSeen) : Type 0 where
   pub entered : IfOk result (λ r. (given : A) × (answer_of given ≡ r)
-      × (new.entries ≡ old.entries ++ entry (max old.number before.lamport + 1) input given ∷ []))
-  pub number : OnOk result (new.number ≡ max old.number before.lamport + 1)
+      × (new.entries ≡ old.entries ++ entry (last + 1) input given ∷ []))
+  pub number : OnOk result (new.number ≡ last + 1)
   pub name : new.name ≡ old.name
   pub unchanged : OnErr result (SameNode old new)
-  pub notes : Notes (max old.number before.lamport + 1) (Some old.name) a result before after
-  pub worn : IsErrOf result (fault.Worn last_number) → max old.number before.lamport ≡ last_number
-  pub spent : max old.number before.lamport ≡ last_number → IfOk result (λ r. ⊥)
+  pub notes : Notes (last + 1) (Some old.name) a result before after
+  pub worn : IsErrOf result (fault.Worn last_number) → last ≡ last_number
+  pub spent : last ≡ last_number → IfOk result (λ r. ⊥)
   pub only : IfErr result IsFault
+
+-- the same under one above the node's number and the session's
+abbrev pub AtNode : {M I A : Type 0} → Act → I → (A → Answer) → Result Answer CallFault → NodeSeen M I A
+    → NodeSeen M I A → SessionSeen → SessionSeen → Type 0
+AtNode a input answer_of result old new before after =
+    AtNodeAbove (max old.number before.lamport) a input answer_of result old new before after
 
 -- the history's answer in a site's, and in a serializer's
 abbrev pub of_site : SiteAnswer → Answer

@@ -1,5 +1,5 @@
--- What a session's act may be answered, and what a call asks of its parts. Only the contracts of private functions
--- speak of these.
+-- What a session's act may be answered, and what a call asks of its parts. Of these only `Asks` stands in a public
+-- contract, that of a call at a node of any machine.
 use Rattle.std.specs.Prelude.{◌≡◌, ◌==◌, ℕ, Bool, true, false, List, [], ◌∷◌, Option, Some, None}
 use Rattle.sat_label.specs.declared.carried.Carried.{Carried}
 use Rattle.sat_label.specs.declared.label.Kind.TheVariants as kind

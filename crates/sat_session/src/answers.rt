@@ -1,5 +1,5 @@
 //! Answers: what they make of a session's client, and copies of them.
-ghost use Rattle.std.specs.Prelude.{◌≡◌, ◌<◌, ◌++◌, [], ◌∷◌, true, vec_len, vec_capacity};
+ghost use Rattle.std.specs.Prelude.{◌≡◌, ◌<◌, ◌≤◌, ◌++◌, [], ◌∷◌, true, vec_len, vec_capacity, IfOk, OnOk};
 ghost use Rattle.sat_act.specs.declared.answer.Answer.TheVariants as ans;
 ghost use Rattle.sat_machines.specs.Plain.{is_plain};
 ghost use Rattle.sat_session.specs.Calls.{note, told};
@@ -8,8 +8,9 @@ ghost use Rattle.sat_session.specs.Replies.{MayMove, HasSpare, own_answer, leave
 use crate::Noted;
 use sat_act::{Act, Answer, Entry, Refusal};
 use sat_client::Client;
-use sat_label::{NodeName, Point};
+use sat_label::{NodeName, Point, TS_END, Version};
 use sat_machines::copy_plain;
+use std::alloc::AllocError;
 
 // What a granted attach makes of a client.
 fn join(client: &mut Client, act: &Act)
@@ -54,6 +55,23 @@ pub(crate) fn own_answer(client: &Client, act: &Act) -> Answer
         Act::Attach { client: _, site: _ } => Answer::Refused(Refusal::Joined),
         _ => Answer::Refused(Refusal::NoSession),
     }
+}
+
+/// What a read of a version answers, where its point is one of a deployment of so many sites; else want of memory.
+pub fn read_of(version: &Version, sites: u16) -> Result<Answer, AllocError>
+    ensures answer { IfOk result (λ r. r ≡ ans.ReadSome version.now.label version.now.value) }
+    ensures time { OnOk result (version.now.label.point.ts ≤ TS_END) }
+    ensures site { OnOk result (version.now.label.point.site < sites) }
+{
+    let label = version.label();
+    if label.point.ts > TS_END {
+        return Err(AllocError);
+    }
+    if label.point.site >= sites {
+        return Err(AllocError);
+    }
+    let value = version.value().copy()?;
+    Ok(Answer::ReadSome { label, value })
 }
 
 // Whether an answer holds no list.

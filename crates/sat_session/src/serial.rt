@@ -4,7 +4,7 @@ ghost use Rattle.sat_machines.specs.declared.serial_act.SerialAct.TheVariants as
 ghost use Rattle.sat_session.specs.Calls.{AtNode, of_serial};
 
 use crate::answers::keep;
-use crate::site::is_at;
+use crate::nodes::is_at;
 use crate::{Lent, Session};
 use sat_act::{Act, Answer};
 use sat_label::NodeName;

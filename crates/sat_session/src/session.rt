@@ -118,6 +118,11 @@ impl<N: Laid> Session<N> {
         self.lamport
     }
 
+    /// Where it takes its memory.
+    pub fn allocator(&self) -> Global {
+        *self.noted.allocator()
+    }
+
     /// A note of each of its calls, in order.
     pub fn noted(&self) -> &[Noted]
         ensures noted { result.now ≡ self.now.noted }

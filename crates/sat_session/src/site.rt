@@ -1,7 +1,6 @@
 //! What sessions do at sites.
 ghost use Rattle.std.specs.Prelude.{◌≡◌, ◌<◌, [], ◌∷◌, length, Some, None, IfOk};
 ghost use Rattle.sat_label.specs.declared.items.Items.TheVariants.{One};
-ghost use Rattle.sat_label.specs.Order.{name_eq};
 ghost use Rattle.sat_label.specs.declared.node.NodeName.{NodeName as Name};
 ghost use Rattle.sat_act.specs.Done.{write_in};
 ghost use Rattle.sat_site.specs.declared.input.SiteInput.TheVariants as given;
@@ -10,21 +9,16 @@ ghost use Rattle.sat_machines.specs.Sites.{number_of, site_meaning};
 ghost use Rattle.sat_session.specs.Calls.{AtNode, IsGroup, of_site, asked_by};
 ghost use Rattle.sat_session.specs.Replies.{Asks, Looked};
 
-use crate::answers::keep;
+use crate::answers::read_of;
+use crate::nodes::is_at;
+use crate::reply::OfSite;
 use crate::{Lent, Session};
 use sat_act::{Act, Answer};
-use sat_label::{Items, NodeName, TS_END, Value, Values};
-use sat_machines::{Laid, SiteAct, SiteAnswer, SiteNode};
-use sat_node::{CallFault, Machine};
+use sat_label::{Items, NodeName, Value, Values};
+use sat_machines::{Laid, SiteAct, SiteNode};
+use sat_node::{CallFault, Part};
 use sat_site::SiteInput;
 use std::alloc::{AllocError, Global};
-
-/// Whether it is the node of this name.
-pub(crate) fn is_at<M: Machine, H: Lent<M>>(held: &H, place: NodeName) -> bool
-    ensures { result ≡ name_eq (H.node_of held.now).name place }
-{
-    held.node().name().is_same(&place)
-}
 
 // What a read would answer, where that is a value. Its point is one of the deployment; else the answer is want of
 // memory.
@@ -38,19 +32,12 @@ fn look<N: Laid, H: Lent<SiteNode<N>>>(held: &H, item: u16) -> Result<Option<Ans
     let Some(version) = machine.site().version(item) else {
         return Ok(None);
     };
-    let label = version.label();
-    if label.point.ts > TS_END {
-        return Err(AllocError);
-    }
-    if label.point.site >= sites {
-        return Err(AllocError);
-    }
-    let value = version.value().copy()?;
-    Ok(Some(Answer::ReadSome { label, value }))
+    let spare = read_of(version, sites)?;
+    Ok(Some(spare))
 }
 
-// The values of a write of one item: a copy of this one.
-fn one_value(alloc: Global, value: &Value) -> Result<Values, AllocError>
+/// The values of a write of one item: a copy of this one.
+pub fn one_value(alloc: Global, value: &Value) -> Result<Values, AllocError>
     ensures { IfOk result (λ values. values ≡ value.now ∷ []) }
 {
     let value = value.copy()?;
@@ -73,37 +60,7 @@ impl<N: Laid> Session<N> {
         let Ok(copy) = input.copy() else {
             return Err(CallFault::Memory);
         };
-        if !held.node().machine().fits(&input) {
-            return Err(CallFault::Memory);
-        }
-        if self.noted.reserve(1).is_err() {
-            return Err(CallFault::Memory);
-        }
-        let name = held.node().name();
-        match held.act(self.lamport, input, copy) {
-            Ok(given) => {
-                let SiteAnswer {
-                    answer,
-                    link: _,
-                    sent: _,
-                    keepers: _,
-                    beat: _,
-                } = given;
-                let lamport = held.node().lamport();
-                keep(
-                    &mut self.noted,
-                    &mut self.client,
-                    lamport,
-                    Some(name),
-                    act,
-                    &answer,
-                    spare,
-                );
-                self.lamport = lamport;
-                Ok(answer)
-            }
-            Err(fault) => Err(fault),
-        }
+        self.at_node::<SiteNode<N>, OfSite, H>(held, Part { input, copy }, act, spare)
     }
 
     // Takes a write to the site where the client is seated, with the act that it is.

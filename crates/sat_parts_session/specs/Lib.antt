@@ -1,0 +1,3 @@
+pub mod Asked
+pub mod Groups
+pub mod Steps
