@@ -38,7 +38,8 @@ use Rattle.sat_opened.proofs.Layouts.{bulk-end, IsEnd, end-at}
 use Rattle.sat_opened.proofs.SiteKept.{SiteStep, IsOther, from-other}
 use Rattle.sat_opened.proofs.Lanes.{lane-puts, beat-puts}
 use Rattle.sat_opened.proofs.Deliveries.{payload-made, beat-made}
-use Rattle.sat_opened.proofs.Links.{place-out, place-in, between, SiteAt, site-at, find-site}
+use Rattle.sat_opened.proofs.SerialHosts.{place-out, place-in, between}
+use Rattle.sat_opened.proofs.Links.{SiteAt, site-at, find-site}
 
 -- ---- inputs by their acts
 

@@ -89,15 +89,15 @@ delivered-on put take of on f g es fs sent taken a b h =
 -- ---- payloads and beats
 
 -- what came to an entry was put, under a smaller number
-record IsPut (ps : List Putting) (b : Body) (lamport : ℕ) : Type 0 where
-  before : List Putting
-  thing : Putting
-  after : List Putting
-  all : ps ≡ before ++ thing ∷ after
-  same : sealed_as before thing.made ≡ b
-  less : thing.number < lamport
+pub record IsPut (ps : List Putting) (b : Body) (lamport : ℕ) : Type 0 where
+  pub before : List Putting
+  pub thing : Putting
+  pub after : List Putting
+  pub all : ps ≡ before ++ thing ∷ after
+  pub same : sealed_as before thing.made ≡ b
+  pub less : thing.number < lamport
 
-came-put : {I A J B : Type 0} (put : I → A → Option Made) (take : J → B → Option Body) (es : List (Line I A)) (fs : List (Line J B)) (x : Line J B) (b : Body) → Delivered (takings take fs) (put_by put es) → In fs x → take x.input x.answer ≡ Some b → may_pass b ≡ true →
+pub came-put : {I A J B : Type 0} (put : I → A → Option Made) (take : J → B → Option Body) (es : List (Line I A)) (fs : List (Line J B)) (x : Line J B) (b : Body) → Delivered (takings take fs) (put_by put es) → In fs x → take x.input x.answer ≡ Some b → may_pass b ≡ true →
     IsPut (puttings put es) b x.lamport
 came-put put take es fs x b h m e pass =
     let at : (n : ℕ) × (slice_get (takings take fs) n ≡ Some (envelope x.lamport b)) = taking-there take fs x b m e in
@@ -112,15 +112,21 @@ came-put put take es fs x b h m e pass =
       less = subst (λ (t : Envelope). t.lamport < x.lamport) v.5 w.carries.1;
     }
 
+-- so it is the thing of its number among those of its sort
+pub put-made : {Y : Type 0} (sort : Made → Option Y) (ps : List Putting) (b : Body) (lamport n : ℕ) (y : Y) → (p : IsPut ps b lamport) → sort p.thing.made ≡ Some y → length (sorted sort p.before) ≡ n → IsMade (sorted sort ps) n y lamport
+put-made {Y} sort ps b lamport n y p is count = (
+  p.thing.number,
+  ap (λ (qs : List Putting). slice_get (sorted sort qs) n) p.all ∙
+      (ap (λ (k : ℕ). slice_get (sorted sort (p.before ++ p.thing ∷ p.after)) k) (sym count) ∙ sorted-at sort p.before p.thing p.after y is),
+  p.less,
+)
+
 module _ {I A J B : Type 0} (put : I → A → Option Made) (take : J → B → Option Body) (of : Line I A → Kept) (same : (x : Line I A) → (of x).number ≡ x.lamport) (es : List (Line I A)) (fs : List (Line J B)) (h : Delivered (takings take fs) (put_by put es)) where
   made-at : {Y : Type 0} (sort : Made → Option Y) (f : List Kept → Kept → Option Y) (x : Line J B) (b : Body) (n : ℕ) (y : Y) → Along of (λ b x. sort_of sort (put x.input x.answer) ≡ f b (of x)) [] es → (p : IsPut (puttings put es) b x.lamport) →
       sort p.thing.made ≡ Some y → length (sorted sort p.before) ≡ n → IsMade (marks f (newest of es)) n y x.lamport
-  made-at {Y} sort f x b n y a p is count = (
-    p.thing.number,
-    ap (λ (zs : List (ℕ × Y)). slice_get zs n) (marks-newest of f es ∙ (sym (sorted-are sort of f put [] es same a) ∙ ap (sorted sort) p.all)) ∙
-        (ap (λ (k : ℕ). slice_get (sorted sort (p.before ++ p.thing ∷ p.after)) k) (sym count) ∙ sorted-at sort p.before p.thing p.after y is),
-    p.less,
-  )
+  made-at {Y} sort f x b n y a p is count =
+      subst (λ (zs : List (ℕ × Y)). IsMade zs n y x.lamport) (sorted-are sort of f put [] es same a ∙ sym (marks-newest of f es))
+      (put-made sort (puttings put es) b x.lamport n y p is count)
 
   pub payload-made : (g n : ℕ) (p : Payload) (f : List Kept → Kept → Option Payload) (x : Line J B) → Along of (λ b x. sort_of (payload_sort g) (put x.input x.answer) ≡ f b (of x)) [] es → In fs x → take x.input x.answer ≡ Some (body.Payload g n p) →
       IsMade (marks f (newest of es)) n p x.lamport

@@ -28,7 +28,7 @@ use Rattle.sat_opened.proofs.Found.{look-up, found-named, entries-of}
 
 -- ---- lists
 
-distinct-join : {X : Type 0} (xs ys : List X) → Distinct xs → Distinct ys → ((x : X) → In xs x → In ys x → ⊥) → Distinct (xs ++ ys)
+pub distinct-join : {X : Type 0} (xs ys : List X) → Distinct xs → Distinct ys → ((x : X) → In xs x → In ys x → ⊥) → Distinct (xs ++ ys)
 distinct-join [] ys a b f = b
 distinct-join (x ∷ xs) ys a b f = (distinct-join xs ys a.0 b (λ y i j. f y (inr i) j), λ i. elim (In-parts xs ys x i) [ inl j ↦ a.1 j | inr j ↦ f x (inl refl) j ])
 
@@ -39,13 +39,13 @@ distinct-among {X} {Y} f (x ∷ xs) one a = (
   λ i. let w : (y : X) × In xs y × (f y ≡ f x) = in-mapped f xs (f x) i in a.1 (subst (λ (y : X). In xs y) (one w.0 x (inr w.1) (inl refl) w.2) w.1),
 )
 
-distinct-map : {X Y : Type 0} (f : X → Y) (xs : List X) → ((x y : X) → f x ≡ f y → x ≡ y) → Distinct xs → Distinct (map f xs)
+pub distinct-map : {X Y : Type 0} (f : X → Y) (xs : List X) → ((x y : X) → f x ≡ f y → x ≡ y) → Distinct xs → Distinct (map f xs)
 distinct-map f xs one a = distinct-among f xs (λ x y i j e. one x y e) a
 
 apart : (n k : ℕ) → k < n → n ≡ k → ⊥
 apart n k lt e = omega arith
 
-distinct-below : (n : ℕ) → Distinct (below n)
+pub distinct-below : (n : ℕ) → Distinct (below n)
 distinct-below zero = tt
 distinct-below (suc n) = distinct-join (below n) (n ∷ []) (distinct-below n) (tt, λ i. absurd i) (λ k i j. elim j [ inl e ↦ apart n k (in-less n k i) e | inr z ↦ absurd z ])
 
@@ -61,11 +61,11 @@ epoch-one : (e f y z : ℕ) → named.Serializer e y ≡ named.Serializer f z �
 epoch-one e f y z w = cc
 
 -- a name of a serializer, of an epoch from this one on
-record IsFrom (f : ℕ) (name : NodeName) : Type 0 where
-  epoch : ℕ
-  number : ℕ
-  is : name ≡ named.Serializer epoch number
-  from : f ≤ epoch
+pub record IsFrom (f : ℕ) (name : NodeName) : Type 0 where
+  pub epoch : ℕ
+  pub number : ℕ
+  pub is : name ≡ named.Serializer epoch number
+  pub from : f ≤ epoch
 
 self : (n : ℕ) → n ≤ n
 self n = omega arith
@@ -85,7 +85,7 @@ later-from f name w = record { epoch = w.epoch; number = w.number; is = w.is; fr
 first-from : (f : ℕ) (t : TreeShape) (name : NodeName) → In (tree_names (record { epoch = f; tree = t })) name → IsFrom f name
 first-from f t name i = (let w : (z : ℕ) × (name ≡ named.Serializer f z) = of-tree f t name i in record { epoch = f; number = w.0; is = w.1; from = self f })
 
-of-trees : (f : ℕ) (plans : List Plan) (name : NodeName) → In (flat_map tree_names (planted f plans)) name → IsFrom f name
+pub of-trees : (f : ℕ) (plans : List Plan) (name : NodeName) → In (flat_map tree_names (planted f plans)) name → IsFrom f name
 of-trees f [] name i = absurd i
 of-trees f (plan.Stamp ∷ plans) name i = later-from f name (of-trees (f + 1) plans name i)
 of-trees f (plan.Tree t ∷ plans) name i = elim (In-parts (tree_names (record { epoch = f; tree = t })) (flat_map tree_names (planted (f + 1) plans)) name i) [
@@ -93,7 +93,7 @@ of-trees f (plan.Tree t ∷ plans) name i = elim (In-parts (tree_names (record {
   | inr j ↦ later-from f name (of-trees (f + 1) plans name j)
 ]
 
-distinct-trees : (f : ℕ) (plans : List Plan) → Distinct (flat_map tree_names (planted f plans))
+pub distinct-trees : (f : ℕ) (plans : List Plan) → Distinct (flat_map tree_names (planted f plans))
 distinct-trees f [] = tt
 distinct-trees f (plan.Stamp ∷ plans) = distinct-trees (f + 1) plans
 distinct-trees f (plan.Tree t ∷ plans) =
@@ -101,7 +101,7 @@ distinct-trees f (plan.Tree t ∷ plans) =
     (distinct-map (named.Serializer f) (below (length t.parents)) (serial-one f) (distinct-below (length t.parents))) (distinct-trees (f + 1) plans)
     (λ name i j. let w : (z : ℕ) × (name ≡ named.Serializer f z) = of-tree f t name i in let v : IsFrom (f + 1) name = of-trees (f + 1) plans name j in no-turn f v.epoch v.from (epoch-one f v.epoch w.0 v.number (sym w.1 ∙ v.is)))
 
-distinct-sites : (n : ℕ) → Distinct (map named.Site (below n))
+pub distinct-sites : (n : ℕ) → Distinct (map named.Site (below n))
 distinct-sites n = distinct-map named.Site (below n) site-one (distinct-below n)
 
 no-site : (i e z : ℕ) → named.Site i ≡ named.Serializer e z → ⊥
@@ -135,7 +135,7 @@ none-a-gear d name i = elim (In-parts (map named.Site (below d.sites)) (serial_n
 
 -- ---- journals
 
-in-map : {X Y : Type 0} (f : X → Y) (xs : List X) (x : X) → In xs x → In (map f xs) (f x)
+pub in-map : {X Y : Type 0} (f : X → Y) (xs : List X) (x : X) → In xs x → In (map f xs) (f x)
 in-map f [] x i = absurd i
 in-map f (y ∷ xs) x (inl e) = inl (ap f e)
 in-map f (y ∷ xs) x (inr i) = inr (in-map f xs x i)

@@ -40,7 +40,7 @@ use Rattle.sat_opened.proofs.SiteKept.{SiteStep, input-kept}
 -- ---- what is of a sort
 
 -- labels are of no such sort, whether they are for this end or not
-no-labels : {Y : Type 0} (sort : Made → Option Y) → ((l : Label) → sort (made.Label l) ≡ None) → (o : Option Label) (here : Bool) (m : Option Made) → sort_of sort m ≡ None → sort_of sort (label_or o here m) ≡ None
+pub no-labels : {Y : Type 0} (sort : Made → Option Y) → ((l : Label) → sort (made.Label l) ≡ None) → (o : Option Label) (here : Bool) (m : Option Made) → sort_of sort m ≡ None → sort_of sort (label_or o here m) ≡ None
 no-labels sort f None here m e = e
 no-labels sort f (Some l) true m e = f l
 no-labels sort f (Some l) false m e = refl
@@ -79,11 +79,11 @@ target-at d items i j m k e w ne =
     ap (λ (k : Kind). elim k [ kind.Update items ↦ keeps_some d (list_of items) j && not (j == m) | kind.Move h ↦ j == h | kind.Pulse ↦ not (j == m) | kind.Close e ↦ not (j == m) ]) e ∙
     not-other (keeps_some d (list_of items) j) (j == m) (ap (λ (x : ℕ). j == x) w ∙ ne)
 
-target-is : (d : Deployed) (i j : ℕ) (items : Items) (l : Label) → l.kind ≡ kind.Update items → l.point.site ≡ i → (j == i) ≡ false → is_target d l j ≡ keeps_some d (list_of items) j
+pub target-is : (d : Deployed) (i j : ℕ) (items : Items) (l : Label) → l.kind ≡ kind.Update items → l.point.site ≡ i → (j == i) ≡ false → is_target d l j ≡ keeps_some d (list_of items) j
 unfolding is_target
 target-is d i j items l e w ne = target-at d items i j l.point.site l.kind e w ne
 
-sorted-payload : (g gear : ℕ) (here t : Bool) (p : Payload) → here ≡ t → sort_of (payload_sort g) (some_if here (made.Payload gear p)) ≡ (if (gear == g) && t then Some p else None)
+pub sorted-payload : (g gear : ℕ) (here t : Bool) (p : Payload) → here ≡ t → sort_of (payload_sort g) (some_if here (made.Payload gear p)) ≡ (if (gear == g) && t then Some p else None)
 sorted-payload g gear true true p e = go (gear == g)
   where
     go : (b : Bool) → (if b then Some p else None) ≡ (if b && true then Some p else None)
@@ -155,6 +155,15 @@ module _ (d : Deployed) (i j : ℕ) (ne : (j == i) ≡ false) where
 
   -- ---- beats
 
+  -- a beat for site j, by what a site that makes it for a site has of it
+  note-if : (s : SiteState) (to : ℕ) (b : Bool) (x : Beat) → (to == j) ≡ b → note_of x ≡ machine_note d i s to → sort_of beat_sort (some_if b (made.Beat x)) ≡ (if b then Some (machine_note d i s j) else None)
+  note-if s to true x e w = ap (λ (n : BeatNote). Some n) (w ∙ ap (machine_note d i s) (same-is to j e))
+  note-if s to false x e w = refl
+
+  pub beat-some : (s : SiteState) (to : ℕ) (o : Option Beat) → BeatBy d i s (input.Beat to) o → sort_of beat_sort (beat_in (to == j) o) ≡ (if to == j then Some (machine_note d i s j) else None)
+  beat-some s to None e = absurd e
+  beat-some s to (Some x) e = note-if s to (to == j) x refl e
+
   module _ (a : SiteAnswer) (k : ℕ) (at : peer i k ≡ j) where
     other-beat : (given : SiteInput) → bulk_to (peer i k) given a ≡ None → sort_of beat_sort (label_or a.sent (a.link == k) (bulk_to (peer i k) given a)) ≡ None
     other-beat given e = no-labels beat_sort (λ l. refl) a.sent (a.link == k) (bulk_to (peer i k) given a) (ap (sort_of beat_sort) e)
@@ -183,14 +192,6 @@ module _ (d : Deployed) (i j : ℕ) (ne : (j == i) ≡ false) where
     quiet-beat s input.Close r q e = other-beat input.Close refl
     quiet-beat s input.Fall r q e = other-beat input.Fall refl
     quiet-beat s input.Advance r q e = other-beat input.Advance refl
-
-    note-if : (s : SiteState) (to : ℕ) (b : Bool) (x : Beat) → (to == j) ≡ b → note_of x ≡ machine_note d i s to → sort_of beat_sort (some_if b (made.Beat x)) ≡ (if b then Some (machine_note d i s j) else None)
-    note-if s to true x e w = ap (λ (n : BeatNote). Some n) (w ∙ ap (machine_note d i s) (same-is to j e))
-    note-if s to false x e w = refl
-
-    beat-some : (s : SiteState) (to : ℕ) (o : Option Beat) → BeatBy d i s (input.Beat to) o → sort_of beat_sort (beat_in (to == j) o) ≡ (if to == j then Some (machine_note d i s j) else None)
-    beat-some s to None e = absurd e
-    beat-some s to (Some x) e = note-if s to (to == j) x refl e
 
     beat-is : (s : SiteState) (given : SiteInput) (r : Answer) → Says d i s given r → r ≡ site_answer d i s (input_of given) → a.sent ≡ sent_by d i s given r → BeatBy d i s given a.beat →
         sort_of beat_sort (label_or a.sent (a.link == k) (bulk_to (peer i k) given a)) ≡ beat_made d i s j (input_of given) r

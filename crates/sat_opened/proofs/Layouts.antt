@@ -172,7 +172,7 @@ serial-end d e z k t v is at =
     ap (λ (ls : List Link). slice_get ls k) ((tree-at d e t is).links z) ∙ get-map (λ v. Edge e (Serializer z) v) (neighbours t z) k v at
 
 -- each node of a tree that has an edge with a serializer is one of its neighbours
-in-below : {X : Type 0} (f : ℕ → X) (n k : ℕ) → k < n → In (map f (below n)) (f k)
+pub in-below : {X : Type 0} (f : ℕ → X) (n k : ℕ) → k < n → In (map f (below n)) (f k)
 in-below f n k lt = In-get (map f (below n)) k (f k) (get-map f (below n) k k (below-get n k lt))
 
 among-nodes : (t : TreeShape) (v : NodeId) → IsNode t v → In (map Site (below (length t.seats)) ++ map Serializer (below (length t.parents))) v
@@ -217,7 +217,7 @@ end-at d i j a b ne = go (nat_lt j i) refl
 
 -- ---- names
 
-in-flat : {X Y : Type 0} (f : X → List Y) (xs : List X) (x : X) (y : Y) → In xs x → In (f x) y → In (flat_map f xs) y
+pub in-flat : {X Y : Type 0} (f : X → List Y) (xs : List X) (x : X) (y : Y) → In xs x → In (f x) y → In (flat_map f xs) y
 in-flat f [] x y i j = absurd i
 in-flat {X} {Y} f (z ∷ xs) x y (inl e) j = In-left (f z) (flat_map f xs) y (subst (λ (x : X). In (f x) y) (sym e) j)
 in-flat f (z ∷ xs) x y (inr i) j = In-right (f z) (flat_map f xs) y (in-flat f xs x y i j)

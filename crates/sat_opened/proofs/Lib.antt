@@ -11,6 +11,7 @@ pub mod Found
 pub mod SiteLinks
 pub mod SerialLinks
 pub mod Lanes
+pub mod SerialHosts
 pub mod Links
 pub mod Bulks
 pub mod Whole

@@ -40,10 +40,11 @@ use Rattle.sat_opened.proofs.SerialKept.{SerialStep, serial-steps}
 use Rattle.sat_opened.proofs.SiteLinks.{site-enters, site-takes-in}
 use Rattle.sat_opened.proofs.SerialLinks.{serial-enters, serial-takes-over, none-taken}
 use Rattle.sat_opened.proofs.Deliveries.{delivered-on}
+use Rattle.sat_opened.proofs.SerialHosts.{place-out, place-in, between, SerialHosts, SerialAt, serial-at, find-serial}
 
 -- ---- nothing taken
 
-nothing-handed : {X : Type 0} (put : List (ℕ × X)) → IsHanded [] put
+pub nothing-handed : {X : Type 0} (put : List (ℕ × X)) → IsHanded [] put
 nothing-handed put k n x e = absurd (cc)
 
 later-none : {X Y : Type 0} (of : X → Kept) (f : List Kept → Kept → Option Y) (ks : List Kept) (xs : List X) → Along of (λ b x. f b (of x) ≡ None) ks xs → later of f ks xs ≡ []
@@ -51,29 +52,19 @@ later-none of f ks [] a = refl
 later-none {X} {Y} of f ks (x ∷ xs) a =
     ap (λ (o : Option Y). numbered (of x).number o ++ later of f (of x ∷ ks) xs) a.0 ∙ later-none of f (of x ∷ ks) xs a.1
 
-none-handed : {X Y : Type 0} (of : X → Kept) (f : List Kept → Kept → Option Y) (xs : List X) (put : List (ℕ × Y)) → Along of (λ b x. f b (of x) ≡ None) [] xs → IsHanded (marks f (newest of xs)) put
+pub none-handed : {X Y : Type 0} (of : X → Kept) (f : List Kept → Kept → Option Y) (xs : List X) (put : List (ℕ × Y)) → Along of (λ b x. f b (of x) ≡ None) [] xs → IsHanded (marks f (newest of xs)) put
 none-handed {X} {Y} of f xs put a = subst (λ (took : List (ℕ × Y)). IsHanded took put) (sym (marks-newest of f xs ∙ later-none of f [] xs a)) (nothing-handed put)
-
--- ---- places
-
-pub place-out : (d : Deployed) (name : NodeName) (k : ℕ) (l : Link) → slice_get (links_of d name) k ≡ Some l → slice_get (out_places d name) k ≡ Some (place_of d l)
-unfolding out_places
-place-out d name k l at = get-map (place_of d) (links_of d name) k l at
-
-pub place-in : (d : Deployed) (name : NodeName) (k : ℕ) (l q : Link) → slice_get (links_of d name) k ≡ Some q → turned q ≡ l → slice_get (in_places d name) k ≡ Some (place_of d l)
-unfolding in_places
-place-in d name k l q at e = get-map (place_back d) (links_of d name) k q at ∙ ap (λ (l : Link). Some (place_of d l)) e
-
-pub between : {S T M K I A J B : Type 0} (m : Meaning S I A) (n : Meaning T J B) (sender : HeldSeen M I A) (receiver : HeldSeen K J B) (a b : NodeName) → sender.node.name ≡ a → receiver.node.name ≡ b → DeliveredTo m n sender receiver →
-    (k j place : ℕ) → slice_get (m.outs a) k ≡ Some place → slice_get (n.ins b) j ≡ Some place → Delivered (takings (n.takes b j) receiver.node.entries) (put_by (m.puts a k) sender.node.entries)
-between m n sender receiver a b e f h k j place out into =
-    subst (λ (x : NodeName). Delivered (takings (n.takes x j) receiver.node.entries) (put_by (m.puts a k) sender.node.entries)) f
-    (subst (λ (x : NodeName). Delivered (takings (n.takes receiver.node.name j) receiver.node.entries) (put_by (m.puts x k) sender.node.entries)) e
-    (h k j place (subst (λ (x : NodeName). slice_get (m.outs x) k ≡ Some place) (sym e) out) (subst (λ (x : NodeName). slice_get (n.ins x) j ≡ Some place) (sym f) into)))
 
 -- ---- hosts
 
+-- the serializers of hosts
+pub serial-hosts : {M K : Type 0} (d : Deployed) (sites : List (HeldSeen M ActSeen SiteAnswer)) (serials : List (HeldSeen K SerialAct SerialAnswer)) → AllHosts d sites serials → SerialHosts d serials
+serial-hosts d sites serials all = record { all_serials = all.all_serials; each_serial = all.each_serial; between_serials = all.between_serials }
+
 module _ {M K : Type 0} (d : Deployed) (sites : List (HeldSeen M ActSeen SiteAnswer)) (serials : List (HeldSeen K SerialAct SerialAnswer)) (dep : IsDeployment d) (all : AllHosts d sites serials) where
+  abbrev hosts : SerialHosts d serials
+  hosts = serial-hosts d sites serials all
+
   -- a site, with its journal
   pub record SiteAt (i : ℕ) : Type 0 where
     pub found : Found (named.Site i) sites
@@ -97,22 +88,6 @@ module _ {M K : Type 0} (d : Deployed) (sites : List (HeldSeen M ActSeen SiteAns
   pub find-site : (i : ℕ) → i < d.sites → SiteAt i
   find-site i lt = site-at i (find (named.Site i) sites (subst (λ (ns : List NodeName). In ns (named.Site i)) (sym all.all_sites) (site-named d.sites i lt)))
 
-  -- and a serializer
-  pub record SerialAt (e z : ℕ) : Type 0 where
-    pub found : Found (named.Serializer e z) serials
-    pub host : IsHost (serial_meaning d) found.held
-    pub runs : Runs (serial_meaning d) (named.Serializer e z) found.held.node.entries
-    pub steps : Along (serial_kept e z) (SerialStep d e z) [] found.held.node.entries
-
-  pub serial-at : (e z : ℕ) → Found (named.Serializer e z) serials → SerialAt e z
-  serial-at e z f =
-      let is : IsHost (serial_meaning d) f.held = all.each_serial f.index f.held f.there in
-      let run : Runs (serial_meaning d) (named.Serializer e z) f.held.node.entries = subst (λ (n : NodeName). Runs (serial_meaning d) n f.held.node.entries) f.is_named is.runs in
-      record { found = f; host = is; runs = run; steps = serial-steps d e z f.held.node.entries run }
-
-  pub find-serial : (e z : ℕ) (t : TreeShape) → tree_of d e ≡ Some t → z < length t.parents → SerialAt e z
-  find-serial e z t tree lt = serial-at e z (find (named.Serializer e z) serials (subst (λ (ns : List NodeName). In ns (named.Serializer e z)) (sym all.all_serials) (serial-named d e z t tree lt)))
-
   -- ---- the edges of a tree
 
   module _ (e : ℕ) (t : TreeShape) (tree : tree_of d e ≡ Some t) where
@@ -120,7 +95,7 @@ module _ {M K : Type 0} (d : Deployed) (sites : List (HeldSeen M ActSeen SiteAns
     seated i lt = subst (λ (n : ℕ). i < n) (sym (dep.all_seated e t tree)) lt
 
     -- from a site to its serializer
-    up-handed : (i z : ℕ) → seat_of t i ≡ z → is_edge t (Site i) (Serializer z) ≡ true → (s : SiteAt i) (r : SerialAt e z) →
+    up-handed : (i z : ℕ) → seat_of t i ≡ z → is_edge t (Site i) (Serializer z) ≡ true → (s : SiteAt i) (r : SerialAt d serials hosts e z) →
         IsHanded (marks (took_from d e (Site i) (Serializer z)) (newest (serial_kept e z) r.found.held.node.entries)) (marks (put_on d e t (Site i) (Serializer z)) (newest (site_kept i) s.found.held.node.entries))
     up-handed i z seat edge s r =
         let at : (k : ℕ) × (slice_get (neighbours t z) k ≡ Some (Site i)) = neighbour-there t z (Site i) (seated i s.inside) (turned-edge t (Serializer z) (Site i) ∙ edge) in
@@ -136,7 +111,7 @@ module _ {M K : Type 0} (d : Deployed) (sites : List (HeldSeen M ActSeen SiteAns
         came
 
     -- from a serializer to a site
-    down-handed : (i z : ℕ) → seat_of t i ≡ z → is_edge t (Serializer z) (Site i) ≡ true → (s : SerialAt e z) (r : SiteAt i) →
+    down-handed : (i z : ℕ) → seat_of t i ≡ z → is_edge t (Serializer z) (Site i) ≡ true → (s : SerialAt d serials hosts e z) (r : SiteAt i) →
         IsHanded (marks (took_from d e (Serializer z) (Site i)) (newest (site_kept i) r.found.held.node.entries)) (marks (put_on d e t (Serializer z) (Site i)) (newest (serial_kept e z) s.found.held.node.entries))
     down-handed i z seat edge s r =
         let at : (k : ℕ) × (slice_get (neighbours t z) k ≡ Some (Site i)) = neighbour-there t z (Site i) (seated i r.inside) edge in
@@ -149,30 +124,6 @@ module _ {M K : Type 0} (d : Deployed) (sites : List (HeldSeen M ActSeen SiteAns
         (along-more (serial_kept e z) (SerialStep d e z) (λ b x. serial_puts at.0 x.answer ≡ label_made (put_on d e t (Serializer z) (Site i) b (serial_kept e z x))) [] s.found.held.node.entries (λ b x m step. serial-enters d e z t tree at.0 (Site i) at.1 b x step) s.steps)
         (subst (λ (y : ℕ). Along (site_kept i) (λ b x. site_takes (named.Site i) (label_link d e) x.input x.answer ≡ label_body (took_from d e (Serializer y) (Site i) b (site_kept i x))) [] r.found.held.node.entries) seat
         (along-more (site_kept i) (SiteStep d i) (λ b x. site_takes (named.Site i) (label_link d e) x.input x.answer ≡ label_body (took_from d e (Serializer (seat_of t i)) (Site i) b (site_kept i x))) [] r.found.held.node.entries (λ b x m step. site-takes-in d dep i r.inside e t tree b x step) r.steps))
-        came
-
-    -- from a serializer to another
-    names-same : (y z : ℕ) → named.Serializer e y ≡ named.Serializer e z → y ≡ z
-    names-same y z w = cc
-
-    not-one : (y z : ℕ) → (y == z) ≡ false → y ≡ z → ⊥
-    not-one y z w q = let clash : (y == z) ≡ true = ap (λ (n : ℕ). y == n) (sym q) ∙ same-number y in absurd (cc)
-
-    over-handed : (y z : ℕ) → (y == z) ≡ false → y < length t.parents → z < length t.parents → is_edge t (Serializer y) (Serializer z) ≡ true → (s : SerialAt e y) (r : SerialAt e z) →
-        IsHanded (marks (took_from d e (Serializer y) (Serializer z)) (newest (serial_kept e z) r.found.held.node.entries)) (marks (put_on d e t (Serializer y) (Serializer z)) (newest (serial_kept e y) s.found.held.node.entries))
-    over-handed y z ne less more edge s r =
-        let from : (k : ℕ) × (slice_get (neighbours t y) k ≡ Some (Serializer z)) = neighbour-there t y (Serializer z) more edge in
-        let at : (k : ℕ) × (slice_get (neighbours t z) k ≡ Some (Serializer y)) = neighbour-there t z (Serializer y) less (turned-edge t (Serializer z) (Serializer y) ∙ edge) in
-        let came : Delivered (takings (λ act a. serial_takes at.0 act a) r.found.held.node.entries) (put_by (λ act a. serial_puts from.0 a) s.found.held.node.entries) =
-        between (serial_meaning d) (serial_meaning d) s.found.held r.found.held (named.Serializer e y) (named.Serializer e z) s.found.is_named r.found.is_named
-        (all.between_serials s.found.index r.found.index s.found.held r.found.held (two-places (named.Serializer e y) (named.Serializer e z) serials s.found r.found (λ w. not-one y z ne (names-same y z w))) s.found.there r.found.there)
-        from.0 at.0 (place_of d (Edge e (Serializer y) (Serializer z)))
-        (place-out d (named.Serializer e y) from.0 (Edge e (Serializer y) (Serializer z)) (serial-end d e y from.0 t (Serializer z) tree from.1))
-        (place-in d (named.Serializer e z) at.0 (Edge e (Serializer y) (Serializer z)) (Edge e (Serializer z) (Serializer y)) (serial-end d e z at.0 t (Serializer y) tree at.1) refl) in
-        delivered-on (λ act a. serial_puts from.0 a) (λ act a. serial_takes at.0 act a) (serial_kept e y) (serial_kept e z) (put_on d e t (Serializer y) (Serializer z)) (took_from d e (Serializer y) (Serializer z)) s.found.held.node.entries r.found.held.node.entries
-        (λ x. refl) (λ x. refl)
-        (along-more (serial_kept e y) (SerialStep d e y) (λ b x. serial_puts from.0 x.answer ≡ label_made (put_on d e t (Serializer y) (Serializer z) b (serial_kept e y x))) [] s.found.held.node.entries (λ b x m step. serial-enters d e y t tree from.0 (Serializer z) from.1 b x step) s.steps)
-        (along-more (serial_kept e z) (SerialStep d e z) (λ b x. serial_takes at.0 x.input x.answer ≡ label_body (took_from d e (Serializer y) (Serializer z) b (serial_kept e z x))) [] r.found.held.node.entries (λ b x m step. serial-takes-over d e z t tree at.0 (Serializer y) at.1 b x step) r.steps)
         came
 
     -- ---- all edges
@@ -191,14 +142,14 @@ module _ {M K : Type 0} (d : Deployed) (sites : List (HeldSeen M ActSeen SiteAns
     up-link i z edge = elim (look-up (named.Serializer e z) serials) [
       | inr none ↦ nobody (serial_kept e z) (took_from d e (Site i) (Serializer z)) (entries_at (named.Serializer e z) serials) (marks (put_on d e t (Site i) (Serializer z)) (site_list i)) none
       | inl f ↦
-          let r : SerialAt e z = serial-at e z f in
+          let r : SerialAt d serials hosts e z = serial-at d serials hosts e z f in
           subst (λ (ls : List (Line SerialAct SerialAnswer)). IsHanded (marks (took_from d e (Site i) (Serializer z)) (newest (serial_kept e z) ls)) (marks (put_on d e t (Site i) (Serializer z)) (site_list i))) (sym r.found.entries_are) (go (nat_lt i d.sites) refl r)
     ]
       where
         out : nat_lt i d.sites ≡ false → IsNode t (Site i) → ⊥
         out w n = let clash : nat_lt i d.sites ≡ true = is-less i d.sites (subst (λ (m : ℕ). i < m) (dep.all_seated e t tree) n) in absurd (cc)
 
-        go : (b : Bool) → nat_lt i d.sites ≡ b → (r : SerialAt e z) → IsHanded (marks (took_from d e (Site i) (Serializer z)) (newest (serial_kept e z) r.found.held.node.entries)) (marks (put_on d e t (Site i) (Serializer z)) (site_list i))
+        go : (b : Bool) → nat_lt i d.sites ≡ b → (r : SerialAt d serials hosts e z) → IsHanded (marks (took_from d e (Site i) (Serializer z)) (newest (serial_kept e z) r.found.held.node.entries)) (marks (put_on d e t (Site i) (Serializer z)) (site_list i))
         go true w r =
             let s : SiteAt i = find-site i (less-is i d.sites w) in
             subst (λ (ls : List (Line ActSeen SiteAnswer)). IsHanded (marks (took_from d e (Site i) (Serializer z)) (newest (serial_kept e z) r.found.held.node.entries)) (marks (put_on d e t (Site i) (Serializer z)) (newest (site_kept i) ls))) (sym s.found.entries_are)
@@ -213,18 +164,8 @@ module _ {M K : Type 0} (d : Deployed) (sites : List (HeldSeen M ActSeen SiteAns
       | inl f ↦
           let back : is_edge t (Site i) (Serializer z) ≡ true = turned-edge t (Site i) (Serializer z) ∙ edge in
           let r : SiteAt i = site-at i f in
-          let s : SerialAt e z = find-serial e z t tree (edge-within t (Site i) z (dep.trees e t tree) back) in
+          let s : SerialAt d serials hosts e z = find-serial d serials hosts e z t tree (edge-within t (Site i) z (dep.trees e t tree) back) in
           subst (λ (ls : List (Line ActSeen SiteAnswer)). IsHanded (marks (took_from d e (Serializer z) (Site i)) (newest (site_kept i) ls)) (marks (put_on d e t (Serializer z) (Site i)) (serial_list z))) (sym r.found.entries_are)
           (subst (λ (ls : List (Line SerialAct SerialAnswer)). IsHanded (marks (took_from d e (Serializer z) (Site i)) (newest (site_kept i) r.found.held.node.entries)) (marks (put_on d e t (Serializer z) (Site i)) (newest (serial_kept e z) ls))) (sym s.found.entries_are)
           (down-handed i z (at-seat t i z back) edge s r))
     ]
-
-    pub over-link : (y z : ℕ) → is_edge t (Serializer y) (Serializer z) ≡ true → IsHanded (marks (took_from d e (Serializer y) (Serializer z)) (serial_list z)) (marks (put_on d e t (Serializer y) (Serializer z)) (serial_list y))
-    over-link y z edge =
-        let two : AreApart t y z = apart t y z (dep.trees e t tree) edge in
-        let less : y < length t.parents = edge-within t (Serializer z) y (dep.trees e t tree) (turned-edge t (Serializer z) (Serializer y) ∙ edge) in
-        let s : SerialAt e y = find-serial e y t tree less in
-        let r : SerialAt e z = find-serial e z t tree two.second in
-        subst (λ (ls : List (Line SerialAct SerialAnswer)). IsHanded (marks (took_from d e (Serializer y) (Serializer z)) (newest (serial_kept e z) ls)) (marks (put_on d e t (Serializer y) (Serializer z)) (serial_list y))) (sym r.found.entries_are)
-        (subst (λ (ls : List (Line SerialAct SerialAnswer)). IsHanded (marks (took_from d e (Serializer y) (Serializer z)) (newest (serial_kept e z) r.found.held.node.entries)) (marks (put_on d e t (Serializer y) (Serializer z)) (newest (serial_kept e y) ls))) (sym s.found.entries_are)
-        (over-handed y z two.apart less two.second edge s r))

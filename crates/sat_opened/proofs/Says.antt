@@ -210,11 +210,11 @@ module _ (d : Deployed) (i : ℕ) (s : SiteState) where
     | inr b ↦ elim b [ inl e ↦ subst (IsOwn i) e own | inr n ↦ absurd n ]
   ]
 
-  fresh-more : (b : Bool) (ls : List Label) (x l : Label) → IsOwn i x → ((m : Label) → In ls m → IsOwn i m) → In (if b then ls ++ x ∷ [] else ls) l → IsOwn i l
+  pub fresh-more : (b : Bool) (ls : List Label) (x l : Label) → IsOwn i x → ((m : Label) → In ls m → IsOwn i m) → In (if b then ls ++ x ∷ [] else ls) l → IsOwn i l
   fresh-more true ls x l own f m = one-more ls x l own f m
   fresh-more false ls x l own f m = f l m
 
-  both-own : (ls ms : List Label) (l : Label) → ((m : Label) → In ls m → IsOwn i m) → ((m : Label) → In ms m → IsOwn i m) → In (ls ++ ms) l → IsOwn i l
+  pub both-own : (ls ms : List Label) (l : Label) → ((m : Label) → In ls m → IsOwn i m) → ((m : Label) → In ms m → IsOwn i m) → In (ls ++ ms) l → IsOwn i l
   both-own ls ms l f g m = elim (In-parts ls ms l m) [ inl a ↦ f l a | inr b ↦ g l b ]
 
   quiet-owns : (given : Handed) (r : Answer) → is_quiet r ≡ true → Owns i s → Owns i (site_next d i s given r)

@@ -85,7 +85,7 @@ module _ (d : Deployed) (i c : ℕ) (s : SiteState) (h : List Entry) where
   quiet-emission given (ans.Closed f p) q e = absurd (cc)
   quiet-emission given _ q e = none-more (listed (closed_epoch_of_entry i) h) s.views.emission e
 
-  emission-more : (given : SiteInput) (r : Answer) → Says d i s given r → emission h i ≡ s.views.emission → emission (entry (site_act i c given) r false ∷ h) i ≡ emission_next s.views.emission r
+  pub emission-more : (given : SiteInput) (r : Answer) → Says d i s given r → emission h i ≡ s.views.emission → emission (entry (site_act i c given) r false ∷ h) i ≡ emission_next s.views.emission r
   unfolding emission listed
   emission-more given r (quiet g y q) e = quiet-emission g y q e
   emission-more given r (closed p o) e = one-more (i == i) (listed (closed_epoch_of_entry i) h) s.views.emission s.views.emission (same-number i) e
@@ -105,7 +105,7 @@ module _ (d : Deployed) (i c : ℕ) (s : SiteState) (h : List Entry) where
   quiet-view given (ans.View v) q e = absurd (cc)
   quiet-view given _ q e = none-more (listed (view_entry i) h) s.views.view e
 
-  view-more : (given : SiteInput) (r : Answer) → Says d i s given r → view h i ≡ s.views.view → view (entry (site_act i c given) r false ∷ h) i ≡ view_next s.views.view r
+  pub view-more : (given : SiteInput) (r : Answer) → Says d i s given r → view h i ≡ s.views.view → view (entry (site_act i c given) r false ∷ h) i ≡ view_next s.views.view r
   unfolding view listed
   view-more given r (quiet g y q) e = quiet-view g y q e
   view-more given r passed e = one-more (i == i) (listed (view_entry i) h) (s.views.view + 1) s.views.view (same-number i) e

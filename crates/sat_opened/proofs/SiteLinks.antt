@@ -88,7 +88,7 @@ target-goes d i z t l o = same-test (has_target (shape_for d i) l) (goes_beyond 
 -- ---- what enters a tree, by the history and by the answer
 
 -- a label, if it is of this epoch
-abbrev when : Bool → Option Label → Option Label
+abbrev pub when : Bool → Option Label → Option Label
 when b None = None
 when b (Some l) = if b then Some l else None
 
@@ -195,7 +195,7 @@ mode-tree None b e = absurd (cc)
 mode-tree (Some t) b e = (t, refl)
 
 -- what a turn takes
-abbrev turn_takes : ℕ → SiteState → SiteInput → Answer → Option Label
+abbrev pub turn_takes : ℕ → SiteState → SiteInput → Answer → Option Label
 turn_takes e s (input.Turn front) r = when (is_turned r && (s.views.view == e)) front
 turn_takes e s _ r = None
 
@@ -232,7 +232,7 @@ module _ (d : Deployed) (i e : ℕ) (t : TreeShape) (tree : tree_of d e ≡ Some
     turns-out : (l : Label) → (if ((view h i == e) && (i == i)) && (not (came_from (record { epoch = view h i; node = Site i; from = seat_in d (view h i) i; label = l }) up) && goes_beyond d t (Site i) up l) then Some l else None) ≡ None
     turns-out l = none-core (view h i == e) (i == i) _ (goes_beyond d t (Site i) up l) l (came-up (view h i) l)
 
-    enters : (given : SiteInput) (r : Answer) → Says d i s given r → entered_entry d e t (Site i) up h (entry (site_act i c given) r false) ≡ when (s.views.emission == e) (sent_by d i s given r)
+    pub enters : (given : SiteInput) (r : Answer) → Says d i s given r → entered_entry d e t (Site i) up h (entry (site_act i c given) r false) ≡ when (s.views.emission == e) (sent_by d i s given r)
     unfolding handling sent_by
     enters given r (quiet g y q) = ap (enters_by d e t (Site i) up) (quiet-handling d h (site_act i c g) y q) ∙ ap (when (s.views.emission == e)) (sym (quiet-sent d i s g y q))
     enters given r (wrote seen items values l o k) = refl
@@ -250,7 +250,7 @@ module _ (d : Deployed) (i e : ℕ) (t : TreeShape) (tree : tree_of d e ≡ Some
     turns-in : (l : Label) → (if ((view h i == e) && (i == i)) && came_from (record { epoch = view h i; node = Site i; from = seat_in d (view h i) i; label = l }) up then Some l else None) ≡ (if s.views.view == e then Some l else None)
     turns-in l = in-core (view h i == e) (i == i) _ l (same-number i) (came-up (view h i) l) ∙ ap (λ (v : ℕ). if v == e then Some l else None) takes_in
 
-    taken : (given : SiteInput) (r : Answer) → Says d i s given r → taken_entry d e up (Site i) h (entry (site_act i c given) r false) ≡ turn_takes e s given r
+    pub taken : (given : SiteInput) (r : Answer) → Says d i s given r → taken_entry d e up (Site i) h (entry (site_act i c given) r false) ≡ turn_takes e s given r
     unfolding handling
     taken given r (quiet g y q) = ap (takes_by e up (Site i)) (quiet-handling d h (site_act i c g) y q) ∙ quiet-turn e s g y q
     taken given r (wrote seen items values l o k) = refl
@@ -292,16 +292,16 @@ none-payload true values r e = absurd (cc)
 none-payload false values (ans.Wrote l) e = refl
 none-payload false values _ e = refl
 
-none-beat : (b : Bool) (o : Option Beat) → b ≡ false → beat_in b o ≡ None
+pub none-beat : (b : Bool) (o : Option Beat) → b ≡ false → beat_in b o ≡ None
 none-beat true o e = absurd (cc)
 none-beat false None e = refl
 none-beat false (Some x) e = refl
 
-none-if : {X : Type 0} (b : Bool) (x : X) → b ≡ false → some_if b x ≡ None
+pub none-if : {X : Type 0} (b : Bool) (x : X) → b ≡ false → some_if b x ≡ None
 none-if true x e = absurd (cc)
 none-if false x e = refl
 
-far : (k n j : ℕ) → n ≤ j → k < n → (k == j) ≡ false
+pub far : (k n j : ℕ) → n ≤ j → k < n → (k == j) ≡ false
 far k n j a b = differ k j (unequal k n j a b)
   where
     unequal : (k n j : ℕ) → n ≤ j → k < n → k ≡ j → ⊥
@@ -311,7 +311,7 @@ module _ (d : Deployed) (dep : IsDeployment d) (i : ℕ) (lt : i < d.sites) (e :
   abbrev end_in : ℕ
   end_in = label_link d e
 
-  peer-far : d.sites ≤ peer i end_in
+  pub peer-far : d.sites ≤ peer i end_in
   peer-far = go (nat_lt end_in i) refl
     where
       high : (n i m k : ℕ) → i < n → k ≡ (n - 1) + m → i ≤ k
@@ -348,7 +348,7 @@ module _ (d : Deployed) (dep : IsDeployment d) (i : ℕ) (lt : i < d.sites) (e :
   bulk-none s input.Advance a f k = refl
 
   -- what is sent, by its end and by its epoch
-  label-put : (s : SiteState) (given : SiteInput) (r : Answer) (o : Option Label) (link : ℕ) → o ≡ sent_by d i s given r → link ≡ label_link d (epoch_by s given o) → label_or o (link == end_in) None ≡ label_made (when (s.views.emission == e) o)
+  pub label-put : (s : SiteState) (given : SiteInput) (r : Answer) (o : Option Label) (link : ℕ) → o ≡ sent_by d i s given r → link ≡ label_link d (epoch_by s given o) → label_or o (link == end_in) None ≡ label_made (when (s.views.emission == e) o)
   label-put s given r None link w k = refl
   label-put s given r (Some l) link w k =
       let q : IsSentIn d s given l = sent-in d i s given r l (sym w) in
@@ -370,11 +370,11 @@ module _ (d : Deployed) (dep : IsDeployment d) (i : ℕ) (lt : i < d.sites) (e :
       ap label_made (sym (enters d i e t tree (client_in x.input.by) (site_after d i b) (history b) step.sends_in step.takes_in x.input.input x.answer.answer step.says_there))))
 
   -- and takes from it
-  turn-link : (s : SiteState) (front : Option Label) (r : Answer) (o : Option Label) (link : ℕ) → link ≡ label_link d (epoch_by s (input.Turn front) o) → link ≡ label_link d s.views.view
+  pub turn-link : (s : SiteState) (front : Option Label) (r : Answer) (o : Option Label) (link : ℕ) → link ≡ label_link d (epoch_by s (input.Turn front) o) → link ≡ label_link d s.views.view
   unfolding epoch_by
   turn-link s front r o link w = w
 
-  turned-tree : (s : SiteState) (given : SiteInput) (r : Answer) → Says d i s given r → (front : Option Label) → given ≡ input.Turn front → is_turned r ≡ true → (v : TreeShape) × (tree_of d s.views.view ≡ Some v)
+  pub turned-tree : (s : SiteState) (given : SiteInput) (r : Answer) → Says d i s given r → (front : Option Label) → given ≡ input.Turn front → is_turned r ≡ true → (v : TreeShape) × (tree_of d s.views.view ≡ Some v)
   turned-tree s given r (shown l m) front w q = mode-tree (tree_of d s.views.view) s.views.fallen m
   turned-tree s given r (took l m) front w q = mode-tree (tree_of d s.views.view) s.views.fallen m
   turned-tree s given r (quiet g (ans.Shown l) f) front w q = absurd (cc)
@@ -390,7 +390,7 @@ module _ (d : Deployed) (dep : IsDeployment d) (i : ℕ) (lt : i < d.sites) (e :
   turned-tree s given r (beaten j n) front w q = absurd (cc)
   turned-tree s given r passed front w q = absurd (cc)
 
-  front-taken : (s : SiteState) (turn : Bool) (front : Option Label) (link : ℕ) → link ≡ label_link d s.views.view → (turn ≡ true → (v : TreeShape) × (tree_of d s.views.view ≡ Some v)) →
+  pub front-taken : (s : SiteState) (turn : Bool) (front : Option Label) (link : ℕ) → link ≡ label_link d s.views.view → (turn ≡ true → (v : TreeShape) × (tree_of d s.views.view ≡ Some v)) →
       label_taken (turn && (link == end_in)) front ≡ label_body (when (turn && (s.views.view == e)) front)
   front-taken s turn None link w k = refl
   front-taken s false (Some l) link w k = refl

@@ -35,9 +35,10 @@ use Rattle.sat_opened.specs.Hosts.{IsHost, AllHosts, HostsFit, HostsJoin, HostsA
 use Rattle.sat_opened.proofs.Found.{look-up}
 use Rattle.sat_opened.proofs.Handings.{get-mapped}
 use Rattle.sat_opened.proofs.SiteKept.{site-fits}
-use Rattle.sat_opened.proofs.SerialKept.{serial-fits, nothing-fits}
+use Rattle.sat_opened.proofs.SerialKept.{nothing-fits}
 use Rattle.sat_opened.proofs.Deliveries.{handed-delivered}
-use Rattle.sat_opened.proofs.Links.{SiteAt, site-at, SerialAt, serial-at, up-link, down-link, over-link}
+use Rattle.sat_opened.proofs.SerialHosts.{serial-place, over-link}
+use Rattle.sat_opened.proofs.Links.{SiteAt, site-at, serial-hosts, up-link, down-link}
 use Rattle.sat_opened.proofs.Bulks.{payloads, beats}
 
 module _ {M K : Type 0} (d : Deployed) (sites : List (HeldSeen M ActSeen SiteAnswer)) (serials : List (HeldSeen K SerialAct SerialAnswer)) (dep : IsDeployment d) (all : AllHosts d sites serials) where
@@ -50,15 +51,6 @@ module _ {M K : Type 0} (d : Deployed) (sites : List (HeldSeen M ActSeen SiteAns
         (site-fits d i s.found.held.node.entries s.inside s.runs s.host.rises s.host.standing)
   ]
 
-  serial-place : (e z : ℕ) → FitsPlace d (AtSerializer e z) (newest (serial_kept e z) (entries_at (named.Serializer e z) serials))
-  serial-place e z = elim (look-up (named.Serializer e z) serials) [
-    | inr none ↦ subst (λ (ls : List (Line SerialAct SerialAnswer)). FitsPlace d (AtSerializer e z) (newest (serial_kept e z) ls)) (sym none) (nothing-fits d (AtSerializer e z))
-    | inl f ↦
-        let s : SerialAt d sites serials dep all e z = serial-at d sites serials dep all e z f in
-        subst (λ (ls : List (Line SerialAct SerialAnswer)). FitsPlace d (AtSerializer e z) (newest (serial_kept e z) ls)) (sym s.found.entries_are)
-        (serial-fits d e z s.found.held.node.entries s.runs s.host.rises)
-  ]
-
   module _ (alone : ℕ → List Kept) where
     abbrev lists : Place → List Kept
     lists = lists_of sites serials alone
@@ -67,12 +59,12 @@ module _ {M K : Type 0} (d : Deployed) (sites : List (HeldSeen M ActSeen SiteAns
     links e t (Site i) (Site j) tree edge = absurd (let none : is_edge t (Site i) (Site j) ≡ false = no-edge t i j in cc)
     links e t (Site i) (Serializer z) tree edge = up-link d sites serials dep all e t tree i z edge
     links e t (Serializer z) (Site i) tree edge = down-link d sites serials dep all e t tree i z edge
-    links e t (Serializer y) (Serializer z) tree edge = over-link d sites serials dep all e t tree y z edge
+    links e t (Serializer y) (Serializer z) tree edge = over-link d serials (serial-hosts d sites serials all) dep e t tree y z edge
 
     pub fits : FitsNodes d lists
     fits = record {
       sites = site-place;
-      serials = serial-place;
+      serials = serial-place d serials (serial-hosts d sites serials all);
       links = links;
       payloads = payloads d sites serials dep all alone;
       beats = beats d sites serials dep all alone;
@@ -126,15 +118,15 @@ delivers m n sender receiver outs ins agree k j place out into =
     let i : (x : InSeen) × (slice_get receiver.ins j ≡ Some x) × (x.place ≡ place) = get-mapped (λ (x : InSeen). x.place) receiver.ins j place (ap (λ (ps : List ℕ). slice_get ps j) ins ∙ into) in
     handed-delivered _ _ (agree k j o.0 i.0 o.1 i.1 (o.2 ∙ sym i.2))
 
-delivers-within : {S M I A : Type 0} (m : Meaning S I A) (nodes : List (HeldSeen M I A)) → Each nodes (λ _ h. IsOpened m h) → AgreeWithin m nodes → DeliveredWithin m nodes
+pub delivers-within : {S M I A : Type 0} (m : Meaning S I A) (nodes : List (HeldSeen M I A)) → Each nodes (λ _ h. IsOpened m h) → AgreeWithin m nodes → DeliveredWithin m nodes
 unfolding AgreeWithin
 delivers-within m nodes each agree a b sender receiver apart one two = delivers m m sender receiver (each a sender one).tied.outs (each b receiver two).tied.ins (agree a b sender receiver apart one two)
 
-delivers-all : {S T M K I A J B : Type 0} (m : Meaning S I A) (n : Meaning T J B) (senders : List (HeldSeen M I A)) (receivers : List (HeldSeen K J B)) → Each senders (λ _ h. IsOpened m h) → Each receivers (λ _ h. IsOpened n h) → AgreeAll m n senders receivers → DeliveredAll m n senders receivers
+pub delivers-all : {S T M K I A J B : Type 0} (m : Meaning S I A) (n : Meaning T J B) (senders : List (HeldSeen M I A)) (receivers : List (HeldSeen K J B)) → Each senders (λ _ h. IsOpened m h) → Each receivers (λ _ h. IsOpened n h) → AgreeAll m n senders receivers → DeliveredAll m n senders receivers
 unfolding AgreeAll AgreeRow
 delivers-all m n senders receivers each all agree a b sender receiver one two = delivers m n sender receiver (each a sender one).tied.outs (all b receiver two).tied.ins (agree a sender one b receiver two)
 
-is-host : {S M I A : Type 0} (m : Meaning S I A) (h : HeldSeen M I A) → IsOpened m h → IsHost m h
+pub is-host : {S M I A : Type 0} (m : Meaning S I A) (h : HeldSeen M I A) → IsOpened m h → IsHost m h
 is-host m h o = record { runs = o.runs; rises = o.rises; standing = o.tied.standing }
 
 pub opened_are_hosts : OpenedAreHosts

@@ -1,0 +1,17 @@
+pub mod Walked
+pub mod Steps
+pub mod Laned
+pub mod Payloads
+pub mod Beats
+pub mod Owned
+pub mod HubLinks
+pub mod Hosted
+pub mod Serials
+pub mod Came
+pub mod Edges
+pub mod Whole
+pub mod Named
+pub mod Bounded
+pub mod Parted
+pub mod Written
+pub mod Loops

@@ -1,0 +1,7 @@
+pub mod Opened
+pub mod Hosts
+pub mod Keeping
+pub mod Laws
+pub mod Within
+pub mod Collected
+pub mod Seen
