@@ -1,0 +1,5 @@
+pub mod Transports
+pub mod Handed
+pub mod Told
+pub mod Posting
+pub mod Kept
