@@ -15,4 +15,6 @@ mod nodes;
 #[cfg(test)]
 mod outcome;
 #[cfg(test)]
+mod parts;
+#[cfg(test)]
 mod undone;
