@@ -11,3 +11,4 @@ pub mod Crossed
 pub mod Arrowed
 pub mod BySeats
 pub mod Seated
+pub mod Hauled

@@ -10,6 +10,8 @@ use Rattle.sat_draw.specs.Elements.{spelled}
 use Rattle.sat_draw.specs.Rows.{ways, marks}
 use Rattle.sat_draw.specs.Lost.{crosses}
 use Rattle.sat_draw.specs.Rests.{rests}
+use Rattle.sat_draw.specs.declared.moved.Moved.{Moved}
+use Rattle.sat_draw.specs.Moved.{smalls, hauls}
 use Rattle.sat_draw.specs.Head.{caption, head}
 use Rattle.sat_draw.specs.Legend.{legend}
 
@@ -43,8 +45,8 @@ title_text d count =
 abbrev pub start : Deployed → ℕ → List ℕ
 start d count = opening (width_of d) (height_of d count) ++ title_text d count
 
--- the text of the drawing of a history: an SVG
-unfoldable pub drawing : Deployed → List Entry → List ℕ
-unfolding elements legend caption
-drawing d h =
-    start d (length h) ++ (legend ++ (spelled (elements d h) ++ codes "</svg>\n"))
+-- the text of the drawing of a history, and of what its settles moved, behind all else: an SVG
+unfoldable pub drawing : Deployed → List Entry → List Moved → List ℕ
+unfolding elements legend caption hauls
+drawing d h ms =
+    start d (length h) ++ (legend ++ (spelled (smalls d ms) ++ (spelled (elements d h) ++ codes "</svg>\n")))

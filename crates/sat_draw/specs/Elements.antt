@@ -7,7 +7,7 @@ use Rattle.sat_draw.specs.declared.element.Ink.{Ink}
 use Rattle.sat_draw.specs.declared.element.Ink.TheVariants as ink
 use Rattle.sat_draw.specs.declared.element.Spot.{Spot}
 use Rattle.sat_draw.specs.declared.element.Element.{Element}
-use Rattle.sat_draw.specs.declared.element.Element.TheVariants.{Line, Way, Lost, Rest, Glow, Dot, Word}
+use Rattle.sat_draw.specs.declared.element.Element.TheVariants.{Line, Way, Lost, Rest, Small, Glow, Dot, Word}
 use Rattle.sat_draw.specs.declared.trail.Trail.{Trail}
 use Rattle.sat_draw.specs.declared.trail.TheConstants.{BEAT_RANK}
 
@@ -107,6 +107,13 @@ unfoldable pub lost_class : ℕ → List ℕ
 lost_class rank =
     if rank == 1 then codes "label move lost" else (if rank == 3 then codes "label close lost" else codes "label lost")
 
+-- the class of what a settle moved: a payload, or a label of its kind
+unfoldable pub small_class : Ink → List ℕ
+small_class ink.Payload = codes "payload small"
+small_class ink.Move = codes "label move small"
+small_class ink.Close = codes "label close small"
+small_class _ = codes "label small"
+
 -- the style by which the ways of a label stand out: where one of them is under the pointer, each is thick
 abbrev pub under_pointer : List ℕ → List ℕ
 under_pointer group = codes "<style>svg:has(." ++ (group ++ codes ":hover) .")
@@ -155,11 +162,12 @@ word_text class at most text =
 
 -- an element's line of the drawing
 unfoldable pub spell : Element → List ℕ
-unfolding ink_word way_word lost_class
+unfolding ink_word way_word lost_class small_class
 spell (Line ink from to) = line_text (ink_word ink) from to
 spell (Way ink trail from to) = way_text (ink_word ink) (way_word ink) trail from to
 spell (Lost trail from to) = way_text (lost_class trail.rank) (codes "never taken:") trail from to
 spell (Rest ink trail from to) = way_text (ink_word ink) (way_word ink) trail from to
+spell (Small ink trail from to) = way_text (small_class ink) (way_word ink) trail from to
 spell (Glow trail) = glow_text (group_text trail)
 spell (Dot ink at text) = dot_text (ink_word ink) at text
 spell (Word ink at text) = word_text (ink_word ink) at (room ink) text

@@ -22,6 +22,7 @@ legend =
     ++ (codes ".sink{stroke-width:2;stroke-dasharray:2 3;transform:translate(-5px,0)}\n"
     ++ (codes ".store{stroke-width:2;stroke-dasharray:2 3;transform:translate(5px,0)}\n"
     ++ (codes ".dead{stroke-width:3}\n"
+    ++ (codes ".small{stroke-width:1;opacity:.7;marker-end:none}\n"
     ++ (codes "circle.refused{stroke-width:1.4}\n"
     ++ (codes ".name{font-weight:bold;text-anchor:middle}\n"
     ++ (codes ".title{font:bold 15px system-ui,sans-serif}\n"
@@ -103,7 +104,7 @@ legend =
     ++ (codes "<line class='payload' x1='8' y1='90' x2='42' y2='90'/>\n"
     ++ (codes "<text class='epoch' x='50' y='94'>payload</text>\n"
     ++ (codes "<line class='store' x1='114' y1='90' x2='148' y2='90'/>\n"
-    ++ (codes "<text class='epoch' x='156' y='94'>waits</text>\n"
+    ++ (codes "<text class='epoch' x='160' y='94'>waits</text>\n"
     ++ (codes "<line class='beat' x1='207' y1='90' x2='241' y2='90'/>\n"
     ++ (codes "<text class='epoch' x='249' y='94'>beat</text>\n"
     ++ (codes "<circle cx='298' cy='90' r='4' class='done'/>\n"
@@ -113,6 +114,9 @@ legend =
     ++ (codes "<line class='dead' x1='486' y1='84' x2='498' y2='96'/>\n"
     ++ (codes "<line class='dead' x1='486' y1='96' x2='498' y2='84'/>\n"
     ++ (codes "<text class='epoch' x='506' y='94'>killed</text>\n"
+    ++ (codes "<line class='payload small' x1='566' y1='87' x2='600' y2='89'/>\n"
+    ++ (codes "<line class='label small' x1='566' y1='91' x2='600' y2='93'/>\n"
+    ++ (codes "<text class='epoch' x='608' y='94'>moved by a settle</text>\n"
     ++ (codes "<line class='seat' x1='8' y1='106' x2='42' y2='106'/>\n"
     ++ (codes "<text class='epoch' x='50' y='110'>client</text>\n"
     ++ (codes "<line class='seat away' x1='108' y1='106' x2='142' y2='106'/>\n"
@@ -121,4 +125,5 @@ legend =
     ++ (codes "<text class='epoch' x='322' y='110'>site between close and advance</text>\n"
     ++ (codes "<line class='view' x1='540' y1='106' x2='574' y2='106'/>\n"
     ++ (codes "<text class='epoch' x='582' y='110'>site in a later view</text>\n"
-    )))))))))))))))))))))))))))))))))))))))))))))))))))))))))))))))))))))))))))))))))))))))))))))))))))))))))))))))))))
+    ))))))))))))))))))))))))))))))))))))))))))))))))))))))))))))
+    )))))))))))))))))))))))))))))))))))))))))))))))))))))))))))

@@ -4,6 +4,7 @@ pub mod Trails
 pub mod Rows
 pub mod Lost
 pub mod Rests
+pub mod Moved
 pub mod Tracks
 pub mod Head
 pub mod Legend

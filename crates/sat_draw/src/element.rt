@@ -137,6 +137,13 @@ pub enum Element {
         from: Spot,
         to: Spot,
     },
+    /// What a settle moved from one node to another: thin, within the settle's row, with such a title.
+    Small {
+        ink: Ink,
+        trail: Trail,
+        from: Spot,
+        to: Spot,
+    },
     /// All ways of this trail's label stand out while the pointer is on one of them.
     Glow {
         trail: Trail,

@@ -38,3 +38,21 @@ pub const NAMES_APART: u64 = 880;
 
 /// They haven't where fewer pixels than these are left.
 pub const NAMES_SPARED: u64 = 440;
+
+/// How far above its row's middle what a settle moved begins.
+pub const SMALL_ABOVE: u64 = 10;
+
+/// From one entry of a settle to the next one.
+pub const SMALL_STEP: u64 = 2;
+
+/// So many of them stand below one another, and the next one at the top again.
+pub const SMALL_STEPS: u64 = 9;
+
+/// How far down a small line leads.
+pub const SMALL_DROP: u64 = 2;
+
+/// So many entries of a settle are drawn.
+pub const MOST_SMALL: u64 = 40;
+
+/// From where the answers stand to the words that say so.
+pub const SMALL_WORDS: u64 = 130;

@@ -20,6 +20,7 @@ line{fill:none;stroke-width:1}\n\
 .sink{stroke-width:2;stroke-dasharray:2 3;transform:translate(-5px,0)}\n\
 .store{stroke-width:2;stroke-dasharray:2 3;transform:translate(5px,0)}\n\
 .dead{stroke-width:3}\n\
+.small{stroke-width:1;opacity:.7;marker-end:none}\n\
 circle.refused{stroke-width:1.4}\n\
 .name{font-weight:bold;text-anchor:middle}\n\
 .title{font:bold 15px system-ui,sans-serif}\n\
@@ -100,7 +101,7 @@ markerUnits='userSpaceOnUse'><path class='hx' d='M1 1L9 9M9 1L1 9'/></marker>\n\
 <line class='payload' x1='8' y1='90' x2='42' y2='90'/>\n\
 <text class='epoch' x='50' y='94'>payload</text>\n\
 <line class='store' x1='114' y1='90' x2='148' y2='90'/>\n\
-<text class='epoch' x='156' y='94'>waits</text>\n\
+<text class='epoch' x='160' y='94'>waits</text>\n\
 <line class='beat' x1='207' y1='90' x2='241' y2='90'/>\n\
 <text class='epoch' x='249' y='94'>beat</text>\n\
 <circle cx='298' cy='90' r='4' class='done'/>\n\
@@ -110,6 +111,9 @@ markerUnits='userSpaceOnUse'><path class='hx' d='M1 1L9 9M9 1L1 9'/></marker>\n\
 <line class='dead' x1='486' y1='84' x2='498' y2='96'/>\n\
 <line class='dead' x1='486' y1='96' x2='498' y2='84'/>\n\
 <text class='epoch' x='506' y='94'>killed</text>\n\
+<line class='payload small' x1='566' y1='87' x2='600' y2='89'/>\n\
+<line class='label small' x1='566' y1='91' x2='600' y2='93'/>\n\
+<text class='epoch' x='608' y='94'>moved by a settle</text>\n\
 <line class='seat' x1='8' y1='106' x2='42' y2='106'/>\n\
 <text class='epoch' x='50' y='110'>client</text>\n\
 <line class='seat away' x1='108' y1='106' x2='142' y2='106'/>\n\

@@ -7,6 +7,7 @@ mod geometry;
 mod head;
 mod legend;
 mod lost;
+mod moved;
 mod picture;
 mod rests;
 mod rows;
@@ -15,4 +16,5 @@ mod tracks;
 mod trail;
 
 pub use element::{Element, Ink, Spot, Text};
+pub use moved::{Haul, Moved};
 pub use picture::draw;

@@ -7,6 +7,7 @@ ghost use Rattle.sat_draw.specs.Head.{head};
 ghost use Rattle.sat_draw.specs.Tracks.{IsDrawn, HasRows};
 ghost use Rattle.sat_draw.specs.Drawing.{opening, title_text, start, drawing};
 ghost use Rattle.sat_draw.specs.Laws.{EachIsDrawnOnce, WaysAreTold};
+ghost use Rattle.sat_draw.specs.Moved.{smalls, SmallsAreTold};
 ghost use Rattle.sat_draw.specs.Seats.{IsOfRun, PathsAreAtSeats};
 
 use crate::columns::{answers_x, rows_top};
@@ -14,6 +15,7 @@ use crate::geometry::{NAMES, RIGHT, ROW};
 use crate::head::{caption, head};
 use crate::legend::legend;
 use crate::lost::crosses;
+use crate::moved::{Moved, smalls};
 use crate::rests::rests;
 use crate::rows::append_row;
 use crate::spell::append_elements;
@@ -130,21 +132,41 @@ fn append_rows(
     Ok(())
 }
 
-/// The drawing of a history as an SVG. The entries stand in their order, the oldest first, and are at most 2^32; those
-/// that a settle made are drawn like all others, and may be left out.
+fn append_moved(
+    alloc: Global,
+    d: &Deployment,
+    moved: &[Moved],
+    out: &mut Vec<u8>,
+) -> Result<(), AllocError>
+    ensures { OnOk result (out.new.items ≡ out.old.items ++ spelled (smalls d.now moved.now)) }
+{
+    let all = smalls(alloc, d, moved)?;
+    append_elements(all.as_slice(), out)
+}
+
+/// The drawing of a history as an SVG: a row for each of these entries, which stand in their order, the oldest first,
+/// and are at most 2^32; and, thin in the rows of their settles, what entries moved that a settle made, of each settle
+/// the first forty.
 #[tactic(auto, unfolding(crate::specs::Drawing::drawing, crate::specs::Drawing::elements))]
-pub fn draw(alloc: Global, d: &Deployment, entries: &[Entry]) -> Result<Vec<u8>, AllocError>
+pub fn draw(
+    alloc: Global,
+    d: &Deployment,
+    entries: &[Entry],
+    moved: &[Moved],
+) -> Result<Vec<u8>, AllocError>
     requires { length entries.now ≤ 4294967296 }
-    ensures text { IfOk result (λ text. text.items ≡ drawing d.now (reverse entries.now)) }
+    ensures text { IfOk result (λ text. text.items ≡ drawing d.now (reverse entries.now) moved.now) }
     ensures once { IfOk result (λ _. EachIsDrawnOnce d.now (reverse entries.now)) }
     ensures told { IfOk result (λ _. WaysAreTold d.now (reverse entries.now)) }
     ensures seats { IfOk result (λ _. IsOfRun d.now (reverse entries.now)
         → PathsAreAtSeats d.now (reverse entries.now)) }
+    ensures small { IfOk result (λ _. SmallsAreTold d.now moved.now) }
 {
     let top = rows_top(d);
     let count = entries.len() as u64;
     let mut text = start(alloc, d, top, count)?;
     text.extend_from_slice(legend().as_bytes())?;
+    append_moved(alloc, d, moved, &mut text)?;
     append_head(alloc, d, top, count, &mut text)?;
     append_rows(alloc, d, top, entries, &mut text)?;
     text.extend_from_slice(b"</svg>\n")?;

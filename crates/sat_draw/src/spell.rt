@@ -1,6 +1,7 @@
 //! How elements are spelled.
 ghost use Rattle.std.specs.Prelude.{◌≡◌, ◌++◌, OnOk, OnErr, IfOk, codes};
 ghost use Rattle.sat_draw.specs.Elements.{ink_word, escape, escaped, line_text, group_text, way_word, lost_class};
+ghost use Rattle.sat_draw.specs.Elements.{small_class};
 ghost use Rattle.sat_draw.specs.Elements.{label_title, number_title, way_title};
 ghost use Rattle.sat_draw.specs.Elements.{way_class, way_start, way_ends, way_text, under_pointer, are_thick};
 ghost use Rattle.sat_draw.specs.Elements.{glow_text, dot_start, dot_text, room};
@@ -315,6 +316,19 @@ fn lost_class(rank: u16) -> &'static str
     }
 }
 
+// The class of what a settle moved.
+#[tactic(auto, unfolding(crate::specs::Elements::small_class))]
+fn small_class(ink: Ink) -> &'static str
+    ensures { result.now ≡ small_class ink }
+{
+    match ink {
+        Ink::Payload => "payload small",
+        Ink::Move => "label move small",
+        Ink::Close => "label close small",
+        _ => "label small",
+    }
+}
+
 #[tactic(auto, unfolding(crate::specs::Elements::spell))]
 fn append_element(element: &Element, out: &mut Vec<u8>) -> Result<(), AllocError>
     ensures ok { OnOk result (out.new.items ≡ out.old.items ++ spell element.now) }
@@ -344,6 +358,12 @@ fn append_element(element: &Element, out: &mut Vec<u8>) -> Result<(), AllocError
             from,
             to,
         } => { append_way(ink_word(*ink), way_word(*ink), *trail, *from, *to, out) }
+        Element::Small {
+            ink,
+            trail,
+            from,
+            to,
+        } => { append_way(small_class(*ink), way_word(*ink), *trail, *from, *to, out) }
         Element::Glow { trail } => append_glow(*trail, out),
         Element::Dot { ink, at, text } => append_dot(ink_word(*ink), *at, text.bytes(), out),
         Element::Word { ink, at, text } => append_word(

@@ -104,7 +104,7 @@ fn kind_number(kind: Kind) -> u16
     }
 }
 
-fn label_at(stop: u16, at: u16, label: Label) -> Trail
+pub(crate) fn label_at(stop: u16, at: u16, label: Label) -> Trail
     ensures { result ≡ label_at stop at label }
 {
     Trail {
@@ -339,7 +339,7 @@ pub(crate) fn born(answer: &Answer) -> Option<Trail>
 }
 
 // How a label is drawn on a link.
-fn kind_ink(kind: Kind) -> Ink
+pub(crate) fn kind_ink(kind: Kind) -> Ink
     ensures { result ≡ kind_ink kind }
 {
     match kind {

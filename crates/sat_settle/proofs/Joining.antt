@@ -9,9 +9,9 @@ use Rattle.sat_act.specs.declared.deployment.Plan.{Plan}
 use Rattle.sat_act.specs.declared.deployment.Plan.TheVariants as plan
 use Rattle.sat_act.specs.Deployed.{Deployed}
 use Rattle.sat_act.specs.Parts.{tree_of, planned_tree}
-use Rattle.sat_act.specs.Settling.{joined, hops, turns, hops_of}
+use Rattle.sat_act.specs.Settling.{joined, bulks, hops, turns, hops_of, round_acts}
 use Rattle.sat_act.proofs.Plans.{tree_from_plans}
-use Rattle.sat_settle.specs.RoundActs.{hops_by, later_acts, turns_to}
+use Rattle.sat_settle.specs.RoundActs.{bulk_acts, hops_by, later_acts, turns_to}
 use Rattle.sat_settle.proofs.Loops.{below-more}
 
 nothing : {X : Type 0} (xs : List X) → xs ≡ xs ++ []
@@ -45,3 +45,17 @@ plan-hops d plans n p same at =
 pub later-acts : (d : Deployed) (n : ℕ) (xs ys zs : List Act) → n ≡ d.sites → xs ≡ [] → ys ≡ xs ++ hops d → zs ≡ ys ++ turns_to n → zs ≡ later_acts d
 later-acts d n xs ys zs e f p q =
     q ∙ (ap (λ (m : ℕ). ys ++ turns_to m) e ∙ ap (λ (v : List Act). v ++ turns d) (p ∙ ap (λ (v : List Act). v ++ hops d) f))
+
+bulks-made : (d : Deployed) → bulk_acts d.gears d.sites ≡ bulks d
+bulks-made d = refl
+
+round-made : (d : Deployed) → (bulks d ++ hops d) ++ turns d ≡ round_acts d
+unfolding round_acts
+round-made d = append_assoc (bulks d) (hops d) (turns d)
+
+-- the acts of a round, part by part
+pub round-parts : (d : Deployed) (n m : ℕ) (ws xs ys zs : List Act) → n ≡ d.sites → m ≡ d.gears → ws ≡ [] → xs ≡ ws ++ bulk_acts m n → ys ≡ xs ++ hops d → zs ≡ ys ++ turns_to n → zs ≡ round_acts d
+round-parts d n m ws xs ys zs e g f p q r =
+    r ∙ (ap (λ (k : ℕ). ys ++ turns_to k) e ∙ (ap (λ (v : List Act). v ++ turns d)
+    (q ∙ ap (λ (v : List Act). v ++ hops d) (p ∙ (ap (λ (v : List Act). v ++ bulk_acts m n) f
+    ∙ (ap (λ (k : ℕ). bulk_acts m k) e ∙ (ap (λ (k : ℕ). bulk_acts k d.sites) g ∙ bulks-made d))))) ∙ round-made d))

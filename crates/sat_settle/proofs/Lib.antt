@@ -18,3 +18,4 @@ pub mod Bulking
 pub mod Turning
 pub mod Joining
 pub mod Settled
+pub mod KeptOn

@@ -24,7 +24,7 @@ use Rattle.sat_settle.proofs.Going.{reaches-on}
 use Rattle.sat_settle.proofs.Opened.{opening-extends}
 use Rattle.sat_settle.proofs.Ranges.{within}
 
-settle-is : (d : Deployed) (h : List Entry) → rounds_from d (opening d h) ≡ settle d h
+pub settle-is : (d : Deployed) (h : List Entry) → rounds_from d (opening d h) ≡ settle d h
 unfolding settle
 settle-is d h = refl
 

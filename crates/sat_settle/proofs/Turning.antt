@@ -72,6 +72,21 @@ pub record Rounds (v : WorldSeen) (n done : ℕ) (w : WorldSeen) : Type 0 where
   pub deployment : w.deployment ≡ v.deployment
   pub each : (h : List Entry) → IsRun v.deployment h → StandsFor v h → Turns v.deployment h n done w
 
+-- before the first one
+pub turns-none : (d : Deployed) (h : List Entry) (v : WorldSeen) → IsRun d h → StandsFor v h → (x : Turns d h 0 0 v) × (x.now ≡ h)
+turns-none d h v run st = (
+  record {
+    now = h;
+    reaches = record { stands = st; run = run; from = extends-self h; count = capped-none (length h) (length h) refl };
+    fuel = left d h;
+    all = omega arith;
+    enough = omega arith;
+    rest = ap (λ (n : ℕ). (n, (rounds d (left d h) h).1)) (let e : (rounds d (left d h) h).0 ≡ 0 + (rounds d (left d h) h).0 = omega arith in e);
+    bulked = λ l. absurd (omega arith);
+  },
+  refl,
+)
+
 pub rounds-none : (v : WorldSeen) → Rounds v 0 0 v
 rounds-none v = record {
   deployment = refl;
@@ -97,7 +112,7 @@ pub rest-of-round : (n : ℕ) → 1 ≤ n → IsRound later_round n
 rest-of-round n l d h w = later-is-round d h (w l)
 
 -- what a round made in the world's deployment, in the first one
-told : (F : Deployed → List Entry → List Entry) (v w u : WorldSeen) (m : ℕ) (h : List Entry) → F v.deployment h ≡ round v.deployment h → w.deployment ≡ v.deployment → Makes w (F w.deployment) m u → IsRun v.deployment h → StandsFor w h →
+pub told : (F : Deployed → List Entry → List Entry) (v w u : WorldSeen) (m : ℕ) (h : List Entry) → F v.deployment h ≡ round v.deployment h → w.deployment ≡ v.deployment → Makes w (F w.deployment) m u → IsRun v.deployment h → StandsFor w h →
     Reaches v.deployment h (round v.deployment h) m u
 told F v w u m h is same p run st =
     subst (λ (k : List Entry). Reaches v.deployment h k m u) is (subst (λ (d : Deployed). Reaches d h (F d h) m u) same (p h (subst (λ (d : Deployed). IsRun d h) (sym same) run) st))
@@ -114,24 +129,30 @@ fuel-more a b c e (suc g) p q r = (g, refl, omega arith)
 sum-more : (a n f g : ℕ) → a ≡ n + f → f ≡ suc g → a ≡ (n + 1) + g
 sum-more a n f g e k = omega arith
 
-turn-more : (d : Deployed) (h : List Entry) (n done m k : ℕ) (w u : WorldSeen) → IsWithin d → (t : Turns d h n done w) → Reaches d t.now (round d t.now) m u → (m ≡ 0 → ⊥) → k ≡ min (done + m) (2 ^ 64 - 1) → Turns d h (n + 1) k u
-turn-more d h n done m k w u within t q some e =
+-- with the history to which the round led
+pub turn-next : (d : Deployed) (h : List Entry) (n done m k : ℕ) (w u : WorldSeen) → IsWithin d → (t : Turns d h n done w) → Reaches d t.now (round d t.now) m u → (m ≡ 0 → ⊥) → k ≡ min (done + m) (2 ^ 64 - 1) → (x : Turns d h (n + 1) k u) × (x.now ≡ round d t.now)
+turn-next d h n done m k w u within t q some e =
     let p : Progress d t.now (round d t.now) = round-progress d t.now within t.reaches.run in
     let l : length t.now < length (round d t.now) = counts-some (length (round d t.now)) (length t.now) m q.count some in
-    let f : (g : ℕ) × (t.fuel ≡ suc g) × (left d (round d t.now) ≤ g) = fuel-more (length (round d t.now)) (length t.now) (left d (round d t.now)) (left d t.now) t.fuel p.less l t.enough in
-    record {
-      now = round d t.now;
-      reaches = reaches-on d h t.now (round d t.now) done m k w u t.reaches q e;
-      fuel = f.0;
-      all = sum-more (left d h) n t.fuel f.0 t.all f.1;
-      enough = f.2;
-      rest = t.rest ∙ (ap (λ (x : ℕ). (n + (rounds d x t.now).0, (rounds d x t.now).1)) f.1 ∙ (ap (λ (x : ℕ × List Entry). (n + x.0, x.1)) (rounds-more d f.0 t.now l)
-          ∙ ap (λ (x : ℕ). (x, (rounds d f.0 (round d t.now)).1)) (regroup n (rounds d f.0 (round d t.now)).0)));
-      bulked = λ l. round-refused d t.now within t.reaches.run;
-    }
+    let f : (g : ℕ) × (t.fuel ≡ suc g) × (left d (round d t.now) ≤ g) = fuel-more (length (round d t.now)) (length t.now) (left d (round d t.now)) (left d t.now) t.fuel p.less l t.enough in (
+      record {
+        now = round d t.now;
+        reaches = reaches-on d h t.now (round d t.now) done m k w u t.reaches q e;
+        fuel = f.0;
+        all = sum-more (left d h) n t.fuel f.0 t.all f.1;
+        enough = f.2;
+        rest = t.rest ∙ (ap (λ (x : ℕ). (n + (rounds d x t.now).0, (rounds d x t.now).1)) f.1 ∙ (ap (λ (x : ℕ × List Entry). (n + x.0, x.1)) (rounds-more d f.0 t.now l)
+            ∙ ap (λ (x : ℕ). (x, (rounds d f.0 (round d t.now)).1)) (regroup n (rounds d f.0 (round d t.now)).0)));
+        bulked = λ l. round-refused d t.now within t.reaches.run;
+      },
+      refl,
+    )
   where
     regroup : (n x : ℕ) → n + (x + 1) ≡ (n + 1) + x
     regroup n x = omega arith
+
+turn-more : (d : Deployed) (h : List Entry) (n done m k : ℕ) (w u : WorldSeen) → IsWithin d → (t : Turns d h n done w) → Reaches d t.now (round d t.now) m u → (m ≡ 0 → ⊥) → k ≡ min (done + m) (2 ^ 64 - 1) → Turns d h (n + 1) k u
+turn-more d h n done m k w u within t q some e = (turn-next d h n done m k w u within t q some e).0
 
 pub rounds-next : (F : Deployed → List Entry → List Entry) (v w u : WorldSeen) (n done m k : ℕ) → IsRound F n → IsWithin v.deployment → Rounds v n done w → u.deployment ≡ w.deployment → Makes w (F w.deployment) m u → (m ≡ 0 → ⊥) → k ≡ min (done + m) (2 ^ 64 - 1) → Rounds v (n + 1) k u
 rounds-next F v w u n done m k is within r same p some e = record {
@@ -143,6 +164,14 @@ rounds-next F v w u n done m k is within r same p some e = record {
 
 capped-small : (n : ℕ) → n < 2 ^ 64 → n ≡ min n (2 ^ 64 - 1)
 capped-small n l = omega arith
+
+-- behind a quiet round nothing comes
+pub turn-last : (d : Deployed) (h : List Entry) (n done m : ℕ) (w u : WorldSeen) → (t : Turns d h n done w) → Reaches d t.now (round d t.now) m u → m ≡ 0 → ((rounds_from d h).1 ≡ t.now) × (round d t.now ≡ t.now)
+turn-last d h n done m w u t q none =
+    let l : length (round d t.now) ≡ length t.now = counts-none (length (round d t.now)) (length t.now) m q.count none (longer t.now (round d t.now) q.from) in
+    let s : round d t.now ≡ t.now = same-length t.now (round d t.now) q.from (let x : length (round d t.now) ≤ length t.now = omega arith in x) in
+    let f : rounds d (left d h) h ≡ (n + 0, t.now) = t.rest ∙ ap (λ (x : ℕ × List Entry). (n + x.0, x.1)) (rounds-quiet d t.fuel t.now l) in
+    (ap (λ (x : ℕ × List Entry). x.1) f, s)
 
 turn-end : (d : Deployed) (h : List Entry) (n done m : ℕ) (w u : WorldSeen) → (t : Turns d h n done w) → Reaches d t.now (round d t.now) m u → m ≡ 0 → n < 2 ^ 64 → EndsRounds d h n done u
 turn-end d h n done m w u t q none few =

@@ -11,7 +11,7 @@ use Rattle.sat_rest.specs.Ends.{UntilRefused, ends, goes_on}
 use Rattle.sat_world.specs.Seen.{WorldSeen}
 use Rattle.sat_world.specs.Stands.{StandsFor}
 use Rattle.sat_settle.specs.Going.{Extends, Reaches, Makes, MakesUntil, StopsUntil}
-use Rattle.sat_settle.proofs.Extending.{extends-one, extends-trans, until-extends}
+use Rattle.sat_settle.proofs.Extending.{extends-self, extends-one, extends-trans, until-extends}
 use Rattle.sat_settle.proofs.Going.{none-done, some-done, tried-done}
 
 -- n times done on the way from h to k
@@ -28,21 +28,30 @@ pub record Repeats (v : WorldSeen) (a : Act) (n : ℕ) (w : WorldSeen) : Type 0 
   pub deployment : w.deployment ≡ v.deployment
   pub each : (h k : List Entry) → IsRun v.deployment h → StandsFor v h → UntilRefused v.deployment a h k → IsOnWay v.deployment a h k n w
 
-goes-past : (d : Deployed) (a : Act) (h k : List Entry) → UntilRefused d a h k → is_done (answer d h a) ≡ true → UntilRefused d a (inner_entry d h a ∷ h) k
+pub goes-past : (d : Deployed) (a : Act) (h k : List Entry) → UntilRefused d a h k → is_done (answer d h a) ≡ true → UntilRefused d a (inner_entry d h a ∷ h) k
 goes-past d a h k (ends f) e = absurd (let g : false ≡ true = sym f ∙ e in cc)
 goes-past d a h k (goes_on f u) e = u
 
-stays-there : (d : Deployed) (a : Act) (h k : List Entry) → UntilRefused d a h k → is_done (answer d h a) ≡ false → k ≡ h
+pub stays-there : (d : Deployed) (a : Act) (h k : List Entry) → UntilRefused d a h k → is_done (answer d h a) ≡ false → k ≡ h
 stays-there d a h k (ends f) e = refl
 stays-there d a h k (goes_on f u) e = absurd (let g : true ≡ false = sym f ∙ e in cc)
 
 -- what the loop's act was in the world's deployment, in the first one
-told : (v w u : WorldSeen) (a : Act) (m : ℕ) (h : List Entry) → w.deployment ≡ v.deployment → Makes w (tried w.deployment a) m u → IsRun v.deployment h → StandsFor w h → Reaches v.deployment h (tried v.deployment a h) m u
+pub told : (v w u : WorldSeen) (a : Act) (m : ℕ) (h : List Entry) → w.deployment ≡ v.deployment → Makes w (tried w.deployment a) m u → IsRun v.deployment h → StandsFor w h → Reaches v.deployment h (tried v.deployment a h) m u
 told v w u a m h same p run st =
     subst (λ (d : Deployed). Reaches d h (tried d a h) m u) same (p h (subst (λ (d : Deployed). IsRun d h) (sym same) run) st)
 
-one-longer : (a b c n : ℕ) → a ≡ suc b → b ≡ c + n → a ≡ c + (n + 1)
+pub one-longer : (a b c n : ℕ) → a ≡ suc b → b ≡ c + n → a ≡ c + (n + 1)
 one-longer a b c n e f = omega arith
+
+pub none-yet : (n : ℕ) → n ≡ n + 0
+none-yet n = omega arith
+
+pub repeats-none : (v : WorldSeen) (a : Act) → Repeats v a 0 v
+repeats-none v a = record {
+  deployment = refl;
+  each = λ h k run st until. record { now = h; stands = st; run = run; from = extends-self h; count = none-yet (length h); rest = until };
+}
 
 pub repeats-more : (v w u : WorldSeen) (a : Act) (n m : ℕ) → Repeats v a n w → u.deployment ≡ w.deployment → Makes w (tried w.deployment a) m u → (m ≡ 0 → ⊥) → Repeats v a (n + 1) u
 repeats-more v w u a n m r same p some = record {
@@ -65,7 +74,7 @@ repeats-more v w u a n m r same p some = record {
 counted : (a b n : ℕ) → a ≡ b + n → n < 2 ^ 64 → n ≡ min (a - b) (2 ^ 64 - 1)
 counted a b n e l = omega arith
 
-refused-is : (d : Deployed) (a : Act) (h : List Entry) → is_done (answer d h a) ≡ false → tried d a h ≡ h
+pub refused-is : (d : Deployed) (a : Act) (h : List Entry) → is_done (answer d h a) ≡ false → tried d a h ≡ h
 unfolding tried
 refused-is d a h e = ap (λ (b : Bool). elim b as (λ _. List Entry) [ true ↦ inner_entry d h a ∷ h | false ↦ h ]) e
 

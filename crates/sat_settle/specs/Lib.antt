@@ -8,3 +8,4 @@ pub mod Openings
 pub mod RoundActs
 pub mod Rounds
 pub mod Bounds
+pub mod Kept

@@ -14,6 +14,16 @@ use Rattle.sat_act.specs.Settling.{joined, hops, turns}
 abbrev pub bulk_to : ℕ → ℕ → ℕ → List Act
 bulk_to i g j = if i == j then [] else act.Bulk i g j None ∷ []
 
+-- those of a gear of a site, of all its gears, and of all sites
+abbrev pub bulk_acts_by : ℕ → ℕ → ℕ → List Act
+bulk_acts_by i sites g = joined (bulk_to i g) (below sites)
+
+abbrev pub bulk_acts_from : ℕ → ℕ → ℕ → List Act
+bulk_acts_from gears sites i = joined (bulk_acts_by i sites) (below gears)
+
+abbrev pub bulk_acts : ℕ → ℕ → List Act
+bulk_acts gears sites = joined (bulk_acts_from gears sites) (below sites)
+
 -- a hop from each neighbour of serializer z
 abbrev pub hops_to : ℕ → TreeShape → ℕ → List Act
 hops_to epoch tree z = map (λ u. act.Hop epoch u z) (neighbours tree z)

@@ -1,7 +1,8 @@
 //! The acts of a round behind its bulks, in order.
 ghost use Rattle.std.specs.Prelude.{◌≡◌, ◌<◌, ◌+◌, ◌++◌, ℕ, length, OnOk, IfOk};
 ghost use Rattle.sat_act.specs.Limits.{IsDeployment};
-ghost use Rattle.sat_act.specs.Settling.{hops};
+ghost use Rattle.sat_act.specs.Settling.{hops, round_acts};
+ghost use Rattle.sat_settle.specs.RoundActs.{bulk_to, bulk_acts_by, bulk_acts_from, bulk_acts};
 ghost use Rattle.sat_settle.specs.RoundActs.{hops_to, hops_in, hops_by, later_acts, turns_to};
 
 use sat_act::{Act, Acts, Deployment, Plan};
@@ -66,6 +67,66 @@ fn add_turns(acts: &mut Acts, sites: u16) -> Result<(), AllocError>
         acts.push(Act::Advance { site })?;
     }
     Ok(())
+}
+
+// The bulk of the next payload of a lane, none of a site's to itself.
+fn add_bulk(acts: &mut Acts, from: u16, gear: u16, to: u16) -> Result<(), AllocError>
+    ensures { OnOk result (acts.new ≡ acts.old ++ bulk_to from gear to) }
+{
+    if from == to {
+        return Ok(());
+    }
+    acts.push(Act::Bulk {
+        from,
+        gear,
+        to,
+        number: None,
+    })?;
+    Ok(())
+}
+
+// Those of a gear's lanes.
+fn add_bulks_by(acts: &mut Acts, from: u16, gear: u16, sites: u16) -> Result<(), AllocError>
+    ensures { OnOk result (acts.new ≡ acts.old ++ bulk_acts_by from sites gear) }
+{
+    for to in 0..sites {
+        add_bulk(acts, from, gear, to)?;
+    }
+    Ok(())
+}
+
+// Those of a site's gears.
+fn add_bulks_from(acts: &mut Acts, from: u16, gears: u16, sites: u16) -> Result<(), AllocError>
+    ensures { OnOk result (acts.new ≡ acts.old ++ bulk_acts_from gears sites from) }
+{
+    for gear in 0..gears {
+        add_bulks_by(acts, from, gear, sites)?;
+    }
+    Ok(())
+}
+
+// Those of all sites.
+fn add_bulks(acts: &mut Acts, gears: u16, sites: u16) -> Result<(), AllocError>
+    ensures { OnOk result (acts.new ≡ acts.old ++ bulk_acts gears sites) }
+{
+    for from in 0..sites {
+        add_bulks_from(acts, from, gears, sites)?;
+    }
+    Ok(())
+}
+
+/// The acts of a round of a deployment, in order.
+pub fn list_round(alloc: Global, d: &Deployment) -> Result<Acts, AllocError>
+    ensures acts { IfOk result (λ acts. acts ≡ round_acts d.now) }
+    ensures limits { IsDeployment d.now }
+{
+    let sites = d.sites();
+    let gears = d.gears();
+    let mut acts = Acts::new(alloc);
+    add_bulks(&mut acts, gears, sites)?;
+    add_hops(&mut acts, d)?;
+    add_turns(&mut acts, sites)?;
+    Ok(acts)
 }
 
 /// The acts of a round of a deployment behind its bulks, in order.

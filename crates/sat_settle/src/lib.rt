@@ -4,6 +4,7 @@
 
 mod acts;
 mod bulks;
+mod keeping;
 mod load_acts;
 mod load_draft;
 mod load_draws;
@@ -15,6 +16,7 @@ mod opening;
 mod settling;
 mod trying;
 
+pub use keeping::{MOST_KEPT, settle_keeping};
 pub use load_acts::LoadActs;
 pub use load_draft::Draft;
 pub use load_header::deployment;

@@ -77,6 +77,18 @@ const LOST_LINES: &str =
 <circle class='refused' cx='382' cy='326' r='4'>
 ";
 
+const MOVED: &str =
+    "saturn 1\nsites 2\ngears 1\nitem x 0,1\nclient a 0\nplan tree - / 0 0\nbegin\nwrite a x v\nsettle\nend\n";
+
+// The settle's row is at 260. Its first move is a bulk, the second one a hop, from 10 pixels above on.
+const MOVED_LINES: &str =
+    "<svg xmlns='http://www.w3.org/2000/svg' viewBox='0 0 844 332' width='844' height='332' role='img' aria-labelledby='t'>
+<line class='payload small w1-0-0-0' x1='262' y1='250' x2='502' y2='252'><title>payload of 1.0.0</title></line>
+<line class='label small w1-0-0-0' x1='262' y1='252' x2='382' y2='254'><title>update 1.0.0</title></line>
+<line class='label small w1-0-0-0' x1='382' y1='252' x2='502' y2='254'><title>update 1.0.0</title></line>
+<line class='rule' x1='204' y1='260' x2='502' y2='260'/>
+";
+
 // The status and the drawing of a script.
 fn drawn(alloc: Global, script: &str) -> Result<(u8, CleanSink), Fail> {
     let mut words = Vec::new(alloc);
@@ -113,6 +125,7 @@ fn drawings_have_their_lines(rt: HostRuntime) -> Result<(), Fail> {
         (PLAIN, PLAIN_LINES, 7usize, 1usize, 0usize),
         (ASIDE, ASIDE_LINES, 8usize, 3usize, 0usize),
         (LOST, LOST_LINES, 4usize, 1usize, 1usize),
+        (MOVED, MOVED_LINES, 2usize, 0usize, 0usize),
     ] {
         let (status, sink) = drawn(rt.alloc(), script)?;
         assert_eq!(rt; status, 0);

@@ -76,6 +76,7 @@ draw-done left text old new o took =
       once = good.once;
       told = good.told;
       seats = good.seats;
+      moved = good.moved;
       good = good.good;
     }
 

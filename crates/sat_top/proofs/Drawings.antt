@@ -18,16 +18,17 @@ use Rattle.sat_draw.proofs.Marks.{each_once}
 use Rattle.sat_draw.proofs.Arrowed.{ways_told}
 use Rattle.sat_draw.specs.Seats.{IsWithout, IsOfRun}
 use Rattle.sat_draw.proofs.Seated.{paths_at_seats}
+use Rattle.sat_draw.proofs.Hauled.{smalls_told}
 use Rattle.sat_top.specs.declared.words.Command.TheVariants.{Draw}
 use Rattle.sat_runs.specs.Runs.{history}
-use Rattle.sat_top.specs.Drawing.{outer, draw_text, told_history, EveryDrawingIsGood, IsGoodDrawing}
+use Rattle.sat_top.specs.Drawing.{outer, draw_text, told_history, told_moves, EveryDrawingIsGood, IsGoodDrawing}
 use Rattle.sat_follow.specs.Following.{IsTextOf}
 use Rattle.sat_pieces.specs.Streaming.{run_status}
 use Rattle.sat_top.specs.Whole.{IsOutput}
 use Rattle.sat_runs.proofs.Good.{TheLaws, all_front, runs, good_run}
 use Rattle.sat_pieces.proofs.Ran.{zero_fault}
 
-drawing_is : (r : Reading) (d : Deployed) → r.deployment ≡ Some d → r.fault ≡ None → draw_text r ≡ drawing d (told_history d r.acts)
+drawing_is : (r : Reading) (d : Deployed) → r.deployment ≡ Some d → r.fault ≡ None → draw_text r ≡ drawing d (told_history d r.acts) (told_moves d r.acts)
 drawing_is r d at none = rw (at, none) refl
 
 -- ---- what is drawn of a run: all but what its settles did, none of which is a client's
@@ -62,6 +63,7 @@ good_drawing text d laws none at spells = record {
   once = each_once d (told_history d (reading false text).acts);
   told = ways_told d (told_history d (reading false text).acts);
   seats = paths_at_seats d (told_history d (reading false text).acts) (told-of-run d (reading false text).acts spells.each);
+  moved = smalls_told d (told_moves d (reading false text).acts);
   good = good_run d (reading false text).acts laws spells.deployment spells.each;
 }
 

@@ -10,7 +10,10 @@ use Rattle.sat_follow.specs.declared.pieces.Halt.{Halt}
 use Rattle.sat_follow.specs.declared.pieces.Halt.TheVariants as halt
 use Rattle.sat_rest.specs.Ends.{wrote_count}
 use Rattle.sat_world.specs.Seen.{WorldSeen}
-use Rattle.sat_top.specs.Drawing.{told_history}
+use Rattle.sat_act.specs.Settling.{with_inner}
+use Rattle.sat_settle.specs.Kept.{Keeps}
+use Rattle.sat_draw.specs.declared.moved.Moved.{Moved}
+use Rattle.sat_top.specs.Drawing.{told_history, told_moves}
 use Rattle.sat_runs.specs.Running.{Does, IsRunning}
 use Rattle.sat_runs.specs.Runs.{history}
 
@@ -41,7 +44,13 @@ pub record IsCounting (d : Deployed) (w : WorldSeen) (written : ℕ) (acts : Lis
 
 -- ---- drawn
 
--- these acts were done, and these are their entries, the oldest first
-pub record IsEntering (d : Deployed) (w : WorldSeen) (entries : List Entry) (acts : List Act) : Type 0 where
+-- of the entries that an act's settle made these were kept
+abbrev pub KeepsIn : WorldSeen → Act → List Entry → List Entry → Type 0
+KeepsIn v a old new = Keeps v (λ h. with_inner v.deployment h a) old new
+
+-- these acts were done, these are their entries, the oldest first, and this their settles moved
+pub record IsEntering (d : Deployed) (w : WorldSeen) (entries : List Entry) (moved : List Moved)
+    (acts : List Act) : Type 0 where
   pub running : IsRunning d w acts
   pub entries_are : reverse entries ≡ told_history d acts
+  pub moved_are : moved ≡ told_moves d acts

@@ -30,8 +30,9 @@ use Rattle.sat_place.specs.Texts.{least_text, place_text, shape_fault_text}
 use Rattle.sat_draw.specs.Drawing.{drawing}
 use Rattle.sat_draw.specs.Laws.{EachIsDrawnOnce, WaysAreTold}
 use Rattle.sat_draw.specs.Seats.{PathsAreAtSeats}
+use Rattle.sat_draw.specs.Moved.{SmallsAreTold}
 use Rattle.sat_report.specs.Faults.{fault_line}
-use Rattle.sat_top.specs.Drawing.{draw_text, told_history, IsGoodDrawing}
+use Rattle.sat_top.specs.Drawing.{draw_text, told_history, told_moves, IsGoodDrawing}
 use Rattle.sat_top.specs.Loading.{load_text, HasLoaded, IsGoodLoad}
 use Rattle.sat_top.specs.Placing.{IsBestPlacement, place_status}
 use Rattle.sat_top.specs.Auditing.{audit_status, audit_text, HasHistoryFault, HasVerdict, IsTrueVerdict}
@@ -130,18 +131,19 @@ pub record HasFault (left : Option (List ℕ)) (old new : Told) : Type 0 where
   pub good : IsGoodFront text
 
 -- The source's text spells a deployment and acts. The sink took the drawing of their run, in which each act is drawn
--- once, an act that was done as done, each line of a label, a payload or a beat begins where it was left last, and each
--- line of a client is at its seat.
+-- once, an act that was done as done, each line of a label, a payload or a beat begins where it was left last, each
+-- line of a client is at its seat, and each thin line stands for what a settle moved.
 pub record HasDrawn (left : Option (List ℕ)) (old new : Told) : Type 0 where
   pub text : List ℕ
   pub whole : IsTextOf left text
   pub deployment : Deployed
   pub acts : List Act
   pub spelled : Spells text deployment acts
-  pub written : Takes old new (drawing deployment (told_history deployment acts))
+  pub written : Takes old new (drawing deployment (told_history deployment acts) (told_moves deployment acts))
   pub once : EachIsDrawnOnce deployment (told_history deployment acts)
   pub told : WaysAreTold deployment (told_history deployment acts)
   pub seats : PathsAreAtSeats deployment (told_history deployment acts)
+  pub moved : SmallsAreTold deployment (told_moves deployment acts)
   pub good : IsGoodRun deployment acts
 
 -- The source's text has a first bad line. The sink took that line's fault, and nothing else.

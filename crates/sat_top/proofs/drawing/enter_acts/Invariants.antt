@@ -6,7 +6,7 @@ use Rattle.sat_top.specs.UnderWay.{IsEntering}
 abbrev pub invariant-loop-place : goal.invariant-loop-place
 invariant-loop-place l = record {
   deployment : l.world.deployment ≡ l.fn.world.deployment;
-  entering : IsEntering l.fn.world.deployment l.world l.entries.items (take l.place l.acts);
+  entering : IsEntering l.fn.world.deployment l.world l.entries.items l.moved.items (take l.place l.acts);
   size : length l.entries.items ≡ l.place;
   rest : AreActsOf l.fn.world.deployment (drop l.place l.acts);
 }
