@@ -79,3 +79,13 @@ rank i j = if nat_lt j i then j else j - 1
 -- and gear by gear
 abbrev pub lane_end : Deployed → ℕ → ℕ → ℕ → ℕ
 lane_end d i from gear = (length (site_links d i) + rank i from * d.gears) + gear
+
+-- ---- names
+
+-- the names of the gears of site i, of which there are so many
+abbrev pub site_gears : ℕ → ℕ → List NodeName
+site_gears gears i = map (named.Gear i) (below gears)
+
+-- the names of all gears: site by site, in the order of their numbers
+abbrev pub gear_names : Deployed → List NodeName
+gear_names d = flat_map (site_gears d.gears) (below d.sites)

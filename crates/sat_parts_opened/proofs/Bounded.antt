@@ -33,12 +33,13 @@ use Rattle.sat_opened.specs.Laws.{SerialHeld}
 use Rattle.sat_opened.proofs.Found.{found-named, look-up}
 use Rattle.sat_opened.proofs.Layouts.{in-less, in-mapped, site-below}
 use Rattle.sat_opened.proofs.Numbers.{less-is, not-is, same-is}
-use Rattle.sat_parts_opened.specs.Opened.{PartsOpened, gear_names, gears_of, hubs_of, pieces_at, site_gears}
+use Rattle.sat_parts_opened.specs.Opened.{PartsOpened, gears_of, hubs_of, pieces_at}
 use Rattle.sat_parts_opened.specs.Laws.{GearHeld, HubHeld}
 use Rattle.sat_parts_opened.specs.Within.{AgreeIfWithin, AgreeWithin, WithinIfAgree}
 use Rattle.sat_parts_opened.proofs.Hosted.{of-gears, of-hubs}
 use Rattle.sat_parts_opened.proofs.Named.{in-rows}
 use Rattle.sat_parts_opened.proofs.Whole.{opened-are-hosts}
+use Rattle.sat_parts.specs.Layout.{gear_names, site_gears}
 
 -- ---- parts of no piece
 

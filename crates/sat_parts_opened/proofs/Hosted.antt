@@ -25,10 +25,11 @@ use Rattle.sat_opened.specs.Opened.{entries_at}
 use Rattle.sat_opened.proofs.Found.{Found, look-up, find, found-named}
 use Rattle.sat_opened.proofs.Layouts.{in-below, in-flat, site-below, site-named}
 use Rattle.sat_opened.proofs.SerialHosts.{SerialHosts}
-use Rattle.sat_parts_opened.specs.Opened.{gear_names, gears_of, hubs_of, site_gears}
+use Rattle.sat_parts_opened.specs.Opened.{gears_of, hubs_of}
 use Rattle.sat_parts_opened.specs.Hosts.{PartsHosted}
 use Rattle.sat_parts_opened.proofs.Steps.{HubStep, GearStep, hub-steps, gear-steps}
 use Rattle.sat_parts_opened.proofs.Walked.{Past}
+use Rattle.sat_parts.specs.Layout.{gear_names, site_gears}
 
 pub gear-named : (d : Deployed) (i g : ℕ) → i < d.sites → g < d.gears → In (gear_names d) (named.Gear i g)
 gear-named d i g lt less = in-flat (site_gears d.gears) (below d.sites) i (named.Gear i g) (In-get (below d.sites) i i (below-get d.sites i lt)) (in-below (named.Gear i) d.gears g less)

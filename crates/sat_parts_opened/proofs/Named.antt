@@ -51,10 +51,11 @@ use Rattle.sat_opened.proofs.Found.{entries-of, found-named, look-up}
 use Rattle.sat_opened.proofs.Layouts.{in-mapped}
 use Rattle.sat_parts_opened.specs.Keeping.{always, gear_kept, gear_noted, gear_owner, hub_owner, is_own_line, node_of, noted_as, own_noted}
 use Rattle.sat_parts_opened.specs.Laws.{AreJournals, GearHeld, GearJournals, GearsAreKept, GearsAreParts, GearsHaveOwners, HubHeld, HubJournals, HubsAreKept, HubsAreParts, HubsHaveOwners, NodesCover, OpenedAreJournals, OwnAreHomes, SerialJournals, SerialsAreKept, part_nodes}
-use Rattle.sat_parts_opened.specs.Opened.{gear_names, piece_of, pieces_at, pieces_of, site_gears}
+use Rattle.sat_parts_opened.specs.Opened.{piece_of, pieces_at, pieces_of}
 use Rattle.sat_parts_opened.proofs.Serials.{serial-home}
 use Rattle.sat_parts_opened.proofs.Steps.{GearStep, HubStep, gear-steps, hub-steps}
 use Rattle.sat_parts_opened.proofs.Walked.{Past, gear-lined, gear-newest, hub-lined, hub-newest, lined, past-at, past-more}
+use Rattle.sat_parts.specs.Layout.{gear_names, site_gears}
 
 -- ---- names
 

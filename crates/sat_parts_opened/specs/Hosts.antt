@@ -15,7 +15,7 @@ use Rattle.sat_parts.specs.Gears.{gear_meaning}
 use Rattle.sat_opened.specs.Delivered.{DeliveredAll, DeliveredWithin}
 use Rattle.sat_opened.specs.Hosts.{IsHost}
 use Rattle.sat_opened.specs.Opened.{name_in, serial_names}
-use Rattle.sat_parts_opened.specs.Opened.{gear_names}
+use Rattle.sat_parts.specs.Layout.{gear_names}
 
 -- each hub, each gear and each serializer once, in order, and what each took from a link was put there by the other
 -- end's journal

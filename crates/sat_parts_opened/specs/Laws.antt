@@ -41,9 +41,10 @@ use Rattle.sat_machines.specs.declared.serial_act.SerialAnswer.{SerialAnswer}
 use Rattle.sat_opened.specs.Keeping.{newest, serial_kept}
 use Rattle.sat_opened.specs.Opened.{entries_at, name_in, serial_names}
 use Rattle.sat_opened.specs.Laws.{SerialHeld}
-use Rattle.sat_parts_opened.specs.Opened.{PartsOpened, gear_names, gears_of, hubs_of, others_of, pieces_at, pieces_of}
+use Rattle.sat_parts_opened.specs.Opened.{PartsOpened, gears_of, hubs_of, others_of, pieces_at, pieces_of}
 use Rattle.sat_parts_opened.specs.Hosts.{PartsHosted}
 use Rattle.sat_parts_opened.specs.Keeping.{gear_kept, gear_noted, gear_owner, hub_kept, hub_noted, hub_owner, node_of, own_noted, serial_noted}
+use Rattle.sat_parts.specs.Layout.{gear_names}
 
 -- a hub, and a gear, with its link ends
 abbrev pub HubHeld : Type 0

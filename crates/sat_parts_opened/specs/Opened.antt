@@ -23,14 +23,7 @@ use Rattle.sat_parts.specs.Gears.{gear_meaning}
 use Rattle.sat_parts.specs.Lines.{hub_lines, gear_lines}
 use Rattle.sat_opened.specs.Keeping.{serial_kept, newest}
 use Rattle.sat_opened.specs.Opened.{IsOpened, name_in, serial_names, entries_at}
-
--- the names of the gears of a site, and of all gears of a deployment: site by site, in the order of their numbers
-abbrev pub site_gears : ℕ → ℕ → List NodeName
-site_gears gears i = map (named.Gear i) (below gears)
-
--- site by site
-abbrev pub gear_names : Deployed → List NodeName
-gear_names d = flat_map (site_gears d.gears) (below d.sites)
+use Rattle.sat_parts.specs.Layout.{gear_names}
 
 -- all nodes: each hub, each gear and each serializer once, in order; each is opened; and each link between two of them
 -- carried what its sender put there: payloads from gears to hubs, beats between hubs, and labels

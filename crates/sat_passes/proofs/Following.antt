@@ -129,7 +129,7 @@ rows-most p f (suc n) =
     let e = length-append (rows f n) (f n) in
     omega arith
 
-rows-less : (p : Label → Bool) (f : ℕ → List Label) (n : ℕ) (l : Label) → In (rows f n) l → p l ≡ false → length (rows (λ g. filter p (f g)) n) < length (rows f n)
+pub rows-less : (p : Label → Bool) (f : ℕ → List Label) (n : ℕ) (l : Label) → In (rows f n) l → p l ≡ false → length (rows (λ g. filter p (f g)) n) < length (rows f n)
 unfolding rows
 rows-less p f zero l i no' = absurd i
 rows-less p f (suc n) l i no' = elim (In-parts (rows f n) (f n) l i) [
@@ -147,11 +147,11 @@ rows-less p f (suc n) l i no' = elim (In-parts (rows f n) (f n) l i) [
       omega arith)
 ]
 
-same-label : (l : Label) → not (label_eq l l) ≡ false
+pub same-label : (l : Label) → not (label_eq l l) ≡ false
 same-label l = grind (arith, nat_tests)
 
 -- an emission that is done is of the ready label
-emitted-is : (d : Deployed) (i : ℕ) (s : SiteState) → is_done (site_answer d i s given.Emit) ≡ true → (l : Label) × (ready_of d s ≡ Some l) × (site_answer d i s given.Emit ≡ ans.Emitted l)
+pub emitted-is : (d : Deployed) (i : ℕ) (s : SiteState) → is_done (site_answer d i s given.Emit) ≡ true → (l : Label) × (ready_of d s ≡ Some l) × (site_answer d i s given.Emit ≡ ans.Emitted l)
 unfolding site_answer
 emitted-is d i s done = go (ready_of d s) refl done where
   go : (o : Option Label) → ready_of d s ≡ o → is_done (elim o [ None ↦ ans.Refused why.Idle | Some l ↦ ans.Emitted l ]) ≡ true
@@ -166,7 +166,7 @@ next-less d i s l ready =
     let k = least-is (λ m. nat_le m.point.ts (stable_of d s)) (rows s.sink.pending d.gears) l ready in
     rows-less (λ m. not (label_eq l m)) s.sink.pending d.gears l k.member (same-label l)
 
-pending-is : (d : Deployed) (i : ℕ) (x : SiteSeen) (s : SiteState) → IsSite x → StandsSite d i x s → pending_count x ≡ length (rows s.sink.pending d.gears)
+pub pending-is : (d : Deployed) (i : ℕ) (x : SiteSeen) (s : SiteState) → IsSite x → StandsSite d i x s → pending_count x ≡ length (rows s.sink.pending d.gears)
 pending-is d i x s site st =
     ap (λ (ls : List Label). length ls) (all-rows s.sink.pending x.sink.pending d.gears (site.sink.rows ∙ count-is d i x s st) st.sink.pending)
 
@@ -181,7 +181,7 @@ emitted_less d i x y f =
 
 -- ---- what is left to emit, and whether a pulse is
 
-emit-by : (d : Deployed) (i : ℕ) (x : SiteSeen) (s : SiteState) → IsSite x → StandsSite d i x s → would_do x input.Emit ≡ is_done (emit_answer (ready_of d s))
+pub emit-by : (d : Deployed) (i : ℕ) (x : SiteSeen) (s : SiteState) → IsSite x → StandsSite d i x s → would_do x input.Emit ≡ is_done (emit_answer (ready_of d s))
 unfolding fits_here site_answers
 emit-by d i x s site st = ap (λ (o : Option Label). is_done (emit_answer o)) (ready-same d i x s site st)
 
@@ -191,15 +191,15 @@ pulse-done x = go (sink.may_pulse x.sink) where
   go true = refl
   go false = refl
 
-abbrev pulses : Deployed → SiteState → Bool
+abbrev pub pulses : Deployed → SiteState → Bool
 pulses d s = not (is_some (ready_of d s)) && nat_lt s.sink.pulse (stable_of d s)
 
-pulse-by : (d : Deployed) (i : ℕ) (x : SiteSeen) (s : SiteState) → IsSite x → StandsSite d i x s → would_do x input.Pulse ≡ pulses d s
+pub pulse-by : (d : Deployed) (i : ℕ) (x : SiteSeen) (s : SiteState) → IsSite x → StandsSite d i x s → would_do x input.Pulse ≡ pulses d s
 unfolding fits_here site_answers
 pulse-by d i x s site st = pulse-done x ∙ (λ n. not (is_some (ready-same d i x s site st n)) && nat_lt (st.sink.pulse n) (stable-same d i x s site st n))
 
 -- a pulse that is done is of the stable timestamp
-pulsed-is : (d : Deployed) (i : ℕ) (s : SiteState) → is_done (site_answer d i s given.Pulse) ≡ true → (l : Label) × (l.point.ts ≡ stable_of d s) × (site_answer d i s given.Pulse ≡ ans.Pulsed l)
+pub pulsed-is : (d : Deployed) (i : ℕ) (s : SiteState) → is_done (site_answer d i s given.Pulse) ≡ true → (l : Label) × (l.point.ts ≡ stable_of d s) × (site_answer d i s given.Pulse ≡ ans.Pulsed l)
 unfolding site_answer
 pulsed-is d i s done = go (is_some (ready_of d s) || nat_le (stable_of d s) s.sink.pulse) _ refl done refl where
   go : (b : Bool) (l : Label) → l.point.ts ≡ stable_of d s → is_done (refused_if b why.Idle (ans.Pulsed l)) ≡ true → site_answer d i s given.Pulse ≡ refused_if b why.Idle (ans.Pulsed l)
@@ -207,11 +207,11 @@ pulsed-is d i s done = go (is_some (ready_of d s) || nat_le (stable_of d s) s.si
   go true l e done is = absurd (cc (done))
   go false l e done is = (l, e, is)
 
-and-false : (b : Bool) → (b && false) ≡ false
+pub and-false : (b : Bool) → (b && false) ≡ false
 and-false true = refl
 and-false false = refl
 
-not-less : (n : ℕ) → nat_lt n n ≡ false
+pub not-less : (n : ℕ) → nat_lt n n ≡ false
 not-less n = grind (arith, nat_tests)
 
 next-pulses : (d : Deployed) (i : ℕ) (s : SiteState) (l : Label) → l.point.ts ≡ stable_of d s → pulses d (site_next d i s given.Pulse (ans.Pulsed l)) ≡ false
@@ -278,7 +278,7 @@ told-beat a b many e =
     let counts : a.counts ≡ b.counts = ext_get_or 0 a.counts b.counts many (λ n lt. ap (λ (m : BeatNote). m.counts n) e) in
     λ i. record { cut = cut i; closes = closes i; counts = counts i }
 
-abbrev last-note : List BeatNote → Option BeatNote
+abbrev pub last-note : List BeatNote → Option BeatNote
 last-note ns = slice_get ns (length ns - 1)
 
 last-noted : (beats : List Beat) → last-note (map note_of beats) ≡ option_map note_of (last_made beats)
@@ -286,14 +286,14 @@ last-noted beats =
     ap (λ (n : ℕ). slice_get (map note_of beats) (n - 1)) (length-map beats note_of) ∙ slice_get-map note_of beats (length beats - 1)
 
 -- the last beat that was made for a site tells what the next one would
-abbrev IsNoted : Deployed → ℕ → SiteState → ℕ → Type 0
+abbrev pub IsNoted : Deployed → ℕ → SiteState → ℕ → Type 0
 IsNoted d i s j = last-note (s.made_beats j) ≡ Some (machine_note d i s j)
 
-told-noted : (d : Deployed) (i : ℕ) (x : SiteSeen) (s : SiteState) (j : ℕ) → j < d.sites → IsSite x → StandsSite d i x s → last_made (made_for x j) ≡ Some (beat_for x j) → IsNoted d i s j
+pub told-noted : (d : Deployed) (i : ℕ) (x : SiteSeen) (s : SiteState) (j : ℕ) → j < d.sites → IsSite x → StandsSite d i x s → last_made (made_for x j) ≡ Some (beat_for x j) → IsNoted d i s j
 told-noted d i x s j less site st told =
     ap last-note (sym (st.made j less)) ∙ (last-noted (made_for x j) ∙ (ap (option_map note_of) told ∙ ap Some (note-is d i x s j less site st)))
 
-noted-told : (d : Deployed) (i : ℕ) (x : SiteSeen) (s : SiteState) (j : ℕ) → j < d.sites → IsSite x → StandsSite d i x s → IsNoted d i s j → last_made (made_for x j) ≡ Some (beat_for x j)
+pub noted-told : (d : Deployed) (i : ℕ) (x : SiteSeen) (s : SiteState) (j : ℕ) → j < d.sites → IsSite x → StandsSite d i x s → IsNoted d i s j → last_made (made_for x j) ≡ Some (beat_for x j)
 noted-told d i x s j less site st noted = go (last_made (made_for x j)) refl (sym (last-noted (made_for x j)) ∙ (ap last-note (st.made j less) ∙ (noted ∙ ap Some (sym (note-is d i x s j less site st))))) where
   go : (o : Option Beat) → last_made (made_for x j) ≡ o → option_map note_of o ≡ Some (note_of (beat_for x j)) → o ≡ Some (beat_for x j)
   go None at e = absurd (cc (e))
@@ -306,12 +306,12 @@ at-end : {X : Type 0} (xs : List X) (x : X) → slice_get (xs ++ x ∷ []) (leng
 at-end [] x = refl
 at-end (y ∷ ys) x = at-end ys x
 
-last-more : (ns : List BeatNote) (n : BeatNote) → last-note (ns ++ n ∷ []) ≡ Some n
+pub last-more : (ns : List BeatNote) (n : BeatNote) → last-note (ns ++ n ∷ []) ≡ Some n
 last-more ns n =
     let one : length (ns ++ n ∷ []) - 1 ≡ length ns = (let a = length-append ns (n ∷ []) in omega arith) in
     ap (slice_get (ns ++ n ∷ [])) one ∙ at-end ns n
 
-same-number : (n : ℕ) → (n == n) ≡ true
+pub same-number : (n : ℕ) → (n == n) ≡ true
 same-number n = grind (arith, nat_tests)
 
 noted-here : (d : Deployed) (i : ℕ) (s : SiteState) (j n : ℕ) → IsNoted d i (site_next d i s (given.Beat j) (ans.Beat n)) j
@@ -334,7 +334,7 @@ next-ready-same : (d : Deployed) (i : ℕ) (s : SiteState) (j n : ℕ) → ready
 unfolding site_next
 next-ready-same d i s j n = refl
 
-beat-is : (d : Deployed) (i : ℕ) (s : SiteState) (j : ℕ) → site_answer d i s (given.Beat j) ≡ ans.Beat (length (s.made_beats j))
+pub beat-is : (d : Deployed) (i : ℕ) (s : SiteState) (j : ℕ) → site_answer d i s (given.Beat j) ≡ ans.Beat (length (s.made_beats j))
 unfolding site_answer
 beat-is d i s j = refl
 

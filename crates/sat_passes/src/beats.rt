@@ -69,8 +69,8 @@ fn last_beat(site: &Site, to: u16) -> Result<Option<&Beat>, AllocError>
     Ok(site.made_beat(to, made.saturating_sub(1)))
 }
 
-// Whether a beat is there and is this one.
-fn is_one(last: Option<&Beat>, beat: &Beat) -> bool
+/// Whether a beat is there and is this one.
+pub fn is_one(last: Option<&Beat>, beat: &Beat) -> bool
     ensures { result ≡ is_told (option_copied last.entry) beat.now }
 {
     match last {

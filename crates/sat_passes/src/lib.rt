@@ -8,6 +8,8 @@ mod relaying;
 mod sending;
 mod sites;
 
+pub use beats::is_one;
+pub use flushing::flush_all;
 pub use receiving::receive;
 pub use relaying::relay;
 pub use sending::send;

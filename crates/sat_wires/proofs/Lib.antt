@@ -1,3 +1,3 @@
-mod Places
-mod Pairs
-mod Names
+pub mod Places
+pub mod Pairs
+pub mod Names

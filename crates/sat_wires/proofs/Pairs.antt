@@ -1,7 +1,7 @@
 -- Ends at their places, one more and one less.
 use Rattle.std.specs.Prelude.{◌≡◌, ◌<◌, ◌+◌, ℕ, zero, suc, List, [], ◌∷◌, ◌++◌, length, map, take, get_or, set, Option, Some, None, IfSome, slice_get}
 use Rattle.std.proofs.Common.{refl, sym, ap, ◌∙◌, subst, arith, length-append}
-use Rattle.std.proofs.lemmas.List.{map-append, take_more}
+use Rattle.std.proofs.lemmas.List.{append-nil, append_assoc, map-append, take_more}
 use Rattle.atomic_table.specs.Seated.{TableId}
 use Rattle.sat_link.specs.Ends.{Sender, Receiver, capacity_of}
 use Rattle.sat_node.specs.declared.kept.Envelope.{Envelope}
@@ -90,6 +90,28 @@ ins_grow all ws n w is is' i new lt are at = record {
   places = ap (map (λ (i : InSeen). i.place)) new ∙ (map-append (λ (i : InSeen). i.place) is (i ∷ []) ∙ ((λ j. are.places j ++ at.at j ∷ []) ∙ sym (way_more (place_back_in all) ws n w lt)));
   fresh = subst (λ (is : List InSeen). Each is (λ _ i. IsFreshIn i)) (sym new) (each-more (λ _ i. IsFreshIn i) is i are.fresh at.fresh);
 }
+
+-- the same of ends that are taken out at given places
+place_more : (ks : List ℕ) (n : ℕ) → n < length ks → take (n + 1) ks ≡ take n ks ++ get_or ks n 0 ∷ []
+place_more ks n lt = take_more ks n 0 lt
+
+pub outs_at_more : (ks : List ℕ) (n : ℕ) (os os' : List OutSeen) (o : OutSeen) → os' ≡ os ++ o ∷ [] → n < length ks → AreOuts (take n ks) os → OutAt (get_or ks n 0) o → AreOuts (take (n + 1) ks) os'
+outs_at_more ks n os os' o new lt are at = record {
+  places = ap (map (λ (o : OutSeen). o.place)) new ∙ (map-append (λ (o : OutSeen). o.place) os (o ∷ []) ∙ ((λ j. are.places j ++ at.at j ∷ []) ∙ sym (place_more ks n lt)));
+  fresh = subst (λ (os : List OutSeen). Each os (λ _ o. IsFreshOut o)) (sym new) (each-more (λ _ o. IsFreshOut o) os o are.fresh at.fresh);
+}
+
+pub ins_behind : (is : List InSeen) → Each is (λ _ i. IsFreshIn i) → AreIns (in_places is ++ []) is
+ins_behind is all = record { places = sym (append-nil (in_places is)); fresh = all }
+
+pub ins_at_more : (before ks : List ℕ) (n : ℕ) (is is' : List InSeen) (i : InSeen) → is' ≡ is ++ i ∷ [] → n < length ks → AreIns (before ++ take n ks) is → InAt (get_or ks n 0) i → AreIns (before ++ take (n + 1) ks) is'
+ins_at_more before ks n is is' i new lt are at =
+    let same : (before ++ take n ks) ++ get_or ks n 0 ∷ [] ≡ before ++ take (n + 1) ks =
+    append_assoc before (take n ks) (get_or ks n 0 ∷ []) ∙ ap (λ (xs : List ℕ). before ++ xs) (sym (place_more ks n lt)) in
+    record {
+      places = ap (map (λ (i : InSeen). i.place)) new ∙ (map-append (λ (i : InSeen). i.place) is (i ∷ []) ∙ ((λ j. are.places j ++ at.at j ∷ []) ∙ same));
+      fresh = subst (λ (is : List InSeen). Each is (λ _ i. IsFreshIn i)) (sym new) (each-more (λ _ i. IsFreshIn i) is i are.fresh at.fresh);
+    }
 
 -- ---- an end that is taken out
 

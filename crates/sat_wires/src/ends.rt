@@ -1,5 +1,5 @@
 //! The ends of all links at their places, from which nodes take theirs.
-ghost use Rattle.std.specs.Prelude.{◌≡◌, map, IfOk, IfSome};
+ghost use Rattle.std.specs.Prelude.{◌≡◌, ◌++◌, map, IfOk, IfSome, OnOk};
 ghost use Rattle.sat_node.specs.Links.{Each, in_places, out_places};
 ghost use Rattle.sat_wires.specs.Ways.{link_of, place_back_in, place_in};
 ghost use Rattle.sat_wires.specs.Wires.{IsFreshIn, IsFreshOut, NothingReceived, NothingSent, wire_in, wire_out};
@@ -160,5 +160,38 @@ impl<N: Names> Ends<N> {
             ins.push(end)?;
         }
         Ok(ins)
+    }
+
+    /// Takes out the sending ends at these places. Want of memory also where one of them is not there.
+    #[tactic(auto, using(crate::proofs::Pairs::outs_start))]
+    pub fn outs_at(&mut self, alloc: Global, places: &[usize]) -> Result<Vec<Out<N>>, AllocError>
+        ensures places { IfOk result (λ outs. out_places outs.items ≡ places.now) }
+        ensures fresh { IfOk result (λ outs. Each outs.items (λ _ o. IsFreshOut o)) }
+    {
+        let mut outs = Vec::new(alloc);
+        for place in places {
+            let Some(end) = self.take_out(*place) else {
+                return Err(AllocError);
+            };
+            outs.push(end)?;
+        }
+        Ok(outs)
+    }
+
+    /// Takes out the receiving ends at these places, behind those of a node that there are. Want of memory also where
+    /// one of them is not there.
+    #[tactic(auto, using(crate::proofs::Pairs::ins_behind))]
+    pub fn add_ins(&mut self, ins: &mut Vec<In<N>>, places: &[usize]) -> Result<(), AllocError>
+        requires fresh { Each ins.old.items (λ _ i. IsFreshIn i) }
+        ensures places { OnOk result (in_places ins.new.items ≡ in_places ins.old.items ++ places.now) }
+        ensures fresh { OnOk result (Each ins.new.items (λ _ i. IsFreshIn i)) }
+    {
+        for place in places {
+            let Some(end) = self.take_in(*place) else {
+                return Err(AllocError);
+            };
+            ins.push(end)?;
+        }
+        Ok(())
     }
 }

@@ -13,8 +13,8 @@ use sat_label::NodeId;
 use sat_tree::Tree;
 use std::alloc::{AllocError, Global};
 
-// The site of this number among those other than one.
-fn peer(site: u16, number: u16) -> u16
+/// The site of this number among those other than one.
+pub fn peer(site: u16, number: u16) -> u16
     requires { number + 1 < 2 ^ 16 }
     ensures { result ≡ peer site number }
 {

@@ -8,5 +8,9 @@ mod way;
 mod ways;
 mod wires;
 
-pub use made::AllNodes;
-pub use wires::Wires;
+pub use ends::Ends;
+pub use layout::{all_ways, peer, serial_ways, site_ways};
+pub use made::{AllNodes, make_serials};
+pub use way::Way;
+pub use ways::Ways;
+pub use wires::{LinkPairs, Wires, make_pairs};

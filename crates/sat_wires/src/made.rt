@@ -153,11 +153,28 @@ fn add_trees<N: Laid + Names>(
     }
 }
 
+/// All serializers of a deployment's trees, in order, at which nothing happened, with their ends of its links.
+#[tactic(auto, using(crate::proofs::Places::few_epochs))]
+pub fn make_serials<N: Laid + Names>(
+    alloc: Global,
+    d: &Deployment,
+    all: &Ways,
+    ends: &mut Ends<N>,
+) -> Result<Vec<Held<SerialNode<N>, N>>, AllocError>
+    requires deployment { N.deployment ≡ d.now }
+    requires links { all.now ≡ all_links d.now }
+    ensures names { IfOk result (λ serials. map name_in serials.items ≡ serial_names d.now) }
+    ensures fresh { IfOk result (λ serials. AllNew serials.items) }
+{
+    let mut serials = Vec::new(alloc);
+    add_trees(&mut serials, alloc, d, all, ends, 1, d.plans())?;
+    Ok(serials)
+}
+
 impl<N: Laid + Names> AllNodes<N> {
     /// Makes all nodes of N's deployment with the ends of its links: each site and each serializer once and in order,
     /// at which nothing happened. It asks that the links were made for that deployment, and that N's list of wires is
     /// theirs.
-    #[tactic(auto, using(crate::proofs::Places::few_epochs))]
     pub fn new(alloc: Global, d: &Deployment, wires: Wires) -> Result<AllNodes<N>, AllocError>
         requires deployment { N.deployment ≡ d.now }
         requires made { wires.deployment ≡ d.now }
@@ -169,8 +186,7 @@ impl<N: Laid + Names> AllNodes<N> {
         let (ways, ins, outs) = wires.apart();
         let mut ends = Ends::<N>::new(alloc, ins, outs)?;
         let sites = make_sites(alloc, d, &ways, &mut ends)?;
-        let mut serials = Vec::new(alloc);
-        add_trees(&mut serials, alloc, d, &ways, &mut ends, 1, d.plans())?;
+        let serials = make_serials(alloc, d, &ways, &mut ends)?;
         Ok(AllNodes { sites, serials })
     }
 }

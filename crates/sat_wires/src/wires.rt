@@ -34,16 +34,16 @@ impl Model for Wires {
     ghost invariant = { λ w. IsWires w.made_for.value w.ways w.ins.items w.outs.items };
 }
 
-// The two ends of each of some links.
+/// The two ends of each of some links, in one order.
 #[derive(Drop)]
-struct Pairs {
-    ins: Vec<LinkIn<Envelope>>,
-    outs: Vec<LinkOut<Envelope>>,
+pub struct LinkPairs {
+    pub ins: Vec<LinkIn<Envelope>>,
+    pub outs: Vec<LinkOut<Envelope>>,
 }
 
 // One link more.
 #[tactic(auto, using(crate::proofs::Pairs::one_more))]
-fn add_pair(pairs: &mut Pairs, alloc: Global, capacity: usize) -> Result<(), AllocError>
+fn add_pair(pairs: &mut LinkPairs, alloc: Global, capacity: usize) -> Result<(), AllocError>
     requires capacity { 0 < capacity }
     requires pairs { ArePairs capacity pairs.old.ins.items pairs.old.outs.items }
     ensures many { OnOk result (length pairs.new.ins.items ≡ length pairs.old.ins.items + 1) }
@@ -55,14 +55,14 @@ fn add_pair(pairs: &mut Pairs, alloc: Global, capacity: usize) -> Result<(), All
     Ok(())
 }
 
-// So many links.
+/// So many links, each of which holds at most `capacity` messages, and through which nothing went.
 #[tactic(auto, using(crate::proofs::Pairs::no_pairs))]
-fn make_pairs(alloc: Global, capacity: usize, count: usize) -> Result<Pairs, AllocError>
+pub fn make_pairs(alloc: Global, capacity: usize, count: usize) -> Result<LinkPairs, AllocError>
     requires { 0 < capacity }
     ensures many { IfOk result (λ pairs. length pairs.ins.items ≡ count) }
     ensures pairs { IfOk result (λ pairs. ArePairs capacity pairs.ins.items pairs.outs.items) }
 {
-    let mut pairs = Pairs {
+    let mut pairs = LinkPairs {
         ins: Vec::new(alloc),
         outs: Vec::new(alloc),
     };
@@ -82,7 +82,7 @@ impl Wires {
         ensures capacity { IfOk result (λ wires. HaveRoom capacity wires.wires) }
     {
         let ways = all_ways(alloc, d)?;
-        let Pairs { ins, outs } = make_pairs(alloc, capacity, ways.len())?;
+        let LinkPairs { ins, outs } = make_pairs(alloc, capacity, ways.len())?;
         Ok(Wires {
             made_for: Snapshot::of(d),
             ways,

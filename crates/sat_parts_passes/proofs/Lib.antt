@@ -1,0 +1,4 @@
+mod Flushing
+mod Sent
+mod Idling
+mod Drained
