@@ -212,6 +212,7 @@ fn leave<N: Laid>(
     Ok((label, payload))
 }
 
+// A gear of site 1 shows a payload that its hub gave it, and is read.
 fn show<N: Laid>(
     gear: &mut GearNode<N>,
     item: u16,
@@ -223,6 +224,80 @@ fn show<N: Laid>(
     let by = ShownBy::Turn;
     at_gear(gear, GearInput::Show { by, payload }, log)?;
     read(gear, item, log)
+}
+
+fn show_first<N: Laid>(
+    alloc: Global,
+    d: &Deployment,
+    payload: &Payload,
+    log: &mut Vec<(u8, u64)>,
+) -> Result<(), AllocError>
+    requires deployment { N.deployment ≡ d.now }
+    requires sites { d.now.sites ≡ 2 }
+    requires gears { d.now.gears ≡ 2 }
+    requires client { 0 < length d.now.clients }
+{
+    let part = payload.copy()?;
+    let mut gear = GearNode::<N>::new(alloc, d, 1, 0)?;
+    show(&mut gear, 0, part, log)
+}
+
+fn show_second<N: Laid>(
+    alloc: Global,
+    d: &Deployment,
+    payload: &Payload,
+    log: &mut Vec<(u8, u64)>,
+) -> Result<(), AllocError>
+    requires deployment { N.deployment ≡ d.now }
+    requires sites { d.now.sites ≡ 2 }
+    requires gears { d.now.gears ≡ 2 }
+    requires client { 0 < length d.now.clients }
+{
+    let part = payload.copy()?;
+    let mut gear = GearNode::<N>::new(alloc, d, 1, 1)?;
+    show(&mut gear, 1, part, log)
+}
+
+fn bring<N: Laid>(
+    hub: &mut HubNode<N>,
+    payload: Payload,
+    log: &mut Vec<(u8, u64)>,
+) -> Result<(), AllocError> {
+    let bulk = HubInput::Bulk {
+        from: 0,
+        gear: 0,
+        number: 0,
+        payload,
+    };
+    at_hub(hub, bulk, log)?;
+    Ok(())
+}
+
+fn shown(given: HubAnswer) -> Result<Payload, AllocError> {
+    let HubAnswer {
+        answer: _,
+        link: _,
+        sent: _,
+        beat: _,
+        show,
+    } = given;
+    match show {
+        Some(payload) => Ok(payload),
+        None => Err(AllocError),
+    }
+}
+
+// The hub of site 1 takes the payload, and then the label: what it gives to its gears.
+fn turn<N: Laid>(
+    hub: &mut HubNode<N>,
+    label: Label,
+    payload: Payload,
+    log: &mut Vec<(u8, u64)>,
+) -> Result<Payload, AllocError> {
+    bring(hub, payload, log)?;
+    let front = Some(label);
+    let given = at_hub(hub, HubInput::Turn { front }, log)?;
+    shown(given)
 }
 
 // What site 1 does: the payload comes, then the label, and both gears show what the hub gives them.
@@ -239,21 +314,9 @@ fn come<N: Laid>(
     requires client { 0 < length d.now.clients }
 {
     let mut hub = HubNode::<N>::new(alloc, d, 1)?;
-    let mut first = GearNode::<N>::new(alloc, d, 1, 0)?;
-    let mut second = GearNode::<N>::new(alloc, d, 1, 1)?;
-    let bulk = HubInput::Bulk {
-        from: 0,
-        gear: 0,
-        number: 0,
-        payload,
-    };
-    at_hub(&mut hub, bulk, log)?;
-    let front = Some(label);
-    let given = at_hub(&mut hub, HubInput::Turn { front }, log)?;
-    let shown = given.show.ok_or(AllocError)?;
-    let part = shown.copy()?;
-    show(&mut first, 0, part, log)?;
-    show(&mut second, 1, shown, log)
+    let part = turn(&mut hub, label, payload, log)?;
+    show_first::<N>(alloc, d, &part, log)?;
+    show_second::<N>(alloc, d, &part, log)
 }
 
 fn way<N: Laid>(alloc: Global, d: &Deployment) -> Result<Vec<(u8, u64)>, AllocError>
