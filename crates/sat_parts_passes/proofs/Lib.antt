@@ -2,3 +2,5 @@ mod Flushing
 mod Sent
 mod Idling
 mod Drained
+mod Parting
+mod Shown

@@ -5,9 +5,13 @@ mod beats;
 mod gathering;
 mod known;
 mod lanes;
+mod parts;
 mod sending;
+mod showing;
+mod taking;
 
 pub use gathering::gather;
 pub use known::sound;
 pub use lanes::send_payloads;
 pub use sending::send;
+pub use showing::{stamp, turn};
