@@ -73,7 +73,7 @@ impl Machine for Depot {
     type Answer = u64;
 
     ghost use Rattle.std.specs.Prelude.{◌≡◌, ◌+◌, ◌%◌, ◌^◌, ◌==◌, if◌then◌else◌, ℕ, true, false, None, [], ◌∷◌};
-    ghost use Rattle.sat_label.specs.declared.node.NodeName.TheVariants.{Site, Serializer};
+    ghost use Rattle.sat_label.specs.declared.node.NodeName.TheVariants.{Site, Serializer, Gear};
 
     ghost State = { ℕ };
 
@@ -85,8 +85,8 @@ impl Machine for Depot {
       puts = λ _ k i a. if k == 0 then i.put else None;
       takes = λ _ k i a. if k == 0 then i.take else None;
       stands = λ i a. true;
-      outs = λ name. elim name [ Site i ↦ if i == 0 then 0 ∷ [] else [] | Serializer e z ↦ [] ];
-      ins = λ name. elim name [ Site i ↦ if i == 0 then [] else 0 ∷ [] | Serializer e z ↦ [] ];
+      outs = λ name. elim name [ Site i ↦ if i == 0 then 0 ∷ [] else [] | Serializer e z ↦ [] | Gear i g ↦ [] ];
+      ins = λ name. elim name [ Site i ↦ if i == 0 then [] else 0 ∷ [] | Serializer e z ↦ [] | Gear i g ↦ [] ];
     } };
 
     ghost stands_for = { λ _ x s. x.count ≡ s % 2 ^ 64 };
