@@ -3,12 +3,10 @@
 
 mod handed;
 mod keeping;
-mod memory;
 mod posting;
 mod transport;
 
 pub use handed::{Handed, body_of, input_of, is_allowed};
 pub use keeping::keep;
-pub use memory::{Letter, MemoryTransport};
 pub use posting::{Spoken, post};
 pub use transport::{NoLetter, Transport};

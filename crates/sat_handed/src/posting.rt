@@ -22,7 +22,8 @@ pub enum Spoken {
     Memory,
 }
 
-/// Hands a transport the bytes of a message.
+/// Hands a transport the bytes of a message, and tells what became of it: not `Nothing`, and `Unspelled` only where the
+/// message has no spelling. What the vector holds afterwards is not said.
 pub fn post<T: Transport>(
     transport: &mut T,
     bytes: &mut Vec<u8>,

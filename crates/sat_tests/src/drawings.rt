@@ -89,6 +89,13 @@ const MOVED_LINES: &str =
 <line class='rule' x1='204' y1='260' x2='502' y2='260'/>
 ";
 
+// Twenty-one writes are as many bulks and as many hops: forty of these are drawn, and the next one is told of. The
+// settle's row is the 22nd, at 238 + 21 * 22.
+const MANY: &str =
+    "saturn 1\nsites 2\ngears 1\nitem x 0,1\nclient a 0\nplan tree - / 0 0\nbegin\nwrite a x v\nwrite a x v\nwrite a x v\nwrite a x v\nwrite a x v\nwrite a x v\nwrite a x v\nwrite a x v\nwrite a x v\nwrite a x v\nwrite a x v\nwrite a x v\nwrite a x v\nwrite a x v\nwrite a x v\nwrite a x v\nwrite a x v\nwrite a x v\nwrite a x v\nwrite a x v\nwrite a x v\nsettle\nend\n";
+
+const MANY_LINES: &str = "<text class='epoch' x='694' y='704'>first 40 moves drawn</text>";
+
 // The status and the drawing of a script.
 fn drawn(alloc: Global, script: &str) -> Result<(u8, CleanSink), Fail> {
     let mut words = Vec::new(alloc);
@@ -126,6 +133,7 @@ fn drawings_have_their_lines(rt: HostRuntime) -> Result<(), Fail> {
         (ASIDE, ASIDE_LINES, 8usize, 3usize, 0usize),
         (LOST, LOST_LINES, 4usize, 1usize, 1usize),
         (MOVED, MOVED_LINES, 2usize, 0usize, 0usize),
+        (MANY, MANY_LINES, 22usize, 0usize, 0usize),
     ] {
         let (status, sink) = drawn(rt.alloc(), script)?;
         assert_eq!(rt; status, 0);
