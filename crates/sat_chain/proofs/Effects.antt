@@ -18,9 +18,9 @@ use Rattle.sat_act.specs.Ranges.{IsActOf}
 use Rattle.sat_act.specs.Parts.{tree_of}
 use Rattle.sat_serial.specs.Hits.{code}
 use Rattle.sat_serial.specs.Routes.{routes}
-use Rattle.sat_machine.specs.Interests.{interest_of, replicas_of}
-use Rattle.sat_machine.specs.OnLinks.{HasKind, IsOnLink}
-use Rattle.sat_machine.proofs.OnLinks.{entered-leads}
+use Rattle.sat_model.specs.Interests.{interest_of, replicas_of}
+use Rattle.sat_model.specs.OnLinks.{HasKind, IsOnLink}
+use Rattle.sat_model.proofs.OnLinks.{entered-leads}
 use Rattle.sat_net.proofs.Targets.{routes-are}
 use Rattle.sat_world.specs.Seen.{WorldSeen}
 use Rattle.sat_world.specs.Applies.{Applies}

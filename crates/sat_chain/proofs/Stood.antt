@@ -7,7 +7,7 @@ use Rattle.sat_act.specs.Deployed.{Deployed}
 use Rattle.sat_act.specs.Limits.{IsDeployment}
 use Rattle.sat_act.specs.Ranges.{IsActOf}
 use Rattle.sat_act.proofs.Valid.{is_valid}
-use Rattle.sat_machine.specs.Interests.{interest_of}
+use Rattle.sat_model.specs.Interests.{interest_of}
 use Rattle.sat_world.specs.Seen.{WorldSeen}
 use Rattle.sat_world.specs.Stands.{StandsFor}
 use Rattle.sat_world.proofs.Meets.{in-range}

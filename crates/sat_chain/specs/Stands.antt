@@ -5,7 +5,7 @@ use Rattle.sat_sites.specs.Interested.{Interested}
 use Rattle.sat_act.specs.declared.act.Act.TheVariants as act
 use Rattle.sat_act.specs.Limits.{IsDeployment}
 use Rattle.sat_act.specs.Ranges.{IsActOf}
-use Rattle.sat_machine.specs.Interests.{interest_of}
+use Rattle.sat_model.specs.Interests.{interest_of}
 use Rattle.sat_world.specs.Seen.{WorldSeen}
 use Rattle.sat_world.specs.Stands.{StandsFor}
 use Rattle.sat_chain_laws.specs.declared.pair.Pair.{Pair}

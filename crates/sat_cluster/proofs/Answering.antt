@@ -15,10 +15,10 @@ use Rattle.sat_act.specs.declared.answer.Refusal.TheVariants as why
 use Rattle.sat_act.specs.Answers.{refused_if}
 use Rattle.sat_act.specs.Deployed.{Deployed}
 use Rattle.sat_act.specs.Parts.{keeps_all, replicates}
-use Rattle.sat_machine.specs.Input as given
-use Rattle.sat_machine.specs.Look.{cut_of, mode_of}
-use Rattle.sat_machine.specs.Reply.{gear_for, write_by, read_by, move_by, may_come, outlook_of, site_answer}
-use Rattle.sat_machine.specs.State.{SiteState, Version}
+use Rattle.sat_model.specs.Input as given
+use Rattle.sat_model.specs.Look.{cut_of, mode_of}
+use Rattle.sat_model.specs.Reply.{gear_for, write_by, read_by, move_by, may_come, outlook_of, site_answer}
+use Rattle.sat_model.specs.State.{SiteState, Version}
 use Rattle.sat_site.specs.Inputs.{input_of}
 use Rattle.sat_node.specs.declared.kept.CallFault.{CallFault}
 use Rattle.sat_node.specs.declared.kept.Kept.{Kept}

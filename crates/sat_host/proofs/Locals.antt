@@ -15,9 +15,9 @@ use Rattle.sat_act.specs.declared.answer.Refusal.TheVariants as why
 use Rattle.sat_act.specs.Answers.{refused_if}
 use Rattle.sat_act.specs.Deployed.{Deployed}
 use Rattle.sat_act.specs.Parts.{keeps_all, replicates}
-use Rattle.sat_machine.specs.Look.{ready_of, stable_of, mode_of, cut_of}
-use Rattle.sat_machine.specs.Reply.{site_answer, gear_for, write_by, move_by, may_come, may_pass, outlook_of, stamp_next}
-use Rattle.sat_machine.specs.State.{SiteState, Version}
+use Rattle.sat_model.specs.Look.{ready_of, stable_of, mode_of, cut_of}
+use Rattle.sat_model.specs.Reply.{site_answer, gear_for, write_by, move_by, may_come, may_pass, outlook_of, stamp_next}
+use Rattle.sat_model.specs.State.{SiteState, Version}
 use Rattle.sat_site.specs.declared.input.SiteInput.{SiteInput}
 use Rattle.sat_site.specs.declared.input.SiteInput.TheVariants as input
 use Rattle.sat_site.specs.Inputs.{input_of}

@@ -15,7 +15,7 @@ use Rattle.sat_beat.specs.declared.Beat.{Beat}
 use Rattle.sat_pool.proofs.Members.{none-all}
 use Rattle.sat_proxy.specs.Proxy.{ProxySeen, IsProxy, fresh_proxy}
 use Rattle.sat_epoch.specs.Epochs.{Epochs, IsEpochs, first_epochs}
-use Rattle.sat_machine.specs.Interests.{replicas_of}
+use Rattle.sat_model.specs.Interests.{replicas_of}
 use Rattle.sat_hub.specs.Seen.{HubSeen, IsHub}
 use Rattle.sat_hub.specs.Changes.{fresh_hub, is_stamp_plan, new_hub, shape_for}
 

@@ -10,7 +10,7 @@ use Rattle.sat_bulk.specs.Payloads.{Payload}
 use Rattle.sat_pool.specs.Pool.{Waiting, all_waiting, labels_waiting, labelled, waiting_at}
 use Rattle.sat_pool.proofs.Members.{found-in, in-found}
 use Rattle.sat_epoch.specs.Epochs.{Epochs}
-use Rattle.sat_machine.specs.Reply.{candidate_by, own_passed, past_by}
+use Rattle.sat_model.specs.Reply.{candidate_by, own_passed, past_by}
 use Rattle.sat_proxy.specs.Asks.{all_passed}
 use Rattle.sat_proxy.specs.Proxy.{ProxySeen, IsProxy, outlook_here}
 use Rattle.sat_proxy.specs.Steps as made

@@ -11,7 +11,7 @@ use Rattle.sat_act.specs.declared.deployment.Plan.TheVariants as plan
 use Rattle.sat_epoch.specs.Epochs.{after_close as views_closed, after_fall, first_epochs}
 use Rattle.sat_proxy.specs.Proxy.{fresh_proxy}
 use Rattle.sat_proxy.specs.Steps.{stamp_after, turn_after, turn_views}
-use Rattle.sat_machine.specs.Interests.{interest_of}
+use Rattle.sat_model.specs.Interests.{interest_of}
 use Rattle.sat_hub.specs.Seen.{HubSeen}
 
 abbrev pub counts_of : Drained → List ℕ

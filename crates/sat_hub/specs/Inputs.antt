@@ -19,7 +19,7 @@ use Rattle.sat_proxy.specs.Steps.{turn_fault}
 use Rattle.sat_sites.specs.Interested.{are_below, keeps_one}
 use Rattle.sat_sites.specs.declared.shape.Shape.{Shape}
 use Rattle.sat_act.specs.Parts.{items_of}
-use Rattle.sat_machine.specs.Fits.{is_time}
+use Rattle.sat_model.specs.Fits.{is_time}
 use Rattle.sat_hub.specs.Seen.{HubSeen, IsGuest, has_parts_here}
 
 -- ---- numbers and points, by the shape of the site

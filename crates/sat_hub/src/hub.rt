@@ -12,7 +12,7 @@ ghost use Rattle.sat_epoch.specs.Epochs.{advance_fault, close_fault, fall_fault,
 ghost use Rattle.sat_gear.specs.Gear.{drained_of, IsShape};
 ghost use Rattle.sat_sink.specs.Pending.{labels_of, least, promise_of};
 ghost use Rattle.sat_sink.specs.Sink.{may_pulse, ready_of};
-ghost use Rattle.sat_machine.specs.Interests.{interest_of};
+ghost use Rattle.sat_model.specs.Interests.{interest_of};
 ghost use Rattle.sat_act.specs.declared.answer.Answer.TheVariants as ans;
 ghost use Rattle.sat_proxy.specs.Proxy.{front_at, window_of, IsProxy};
 ghost use Rattle.sat_proxy.specs.Steps.{after_beat, after_bulk, has_come, stamp_fault, stamp_shows, turn_shows};

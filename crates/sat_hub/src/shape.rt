@@ -1,6 +1,6 @@
 //! What the parts of a site of a deployment are made from.
 ghost use Rattle.std.specs.Prelude.{◌≡◌, map, IfOk};
-ghost use Rattle.sat_machine.specs.Interests.{interest_of};
+ghost use Rattle.sat_model.specs.Interests.{interest_of};
 ghost use Rattle.sat_sites.specs.Interested.{IsInterest};
 ghost use Rattle.sat_act.specs.Limits.{IsDeployment};
 ghost use Rattle.sat_hub.specs.Changes.{is_stamp_plan, shape_for};

@@ -7,7 +7,7 @@ use Rattle.sat_act.specs.declared.answer.Answer.TheVariants as ans
 use Rattle.sat_act.specs.declared.answer.Refusal.{Refusal}
 use Rattle.sat_act.specs.Deployed.{Deployed}
 use Rattle.sat_act.specs.Parts.{is_target, is_update_of, items_of, value_for}
-use Rattle.sat_machine.specs.Next.{payload_at, put, version_at}
+use Rattle.sat_model.specs.Next.{payload_at, put, version_at}
 use Rattle.sat_joint.specs.Machines.{HubState, GearNode}
 use Rattle.sat_hub_laws.specs.Inputs.{GearInput, HubInput}
 use Rattle.sat_hub_laws.specs.Inputs as given

@@ -13,9 +13,9 @@ use Rattle.sat_act.specs.declared.answer.Answer.{Answer}
 use Rattle.sat_act.specs.declared.answer.Answer.TheVariants as ans
 use Rattle.sat_act.specs.Deployed.{Deployed}
 use Rattle.sat_laws.proofs.Labels.{some_is}
-use Rattle.sat_machine.specs.Input.{SiteInput}
-use Rattle.sat_machine.specs.Input as site
-use Rattle.sat_machine.specs.Reply.{gear_for, site_answer}
+use Rattle.sat_model.specs.Input.{SiteInput}
+use Rattle.sat_model.specs.Input as site
+use Rattle.sat_model.specs.Reply.{gear_for, site_answer}
 use Rattle.sat_stitch.specs.Kept.{Given, Nothing, OfClient}
 use Rattle.sat_stitch.specs.Nodes.{input_of}
 use Rattle.sat_stitch.specs.Places.{Session}

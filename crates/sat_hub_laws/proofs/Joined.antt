@@ -14,7 +14,7 @@ use Rattle.sat_act.specs.declared.answer.Answer.{Answer}
 use Rattle.sat_act.specs.Deployed.{Deployed}
 use Rattle.sat_act.specs.Answers.{InRange}
 use Rattle.sat_bulk.specs.Payloads.{Payload}
-use Rattle.sat_machine.specs.Fits.{fits, is_carried, is_gear, is_group as is_items, is_other, is_site}
+use Rattle.sat_model.specs.Fits.{fits, is_carried, is_gear, is_group as is_items, is_other, is_site}
 use Rattle.sat_stitch.specs.Nodes.{stands}
 use Rattle.sat_stitch.specs.Places.{Session}
 use Rattle.sat_joint.specs.Pieces.{Piece, Rises, EachOf, number_of}

@@ -10,10 +10,10 @@ use Rattle.sat_label.specs.declared.label.Kind.TheVariants as kind
 use Rattle.sat_act.specs.declared.answer.Answer.{Answer}
 use Rattle.sat_act.specs.Deployed.{Deployed}
 use Rattle.sat_act.specs.Answers.{gear_of}
-use Rattle.sat_machine.specs.Input.{SiteInput}
-use Rattle.sat_machine.specs.Input as site
-use Rattle.sat_machine.specs.Reply.{gear_for, site_answer}
-use Rattle.sat_machine.specs.State.{SiteState}
+use Rattle.sat_model.specs.Input.{SiteInput}
+use Rattle.sat_model.specs.Input as site
+use Rattle.sat_model.specs.Reply.{gear_for, site_answer}
+use Rattle.sat_model.specs.State.{SiteState}
 use Rattle.sat_stitch.specs.Kept.{Nothing, OfClient}
 use Rattle.sat_stitch.specs.Nodes.{input_of}
 use Rattle.sat_joint.specs.Pieces.{Drain}

@@ -4,8 +4,8 @@ use Rattle.std.proofs.Common.{sym, ap, ◌∙◌}
 use Rattle.sat_act.specs.Deployed.{Deployed}
 use Rattle.sat_act.specs.Runs.{IsRun}
 use Rattle.sat_act.specs.Goals.{IsValid}
-use Rattle.sat_machine.specs.State.{SiteState}
-use Rattle.sat_machine.specs.Replay.{site_state}
+use Rattle.sat_model.specs.State.{SiteState}
+use Rattle.sat_model.specs.Replay.{site_state}
 use Rattle.sat_stitch.specs.Kept.{Kept, history}
 use Rattle.sat_stitch.specs.Places.{Place, Session}
 use Rattle.sat_stitch.specs.Fit.{IsMerge, LooseFit}

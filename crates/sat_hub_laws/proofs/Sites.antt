@@ -16,10 +16,10 @@ use Rattle.sat_act.specs.Deployed.{Deployed}
 use Rattle.sat_act.specs.Answers.{gear_of}
 use Rattle.sat_act.specs.Parts.{items_of}
 use Rattle.sat_laws.proofs.Labels.{some_is}
-use Rattle.sat_machine.specs.Input.{SiteInput}
-use Rattle.sat_machine.specs.Input as site
-use Rattle.sat_machine.specs.Next.{payload_at, site_next}
-use Rattle.sat_machine.specs.Reply.{gear_for, site_answer, site_step, write_by, read_by, move_by}
+use Rattle.sat_model.specs.Input.{SiteInput}
+use Rattle.sat_model.specs.Input as site
+use Rattle.sat_model.specs.Next.{payload_at, site_next}
+use Rattle.sat_model.specs.Reply.{gear_for, site_answer, site_step, write_by, read_by, move_by}
 use Rattle.sat_joint.specs.Pieces.{Drain}
 use Rattle.sat_joint.specs.Machines.{HubState, GearNode, drain_of, gear_drained, gear_shows, gear_step as own_step, hub_alone, hub_next, kept_site, no_drain, of_gears, shown_by, whole}
 use Rattle.sat_joint.proofs.Sites.{IsGearAct, gear-moves, hub-moves, show-moves, drains-are, gather-moves, gather-answers, refused-act, IsWritten, written-is, group-moves, is_gears, is_hubs, is_show, IsOfHub, hub-answers, hub-local, write-act, reads-act, move-act, ticks-act, kept-answer}

@@ -8,7 +8,7 @@ use Rattle.sat_label.specs.Words.{below, has}
 use Rattle.sat_act.specs.declared.answer.Answer.{Answer}
 use Rattle.sat_act.specs.declared.answer.Answer.TheVariants as ans
 use Rattle.sat_act.specs.Deployed.{Deployed}
-use Rattle.sat_machine.specs.Reply.{gear_for}
+use Rattle.sat_model.specs.Reply.{gear_for}
 use Rattle.sat_joint.specs.Pieces.{given_of}
 use Rattle.sat_joint.specs.Table.{AtGear, gear_nodes, same_node, shown_nodes}
 use Rattle.sat_joint.proofs.Nodes.{below-gear, gear-below}

@@ -11,8 +11,8 @@ use Rattle.sat_act.specs.Deployed.{Deployed}
 use Rattle.sat_act.specs.Answers.{is_close_of}
 use Rattle.sat_act.specs.Parts.{BeatNote, is_target, is_update_of, items_of, known_by, value_for}
 use Rattle.sat_bulk.specs.Payloads.{Payload}
-use Rattle.sat_machine.specs.State.{ProxyState, SinkState, ViewState}
-use Rattle.sat_machine.specs.Next.{note_of, passed_cut, payload_at, put, raised, version_at}
+use Rattle.sat_model.specs.State.{ProxyState, SinkState, ViewState}
+use Rattle.sat_model.specs.Next.{note_of, passed_cut, payload_at, put, raised, version_at}
 use Rattle.sat_joint.specs.Pieces.{Drain}
 use Rattle.sat_joint.specs.Machines.{HubState, GearNode, hub_alone, of_gears}
 use Rattle.sat_hub_laws.specs.Inputs.{HubInput, GearInput}

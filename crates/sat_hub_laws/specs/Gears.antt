@@ -12,10 +12,10 @@ use Rattle.sat_act.specs.declared.answer.Answer.TheVariants as ans
 use Rattle.sat_act.specs.Deployed.{Deployed}
 use Rattle.sat_act.specs.Answers.{gear_of}
 use Rattle.sat_bulk.specs.Payloads.{Payload}
-use Rattle.sat_machine.specs.Fits.{is_site, is_item, is_group, is_time, is_carried}
-use Rattle.sat_machine.specs.Input.{SiteInput}
-use Rattle.sat_machine.specs.Input as site
-use Rattle.sat_machine.specs.Reply.{gear_for, write_by, read_by, move_by}
+use Rattle.sat_model.specs.Fits.{is_site, is_item, is_group, is_time, is_carried}
+use Rattle.sat_model.specs.Input.{SiteInput}
+use Rattle.sat_model.specs.Input as site
+use Rattle.sat_model.specs.Reply.{gear_for, write_by, read_by, move_by}
 use Rattle.sat_stitch.specs.Kept.{Nothing, OfClient}
 use Rattle.sat_joint.specs.Pieces.{Handed, Plain, Drained, Showing}
 use Rattle.sat_joint.specs.Machines.{GearNode, gear_by_input, gear_drained, gear_shows, drain_of}

@@ -12,11 +12,11 @@ use Rattle.sat_act.specs.declared.answer.Refusal.TheVariants as why
 use Rattle.sat_act.specs.Deployed.{Deployed}
 use Rattle.sat_act.specs.Answers.{refused_if, turned}
 use Rattle.sat_bulk.specs.Payloads.{Payload}
-use Rattle.sat_machine.specs.Fits.{fits}
-use Rattle.sat_machine.specs.Input.{SiteInput}
-use Rattle.sat_machine.specs.Input as site
-use Rattle.sat_machine.specs.Look.{stable_of, ready_of, cut_of, mode_of, waiting_of, best_of, numbers_of}
-use Rattle.sat_machine.specs.Reply.{may_come, may_pass, outlook_of, stamp_next}
+use Rattle.sat_model.specs.Fits.{fits}
+use Rattle.sat_model.specs.Input.{SiteInput}
+use Rattle.sat_model.specs.Input as site
+use Rattle.sat_model.specs.Look.{stable_of, ready_of, cut_of, mode_of, waiting_of, best_of, numbers_of}
+use Rattle.sat_model.specs.Reply.{may_come, may_pass, outlook_of, stamp_next}
 use Rattle.sat_stitch.specs.Kept.{Nothing, OfFront, OfPayload, OfBeat, OfClient}
 use Rattle.sat_joint.specs.Pieces.{Drain, Handed, Plain, Drains}
 use Rattle.sat_joint.specs.Machines.{HubState, hub_alone, no_drain, of_gears, hub_next, gathers, shown_by}

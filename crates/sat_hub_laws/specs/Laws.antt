@@ -16,10 +16,10 @@ use Rattle.sat_act.specs.declared.answer.Answer.{Answer}
 use Rattle.sat_act.specs.Deployed.{Deployed}
 use Rattle.sat_act.specs.Answers.{InRange}
 use Rattle.sat_act.specs.Parts.{items_of, tree_of}
-use Rattle.sat_machine.specs.Reply.{gear_for}
+use Rattle.sat_model.specs.Reply.{gear_for}
 use Rattle.sat_act.specs.Runs.{IsRun}
 use Rattle.sat_act.specs.Goals.{IsValid}
-use Rattle.sat_machine.specs.Replay.{site_state}
+use Rattle.sat_model.specs.Replay.{site_state}
 use Rattle.sat_stitch.specs.Kept.{Given, OfClient, history, marks}
 use Rattle.sat_stitch.specs.Places.{Session, Client}
 use Rattle.sat_stitch.specs.Fit.{IsHanded}

@@ -12,9 +12,9 @@ use Rattle.sat_act.specs.declared.answer.Answer.TheVariants as ans
 use Rattle.sat_act.specs.Deployed.{Deployed}
 use Rattle.sat_act.specs.Parts.{items_of}
 use Rattle.sat_bulk.specs.Payloads.{Payload}
-use Rattle.sat_machine.specs.Input.{SiteInput}
-use Rattle.sat_machine.specs.Next.{payload_at}
-use Rattle.sat_machine.specs.Reply.{gear_for, site_step}
+use Rattle.sat_model.specs.Input.{SiteInput}
+use Rattle.sat_model.specs.Next.{payload_at}
+use Rattle.sat_model.specs.Reply.{gear_for, site_step}
 use Rattle.sat_joint.specs.Pieces.{Drain}
 use Rattle.sat_joint.specs.Table.{AtGear, same_node, gear_nodes, item_gears}
 use Rattle.sat_joint.specs.Machines.{HubState, GearNode, drain_of, fresh_gear, gear_drained, gear_shows, kept_site, shown_by, whole}

@@ -6,10 +6,10 @@ use Rattle.sat_label.specs.Members.{In}
 use Rattle.sat_label.specs.Words.{has}
 use Rattle.sat_act.specs.declared.answer.Answer.{Answer}
 use Rattle.sat_act.specs.Answers.{InRange}
-use Rattle.sat_machine.specs.State.{SiteState}
-use Rattle.sat_machine.specs.Input.{SiteInput}
-use Rattle.sat_machine.specs.Next.{site_next}
-use Rattle.sat_machine.specs.Replay.{after}
+use Rattle.sat_model.specs.State.{SiteState}
+use Rattle.sat_model.specs.Input.{SiteInput}
+use Rattle.sat_model.specs.Next.{site_next}
+use Rattle.sat_model.specs.Replay.{after}
 use Rattle.sat_stitch.specs.Kept.{Kept}
 use Rattle.sat_stitch.specs.Places.{Place, AtSite, places, stands_at}
 use Rattle.sat_stitch.specs.Nodes.{input_of, site_after}

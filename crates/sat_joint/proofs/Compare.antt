@@ -11,7 +11,7 @@ use Rattle.sat_label.specs.Grouped.{list_of}
 use Rattle.sat_label.specs.declared.items.Items.{Items}
 use Rattle.sat_label.specs.declared.label.Label.{Label}
 use Rattle.std.proofs.lemmas.Bool.{and_parts, eqb-true, or_right}
-use Rattle.sat_machine.specs.Reply.{gear_for}
+use Rattle.sat_model.specs.Reply.{gear_for}
 use Rattle.sat_stitch.specs.Kept.{Given, OfClient}
 use Rattle.sat_stitch.specs.Nodes.{input_of}
 use Rattle.sat_bulk.specs.Payloads.{Payload}

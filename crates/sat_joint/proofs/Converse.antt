@@ -15,12 +15,12 @@ use Rattle.sat_act.specs.Answers.{InRange}
 use Rattle.sat_act.specs.Parts.{seat}
 use Rattle.sat_act.specs.Goals.{IsValid}
 use Rattle.sat_laws.proofs.Labels.{some_is}
-use Rattle.sat_machine.specs.State.{SiteState}
-use Rattle.sat_machine.specs.Input.{SiteInput}
-use Rattle.sat_machine.specs.Input as given
-use Rattle.sat_machine.specs.Next.{site_next}
-use Rattle.sat_machine.specs.Reply.{gear_for, site_answer}
-use Rattle.sat_machine.specs.Replay.{after}
+use Rattle.sat_model.specs.State.{SiteState}
+use Rattle.sat_model.specs.Input.{SiteInput}
+use Rattle.sat_model.specs.Input as given
+use Rattle.sat_model.specs.Next.{site_next}
+use Rattle.sat_model.specs.Reply.{gear_for, site_answer}
+use Rattle.sat_model.specs.Replay.{after}
 use Rattle.sat_stitch.specs.Kept.{Given, Nothing, OfClient, Kept, Each, Rising}
 use Rattle.sat_stitch.specs.Places.{Place, AtSite, places, seat_places, attach_places, by_client, stands_at, in_session}
 use Rattle.sat_stitch.specs.Nodes.{site_after, input_of, IsSiteAnswer, IsAnswerAt}

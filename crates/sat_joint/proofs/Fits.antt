@@ -26,11 +26,11 @@ use Rattle.sat_laws.proofs.Labels.{some_is}
 use Rattle.sat_laws.proofs.Links.{entered-if, taken-if}
 use Rattle.sat_laws.proofs.Handlings.{handled_as}
 use Rattle.sat_laws.proofs.Runs.{entry}
-use Rattle.sat_machine.specs.State.{SiteState}
-use Rattle.sat_machine.specs.Input.{SiteInput}
-use Rattle.sat_machine.specs.Look.{front_of}
-use Rattle.sat_machine.specs.Next.{payload_at, values_given}
-use Rattle.sat_machine.specs.Reply.{site_answer}
+use Rattle.sat_model.specs.State.{SiteState}
+use Rattle.sat_model.specs.Input.{SiteInput}
+use Rattle.sat_model.specs.Look.{front_of}
+use Rattle.sat_model.specs.Next.{payload_at, values_given}
+use Rattle.sat_model.specs.Reply.{site_answer}
 use Rattle.sat_stitch.specs.Kept.{Given, Nothing, OfPayload, OfBeat, Kept, entry_of, history, Each, Distinct, numbered, marks}
 use Rattle.sat_stitch.specs.Places.{Place, AtSite, AtSerializer, InSession, places, stands_at, node_place, Session, Client, session_of}
 use Rattle.sat_stitch.specs.Nodes.{site_after, dead_after, input_of, IsSerialAnswer, IsSessionAnswer, IsAnswerAt, stands, put_on, took_from, payload_made, beat_made, with_input, makes_payload, makes_beat, asked}

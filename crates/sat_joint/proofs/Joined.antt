@@ -11,7 +11,7 @@ use Rattle.sat_act.specs.Deployed.{Deployed}
 use Rattle.sat_act.specs.Done.{is_of}
 use Rattle.sat_act.specs.Parts.{seat}
 use Rattle.sat_laws.proofs.Headlines.{good}
-use Rattle.sat_machine.specs.Replay.{carrying}
+use Rattle.sat_model.specs.Replay.{carrying}
 use Rattle.sat_stitch.specs.Kept.{Given, OfClient, entry_of, history}
 use Rattle.sat_stitch.specs.Places.{act_given, entry_if}
 use Rattle.sat_stitch.proofs.Sessions.{known-before}

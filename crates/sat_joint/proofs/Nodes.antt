@@ -15,7 +15,7 @@ use Rattle.sat_act.specs.declared.answer.Answer.TheVariants as ans
 use Rattle.sat_act.specs.Deployed.{Deployed}
 use Rattle.sat_act.specs.Answers.{InRange, gear_of}
 use Rattle.sat_act.specs.Parts.{items_of, replicates}
-use Rattle.sat_machine.specs.Reply.{gear_for}
+use Rattle.sat_model.specs.Reply.{gear_for}
 use Rattle.sat_stitch.specs.Kept.{Given, OfClient}
 use Rattle.sat_stitch.specs.Places.{Place, AtSite, places, seat_places, attach_places, by_client}
 use Rattle.sat_joint.specs.Table.{Node, AtHub, AtGear, AtSerial, Alone, same_node, over, item_node, first_node, seat_nodes, attach_nodes, client_nodes, gear_nodes, gears_if, item_gears, shown_nodes, written_nodes, group_nodes, nodes, is_shared, is_first}

@@ -22,12 +22,12 @@ use Rattle.sat_act.specs.Deployed.{Deployed}
 use Rattle.sat_act.specs.Answers.{gear_of, refused_if, turned}
 use Rattle.sat_act.specs.Parts.{BeatNote, is_update, is_update_of, items_of, value_for, is_target, replicates, keeps_all}
 use Rattle.sat_bulk.specs.Payloads.{Payload}
-use Rattle.sat_machine.specs.State.{GearState, SiteState, Version}
-use Rattle.sat_machine.specs.Input.{SiteInput}
-use Rattle.sat_machine.specs.Input as given
-use Rattle.sat_machine.specs.Look.{rows, least_row, stable_of, ready_of, cut_of, mode_of, waiting_of, best_of, numbers_of}
-use Rattle.sat_machine.specs.Next.{gear_next, store_next, site_next, put, version_at, part_for, payload_at, values_given}
-use Rattle.sat_machine.specs.Reply.{gear_for, site_answer, write_by, read_by, move_by, stamp_next, may_pass, outlook_of}
+use Rattle.sat_model.specs.State.{GearState, SiteState, Version}
+use Rattle.sat_model.specs.Input.{SiteInput}
+use Rattle.sat_model.specs.Input as given
+use Rattle.sat_model.specs.Look.{rows, least_row, stable_of, ready_of, cut_of, mode_of, waiting_of, best_of, numbers_of}
+use Rattle.sat_model.specs.Next.{gear_next, store_next, site_next, put, version_at, part_for, payload_at, values_given}
+use Rattle.sat_model.specs.Reply.{gear_for, site_answer, write_by, read_by, move_by, stamp_next, may_pass, outlook_of}
 use Rattle.sat_joint.specs.Pieces.{Drain}
 use Rattle.sat_joint.specs.Table.{AtGear, same_node, gear_nodes, item_gears}
 use Rattle.sat_joint.specs.Steps.{is_beat}

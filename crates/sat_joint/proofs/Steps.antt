@@ -16,10 +16,10 @@ use Rattle.sat_act.specs.declared.answer.Answer.TheVariants as ans
 use Rattle.sat_act.specs.declared.answer.Refusal.{Refusal}
 use Rattle.sat_act.specs.Deployed.{Deployed}
 use Rattle.sat_laws.proofs.Labels.{some_is}
-use Rattle.sat_machine.specs.Input.{SiteInput}
-use Rattle.sat_machine.specs.Input as given
-use Rattle.sat_machine.specs.Next.{site_next, payload_at}
-use Rattle.sat_machine.specs.Reply.{gear_for, site_answer, write_by}
+use Rattle.sat_model.specs.Input.{SiteInput}
+use Rattle.sat_model.specs.Input as given
+use Rattle.sat_model.specs.Next.{site_next, payload_at}
+use Rattle.sat_model.specs.Reply.{gear_for, site_answer, write_by}
 use Rattle.sat_stitch.specs.Kept.{Given, OfClient}
 use Rattle.sat_stitch.specs.Nodes.{input_of}
 use Rattle.sat_joint.specs.Pieces.{Drain, Handed, Plain, Drains, Drained, Showing, given_of}

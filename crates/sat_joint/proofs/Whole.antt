@@ -19,11 +19,11 @@ use Rattle.sat_act.specs.Deployed.{Deployed}
 use Rattle.sat_act.specs.Answers.{InRange}
 use Rattle.sat_act.specs.Parts.{BeatNote, tree_of, seat, is_target}
 use Rattle.sat_bulk.specs.Payloads.{Payload}
-use Rattle.sat_machine.specs.State.{SiteState}
-use Rattle.sat_machine.specs.Input.{SiteInput}
-use Rattle.sat_machine.specs.Look.{front_of}
-use Rattle.sat_machine.specs.Next.{payload_at, values_given}
-use Rattle.sat_machine.specs.Replay.{carrying}
+use Rattle.sat_model.specs.State.{SiteState}
+use Rattle.sat_model.specs.Input.{SiteInput}
+use Rattle.sat_model.specs.Look.{front_of}
+use Rattle.sat_model.specs.Next.{payload_at, values_given}
+use Rattle.sat_model.specs.Replay.{carrying}
 use Rattle.sat_stitch.specs.Kept.{Given, Nothing, OfPayload, OfBeat, OfClient, Kept, history, Each, Rising, Ordered, numbered, marks}
 use Rattle.sat_stitch.specs.Places.{Place, AtSite, AtSerializer, InSession, stands_at, node_place, Session, Client, session_of, in_session, is_session}
 use Rattle.sat_stitch.specs.Nodes.{site_after, dead_after, input_of, IsSerialAnswer, IsSessionAnswer, IsAnswerAt, stands, put_on, took_from, payload_made, beat_made, with_input, makes_payload, makes_beat, asked}

@@ -10,7 +10,7 @@ use Rattle.sat_act.specs.declared.deployment.Item.{Item}
 use Rattle.sat_act.specs.Deployed.{Deployed}
 use Rattle.sat_act.specs.Answers.{answer}
 use Rattle.sat_act.specs.Parts.{replicates}
-use Rattle.sat_machine.specs.Look.{payload_in}
+use Rattle.sat_model.specs.Look.{payload_in}
 use Rattle.sat_stitch.specs.Given.{kept_all}
 use Rattle.sat_joint.specs.Pieces.{Handed, Plain, Drains, Drained, Showing, Piece}
 use Rattle.sat_joint.specs.Table.{Node, AtHub, AtGear}

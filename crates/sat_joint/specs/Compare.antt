@@ -12,7 +12,7 @@ use Rattle.sat_act.specs.declared.answer.Answer.{Answer}
 use Rattle.sat_act.specs.declared.answer.Answer.TheVariants as ans
 use Rattle.sat_act.specs.Deployed.{Deployed}
 use Rattle.sat_bulk.specs.Payloads.{Payload}
-use Rattle.sat_machine.specs.Input.{SiteInput}
+use Rattle.sat_model.specs.Input.{SiteInput}
 use Rattle.sat_stitch.specs.Nodes.{input_of}
 use Rattle.sat_joint.specs.Pieces.{Drain, Handed, Plain, Drains, Drained, Showing, Piece}
 use Rattle.sat_joint.specs.Table.{Node, AtHub, AtGear, same_node, gear_nodes, item_gears, is_shared, stands_in, home_at}

@@ -13,7 +13,7 @@ use Rattle.sat_act.specs.Deployed.{Deployed}
 use Rattle.sat_act.specs.Parts.{BeatNote, tree_of, seat}
 use Rattle.sat_act.specs.Answers.{InRange}
 use Rattle.sat_bulk.specs.Payloads.{Payload}
-use Rattle.sat_machine.specs.Replay.{carrying}
+use Rattle.sat_model.specs.Replay.{carrying}
 use Rattle.sat_stitch.specs.Kept.{OfPayload, OfBeat, OfClient, history, Ordered, marks}
 use Rattle.sat_stitch.specs.Places.{Session, Client, session_of}
 use Rattle.sat_stitch.specs.Nodes.{input_of, stands, put_on, took_from, makes_payload}

@@ -9,12 +9,12 @@ use Rattle.sat_act.specs.Deployed.{Deployed}
 use Rattle.sat_act.specs.Answers.{gear_of}
 use Rattle.sat_act.specs.Parts.{BeatNote, is_update_of, items_of, replicates}
 use Rattle.sat_bulk.specs.Payloads.{Payload}
-use Rattle.sat_machine.specs.State.{GearState, SinkState, ViewState, ProxyState, Version, SiteState, fresh_site}
-use Rattle.sat_machine.specs.Input.{SiteInput}
-use Rattle.sat_machine.specs.Input as given
-use Rattle.sat_machine.specs.Look.{rows, least_row, payload_in}
-use Rattle.sat_machine.specs.Next.{gear_next, gathered_next, pending_next, sent_next, pulse_next, views_next, proxy_next, values_given, payload_at, put, version_at, part_for, store_next, made_next}
-use Rattle.sat_machine.specs.Reply.{site_answer}
+use Rattle.sat_model.specs.State.{GearState, SinkState, ViewState, ProxyState, Version, SiteState, fresh_site}
+use Rattle.sat_model.specs.Input.{SiteInput}
+use Rattle.sat_model.specs.Input as given
+use Rattle.sat_model.specs.Look.{rows, least_row, payload_in}
+use Rattle.sat_model.specs.Next.{gear_next, gathered_next, pending_next, sent_next, pulse_next, views_next, proxy_next, values_given, payload_at, put, version_at, part_for, store_next, made_next}
+use Rattle.sat_model.specs.Reply.{site_answer}
 use Rattle.sat_stitch.specs.Nodes.{input_of, beat_made, with_input, asked, dead_after, IsSerialAnswer, IsSessionAnswer}
 use Rattle.sat_joint.specs.Pieces.{Drain, Handed, Plain, Drains, Drained, Showing, Piece, given_of, plains}
 use Rattle.sat_joint.specs.Table.{Node, AtHub, AtGear, AtSerial, Alone}

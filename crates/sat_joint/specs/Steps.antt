@@ -7,9 +7,9 @@ use Rattle.sat_act.specs.declared.act.Act.{Act}
 use Rattle.sat_act.specs.declared.answer.Answer.{Answer}
 use Rattle.sat_act.specs.declared.answer.Answer.TheVariants as ans
 use Rattle.sat_act.specs.Deployed.{Deployed}
-use Rattle.sat_machine.specs.Input.{SiteInput}
-use Rattle.sat_machine.specs.Next.{site_next}
-use Rattle.sat_machine.specs.Reply.{site_answer}
+use Rattle.sat_model.specs.Input.{SiteInput}
+use Rattle.sat_model.specs.Next.{site_next}
+use Rattle.sat_model.specs.Reply.{site_answer}
 use Rattle.sat_stitch.specs.Kept.{Given}
 use Rattle.sat_stitch.specs.Nodes.{input_of}
 use Rattle.sat_joint.specs.Pieces.{Handed, given_of}

@@ -13,7 +13,7 @@ use Rattle.sat_act.specs.declared.entry.Entry.{Entry}
 use Rattle.sat_act.specs.Deployed.{Deployed}
 use Rattle.sat_act.specs.Answers.{gear_of}
 use Rattle.sat_act.specs.Parts.{items_of, replicates}
-use Rattle.sat_machine.specs.Reply.{gear_for}
+use Rattle.sat_model.specs.Reply.{gear_for}
 use Rattle.sat_stitch.specs.Kept.{Given, OfClient, Kept}
 use Rattle.sat_stitch.specs.Places.{Place, AtSite, AtSerializer, InSession, act_given, entry_if}
 use Rattle.sat_joint.specs.Pieces.{Piece, plain}

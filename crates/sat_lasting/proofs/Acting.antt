@@ -11,7 +11,7 @@ use Rattle.sat_act.specs.Limits.{IsDeployment}
 use Rattle.sat_act.proofs.Valid.{is_valid}
 use Rattle.sat_bodies.specs.Bodies.{input_allows}
 use Rattle.sat_durable.specs.Machine.{run_of}
-use Rattle.sat_machine.specs.Replay.{handed, site_state}
+use Rattle.sat_model.specs.Replay.{handed, site_state}
 use Rattle.sat_site.specs.declared.input.SiteInput.{SiteInput}
 use Rattle.sat_site.specs.Inputs.{fits_in, input_of}
 use Rattle.sat_site.specs.Stands.{StandsSite}

@@ -15,8 +15,8 @@ use Rattle.sat_sites.specs.declared.shape.Shape.{Shape}
 use Rattle.sat_act.specs.Deployed.{Deployed}
 use Rattle.sat_act.specs.Limits.{IsDeployment}
 use Rattle.sat_act.specs.Parts.{items_of}
-use Rattle.sat_machine.specs.State.{SiteState}
-use Rattle.sat_machine.specs.Fits.{is_time}
+use Rattle.sat_model.specs.State.{SiteState}
+use Rattle.sat_model.specs.Fits.{is_time}
 use Rattle.sat_bodies.specs.Bodies.{input_allows}
 use Rattle.sat_wire.specs.Code.{both_fit}
 use Rattle.sat_wire.specs.Labels.{ascend, kind_allows, label_allows}

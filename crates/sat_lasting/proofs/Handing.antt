@@ -12,13 +12,13 @@ use Rattle.sat_act.specs.Limits.{IsDeployment}
 use Rattle.sat_act.specs.Runs.{IsRun}
 use Rattle.sat_act.proofs.Valid.{is_valid}
 use Rattle.sat_durable.specs.Machine.{Run, run_from, run_of, started, taken}
-use Rattle.sat_machine.specs.Input as model
-use Rattle.sat_machine.specs.Journal.{Noted, journal, noted}
-use Rattle.sat_machine.specs.Next.{site_next}
-use Rattle.sat_machine.specs.Replay.{after, given_at, handed, site_state}
-use Rattle.sat_machine.specs.Reply.{site_answer}
-use Rattle.sat_machine.specs.State.{SiteState}
-use Rattle.sat_machine.proofs.SiteSteps.{site-replies}
+use Rattle.sat_model.specs.Input as model
+use Rattle.sat_model.specs.Journal.{Noted, journal, noted}
+use Rattle.sat_model.specs.Next.{site_next}
+use Rattle.sat_model.specs.Replay.{after, given_at, handed, site_state}
+use Rattle.sat_model.specs.Reply.{site_answer}
+use Rattle.sat_model.specs.State.{SiteState}
+use Rattle.sat_model.proofs.SiteSteps.{site-replies}
 use Rattle.sat_site.specs.declared.input.SiteInput.{SiteInput}
 use Rattle.sat_site.specs.declared.output.SiteOutput.{SiteOutput}
 use Rattle.sat_site.specs.Inputs.{fits_in, input_of}

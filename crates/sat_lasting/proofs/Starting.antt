@@ -6,8 +6,8 @@ use Rattle.sat_act.specs.Deployed.{Deployed}
 use Rattle.sat_durable.specs.declared.memory.MemoryDisk.{MemoryDisk}
 use Rattle.sat_durable.specs.Memory.{memory_state}
 use Rattle.sat_durable.specs.Machine.{Recovers}
-use Rattle.sat_machine.specs.Journal.{journal}
-use Rattle.sat_machine.specs.Replay.{site_state}
+use Rattle.sat_model.specs.Journal.{journal}
+use Rattle.sat_model.specs.Replay.{site_state}
 use Rattle.sat_proxy.proofs.Starting.{starts}
 use Rattle.sat_site.proofs.Fresh.{fresh-stands}
 use Rattle.sat_site.specs.Changes.{shape_for}

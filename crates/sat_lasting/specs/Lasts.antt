@@ -4,10 +4,10 @@ use Rattle.sat_act.specs.Deployed.{Deployed}
 use Rattle.sat_act.specs.declared.answer.Answer.{Answer}
 use Rattle.sat_act.specs.declared.entry.Entry.{Entry}
 use Rattle.sat_durable.specs.Machine.{Recovers, run_of}
-use Rattle.sat_machine.specs.Input as model
-use Rattle.sat_machine.specs.Journal.{Noted, journal}
-use Rattle.sat_machine.specs.Replay.{site_state}
-use Rattle.sat_machine.specs.State.{SiteState}
+use Rattle.sat_model.specs.Input as model
+use Rattle.sat_model.specs.Journal.{Noted, journal}
+use Rattle.sat_model.specs.Replay.{site_state}
+use Rattle.sat_model.specs.State.{SiteState}
 use Rattle.sat_site.specs.declared.input.SiteInput.{SiteInput}
 use Rattle.sat_site.specs.Inputs.{input_of}
 use Rattle.sat_site.specs.Stands.{StandsSite}

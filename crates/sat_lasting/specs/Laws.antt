@@ -3,7 +3,7 @@ use Rattle.std.specs.Prelude.{◌≡◌, ℕ, true}
 use Rattle.sat_act.specs.Deployed.{Deployed}
 use Rattle.sat_act.specs.Limits.{IsDeployment}
 use Rattle.sat_bodies.specs.Bodies.{input_allows}
-use Rattle.sat_machine.specs.State.{SiteState}
+use Rattle.sat_model.specs.State.{SiteState}
 use Rattle.sat_site.specs.declared.input.SiteInput.{SiteInput}
 use Rattle.sat_site.specs.Inputs.{fits_in}
 use Rattle.sat_site.specs.Seen.{SiteSeen}

@@ -24,9 +24,9 @@ use Rattle.sat_act.specs.declared.entry.Entry.{Entry}
 use Rattle.sat_act.specs.Deployed.{Deployed}
 use Rattle.sat_act.specs.Parts.{BeatNote, beats, beats_taken, best, brought, cut, emission, in_stamp_mode, is_update, keeps_all, lane, lane_front, last_pulse, link_front, may_attach, next_stamp, ready, replicates, seat, seat_in, stable, tree_of, value_of, version, view, waiting}
 use Rattle.sat_act.specs.Answers.{answer, at_seat, base, gear_of, may_advance, refused_if, write_at, read_at, move_from, attach_to, gather_of, emit_of, pulse_of, turned, turn_of, bring, bulk_to, beat_to, beat_in_to, stamp_of, close_of, fall_of, advance_of}
-use Rattle.sat_machine.specs.Input.{SiteInput}
-use Rattle.sat_machine.specs.Input as given
-use Rattle.sat_machine.specs.Replay.{carrying, given_at, given_bulk, given_number, given_seat, handed}
+use Rattle.sat_model.specs.Input.{SiteInput}
+use Rattle.sat_model.specs.Input as given
+use Rattle.sat_model.specs.Replay.{carrying, given_at, given_bulk, given_number, given_seat, handed}
 use Rattle.sat_lasting_laws.specs.Reached.{is_at, is_early, is_nowhere, is_refused_early, is_site, site_at, unless_seated, where_some}
 use Rattle.sat_lasting_laws.specs.LastingAnswers.{is_allowed}
 use Rattle.sat_lasting_laws.specs.Goals.{HandedThere, ListedReach}
@@ -66,10 +66,10 @@ handed-to d h (act.Gather i) k e = at-there i k given.Gather
 handed-to d h (act.Emit i) k e = at-there i k given.Emit
 handed-to d h (act.Pulse i) k e = at-there i k given.Pulse
 handed-to d h (act.Hop epoch u z) k e = refl
-handed-to d h (act.Turn j) k e = at-there j k (given.Turn (Rattle.sat_machine.specs.Replay.turn_front d h j))
+handed-to d h (act.Turn j) k e = at-there j k (given.Turn (Rattle.sat_model.specs.Replay.turn_front d h j))
 handed-to d h (act.Bulk i g j o) k e =
     found-there (slice_get (lane d h i g j) (given_number d h i g j o)) j k
-    (λ l. given.Bulk i g (given_number d h i g j o) (Rattle.sat_machine.specs.Next.payload_at l (Rattle.sat_act.specs.Parts.values_of h l)))
+    (λ l. given.Bulk i g (given_number d h i g j o) (Rattle.sat_model.specs.Next.payload_at l (Rattle.sat_act.specs.Parts.values_of h l)))
 handed-to d h (act.Beat i j) k e = at-there i k (given.Beat j)
 handed-to d h (act.BeatIn i j n) k e = found-there (slice_get (beats d h i j) n) j k (λ note. given.BeatIn i n note)
 handed-to d h (act.Stamp j) k e = at-there j k given.Stamp

@@ -7,7 +7,7 @@ use Rattle.sat_act.specs.Answers.{answer}
 use Rattle.sat_act.specs.Runs.{IsRun}
 use Rattle.sat_act.specs.Goals.{IsValid}
 use Rattle.sat_act.specs.Headline.{HasTrees, IsGood}
-use Rattle.sat_machine.specs.Replay.{handed}
+use Rattle.sat_model.specs.Replay.{handed}
 use Rattle.sat_lasting_laws.specs.Reached.{site_at, is_at, is_nowhere, is_refused_early}
 use Rattle.sat_lasting_laws.specs.Lastings.{LastingEntry, kept}
 use Rattle.sat_lasting_laws.specs.LastingAnswers.{is_allowed}

@@ -6,7 +6,7 @@ use Rattle.sat_act.specs.declared.answer.Answer.{Answer}
 use Rattle.sat_act.specs.declared.entry.Entry.{Entry}
 use Rattle.sat_act.specs.Deployed.{Deployed}
 use Rattle.sat_act.specs.Answers.{InRange, answer}
-use Rattle.sat_machine.specs.Journal.{journal}
+use Rattle.sat_model.specs.Journal.{journal}
 use Rattle.sat_lasting_laws.specs.declared.lasting_act.LastingAct.{LastingAct}
 use Rattle.sat_lasting_laws.specs.declared.lasting_act.LastingAct.TheVariants as lasting
 use Rattle.sat_lasting_laws.specs.declared.lasting_act.TheConstants.{MOST_CALLS}

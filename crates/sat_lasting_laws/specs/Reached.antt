@@ -9,7 +9,7 @@ use Rattle.sat_act.specs.declared.answer.Refusal.TheVariants as why
 use Rattle.sat_act.specs.declared.entry.Entry.{Entry}
 use Rattle.sat_act.specs.Deployed.{Deployed}
 use Rattle.sat_act.specs.Parts.{lane, lane_front, beats, seat}
-use Rattle.sat_machine.specs.Replay.{given_number}
+use Rattle.sat_model.specs.Replay.{given_number}
 
 -- where a client without a seat goes, and where one that has a seat doesn't
 abbrev pub unless_seated : Option ℕ → ℕ → Option ℕ

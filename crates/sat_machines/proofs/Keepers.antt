@@ -6,7 +6,7 @@ use Rattle.sat_label.specs.Words.{bit}
 use Rattle.sat_sites.specs.Interested.{Interested, keeps, keeps_one}
 use Rattle.sat_act.specs.Deployed.{Deployed}
 use Rattle.sat_act.specs.Parts.{keeps_some}
-use Rattle.sat_machine.specs.Interests.{interest_of}
+use Rattle.sat_model.specs.Interests.{interest_of}
 use Rattle.sat_site.proofs.Interests.{keeps-one-is}
 
 abbrev kept_of : Option SiteSet → ℕ → Bool

@@ -13,8 +13,8 @@ use Rattle.sat_act.specs.declared.answer.Answer.{Answer}
 use Rattle.sat_act.specs.Deployed.{Deployed}
 use Rattle.sat_act.specs.Limits.{IsDeployment}
 use Rattle.sat_act.specs.Parts.{tree_of}
-use Rattle.sat_machine.specs.State.{SiteState}
-use Rattle.sat_machine.specs.Next.{note_of as machine_note}
+use Rattle.sat_model.specs.State.{SiteState}
+use Rattle.sat_model.specs.Next.{note_of as machine_note}
 use Rattle.sat_proxy.specs.Proxy.{note_of}
 use Rattle.sat_site.specs.declared.input.SiteInput.{SiteInput}
 use Rattle.sat_site.specs.declared.input.SiteInput.TheVariants as input

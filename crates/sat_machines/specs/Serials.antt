@@ -20,8 +20,8 @@ use Rattle.sat_act.specs.Answers.{refused_if}
 use Rattle.sat_act.specs.Deployed.{Deployed}
 use Rattle.sat_act.specs.Limits.{IsDeployment}
 use Rattle.sat_act.specs.Parts.{tree_of}
-use Rattle.sat_machine.specs.Interests.{interest_of}
-use Rattle.sat_machine.specs.World.{hop_by}
+use Rattle.sat_model.specs.Interests.{interest_of}
+use Rattle.sat_model.specs.World.{hop_by}
 use Rattle.sat_serial.specs.Outboxes.{SerializerSeen}
 use Rattle.sat_serial.specs.Routes.{leads, Arrives}
 use Rattle.sat_node.specs.declared.kept.Body.{Body}

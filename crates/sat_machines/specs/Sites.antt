@@ -11,10 +11,10 @@ use Rattle.sat_act.specs.declared.answer.Answer.TheVariants as ans
 use Rattle.sat_act.specs.declared.answer.Refusal.TheVariants as why
 use Rattle.sat_act.specs.Deployed.{Deployed}
 use Rattle.sat_act.specs.Parts.{keeps_some, tree_of}
-use Rattle.sat_machine.specs.Fits.{fits}
-use Rattle.sat_machine.specs.State.{SiteState, fresh_site}
-use Rattle.sat_machine.specs.Next.{site_next, payload_at, note_of as machine_note}
-use Rattle.sat_machine.specs.Reply.{site_answer}
+use Rattle.sat_model.specs.Fits.{fits}
+use Rattle.sat_model.specs.State.{SiteState, fresh_site}
+use Rattle.sat_model.specs.Next.{site_next, payload_at, note_of as machine_note}
+use Rattle.sat_model.specs.Reply.{site_answer}
 use Rattle.sat_proxy.specs.Proxy.{note_of}
 use Rattle.sat_site.specs.declared.input.SiteInput.{SiteInput}
 use Rattle.sat_site.specs.declared.input.SiteInput.TheVariants as input

@@ -6,7 +6,7 @@ ghost use Rattle.sat_label.specs.Words.{has};
 ghost use Rattle.sat_sites.specs.Interested.{IsLabelOf};
 ghost use Rattle.sat_tree.specs.Cut.{is_edge, neighbours, IsNode};
 ghost use Rattle.sat_act.specs.Parts.{tree_of};
-ghost use Rattle.sat_machine.specs.Interests.{interest_of};
+ghost use Rattle.sat_model.specs.Interests.{interest_of};
 ghost use Rattle.sat_serial.specs.Routes.{leads};
 ghost use Rattle.sat_machines.specs.declared.serial_act.SerialAct.TheVariants as given;
 ghost use Rattle.sat_machines.specs.Serials.{SerialStands, IsSerial, answer_in, arrives, goes_to, is_label_of, is_node};

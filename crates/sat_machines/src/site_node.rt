@@ -4,8 +4,8 @@ ghost use Rattle.sat_label.specs.declared.node.NodeName.{NodeName as Name};
 ghost use Rattle.sat_label.specs.declared.node.NodeName.TheVariants.{Site as AtSite};
 ghost use Rattle.sat_label.specs.Words.{bit};
 ghost use Rattle.sat_act.specs.Limits.{IsDeployment};
-ghost use Rattle.sat_machine.specs.Interests.{interest_of};
-ghost use Rattle.sat_machine.specs.State.{SiteState, fresh_site};
+ghost use Rattle.sat_model.specs.Interests.{interest_of};
+ghost use Rattle.sat_model.specs.State.{SiteState, fresh_site};
 ghost use Rattle.sat_site.specs.declared.input.SiteInput.TheVariants as given;
 ghost use Rattle.sat_site.specs.Inputs.{fits_in};
 ghost use Rattle.sat_site.specs.Seen.{IsSite};
@@ -40,7 +40,7 @@ pub struct SiteNode<N: Laid> {
 impl<N: Laid> Model for SiteNode<N> {
     ghost use Rattle.std.specs.Prelude.{◌≡◌, ◌-◌};
     ghost use Rattle.sat_act.specs.Limits.{IsDeployment};
-    ghost use Rattle.sat_machine.specs.Interests.{interest_of};
+    ghost use Rattle.sat_model.specs.Interests.{interest_of};
     ghost use Rattle.sat_site.specs.Seen.{SiteSeen};
     ghost use Rattle.sat_machines.specs.Layout.{label_links};
 
@@ -250,7 +250,7 @@ impl<N: Laid> Machine for SiteNode<N> {
     type Answer = SiteAnswer;
 
     ghost use Rattle.std.specs.Prelude.{true};
-    ghost use Rattle.sat_machine.specs.State.{SiteState};
+    ghost use Rattle.sat_model.specs.State.{SiteState};
     ghost use Rattle.sat_site.specs.Inputs.{fits_in};
     ghost use Rattle.sat_machines.specs.Sites.{Stands, site_meaning};
 

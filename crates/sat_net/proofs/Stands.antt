@@ -14,8 +14,8 @@ use Rattle.sat_tree.specs.Shape.{TreeShape}
 use Rattle.sat_tree.specs.Cut.{seat_of, is_edge, IsNode}
 use Rattle.sat_act.specs.Deployed.{Deployed}
 use Rattle.sat_act.specs.Parts.{Handling, tree_of, seat_in, came_from, goes_beyond, is_put, is_taken}
-use Rattle.sat_machine.specs.Interests.{interest_of}
-use Rattle.sat_machine.specs.World.{link_next}
+use Rattle.sat_model.specs.Interests.{interest_of}
+use Rattle.sat_model.specs.World.{link_next}
 use Rattle.sat_serial.specs.Routes.{leads, routes, goes}
 use Rattle.sat_net.specs.Nets.{NetSeen, link_of, after_copies, after_hop}
 use Rattle.sat_net.specs.NetStands.{handled_at, links_next}

@@ -18,9 +18,9 @@ use Rattle.sat_tree.specs.Cut.{beyond, neighbours}
 use Rattle.sat_act.specs.declared.deployment.Item.{Item}
 use Rattle.sat_act.specs.Deployed.{Deployed}
 use Rattle.sat_act.specs.Parts.{replicates, keeps_some, is_target, goes_beyond}
-use Rattle.sat_machine.specs.World.{nodes_for}
+use Rattle.sat_model.specs.World.{nodes_for}
 use Rattle.sat_serial.specs.Routes.{leads, goes, routes}
-use Rattle.sat_machine.specs.Interests.{replicas_of, interest_of}
+use Rattle.sat_model.specs.Interests.{replicas_of, interest_of}
 
 keeps-in : (items : List Item) (x k : ℕ) → ◌≡◌ {A = Bool} (elim (slice_get (map replicas_of items) x) [ None ↦ false | Some set ↦ bit set.bits k ]) (elim (slice_get items x) [ None ↦ false | Some item ↦ bit item.replicas.bits k ])
 keeps-in [] x k = refl

@@ -9,8 +9,8 @@ use Rattle.sat_tree.specs.Shape.{TreeShape}
 use Rattle.sat_tree.specs.Cut.{seat_of, is_edge, IsNode, IsTree}
 use Rattle.sat_act.specs.Deployed.{Deployed}
 use Rattle.sat_act.specs.Parts.{Handling, goes_beyond, seat_in}
-use Rattle.sat_machine.specs.Interests.{interest_of}
-use Rattle.sat_machine.specs.World.{nodes_for}
+use Rattle.sat_model.specs.Interests.{interest_of}
+use Rattle.sat_model.specs.World.{nodes_for}
 use Rattle.sat_serial.specs.Routes.{leads, routes}
 use Rattle.sat_net.specs.Nets.{NetSeen, IsNet, MayHop, link_of, is_dead, fresh_net, after_send, after_hop, after_take, after_kill}
 use Rattle.sat_net.specs.NetStands.{IsNetOf, StandsNet, handled_at, links_next}

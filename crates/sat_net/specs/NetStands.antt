@@ -6,7 +6,7 @@ use Rattle.sat_tree.specs.Cut.{is_edge, IsNode}
 use Rattle.sat_act.specs.Deployed.{Deployed}
 use Rattle.sat_act.specs.Limits.{IsDeployment}
 use Rattle.sat_act.specs.Parts.{Handling, tree_of}
-use Rattle.sat_machine.specs.World.{link_next}
+use Rattle.sat_model.specs.World.{link_next}
 use Rattle.sat_net.specs.Nets.{NetSeen, IsNet, link_of, is_dead}
 
 -- a net of the tree that the deployment has for an epoch

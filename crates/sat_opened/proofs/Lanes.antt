@@ -13,11 +13,11 @@ use Rattle.sat_act.specs.declared.answer.Answer.{Answer}
 use Rattle.sat_act.specs.declared.answer.Answer.TheVariants as ans
 use Rattle.sat_act.specs.Deployed.{Deployed}
 use Rattle.sat_act.specs.Parts.{BeatNote, is_target, keeps_some}
-use Rattle.sat_machine.specs.State.{SiteState}
-use Rattle.sat_machine.specs.Input.{SiteInput as Handed}
-use Rattle.sat_machine.specs.Input as given
-use Rattle.sat_machine.specs.Next.{payload_at, note_of as machine_note}
-use Rattle.sat_machine.specs.Reply.{site_answer}
+use Rattle.sat_model.specs.State.{SiteState}
+use Rattle.sat_model.specs.Input.{SiteInput as Handed}
+use Rattle.sat_model.specs.Input as given
+use Rattle.sat_model.specs.Next.{payload_at, note_of as machine_note}
+use Rattle.sat_model.specs.Reply.{site_answer}
 use Rattle.sat_proxy.specs.Proxy.{note_of}
 use Rattle.sat_site.specs.declared.input.SiteInput.{SiteInput}
 use Rattle.sat_site.specs.declared.input.SiteInput.TheVariants as input

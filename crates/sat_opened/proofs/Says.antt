@@ -22,12 +22,12 @@ use Rattle.sat_act.specs.declared.answer.Refusal.TheVariants as why
 use Rattle.sat_act.specs.Deployed.{Deployed}
 use Rattle.sat_act.specs.Parts.{BeatNote, is_update, keeps_all, replicates}
 use Rattle.sat_act.specs.Answers.{refused_if, turned}
-use Rattle.sat_machine.specs.State.{SiteState, Version, fresh_site}
-use Rattle.sat_machine.specs.Look.{rows, ready_of, stable_of, cut_of, mode_of, waiting_of, best_of, numbers_of}
-use Rattle.sat_machine.specs.Reply.{site_answer, outlook_of, stamp_next, may_come, may_pass, gear_for, write_by, move_by}
-use Rattle.sat_machine.specs.Next.{site_next}
-use Rattle.sat_machine.specs.Input.{SiteInput as Handed}
-use Rattle.sat_machine.specs.Input as given
+use Rattle.sat_model.specs.State.{SiteState, Version, fresh_site}
+use Rattle.sat_model.specs.Look.{rows, ready_of, stable_of, cut_of, mode_of, waiting_of, best_of, numbers_of}
+use Rattle.sat_model.specs.Reply.{site_answer, outlook_of, stamp_next, may_come, may_pass, gear_for, write_by, move_by}
+use Rattle.sat_model.specs.Next.{site_next}
+use Rattle.sat_model.specs.Input.{SiteInput as Handed}
+use Rattle.sat_model.specs.Input as given
 use Rattle.sat_site.specs.declared.input.SiteInput.{SiteInput}
 use Rattle.sat_site.specs.declared.input.SiteInput.TheVariants as input
 use Rattle.sat_site.specs.Inputs.{input_of}

@@ -14,7 +14,7 @@ use Rattle.sat_act.specs.declared.answer.Refusal.TheVariants as why
 use Rattle.sat_act.specs.Deployed.{Deployed}
 use Rattle.sat_act.specs.Parts.{tree_of}
 use Rattle.sat_act.specs.Answers.{InRange, refused_if}
-use Rattle.sat_machine.specs.World.{nodes_for, dead_next}
+use Rattle.sat_model.specs.World.{nodes_for, dead_next}
 use Rattle.sat_net.proofs.Edges.{turned-edge}
 use Rattle.sat_node.specs.declared.kept.Kept.{Kept as Line}
 use Rattle.sat_node.specs.Meanings.{Runs, RunsFrom, Rises}

@@ -20,11 +20,11 @@ use Rattle.sat_act.specs.Parts.{emission, view, closed_epoch_of_entry, view_entr
 use Rattle.sat_act.specs.Answers.{InRange}
 use Rattle.sat_laws.proofs.Links.{tail_of, In-place}
 use Rattle.sat_laws.proofs.Runs.{entry}
-use Rattle.sat_machine.specs.State.{SiteState}
-use Rattle.sat_machine.specs.Input.{SiteInput as Handed}
-use Rattle.sat_machine.specs.Fits.{fits, is_gear, is_group, is_time, is_carried, is_site, is_other, is_note}
-use Rattle.sat_machine.specs.Next.{site_next, emission_next, view_next}
-use Rattle.sat_machine.specs.Replay.{after}
+use Rattle.sat_model.specs.State.{SiteState}
+use Rattle.sat_model.specs.Input.{SiteInput as Handed}
+use Rattle.sat_model.specs.Fits.{fits, is_gear, is_group, is_time, is_carried, is_site, is_other, is_note}
+use Rattle.sat_model.specs.Next.{site_next, emission_next, view_next}
+use Rattle.sat_model.specs.Replay.{after}
 use Rattle.sat_site.specs.declared.input.SiteInput.{SiteInput}
 use Rattle.sat_site.specs.declared.input.SiteInput.TheVariants as input
 use Rattle.sat_site.specs.Inputs.{input_of}

@@ -24,9 +24,9 @@ use Rattle.sat_act.specs.Deployed.{Deployed}
 use Rattle.sat_act.specs.Limits.{IsDeployment}
 use Rattle.sat_act.specs.Parts.{Handling, handling, emission, view, seat_in, tree_of, keeps_some, replicates, goes_beyond, came_from, entered_entry, taken_entry}
 use Rattle.sat_laws.proofs.Runs.{entry}
-use Rattle.sat_machine.specs.State.{SiteState}
-use Rattle.sat_machine.specs.Fits.{fits, is_other, is_gear, is_note}
-use Rattle.sat_machine.specs.Interests.{interest_of}
+use Rattle.sat_model.specs.State.{SiteState}
+use Rattle.sat_model.specs.Fits.{fits, is_other, is_gear, is_note}
+use Rattle.sat_model.specs.Interests.{interest_of}
 use Rattle.sat_net.proofs.Edges.{leaves as goes-out, stays}
 use Rattle.sat_net.proofs.Targets.{leads-is}
 use Rattle.sat_sites.specs.Interested.{is_for, keeps_one}

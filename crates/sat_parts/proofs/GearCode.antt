@@ -9,7 +9,7 @@ use Rattle.sat_label.specs.declared.carried.Carried.{Carried}
 use Rattle.sat_label.specs.declared.items.Items.{Items}
 use Rattle.sat_label.specs.declared.items.Items.TheVariants.{One, Two, Three, Four}
 use Rattle.sat_bulk.specs.declared.Drained.{Drained}
-use Rattle.sat_machine.specs.Fits.{is_time}
+use Rattle.sat_model.specs.Fits.{is_time}
 use Rattle.sat_label.specs.declared.label.Label.{Label}
 use Rattle.sat_label.specs.Grouped.{are_items, least_item, list_of}
 use Rattle.sat_sites.specs.declared.shape.Shape.{Shape}

@@ -33,12 +33,12 @@ use Rattle.sat_act.specs.declared.answer.Refusal.TheVariants as why
 use Rattle.sat_act.specs.Answers.{gear_of, refused_if}
 use Rattle.sat_act.specs.Deployed.{Deployed}
 use Rattle.sat_act.specs.Parts.{is_target, is_update_of, keeps_all, replicates}
-use Rattle.sat_machine.specs.Fits.{are_known, is_carried, is_group, is_item}
-use Rattle.sat_machine.specs.Interests.{interest_of}
-use Rattle.sat_machine.specs.Next.{payload_at, put, version_at}
-use Rattle.sat_machine.specs.Reply.{gear_for}
-use Rattle.sat_machine.specs.State.{Version}
-use Rattle.sat_machine.proofs.Writing.{part-value}
+use Rattle.sat_model.specs.Fits.{are_known, is_carried, is_group, is_item}
+use Rattle.sat_model.specs.Interests.{interest_of}
+use Rattle.sat_model.specs.Next.{payload_at, put, version_at}
+use Rattle.sat_model.specs.Reply.{gear_for}
+use Rattle.sat_model.specs.State.{Version}
+use Rattle.sat_model.proofs.Writing.{part-value}
 use Rattle.sat_hub.specs.Changes.{shape_for}
 use Rattle.sat_hub.specs.Inputs.{is_carried_here, is_group_here, is_item_here, is_site_here}
 use Rattle.sat_hub.specs.Seen.{has_parts_here}

@@ -19,8 +19,8 @@ use Rattle.sat_gear.proofs.Places.{within_places}
 use Rattle.sat_act.specs.Deployed.{Deployed}
 use Rattle.sat_act.specs.Answers.{gear_of}
 use Rattle.sat_act.specs.Parts.{is_update_of, items_of, replicates}
-use Rattle.sat_machine.specs.Next.{part_for, put, version_at}
-use Rattle.sat_machine.specs.State.{Version}
+use Rattle.sat_model.specs.Next.{part_for, put, version_at}
+use Rattle.sat_model.specs.State.{Version}
 use Rattle.sat_hub.specs.Changes.{shape_for}
 use Rattle.sat_hub.specs.Seen.{has_parts_here}
 use Rattle.sat_hub.proofs.Lists.{passed}

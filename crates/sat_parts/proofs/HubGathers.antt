@@ -15,7 +15,7 @@ use Rattle.sat_sink.proofs.Fits.{goes-on, on-goes}
 use Rattle.sat_sink.proofs.Queues.{joined-get}
 use Rattle.sat_act.specs.declared.answer.Answer.TheVariants as ans
 use Rattle.sat_act.specs.Deployed.{Deployed}
-use Rattle.sat_machine.specs.Look.{least_row, rows}
+use Rattle.sat_model.specs.Look.{least_row, rows}
 use Rattle.sat_hub.specs.Seen.{HubSeen, IsGather, IsHub}
 use Rattle.sat_hub.specs.Inputs.{is_given_here}
 use Rattle.sat_hub.specs.Changes.{counts_of, gathered}

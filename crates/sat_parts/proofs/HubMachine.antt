@@ -29,7 +29,7 @@ use Rattle.sat_joint.proofs.Sites.{IsOfHub, hub-answers, is_gears, is_show}
 use Rattle.sat_machines.specs.Layout.{label_link}
 use Rattle.sat_machines.specs.Plain.{is_plain}
 use Rattle.sat_machines.specs.Sites.{epoch_by, number_of, sent_by}
-use Rattle.sat_machine.specs.Fits.{fits}
+use Rattle.sat_model.specs.Fits.{fits}
 use Rattle.sat_machines.proofs.Plain.{beat_plain, plain_answer}
 use Rattle.sat_parts.specs.declared.hub_answer.HubAnswer.{HubAnswer}
 use Rattle.sat_parts.specs.declared.hub_input.HubInput.{HubInput}

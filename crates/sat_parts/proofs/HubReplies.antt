@@ -8,10 +8,10 @@ use Rattle.sat_act.specs.declared.answer.Answer.{Answer}
 use Rattle.sat_act.specs.declared.answer.Answer.TheVariants as ans
 use Rattle.sat_act.specs.Deployed.{Deployed}
 use Rattle.sat_act.specs.Limits.{IsDeployment}
-use Rattle.sat_machine.specs.Fits.{fits}
-use Rattle.sat_machine.specs.Reply.{site_answer, site_step}
-use Rattle.sat_machine.specs.Next.{site_next}
-use Rattle.sat_machine.specs.State.{SiteState}
+use Rattle.sat_model.specs.Fits.{fits}
+use Rattle.sat_model.specs.Reply.{site_answer, site_step}
+use Rattle.sat_model.specs.Next.{site_next}
+use Rattle.sat_model.specs.State.{SiteState}
 use Rattle.sat_hub.specs.Seen.{HubSeen, IsHub}
 use Rattle.sat_site.specs.Laws.{EachFits, EachStep}
 use Rattle.sat_site.specs.Stands.{StandsSite}

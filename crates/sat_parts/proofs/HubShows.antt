@@ -11,7 +11,7 @@ use Rattle.sat_pool.specs.Pool.{all_waiting}
 use Rattle.sat_epoch.specs.Epochs.{in_stamp}
 use Rattle.sat_act.specs.declared.answer.Answer.TheVariants as ans
 use Rattle.sat_act.specs.Deployed.{Deployed}
-use Rattle.sat_machine.specs.Look.{payload_in}
+use Rattle.sat_model.specs.Look.{payload_in}
 use Rattle.sat_proxy.specs.declared.proxy.TurnFault.TheVariants as turn
 use Rattle.sat_proxy.specs.declared.proxy.StampFault.TheVariants as stamp
 use Rattle.sat_proxy.specs.Steps as made

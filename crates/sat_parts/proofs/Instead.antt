@@ -11,7 +11,7 @@ use Rattle.sat_gear.specs.Gear.{GearSeen, IsGear, fresh_gear, places, version_of
 use Rattle.sat_act.specs.Deployed.{Deployed}
 use Rattle.sat_act.specs.Answers.{gear_of}
 use Rattle.sat_act.specs.Parts.{replicates}
-use Rattle.sat_machine.specs.State.{SiteState, Version}
+use Rattle.sat_model.specs.State.{SiteState, Version}
 use Rattle.sat_hub.specs.Seen.{HubSeen, IsHub}
 use Rattle.sat_hub.proofs.Fresh.{always}
 use Rattle.sat_hub.proofs.Lists.{map-cases, Mapped, get-within, same-get}

@@ -18,7 +18,7 @@ use Rattle.sat_gear.specs.Gear.{GearSeen, after_drain, after_show, after_tick, a
 use Rattle.sat_act.specs.declared.answer.Answer.{Answer}
 use Rattle.sat_act.specs.declared.answer.Answer.TheVariants as ans
 use Rattle.sat_act.specs.declared.answer.Refusal.TheVariants as why
-use Rattle.sat_machine.specs.Fits.{is_time}
+use Rattle.sat_model.specs.Fits.{is_time}
 use Rattle.sat_hub.specs.Seen.{has_parts_here}
 use Rattle.sat_hub.specs.Inputs.{is_carried_here, is_group_here, is_item_here, is_site_here}
 use Rattle.sat_site.specs.SiteSteps.{moved_answer, moved_gear, stamp_answer_of, version_answer}

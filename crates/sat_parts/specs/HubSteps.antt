@@ -9,7 +9,7 @@ use Rattle.sat_beat.specs.declared.Beat.{Beat}
 use Rattle.sat_sink.specs.Sink.{Sink, are_new, ready_of}
 use Rattle.sat_act.specs.declared.answer.Answer.{Answer}
 use Rattle.sat_act.specs.declared.answer.Answer.TheVariants as ans
-use Rattle.sat_machine.specs.Fits.{is_time}
+use Rattle.sat_model.specs.Fits.{is_time}
 use Rattle.sat_epoch.specs.Epochs.{advance_fault, close_fault, fall_fault, is_stamp}
 use Rattle.sat_proxy.specs.Steps.{after_beat, after_bulk, has_come, stamp_shows, turn_shows}
 use Rattle.sat_proxy.specs.Answers.{advance_answer, attach_answer, beat_answer, bulk_answer, stamp_answer, turn_answer}

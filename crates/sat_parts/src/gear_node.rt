@@ -36,7 +36,7 @@ impl<N: Laid> Model for GearNode<N> {
     ghost use Rattle.std.specs.Prelude.{◌≡◌};
     ghost use Rattle.sat_act.specs.Limits.{IsDeployment};
     ghost use Rattle.sat_gear.specs.Gear.{GearSeen};
-    ghost use Rattle.sat_machine.specs.Interests.{interest_of};
+    ghost use Rattle.sat_model.specs.Interests.{interest_of};
 
     ghost Value = { GearSeen };
 

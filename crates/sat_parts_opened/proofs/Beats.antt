@@ -6,8 +6,8 @@ use Rattle.sat_act.specs.declared.answer.Answer.{Answer}
 use Rattle.sat_act.specs.declared.answer.Answer.TheVariants as ans
 use Rattle.sat_act.specs.Deployed.{Deployed}
 use Rattle.sat_act.specs.Parts.{BeatNote}
-use Rattle.sat_machine.specs.Next.{note_of as machine_note}
-use Rattle.sat_machine.specs.State.{SiteState}
+use Rattle.sat_model.specs.Next.{note_of as machine_note}
+use Rattle.sat_model.specs.State.{SiteState}
 use Rattle.sat_node.specs.declared.kept.Kept.{Kept as Line}
 use Rattle.sat_stitch.specs.Nodes.{beat_made, input_of, with_input}
 use Rattle.sat_joint.specs.Pieces.{given_of}

@@ -12,7 +12,7 @@ use Rattle.sat_label.specs.declared.node.NodeName.TheVariants as named
 use Rattle.sat_act.specs.Deployed.{Deployed}
 use Rattle.sat_act.specs.Answers.{InRange}
 use Rattle.sat_act.specs.Limits.{IsDeployment}
-use Rattle.sat_machine.specs.Fits.{is_carried, is_group}
+use Rattle.sat_model.specs.Fits.{is_carried, is_group}
 use Rattle.sat_node.specs.declared.kept.Kept.{Kept as Line}
 use Rattle.sat_joint.specs.Pieces.{EachOf, Piece, given_of}
 use Rattle.sat_joint.specs.Table.{AtGear, AtHub, Node, home_at, is_shared, stands_in}

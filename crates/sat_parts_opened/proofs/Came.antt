@@ -9,7 +9,7 @@ use Rattle.sat_bulk.specs.Payloads.{Payload}
 use Rattle.sat_act.specs.declared.act.Act.TheVariants as act
 use Rattle.sat_act.specs.Deployed.{Deployed}
 use Rattle.sat_act.specs.Parts.{BeatNote}
-use Rattle.sat_machine.specs.Fits.{fits, is_gear, is_note, is_other}
+use Rattle.sat_model.specs.Fits.{fits, is_gear, is_note, is_other}
 use Rattle.sat_proxy.specs.Proxy.{note_of}
 use Rattle.sat_node.specs.declared.kept.Kept.{Kept as Line}
 use Rattle.sat_node.specs.declared.kept.Body.TheVariants as body

@@ -16,10 +16,10 @@ use Rattle.sat_act.specs.Histories.{listed}
 use Rattle.sat_act.specs.Limits.{IsDeployment}
 use Rattle.sat_act.specs.Parts.{emission, entered_entry, taken_entry, tree_of, view}
 use Rattle.sat_laws.proofs.Runs.{entry}
-use Rattle.sat_machine.specs.Fits.{fits, is_note, is_other}
-use Rattle.sat_machine.specs.Input.{SiteInput as Given}
-use Rattle.sat_machine.specs.Next.{site_next}
-use Rattle.sat_machine.specs.Reply.{site_answer}
+use Rattle.sat_model.specs.Fits.{fits, is_note, is_other}
+use Rattle.sat_model.specs.Input.{SiteInput as Given}
+use Rattle.sat_model.specs.Next.{site_next}
+use Rattle.sat_model.specs.Reply.{site_answer}
 use Rattle.sat_proxy.specs.Proxy.{note_of}
 use Rattle.sat_site.specs.Inputs.{input_of}
 use Rattle.sat_node.specs.declared.kept.Kept.{Kept as Line}

@@ -14,8 +14,8 @@ use Rattle.sat_label.specs.declared.node.NodeName.{NodeName}
 use Rattle.sat_label.specs.declared.node.NodeName.TheVariants as named
 use Rattle.sat_act.specs.Deployed.{Deployed}
 use Rattle.sat_act.specs.Answers.{gear_of}
-use Rattle.sat_machine.specs.Fits.{is_carried, is_item, is_site}
-use Rattle.sat_machine.specs.Reply.{gear_for}
+use Rattle.sat_model.specs.Fits.{is_carried, is_item, is_site}
+use Rattle.sat_model.specs.Reply.{gear_for}
 use Rattle.sat_node.specs.declared.kept.Kept.{Kept as Line}
 use Rattle.sat_node.specs.Meanings.{Runs}
 use Rattle.sat_stitch.specs.Kept.{Distinct, Kept, entry_of}

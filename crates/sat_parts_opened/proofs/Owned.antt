@@ -8,8 +8,8 @@ use Rattle.sat_label.specs.declared.label.Label.{Label}
 use Rattle.sat_act.specs.declared.act.Act.TheVariants as act
 use Rattle.sat_act.specs.declared.answer.Answer.{Answer}
 use Rattle.sat_act.specs.Deployed.{Deployed}
-use Rattle.sat_machine.specs.Next.{fresh_next}
-use Rattle.sat_machine.specs.State.{fresh_site}
+use Rattle.sat_model.specs.Next.{fresh_next}
+use Rattle.sat_model.specs.State.{fresh_site}
 use Rattle.sat_stitch.specs.Kept.{Nothing}
 use Rattle.sat_joint.specs.Pieces.{Drain, Drained, Drains, Handed, Piece, Plain, Showing, EachOf}
 use Rattle.sat_joint.specs.Table.{Node, AtHub, AtGear, stands_in}

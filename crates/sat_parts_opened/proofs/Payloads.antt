@@ -18,11 +18,11 @@ use Rattle.sat_act.specs.declared.answer.Refusal.TheVariants as why
 use Rattle.sat_act.specs.Deployed.{Deployed}
 use Rattle.sat_act.specs.Answers.{refused_if}
 use Rattle.sat_act.specs.Parts.{is_target, keeps_all, keeps_some, replicates}
-use Rattle.sat_machine.specs.Input.{SiteInput}
-use Rattle.sat_machine.specs.Input as site
-use Rattle.sat_machine.specs.Next.{payload_at}
-use Rattle.sat_machine.specs.Reply.{gear_for, write_by, read_by, move_by}
-use Rattle.sat_machine.specs.State.{Version}
+use Rattle.sat_model.specs.Input.{SiteInput}
+use Rattle.sat_model.specs.Input as site
+use Rattle.sat_model.specs.Next.{payload_at}
+use Rattle.sat_model.specs.Reply.{gear_for, write_by, read_by, move_by}
+use Rattle.sat_model.specs.State.{Version}
 use Rattle.sat_node.specs.declared.kept.Kept.{Kept as Line}
 use Rattle.sat_stitch.specs.Kept.{Nothing, OfClient}
 use Rattle.sat_stitch.specs.Nodes.{input_of, payload_made, with_input, makes_payload}

@@ -10,8 +10,8 @@ use Rattle.sat_act.specs.declared.answer.Answer.TheVariants as ans
 use Rattle.sat_act.specs.Deployed.{Deployed}
 use Rattle.sat_act.specs.Parts.{items_of}
 use Rattle.sat_bulk.specs.Payloads.{Payload}
-use Rattle.sat_machine.specs.Next.{payload_at}
-use Rattle.sat_machine.specs.Reply.{gear_for}
+use Rattle.sat_model.specs.Next.{payload_at}
+use Rattle.sat_model.specs.Reply.{gear_for}
 use Rattle.sat_node.specs.declared.kept.Kept.{Kept as Line}
 use Rattle.sat_node.specs.Meanings.{Runs}
 use Rattle.sat_joint.specs.Compare.{Gave, Got, NoShare, Share}

@@ -14,7 +14,7 @@ use Rattle.sat_act.specs.Parts.{tree_of}
 use Rattle.sat_act.specs.Runs.{IsRun}
 use Rattle.sat_gear.specs.Gear.{GearSeen}
 use Rattle.sat_hub.specs.Seen.{HubSeen}
-use Rattle.sat_machine.specs.Replay.{site_state}
+use Rattle.sat_model.specs.Replay.{site_state}
 use Rattle.sat_node.specs.declared.kept.Kept.{Kept as Line}
 use Rattle.sat_node.specs.Links.{HeldSeen, Each}
 use Rattle.sat_node.specs.Meanings.{Runs, replay}

@@ -8,8 +8,8 @@ use Rattle.sat_act.specs.declared.answer.Answer.{Answer}
 use Rattle.sat_act.specs.declared.answer.Answer.TheVariants as ans
 use Rattle.sat_act.specs.Deployed.{Deployed}
 use Rattle.sat_act.specs.Settling.{is_done}
-use Rattle.sat_machine.specs.Look.{ready_of, rows, stable_of}
-use Rattle.sat_machine.specs.Next.{note_of as machine_note}
+use Rattle.sat_model.specs.Look.{ready_of, rows, stable_of}
+use Rattle.sat_model.specs.Next.{note_of as machine_note}
 use Rattle.sat_hub.specs.Changes.{beat_for, made_for}
 use Rattle.sat_hub.specs.Seen.{HubSeen, IsHub}
 use Rattle.sat_site.specs.SiteSteps.{emit_answer}

@@ -30,7 +30,7 @@ use Rattle.sat_site.specs.Laws.{EachStep}
 use Rattle.sat_site.proofs.Asked.{stamp-done, turn-done, turn-none}
 use Rattle.sat_joint.specs.Machines.{HubState, hub_alone}
 use Rattle.sat_hub_laws.specs.Hubs.{hub_answer, hub_shows as shown_payload}
-use Rattle.sat_machine.specs.State.{SiteState}
+use Rattle.sat_model.specs.State.{SiteState}
 use Rattle.sat_node.specs.declared.joint.Part.{Part}
 use Rattle.sat_node.specs.declared.kept.Body.{Body}
 use Rattle.sat_node.specs.declared.kept.Body.TheVariants as body

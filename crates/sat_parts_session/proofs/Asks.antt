@@ -12,9 +12,9 @@ use Rattle.sat_act.specs.declared.answer.Refusal.{Refusal}
 use Rattle.sat_act.specs.declared.answer.Refusal.TheVariants as why
 use Rattle.sat_act.specs.Deployed.{Deployed}
 use Rattle.sat_act.specs.Done.{Written, write_in}
-use Rattle.sat_machine.specs.Fits.{is_site, is_goal}
-use Rattle.sat_machine.specs.Input as site
-use Rattle.sat_machine.specs.Reply.{site_answer}
+use Rattle.sat_model.specs.Fits.{is_site, is_goal}
+use Rattle.sat_model.specs.Input as site
+use Rattle.sat_model.specs.Reply.{site_answer}
 use Rattle.sat_node.specs.Links.{IsLocal}
 use Rattle.sat_node.specs.Meanings.{Meaning, replay}
 use Rattle.sat_node.specs.Seen.{NodeSeen}

@@ -20,8 +20,8 @@ use Rattle.sat_act.specs.declared.answer.Refusal.TheVariants as why
 use Rattle.sat_act.specs.Answers.{refused_if}
 use Rattle.sat_act.specs.Deployed.{Deployed}
 use Rattle.sat_act.specs.Parts.{keeps_all}
-use Rattle.sat_machine.specs.Next.{payload_at}
-use Rattle.sat_machine.specs.Reply.{gear_for, write_by}
+use Rattle.sat_model.specs.Next.{payload_at}
+use Rattle.sat_model.specs.Reply.{gear_for, write_by}
 use Rattle.sat_gear.specs.Gear.{GearSeen}
 use Rattle.sat_node.specs.declared.joint.Part.{Part}
 use Rattle.sat_node.specs.declared.kept.CallFault.{CallFault}

@@ -4,7 +4,7 @@ use Rattle.sat_label.specs.declared.node.NodeName.{NodeName}
 use Rattle.sat_label.specs.declared.node.NodeName.TheVariants as named
 use Rattle.sat_act.specs.declared.answer.Answer.{Answer}
 use Rattle.sat_act.specs.Deployed.{Deployed}
-use Rattle.sat_machine.specs.State.{SiteState}
+use Rattle.sat_model.specs.State.{SiteState}
 use Rattle.sat_joint.specs.Machines.{GearNode, gear_alone}
 use Rattle.sat_parts.specs.declared.hub_answer.HubAnswer.{HubAnswer}
 use Rattle.sat_parts.specs.declared.hub_input.HubInput.{HubInput}

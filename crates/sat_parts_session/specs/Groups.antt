@@ -12,8 +12,8 @@ use Rattle.sat_act.specs.declared.answer.Answer.{Answer}
 use Rattle.sat_act.specs.declared.answer.Answer.TheVariants as ans
 use Rattle.sat_act.specs.Answers.{gear_of}
 use Rattle.sat_act.specs.Deployed.{Deployed}
-use Rattle.sat_machine.specs.Next.{payload_at}
-use Rattle.sat_machine.specs.Reply.{gear_for}
+use Rattle.sat_model.specs.Next.{payload_at}
+use Rattle.sat_model.specs.Reply.{gear_for}
 use Rattle.sat_node.specs.Links.{Both, HeldSeen}
 use Rattle.sat_node.specs.Together.{AllSame, KeepsSome}
 use Rattle.sat_parts.specs.declared.gear_answer.GearAnswer.{GearAnswer}

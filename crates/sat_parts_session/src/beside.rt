@@ -5,7 +5,7 @@ ghost use Rattle.sat_label.specs.declared.node.NodeName.TheVariants.{Gear as AtG
 ghost use Rattle.sat_label.specs.Grouped.{list_of};
 ghost use Rattle.sat_label.specs.Words.{has};
 ghost use Rattle.sat_act.specs.Answers.{gear_of};
-ghost use Rattle.sat_machine.specs.Reply.{gear_for};
+ghost use Rattle.sat_model.specs.Reply.{gear_for};
 ghost use Rattle.sat_node.specs.Links.{Each};
 ghost use Rattle.sat_node.specs.Together.{AreSure, lent};
 ghost use Rattle.sat_opened.specs.Opened.{name_in};

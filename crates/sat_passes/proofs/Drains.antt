@@ -4,7 +4,7 @@ use Rattle.sat_act.specs.Deployed.{Deployed}
 use Rattle.sat_tree.specs.Cut.{neighbours}
 use Rattle.sat_label.specs.declared.label.Label.{Label}
 use Rattle.sat_label.specs.declared.node.NodeId.{NodeId}
-use Rattle.sat_machine.specs.Interests.{interest_of}
+use Rattle.sat_model.specs.Interests.{interest_of}
 use Rattle.sat_machines.specs.declared.serial_act.SerialAct.TheVariants as given
 use Rattle.sat_machines.specs.Sites.{some_if}
 use Rattle.sat_link.specs.Ends.{rise}

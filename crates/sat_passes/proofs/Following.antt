@@ -21,11 +21,11 @@ use Rattle.sat_act.specs.Deployed.{Deployed}
 use Rattle.sat_act.specs.Limits.{IsDeployment}
 use Rattle.sat_act.specs.Parts.{BeatNote}
 use Rattle.sat_act.specs.Settling.{is_done}
-use Rattle.sat_machine.specs.Input as given
-use Rattle.sat_machine.specs.Look.{ready_of, rows, stable_of}
-use Rattle.sat_machine.specs.Next.{note_of as machine_note, site_next}
-use Rattle.sat_machine.specs.Reply.{site_answer}
-use Rattle.sat_machine.specs.State.{SiteState}
+use Rattle.sat_model.specs.Input as given
+use Rattle.sat_model.specs.Look.{ready_of, rows, stable_of}
+use Rattle.sat_model.specs.Next.{note_of as machine_note, site_next}
+use Rattle.sat_model.specs.Reply.{site_answer}
+use Rattle.sat_model.specs.State.{SiteState}
 use Rattle.sat_proxy.specs.Proxy.{close_in, note_of}
 use Rattle.sat_site.specs.declared.input.SiteInput.{SiteInput}
 use Rattle.sat_site.specs.declared.input.SiteInput.TheVariants as input

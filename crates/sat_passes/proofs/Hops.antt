@@ -14,7 +14,7 @@ use Rattle.sat_act.specs.declared.answer.Answer.TheVariants as ans
 use Rattle.sat_act.specs.declared.answer.Refusal.TheVariants as why
 use Rattle.sat_act.specs.Answers.{refused_if}
 use Rattle.sat_act.specs.Deployed.{Deployed}
-use Rattle.sat_machine.specs.World.{nodes_for}
+use Rattle.sat_model.specs.World.{nodes_for}
 use Rattle.sat_node.specs.declared.kept.Kept.{Kept}
 use Rattle.sat_node.specs.declared.kept.Body.{Body}
 use Rattle.sat_node.specs.declared.kept.Body.TheVariants as body

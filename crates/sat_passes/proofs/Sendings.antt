@@ -14,8 +14,8 @@ use Rattle.sat_act.specs.declared.answer.Answer.TheVariants as ans
 use Rattle.sat_act.specs.Deployed.{Deployed}
 use Rattle.sat_act.specs.Limits.{IsDeployment}
 use Rattle.sat_act.specs.Settling.{is_done}
-use Rattle.sat_machine.specs.Reply.{site_answer}
-use Rattle.sat_machine.specs.State.{SiteState}
+use Rattle.sat_model.specs.Reply.{site_answer}
+use Rattle.sat_model.specs.State.{SiteState}
 use Rattle.sat_site.specs.declared.input.SiteInput.{SiteInput}
 use Rattle.sat_site.specs.declared.input.SiteInput.TheVariants as input
 use Rattle.sat_site.specs.Changes.{beat_for, made_for}

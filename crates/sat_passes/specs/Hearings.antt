@@ -3,7 +3,7 @@ use Rattle.std.specs.Prelude.{◌≡◌, ℕ, zero, suc, ◌-◌, ◌^◌, ◌&&
 use Rattle.sat_label.specs.declared.node.NodeName.{NodeName}
 use Rattle.sat_beat.specs.declared.Beat.{Beat}
 use Rattle.sat_act.specs.Deployed.{Deployed}
-use Rattle.sat_machine.specs.Fits.{fits}
+use Rattle.sat_model.specs.Fits.{fits}
 use Rattle.sat_site.specs.declared.input.SiteInput.{SiteInput}
 use Rattle.sat_site.specs.declared.input.SiteInput.TheVariants as input
 use Rattle.sat_site.specs.Inputs.{input_of}

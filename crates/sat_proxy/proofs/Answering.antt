@@ -25,10 +25,10 @@ use Rattle.sat_act.specs.declared.answer.Refusal.TheVariants as why
 use Rattle.sat_act.specs.Deployed.{Deployed}
 use Rattle.sat_act.specs.Parts.{BeatNote, is_update}
 use Rattle.sat_act.specs.Answers.{refused_if, turned}
-use Rattle.sat_machine.specs.Input as given
-use Rattle.sat_machine.specs.State.{SiteState}
-use Rattle.sat_machine.specs.Look as look
-use Rattle.sat_machine.specs.Reply.{outlook_of, may_come, site_answer}
+use Rattle.sat_model.specs.Input as given
+use Rattle.sat_model.specs.State.{SiteState}
+use Rattle.sat_model.specs.Look as look
+use Rattle.sat_model.specs.Reply.{outlook_of, may_come, site_answer}
 use Rattle.sat_proxy.specs.declared.proxy.TurnFault.TheVariants as turn
 use Rattle.sat_proxy.specs.declared.proxy.StampFault.TheVariants as stamp
 use Rattle.sat_proxy.specs.Proxy.{ProxySeen, best_of, note_of, noted}

@@ -27,12 +27,12 @@ use Rattle.sat_act.specs.declared.answer.Answer.TheVariants as ans
 use Rattle.sat_act.specs.Deployed.{Deployed}
 use Rattle.sat_act.specs.Parts.{BeatNote, known_by}
 use Rattle.sat_act.specs.Settling.{is_done}
-use Rattle.sat_machine.specs.Input as given
-use Rattle.sat_machine.specs.State.{SiteState, ProxyState}
-use Rattle.sat_machine.specs.Look.{best_in, front_in, mode_of}
-use Rattle.sat_machine.specs.Look as look
-use Rattle.sat_machine.specs.Next.{raised, proxy_next}
-use Rattle.sat_machine.specs.Reply.{past_by, candidate_by, own_passed}
+use Rattle.sat_model.specs.Input as given
+use Rattle.sat_model.specs.State.{SiteState, ProxyState}
+use Rattle.sat_model.specs.Look.{best_in, front_in, mode_of}
+use Rattle.sat_model.specs.Look as look
+use Rattle.sat_model.specs.Next.{raised, proxy_next}
+use Rattle.sat_model.specs.Reply.{past_by, candidate_by, own_passed}
 use Rattle.sat_proxy.specs.declared.proxy.TurnFault.TheVariants as turn
 use Rattle.sat_proxy.specs.declared.proxy.StampFault.TheVariants as stamp
 use Rattle.sat_proxy.specs.Proxy.{ProxySeen, lane_place, window_of, front_at, fronts_of, best_of, last_of, first_point, close_in, note_of, noted, outlook_here}

@@ -7,7 +7,7 @@ use Rattle.std.proofs.lemmas.Bool.Decides.{nat_tests}
 use Rattle.std.proofs.Math.Nat.{eq-or-lt_of_le}
 use Rattle.sat_label.specs.declared.point.Point.{Point}
 use Rattle.sat_label.specs.Words.{below}
-use Rattle.sat_machine.specs.Next.{raised}
+use Rattle.sat_model.specs.Next.{raised}
 use Rattle.sat_proxy.specs.Proxy.{first_point}
 use Rattle.sat_proxy.specs.Helps.{known_to, raised_first, raised_to}
 

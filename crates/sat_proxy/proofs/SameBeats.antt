@@ -9,7 +9,7 @@ use Rattle.sat_beat.specs.declared.Beat.{Beat}
 use Rattle.sat_beat.specs.Beats.{TakenBeats, is_complete, newest, above, forward, refreshed, is_old, has_beat, placed, RisesFrom, next_number, IsTaken}
 use Rattle.sat_beat.proofs.Passed.{some_is, rises-in}
 use Rattle.sat_act.specs.Parts.{BeatNote}
-use Rattle.sat_machine.specs.Look.{best_in}
+use Rattle.sat_model.specs.Look.{best_in}
 use Rattle.sat_proxy.specs.Proxy.{note_of, noted}
 use Rattle.sat_proxy.specs.Steps.{with_beat}
 use Rattle.sat_proxy.specs.Stands.{IsLater, StandsBeats}

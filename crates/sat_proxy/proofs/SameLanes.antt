@@ -12,8 +12,8 @@ use Rattle.sat_bulk.proofs.Windows.{take_has}
 use Rattle.sat_beat.specs.declared.Beat.{Beat}
 use Rattle.sat_beat.specs.Beats.{is_complete, is_reached}
 use Rattle.sat_act.specs.Parts.{BeatNote}
-use Rattle.sat_machine.specs.State.{ProxyState}
-use Rattle.sat_machine.specs.Look.{front_in, gap_from, top}
+use Rattle.sat_model.specs.State.{ProxyState}
+use Rattle.sat_model.specs.Look.{front_in, gap_from, top}
 use Rattle.sat_proxy.specs.Proxy.{ProxySeen, IsProxy, no_numbers, lane_place, window_of, front_at, fronts_of, note_of}
 use Rattle.sat_proxy.specs.Stands.{StandsProxy, is_reached_by}
 use Rattle.sat_proxy.proofs.SameLists.{all-more, all-same, map-below}

@@ -14,10 +14,10 @@ use Rattle.sat_epoch.specs.Epochs.{Epochs}
 use Rattle.sat_act.specs.Deployed.{Deployed}
 use Rattle.sat_act.specs.Parts.{BeatNote, best_passes, reaches, closed_below, passed_ts, passed_label}
 use Rattle.sat_act.specs.Answers.{is_drained}
-use Rattle.sat_machine.specs.State.{SiteState}
-use Rattle.sat_machine.specs.Look as look
-use Rattle.sat_machine.specs.Look.{best_in, label_of, mode_of}
-use Rattle.sat_machine.specs.Reply.{Outlook, outlook_of, comes_moving, comes_taken, comes_beats, may_come, past_by, candidate_by, sites_passed, own_passed, stamp_next, may_pass}
+use Rattle.sat_model.specs.State.{SiteState}
+use Rattle.sat_model.specs.Look as look
+use Rattle.sat_model.specs.Look.{best_in, label_of, mode_of}
+use Rattle.sat_model.specs.Reply.{Outlook, outlook_of, comes_moving, comes_taken, comes_beats, may_come, past_by, candidate_by, sites_passed, own_passed, stamp_next, may_pass}
 use Rattle.sat_proxy.specs.Proxy.{ProxySeen, best_of, last_of, noted, outlook_here}
 use Rattle.sat_proxy.specs.Asks.{others, is_known, is_reached, may_come_at, all_passed, stamp_next_at, may_pass_at}
 use Rattle.sat_proxy.specs.Steps.{heard_of, has_come, stamp_label}

@@ -7,8 +7,8 @@ use Rattle.sat_bulk.specs.Windows.{Numbers, has_number}
 use Rattle.sat_pool.specs.Pool.{none_waiting, all_waiting}
 use Rattle.sat_beat.specs.Beats.{TakenBeats, none_taken}
 use Rattle.sat_act.specs.Parts.{BeatNote}
-use Rattle.sat_machine.specs.State.{fresh_site}
-use Rattle.sat_machine.specs.Look.{best_in}
+use Rattle.sat_model.specs.State.{fresh_site}
+use Rattle.sat_model.specs.Look.{best_in}
 use Rattle.sat_proxy.specs.Proxy.{no_numbers, first_point, fresh_proxy, lane_place}
 use Rattle.sat_proxy.specs.Stands.{SamePayloads, StandsBeats, is_reached_by}
 use Rattle.sat_proxy.specs.Laws.{Starts}

@@ -8,7 +8,7 @@ use Rattle.sat_label.specs.Order.{mark, point_le, zero_point}
 use Rattle.sat_label.specs.Words.{below}
 use Rattle.sat_act.specs.Parts.{best_passes, reaches, passed_ts}
 use Rattle.sat_act.specs.Answers.{is_drained}
-use Rattle.sat_machine.specs.Reply.{Outlook, comes_moving, candidate_by, own_passed}
+use Rattle.sat_model.specs.Reply.{Outlook, comes_moving, candidate_by, own_passed}
 
 -- each site but j passes
 abbrev pub others : ℕ → ℕ → (ℕ → Bool) → Bool

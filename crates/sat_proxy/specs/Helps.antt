@@ -9,7 +9,7 @@ use Rattle.sat_pool.specs.Pool.{Waiting, row_of, has_ts_to}
 use Rattle.sat_beat.specs.Beats.{BeatsSeen, taken_of}
 use Rattle.sat_epoch.specs.Epochs.{Epochs, in_stamp}
 use Rattle.sat_act.specs.Parts.{BeatNote, best_passes, closed_below, reaches}
-use Rattle.sat_machine.specs.Next.{raised}
+use Rattle.sat_model.specs.Next.{raised}
 use Rattle.sat_proxy.specs.Proxy.{ProxySeen, noted, close_in, first_point, last_of, AreViewsOf}
 use Rattle.sat_proxy.specs.Asks.{others}
 

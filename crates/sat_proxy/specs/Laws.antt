@@ -10,11 +10,11 @@ use Rattle.sat_beat.specs.declared.Beat.{Beat}
 use Rattle.sat_epoch.specs.Epochs.{Epochs, close_cut, in_stamp}
 use Rattle.sat_act.specs.Deployed.{Deployed}
 use Rattle.sat_act.specs.Settling.{is_done}
-use Rattle.sat_machine.specs.Input as given
-use Rattle.sat_machine.specs.State.{SiteState, fresh_site}
-use Rattle.sat_machine.specs.Look.{front_of, mode_of}
-use Rattle.sat_machine.specs.Next.{proxy_next}
-use Rattle.sat_machine.specs.Reply.{site_answer}
+use Rattle.sat_model.specs.Input as given
+use Rattle.sat_model.specs.State.{SiteState, fresh_site}
+use Rattle.sat_model.specs.Look.{front_of, mode_of}
+use Rattle.sat_model.specs.Next.{proxy_next}
+use Rattle.sat_model.specs.Reply.{site_answer}
 use Rattle.sat_proxy.specs.Proxy.{ProxySeen, IsProxy, window_of, front_at, fresh_proxy, note_of}
 use Rattle.sat_proxy.specs.Steps.{after_bulk, after_beat, turn_after, stamp_after, advance_after, heard_of}
 use Rattle.sat_proxy.specs.Answers.{attach_answer, bulk_answer, beat_answer, turn_answer, stamp_answer, advance_answer}

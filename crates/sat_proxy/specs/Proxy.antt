@@ -9,7 +9,7 @@ use Rattle.sat_beat.specs.declared.Beat.{Beat}
 use Rattle.sat_beat.specs.Beats.{BeatsSeen, IsBeats, IsBest, fresh_beats, taken_of}
 use Rattle.sat_epoch.specs.Epochs.{Epochs, in_stamp}
 use Rattle.sat_act.specs.Parts.{BeatNote}
-use Rattle.sat_machine.specs.Reply.{Outlook}
+use Rattle.sat_model.specs.Reply.{Outlook}
 
 -- how many sites there are, how many gears each has, and which of them this one is; by sending site and gear, which
 -- numbers of that lane it took; the updates that wait here; the beats that it took; and by site the point up to which

@@ -9,8 +9,8 @@ use Rattle.sat_pool.specs.Pool.{all_waiting}
 use Rattle.sat_beat.specs.declared.Beat.{Beat}
 use Rattle.sat_beat.specs.Beats.{TakenBeats, next_number, taken_of}
 use Rattle.sat_act.specs.Parts.{BeatNote}
-use Rattle.sat_machine.specs.State.{ProxyState}
-use Rattle.sat_machine.specs.Look.{front_in, best_in}
+use Rattle.sat_model.specs.State.{ProxyState}
+use Rattle.sat_model.specs.Look.{front_in, best_in}
 use Rattle.sat_proxy.specs.Proxy.{ProxySeen, window_of, last_of, note_of, noted}
 
 -- two lists, each as long as the other, of the same payloads

@@ -19,7 +19,7 @@ use Rattle.sat_beat.specs.declared.beats.BeatTake.TheVariants as came
 use Rattle.sat_beat.specs.Beats.{TakenBeats, taken_of, with_taken, refreshed, is_old, has_beat, placed}
 use Rattle.sat_epoch.specs.Epochs.{Epochs, in_stamp, close_cut, after_hear}
 use Rattle.sat_act.specs.Parts.{known_by}
-use Rattle.sat_machine.specs.Next.{raised}
+use Rattle.sat_model.specs.Next.{raised}
 use Rattle.sat_proxy.specs.declared.proxy.Turned.{Turned}
 use Rattle.sat_proxy.specs.declared.proxy.Turned.TheVariants as turned
 use Rattle.sat_proxy.specs.declared.proxy.TurnFault.{TurnFault}

@@ -3,7 +3,7 @@ ghost use Rattle.std.specs.Prelude.{◌≡◌, ◌<◌, length, map, set, IfOk};
 ghost use Rattle.sat_label.specs.Order.{greater_point};
 ghost use Rattle.sat_label.specs.Words.{below};
 ghost use Rattle.sat_act.specs.Parts.{known_by};
-ghost use Rattle.sat_machine.specs.Next.{raised};
+ghost use Rattle.sat_model.specs.Next.{raised};
 ghost use Rattle.sat_proxy.specs.Proxy.{first_point};
 ghost use Rattle.sat_proxy.specs.Helps.{cut_of, known_to, raised_to};
 

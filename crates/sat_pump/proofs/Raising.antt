@@ -7,10 +7,10 @@ use Rattle.std.proofs.lemmas.Bool.Decides.{nat_tests}
 use Rattle.std.proofs.lemmas.Option.{slice_get_within}
 use Rattle.sat_act.specs.Deployed.{Deployed}
 use Rattle.sat_gear.specs.Gear.{GearSeen, is_due}
-use Rattle.sat_machine.specs.Input as given
-use Rattle.sat_machine.specs.Next.{site_next}
-use Rattle.sat_machine.specs.Reply.{site_answer}
-use Rattle.sat_machine.specs.State.{SiteState}
+use Rattle.sat_model.specs.Input as given
+use Rattle.sat_model.specs.Next.{site_next}
+use Rattle.sat_model.specs.Reply.{site_answer}
+use Rattle.sat_model.specs.State.{SiteState}
 use Rattle.sat_site.specs.declared.input.SiteInput.TheVariants as input
 use Rattle.sat_site.specs.Seen.{SiteSeen, IsSite}
 use Rattle.sat_site.specs.Stands.{StandsSite}

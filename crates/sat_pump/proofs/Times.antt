@@ -10,8 +10,8 @@ use Rattle.sat_act.specs.Deployed.{Deployed}
 use Rattle.sat_act.specs.Parts.{items_of}
 use Rattle.sat_act.specs.Settling.{is_done}
 use Rattle.sat_gear.specs.Gear.{GearSeen}
-use Rattle.sat_machine.specs.Fits.{fits, has_parts, is_gear, is_kept_kind, is_kind, is_note, is_other, is_point, is_site, is_time}
-use Rattle.sat_machine.specs.State.{SiteState}
+use Rattle.sat_model.specs.Fits.{fits, has_parts, is_gear, is_kept_kind, is_kind, is_note, is_other, is_point, is_site, is_time}
+use Rattle.sat_model.specs.State.{SiteState}
 use Rattle.sat_proxy.specs.Proxy.{note_of}
 use Rattle.sat_site.specs.declared.input.SiteInput.{SiteInput}
 use Rattle.sat_site.specs.declared.input.SiteInput.TheVariants as input

@@ -13,8 +13,8 @@ use Rattle.sat_act.specs.Deployed.{Deployed}
 use Rattle.sat_act.specs.Limits.{IsDeployment}
 use Rattle.sat_act.specs.Settling.{is_done}
 use Rattle.sat_epoch.specs.Epochs.{in_stamp}
-use Rattle.sat_machine.specs.Reply.{site_answer}
-use Rattle.sat_machine.specs.State.{SiteState}
+use Rattle.sat_model.specs.Reply.{site_answer}
+use Rattle.sat_model.specs.State.{SiteState}
 use Rattle.sat_proxy.specs.Answers.{done_answer, front_answer}
 use Rattle.sat_proxy.specs.Steps.{turn_fault}
 use Rattle.sat_proxy.specs.declared.proxy.TurnFault.{TurnFault}

@@ -20,11 +20,11 @@ use Rattle.sat_act.specs.Deployed.{Deployed}
 use Rattle.sat_act.specs.Answers.{refused_if}
 use Rattle.sat_act.specs.Done.{Written, write_in}
 use Rattle.sat_act.specs.Parts.{keeps_all, replicates}
-use Rattle.sat_machine.specs.Fits.{is_point, is_site}
-use Rattle.sat_machine.specs.Input as given
-use Rattle.sat_machine.specs.Look.{mode_of, cut_of}
-use Rattle.sat_machine.specs.Reply.{site_answer, gear_for, write_by, read_by, move_by, may_come, outlook_of}
-use Rattle.sat_machine.specs.State.{SiteState, Version}
+use Rattle.sat_model.specs.Fits.{is_point, is_site}
+use Rattle.sat_model.specs.Input as given
+use Rattle.sat_model.specs.Look.{mode_of, cut_of}
+use Rattle.sat_model.specs.Reply.{site_answer, gear_for, write_by, read_by, move_by, may_come, outlook_of}
+use Rattle.sat_model.specs.State.{SiteState, Version}
 use Rattle.sat_machines.specs.Plain.{is_plain}
 use Rattle.sat_machines.specs.Sites.{is_standing}
 use Rattle.sat_session.specs.Replies.{IsReply, refuses, wrote, read_none, read_some, moved, left, attached, closed, fallen, killed, HasSpare}

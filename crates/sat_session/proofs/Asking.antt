@@ -13,8 +13,8 @@ use Rattle.sat_act.specs.declared.answer.Refusal.TheVariants as why
 use Rattle.sat_act.specs.Answers.{refused_if}
 use Rattle.sat_act.specs.Deployed.{Deployed}
 use Rattle.sat_act.specs.Done.{Written, write_in}
-use Rattle.sat_machine.specs.Fits.{is_site, is_goal}
-use Rattle.sat_machine.specs.State.{SiteState}
+use Rattle.sat_model.specs.Fits.{is_site, is_goal}
+use Rattle.sat_model.specs.State.{SiteState}
 use Rattle.sat_site.specs.declared.input.SiteInput.{SiteInput}
 use Rattle.sat_site.specs.declared.input.SiteInput.TheVariants as input
 use Rattle.sat_node.specs.Links.{IsLocal}

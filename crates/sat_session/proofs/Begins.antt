@@ -10,7 +10,7 @@ use Rattle.sat_act.specs.Limits.{IsDeployment}
 use Rattle.sat_act.specs.Parts.{home, carried, moving, seat}
 use Rattle.sat_client.specs.declared.client.Client.{Client}
 use Rattle.sat_client.specs.Clients.{first_seat}
-use Rattle.sat_machine.specs.Fits.{is_time, is_site, is_point, is_goal, is_carried}
+use Rattle.sat_model.specs.Fits.{is_time, is_site, is_point, is_goal, is_carried}
 use Rattle.sat_stitch.specs.Places.{Session, Client as Owner, Operator}
 use Rattle.sat_opened.proofs.Numbers.{is-less, not-less}
 use Rattle.sat_session.specs.declared.noted.Noted.{Noted}

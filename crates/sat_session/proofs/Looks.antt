@@ -14,10 +14,10 @@ use Rattle.sat_act.specs.declared.answer.Refusal.TheVariants as why
 use Rattle.sat_act.specs.Answers.{refused_if}
 use Rattle.sat_act.specs.Deployed.{Deployed}
 use Rattle.sat_act.specs.Parts.{replicates}
-use Rattle.sat_machine.specs.Fits.{is_point}
-use Rattle.sat_machine.specs.Input as given
-use Rattle.sat_machine.specs.Reply.{site_answer, read_by}
-use Rattle.sat_machine.specs.State.{SiteState, Version}
+use Rattle.sat_model.specs.Fits.{is_point}
+use Rattle.sat_model.specs.Input as given
+use Rattle.sat_model.specs.Reply.{site_answer, read_by}
+use Rattle.sat_model.specs.State.{SiteState, Version}
 use Rattle.sat_label.specs.Versions.{Version as Held}
 use Rattle.sat_site.specs.Seen.{SiteSeen}
 use Rattle.sat_site.specs.Stands.{StandsSite, version_seen}

@@ -12,8 +12,8 @@ use Rattle.sat_act.specs.Parts.{seat}
 use Rattle.sat_site.specs.declared.input.SiteInput.{SiteInput}
 use Rattle.sat_site.specs.declared.input.SiteInput.TheVariants as input
 use Rattle.sat_site.specs.Inputs.{input_of}
-use Rattle.sat_machine.specs.State.{SiteState}
-use Rattle.sat_machine.specs.Next.{site_next}
+use Rattle.sat_model.specs.State.{SiteState}
+use Rattle.sat_model.specs.Next.{site_next}
 use Rattle.sat_node.specs.declared.kept.Kept.{Kept as Line}
 use Rattle.sat_node.specs.Meanings.{RunsFrom}
 use Rattle.sat_machines.specs.Acts.{ActSeen, IsBy, is_clients}

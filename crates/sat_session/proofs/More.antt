@@ -24,9 +24,9 @@ use Rattle.sat_act.specs.Histories.{latest, highest}
 use Rattle.sat_act.specs.Answers.{InRange}
 use Rattle.sat_client.specs.declared.client.Client.{Client}
 use Rattle.sat_client.specs.Clients.{is_move, destination}
-use Rattle.sat_machine.specs.Fits.{is_point, is_site, is_goal, is_carried}
-use Rattle.sat_machine.specs.Replay.{carrying}
-use Rattle.sat_machine.specs.World.{point_next, moving_next, seat_next}
+use Rattle.sat_model.specs.Fits.{is_point, is_site, is_goal, is_carried}
+use Rattle.sat_model.specs.Replay.{carrying}
+use Rattle.sat_model.specs.World.{point_next, moving_next, seat_next}
 use Rattle.sat_stitch.specs.Kept.{Given, Nothing, OfClient, Kept, history}
 use Rattle.sat_stitch.specs.Places.{Place, places, Session, Client as Owner, Operator, session_by, session_of, is_operators}
 use Rattle.sat_stitch.specs.Nodes.{IsSessionAnswer}

@@ -12,7 +12,7 @@ use Rattle.sat_act.specs.declared.answer.Answer.TheVariants as ans
 use Rattle.sat_act.specs.Deployed.{Deployed}
 use Rattle.sat_client.specs.declared.client.Client.{Client}
 use Rattle.sat_client.specs.Clients.{after_observe, after_move, after_leave, after_join}
-use Rattle.sat_machine.specs.Fits.{are_known}
+use Rattle.sat_model.specs.Fits.{are_known}
 use Rattle.sat_node.specs.declared.kept.CallFault.{CallFault}
 use Rattle.sat_node.specs.declared.kept.CallFault.TheVariants as fault
 use Rattle.sat_node.specs.Seen.{NodeSeen, SameNode, last_number, entry}

@@ -19,10 +19,10 @@ use Rattle.sat_act.specs.Done.{Written, write_in}
 use Rattle.sat_act.specs.Parts.{replicates}
 use Rattle.sat_client.specs.declared.client.Client.{Client}
 use Rattle.sat_client.specs.Clients.{is_move}
-use Rattle.sat_machine.specs.Fits.{is_point, is_site}
-use Rattle.sat_machine.specs.Input as given
-use Rattle.sat_machine.specs.Reply.{site_answer}
-use Rattle.sat_machine.specs.State.{SiteState, Version}
+use Rattle.sat_model.specs.Fits.{is_point, is_site}
+use Rattle.sat_model.specs.Input as given
+use Rattle.sat_model.specs.Reply.{site_answer}
+use Rattle.sat_model.specs.State.{SiteState, Version}
 use Rattle.sat_node.specs.Links.{IsLocal}
 use Rattle.sat_node.specs.Meanings.{Meaning, replay}
 use Rattle.sat_node.specs.Seen.{NodeSeen}

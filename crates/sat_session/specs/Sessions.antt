@@ -6,8 +6,8 @@ use Rattle.sat_act.specs.Deployed.{Deployed}
 use Rattle.sat_act.specs.Parts.{seat}
 use Rattle.sat_act.specs.Answers.{InRange}
 use Rattle.sat_client.specs.declared.client.Client.{Client}
-use Rattle.sat_machine.specs.Fits.{is_carried, is_goal}
-use Rattle.sat_machine.specs.Replay.{carrying}
+use Rattle.sat_model.specs.Fits.{is_carried, is_goal}
+use Rattle.sat_model.specs.Replay.{carrying}
 use Rattle.sat_stitch.specs.Kept.{Given, Nothing, OfClient, Kept, history}
 use Rattle.sat_stitch.specs.Places.{Place, InSession, places, Session, Client as Owner, Operator, session_eq, session_of}
 use Rattle.sat_stitch.specs.Nodes.{IsSessionAnswer}

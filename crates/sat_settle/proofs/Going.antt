@@ -10,7 +10,7 @@ use Rattle.sat_act.specs.Answers.{answer}
 use Rattle.sat_act.specs.Ranges.{IsActOf}
 use Rattle.sat_act.specs.Runs.{IsRun, is_settle}
 use Rattle.sat_act.specs.Settling.{capped, is_done, inner_entry, tried}
-use Rattle.sat_machine.specs.Laws.{leaves_all}
+use Rattle.sat_model.specs.Laws.{leaves_all}
 use Rattle.sat_world.specs.Applies.{Applies}
 use Rattle.sat_world.specs.Seen.{WorldSeen}
 use Rattle.sat_world.specs.Stands.{StandsFor}

@@ -26,7 +26,7 @@ use Rattle.sat_label.specs.Grouped.{list_of}
 use Rattle.sat_bulk.specs.Payloads.{Payload}
 use Rattle.sat_beat.specs.declared.Beat.{Beat}
 use Rattle.sat_sites.specs.declared.shape.Shape.{Shape}
-use Rattle.sat_machine.specs.Fits.{is_time}
+use Rattle.sat_model.specs.Fits.{is_time}
 use Rattle.sat_site.specs.Inputs.{fits_here, fits_in, is_beat_here, is_bulk_here, is_carried_here, is_front_here, is_gear_here, is_group_here, is_item_here, is_other_here, is_site_here}
 use Rattle.sat_site.specs.Seen.{SiteSeen}
 use Rattle.sat_site.specs.SiteSteps.{emit_answer, may_turn, next_pulse, pulse_answer, site_answers}

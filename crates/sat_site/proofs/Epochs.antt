@@ -16,11 +16,11 @@ use Rattle.sat_act.specs.declared.answer.Refusal.TheVariants as why
 use Rattle.sat_act.specs.Answers.{refused_if}
 use Rattle.sat_act.specs.Parts.{tree_of}
 use Rattle.sat_act.specs.Deployed.{Deployed}
-use Rattle.sat_machine.specs.State.{SiteState, ViewState}
-use Rattle.sat_machine.specs.Look.{mode_of}
-use Rattle.sat_machine.specs.Next.{views_next}
-use Rattle.sat_machine.specs.Input as given
-use Rattle.sat_machine.specs.Reply.{site_answer}
+use Rattle.sat_model.specs.State.{SiteState, ViewState}
+use Rattle.sat_model.specs.Look.{mode_of}
+use Rattle.sat_model.specs.Next.{views_next}
+use Rattle.sat_model.specs.Input as given
+use Rattle.sat_model.specs.Reply.{site_answer}
 use Rattle.sat_sink.specs.Sink.{cut_of}
 use Rattle.sat_site.specs.SiteSteps.{close_answer, fall_answer}
 use Rattle.sat_site.proofs.Rows.{cut-same}

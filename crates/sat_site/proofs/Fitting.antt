@@ -24,13 +24,13 @@ use Rattle.sat_bulk.specs.Payloads.{Payload}
 use Rattle.sat_bulk.specs.Windows.{has_number}
 use Rattle.sat_sites.specs.Interested.{are_below, keeps_one, AreBelow}
 use Rattle.sat_sites.proofs.Below.{below_is}
-use Rattle.sat_machine.specs.Interests.{interest_of}
+use Rattle.sat_model.specs.Interests.{interest_of}
 use Rattle.sat_sites.specs.declared.shape.Shape.{Shape}
 use Rattle.sat_act.specs.Deployed.{Deployed}
 use Rattle.sat_act.specs.Parts.{items_of}
-use Rattle.sat_machine.specs.Fits.{fits, has_parts, is_time, is_site, is_gear, is_group, is_item, is_other, is_carried, are_known, is_kind, is_kept_kind, is_new_point, is_bulk, is_note, is_point}
-use Rattle.sat_machine.specs.Look.{label_of, waiting_of}
-use Rattle.sat_machine.specs.State.{SiteState}
+use Rattle.sat_model.specs.Fits.{fits, has_parts, is_time, is_site, is_gear, is_group, is_item, is_other, is_carried, are_known, is_kind, is_kept_kind, is_new_point, is_bulk, is_note, is_point}
+use Rattle.sat_model.specs.Look.{label_of, waiting_of}
+use Rattle.sat_model.specs.State.{SiteState}
 use Rattle.sat_site.specs.declared.input.SiteInput as code
 use Rattle.sat_site.specs.declared.input.SiteInput.TheVariants as input
 use Rattle.sat_site.specs.Changes.{shape_for}

@@ -13,7 +13,7 @@ use Rattle.sat_act.specs.declared.deployment.Plan.TheVariants as plan
 use Rattle.sat_act.specs.Answers.{gear_of}
 use Rattle.sat_act.specs.Deployed.{Deployed}
 use Rattle.sat_act.specs.Parts.{planned_tree, tree_of}
-use Rattle.sat_machine.specs.State.{fresh_site}
+use Rattle.sat_model.specs.State.{fresh_site}
 use Rattle.std.proofs.lemmas.Bool.{ne_eqb}
 use Rattle.sat_label.specs.declared.point.Point.{Point}
 use Rattle.sat_proxy.specs.Proxy.{fresh_proxy, note_of}

@@ -23,11 +23,11 @@ use Rattle.sat_act.specs.declared.answer.Answer.TheVariants as ans
 use Rattle.sat_act.specs.declared.answer.Refusal.TheVariants as why
 use Rattle.sat_act.specs.declared.answer.Answer.{Answer}
 use Rattle.sat_act.specs.Deployed.{Deployed}
-use Rattle.sat_machine.specs.Input as given
-use Rattle.sat_machine.specs.State.{SiteState, GearState}
-use Rattle.sat_machine.specs.Next.{site_next, gear_next}
-use Rattle.sat_machine.specs.Reply.{site_answer}
-use Rattle.sat_machine.specs.Look.{least_row, rows}
+use Rattle.sat_model.specs.Input as given
+use Rattle.sat_model.specs.State.{SiteState, GearState}
+use Rattle.sat_model.specs.Next.{site_next, gear_next}
+use Rattle.sat_model.specs.Reply.{site_answer}
+use Rattle.sat_model.specs.Look.{least_row, rows}
 use Rattle.sat_site.specs.Seen.{SiteSeen, IsSite}
 use Rattle.sat_site.specs.Stands.{StandsSite, StandsGear}
 use Rattle.sat_site.specs.Changes.{counts_of, gathered_all, fresh_of, pulsed, sent, HasGear}

@@ -13,9 +13,9 @@ use Rattle.sat_sites.specs.Interested.{keeps, keeps_one, is_for}
 use Rattle.sat_act.specs.declared.deployment.Item.{Item}
 use Rattle.sat_act.specs.Deployed.{Deployed}
 use Rattle.sat_act.specs.Parts.{keeps_all, keeps_some, replicates, is_target}
-use Rattle.sat_machine.specs.State.{SiteState}
+use Rattle.sat_model.specs.State.{SiteState}
 use Rattle.sat_site.specs.Seen.{SiteSeen}
-use Rattle.sat_machine.specs.Interests.{interest_of, replicas_of}
+use Rattle.sat_model.specs.Interests.{interest_of, replicas_of}
 use Rattle.sat_sites.specs.declared.shape.Shape.{Shape}
 use Rattle.sat_site.specs.Stands.{StandsSite}
 use Rattle.sat_site.specs.SiteSteps.{keeps_each, keeps_item}

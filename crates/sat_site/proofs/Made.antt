@@ -4,7 +4,7 @@ use Rattle.std.proofs.Common.{ap, subst, sym, ◌∙◌}
 use Rattle.sat_bulk.specs.Payloads.{Payload}
 use Rattle.sat_gear.specs.Gear.{GearSeen, lane_to}
 use Rattle.sat_act.specs.Deployed.{Deployed}
-use Rattle.sat_machine.specs.State.{SiteState}
+use Rattle.sat_model.specs.State.{SiteState}
 use Rattle.sat_site.specs.Seen.{SiteSeen}
 use Rattle.sat_site.specs.Lanes.{lane_of}
 use Rattle.sat_site.specs.Stands.{StandsSite}

@@ -13,10 +13,10 @@ use Rattle.sat_act.specs.declared.answer.Refusal.TheVariants as why
 use Rattle.sat_act.specs.Answers.{refused_if}
 use Rattle.sat_act.specs.Settling.{is_done}
 use Rattle.sat_act.specs.Deployed.{Deployed}
-use Rattle.sat_machine.specs.Input as given
-use Rattle.sat_machine.specs.State.{SiteState, GearState}
-use Rattle.sat_machine.specs.Next.{site_next, gear_next}
-use Rattle.sat_machine.specs.Reply.{site_answer}
+use Rattle.sat_model.specs.Input as given
+use Rattle.sat_model.specs.State.{SiteState, GearState}
+use Rattle.sat_model.specs.Next.{site_next, gear_next}
+use Rattle.sat_model.specs.Reply.{site_answer}
 use Rattle.sat_site.specs.Seen.{SiteSeen, IsSite}
 use Rattle.sat_site.specs.Stands.{StandsSite, StandsGear}
 use Rattle.sat_site.specs.Changes.{with_gear, HasGear}

@@ -5,8 +5,8 @@ use Rattle.sat_sites.specs.Interested.{Interested}
 use Rattle.sat_gear.specs.Gear.{GearSeen, version_of}
 use Rattle.sat_act.specs.Answers.{gear_of}
 use Rattle.sat_act.specs.Deployed.{Deployed}
-use Rattle.sat_machine.specs.Interests.{interest_of}
-use Rattle.sat_machine.specs.State.{SiteState, GearState, Version as VersionSeen}
+use Rattle.sat_model.specs.Interests.{interest_of}
+use Rattle.sat_model.specs.State.{SiteState, GearState, Version as VersionSeen}
 use Rattle.sat_site.specs.Changes.{gear_at}
 use Rattle.sat_site.specs.Seen.{SiteSeen}
 use Rattle.sat_site.specs.Stands.{StandsSite, StandsGear, StandsGears, StandsStore, version_seen}

@@ -7,9 +7,9 @@ use Rattle.sat_sink.specs.Pending.{all_of, is_up_to, least}
 use Rattle.sat_label.specs.Least.{least_label}
 use Rattle.sat_sink.specs.Sink as sink
 use Rattle.sat_act.specs.Deployed.{Deployed}
-use Rattle.sat_machine.specs.State.{SiteState}
+use Rattle.sat_model.specs.State.{SiteState}
 use Rattle.sat_label.specs.Order.{mark, greater_point}
-use Rattle.sat_machine.specs.Look.{least_row, rows, stable_of, ready_of, cut_of}
+use Rattle.sat_model.specs.Look.{least_row, rows, stable_of, ready_of, cut_of}
 use Rattle.sat_site.specs.Seen.{SiteSeen, IsSite}
 use Rattle.sat_site.specs.Stands.{StandsSite}
 use Rattle.sat_site.proofs.Parts.{count-is, site-is}

@@ -11,7 +11,7 @@ use Rattle.sat_sites.specs.declared.interest.InterestFault.{InterestFault}
 use Rattle.sat_sites.specs.declared.interest.InterestFault.TheVariants.{BadItem, Memory}
 use Rattle.sat_act.specs.Deployed.{Deployed}
 use Rattle.sat_act.specs.Limits.{IsDeployment}
-use Rattle.sat_machine.specs.Interests.{replicas_of}
+use Rattle.sat_model.specs.Interests.{replicas_of}
 use Rattle.sat_hub.proofs.Lists.{map-cases, Mapped}
 
 none-from : (p : SiteSet → Bool) (i : ℕ) (sets : List SiteSet) → ((n : ℕ) (set : SiteSet) → slice_get sets n ≡ Some set → p set ≡ false) → position_from p i sets ≡ None

@@ -11,8 +11,8 @@ use Rattle.sat_label.specs.Versions.{Version}
 use Rattle.sat_gear.specs.Gear.{GearSeen, IsGear, IsInLane, lane_to, version_of}
 use Rattle.sat_act.specs.Deployed.{Deployed}
 use Rattle.sat_act.specs.Parts.{items_of, replicates}
-use Rattle.sat_machine.specs.State.{SiteState}
-use Rattle.sat_machine.specs.Look.{front_of}
+use Rattle.sat_model.specs.State.{SiteState}
+use Rattle.sat_model.specs.Look.{front_of}
 use Rattle.sat_proxy.specs.Proxy.{front_at}
 use Rattle.sat_proxy.proofs.SameLanes.{front-same}
 use Rattle.sat_site.specs.Seen.{SiteSeen, IsSite, IsGearAt}

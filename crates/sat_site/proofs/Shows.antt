@@ -24,10 +24,10 @@ use Rattle.sat_act.specs.declared.answer.Answer.TheVariants as ans
 use Rattle.sat_act.specs.Answers.{gear_of}
 use Rattle.sat_act.specs.Parts.{is_update_of, items_of, replicates}
 use Rattle.sat_act.specs.Deployed.{Deployed}
-use Rattle.sat_machine.specs.Input.{SiteInput}
-use Rattle.sat_machine.specs.State.{SiteState, GearState, Version}
-use Rattle.sat_machine.specs.Next.{part_for, proxy_next, put, site_next, store_next, version_at, views_next}
-use Rattle.sat_machine.specs.Look.{payload_in}
+use Rattle.sat_model.specs.Input.{SiteInput}
+use Rattle.sat_model.specs.State.{SiteState, GearState, Version}
+use Rattle.sat_model.specs.Next.{part_for, proxy_next, put, site_next, store_next, version_at, views_next}
+use Rattle.sat_model.specs.Look.{payload_in}
 use Rattle.sat_epoch.specs.Epochs.{Epochs}
 use Rattle.sat_proxy.specs.Proxy.{ProxySeen}
 use Rattle.sat_proxy.specs.Stands.{SamePayloads, StandsProxy}

@@ -33,11 +33,11 @@ use Rattle.sat_act.specs.declared.answer.Refusal.TheVariants as why
 use Rattle.sat_act.specs.Deployed.{Deployed}
 use Rattle.sat_act.specs.Settling.{is_done}
 use Rattle.sat_act.specs.Parts.{BeatNote}
-use Rattle.sat_machine.specs.Input.{SiteInput}
-use Rattle.sat_machine.specs.Input as given
-use Rattle.sat_machine.specs.State.{SiteState}
-use Rattle.sat_machine.specs.Next.{note_of as machine_note, proxy_next, site_next}
-use Rattle.sat_machine.specs.Reply.{site_answer}
+use Rattle.sat_model.specs.Input.{SiteInput}
+use Rattle.sat_model.specs.Input as given
+use Rattle.sat_model.specs.State.{SiteState}
+use Rattle.sat_model.specs.Next.{note_of as machine_note, proxy_next, site_next}
+use Rattle.sat_model.specs.Reply.{site_answer}
 use Rattle.sat_proxy.specs.Asks.{may_come_at}
 use Rattle.sat_proxy.specs.Answers.{came_answer, view_answer}
 use Rattle.sat_proxy.specs.Laws.{EachAnswers, EachFollows}

@@ -7,11 +7,11 @@ use Rattle.sat_gear.specs.Gear.{GearSeen, after_tick}
 use Rattle.sat_act.specs.declared.answer.Answer.TheVariants as ans
 use Rattle.sat_act.specs.declared.answer.Refusal.{Refusal}
 use Rattle.sat_act.specs.Deployed.{Deployed}
-use Rattle.sat_machine.specs.Input.{SiteInput}
-use Rattle.sat_machine.specs.Input as given
-use Rattle.sat_machine.specs.State.{SiteState, GearState}
-use Rattle.sat_machine.specs.Next.{site_next, gear_next}
-use Rattle.sat_machine.specs.Reply.{site_answer}
+use Rattle.sat_model.specs.Input.{SiteInput}
+use Rattle.sat_model.specs.Input as given
+use Rattle.sat_model.specs.State.{SiteState, GearState}
+use Rattle.sat_model.specs.Next.{site_next, gear_next}
+use Rattle.sat_model.specs.Reply.{site_answer}
 use Rattle.sat_site.specs.Seen.{SiteSeen}
 use Rattle.sat_site.specs.Stands.{StandsSite, StandsGear}
 use Rattle.sat_site.specs.Changes.{with_gear, clocked, ticked_to, HasGear}

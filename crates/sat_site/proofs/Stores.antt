@@ -8,8 +8,8 @@ use Rattle.sat_label.specs.declared.label.Label.{Label}
 use Rattle.sat_label.specs.Order.{label_lt}
 use Rattle.sat_label.specs.Versions.{Version}
 use Rattle.sat_store.specs.Stored.{newer, version_at}
-use Rattle.sat_machine.specs.Next.{put, version_at as seen_at}
-use Rattle.sat_machine.specs.State.{Version as VersionSeen}
+use Rattle.sat_model.specs.Next.{put, version_at as seen_at}
+use Rattle.sat_model.specs.State.{Version as VersionSeen}
 use Rattle.sat_site.specs.Stands.{version_seen}
 
 -- two items of one gear at one place are one

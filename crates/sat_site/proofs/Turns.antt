@@ -14,9 +14,9 @@ use Rattle.sat_act.specs.declared.answer.Answer.{Answer}
 use Rattle.sat_act.specs.declared.answer.Refusal.TheVariants as why
 use Rattle.sat_act.specs.Deployed.{Deployed}
 use Rattle.sat_act.specs.Settling.{is_done}
-use Rattle.sat_machine.specs.Input as given
-use Rattle.sat_machine.specs.State.{SiteState}
-use Rattle.sat_machine.specs.Next.{proxy_next, site_next, views_next}
+use Rattle.sat_model.specs.Input as given
+use Rattle.sat_model.specs.State.{SiteState}
+use Rattle.sat_model.specs.Next.{proxy_next, site_next, views_next}
 use Rattle.sat_proxy.specs.Steps as made
 use Rattle.sat_proxy.specs.Answers.{done_answer, front_answer, next_answer, turn_answer, stamp_answer}
 use Rattle.sat_proxy.specs.Stands.{StandsProxy}

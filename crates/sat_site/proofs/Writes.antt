@@ -22,13 +22,13 @@ use Rattle.sat_act.specs.declared.answer.Refusal.TheVariants as why
 use Rattle.sat_act.specs.Answers.{refused_if}
 use Rattle.sat_act.specs.Parts.{is_target}
 use Rattle.sat_act.specs.Deployed.{Deployed}
-use Rattle.sat_machine.specs.Input as given
-use Rattle.sat_machine.specs.State.{SiteState, GearState, Version as VersionSeen}
-use Rattle.sat_machine.specs.Next.{site_next, gear_next, payload_at, put, version_at}
-use Rattle.sat_machine.specs.Reply.{gear_for as by_gear, site_answer}
-use Rattle.sat_machine.proofs.Writing.{part-value}
+use Rattle.sat_model.specs.Input as given
+use Rattle.sat_model.specs.State.{SiteState, GearState, Version as VersionSeen}
+use Rattle.sat_model.specs.Next.{site_next, gear_next, payload_at, put, version_at}
+use Rattle.sat_model.specs.Reply.{gear_for as by_gear, site_answer}
+use Rattle.sat_model.proofs.Writing.{part-value}
 use Rattle.sat_site.specs.Seen.{SiteSeen, IsSite, has_parts_here}
-use Rattle.sat_machine.specs.Interests.{interest_of}
+use Rattle.sat_model.specs.Interests.{interest_of}
 use Rattle.sat_site.specs.Stands.{StandsSite, StandsGear, version_seen}
 use Rattle.sat_site.specs.Changes.{gear_at, gear_for, HasGear}
 use Rattle.sat_site.specs.SiteSteps.{keeps_item, shown_each, written}

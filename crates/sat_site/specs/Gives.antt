@@ -11,10 +11,10 @@ use Rattle.sat_act.specs.declared.answer.Answer.{Answer}
 use Rattle.sat_act.specs.Deployed.{Deployed}
 use Rattle.sat_act.specs.Limits.{IsDeployment}
 use Rattle.sat_act.specs.Parts.{items_of}
-use Rattle.sat_machine.specs.Input.{SiteInput}
-use Rattle.sat_machine.specs.State.{SiteState}
-use Rattle.sat_machine.specs.Reply.{site_answer}
-use Rattle.sat_machine.specs.Next.{site_next}
+use Rattle.sat_model.specs.Input.{SiteInput}
+use Rattle.sat_model.specs.State.{SiteState}
+use Rattle.sat_model.specs.Reply.{site_answer}
+use Rattle.sat_model.specs.Next.{site_next}
 pub use Rattle.sat_hub.specs.Gives.{HasTarget, IsLeaving, label_sent, IsSent, IsSentOf}
 use Rattle.sat_site.specs.Seen.{SiteSeen}
 use Rattle.sat_site.specs.Stands.{StandsSite}

@@ -5,9 +5,9 @@ use Rattle.sat_label.specs.Grouped.{list_of}
 use Rattle.sat_bulk.specs.Payloads.{Payload}
 use Rattle.sat_beat.specs.declared.Beat.{Beat}
 use Rattle.sat_proxy.specs.Proxy.{note_of}
-use Rattle.sat_machine.specs.Fits.{is_time}
-use Rattle.sat_machine.specs.Input.{SiteInput}
-use Rattle.sat_machine.specs.Input as given
+use Rattle.sat_model.specs.Fits.{is_time}
+use Rattle.sat_model.specs.Input.{SiteInput}
+use Rattle.sat_model.specs.Input as given
 use Rattle.sat_hub.specs.Inputs as hub
 pub use Rattle.sat_hub.specs.Inputs.{is_site_here, is_item_here, is_gear_here, is_point_here, is_other_here, is_goal_here, is_carried_here, is_group_here, is_kind_here, is_front_here, is_kept_here, is_guest_here, is_bulk_here, is_cut_here, is_beat_here}
 use Rattle.sat_site.specs.declared.input.SiteInput as code

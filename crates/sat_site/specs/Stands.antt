@@ -10,7 +10,7 @@ use Rattle.sat_sink.specs.Sink.{Sink}
 use Rattle.sat_act.specs.Deployed.{Deployed}
 use Rattle.sat_act.specs.Answers.{gear_of}
 use Rattle.sat_act.specs.Parts.{BeatNote, replicates, tree_of}
-use Rattle.sat_machine.specs.State.{SiteState, GearState, SinkState, ViewState, Version as VersionSeen}
+use Rattle.sat_model.specs.State.{SiteState, GearState, SinkState, ViewState, Version as VersionSeen}
 use Rattle.sat_site.specs.Changes.{shape_for}
 use Rattle.sat_site.specs.Seen.{SiteSeen}
 

@@ -1,6 +1,6 @@
 //! Which sites of a deployment keep which items.
 ghost use Rattle.std.specs.Prelude.{◌≡◌, IfOk};
-ghost use Rattle.sat_machine.specs.Interests.{interest_of};
+ghost use Rattle.sat_model.specs.Interests.{interest_of};
 ghost use Rattle.sat_act.specs.Limits.{IsDeployment};
 
 use sat_act::Deployment;

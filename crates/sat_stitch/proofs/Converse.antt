@@ -16,10 +16,10 @@ use Rattle.sat_bulk.specs.Payloads.{Payload}
 use Rattle.sat_laws.proofs.Runs.{before_of, range_of}
 use Rattle.sat_laws.proofs.Links.{taking, taken-if, get-keep}
 use Rattle.sat_laws.proofs.Labels.{some_is}
-use Rattle.sat_machine.specs.State.{SiteState}
-use Rattle.sat_machine.specs.Replay.{carrying, given_number}
-use Rattle.sat_machine.proofs.Lanes.{lanes-agree}
-use Rattle.sat_machine.proofs.Beating.{made-agrees}
+use Rattle.sat_model.specs.State.{SiteState}
+use Rattle.sat_model.specs.Replay.{carrying, given_number}
+use Rattle.sat_model.proofs.Lanes.{lanes-agree}
+use Rattle.sat_model.proofs.Beating.{made-agrees}
 use Rattle.sat_label.specs.Members.{In}
 use Rattle.sat_stitch.specs.Kept.{OfPayload, OfBeat, OfClient, Kept, entry_of, history, Each, Rising, Ordered, numbered, marks}
 use Rattle.sat_stitch.specs.Places.{Place, AtSite, places, stands_at, node_place, Session, Client, session_of, in_session}
@@ -33,7 +33,7 @@ use Rattle.sat_stitch.proofs.Senders.{lane-made, beats-made}
 use Rattle.sat_stitch.proofs.Steps.{asked-is}
 use Rattle.sat_stitch.proofs.Handing.{history-is, stands-alone, stands-somewhere, known-in, states-in}
 use Rattle.sat_stitch.proofs.Answering.{answers-in}
-use Rattle.sat_machine.specs.Parts.{valued}
+use Rattle.sat_model.specs.Parts.{valued}
 
 -- ---- numbers
 

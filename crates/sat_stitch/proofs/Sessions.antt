@@ -4,7 +4,7 @@ use Rattle.std.proofs.Common.{sym, subst, ap, ◌∙◌, inl, inr}
 use Rattle.sat_label.proofs.Members.{In-filter, In-right, into-filter}
 use Rattle.sat_act.specs.Deployed.{Deployed}
 use Rattle.sat_act.specs.Parts.{seat}
-use Rattle.sat_machine.specs.Replay.{carrying}
+use Rattle.sat_model.specs.Replay.{carrying}
 use Rattle.sat_laws.proofs.Gears.{split_le}
 use Rattle.sat_label.specs.Members.{In}
 use Rattle.sat_stitch.specs.Kept.{OfClient, Kept, history, Each, Rising, Distinct, Ordered}

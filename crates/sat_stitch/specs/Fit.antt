@@ -8,7 +8,7 @@ use Rattle.sat_act.specs.Deployed.{Deployed}
 use Rattle.sat_act.specs.Parts.{BeatNote, tree_of, seat}
 use Rattle.sat_act.specs.Answers.{InRange}
 use Rattle.sat_bulk.specs.Payloads.{Payload}
-use Rattle.sat_machine.specs.Replay.{carrying}
+use Rattle.sat_model.specs.Replay.{carrying}
 use Rattle.sat_label.specs.Members.{In}
 use Rattle.sat_stitch.specs.Kept.{OfPayload, OfBeat, OfClient, Kept, history, Each, Rising, Ordered, Distinct, marks}
 use Rattle.sat_stitch.specs.Places.{Place, AtSite, places, stands_at, node_place, Session, Client, session_of}

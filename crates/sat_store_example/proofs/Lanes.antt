@@ -3,7 +3,7 @@ use Rattle.std.proofs.Common.{◌≡◌, ◌<◌, ◌==◌, ℕ, true, not, nat_
 use Rattle.std.proofs.lemmas.Bool.{and_parts, ltb-true}
 use Rattle.sat_site.specs.declared.input.SiteInput.TheVariants as input
 use Rattle.sat_site.specs.Inputs.{fits_here, fits_in, is_gear_here}
-use Rattle.sat_machine.specs.Fits.{is_time}
+use Rattle.sat_model.specs.Fits.{is_time}
 use Rattle.sat_site.specs.Seen.{SiteSeen}
 use Rattle.sat_store_example.specs.Replicas.{has_lane}
 

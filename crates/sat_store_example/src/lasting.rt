@@ -3,7 +3,7 @@
 //! turn with it is on the disk.
 ghost use Rattle.std.specs.Prelude.{◌≡◌, ◌⊎◌, ℕ, ◌^◌, ◌<◌, ◌≤◌, true, false, slice_get, Some, None, MatchOption, option_copied};
 ghost use Rattle.sat_act.specs.Deployed.{Deployed};
-ghost use Rattle.sat_machine.specs.State.{SiteState};
+ghost use Rattle.sat_model.specs.State.{SiteState};
 ghost use Rattle.sat_site.specs.Stands.{StandsSite};
 ghost use Rattle.sat_durable.specs.Durables.{machine_of, size_of};
 ghost use Rattle.sat_lasting.specs.Sites.{site_meaning};

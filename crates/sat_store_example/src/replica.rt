@@ -1,7 +1,7 @@
 //! A replica: the process that runs one site of the store.
 ghost use Rattle.std.specs.Prelude.{ℕ, ◌≡◌, ◌∷◌, [], ◌<◌, slice_get, Some, None, IfOk, IfSome, IsOk, OnOk, OnErr, IsErrOf, IsOkUnless, MatchOption, true, false, option_copied};
 ghost use Rattle.sat_act.specs.Deployed.{Deployed};
-ghost use Rattle.sat_machine.specs.State.{SiteState, fresh_site};
+ghost use Rattle.sat_model.specs.State.{SiteState, fresh_site};
 ghost use Rattle.sat_proxy.specs.Proxy.{front_at};
 ghost use Rattle.sat_site.specs.Inputs.{fits_in, is_front_here, takes_none};
 ghost use Rattle.sat_site.specs.Seen.{IsSite};

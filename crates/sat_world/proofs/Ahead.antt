@@ -10,8 +10,8 @@ use Rattle.sat_act.specs.declared.act.Act.TheVariants as act
 use Rattle.sat_act.specs.declared.entry.Entry.{Entry}
 use Rattle.sat_act.specs.Parts.{entered, taken, tree_of}
 use Rattle.sat_act.specs.Ranges.{IsActOf}
-use Rattle.sat_machine.specs.World.{world_state, link_left}
-use Rattle.sat_machine.proofs.Parts.{link-agrees}
+use Rattle.sat_model.specs.World.{world_state, link_left}
+use Rattle.sat_model.proofs.Parts.{link-agrees}
 use Rattle.sat_net.specs.Nets.{NetSeen, link_of}
 use Rattle.sat_world.specs.Seen.{WorldSeen}
 use Rattle.sat_world.specs.Stands.{StandsFor}

@@ -10,11 +10,11 @@ use Rattle.sat_act.specs.declared.answer.Answer.TheVariants as ans
 use Rattle.sat_act.specs.declared.answer.Refusal.TheVariants as why
 use Rattle.sat_act.specs.Deployed.{Deployed}
 use Rattle.sat_act.specs.Parts.{BeatNote}
-use Rattle.sat_machine.specs.State.{SiteState}
-use Rattle.sat_machine.specs.Input as given
-use Rattle.sat_machine.specs.Reply.{site_answer}
-use Rattle.sat_machine.specs.Replay.{given_at}
-use Rattle.sat_machine.specs.World.{WorldState, world_given, world_answer, world_state, beat_from}
+use Rattle.sat_model.specs.State.{SiteState}
+use Rattle.sat_model.specs.Input as given
+use Rattle.sat_model.specs.Reply.{site_answer}
+use Rattle.sat_model.specs.Replay.{given_at}
+use Rattle.sat_model.specs.World.{WorldState, world_given, world_answer, world_state, beat_from}
 use Rattle.sat_proxy.specs.Proxy.{note_of}
 use Rattle.sat_site.specs.declared.input.SiteInput.TheVariants as input
 use Rattle.sat_site.specs.Changes.{made_for}

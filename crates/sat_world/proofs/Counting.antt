@@ -9,9 +9,9 @@ use Rattle.sat_act.specs.declared.answer.Answer.TheVariants as ans
 use Rattle.sat_act.specs.declared.entry.Entry.{Entry}
 use Rattle.sat_act.specs.Histories.{listed}
 use Rattle.sat_act.specs.Settling.{capped, is_done}
-use Rattle.sat_machine.specs.Laws.{leaves_all}
-use Rattle.sat_machine.specs.World.{WorldState, world_state}
-use Rattle.sat_machine.proofs.Unmoved.{undone-stays, flags-are-free}
+use Rattle.sat_model.specs.Laws.{leaves_all}
+use Rattle.sat_model.specs.World.{WorldState, world_state}
+use Rattle.sat_model.proofs.Unmoved.{undone-stays, flags-are-free}
 use Rattle.sat_world.specs.Counts.{any_shown_entry, shown_count, counted}
 use Rattle.sat_world.specs.Laws.{FlagsStayFree, UndoneKeeps}
 use Rattle.sat_world.specs.Seen.{WorldSeen}

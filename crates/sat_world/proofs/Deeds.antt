@@ -26,10 +26,10 @@ use Rattle.sat_act.specs.Ranges.{IsActOf}
 use Rattle.sat_act.proofs.Plans.{tree_in_plans}
 use Rattle.sat_act.proofs.Valid.{is_valid}
 use Rattle.sat_client.specs.declared.client.Client.{Client}
-use Rattle.sat_machine.specs.Interests.{interest_of, replicas_of}
-use Rattle.sat_machine.specs.OnLinks.{HasKind, IsOnLink}
-use Rattle.sat_machine.specs.World.{world_state, link_left}
-use Rattle.sat_machine.proofs.OnLinks.{links-lead}
+use Rattle.sat_model.specs.Interests.{interest_of, replicas_of}
+use Rattle.sat_model.specs.OnLinks.{HasKind, IsOnLink}
+use Rattle.sat_model.specs.World.{world_state, link_left}
+use Rattle.sat_model.proofs.OnLinks.{links-lead}
 use Rattle.sat_net.specs.Nets.{NetSeen, link_of, MayHop}
 use Rattle.sat_net.specs.NetStands.{IsNetOf}
 use Rattle.sat_epoch.specs.Epochs.{is_stamp}

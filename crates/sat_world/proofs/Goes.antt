@@ -18,12 +18,12 @@ use Rattle.sat_act.specs.Settling.{is_done}
 use Rattle.sat_act.specs.Parts.{Handling, tree_of, seat_in}
 use Rattle.sat_laws.proofs.Labels.{some_is}
 use Rattle.sat_client.specs.declared.client.Client.{Client}
-use Rattle.sat_machine.specs.Input.{SiteInput}
-use Rattle.sat_machine.specs.Input as given
-use Rattle.sat_machine.specs.Next.{site_next}
-use Rattle.sat_machine.specs.Reply.{site_answer}
-use Rattle.sat_machine.specs.Replay.{after, given_at}
-use Rattle.sat_machine.specs.World.{ClientState, WorldState, world_given, world_answer, handled_by, front_at, first, client_next, dead_next}
+use Rattle.sat_model.specs.Input.{SiteInput}
+use Rattle.sat_model.specs.Input as given
+use Rattle.sat_model.specs.Next.{site_next}
+use Rattle.sat_model.specs.Reply.{site_answer}
+use Rattle.sat_model.specs.Replay.{after, given_at}
+use Rattle.sat_model.specs.World.{ClientState, WorldState, world_given, world_answer, handled_by, front_at, first, client_next, dead_next}
 use Rattle.sat_net.specs.Nets.{NetSeen, after_take}
 use Rattle.sat_net.specs.NetStands.{IsNetOf, StandsNet, handled_at, links_next}
 use Rattle.sat_world.proofs.Laws.{takes, net-give}

@@ -1,7 +1,7 @@
 -- The greatest promise, row by row and all at once.
 use Rattle.std.specs.Prelude.{◌≡◌, ◌⊎◌, ◌<◌, ◌≤◌, ℕ, zero, suc}
 use Rattle.std.proofs.Common.{arith, inl, inr}
-use Rattle.sat_machine.specs.World.{greatest_row}
+use Rattle.sat_model.specs.World.{greatest_row}
 use Rattle.sat_world.specs.Clocks.{greatest_of}
 
 before-or : (i n : ℕ) → i < suc n → (i < n) ⊎ (i ≡ n)

@@ -18,7 +18,7 @@ use Rattle.sat_label.specs.declared.carried.Carried.{Carried}
 use Rattle.sat_client.specs.declared.client.Client.{Client}
 use Rattle.sat_world.specs.Stands.{StandsClient}
 use Rattle.sat_world.specs.Steps.{is_local, told}
-use Rattle.sat_machine.specs.World.{ClientState, handled_by, dead_next, point_next, moving_next, seat_next, client_next}
+use Rattle.sat_model.specs.World.{ClientState, handled_by, dead_next, point_next, moving_next, seat_next, client_next}
 
 -- an act that moves no label and kills nothing
 abbrev pub is_still : Act → Bool

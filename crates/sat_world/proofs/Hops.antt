@@ -16,9 +16,9 @@ use Rattle.sat_act.specs.Deployed.{Deployed}
 use Rattle.sat_act.specs.Answers.{refused_if}
 use Rattle.sat_act.specs.Parts.{tree_of}
 use Rattle.sat_serial.specs.Routes.{routes}
-use Rattle.sat_machine.specs.Input as given
-use Rattle.sat_machine.specs.Replay.{after}
-use Rattle.sat_machine.specs.World.{WorldState, world_given, world_answer, handled_by, first, hop_by, clock_of, greatest_row}
+use Rattle.sat_model.specs.Input as given
+use Rattle.sat_model.specs.Replay.{after}
+use Rattle.sat_model.specs.World.{WorldState, world_given, world_answer, handled_by, first, hop_by, clock_of, greatest_row}
 use Rattle.sat_net.specs.Nets.{NetSeen, link_of, is_dead, after_copies, after_hop, after_kill}
 use Rattle.sat_net.specs.NetStands.{IsNetOf, StandsNet, handled_at, links_next}
 use Rattle.sat_world.proofs.Laws.{hops, routes-to, net-copies, net-give, net-kill}

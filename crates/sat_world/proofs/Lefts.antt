@@ -21,11 +21,11 @@ use Rattle.sat_act.specs.Settling.{capped}
 use Rattle.sat_act.proofs.Valid.{is_valid}
 use Rattle.sat_bulk.specs.Payloads.{Payload}
 use Rattle.sat_bulk.specs.Windows.{has_number}
-use Rattle.sat_machine.specs.Parts.{valued}
-use Rattle.sat_machine.specs.State.{SiteState}
-use Rattle.sat_machine.specs.World.{world_state}
-use Rattle.sat_machine.proofs.Lanes.{lanes-agree}
-use Rattle.sat_machine.proofs.Windows.{Window, window-agrees}
+use Rattle.sat_model.specs.Parts.{valued}
+use Rattle.sat_model.specs.State.{SiteState}
+use Rattle.sat_model.specs.World.{world_state}
+use Rattle.sat_model.proofs.Lanes.{lanes-agree}
+use Rattle.sat_model.proofs.Windows.{Window, window-agrees}
 use Rattle.sat_net.specs.Nets.{NetSeen, link_of, underway_in}
 use Rattle.sat_net.specs.NetStands.{IsNetOf, StandsNet}
 use Rattle.sat_net.proofs.Edges.{to-seat}

@@ -11,11 +11,11 @@ use Rattle.sat_act.specs.Deployed.{Deployed}
 use Rattle.sat_act.specs.Done.{is_of}
 use Rattle.sat_act.specs.Parts.{Handling}
 use Rattle.sat_client.specs.declared.client.Client.{Client}
-use Rattle.sat_machine.specs.State.{SiteState}
-use Rattle.sat_machine.specs.Input.{SiteInput}
-use Rattle.sat_machine.specs.Next.{site_next}
-use Rattle.sat_machine.specs.Replay.{after, given_at}
-use Rattle.sat_machine.specs.World.{ClientState, WorldState, world_given, world_next, handled_by, client_next, dead_next}
+use Rattle.sat_model.specs.State.{SiteState}
+use Rattle.sat_model.specs.Input.{SiteInput}
+use Rattle.sat_model.specs.Next.{site_next}
+use Rattle.sat_model.specs.Replay.{after, given_at}
+use Rattle.sat_model.specs.World.{ClientState, WorldState, world_given, world_next, handled_by, client_next, dead_next}
 use Rattle.sat_laws.proofs.Labels.{some_is}
 use Rattle.sat_net.specs.Nets.{NetSeen, after_kill}
 use Rattle.sat_net.specs.NetStands.{StandsNet, links_next}

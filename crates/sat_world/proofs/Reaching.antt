@@ -16,13 +16,13 @@ use Rattle.sat_act.specs.Ranges.{IsActOf}
 use Rattle.sat_act.specs.Runs.{IsRun, is_settle}
 use Rattle.sat_act.proofs.Valid.{is_valid}
 use Rattle.sat_client.specs.declared.client.Client.{Client}
-use Rattle.sat_machine.specs.Fits.{fits}
-use Rattle.sat_machine.specs.Input.{SiteInput}
-use Rattle.sat_machine.specs.Input as given
-use Rattle.sat_machine.specs.Replay.{given_at, given_seat, handed, site_state}
-use Rattle.sat_machine.specs.World.{WorldState, world_given, world_state}
-use Rattle.sat_machine.proofs.Worlds.{gives-as-handed}
-use Rattle.sat_machine.proofs.Local.{given-fits}
+use Rattle.sat_model.specs.Fits.{fits}
+use Rattle.sat_model.specs.Input.{SiteInput}
+use Rattle.sat_model.specs.Input as given
+use Rattle.sat_model.specs.Replay.{given_at, given_seat, handed, site_state}
+use Rattle.sat_model.specs.World.{WorldState, world_given, world_state}
+use Rattle.sat_model.proofs.Worlds.{gives-as-handed}
+use Rattle.sat_model.proofs.Local.{given-fits}
 use Rattle.sat_site.specs.declared.input.SiteInput as code
 use Rattle.sat_site.specs.declared.input.SiteInput.TheVariants as input
 use Rattle.sat_site.specs.Changes.{made_for}

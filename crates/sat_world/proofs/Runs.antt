@@ -12,8 +12,8 @@ use Rattle.sat_act.specs.Headline.{IsGood}
 use Rattle.sat_act.specs.Limits.{IsDeployment}
 use Rattle.sat_act.proofs.Valid.{is_valid, has_trees}
 use Rattle.sat_laws.proofs.Headlines.{good}
-use Rattle.sat_machine.specs.World.{WorldState, world_answer, world_next, world_step, world_state}
-use Rattle.sat_machine.proofs.Runs.{step-on}
+use Rattle.sat_model.specs.World.{WorldState, world_answer, world_next, world_step, world_state}
+use Rattle.sat_model.proofs.Runs.{step-on}
 use Rattle.sat_world.specs.Counts.{counted}
 use Rattle.sat_world.specs.Seen.{WorldSeen}
 use Rattle.sat_world.specs.Stands.{Stands, StandsFor}

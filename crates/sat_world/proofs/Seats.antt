@@ -24,10 +24,10 @@ use Rattle.sat_client.specs.Clients.{after_leave, destination, is_move}
 use Rattle.sat_gear.specs.Gear.{GearSeen, is_spent, stamped}
 use Rattle.sat_proxy.specs.Proxy.{outlook_here}
 use Rattle.sat_proxy.specs.Asks.{may_come_at}
-use Rattle.sat_machine.specs.Input as given
-use Rattle.sat_machine.specs.Reply.{site_answer}
-use Rattle.sat_machine.specs.Replay.{given_at, given_seat}
-use Rattle.sat_machine.specs.World.{ClientState, WorldState, world_given, world_answer, client_next, handled_by}
+use Rattle.sat_model.specs.Input as given
+use Rattle.sat_model.specs.Reply.{site_answer}
+use Rattle.sat_model.specs.Replay.{given_at, given_seat}
+use Rattle.sat_model.specs.World.{ClientState, WorldState, world_given, world_answer, client_next, handled_by}
 use Rattle.sat_site.specs.declared.input.SiteInput.TheVariants as input
 use Rattle.sat_site.specs.Seen.{SiteSeen}
 use Rattle.sat_site.specs.SiteSteps.{site_answers, move_answer, moved_answer}

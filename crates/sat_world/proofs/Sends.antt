@@ -29,8 +29,8 @@ use Rattle.sat_epoch.specs.declared.views.CloseFault.TheVariants as close
 use Rattle.sat_sink.specs.Pending.{all_of, is_up_to}
 use Rattle.sat_sink.specs.Sink.{cut_of, may_pulse, pulse_of, ready_of, stable_of}
 use Rattle.sat_sink.proofs.Queues.{In-all, Place}
-use Rattle.sat_machine.specs.Interests.{interest_of}
-use Rattle.sat_machine.specs.World.{WorldState, world_given, handled_by, dead_next}
+use Rattle.sat_model.specs.Interests.{interest_of}
+use Rattle.sat_model.specs.World.{WorldState, world_given, handled_by, dead_next}
 use Rattle.sat_net.specs.Nets.{NetSeen, after_send}
 use Rattle.sat_net.specs.NetStands.{StandsNet, handled_at, links_next}
 use Rattle.sat_site.specs.declared.input.SiteInput as code

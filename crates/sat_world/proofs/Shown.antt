@@ -19,17 +19,17 @@ use Rattle.sat_act.proofs.Valid.{is_valid}
 use Rattle.sat_laws.proofs.Labels.{some_is}
 use Rattle.sat_bulk.specs.Payloads.{Payload}
 use Rattle.sat_label.specs.Versions.{Version}
-use Rattle.sat_machine.specs.State.{SiteState, Version as VersionSeen}
-use Rattle.sat_machine.specs.Next.{version_at}
-use Rattle.sat_machine.specs.Look.{mode_of}
-use Rattle.sat_machine.specs.World.{world_state}
-use Rattle.sat_machine.proofs.Worlds.{world-starts}
-use Rattle.sat_machine.proofs.Simple.{view-agrees, emission-agrees}
-use Rattle.sat_machine.proofs.Raising.{mode-agrees}
-use Rattle.sat_machine.proofs.Pools.{pool-agrees}
-use Rattle.sat_machine.proofs.Stores.{store-agrees}
+use Rattle.sat_model.specs.State.{SiteState, Version as VersionSeen}
+use Rattle.sat_model.specs.Next.{version_at}
+use Rattle.sat_model.specs.Look.{mode_of}
+use Rattle.sat_model.specs.World.{world_state}
+use Rattle.sat_model.proofs.Worlds.{world-starts}
+use Rattle.sat_model.proofs.Simple.{view-agrees, emission-agrees}
+use Rattle.sat_model.proofs.Raising.{mode-agrees}
+use Rattle.sat_model.proofs.Pools.{pool-agrees}
+use Rattle.sat_model.proofs.Stores.{store-agrees}
 use Rattle.sat_site.specs.Seen.{SiteSeen}
-use Rattle.sat_machine.specs.Interests.{interest_of}
+use Rattle.sat_model.specs.Interests.{interest_of}
 use Rattle.sat_net.specs.Nets.{NetSeen, fresh_net}
 use Rattle.sat_net.specs.NetStands.{StandsNet}
 use Rattle.sat_world.proofs.Laws.{starts}
@@ -45,7 +45,7 @@ use Rattle.sat_world.specs.Shows.{IsVersion}
 use Rattle.sat_world.specs.Stands.{Stands, StandsFor}
 use Rattle.sat_world.proofs.Lists.{map-get}
 use Rattle.sat_world.proofs.Meets.{home-is}
-use Rattle.sat_machine.specs.Parts.{valued, valued_version}
+use Rattle.sat_model.specs.Parts.{valued, valued_version}
 
 -- ---- what a world shows
 

@@ -1,7 +1,7 @@
 -- The greatest promise of all, and the act clock at each site.
 use Rattle.std.specs.Prelude.{◌≡◌, ℕ, zero, suc, max, List, length, Some, slice_get}
 use Rattle.sat_act.specs.Deployed.{Deployed}
-use Rattle.sat_machine.specs.State.{SiteState}
+use Rattle.sat_model.specs.State.{SiteState}
 use Rattle.sat_site.specs.Seen.{SiteSeen, IsSite}
 use Rattle.sat_site.specs.Stands.{StandsSite}
 use Rattle.sat_site.specs.Gives.{PromisesUpTo}

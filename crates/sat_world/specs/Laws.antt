@@ -1,7 +1,7 @@
 -- Which entries of a history a world knows of.
 use Rattle.std.specs.Prelude.{◌≡◌, Bool, true, List, ◌∷◌}
 use Rattle.sat_act.specs.declared.entry.Entry.{Entry}
-use Rattle.sat_machine.specs.Laws.{leaves_all, flagged}
+use Rattle.sat_model.specs.Laws.{leaves_all, flagged}
 use Rattle.sat_world.specs.Seen.{WorldSeen}
 use Rattle.sat_world.specs.Stands.{StandsFor}
 

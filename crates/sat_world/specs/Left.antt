@@ -5,7 +5,7 @@ use Rattle.sat_label.specs.Words.{below, has}
 use Rattle.sat_act.specs.Deployed.{Deployed}
 use Rattle.sat_act.specs.Settling.{capped}
 use Rattle.sat_bulk.specs.Windows.{has_number}
-use Rattle.sat_machine.specs.State.{SiteState}
+use Rattle.sat_model.specs.State.{SiteState}
 use Rattle.sat_net.specs.Nets.{NetSeen, underway_in}
 use Rattle.sat_proxy.specs.Proxy.{window_of}
 use Rattle.sat_site.specs.Seen.{SiteSeen}

@@ -5,8 +5,8 @@ use Rattle.sat_act.specs.declared.act.Act.TheVariants as act
 use Rattle.sat_act.specs.declared.entry.Entry.{Entry}
 use Rattle.sat_act.specs.Deployed.{Deployed}
 use Rattle.sat_act.specs.Runs.{IsRun}
-use Rattle.sat_machine.specs.Input.{SiteInput}
-use Rattle.sat_machine.specs.Replay.{given_at, handed, site_state}
+use Rattle.sat_model.specs.Input.{SiteInput}
+use Rattle.sat_model.specs.Replay.{given_at, handed, site_state}
 use Rattle.sat_site.specs.declared.input.SiteInput as code
 use Rattle.sat_site.specs.Inputs.{input_of, fits_in}
 use Rattle.sat_site.specs.Seen.{SiteSeen, IsSite}

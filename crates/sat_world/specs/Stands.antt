@@ -3,7 +3,7 @@ use Rattle.std.specs.Prelude.{◌≡◌, ℕ, ◌+◌, List}
 use Rattle.sat_act.specs.declared.entry.Entry.{Entry}
 use Rattle.sat_act.specs.Settling.{capped}
 use Rattle.sat_client.specs.declared.client.Client.{Client}
-use Rattle.sat_machine.specs.World.{ClientState, WorldState, world_state}
+use Rattle.sat_model.specs.World.{ClientState, WorldState, world_state}
 use Rattle.sat_net.specs.Nets.{NetSeen}
 use Rattle.sat_net.specs.NetStands.{StandsNet}
 use Rattle.sat_site.specs.Seen.{SiteSeen}

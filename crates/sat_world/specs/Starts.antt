@@ -6,7 +6,7 @@ use Rattle.sat_act.specs.declared.deployment.Plan.TheVariants as plan
 use Rattle.sat_act.specs.Deployed.{Deployed}
 use Rattle.sat_client.specs.declared.client.Client.{Client}
 use Rattle.sat_client.specs.Clients.{first_seat}
-use Rattle.sat_machine.specs.State.{fresh_site}
+use Rattle.sat_model.specs.State.{fresh_site}
 use Rattle.sat_net.specs.Nets.{NetSeen, fresh_net}
 use Rattle.sat_site.specs.Seen.{SiteSeen}
 use Rattle.sat_site.specs.Stands.{StandsSite}

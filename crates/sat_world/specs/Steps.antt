@@ -19,12 +19,12 @@ use Rattle.sat_act.specs.Settling.{is_done}
 use Rattle.sat_serial.specs.Routes.{routes}
 use Rattle.sat_client.specs.declared.client.Client.{Client}
 use Rattle.sat_client.specs.Clients.{after_join, after_move, after_observe, is_move}
-use Rattle.sat_machine.specs.State.{SiteState}
-use Rattle.sat_machine.specs.Input.{SiteInput}
-use Rattle.sat_machine.specs.Look.{front_of}
-use Rattle.sat_machine.specs.Reply.{site_answer}
-use Rattle.sat_machine.specs.Replay.{given_at}
-use Rattle.sat_machine.specs.World.{WorldState, world_given, world_answer, world_next}
+use Rattle.sat_model.specs.State.{SiteState}
+use Rattle.sat_model.specs.Input.{SiteInput}
+use Rattle.sat_model.specs.Look.{front_of}
+use Rattle.sat_model.specs.Reply.{site_answer}
+use Rattle.sat_model.specs.Replay.{given_at}
+use Rattle.sat_model.specs.World.{WorldState, world_given, world_answer, world_next}
 use Rattle.sat_net.specs.Nets.{NetSeen, link_of, is_dead, after_send, after_hop, after_take, after_kill}
 use Rattle.sat_site.specs.declared.input.SiteInput as code
 use Rattle.sat_site.specs.declared.input.SiteInput.TheVariants as input

@@ -5,8 +5,8 @@ use Rattle.sat_act.specs.Deployed.{Deployed}
 use Rattle.sat_act.specs.Limits.{IsDeployment}
 use Rattle.sat_act.specs.Parts.{tree_of}
 use Rattle.sat_act.specs.Runs.{IsRun}
-use Rattle.sat_machine.specs.Interests.{interest_of}
-use Rattle.sat_machine.specs.World.{world_state}
+use Rattle.sat_model.specs.Interests.{interest_of}
+use Rattle.sat_model.specs.World.{world_state}
 use Rattle.sat_net.specs.Nets.{NetSeen}
 use Rattle.sat_net.specs.NetStands.{IsNetOf}
 use Rattle.sat_world.specs.Seen.{WorldSeen}

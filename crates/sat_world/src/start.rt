@@ -1,7 +1,7 @@
 //! The parts of a world in which nothing has happened.
 ghost use Rattle.std.specs.Prelude.{ℕ, ◌≡◌, ◌<◌, [], length, map, slice_get, Some, IfOk};
 ghost use Rattle.sat_act.specs.declared.deployment.Plan.{Plan as PlanSeen};
-ghost use Rattle.sat_machine.specs.Interests.{interest_of};
+ghost use Rattle.sat_model.specs.Interests.{interest_of};
 ghost use Rattle.sat_world.specs.Starts.{AreFresh, fresh_for, seated};
 
 use sat_act::{Deployment, Plan};

@@ -4,7 +4,7 @@ ghost use Rattle.std.specs.List.{sum_by};
 ghost use Rattle.sat_label.specs.Words.{below, has};
 ghost use Rattle.sat_act.specs.Deployed.{Deployed};
 ghost use Rattle.sat_act.specs.Settling.{capped};
-ghost use Rattle.sat_machine.specs.State.{SiteState};
+ghost use Rattle.sat_model.specs.State.{SiteState};
 ghost use Rattle.sat_site.specs.Seen.{SiteSeen};
 ghost use Rattle.sat_site.specs.Stands.{StandsSite};
 ghost use Rattle.sat_world.specs.Left.{net_underway, IsLeft, IsLeftOf, IsLeftTo, IsOfShape};

@@ -1,6 +1,6 @@
 use Rattle.std.proofs.Common.{◌+◌, None, Some, refl, sym, ap}
 use Rattle.sat_act.specs.declared.act.Act.TheVariants as act
-use Rattle.sat_machine.specs.Reply.{gear_for}
+use Rattle.sat_model.specs.Reply.{gear_for}
 use Rattle.sat_node.specs.Together.{lent}
 use Rattle.sat_parts.specs.declared.gear_input.GearInput.TheVariants as gear
 use Rattle.sat_parts.specs.Gears.{gear_meaning}

@@ -1,6 +1,6 @@
 use Rattle.std.proofs.Common.{rules, ◌<◌, Option, set, ap, ◌∙◌}
 use Rattle.sat_label.specs.declared.point.Point.{Point}
-use Rattle.sat_machine.specs.Next.{raised}
+use Rattle.sat_model.specs.Next.{raised}
 use Rattle.sat_proxy.specs.Helps.{cut_of, known_to}
 use Rattle.sat_proxy.proofs.Raised.{raised_next}
 use Rattle.sat_proxy.proofs.known.raise_all.Goals as goal

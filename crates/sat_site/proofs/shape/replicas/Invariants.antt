@@ -1,5 +1,5 @@
 use Rattle.std.proofs.Common.{◌≡◌, map, take}
-use Rattle.sat_machine.specs.Interests.{replicas_of}
+use Rattle.sat_model.specs.Interests.{replicas_of}
 use Rattle.sat_site.proofs.shape.replicas.Given as goal
 
 abbrev pub invariant-loop-item : goal.invariant-loop-item

@@ -1,5 +1,5 @@
 use Rattle.std.proofs.Common.{ap, ◌∙◌}
-use Rattle.sat_machine.specs.Interests.{interest_of}
+use Rattle.sat_model.specs.Interests.{interest_of}
 use Rattle.sat_machines.specs.Serials.{arrives, SerialSeen}
 use Rattle.sat_machines.proofs.Serials.{arrives_held}
 use Rattle.sat_machines.proofs.serial_node.SerialNode.hopped.Goals as goal
