@@ -24,7 +24,7 @@ use Rattle.sat_joint.specs.Joint.{AnswersAtHome, HasHome, JointFit}
 use Rattle.sat_hub_laws.specs.Inputs.{HubInput, GearInput, ShownBy, ByTurn, ByStamp, ByWrite}
 use Rattle.sat_hub_laws.specs.Inputs as given
 use Rattle.sat_hub_laws.specs.Hubs.{hub_act, hub_answer, hub_fits, hub_handed}
-use Rattle.sat_hub_laws.specs.Gears.{gear_act, gear_answer, gear_fits, gear_handed, is_own, is_shown, is_write, values_of, write_act, written_act}
+use Rattle.sat_hub_laws.specs.Gears.{gear_act, gear_answer, gear_fits, gear_handed, has_all, is_own, is_shown, is_write, values_of, write_act, written_act}
 use Rattle.sat_hub_laws.specs.Lines.{HubLine, GearLine, GearLineAt, HubLineAt, gear_number, gear_piece, gear_pieces, hub_number, hub_piece, hub_pieces, hub_replay, node_lists}
 use Rattle.sat_hub_laws.specs.Laws.{JournalsFit, JournalsJoin}
 use Rattle.sat_hub_laws.proofs.Lines.{gears-answer, gears-are-homes, gears-replay, hubs-answer, hubs-are-homes, hubs-replay}
@@ -74,7 +74,7 @@ write-range d c items values e =
     (eqb-true (length values) (length (list_of items)) both.1, (and_parts (are_items (list_of items)) _ both.0).0)
 
 shown-range : (d : Deployed) (c : ℕ) (p : Payload) (k : Kind) → is_shown d ByWrite p k ≡ true → InRange d (written_act c k (values_of p))
-shown-range d c p (kind.Update items) e = write-range d c items (values_of p) e
+shown-range d c p (kind.Update items) e = write-range d c items (values_of p) (and_parts (is_write d items (values_of p)) (has_all p.values) e).0
 shown-range d c p _ e = absurd (cc)
 
 gear-range : (d : Deployed) (i g c : ℕ) (input : GearInput) → i < d.sites → g < d.gears → gear_fits d g input ≡ true → InRange d (gear_act i g c input)

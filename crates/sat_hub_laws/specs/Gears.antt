@@ -1,5 +1,5 @@
 -- A gear as a machine: what it answers to what it is handed, what it then is, and what its acts are.
-use Rattle.std.specs.Prelude.{◌≡◌, ℕ, Bool, true, false, ◌&&◌, ◌==◌, max, List, [], ◌∷◌, length, map, Option, Some, None, unwrap_or}
+use Rattle.std.specs.Prelude.{◌≡◌, ℕ, Bool, true, false, ◌&&◌, ◌==◌, max, List, [], ◌∷◌, length, map, Option, Some, None, is_some, unwrap_or}
 use Rattle.sat_label.specs.declared.items.Items.{Items}
 use Rattle.sat_label.specs.declared.items.Items.TheVariants.{One}
 use Rattle.sat_label.specs.declared.label.Kind.{Kind}
@@ -67,13 +67,18 @@ is_own d g _ = false
 abbrev pub is_write : Deployed → Items → List (List ℕ) → Bool
 is_write d items values = is_group d items && (length values == length (list_of items))
 
--- the values of a payload, all of which it has
+-- whether a payload has each of these parts
+abbrev pub has_all : List (Option (List ℕ)) → Bool
+has_all [] = true
+has_all (o ∷ os) = is_some o && has_all os
+
+-- the values of a payload, nothing where it has none
 abbrev pub values_of : Payload → List (List ℕ)
 values_of p = map (λ v. unwrap_or v []) p.values
 
--- an update, with as many parts as items where it was just written
+-- an update, with as many values as items, all of them there, where it was just written
 abbrev pub is_shown : Deployed → ShownBy → Payload → Kind → Bool
-is_shown d ByWrite p (kind.Update items) = is_write d items (values_of p)
+is_shown d ByWrite p (kind.Update items) = is_write d items (values_of p) && has_all p.values
 is_shown d by p (kind.Update items) = true
 is_shown d by p _ = false
 

@@ -25,6 +25,7 @@ use Rattle.sat_parts.specs.declared.gear_input.GearInput.{GearInput}
 use Rattle.sat_parts.specs.declared.gear_input.GearInput.TheVariants as gear
 use Rattle.sat_parts.specs.declared.gear_input.ShownBy.{ShownBy}
 use Rattle.sat_parts.specs.declared.gear_step.Twice.{Twice}
+use Rattle.sat_hub_laws.specs.Gears.{has_all}
 use Rattle.sat_parts.specs.GearSteps.{drained_eq, gear_after, gear_answers, gear_may_fail, gear_takes, is_of, is_written, keeps_here, may_show, shown_all, shown_if, shows_item, write_after}
 
 -- ---- parts, from a place on
@@ -46,11 +47,18 @@ parts_uneven shape ks ps uneven = go (has_parts_here shape ks ps) refl
     go true e = absurd (uneven (parts-count shape ks ps e))
     go false e = refl
 
+-- each part is there, from a place on
+pub all_none : (ps : List (Option (List ℕ))) (place : ℕ) → place ≡ length ps → true ≡ has_all (drop place ps)
+all_none ps place e = ap has_all (sym (drop_all place ps (omega (arith, e))))
+
+pub all_more : (ps : List (Option (List ℕ))) (place : ℕ) → place < length ps → has_all (drop place ps) ≡ (is_some (get_or ps place None) && has_all (drop (place + 1) ps))
+all_more ps place lt = ap has_all (drop_more ps place None lt)
+
 -- a payload that may be shown has as many parts as items
 pub shown-count : (s : Shape) (act : ShownBy) (p : Payload) (l : Label) (items : Items) → l ≡ p.label → l.kind ≡ Update items → may_show s act p p.label.kind ≡ true → length p.values ≡ length (list_of items)
 shown-count s act p l items same is may =
     let e : may_show s act p (Update items) ≡ true = ap (may_show s act p) (sym is ∙ ap (λ (m : Label). m.kind) same) ∙ may in
-    parts-count s (list_of items) p.values (and_parts (are_below (length s.interest.replicas) (list_of items)) (has_parts_here s (list_of items) p.values) (and_parts (are_below (length s.interest.replicas) (list_of items) && has_parts_here s (list_of items) p.values) (is_written act s items) e).0).1
+    parts-count s (list_of items) p.values (and_parts (are_below (length s.interest.replicas) (list_of items)) (has_parts_here s (list_of items) p.values) (and_parts (are_below (length s.interest.replicas) (list_of items) && has_parts_here s (list_of items) p.values) (is_written act s items p.values) e).0).1
 
 -- what a write makes has as many parts as values
 pub made-count : (l : Label) (p : Payload) (values : List (List ℕ)) (items : Items) → p ≡ payload_with l values → length values ≡ length (list_of items) → length p.values ≡ length (list_of items)

@@ -48,7 +48,7 @@ use Rattle.sat_site.proofs.Interests.{all-by, items-are, keeps-is, target-is}
 use Rattle.sat_site.proofs.Writes.{whole-parts}
 use Rattle.sat_joint.specs.Machines.{GearNode, drain_of}
 use Rattle.sat_hub_laws.specs.Inputs as model
-use Rattle.sat_hub_laws.specs.Gears.{GivesOwn, gear_answer, gear_fits, gear_then, is_shown, values_of}
+use Rattle.sat_hub_laws.specs.Gears.{GivesOwn, gear_answer, gear_fits, gear_then, has_all, is_shown, values_of}
 use Rattle.sat_hub_laws.specs.Changes.{gear_moved, gear_wrote}
 use Rattle.sat_hub_laws.proofs.Changes.{gears-change}
 use Rattle.sat_machines.specs.Plain.{is_plain}
@@ -167,8 +167,9 @@ module _ (d : Deployed) (i g : ℕ) (x : GearSeen) (n : GearNode) (k : IsGear x)
   shown-is by.Turn p (Update items) e = refl
   shown-is by.Stamp p (Update items) e = refl
   shown-is by.Write p (Update items) e =
-      let w = and_parts (are_below (length x.shape.interest.replicas) (list_of items) && has_parts_here x.shape (list_of items) p.values) (is_group_here x.shape items) e in
-      written-is items p w.1 (and_parts (are_below (length x.shape.interest.replicas) (list_of items)) (has_parts_here x.shape (list_of items) p.values) w.0).1
+      let w = and_parts (are_below (length x.shape.interest.replicas) (list_of items) && has_parts_here x.shape (list_of items) p.values) (is_group_here x.shape items && has_all p.values) e in
+      let v = and_parts (is_group_here x.shape items) (has_all p.values) w.1 in
+      and_from _ _ (written-is items p v.0 (and_parts (are_below (length x.shape.interest.replicas) (list_of items)) (has_parts_here x.shape (list_of items) p.values) w.0).1) v.1
   shown-is act p (Move j) e = absurd (cc)
   shown-is act p Pulse e = absurd (cc)
   shown-is act p (Close q) e = absurd (cc)

@@ -171,7 +171,7 @@ gear-same d x y n same st = record {
 
 kind-shown : (d : Deployed) (i g : ℕ) (x : GearSeen) (n : GearNode) (by : ShownBy) (p : Payload) (kind : Kind) → p.label.kind ≡ kind → IsGear x → StandsGearNode d i g x n → may_show x.shape by p kind ≡ true → StandsGearNode d i g (shown_of x p kind) (gear_shows n p)
 kind-shown d i g x n by p (Update items) e k st may =
-    let w = and_parts (are_below (length x.shape.interest.replicas) (list_of items) && has_parts_here x.shape (list_of items) p.values) (is_written by x.shape items) may in
+    let w = and_parts (are_below (length x.shape.interest.replicas) (list_of items) && has_parts_here x.shape (list_of items) p.values) (is_written by x.shape items p.values) may in
     let v = and_parts (are_below (length x.shape.interest.replicas) (list_of items)) (has_parts_here x.shape (list_of items) p.values) w.0 in
     let y : GearSeen = shown_all x p.label (list_of items) p.values in
     let same : SameGear x y = same-all x p.label (list_of items) p.values in

@@ -20,6 +20,7 @@ use Rattle.sat_act.specs.declared.answer.Answer.TheVariants as ans
 use Rattle.sat_act.specs.declared.answer.Refusal.TheVariants as why
 use Rattle.sat_model.specs.Fits.{is_time}
 use Rattle.sat_hub.specs.Seen.{has_parts_here}
+use Rattle.sat_hub_laws.specs.Gears.{has_all}
 use Rattle.sat_hub.specs.Inputs.{is_carried_here, is_group_here, is_item_here, is_site_here}
 use Rattle.sat_site.specs.SiteSteps.{moved_answer, moved_gear, stamp_answer_of, version_answer}
 use Rattle.sat_parts.specs.declared.gear_input.GearInput.{GearInput}
@@ -57,17 +58,17 @@ is_of x n = n % x.shape.gears == x.gear
 abbrev pub keeps_here : GearSeen → ℕ → Bool
 keeps_here x n = keeps x.shape.interest n x.shape.site
 
--- a write of another gear shows the items of one update
-abbrev pub is_written : ShownBy → Shape → Items → Bool
-is_written by.Write shape items = is_group_here shape items
-is_written _ shape items = true
+-- a write of another gear shows the items of one update, with a value for each
+abbrev pub is_written : ShownBy → Shape → Items → List (Option (List ℕ)) → Bool
+is_written by.Write shape items values = is_group_here shape items && has_all values
+is_written _ shape items values = true
 
 -- whether it may show a payload: an update of known items, with as many parts as items and a value for each item that
--- the site keeps
+-- the site keeps, for each item at all where another gear wrote it
 abbrev pub may_show : Shape → ShownBy → Payload → Kind → Bool
 may_show shape act p (Update items) =
     (are_below (length shape.interest.replicas) (list_of items) && has_parts_here shape (list_of items) p.values)
-    && is_written act shape items
+    && is_written act shape items p.values
 may_show shape act p _ = false
 
 -- whether a gear takes an input: one that fits the deployment, and is of its own items, or of gear 0 where it is a

@@ -4,6 +4,7 @@ ghost use Rattle.sat_label.specs.Grouped.{list_of};
 ghost use Rattle.sat_sites.specs.Interested.{are_below, keeps, AreBelow};
 ghost use Rattle.sat_gear.specs.Gear.{IsItemOf};
 ghost use Rattle.sat_hub.specs.Seen.{has_parts_here};
+ghost use Rattle.sat_hub_laws.specs.Gears.{has_all};
 ghost use Rattle.sat_parts.specs.GearSteps.{is_of, is_written, may_show, shown_all, shown_if, shown_of, shows_item};
 
 use crate::gear_input::ShownBy;
@@ -65,14 +66,26 @@ fn is_whole(shape: &Shape, items: &Items, payload: &Payload) -> bool
     }
 }
 
-// Whether items that are known ascend, where another gear wrote them.
-fn is_written(shape: &Shape, by: ShownBy, items: &Items) -> bool
-    ensures { result ≡ is_written by shape.now items.now }
+// Whether a payload has each of its parts from a place on.
+#[tactic(auto, using(crate::proofs::GearCode::all_none, crate::proofs::GearCode::all_more))]
+fn has_all(payload: &Payload, place: usize) -> bool
+    requires { place ≤ length payload.now.values }
+    ensures { result ≡ has_all (drop place payload.now.values) }
+{
+    if place == payload.len() {
+        return true;
+    }
+    payload.has(place) && has_all(payload, place + 1)
+}
+
+// Whether items that are known ascend, and have a value each, where another gear wrote them.
+fn is_written(shape: &Shape, by: ShownBy, items: &Items, payload: &Payload) -> bool
+    ensures { result ≡ is_written by shape.now items.now payload.now.values }
 {
     match by {
         ShownBy::Turn => true,
         ShownBy::Stamp => true,
-        ShownBy::Write => items.ascend() && shape.interest.knows(items),
+        ShownBy::Write => { (items.ascend() && shape.interest.knows(items)) && has_all(payload, 0) }
     }
 }
 
@@ -81,9 +94,11 @@ fn is_written(shape: &Shape, by: ShownBy, items: &Items) -> bool
 fn is_update(shape: &Shape, by: ShownBy, items: &Items, payload: &Payload) -> bool
     ensures { result
         ≡ ((are_below (length shape.now.interest.replicas) (list_of items.now)
-        && has_parts_here shape.now (list_of items.now) payload.now.values) && is_written by shape.now items.now) }
+        && has_parts_here shape.now (list_of items.now) payload.now.values)
+        && is_written by shape.now items.now payload.now.values) }
 {
-    (shape.interest.knows(items) && is_whole(shape, items, payload)) && is_written(shape, by, items)
+    (shape.interest.knows(items) && is_whole(shape, items, payload))
+        && is_written(shape, by, items, payload)
 }
 
 /// Whether a gear of this shape may show a payload. It takes no memory.

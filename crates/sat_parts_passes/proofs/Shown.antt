@@ -70,7 +70,7 @@ use Rattle.sat_parts_passes.proofs.Sent.{done_by, done_stands, would_fit}
 may-show-items : (x : GearSeen) (act : ShownBy) (p : Payload) (k : Kind) (items : Items) → k ≡ kind.Update items → may_show x.shape act p k ≡ true → AreBelow (length x.shape.interest.replicas) (list_of items)
 may-show-items x act p k items is e =
     let f : may_show x.shape act p (kind.Update items) ≡ true = subst (λ (j : Kind). may_show x.shape act p j ≡ true) is e in
-    let w = and_parts (are_below (length x.shape.interest.replicas) (list_of items) && has_parts_here x.shape (list_of items) p.values) (is_written act x.shape items) f in
+    let w = and_parts (are_below (length x.shape.interest.replicas) (list_of items) && has_parts_here x.shape (list_of items) p.values) (is_written act x.shape items p.values) f in
     let v = and_parts (are_below (length x.shape.interest.replicas) (list_of items)) (has_parts_here x.shape (list_of items) p.values) w.0 in
     below_is (length x.shape.interest.replicas) (list_of items) v.0
 
