@@ -1,0 +1,10 @@
+pub mod Takings
+pub mod SiteTurns
+pub mod SerialTurns
+pub mod Linking
+pub mod Foreseeing
+pub mod Leaving
+pub mod Saying
+pub mod Feeding
+pub mod Hearing
+pub mod Together

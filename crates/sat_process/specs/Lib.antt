@@ -1,0 +1,10 @@
+pub mod Taking
+pub mod Keeping
+pub mod Sites
+pub mod Serials
+pub mod Letters
+pub mod Speaking
+pub mod Processes
+pub mod Spoken
+pub mod Starting
+pub mod Storing
