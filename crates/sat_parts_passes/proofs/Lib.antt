@@ -1,6 +1,6 @@
 mod Flushing
-mod Sent
+pub mod Sent
 mod Idling
 mod Drained
 mod Parting
-mod Shown
+pub mod Shown

@@ -1,0 +1,5 @@
+pub mod Numbers
+pub mod Lanes
+pub mod Fits
+pub mod Hearing
+pub mod Order

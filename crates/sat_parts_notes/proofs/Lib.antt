@@ -1,0 +1,14 @@
+pub mod Members
+pub mod Matches
+pub mod Fits
+pub mod Keys
+pub mod Walks
+pub mod Sorts
+pub mod Alone
+pub mod Places
+pub mod Sessions
+pub mod Merged
+pub mod Whole
+pub mod Loops
+pub mod SameActs
+pub mod SameAnswers
