@@ -1,0 +1,6 @@
+mod Owning
+mod Standing
+mod Trying
+mod Scripts
+mod Hiring
+mod Parts
