@@ -161,16 +161,3 @@ take_has w n k = go (has_number w n) (n == w.front) refl refl
     go true c e f = still (has_number w k) (k == n) (λ same. ap (has_number w) (eqb-true k n same) ∙ e)
     go false true e f = settled_has (n + 1) w.above k ∙ past n w.front k (has ◌==◌ w.above k) f
     go false false e f = ap (λ b. nat_lt k w.front || b) (placed_has w.above n k) ∙ or-assoc (nat_lt k w.front) (has ◌==◌ w.above k) (k == n)
-
--- and it is a window again
-pub take_window : (w : Numbers) (n : ℕ) → n + 1 < 2 ^ 64 → IsWindow w → IsWindow (after_take w n)
-take_window w n fits window = go (has_number w n) (n == w.front) refl refl
-  where
-    above : (a b : ℕ) (h : Bool) → (nat_lt a b || h) ≡ false → (a == b) ≡ false → b + 1 ≤ a
-    above a b true e f = grind (arith, nat_tests)
-    above a b false e f = grind (arith, nat_tests)
-
-    go : (b c : Bool) → has_number w n ≡ b → (n == w.front) ≡ c → IsWindow (if b then w else (if c then settled (n + 1) w.above else record { front = w.front; above = placed w.above n }))
-    go true c e f = window
-    go false true e f = settled_window (n + 1) w.above (subst (λ m. RisesFrom (m + 1) w.above) (sym (eqb-true n w.front f)) window)
-    go false false e f = placed_rises (w.front + 1) n w.above (above n w.front (has ◌==◌ w.above n) e f) fits window

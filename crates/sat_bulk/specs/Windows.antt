@@ -1,5 +1,6 @@
 -- Which numbers of a lane were taken: all below a front, and some above it.
-use Rattle.std.specs.Prelude.{ℕ, ◌≤◌, ◌<◌, ◌+◌, ◌^◌, ◌==◌, ◌||◌, Bool, false, nat_lt, List, [], ◌∷◌, if◌then◌else◌}
+use Rattle.std.specs.Prelude.{ℕ, ◌≤◌, ◌<◌, ◌+◌, ◌^◌, ◌==◌, ◌||◌, ◌++◌, Bool, false, nat_lt, length, List, [], ◌∷◌}
+use Rattle.std.specs.Prelude.{if◌then◌else◌}
 use Rattle.sat_label.specs.Words.{has}
 
 -- all numbers below the front, and these above it, ascending
@@ -40,3 +41,22 @@ RisesFrom n (x ∷ xs) = (n ≤ x) × (x + 1 < 2 ^ 64) × RisesFrom (x + 1) xs
 -- the front was not taken, so it is the least that wasn't
 abbrev pub IsWindow : Numbers → Type 0
 IsWindow w = RisesFrom (w.front + 1) w.above
+
+-- the numbers that marks tell, of which the first is about this one
+abbrev pub marked : ℕ → List Bool → List ℕ
+marked n [] = []
+marked n (b ∷ bs) = if b then n ∷ marked (n + 1) bs else marked (n + 1) bs
+
+-- the front moves past the marks of numbers that were taken, and past the mark behind them, which is the front's own
+abbrev pub passed : ℕ → List Bool → ℕ × List Bool
+passed n [] = (n, [])
+passed n (b ∷ bs) = if b then passed (n + 1) bs else (n, bs)
+
+-- what marks behind a front and a set of numbers far above it tell
+abbrev pub told_by : ℕ → List Bool → List ℕ → Numbers
+told_by front marks far = record { front = front; above = marked (front + 1) marks ++ far }
+
+-- they tell a window, and the far numbers lie behind the marks
+pub record AreApart (front : ℕ) (marks : List Bool) (far : List ℕ) : Type 0 where
+  pub window : IsWindow (told_by front marks far)
+  pub behind : RisesFrom (front + 1 + length marks) far

@@ -1,5 +1,6 @@
 //! Payloads.
-ghost use Rattle.std.specs.Prelude.{◌≡◌, ◌<◌, length, get_or, is_some, map, set, None, Some, IfOk, IfSome, MatchOption, [], ◌∷◌};
+ghost use Rattle.std.specs.Prelude.{◌≡◌, ◌<◌, length, get_or, is_some, map, set, None, Some, IfOk, IfSome, MatchOption};
+ghost use Rattle.std.specs.Prelude.{[], ◌∷◌};
 ghost use Rattle.sat_bulk.specs.Payloads.{held_parts, part_of, value_of, version_for, version_in};
 
 use sat_label::{Label, Value, Version};
