@@ -1,5 +1,7 @@
 -- The answer of an act after a history.
-use Rattle.std.specs.Prelude.{◌≡◌, ◌<◌, ◌≤◌, ℕ, zero, suc, ◌+◌, ◌-◌, ◌%◌, Bool, true, false, ◌&&◌, ◌||◌, not, ◌==◌, nat_le, max, List, [], ◌∷◌, length, filter, Option, Some, None, is_some, slice_get, if◌then◌else◌}
+use Rattle.std.specs.Prelude.{◌≡◌, ◌<◌, ◌≤◌, ℕ, zero, suc, ◌+◌, ◌-◌, ◌%◌, Bool, true, false, ◌&&◌, ◌||◌, not, ◌==◌}
+use Rattle.std.specs.Prelude.{nat_le, max, List, [], ◌∷◌, length, filter, Option, Some, None, is_some, slice_get}
+use Rattle.std.specs.Prelude.{if◌then◌else◌}
 use Rattle.std.specs.List.{list_any}
 use Rattle.sat_label.specs.declared.limits.TheConstants.{PULSE_GEAR, TS_END}
 use Rattle.sat_label.specs.declared.items.Items.{Items}
@@ -21,7 +23,11 @@ use Rattle.sat_act.specs.declared.answer.Refusal.{Refusal}
 use Rattle.sat_act.specs.declared.answer.Refusal.TheVariants as why
 use Rattle.sat_act.specs.declared.entry.Entry.{Entry}
 use Rattle.sat_act.specs.Deployed.{Deployed}
-use Rattle.sat_act.specs.Parts.{BeatNote, replicates, keeps_all, tree_of, promise, least_promise, made_to, gathered, stable, ready, cut, last_pulse, emission, view, in_stamp_mode, seat_in, goes_beyond, link_front, killed, is_update, version, values_of, value_of, lane, lane_front, brought, waiting, beats, beats_taken, best, best_passes, all_others, seat, carried, may_attach, next_stamp}
+use Rattle.sat_act.specs.Parts.{BeatNote, replicates, keeps_all, tree_of, promise, least_promise, made_to, gathered}
+use Rattle.sat_act.specs.Parts.{stable, ready, cut, last_pulse, emission, view, in_stamp_mode, seat_in, goes_beyond}
+use Rattle.sat_act.specs.Parts.{link_front, killed, is_update, version, values_of, value_of, lane, lane_front, brought}
+use Rattle.sat_act.specs.Parts.{waiting, beats, beats_taken, best, best_passes, all_others, seat, carried, may_attach}
+use Rattle.sat_act.specs.Parts.{next_stamp}
 
 -- refused with the reason where the test holds, else the answer
 abbrev pub refused_if : Bool → Refusal → Answer → Answer

@@ -10,7 +10,8 @@ use Rattle.sat_act.specs.declared.answer.Answer.TheVariants as ans
 use Rattle.sat_act.specs.declared.entry.Entry.{Entry}
 use Rattle.sat_act.specs.Deployed.{Deployed}
 use Rattle.sat_act.specs.Done.{made_in, Written, write_in}
-use Rattle.sat_act.specs.Parts.{replicates, shown_entry, is_update_of, version, value_for, value_of, home, seat, lane, brought, waiting}
+use Rattle.sat_act.specs.Parts.{replicates, shown_entry, is_update_of, version, value_for, value_of, home, seat, lane}
+use Rattle.sat_act.specs.Parts.{brought, waiting}
 use Rattle.sat_act.specs.Causes.{Past, Cause}
 
 -- some entry gave x

@@ -1,6 +1,7 @@
 -- Deployments within their limits.
 use Rattle.std.specs.Prelude.{◌≡◌, ◌<◌, ◌≤◌, ℕ, true, Some, length, slice_get, List}
-use Rattle.sat_label.specs.declared.limits.TheConstants.{MOST_CLIENTS, MOST_EPOCHS, MOST_GEARS, MOST_ITEMS, MOST_SERIALIZERS, MOST_SITES}
+use Rattle.sat_label.specs.declared.limits.TheConstants.{MOST_CLIENTS, MOST_EPOCHS, MOST_GEARS, MOST_ITEMS}
+use Rattle.sat_label.specs.declared.limits.TheConstants.{MOST_SERIALIZERS, MOST_SITES}
 use Rattle.sat_label.specs.Words.{bit}
 use Rattle.sat_label.specs.Formats.{is_format, limits_of}
 use Rattle.sat_tree.specs.Shape.{TreeShape}

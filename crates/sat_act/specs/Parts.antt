@@ -1,5 +1,6 @@
 -- What a history says of each part: gears, sinks, epochs, links, lanes, beats, views, stores and clients.
-use Rattle.std.specs.Prelude.{ℕ, zero, suc, ◌+◌, ◌-◌, Bool, true, false, ◌&&◌, ◌||◌, not, ◌==◌, nat_le, min, List, [], ◌∷◌, ◌++◌, length, filter, Option, Some, None, is_some, slice_get, if◌then◌else◌}
+use Rattle.std.specs.Prelude.{ℕ, zero, suc, ◌+◌, ◌-◌, Bool, true, false, ◌&&◌, ◌||◌, not, ◌==◌, nat_le, min, List, []}
+use Rattle.std.specs.Prelude.{◌∷◌, ◌++◌, length, filter, Option, Some, None, is_some, slice_get, if◌then◌else◌}
 use Rattle.std.specs.List.{list_all, list_any, prefix_len}
 use Rattle.sat_label.specs.declared.point.Point.{Point}
 use Rattle.sat_label.specs.declared.label.Kind.{Kind}
@@ -7,7 +8,8 @@ use Rattle.sat_label.specs.declared.label.Kind.TheVariants as kind
 use Rattle.sat_label.specs.declared.label.Label.{Label}
 use Rattle.sat_label.specs.declared.node.NodeId.{NodeId}
 use Rattle.sat_label.specs.declared.node.NodeId.TheVariants.{Site, Serializer}
-use Rattle.sat_label.specs.Order.{point_at, mark, zero_point, point_lt, point_le, greater_point, label_lt, label_eq, node_eq}
+use Rattle.sat_label.specs.Order.{point_at, mark, zero_point, point_lt, point_le, greater_point, label_lt, label_eq}
+use Rattle.sat_label.specs.Order.{node_eq}
 use Rattle.sat_label.specs.Grouped.{list_of}
 use Rattle.sat_label.specs.Words.{below, has, bit}
 use Rattle.sat_label.specs.Least.{least_label}
@@ -20,7 +22,8 @@ use Rattle.sat_act.specs.declared.deployment.Plan.{Plan}
 use Rattle.sat_act.specs.declared.deployment.Plan.TheVariants as plan
 use Rattle.sat_act.specs.Deployed.{Deployed}
 use Rattle.sat_act.specs.Histories.{listed, latest, up_to, highest}
-use Rattle.sat_act.specs.Done.{made_in, sent_in, is_at, is_of, is_tick, is_gather, is_beat, beat_in, is_kill, Written, write_in}
+use Rattle.sat_act.specs.Done.{made_in, sent_in, is_at, is_of, is_tick, is_gather, is_beat, beat_in, is_kill, Written}
+use Rattle.sat_act.specs.Done.{write_in}
 
 -- ---- the deployment
 
@@ -241,18 +244,27 @@ handling d before entry =
           elim entry.act
           [ act.Emit i ↦ Some (record { epoch = emission before i; node = Site i; from = None; label = l }) | _ ↦ None ]
       | ans.Pulsed l ↦
-          elim entry.act
-          [ act.Pulse i ↦ Some (record { epoch = emission before i; node = Site i; from = None; label = l }) | _ ↦ None ]
+          elim entry.act [
+            | act.Pulse i ↦ Some (record { epoch = emission before i; node = Site i; from = None; label = l })
+            | _ ↦ None
+          ]
       | ans.Closed closed p ↦
           elim entry.act [
             | act.Close i ↦
                 Some
-                (record { epoch = closed; node = Site i; from = None; label = record { point = p; kind = kind.Close closed } })
+                (record {
+                  epoch = closed;
+                  node = Site i;
+                  from = None;
+                  label = record { point = p; kind = kind.Close closed };
+                })
             | _ ↦ None
           ]
       | ans.Hopped l to ↦
-          elim entry.act
-          [ act.Hop epoch u z ↦ Some (record { epoch = epoch; node = Serializer z; from = Some u; label = l }) | _ ↦ None ]
+          elim entry.act [
+            | act.Hop epoch u z ↦ Some (record { epoch = epoch; node = Serializer z; from = Some u; label = l })
+            | _ ↦ None
+          ]
       | ans.Shown l ↦
           elim entry.act [
             | act.Turn j ↦
@@ -625,4 +637,8 @@ own_site_passed d h j l = best_passes (best d h j l.point.site) (passed_label (v
 unfoldable pub next_stamp : Deployed → List Entry → ℕ → Option Label
 unfolding candidate best view
 next_stamp d h j =
-    elim (candidate d h j) [ None ↦ None | Some l ↦ if every_site_passed d h j l && own_site_passed d h j l then Some l else None ]
+    elim (candidate d h j) [
+      | None ↦ None
+      | Some l ↦ if every_site_passed d h j l && own_site_passed d h j l then Some l
+          else None
+    ]

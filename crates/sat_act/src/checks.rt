@@ -1,5 +1,6 @@
 //! What is asked of a deployment's parts.
-ghost use Rattle.std.specs.Prelude.{◌≡◌, ◌<◌, ◌≤◌, ℕ, ◌+◌, take, true, not, ◌||◌, List, length, IfOk, OnOk, slice_get, Some, None};
+ghost use Rattle.std.specs.Prelude.{◌≡◌, ◌<◌, ◌≤◌, ℕ, ◌+◌, take, true, not, ◌||◌, List, length, IfOk, OnOk, slice_get};
+ghost use Rattle.std.specs.Prelude.{Some, None};
 ghost use Rattle.sat_tree.specs.Shape.{TreeShape};
 ghost use Rattle.sat_tree.specs.Flaw.{IsSmallTree};
 ghost use Rattle.sat_act.specs.declared.deployment.Plan.TheVariants as plan;
@@ -9,7 +10,8 @@ ghost use Rattle.sat_label.specs.Words.{first_failing};
 ghost use Rattle.sat_label.specs.declared.limits.TheConstants.{MOST_CLIENTS, MOST_EPOCHS, MOST_ITEMS, MOST_SITES};
 ghost use Rattle.sat_act.specs.declared.deployment.Item.{Item};
 ghost use Rattle.sat_act.specs.declared.deployment.ClientLine.{ClientLine};
-ghost use Rattle.sat_act.specs.Flaw.{has_name, HaveItemNames, HaveClientLineNames, client_fits, flaw, item_fits, plan_fits, wrong_size};
+ghost use Rattle.sat_act.specs.Flaw.{has_name, HaveItemNames, HaveClientLineNames, client_fits, flaw, item_fits};
+ghost use Rattle.sat_act.specs.Flaw.{plan_fits, wrong_size};
 ghost use Rattle.sat_act.specs.Limits.{HaveTrees};
 
 use crate::{ClientLine, DeploymentFault, Item, Plan};
@@ -221,7 +223,14 @@ fn wrong_size(
 ) -> Option<u16>
     ensures part { result
         ≡ wrong_size
-        (record { format = format; sites = sites; gears = gears; items = items.now; clients = clients.now; plans = plans.now }) }
+        (record {
+          format = format;
+          sites = sites;
+          gears = gears;
+          items = items.now;
+          clients = clients.now;
+          plans = plans.now;
+        }) }
     ensures few_sites { result ≡ None → sites ≤ MOST_SITES }
     ensures few_items { result ≡ None → length items.now ≤ MOST_ITEMS }
 {
@@ -260,7 +269,14 @@ pub fn flaw_of(
 ) -> Option<DeploymentFault>
     ensures flaw { result
         ≡ flaw
-        (record { format = format; sites = sites; gears = gears; items = items.now; clients = clients.now; plans = plans.now }) }
+        (record {
+          format = format;
+          sites = sites;
+          gears = gears;
+          items = items.now;
+          clients = clients.now;
+          plans = plans.now;
+        }) }
     ensures trees { result ≡ None → HaveTrees plans.now }
 {
     if let Some(part) = wrong_size(format, sites, gears, items, clients, plans) {

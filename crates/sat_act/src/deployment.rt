@@ -118,11 +118,25 @@ impl Model for Deployment {
 
     ghost use Rattle.sat_act.specs.Limits.{IsDeployment};
 
-    ghost view = { λ a. record { format = a.format; sites = a.sites; gears = a.gears; items = a.items.items; clients = a.clients.items; plans = a.plans.items } };
+    ghost view = { λ a. record {
+      format = a.format;
+      sites = a.sites;
+      gears = a.gears;
+      items = a.items.items;
+      clients = a.clients.items;
+      plans = a.plans.items;
+    } };
 
     ghost invariant = { λ a.
         IsDeployment
-        (record { format = a.format; sites = a.sites; gears = a.gears; items = a.items.items; clients = a.clients.items; plans = a.plans.items }) };
+        (record {
+          format = a.format;
+          sites = a.sites;
+          gears = a.gears;
+          items = a.items.items;
+          clients = a.clients.items;
+          plans = a.plans.items;
+        }) };
 }
 
 impl Deployment {
@@ -144,10 +158,24 @@ impl Deployment {
     ) -> Result<Self, DeploymentFault>
         ensures deployment { IfOk result
             (λ d. d
-            ≡ record { format = format; sites = sites; gears = gears; items = items.items; clients = clients.items; plans = plans.items }) }
+            ≡ record {
+              format = format;
+              sites = sites;
+              gears = gears;
+              items = items.items;
+              clients = clients.items;
+              plans = plans.items;
+            }) }
         ensures fault { MatchOption
             (flaw
-            (record { format = format; sites = sites; gears = gears; items = items.items; clients = clients.items; plans = plans.items }))
+            (record {
+              format = format;
+              sites = sites;
+              gears = gears;
+              items = items.items;
+              clients = clients.items;
+              plans = plans.items;
+            }))
             (IsOk result)
             (λ fault. IsErrOf result fault) }
     {

@@ -4,8 +4,9 @@ use thiserror::Error;
 /// Why a deployment was not made. Places count from 0.
 #[derive(Clone, Copy, Debug, PartialEq, Eq, Drop, Error)]
 pub enum DeploymentFault {
-    /// A part of a wrong size: 5 for the format, 1 or 2, 0 for the sites, 1 to 16 or to 64 in format 2, 1 for the gears, 1 to 8, 2 for the
-    /// items, at most 4,096 or 65,535 in format 2, 3 for the clients, at most 1,024, or 4 for the plans, 1 to 16.
+    /// A part of a wrong size: 5 for the format, 1 or 2, 0 for the sites, 1 to 16 or to 64 in format 2, 1 for the
+    /// gears, 1 to 8, 2 for the items, at most 4,096 or 65,535 in format 2, 3 for the clients, at most 1,024, or 4 for
+    /// the plans, 1 to 16.
     #[error("part {0} of the deployment is outside its limit")]
     Size(u16),
     /// The item at this place is kept nowhere or outside the sites, or has an earlier item's name.

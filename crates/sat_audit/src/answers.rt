@@ -3,7 +3,9 @@ ghost use Rattle.std.specs.Prelude.{◌≡◌, ◌≤◌, ◌∷◌, [], map, co
 ghost use Rattle.std.specs.Option.{option_map};
 ghost use Rattle.std.specs.List.{starts_with};
 ghost use Rattle.sat_script.specs.Words.{number_below};
-ghost use Rattle.sat_audit.specs.Told.{answered, are_written, begins, is_move, is_read, is_show, is_some_text, is_write, name_items, point_in, point_of, pointed, read_words, shown_words, told_in};
+ghost use Rattle.sat_audit.specs.Told.{answered, are_written, begins, is_move, is_read, is_show, is_some_text};
+ghost use Rattle.sat_audit.specs.Told.{is_write, name_items, point_in, point_of, pointed, read_words, shown_words};
+ghost use Rattle.sat_audit.specs.Told.{told_in};
 ghost use Rattle.sat_audit.specs.declared.told.Told.TheVariants as told;
 
 use crate::Told;

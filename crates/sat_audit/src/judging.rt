@@ -2,7 +2,9 @@
 ghost use Rattle.std.specs.Prelude.{◌≡◌, ◌++◌, ◌<◌, [], map, length, take, IfOk, OnOk, OnErr};
 ghost use Rattle.sat_verdict.specs.Verdicts.{IsCausalVerdict, IsFreshVerdict, IsOnceVerdict};
 ghost use Rattle.sat_audit.specs.Histories.{IsHistory};
-ghost use Rattle.sat_audit.specs.Judging.{wrote_tale, read_none_tale, read_some_tale, moved_tale, shown_tale, tale_of, sets_of, replicas_of, is_yes, causal_text, once_text, fresh_text, verdict_of, verdict_text, IsVerdictOf};
+ghost use Rattle.sat_audit.specs.Judging.{wrote_tale, read_none_tale, read_some_tale, moved_tale, shown_tale, tale_of};
+ghost use Rattle.sat_audit.specs.Judging.{sets_of, replicas_of, is_yes, causal_text, once_text, fresh_text, verdict_of};
+ghost use Rattle.sat_audit.specs.Judging.{verdict_text, IsVerdictOf};
 
 use crate::{Heard, History, Told};
 use sat_act::{Act, Item};

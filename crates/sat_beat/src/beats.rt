@@ -1,6 +1,7 @@
 //! The beats of all sites.
 ghost use Rattle.std.specs.Prelude.{◌≡◌, ◌<◌, length, replicate, option_copied, option_map, IfOk, IfErr, OnOk, OnErr};
-ghost use Rattle.sat_beat.specs.Beats.{after_take, fresh_beats, none_taken, refreshed, take_answer, taken_of, with_taken, HasOneMore, IsBeats, KeepsBest};
+ghost use Rattle.sat_beat.specs.Beats.{after_take, fresh_beats, none_taken, refreshed, take_answer, taken_of};
+ghost use Rattle.sat_beat.specs.Beats.{with_taken, HasOneMore, IsBeats, KeepsBest};
 
 use crate::Beat;
 use crate::taken::Taken;

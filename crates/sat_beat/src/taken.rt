@@ -1,6 +1,9 @@
 //! The beats that were taken of one site.
-ghost use Rattle.std.specs.Prelude.{◌≡◌, ℕ, get_or, is_none, true, if◌then◌else◌, option_map, option_copied, Some, None, IfOk, IfErr, OnOk, OnErr};
-ghost use Rattle.sat_beat.specs.Beats.{after_take, are_reached, has_beat, is_complete, is_old, is_old_by, moved, newest, next_number, none_taken, passed, placed, refreshed, starts_to, take_answer, RisesFrom};
+ghost use Rattle.std.specs.Prelude.{◌≡◌, ℕ, get_or, is_none, true, if◌then◌else◌, option_map, option_copied, Some};
+ghost use Rattle.std.specs.Prelude.{None, IfOk, IfErr, OnOk, OnErr};
+ghost use Rattle.sat_beat.specs.Beats.{after_take, are_reached, has_beat, is_complete, is_old, is_old_by, moved};
+ghost use Rattle.sat_beat.specs.Beats.{newest, next_number, none_taken, passed, placed, refreshed, starts_to};
+ghost use Rattle.sat_beat.specs.Beats.{take_answer, RisesFrom};
 ghost use Rattle.sat_beat.specs.Rising.{last_before, starts_complete, CountsRise, EndsTo, RisesOn, RisesTo};
 
 use crate::{Beat, BeatTake};
@@ -8,8 +11,9 @@ use std::alloc::Global;
 use std::collections::BTreeMap;
 use std::marker::Model;
 
-/// The best beat, with its number, and those of greater numbers, by number. A mark says that their counts rise with their
-/// numbers, as those of one sender do in whatever order they come; then the complete ones come first, and no other is looked at.
+/// The best beat, with its number, and those of greater numbers, by number. A mark says that their counts rise with
+/// their numbers, as those of one sender do in whatever order they come; then the complete ones come first, and no
+/// other is looked at.
 #[derive(Drop)]
 pub struct Taken {
     best: Option<(u64, Beat)>,
@@ -136,7 +140,8 @@ fn pass(best: &mut Option<(u64, Beat)>, later: &mut BTreeMap<u64, Beat>, number:
     }
 }
 
-// Fewer beats than these are taken out one by one: a map that is emptied at once gives its memory back, and asks for it anew.
+// Fewer beats than these are taken out one by one: a map that is emptied at once gives its memory back, and asks for it
+// anew.
 const MANY: usize = 16;
 
 // Whether there are many beats, and the last of them has a number up to this one.
@@ -165,7 +170,8 @@ fn pass_all(best: &mut Option<(u64, Beat)>, later: &mut BTreeMap<u64, Beat>, num
 // Takes the beats up to a number, if any, out; the last of them becomes the best.
 fn move_forward(best: &mut Option<(u64, Beat)>, later: &mut BTreeMap<u64, Beat>, to: Option<u64>)
     requires { RisesFrom (next_number best.old) later.old.entries }
-    ensures { record { best = best.new; later = later.new.entries } ≡ moved to (record { best = best.old; later = later.old.entries }) }
+    ensures { record { best = best.new; later = later.new.entries }
+        ≡ moved to (record { best = best.old; later = later.old.entries }) }
 {
     let Some(number) = to else {
         return;
@@ -177,7 +183,8 @@ fn move_forward(best: &mut Option<(u64, Beat)>, later: &mut BTreeMap<u64, Beat>,
     }
 }
 
-// Whether the counts of the next beat below a number are at or below those of a beat. Where counts rise, those of all below are.
+// Whether the counts of the next beat below a number are at or below those of a beat. Where counts rise, those of all
+// below are.
 #[tactic(auto, using(crate::proofs::Rising::none_below, crate::proofs::Rising::rises_from_last))]
 fn rises_to(later: &BTreeMap<u64, Beat>, number: u64, beat: &Beat) -> bool
     requires { CountsRise later.now.entries }
@@ -189,8 +196,8 @@ fn rises_to(later: &BTreeMap<u64, Beat>, number: u64, beat: &Beat) -> bool
     }
 }
 
-// Whether the counts of some beats, which rise or not, rise with one more, where those above it are known to be at or above its own or
-// not. It looks at the one that it would stand behind.
+// Whether the counts of some beats, which rise or not, rise with one more, where those above it are known to be at or
+// above its own or not. It looks at the one that it would stand behind.
 fn goes_on(rising: bool, on: bool, later: &BTreeMap<u64, Beat>, number: u64, beat: &Beat) -> bool
     requires { rising ≡ true → CountsRise later.now.entries }
     ensures rising { result ≡ true → rising ≡ true }
@@ -292,8 +299,8 @@ impl Taken {
         }
     }
 
-    // None where a beat of this number is among the later ones, else whether the counts of the next one above it are at or above those
-    // of a beat. Where counts rise, those of all above are.
+    // None where a beat of this number is among the later ones, else whether the counts of the next one above it are at
+    // or above those of a beat. Where counts rise, those of all above are.
     #[tactic(auto, using(crate::proofs::Rising::none_above, crate::proofs::Rising::rises_to_first, crate::proofs::Rising::none_from, crate::proofs::Rising::first_from))]
     fn rises_on(&self, number: u64, beat: &Beat) -> Option<bool>
         ensures has { is_none result ≡ has_beat self.now.later number }

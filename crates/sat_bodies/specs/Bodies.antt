@@ -1,5 +1,6 @@
 -- How the inputs of a site are spelled: the body of each, as a journal keeps it.
-use Rattle.std.proofs.Common.{◌≡◌, ℕ, ◌<◌, ◌≤◌, ◌^◌, Bool, true, List, [], ◌∷◌, ◌++◌, length, Option, Some, None, Ok, Err, refl, ap, arith}
+use Rattle.std.proofs.Common.{◌≡◌, ℕ, ◌<◌, ◌≤◌, ◌^◌, Bool, true, List, [], ◌∷◌, ◌++◌, length, Option, Some, None, Ok}
+use Rattle.std.proofs.Common.{Err, refl, ap, arith}
 use Rattle.std.specs.Prelude.{nat_lt, slice_get}
 use Rattle.std.specs.declared.result.Result.{Result}
 use Rattle.sat_label.specs.declared.carried.Carried.{Carried}
@@ -11,10 +12,12 @@ use Rattle.sat_site.specs.declared.input.SiteInput.{SiteInput}
 use Rattle.sat_site.specs.declared.input.SiteInput.TheVariants as given
 use Rattle.sat_wire.specs.declared.fault.Cause.TheVariants as cause
 use Rattle.sat_wire.specs.declared.fault.Wrong.{Wrong}
-use Rattle.sat_wire.specs.Code.{Read, Code, AreBytes, IsExact, both_fit, number16, number64, nothing, both, made, optional, allowed_if, chosen, read_form}
+use Rattle.sat_wire.specs.Code.{Read, Code, AreBytes, IsExact, both_fit, number16, number64, nothing, both, made}
+use Rattle.sat_wire.specs.Code.{optional, allowed_if, chosen, read_form}
 use Rattle.sat_wire.specs.Exact.{exact16, exact64, exact_nothing, exact_both, exact_optional}
 use Rattle.sat_wire.specs.Forms.{AreForms, form_of, form_again, exact_chosen}
-use Rattle.sat_wire.specs.Labels.{ascend, carried, exact_carried, exact_items, exact_label, exact_values, items, label, label_allows, values}
+use Rattle.sat_wire.specs.Labels.{ascend, carried, exact_carried, exact_items, exact_label, exact_values, items, label}
+use Rattle.sat_wire.specs.Labels.{label_allows, values}
 use Rattle.sat_wire.specs.Payloads.{beat, beat_allows, exact_beat, exact_payload, payload, payload_allows}
 use Rattle.sat_wire.specs.Wholes.{whole, whole_again, whole_only}
 

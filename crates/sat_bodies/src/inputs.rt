@@ -1,7 +1,8 @@
 //! The inputs of a site.
 ghost use Rattle.std.specs.Prelude.{◌≡◌, ◌+◌, ◌≤◌, ◌++◌, true, length, vec_capacity, Ok, IfOk, IfErr};
 ghost use Rattle.sat_wire.specs.Code.{made, StopsAt};
-ghost use Rattle.sat_bodies.specs.Bodies.{beat_code, beat_in_of, bulk_code, bulk_of, client_code, input, input_allows, input_fits, move_of, read_of, tick_code, tick_of, write_code, write_of};
+ghost use Rattle.sat_bodies.specs.Bodies.{beat_code, beat_in_of, bulk_code, bulk_of, client_code, input, input_allows};
+ghost use Rattle.sat_bodies.specs.Bodies.{input_fits, move_of, read_of, tick_code, tick_of, write_code, write_of};
 
 use sat_beat::Beat;
 use sat_bulk::Payload;

@@ -1,5 +1,6 @@
 -- What a chain keeps of one serializer.
-use Rattle.std.specs.Prelude.{◌≡◌, ◌<◌, ◌≤◌, ◌+◌, ℕ, List, [], length, set, take, sum_by, replicate, Option, Some, None, slice_get}
+use Rattle.std.specs.Prelude.{◌≡◌, ◌<◌, ◌≤◌, ◌+◌, ℕ, List, [], length, set, take, sum_by, replicate, Option, Some, None}
+use Rattle.std.specs.Prelude.{slice_get}
 use Rattle.sat_label.specs.Members.{In}
 use Rattle.sat_label.specs.declared.node.NodeId.{NodeId}
 use Rattle.sat_sites.specs.Interested.{Interested, IsLabelOf}

@@ -1,10 +1,12 @@
 //! Chains.
-ghost use Rattle.std.specs.Prelude.{◌≡◌, ◌<◌, ◌≤◌, ◌+◌, ◌-◌, ◌++◌, [], ◌∷◌, List, ℕ, Some, None, IsSome, length, get_or, slice_get, IfOk, OnOk, OnErr};
+ghost use Rattle.std.specs.Prelude.{◌≡◌, ◌<◌, ◌≤◌, ◌+◌, ◌-◌, ◌++◌, [], ◌∷◌, List, ℕ, Some, None, IsSome, length};
+ghost use Rattle.std.specs.Prelude.{get_or, slice_get, IfOk, OnOk, OnErr};
 ghost use Rattle.sat_serial.specs.Hits.{code};
 ghost use Rattle.sat_chain_laws.specs.declared.pair.Pair.{Pair as PairSeen};
 ghost use Rattle.sat_chain_laws.specs.Rows.{first_from, tail, labels_from};
 ghost use Rattle.sat_chain.specs.declared.by_node.TheConstants.{PLACES};
-ghost use Rattle.sat_chain.specs.Chained.{fresh_chain, row_of, number_of, after_change, after_crash, after_look, after_effect};
+ghost use Rattle.sat_chain.specs.Chained.{fresh_chain, row_of, number_of, after_change, after_crash, after_look};
+ghost use Rattle.sat_chain.specs.Chained.{after_effect};
 
 use crate::by_node::ByNode;
 use crate::replica::Replica;

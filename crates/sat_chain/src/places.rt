@@ -1,5 +1,6 @@
 //! Changes of one chain among those of all trees.
-ghost use Rattle.std.specs.Prelude.{◌≡◌, ◌<◌, ◌+◌, ◌++◌, [], ◌∷◌, List, Some, IsSome, length, get_or, IfOk, OnOk, OnErr};
+ghost use Rattle.std.specs.Prelude.{◌≡◌, ◌<◌, ◌+◌, ◌++◌, [], ◌∷◌, List, Some, IsSome, length, get_or, IfOk, OnOk};
+ghost use Rattle.std.specs.Prelude.{OnErr};
 ghost use Rattle.sat_serial.specs.Hits.{code};
 ghost use Rattle.sat_chain_laws.specs.declared.pair.Pair.{Pair as PairSeen};
 ghost use Rattle.sat_chain.specs.Chained.{ChainSeen, row_of, after_change, after_crash, after_look, after_effect};

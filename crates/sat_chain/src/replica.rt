@@ -1,5 +1,6 @@
 //! Replicas.
-ghost use Rattle.std.specs.Prelude.{◌≡◌, ◌<◌, ◌++◌, [], ◌∷◌, List, Some, None, IsSome, is_some, length, slice_get, OnOk, OnErr};
+ghost use Rattle.std.specs.Prelude.{◌≡◌, ◌<◌, ◌++◌, [], ◌∷◌, List, Some, None, IsSome, is_some, length, slice_get};
+ghost use Rattle.std.specs.Prelude.{OnOk, OnErr};
 ghost use Rattle.sat_serial.specs.Hits.{code};
 ghost use Rattle.sat_chain_laws.specs.declared.pair.Pair.{Pair as PairSeen};
 ghost use Rattle.sat_chain_laws.specs.Rows.{labels_from};

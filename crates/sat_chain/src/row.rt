@@ -1,8 +1,10 @@
 //! The chains of one tree.
-ghost use Rattle.std.specs.Prelude.{◌≡◌, ◌<◌, ◌+◌, ◌++◌, [], ◌∷◌, List, Some, IsSome, length, get_or, replicate, set, slice_get, IfOk, OnOk, OnErr};
+ghost use Rattle.std.specs.Prelude.{◌≡◌, ◌<◌, ◌+◌, ◌++◌, [], ◌∷◌, List, Some, IsSome, length, get_or, replicate, set};
+ghost use Rattle.std.specs.Prelude.{slice_get, IfOk, OnOk, OnErr};
 ghost use Rattle.sat_serial.specs.Hits.{code};
 ghost use Rattle.sat_chain_laws.specs.declared.pair.Pair.{Pair as PairSeen};
-ghost use Rattle.sat_chain.specs.Chained.{ChainSeen, fresh_chain, row_of, after_change, after_crash, after_look, after_effect};
+ghost use Rattle.sat_chain.specs.Chained.{ChainSeen, fresh_chain, row_of, after_change, after_crash, after_look};
+ghost use Rattle.sat_chain.specs.Chained.{after_effect};
 
 use crate::chain::Chain;
 use sat_chain_laws::Pair;

@@ -1,5 +1,6 @@
 -- The answer of an act with chains after a history.
-use Rattle.std.specs.Prelude.{◌≡◌, ◌<◌, ℕ, Bool, true, false, ◌&&◌, not, List, length, filter, Option, Some, None, slice_get}
+use Rattle.std.specs.Prelude.{◌≡◌, ◌<◌, ℕ, Bool, true, false, ◌&&◌, not, List, length, filter, Option, Some, None}
+use Rattle.std.specs.Prelude.{slice_get}
 use Rattle.sat_label.specs.declared.node.NodeId.{NodeId}
 use Rattle.sat_label.specs.declared.node.NodeId.TheVariants.{Serializer}
 use Rattle.sat_label.specs.Order.{node_eq}

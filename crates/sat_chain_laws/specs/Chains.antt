@@ -1,6 +1,7 @@
 -- Histories with chains, the newest entry first: what each replica has, how many labels took effect, and the plain
 -- history.
-use Rattle.std.specs.Prelude.{ℕ, ◌+◌, Bool, false, ◌&&◌, ◌==◌, nat_lt, List, [], ◌∷◌, ◌++◌, length, Option, Some, None, is_some, slice_get, if◌then◌else◌}
+use Rattle.std.specs.Prelude.{ℕ, ◌+◌, Bool, false, ◌&&◌, ◌==◌, nat_lt, List, [], ◌∷◌, ◌++◌, length, Option, Some, None}
+use Rattle.std.specs.Prelude.{is_some, slice_get, if◌then◌else◌}
 use Rattle.sat_label.specs.declared.label.Label.{Label}
 use Rattle.sat_act.specs.declared.act.Act.{Act}
 use Rattle.sat_act.specs.declared.act.Act.TheVariants as act
@@ -34,16 +35,24 @@ handed_on row k n = elim (row k) [ None ↦ None | Some xs ↦ slice_get xs (len
 -- the living replica after k has one pair more, from k's list
 abbrev pub next_gains : ℕ → Row → ℕ → Option Change
 next_gains r row k =
-    elim (next_after r row k)
-    [ None ↦ None | Some n ↦ elim (handed_on row k n) [ None ↦ None | Some p ↦ Some (n.number, Some (n.list ++ p ∷ [])) ] ]
+    elim (next_after r row k) [
+      | None ↦ None
+      | Some n ↦ elim (handed_on row k n) [
+        | None ↦ None
+        | Some p ↦ Some (n.number, Some (n.list ++ p ∷ []))
+      ]
+    ]
 
 -- how an entry changes the row of serializer z of an epoch's tree
 abbrev pub change : ℕ → ChainEntry → Row → ℕ → ℕ → Option Change
 change r x row epoch z =
     elim x.answer [
       | says.Entered l ↦
-          elim x.act
-          [ chain.Enter e u y ↦ if (e == epoch) && (y == z) then head_gains r row (record { from = u; label = l }) else None | _ ↦ None ]
+          elim x.act [
+            | chain.Enter e u y ↦ if (e == epoch) && (y == z) then head_gains r row (record { from = u; label = l })
+                else None
+            | _ ↦ None
+          ]
       | says.Passed l ↦
           elim x.act [ chain.Pass e y k ↦ if (e == epoch) && (y == z) then next_gains r row k else None | _ ↦ None ]
       | says.Crashed ↦

@@ -2,7 +2,8 @@
 use Rattle.std.specs.Prelude.{ℕ, List}
 use Rattle.sat_act.specs.Deployed.{Deployed}
 use Rattle.sat_chain_laws.specs.Chains.{ChainEntry, plain}
-use Rattle.sat_chain_rules.specs.Texts.{ChainTexts, chain_answers as answers_with, chain_text as text_with, chain_status as status_with, chain_meaning as meaning_with}
+use Rattle.sat_chain_rules.specs.Texts.{ChainTexts, chain_answers as answers_with, chain_text as text_with}
+use Rattle.sat_chain_rules.specs.Texts.{chain_status as status_with, chain_meaning as meaning_with}
 use Rattle.sat_chain_script.specs.Readings.{ChainReading}
 use Rattle.sat_chain_texts.specs.Texts.{chain_answer_text}
 use Rattle.sat_follow.specs.Meaning.{Meaning}

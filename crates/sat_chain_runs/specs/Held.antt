@@ -76,7 +76,10 @@ pub record GoesBy (old : HeldSeen) (a : ChainAct) (new : HeldSeen) (text longer 
       → added ≡ told_with (texts_of old.replicas) s.script.header old.replicas s.entries (Some a)
   pub stands : (s : ChainState) → StandsAt old s
       → StandsAt new
-      (record { script = with_one_act s.script; entries = entries_with s.script.header old.replicas s.entries (Some a) })
+      (record {
+        script = with_one_act s.script;
+        entries = entries_with s.script.header old.replicas s.entries (Some a);
+      })
 
 -- the next line, which says no act, is taken
 abbrev pub KeepsLine : HeldSeen → List ℕ → HeldSeen → Type 0

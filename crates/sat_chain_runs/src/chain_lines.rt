@@ -9,7 +9,8 @@ ghost use Rattle.sat_chain_laws.specs.Ranges.{IsChainActOf};
 ghost use Rattle.sat_chain_script.specs.ChainLines.{chain_line, saying};
 ghost use Rattle.sat_chain_rules.specs.Steps.{chain_rules, act_in};
 ghost use Rattle.sat_chain_runs.specs.ChainTexts.{texts_of, chain_meaning};
-ghost use Rattle.sat_chain_runs.specs.Held.{HeldSeen, StandsAt, StaysKnown, KeepsHistories, HasAnswer, GoesBy, KeepsLine, HasHoldings};
+ghost use Rattle.sat_chain_runs.specs.Held.{HeldSeen, StandsAt, StaysKnown, KeepsHistories, HasAnswer, GoesBy};
+ghost use Rattle.sat_chain_runs.specs.Held.{KeepsLine, HasHoldings};
 
 use sat_chain::{ChainAct, Chains};
 use sat_chain_rules::chain_lines_make_texts;

@@ -1,7 +1,8 @@
 //! What a client keeps, and what its acts make of it.
 ghost use Rattle.std.specs.Prelude.{◌≡◌, true};
 ghost use Rattle.sat_label.specs.Order.{point_lt};
-ghost use Rattle.sat_client.specs.Clients.{after_join, after_leave, after_move, after_observe, destination, first_seat, is_move};
+ghost use Rattle.sat_client.specs.Clients.{after_join, after_leave, after_move, after_observe, destination, first_seat};
+ghost use Rattle.sat_client.specs.Clients.{is_move};
 
 use sat_label::{Carried, Kind, Label, Point};
 

@@ -2,7 +2,8 @@
 //! falls.
 #![tactic(auto)]
 
-ghost use Rattle.sat_cuts.specs.Laws.{CutIsWhatWasSent, SentInLabelOrder, SentBySite, CutNeverFalls, CutNeverFallsLater, CutIsStable};
+ghost use Rattle.sat_cuts.specs.Laws.{CutIsWhatWasSent, SentInLabelOrder, SentBySite, CutNeverFalls};
+ghost use Rattle.sat_cuts.specs.Laws.{CutNeverFallsLater, CutIsStable};
 
 /// A made label of a site was sent exactly where its point is at or below the site's cut. Made labels leave a site in
 /// their order, each once, and each label that a site sends is of that site. The cut never falls, and is never above

@@ -1,5 +1,6 @@
 -- What a text of delays says: a table, or its first fault in the order of keys, rows and columns.
-use Rattle.std.specs.Prelude.{ℕ, zero, suc, ◌≡◌, ◌≢◌, ◌==◌, nat_le, nat_lt, List, [], ◌∷◌, ◌++◌, length, Option, Some, None, Result, Ok, Err, option_and_then, if◌then◌else◌, codes}
+use Rattle.std.specs.Prelude.{ℕ, zero, suc, ◌≡◌, ◌≢◌, ◌==◌, nat_le, nat_lt, List, [], ◌∷◌, ◌++◌, length, Option, Some}
+use Rattle.std.specs.Prelude.{None, Result, Ok, Err, option_and_then, if◌then◌else◌, codes}
 use Rattle.std.specs.Str.{is_utf8}
 use Rattle.serde_json.specs.Data.{Data}
 use Rattle.serde_json.specs.Read.{read}
@@ -107,7 +108,14 @@ table_of input =
     and_then (keyed (form_of 3 places places 100000) input) (λ between.
     and_then (keyed (form_of 4 sites sites 100000) input) (λ optimal.
     and_then (keyed (form_of 5 sites sites 1000000) input) (λ weight.
-    Ok (record { sites = sites; places = places; reach = reach; between = between; optimal = optimal; weight = weight })))))))
+    Ok (record {
+      sites = sites;
+      places = places;
+      reach = reach;
+      between = between;
+      optimal = optimal;
+      weight = weight;
+    })))))))
 
 abbrev pub table_in : Option Data → Result DelayTable DelayFault
 table_in None = Err NotJson

@@ -22,11 +22,25 @@ impl Model for Delays {
 
     ghost Value = { DelayTable };
 
-    ghost view = { λ a. record { sites = a.sites; places = a.places; reach = a.reach; between = a.between; optimal = a.optimal; weight = a.weight } };
+    ghost view = { λ a. record {
+      sites = a.sites;
+      places = a.places;
+      reach = a.reach;
+      between = a.between;
+      optimal = a.optimal;
+      weight = a.weight;
+    } };
 
     ghost invariant = { λ a.
         IsWithinLimits
-        (record { sites = a.sites; places = a.places; reach = a.reach; between = a.between; optimal = a.optimal; weight = a.weight }) };
+        (record {
+          sites = a.sites;
+          places = a.places;
+          reach = a.reach;
+          between = a.between;
+          optimal = a.optimal;
+          weight = a.weight;
+        }) };
 }
 
 impl Delays {
@@ -40,8 +54,22 @@ impl Delays {
         weight: Rows,
     ) -> Delays
         requires { IsWithinLimits
-            (record { sites = sites; places = places; reach = reach; between = between; optimal = optimal; weight = weight }) }
-        ensures { result ≡ record { sites = sites; places = places; reach = reach; between = between; optimal = optimal; weight = weight } }
+            (record {
+              sites = sites;
+              places = places;
+              reach = reach;
+              between = between;
+              optimal = optimal;
+              weight = weight;
+            }) }
+        ensures { result ≡ record {
+          sites = sites;
+          places = places;
+          reach = reach;
+          between = between;
+          optimal = optimal;
+          weight = weight;
+        } }
     {
         Delays {
             sites,

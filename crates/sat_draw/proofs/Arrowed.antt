@@ -204,10 +204,6 @@ in-all d h i t a b within =
 
 -- ---- lines to the end
 
-abbrev rest-ink : Element → Ink
-rest-ink (Rest i t a b) = i
-rest-ink _ = ink.Lane
-
 abbrev rest-trail : Trail → Element → Trail
 rest-trail s (Rest i t a b) = t
 rest-trail s _ = s

@@ -26,18 +26,6 @@ next-lane d top bottom i = ap (site_lanes d top bottom) (add-one i)
 pub more_lanes : (old mid new : List Element) (d : Deployed) (top bottom i : ℕ) → new ≡ mid ++ site_lane d top bottom i → mid ≡ old ++ site_lanes d top bottom i → new ≡ old ++ site_lanes d top bottom (i + 1)
 more_lanes old mid new d top bottom i added so-far = one-more old mid new _ _ _ added so-far (next-lane d top bottom i)
 
--- a site's column, and the names of its first clients behind it
-pub lane_named : (old mid new : List Element) (d : Deployed) (top bottom i column : ℕ) (name clients : List ℕ) (x : Element)
-    → mid ≡ old ++ lane top bottom column name → new ≡ mid ++ x ∷ [] → x ≡ first_clients top column clients
-    → column ≡ site_column d i → name ≡ node_text (Site i) → clients ≡ names_for d.clients i → new ≡ old ++ site_lane d top bottom i
-lane_named old mid new d top bottom i column name clients x laned added is at named who =
-    added ∙ (ap (λ (m : List Element). m ++ x ∷ []) laned
-    ∙ (append_assoc old (lane top bottom column name) (x ∷ [])
-    ∙ ap (λ (xs : List Element). old ++ xs)
-    (ap (λ (e : Element). lane top bottom column name ++ e ∷ []) (is ∙ ap (first_clients top column) who)
-    ∙ (ap (λ (c : ℕ). lane top bottom c name ++ first_clients top c (names_for d.clients i) ∷ []) at
-    ∙ ap (λ (n : List ℕ). lane top bottom (site_column d i) n ++ first_clients top (site_column d i) (names_for d.clients i) ∷ []) named))))
-
 pub no_names : (old : List Element) (top column : ℕ) (name : List ℕ) → old ≡ old ++ names top column name 0
 unfolding names
 no_names old top column name = sym (append-nil old)

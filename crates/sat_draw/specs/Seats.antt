@@ -79,8 +79,8 @@ HasLastSeat d h c i =
     (from : Spot) × In (elements d h)
     (Rest ink.Seat (client_at SEATED c) from (spot_at (column_x (site_column d i)) (row_y d (length h))))
 
--- each path that is drawn through is at its client's seat, also to the end, and one that is dashed goes where its client
--- has none
+-- each path that is drawn through is at its client's seat, also to the end, and one that is dashed goes where its
+-- client has none
 pub record PathsAreAtSeats (d : Deployed) (h : List Entry) : Type 0 where
   pub solid : (c : ℕ) (from to : Spot) → In (elements d h) (Way ink.Seat (client_at SEATED c) from to)
       → IsAtSeat d h c from to

@@ -12,18 +12,6 @@ use Rattle.sat_durable.proofs.Moments.{left_at_first, left_more}
 abbrev Either : DiskState → List ℕ → List ℕ → Type 0
 Either first body c = (reading c ≡ reading first.content) ⊎ (reading c ≡ with_last (reading first.content) body)
 
--- before anything was called
-pub left_first : (first : DiskState) (size : ℕ) (body : List ℕ) → IsSettled first size → ((c : List ℕ) → first.left_since first.moment c → first.may_leave c) → LeftOnly first first (Either first body)
-left_first first size body settled only_now = left_at_first first (Either first body) only_now (λ c left. inl (ap reading (settled.synced c left)))
-
--- once room was asked for
-pub left_room : (first ready : DiskState) (size : ℕ) (body : List ℕ) → IsSettled first size → Rests first ready → ((c : List ℕ) → first.left_since first.moment c → first.may_leave c) → LeftOnly first ready (Either first body)
-left_room first ready size body settled rests only_now = left_more first first ready (Either first body) (left_first first size body settled only_now) rests.time (λ c left. inl (ap reading (settled.synced c (rests.crash c left))))
-
--- nothing was called
-pub rests_still : (first : DiskState) → Rests first first
-rests_still first = record { content = refl; crash = λ c left. left; time = record { later = omega arith; nothing_else = λ t c le left. inl left; forgets_none = λ t c le left. left } }
-
 module _ {T E : Type 0} (first ready last : DiskState) (r : Result T E) (body : List ℕ) (same : ready.content ≡ first.content) (tells : ready.told ≡ first.told)
     (adds : AddsTold last r (λ c. reading c ≡ with_last (reading ready.content) body) (λ c. reading c ≡ reading ready.content) ready.told) where
   abbrev Added : DiskState → List ℕ → Type 0

@@ -1,5 +1,6 @@
 //! A journal that grows in place, for a machine that is kept beside it.
-ghost use Rattle.std.specs.Prelude.{◌≡◌, ◌⊎◌, ◌+◌, ◌^◌, ◌<◌, ◌≤◌, true, false, [], ◌∷◌, ◌++◌, length, drop, OnOk, IsErrOf};
+ghost use Rattle.std.specs.Prelude.{◌≡◌, ◌⊎◌, ◌+◌, ◌^◌, ◌<◌, ◌≤◌, true, false, [], ◌∷◌, ◌++◌, length, drop, OnOk};
+ghost use Rattle.std.specs.Prelude.{IsErrOf};
 ghost use Rattle.sat_durable.specs.Causes.{Rose};
 ghost use Rattle.sat_durable.specs.Disk.{DiskState, IsSynced, LeftOnly, Rests};
 ghost use Rattle.sat_durable.specs.Drills.{StepsTold};

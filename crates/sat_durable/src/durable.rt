@@ -1,5 +1,6 @@
 //! A machine that survives a stop.
-ghost use Rattle.std.specs.Prelude.{◌≡◌, ◌⊎◌, ◌^◌, ◌<◌, ◌≤◌, true, false, List, Some, [], ◌∷◌, ◌++◌, length, IfOk, IfErr};
+ghost use Rattle.std.specs.Prelude.{◌≡◌, ◌⊎◌, ◌^◌, ◌<◌, ◌≤◌, true, false, List, Some, [], ◌∷◌, ◌++◌, length, IfOk};
+ghost use Rattle.std.specs.Prelude.{IfErr};
 ghost use Rattle.sat_durable.specs.Causes.{Rose};
 ghost use Rattle.sat_durable.specs.Disk.{DiskState, LeftOnly, Rests};
 ghost use Rattle.sat_durable.specs.Drills.{StepsTold};

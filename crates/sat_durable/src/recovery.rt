@@ -1,5 +1,6 @@
 //! How a machine is made again from what a stop has left.
-ghost use Rattle.std.specs.Prelude.{◌≡◌, ℕ, ◌+◌, ◌≤◌, List, length, replicate, Ok, Err, IfOk, IfErr, MatchResult, OnOk, IsErrOf, ⊤};
+ghost use Rattle.std.specs.Prelude.{◌≡◌, ℕ, ◌+◌, ◌≤◌, List, length, replicate, Ok, Err, IfOk, IfErr, MatchResult, OnOk};
+ghost use Rattle.std.specs.Prelude.{IsErrOf, ⊤};
 ghost use Rattle.sat_durable.specs.Causes.{Rose};
 ghost use Rattle.sat_durable.specs.Disk.{DiskState, IsSynced, LeavesNoMore, LeftOnly};
 ghost use Rattle.sat_durable.specs.Drills.{IsCalm};

@@ -1,5 +1,6 @@
 -- What a site knows of its epochs, and what its calls make of it.
-use Rattle.std.specs.Prelude.{ℕ, ◌≡◌, ◌≤◌, ◌<◌, ◌+◌, ◌-◌, Bool, true, false, ◌||◌, ◌==◌, List, [], ◌∷◌, ◌++◌, length, get_or, replicate, slice_get, slice_set, Option, Some, None, if◌then◌else◌}
+use Rattle.std.specs.Prelude.{ℕ, ◌≡◌, ◌≤◌, ◌<◌, ◌+◌, ◌-◌, Bool, true, false, ◌||◌, ◌==◌, List, [], ◌∷◌, ◌++◌, length}
+use Rattle.std.specs.Prelude.{get_or, replicate, slice_get, slice_set, Option, Some, None, if◌then◌else◌}
 use Rattle.std.specs.List.{list_all}
 use Rattle.sat_label.specs.declared.point.Point.{Point}
 use Rattle.sat_label.specs.declared.limits.TheConstants.{MOST_EPOCHS}
@@ -26,7 +27,15 @@ pub record Epochs : Type 0 where
 -- before the first close
 abbrev pub first_epochs : ℕ → ℕ → List Bool → Epochs
 first_epochs sites site stamp =
-    record { site = site; stamp = stamp; view = 1; emission = 1; fallen = false; closes = []; heard = replicate sites false }
+    record {
+      site = site;
+      stamp = stamp;
+      view = 1;
+      emission = 1;
+      fallen = false;
+      closes = [];
+      heard = replicate sites false;
+    }
 
 -- whether the plan of an epoch is stamp order
 abbrev pub is_stamp : Epochs → ℕ → Bool

@@ -1,7 +1,10 @@
 //! The view, the emission epoch and the mode of one site.
-ghost use Rattle.std.specs.Prelude.{◌≡◌, ◌≢◌, ◌<◌, ◌≤◌, ◌+◌, ◌-◌, ◌==◌, ◌||◌, true, false, length, get_or, Some, None, IfOk, OnOk, OnErr, MatchResult};
+ghost use Rattle.std.specs.Prelude.{◌≡◌, ◌≢◌, ◌<◌, ◌≤◌, ◌+◌, ◌-◌, ◌==◌, ◌||◌, true, false, length, get_or, Some, None};
+ghost use Rattle.std.specs.Prelude.{IfOk, OnOk, OnErr, MatchResult};
 ghost use Rattle.sat_label.specs.declared.limits.TheConstants.{MOST_EPOCHS};
-ghost use Rattle.sat_epoch.specs.Epochs.{advance_fault, after_advance, after_close, after_fall, after_hear, all_heard, close_fault, fall_fault, first_epochs, in_stamp, is_stamp, was_heard, IsEpochs};
+ghost use Rattle.sat_epoch.specs.Epochs.{advance_fault, after_advance, after_close, after_fall, after_hear, all_heard};
+ghost use Rattle.sat_epoch.specs.Epochs.{close_fault, fall_fault, first_epochs, in_stamp, is_stamp, was_heard};
+ghost use Rattle.sat_epoch.specs.Epochs.{IsEpochs};
 
 use sat_label::Point;
 use std::alloc::{AllocError, Global};
@@ -53,11 +56,27 @@ impl Model for Views {
 
     ghost Value = { Epochs };
 
-    ghost view = { λ a. record { site = a.site; stamp = a.stamp.items; view = a.view; emission = a.emission; fallen = a.fallen; closes = a.closes.items; heard = a.heard.items } };
+    ghost view = { λ a. record {
+      site = a.site;
+      stamp = a.stamp.items;
+      view = a.view;
+      emission = a.emission;
+      fallen = a.fallen;
+      closes = a.closes.items;
+      heard = a.heard.items;
+    } };
 
     ghost invariant = { λ a.
         HasRoom
-        (record { site = a.site; stamp = a.stamp.items; view = a.view; emission = a.emission; fallen = a.fallen; closes = a.closes.items; heard = a.heard.items }) (vec_capacity a.closes) };
+        (record {
+          site = a.site;
+          stamp = a.stamp.items;
+          view = a.view;
+          emission = a.emission;
+          fallen = a.fallen;
+          closes = a.closes.items;
+          heard = a.heard.items;
+        }) (vec_capacity a.closes) };
 }
 
 impl Views {

@@ -27,7 +27,10 @@ answered r stands begun front had = record {
   few = omega (arith, had.counted, had.few, had.short);
   bounded = had.bounded;
   begins = λ more.
-      let rest = made_from r had.state (onto_front begun _) in
-      (rest.output, ap (λ (m : Made). m.output) (had.goes_on more) ∙ ap (λ (bytes : List ℕ). bytes ++ rest.output) (sym (told_is r stands begun front had)));
+      let rest = made_from r had.state (onto_front begun _) in (
+        rest.output,
+        ap (λ (m : Made). m.output) (had.goes_on more)
+            ∙ ap (λ (bytes : List ℕ). bytes ++ rest.output) (sym (told_is r stands begun front had)),
+      );
   from_nothing = refl;
 }

@@ -14,7 +14,8 @@ use Rattle.sat_follow.specs.declared.pieces.TheConstants.{BUFFER_BYTES}
 -- `told` what the sink tells that it holds, `source_faults` and `sink_faults` are how often they failed, and `ends` is
 -- how often the source said that nothing is left; each before the text was followed and after it.
 pub record HasFollowed (m : Meaning) (result : Result ℕ Halt) (left left_after : Option (List ℕ))
-    (told told_after : Told) (source_faults source_faults_after sink_faults sink_faults_after ends ends_after : ℕ) : Type 0 where
+    (told told_after : Told) (source_faults source_faults_after sink_faults sink_faults_after ends ends_after : ℕ) :
+    Type 0 where
   pub whole : IfOk result (λ status. (text : List ℕ) × IsOutput m left text status × Takes told told_after text)
   pub end : IfOk result (λ status. status ≡ 0 → IsAtEnd left_after)
   -- the bytes taken have a bound, however much the source has

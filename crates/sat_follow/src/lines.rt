@@ -2,7 +2,8 @@
 ghost use Rattle.std.specs.Prelude.{◌≡◌, ◌<◌, true, false, List, [], ◌∷◌, ◌++◌, IfOk, MatchOption};
 ghost use Rattle.sat_follow.specs.Meaning.{Meaning, GoesOn, StopsAt, EndsAt};
 ghost use Rattle.sat_follow.specs.Rules.{Rules, meaning_of};
-ghost use Rattle.sat_follow.specs.ByLines.{GoodLine, BadLine, EndsText, IsStuckAt, Begins, Follows, Adds, Breaks, HasNoEnd, IsLine};
+ghost use Rattle.sat_follow.specs.ByLines.{GoodLine, BadLine, EndsText, IsStuckAt, Begins, Follows, Adds, Breaks};
+ghost use Rattle.sat_follow.specs.ByLines.{HasNoEnd, IsLine};
 
 use crate::follower::Follower;
 use memchr::memchr;

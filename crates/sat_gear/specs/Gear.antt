@@ -1,5 +1,7 @@
 -- A gear: what it keeps, what is read off it, what its calls make of it, and what is true of each.
-use Rattle.std.specs.Prelude.{ℕ, ◌≡◌, ◌≤◌, ◌<◌, ◌+◌, ◌/◌, ◌%◌, ◌^◌, Bool, true, ◌||◌, nat_le, nat_lt, max, List, [], ◌∷◌, ◌++◌, length, map, replicate, get_or, slice_get, slice_set, Option, None, Some, if◌then◌else◌}
+use Rattle.std.specs.Prelude.{ℕ, ◌≡◌, ◌≤◌, ◌<◌, ◌+◌, ◌/◌, ◌%◌, ◌^◌, Bool, true, ◌||◌, nat_le, nat_lt, max, List, []}
+use Rattle.std.specs.Prelude.{◌∷◌, ◌++◌, length, map, replicate, get_or, slice_get, slice_set, Option, None, Some}
+use Rattle.std.specs.Prelude.{if◌then◌else◌}
 use Rattle.std.specs.Int.{div_ceil}
 use Rattle.std.specs.List.{list_all}
 use Rattle.sat_label.specs.declared.point.Point.{Point}

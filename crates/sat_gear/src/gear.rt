@@ -1,11 +1,15 @@
 //! Gears.
-ghost use Rattle.std.specs.Prelude.{ℕ, ◌≡◌, ◌≤◌, ◌<◌, ◌↔◌, ◌^◌, [], length, max, true, slice_get, Some, None, IfOk, IsErrOf, IsOkUnless, OnErr, MatchOption, OnOk, ◌+◌, ◌/◌, false, if◌then◌else◌};
+ghost use Rattle.std.specs.Prelude.{ℕ, ◌≡◌, ◌≤◌, ◌<◌, ◌↔◌, ◌^◌, [], length, max, true, slice_get, Some, None, IfOk};
+ghost use Rattle.std.specs.Prelude.{IsErrOf, IsOkUnless, OnErr, MatchOption, OnOk, ◌+◌, ◌/◌, false, if◌then◌else◌};
 ghost use Rattle.sat_label.specs.declared.label.Kind.TheVariants.{Update, Move};
 ghost use Rattle.sat_label.specs.Grouped.{list_of};
 ghost use Rattle.sat_sites.specs.Interested.{IsLabelOf};
 ghost use Rattle.sat_store.specs.Stored.{is_kept};
 ghost use Rattle.sat_label.specs.Order.{point_at};
-ghost use Rattle.sat_gear.specs.Gear.{after_drain, stamp_base, drained_of, fresh_gear, is_spent, lane_to, after_move, lane_numbers, payload_with, places, after_show, stamped, after_tick, version_of, after_write, AreItemsOf, IsGear, IsItemOf, IsKindHere, IsNextStamp, IsShape, is_due};
+ghost use Rattle.sat_gear.specs.Gear.{after_drain, stamp_base, drained_of, fresh_gear, is_spent, lane_to, after_move};
+ghost use Rattle.sat_gear.specs.Gear.{lane_numbers, payload_with, places, after_show, stamped, after_tick, version_of};
+ghost use Rattle.sat_gear.specs.Gear.{after_write, AreItemsOf, IsGear, IsItemOf, IsKindHere, IsNextStamp, IsShape};
+ghost use Rattle.sat_gear.specs.Gear.{is_due};
 
 use crate::lanes::Lanes;
 use crate::{GearFault, Stamped};
@@ -36,11 +40,27 @@ impl Model for Gear {
     ghost Value = { GearSeen };
 
     ghost view = { λ a.
-        record { shape = a.shape; gear = a.gear; promise = a.promise; drained_promise = a.drained_promise; fresh = a.fresh.items; lanes = a.lanes; versions = a.store } };
+        record {
+          shape = a.shape;
+          gear = a.gear;
+          promise = a.promise;
+          drained_promise = a.drained_promise;
+          fresh = a.fresh.items;
+          lanes = a.lanes;
+          versions = a.store;
+        } };
 
     ghost invariant = { λ a.
         IsGear
-        (record { shape = a.shape; gear = a.gear; promise = a.promise; drained_promise = a.drained_promise; fresh = a.fresh.items; lanes = a.lanes; versions = a.store }) };
+        (record {
+          shape = a.shape;
+          gear = a.gear;
+          promise = a.promise;
+          drained_promise = a.drained_promise;
+          fresh = a.fresh.items;
+          lanes = a.lanes;
+          versions = a.store;
+        }) };
 }
 
 // How many of so many items one of so many gears may have.

@@ -1,5 +1,6 @@
 //! The payloads that a gear made, each once, and for each site which of them were made for it.
-ghost use Rattle.std.specs.Prelude.{◌≡◌, ◌≤◌, ◌<◌, [], get_or, length, map, replicate, slice_get, Some, None, IfOk, OnOk, OnErr, MatchOption};
+ghost use Rattle.std.specs.Prelude.{◌≡◌, ◌≤◌, ◌<◌, [], get_or, length, map, replicate, slice_get, Some, None, IfOk};
+ghost use Rattle.std.specs.Prelude.{OnOk, OnErr, MatchOption};
 ghost use Rattle.sat_label.specs.Words.{bit};
 ghost use Rattle.sat_queue.specs.Queued.{members_of};
 ghost use Rattle.sat_gear.specs.Lanes.{count_of, lanes_where, numbers_where};

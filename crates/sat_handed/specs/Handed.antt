@@ -1,12 +1,14 @@
 -- How a disk keeps what a node is handed.
-use Rattle.std.proofs.Common.{◌≡◌, ℕ, ◌≤◌, ◌<◌, ◌^◌, Bool, true, List, [], ◌∷◌, ◌++◌, length, Option, Some, None, Ok, Err, refl, ap, arith}
+use Rattle.std.proofs.Common.{◌≡◌, ℕ, ◌≤◌, ◌<◌, ◌^◌, Bool, true, List, [], ◌∷◌, ◌++◌, length, Option, Some, None, Ok}
+use Rattle.std.proofs.Common.{Err, refl, ap, arith}
 use Rattle.std.specs.Prelude.{slice_get}
 use Rattle.std.specs.declared.result.Result.{Result}
 use Rattle.sat_site.specs.declared.input.SiteInput.{SiteInput}
 use Rattle.sat_message.specs.declared.message.Message.{Message}
 use Rattle.sat_wire.specs.declared.fault.Cause.TheVariants as cause
 use Rattle.sat_wire.specs.declared.fault.Wrong.{Wrong}
-use Rattle.sat_wire.specs.Code.{AreBytes, Read, Code, IsExact, number16, number64, both, made, optional, chosen, read_form}
+use Rattle.sat_wire.specs.Code.{AreBytes, Read, Code, IsExact, number16, number64, both, made, optional, chosen}
+use Rattle.sat_wire.specs.Code.{read_form}
 use Rattle.sat_wire.specs.Exact.{exact16, exact64, exact_both, exact_optional}
 use Rattle.sat_wire.specs.Forms.{AreForms, form_of, form_again, exact_chosen}
 use Rattle.sat_wire.specs.Wholes.{whole, whole_again, whole_only}

@@ -1,7 +1,8 @@
 //! What a node is handed, as its disk keeps it.
 ghost use Rattle.std.specs.Prelude.{◌≡◌, ◌+◌, ◌<◌, ◌≤◌, ◌^◌, ◌++◌, true, length, vec_capacity, Some, Ok, IfOk, IfErr};
 ghost use Rattle.sat_wire.specs.Code.{made, StopsAt};
-ghost use Rattle.sat_handed.specs.Handed.{asked_code, asked_of, body_of, came_code, came_of, handed, handed_allows, handed_fits, input_of};
+ghost use Rattle.sat_handed.specs.Handed.{asked_code, asked_of, body_of, came_code, came_of, handed, handed_allows};
+ghost use Rattle.sat_handed.specs.Handed.{handed_fits, input_of};
 
 use sat_bodies as inputs;
 use sat_letter as letters;

@@ -1,5 +1,6 @@
 -- Whose turn it is among the messages of a link, and what becomes of one.
-use Rattle.std.specs.Prelude.{◌≡◌, ◌⊎◌, ℕ, ◌+◌, ◌-◌, ◌^◌, ◌==◌, ◌<◌, max, nat_lt, Bool, true, false, List, ◌∷◌, [], ◌++◌, Option, Some, get_or, if◌then◌else◌}
+use Rattle.std.specs.Prelude.{◌≡◌, ◌⊎◌, ℕ, ◌+◌, ◌-◌, ◌^◌, ◌==◌, ◌<◌, max, nat_lt, Bool, true, false, List, ◌∷◌, []}
+use Rattle.std.specs.Prelude.{◌++◌, Option, Some, get_or, if◌then◌else◌}
 use Rattle.sat_node.specs.declared.kept.Body.{Body}
 use Rattle.sat_node.specs.declared.kept.Body.TheVariants as body
 use Rattle.sat_node.specs.declared.kept.CallFault.{CallFault}

@@ -1,11 +1,13 @@
 //! A node over a transport of the builder's.
-ghost use Rattle.std.specs.Prelude.{◌≡◌, ℕ, ◌+◌, ◌<◌, ◌==◌, max, false, true, [], ◌∷◌, ◌++◌, get_or, length, map, vec_len, vec_capacity, if◌then◌else◌, IfErr, IfOk, IfSome, OnOk, OnErr};
+ghost use Rattle.std.specs.Prelude.{◌≡◌, ℕ, ◌+◌, ◌<◌, ◌==◌, max, false, true, [], ◌∷◌, ◌++◌, get_or, length, map};
+ghost use Rattle.std.specs.Prelude.{vec_len, vec_capacity, if◌then◌else◌, IfErr, IfOk, IfSome, OnOk, OnErr};
 ghost use Rattle.sat_node.specs.Meanings.{replay};
 ghost use Rattle.sat_node.specs.Puts.{put_by};
 ghost use Rattle.sat_node.specs.Seen.{entry, SameNode, Takes};
 ghost use Rattle.sat_node.specs.Links.{IsLocal, IsOf};
 ghost use Rattle.sat_message.specs.Numbering.{Gives, put_before};
-ghost use Rattle.sat_host_laws.specs.Messages.{IsBounded, IsKept, IsSent, IsWanted, SameHost, messages_on, slip, wanted_then};
+ghost use Rattle.sat_host_laws.specs.Messages.{IsBounded, IsKept, IsSent, IsWanted, SameHost, messages_on, slip};
+ghost use Rattle.sat_host_laws.specs.Messages.{wanted_then};
 ghost use Rattle.sat_host.specs.Cursors.{AreAt, AreMore, place_of};
 ghost use Rattle.sat_host.specs.Turns.{FailsBy, message_at};
 
@@ -35,11 +37,21 @@ impl<M: Machine> Model for Host<M> {
     ghost Value = { HostSeen M M.Input M.Answer };
 
     ghost view = { λ h.
-        record { node = h.node; slips = h.slips.items; wanted = h.wanted.items; cursors = map next_of h.cursors.items } };
+        record {
+          node = h.node;
+          slips = h.slips.items;
+          wanted = h.wanted.items;
+          cursors = map next_of h.cursors.items;
+        } };
 
     ghost invariant = { λ h.
         Slipped M.meaning
-        (record { node = h.node; slips = h.slips.items; wanted = h.wanted.items; cursors = map next_of h.cursors.items })
+        (record {
+          node = h.node;
+          slips = h.slips.items;
+          wanted = h.wanted.items;
+          cursors = map next_of h.cursors.items;
+        })
         × AreAt M.meaning h.node.name h.node.entries h.cursors.items };
 }
 

@@ -1,5 +1,6 @@
 //! Messages at a site.
-ghost use Rattle.std.specs.Prelude.{◌≡◌, ◌+◌, ◌-◌, ◌^◌, ◌<◌, true, false, get_or, length, nat_lt, IfErr, IfOk, MatchOption, OnErr, OnOk, Some, None};
+ghost use Rattle.std.specs.Prelude.{◌≡◌, ◌+◌, ◌-◌, ◌^◌, ◌<◌, true, false, get_or, length, nat_lt, IfErr, IfOk};
+ghost use Rattle.std.specs.Prelude.{MatchOption, OnErr, OnOk, Some, None};
 ghost use Rattle.sat_act.specs.Limits.{IsDeployment};
 ghost use Rattle.sat_node.specs.declared.kept.Body.TheVariants as body;
 ghost use Rattle.sat_node.specs.Meanings.{replay};

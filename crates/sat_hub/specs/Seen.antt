@@ -1,5 +1,6 @@
 -- What the hub of a site keeps, and what is true of each.
-use Rattle.std.specs.Prelude.{ℕ, ◌≡◌, ◌≤◌, ◌<◌, Bool, true, false, ◌&&◌, ◌||◌, not, List, [], ◌∷◌, length, get_or, slice_get, Option, Some, is_some}
+use Rattle.std.specs.Prelude.{ℕ, ◌≡◌, ◌≤◌, ◌<◌, Bool, true, false, ◌&&◌, ◌||◌, not, List, [], ◌∷◌, length, get_or}
+use Rattle.std.specs.Prelude.{slice_get, Option, Some, is_some}
 use Rattle.sat_label.specs.declared.items.Items.{Items}
 use Rattle.sat_label.specs.declared.label.Kind.TheVariants.{Update}
 use Rattle.sat_label.specs.declared.label.Label.{Label}

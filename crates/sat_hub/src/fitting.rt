@@ -8,7 +8,10 @@ ghost use Rattle.sat_gear.specs.Gear.{IsShape};
 ghost use Rattle.sat_act.specs.Parts.{items_of};
 ghost use Rattle.sat_model.specs.Fits.{is_time};
 ghost use Rattle.sat_hub.specs.Seen.{has_parts_here};
-ghost use Rattle.sat_hub.specs.Inputs.{is_beat_here, is_carried_here, is_cut_here, is_front_here, is_gear_here, is_given_here, is_goal_here, is_group_here, is_guest_here, is_item_here, is_kept_here, is_kind_here, is_other_here, is_own_here, is_own_kind_here, is_point_here, is_site_here};
+ghost use Rattle.sat_hub.specs.Inputs.{is_beat_here, is_carried_here, is_cut_here, is_front_here, is_gear_here};
+ghost use Rattle.sat_hub.specs.Inputs.{is_given_here, is_goal_here, is_group_here, is_guest_here, is_item_here};
+ghost use Rattle.sat_hub.specs.Inputs.{is_kept_here, is_kind_here, is_other_here, is_own_here, is_own_kind_here};
+ghost use Rattle.sat_hub.specs.Inputs.{is_point_here, is_site_here};
 ghost use Rattle.sat_hub.specs.HubSteps.{has_target};
 
 use sat_beat::Beat;

@@ -1,5 +1,6 @@
 //! Hubs.
-ghost use Rattle.std.specs.Prelude.{◌≡◌, ◌≤◌, ◌<◌, ◌%◌, ◌^◌, ◌&&◌, length, map, is_none, is_some, slice_get, Some, IfOk, IfSome, MatchOption, OnOk, OnErr, option_copied};
+ghost use Rattle.std.specs.Prelude.{◌≡◌, ◌≤◌, ◌<◌, ◌%◌, ◌^◌, ◌&&◌, length, map, is_none, is_some, slice_get, Some};
+ghost use Rattle.std.specs.Prelude.{IfOk, IfSome, MatchOption, OnOk, OnErr, option_copied};
 ghost use Rattle.std.specs.Bool.{Decides};
 ghost use Rattle.std.specs.List.{flat_map};
 ghost use Rattle.sat_label.specs.declared.limits.TheConstants.{MOST_EPOCHS};
@@ -16,11 +17,15 @@ ghost use Rattle.sat_model.specs.Interests.{interest_of};
 ghost use Rattle.sat_act.specs.declared.answer.Answer.TheVariants as ans;
 ghost use Rattle.sat_proxy.specs.Proxy.{front_at, window_of, IsProxy};
 ghost use Rattle.sat_proxy.specs.Steps.{after_beat, after_bulk, has_come, stamp_fault, stamp_shows, turn_shows};
-ghost use Rattle.sat_proxy.specs.Answers.{advance_answer, attach_answer, beat_answer, bulk_answer, stamp_answer, turn_answer};
+ghost use Rattle.sat_proxy.specs.Answers.{advance_answer, attach_answer, beat_answer, bulk_answer, stamp_answer};
+ghost use Rattle.sat_proxy.specs.Answers.{turn_answer};
 ghost use Rattle.sat_hub.specs.Seen.{IsGather, IsGuest, IsHub};
-ghost use Rattle.sat_hub.specs.Inputs.{is_beat_here, is_bulk_here, is_counted, is_front_here, is_other_here, may_turn, BulkFits, IsFront};
+ghost use Rattle.sat_hub.specs.Inputs.{is_beat_here, is_bulk_here, is_counted, is_front_here, is_other_here, may_turn};
+ghost use Rattle.sat_hub.specs.Inputs.{BulkFits, IsFront};
 ghost use Rattle.sat_hub.specs.Changes.{beat_for, beaten, fresh_hub, gathered, made_for, new_hub, stamped, turned};
-ghost use Rattle.sat_hub.specs.HubSteps.{close_after, close_answer, emit_after, emit_answer, emit_sends, fall_after, fall_answer, gather_answer, next_close, next_pulse, passed_after, pulse_after, pulse_answer, stamp_given, stamp_told, turn_given, turn_told};
+ghost use Rattle.sat_hub.specs.HubSteps.{close_after, close_answer, emit_after, emit_answer, emit_sends, fall_after};
+ghost use Rattle.sat_hub.specs.HubSteps.{fall_answer, gather_answer, next_close, next_pulse, passed_after, pulse_after};
+ghost use Rattle.sat_hub.specs.HubSteps.{pulse_answer, stamp_given, stamp_told, turn_given, turn_told};
 
 use crate::beats::{Made, counts_to, fresh_made, points_of};
 use crate::fitting::{are_given, is_beat, is_bulk_guest, is_for_some, is_front, is_gear, is_other};
@@ -55,11 +60,25 @@ impl Model for Hub {
 
     ghost Value = { HubSeen };
 
-    ghost view = { λ a. record { shape = a.shape; sink = a.sink; counts = a.counts; views = a.views; proxy = a.proxy; made = a.made.items } };
+    ghost view = { λ a. record {
+      shape = a.shape;
+      sink = a.sink;
+      counts = a.counts;
+      views = a.views;
+      proxy = a.proxy;
+      made = a.made.items;
+    } };
 
     ghost invariant = { λ a.
         IsHub
-        (record { shape = a.shape; sink = a.sink; counts = a.counts; views = a.views; proxy = a.proxy; made = a.made.items }) };
+        (record {
+          shape = a.shape;
+          sink = a.sink;
+          counts = a.counts;
+          views = a.views;
+          proxy = a.proxy;
+          made = a.made.items;
+        }) };
 }
 
 // What is true of a site's epochs, and of what it has of the others.

@@ -1,5 +1,6 @@
 -- A gear as a machine: what it answers to what it is handed, what it then is, and what its acts are.
-use Rattle.std.specs.Prelude.{◌≡◌, ℕ, Bool, true, false, ◌&&◌, ◌==◌, max, List, [], ◌∷◌, length, map, Option, Some, None, is_some, unwrap_or}
+use Rattle.std.specs.Prelude.{◌≡◌, ℕ, Bool, true, false, ◌&&◌, ◌==◌, max, List, [], ◌∷◌, length, map, Option, Some}
+use Rattle.std.specs.Prelude.{None, is_some, unwrap_or}
 use Rattle.sat_label.specs.declared.items.Items.{Items}
 use Rattle.sat_label.specs.declared.items.Items.TheVariants.{One}
 use Rattle.sat_label.specs.declared.label.Kind.{Kind}

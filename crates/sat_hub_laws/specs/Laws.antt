@@ -26,14 +26,17 @@ use Rattle.sat_stitch.specs.Fit.{IsHanded}
 use Rattle.sat_stitch.specs.Nodes.{put_on, stands, took_from}
 use Rattle.sat_joint.specs.Pieces.{Drain, Piece, Rises, EachOf, given_of, number_of, plains}
 use Rattle.sat_joint.specs.Table.{Node, AtHub, AtGear, AtSerial, Alone, home_at, is_first, link_node, nodes, same_node}
-use Rattle.sat_joint.specs.Machines.{HubState, GearNode, IsGearAnswer, IsHubAnswer, gear_after, hub_after, kept_site, whole}
-use Rattle.sat_joint.specs.Joint.{AnswersAtHome, BeatsFit, IsJointMerge, IsSessionList, JointFit, KnowsClient, PayloadsFit}
+use Rattle.sat_joint.specs.Machines.{HubState, GearNode, IsGearAnswer, IsHubAnswer, gear_after, hub_after, kept_site}
+use Rattle.sat_joint.specs.Machines.{whole}
+use Rattle.sat_joint.specs.Joint.{AnswersAtHome, BeatsFit, IsJointMerge, IsSessionList, JointFit, KnowsClient}
+use Rattle.sat_joint.specs.Joint.{PayloadsFit}
 use Rattle.sat_hub_laws.specs.Inputs.{HubInput, GearInput}
 use Rattle.sat_hub_laws.specs.Inputs as given
 use Rattle.sat_hub_laws.specs.Sites.{has_part, is_gather, is_shown}
 use Rattle.sat_hub_laws.specs.Hubs.{hub_act, hub_answer, hub_handed}
 use Rattle.sat_hub_laws.specs.Gears.{gear_act, gear_answer, gear_handed, is_own}
-use Rattle.sat_hub_laws.specs.Lines.{HubLine, GearLine, IsHubJournal, IsGearJournal, gear_pieces, gear_replay, hub_pieces, hub_replay, node_lists}
+use Rattle.sat_hub_laws.specs.Lines.{HubLine, GearLine, IsHubJournal, IsGearJournal, gear_pieces, gear_replay}
+use Rattle.sat_hub_laws.specs.Lines.{hub_pieces, hub_replay, node_lists}
 use Rattle.sat_hub_laws.specs.Parts.{PartsAgree}
 
 -- ---- the table of nodes, and answers
@@ -54,8 +57,8 @@ GearsAreHomes =
     (d : Deployed) (i g c : ℕ) (input : GearInput) (r : Answer) →
     is_first (AtGear i g) (nodes d (gear_act i g c input) (given_of (gear_handed i input)) r) ≡ is_own d g input
 
--- the gears at which the acts of a hub stand: at a gather all of the deployment's, at a turn or a stamp that shows those
--- of the items, and else none
+-- the gears at which the acts of a hub stand: at a gather all of the deployment's, at a turn or a stamp that shows
+-- those of the items, and else none
 pub record HubsGears (d : Deployed) (i c g : ℕ) (x : Given) : Type 0 where
   pub gather : (f : ℕ → Drain) (r : Answer) → is_beside d i g (hub_act i c (given.Gather f)) x r ≡ nat_lt g d.gears
   pub turn : (front : Option Label) (l : Label)

@@ -17,7 +17,8 @@ use Rattle.sat_model.specs.Next.{payload_at}
 use Rattle.sat_model.specs.Reply.{gear_for, site_step}
 use Rattle.sat_joint.specs.Pieces.{Drain}
 use Rattle.sat_joint.specs.Table.{AtGear, same_node, gear_nodes, item_gears}
-use Rattle.sat_joint.specs.Machines.{HubState, GearNode, drain_of, fresh_gear, gear_drained, gear_shows, kept_site, shown_by, whole}
+use Rattle.sat_joint.specs.Machines.{HubState, GearNode, drain_of, fresh_gear, gear_drained, gear_shows, kept_site}
+use Rattle.sat_joint.specs.Machines.{shown_by, whole}
 use Rattle.sat_hub_laws.specs.Inputs.{HubInput, GearInput}
 use Rattle.sat_hub_laws.specs.Inputs as given
 use Rattle.sat_hub_laws.specs.Hubs.{hub_answer, hub_step, hub_then, site_of_hub}

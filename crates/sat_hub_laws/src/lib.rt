@@ -2,7 +2,9 @@
 #![tactic(auto)]
 
 ghost use Rattle.sat_hub_laws.specs.Changes.{GearsChange, HubsChange};
-ghost use Rattle.sat_hub_laws.specs.Laws.{GearsAnswer, GearsAreHomes, GearsReplay, HubsAnswer, HubsAreHomes, HubsReplay, HubsStandAt, JournalsAreRuns, JournalsJoin, SitesAreReplayed, WritesStandAt};
+ghost use Rattle.sat_hub_laws.specs.Laws.{GearsAnswer, GearsAreHomes, GearsReplay, HubsAnswer, HubsAreHomes};
+ghost use Rattle.sat_hub_laws.specs.Laws.{HubsReplay, HubsStandAt, JournalsAreRuns, JournalsJoin, SitesAreReplayed};
+ghost use Rattle.sat_hub_laws.specs.Laws.{WritesStandAt};
 ghost use Rattle.sat_hub_laws.specs.Parts.{InputsShare, PartsAreExact, PartsHaveHomes, PartsJoin, PartsRise};
 ghost use Rattle.sat_hub_laws.specs.Sites.{GearsActAlone, GearsWrite, HubsActAlone, HubsGather, HubsShow};
 

@@ -16,7 +16,8 @@ use Rattle.sat_model.specs.Input.{SiteInput}
 use Rattle.sat_stitch.specs.Nodes.{input_of}
 use Rattle.sat_joint.specs.Pieces.{Drain, Handed, Plain, Drains, Drained, Showing, Piece}
 use Rattle.sat_joint.specs.Table.{Node, AtHub, AtGear, same_node, gear_nodes, item_gears, is_shared, stands_in, home_at}
-use Rattle.sat_joint.specs.Machines.{HubState, GearNode, hub_after, gear_after, drain_of, shown_by, written_by, IsHomeAnswer}
+use Rattle.sat_joint.specs.Machines.{HubState, GearNode, hub_after, gear_after, drain_of, shown_by, written_by}
+use Rattle.sat_joint.specs.Machines.{IsHomeAnswer}
 use Rattle.sat_joint.specs.Joint.{AreOne, StandsIn, AllJoin, HasHome}
 
 -- what passed between the home of an act and a gear: nothing, what the gear gave, or what it was given to show

@@ -18,9 +18,11 @@ use Rattle.sat_stitch.specs.Kept.{OfPayload, OfBeat, OfClient, history, Ordered,
 use Rattle.sat_stitch.specs.Places.{Session, Client, session_of}
 use Rattle.sat_stitch.specs.Nodes.{input_of, stands, put_on, took_from, makes_payload}
 use Rattle.sat_stitch.specs.Fit.{IsHanded, IsMade}
-use Rattle.sat_joint.specs.Pieces.{Handed, Plain, Drains, Drained, Showing, Piece, number_of, plains, Rises, piece_marks, EachOf}
+use Rattle.sat_joint.specs.Pieces.{Handed, Plain, Drains, Drained, Showing, Piece, number_of, plains, Rises}
+use Rattle.sat_joint.specs.Pieces.{piece_marks, EachOf}
 use Rattle.sat_joint.specs.Table.{Node, AtHub, AtGear, stands_in, home_at, link_node}
-use Rattle.sat_joint.specs.Machines.{HubState, GearNode, hub_after, gear_after, drain_of, IsHomeAnswer, shown_by, written_by, hub_beat, hub_asked}
+use Rattle.sat_joint.specs.Machines.{HubState, GearNode, hub_after, gear_after, drain_of, IsHomeAnswer, shown_by}
+use Rattle.sat_joint.specs.Machines.{written_by, hub_beat, hub_asked}
 
 -- two pieces are of one act
 pub record AreOne (j k : Piece) : Type 0 where

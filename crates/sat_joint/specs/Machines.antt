@@ -1,5 +1,6 @@
 -- A site is its hub and its gears: their states, what they answer, and what an act makes of them.
-use Rattle.std.specs.Prelude.{◌≡◌, ℕ, Bool, true, false, nat_lt, List, [], ◌∷◌, length, Option, Some, None, if◌then◌else◌}
+use Rattle.std.specs.Prelude.{◌≡◌, ℕ, Bool, true, false, nat_lt, List, [], ◌∷◌, length, Option, Some, None}
+use Rattle.std.specs.Prelude.{if◌then◌else◌}
 use Rattle.sat_label.specs.declared.label.Label.{Label}
 use Rattle.sat_act.specs.declared.act.Act.{Act}
 use Rattle.sat_act.specs.declared.act.Act.TheVariants as act
@@ -13,7 +14,8 @@ use Rattle.sat_model.specs.State.{GearState, SinkState, ViewState, ProxyState, V
 use Rattle.sat_model.specs.Input.{SiteInput}
 use Rattle.sat_model.specs.Input as given
 use Rattle.sat_model.specs.Look.{rows, least_row, payload_in}
-use Rattle.sat_model.specs.Next.{gear_next, gathered_next, pending_next, sent_next, pulse_next, views_next, proxy_next, values_given, payload_at, put, version_at, part_for, store_next, made_next}
+use Rattle.sat_model.specs.Next.{gear_next, gathered_next, pending_next, sent_next, pulse_next, views_next, proxy_next}
+use Rattle.sat_model.specs.Next.{values_given, payload_at, put, version_at, part_for, store_next, made_next}
 use Rattle.sat_model.specs.Reply.{site_answer}
 use Rattle.sat_stitch.specs.Nodes.{input_of, beat_made, with_input, asked, dead_after, IsSerialAnswer, IsSessionAnswer}
 use Rattle.sat_joint.specs.Pieces.{Drain, Handed, Plain, Drains, Drained, Showing, Piece, given_of, plains}

@@ -14,7 +14,8 @@ use Rattle.sat_stitch.specs.Kept.{Given}
 use Rattle.sat_stitch.specs.Nodes.{input_of}
 use Rattle.sat_joint.specs.Pieces.{Handed, given_of}
 use Rattle.sat_joint.specs.Table.{AtHub, AtGear, same_node, nodes, is_first}
-use Rattle.sat_joint.specs.Machines.{HubState, GearNode, fresh_gear, kept_site, whole, hub_by, gear_by, IsHubAnswer, IsGearAnswer}
+use Rattle.sat_joint.specs.Machines.{HubState, GearNode, fresh_gear, kept_site, whole, hub_by, gear_by, IsHubAnswer}
+use Rattle.sat_joint.specs.Machines.{IsGearAnswer}
 use Rattle.sat_joint.specs.Joint.{Hands, Passes}
 
 abbrev pub is_beat : Answer → Bool

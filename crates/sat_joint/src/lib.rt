@@ -5,7 +5,8 @@ mod journal;
 
 ghost use Rattle.sat_joint.specs.Compare.{CopiesHaveHomes, OthersJoin, SamePartsJoin, WrittenHaveHomes};
 ghost use Rattle.sat_joint.specs.Journals.{JointStitchesAreRuns, JointStitchesMerge};
-ghost use Rattle.sat_joint.specs.Laws.{JointActsAreEnough, JointListsAreParts, JointMergesAreGood, JointMergesAreRuns, JointSessionsAreParts};
+ghost use Rattle.sat_joint.specs.Laws.{JointActsAreEnough, JointListsAreParts, JointMergesAreGood, JointMergesAreRuns};
+ghost use Rattle.sat_joint.specs.Laws.{JointSessionsAreParts};
 ghost use Rattle.sat_joint.specs.Split.{JointRunsFit};
 ghost use Rattle.sat_joint.specs.Steps.{GearsStep, HubsStep};
 

@@ -42,16 +42,6 @@ parts-keep d i inputs slot disk machine is same whole has = record {
 
 -- ---- a cut that waits
 
-armed-keeps : (d : Deployed) (i : ℕ) (inputs : List SiteInput) (machine same : KeptSite) (old new : DiskState) → HasInputs d i inputs old machine → same ≡ machine → Rests old new → Keeps site_meaning (fresh_kept d i) new same inputs
-armed-keeps d i inputs machine same old new has is rests = record {
-  same = is ∙ has.keeps.same;
-  shown = subst (λ (l : List ℕ). Recovers site_meaning (fresh_kept d i) l inputs) (sym rests.content) has.keeps.shown;
-  left = λ c left. has.keeps.left c (rests.crash c left);
-}
-
-pub armed-waits : (d : Deployed) (i : ℕ) (inputs : List SiteInput) (machine same : KeptSite) (old new : DiskState) (cut : Cut) (synced : List ℕ) → same ≡ machine → Rests old new → new.told ≡ drill.told (Some cut.calls) cut.keep synced → HasInputs d i inputs old machine → Waits d i inputs (Some cut) new same
-armed-waits d i inputs machine same old new cut synced is rests told has = record { keeps = armed-keeps d i inputs machine same old new has is rests; fails = (synced, told) }
-
 -- which error it was
 pub err-is : {T E : Type 0} (r : Result T E) (x e : E) → r ≡ Err x → x ≡ e → IsErrOf r e
 err-is {E = E} r x e is same = subst (λ (y : E). IsErrOf r y) same is

@@ -27,9 +27,6 @@ use Rattle.sat_lasting.proofs.Sets.{get-copies, get-within, same-some}
 abbrev now_with : WorldSeen → List Slot → List (Option Cut) → LastingSeen
 now_with w slots cuts = record { world = w; slots = slots; cuts = cuts }
 
-pub slots-none : (d : Deployed) → AreFresh d 0 []
-slots-none d = record { count = refl; each = λ i x at. absurd (cc) }
-
 pub slots-more : (d : Deployed) (n : ℕ) (xs : List Slot) (x : Slot) → AreFresh d n xs → SlotKeeps d n [] x → AreFresh d (n + 1) (xs ++ x ∷ [])
 slots-more d n xs x old has = record {
   count = rw add-one (length-push xs x ∙ ap suc old.count);

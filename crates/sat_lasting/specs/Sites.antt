@@ -29,5 +29,10 @@ site_meaning = record {
   after = λ kept given. record { site = site_after kept.site given };
   output =
       λ kept given.
-      record { answer = site_answers kept.site given; sent = site_sends kept.site given; epoch = site_epoch kept.site given; beat = site_beat kept.site given };
+      record {
+        answer = site_answers kept.site given;
+        sent = site_sends kept.site given;
+        epoch = site_epoch kept.site given;
+        beat = site_beat kept.site given;
+      };
 }

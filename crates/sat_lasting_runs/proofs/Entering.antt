@@ -82,11 +82,6 @@ when_ok (Err e) p gives = tt
 some_is : (l m : LastingSeen) → Some l ≡ Some m → l ≡ m
 some_is l m is = cc
 
--- already
-pub started_there : (v : LastingHeld) (held : Option LastingSeen) → v.machine ≡ held → is_some held ≡ true → IsLastingHeld v → LastingStarted v held
-started_there v (Some l) is there had = record { lasting = l; there = refl; ready = ready_held lasting_acts deployed AtAnyTime HistoryOf v l had is }
-started_there v None is there had = absurd (cc)
-
 -- they may be asked to do the act
 pub asks : (v : LastingHeld) (held : Option LastingSeen) (a : LastingAct) → IsLastingHeld v → LastingStarted v held → IsLastingActOf v.reader.state.header a → AsksAct held a
 asks v held a had started fits =
@@ -106,10 +101,3 @@ held_started old new l held ready reader answered is = record {
   counted = rw (reader, answered) held.counted;
   known = (held.known.0, subst (λ (o : Option LastingSeen). StandFor HistoryOf o held.known.0) (sym is) (ready.keeps held.known.0 held.known.1));
 }
-
--- what was asked of them
-pub asked_act : (held : Option LastingSeen) (a : LastingAct) (l : LastingSeen) → AsksAct held a → held ≡ Some l → IsLastingActOf l.world.deployment a
-asked_act held a l asks is = subst (λ (m : LastingSeen). IsLastingActOf m.world.deployment a) (some_is asks.lasting l (sym asks.there ∙ is)) asks.act
-
-pub asked_sound : (held : Option LastingSeen) (a : LastingAct) (l : LastingSeen) → AsksAct held a → held ≡ Some l → IsSound l
-asked_sound held a l asks is = subst (λ (m : LastingSeen). IsSound m) (some_is asks.lasting l (sym asks.there ∙ is)) asks.sound

@@ -11,7 +11,8 @@ ghost use Rattle.sat_lasting_script.specs.Forms.{lasting_acts};
 ghost use Rattle.sat_own_acts.specs.Lines.{own_line};
 ghost use Rattle.sat_own_acts.specs.Steps.{own_rules, act_in};
 ghost use Rattle.sat_lasting_runs.specs.LastingTexts.{lasting_telling, lasting_meaning};
-ghost use Rattle.sat_lasting_runs.specs.Held.{AsksAct, EntersIn, LastingStands, LastingStarted, LastingEnters, LastingGoes, LastingKeeps};
+ghost use Rattle.sat_lasting_runs.specs.Held.{AsksAct, EntersIn, LastingStands, LastingStarted, LastingEnters};
+ghost use Rattle.sat_lasting_runs.specs.Held.{LastingGoes, LastingKeeps};
 
 use sat_follow::{Follower, LineFollower, Lines};
 use sat_lasting::Lasting;

@@ -1,6 +1,7 @@
 -- The lines of stops and cuts as one table: the word that an act begins with, the kinds of the words after it, and the
 -- act that they say.
-use Rattle.std.specs.Prelude.{ℕ, List, [], ◌∷◌, Bool, ◌&&◌, ◌==◌, nat_lt, length, drop, Option, Some, None, Result, Ok, Err, codes, if◌then◌else◌}
+use Rattle.std.specs.Prelude.{ℕ, List, [], ◌∷◌, Bool, ◌&&◌, ◌==◌, nat_lt, length, drop, Option, Some, None, Result, Ok}
+use Rattle.std.specs.Prelude.{Err, codes, if◌then◌else◌}
 use Rattle.std.specs.Str.{bytes_eq}
 use Rattle.sat_lasting_laws.specs.declared.lasting_act.LastingAct.{LastingAct}
 use Rattle.sat_lasting_laws.specs.declared.lasting_act.LastingAct.TheVariants as lasting

@@ -16,6 +16,3 @@ module _ {M : Type 0} where
 -- two were sent through a queue of two, and the first is known to be received: there was room for a third
 abbrev roomy : TableId → Sender ℕ
 roomy wire = record { wire = wire; sent = 1 ∷ 2 ∷ []; fulls = 1; acked = 1 ∷ [] }
-
-pub room_is_seen : (wire : TableId) → wire.slots ≡ 2 → WasFull (roomy wire) → ⊥
-room_is_seen wire two h = let least = behind (roomy wire) h in omega arith

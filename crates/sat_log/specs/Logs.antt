@@ -1,5 +1,6 @@
 -- A journal of byte strings: each is its own body.
-use Rattle.std.specs.Prelude.{◌≡◌, ℕ, Bool, true, false, nat_lt, List, [], ◌∷◌, ◌++◌, length, Some, Ok, Err, if◌then◌else◌}
+use Rattle.std.specs.Prelude.{◌≡◌, ℕ, Bool, true, false, nat_lt, List, [], ◌∷◌, ◌++◌, length, Some, Ok, Err}
+use Rattle.std.specs.Prelude.{if◌then◌else◌}
 use Rattle.std.specs.declared.result.Result.{Result}
 use Rattle.sat_durable.specs.Journal.{AreBytes}
 use Rattle.sat_durable.specs.Machine.{Meaning}

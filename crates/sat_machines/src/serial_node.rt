@@ -1,5 +1,6 @@
 //! A serializer as a machine of a node.
-ghost use Rattle.std.specs.Prelude.{◌≡◌, ◌<◌, true, false, IfOk, OnOk, OnErr, Some, None, slice_get, length, option_copied};
+ghost use Rattle.std.specs.Prelude.{◌≡◌, ◌<◌, true, false, IfOk, OnOk, OnErr, Some, None, slice_get, length};
+ghost use Rattle.std.specs.Prelude.{option_copied};
 ghost use Rattle.sat_label.specs.declared.node.NodeName.TheVariants.{Serializer as AtSerializer};
 ghost use Rattle.sat_label.specs.Order.{node_eq};
 ghost use Rattle.sat_label.specs.Words.{has};

@@ -95,14 +95,6 @@ at_more of ks all k c is h =
       counted = subst (λ l. HasCounted (puttings of l) c) (sym same) h.counted;
     }
 
--- only room changed
-pub at_same : {I A : Type 0} (of : I → A → Option Made) (ks : List (Kept I A)) (a c : CursorSeen) → SameCounts a c → IsAt of ks a → IsAt of ks c
-at_same of ks a c s h = record {
-  next = (let n = h.next in let e = s.next in omega arith);
-  counted = subst (λ (n : ℕ). HasCounted (put_before of ks n) c) (sym s.next)
-      (record { labels = s.labels ∙ h.counted.labels; payloads = λ g. s.payloads g ∙ h.counted.payloads g; beats = s.beats ∙ h.counted.beats });
-}
-
 -- the next of each sort has a number
 pub numbers_left : {I A : Type 0} (of : I → A → Option Made) (ks : List (Kept I A)) (c : CursorSeen) → IsAt of ks c → ((gear : ℕ) → get_or c.payloads gear 0 ≤ c.next) × (c.labels ≤ c.next) × (c.beats ≤ c.next)
 numbers_left of ks c h =
@@ -201,10 +193,6 @@ module _ {I A : Type 0} (of : I → A → Option Made) (ks : List (Kept I A)) (k
 
   pub looked_gives : (m : Message) → found ≡ Some m → GivesOne of ks a.next c.next m
   looked_gives m n = gives o found m refl l.thing n
-
--- where there is no entry more
-pub ends_here : {I A : Type 0} (of : I → A → Option Made) (ks : List (Kept I A)) (c : CursorSeen) → (c.next < length ks → ⊥) → IsAt of ks c → EndsAt of ks c.next c.next
-ends_here of ks c none h = (refl, (let n = h.next in omega arith))
 
 -- from a place before it at which as much was put
 pub gives_from : {I A : Type 0} (of : I → A → Option Made) (ks : List (Kept I A)) (a b c : ℕ) (o : Option Message) → put_before of ks b ≡ put_before of ks a → Gives of ks b c o → Gives of ks a c o

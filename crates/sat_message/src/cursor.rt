@@ -1,7 +1,9 @@
 //! What a journal puts on a link, message by message.
-ghost use Rattle.std.specs.Prelude.{◌≡◌, ◌+◌, ◌^◌, ◌<◌, ◌≤◌, ◌==◌, ℕ, [], length, get_or, IfOk, OnErr, OnOk, None, MatchBool, if◌then◌else◌};
+ghost use Rattle.std.specs.Prelude.{◌≡◌, ◌+◌, ◌^◌, ◌<◌, ◌≤◌, ◌==◌, ℕ, [], length, get_or, IfOk, OnErr, OnOk, None};
+ghost use Rattle.std.specs.Prelude.{MatchBool, if◌then◌else◌};
 ghost use Rattle.sat_node.specs.declared.kept.Made.TheVariants as made;
-ghost use Rattle.sat_message.specs.Numbering.{CountsOne, CountsThing, Gives, HasNumbers, IsAt, Passes, SameCounts, next_message, put_before};
+ghost use Rattle.sat_message.specs.Numbering.{CountsOne, CountsThing, Gives, HasNumbers, IsAt, Passes, SameCounts};
+ghost use Rattle.sat_message.specs.Numbering.{next_message, put_before};
 
 use crate::message::Message;
 use sat_beat::Beat;

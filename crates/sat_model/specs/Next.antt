@@ -1,5 +1,6 @@
 -- What an answer makes of a site's state, part by part. A refusal, `Again` and `Old` change nothing.
-use Rattle.std.specs.Prelude.{ℕ, ◌+◌, Bool, true, false, ◌&&◌, ◌||◌, not, ◌==◌, List, [], ◌∷◌, ◌++◌, length, filter, map, Option, Some, None, unwrap_or, if◌then◌else◌}
+use Rattle.std.specs.Prelude.{ℕ, ◌+◌, Bool, true, false, ◌&&◌, ◌||◌, not, ◌==◌, List, [], ◌∷◌, ◌++◌, length, filter}
+use Rattle.std.specs.Prelude.{map, Option, Some, None, unwrap_or, if◌then◌else◌}
 use Rattle.sat_label.specs.declared.point.Point.{Point}
 use Rattle.sat_label.specs.declared.label.Label.{Label}
 use Rattle.sat_label.specs.Order.{greater_point, label_eq, label_lt}
@@ -172,8 +173,11 @@ abbrev pub last_next : Deployed → ℕ → SiteState → ℕ → SiteInput → 
 last_next d j s i input answer =
     elim answer [
       | ans.Shown l ↦
-          elim input
-          [ given.Turn front ↦ if l.point.site == i then greater_point (known_by l) (s.proxy.last i) else s.proxy.last i | _ ↦ s.proxy.last i ]
+          elim input [
+            | given.Turn front ↦
+                if l.point.site == i then greater_point (known_by l) (s.proxy.last i) else s.proxy.last i
+            | _ ↦ s.proxy.last i
+          ]
       | ans.Took l ↦ if l.point.site == i then greater_point (known_by l) (s.proxy.last i) else s.proxy.last i
       | ans.View v ↦ raised (s.proxy.last i) (passed_cut d j s i)
       | _ ↦ s.proxy.last i
@@ -225,7 +229,11 @@ note_of d i s j = record { cut = cut_of d i s; closes = s.views.closes; counts =
 abbrev pub made_next : Deployed → ℕ → SiteState → ℕ → SiteInput → Answer → List BeatNote
 made_next d i s j input answer =
     elim answer [
-      | ans.Beat n ↦ elim input [ given.Beat to ↦ if to == j then s.made_beats j ++ note_of d i s j ∷ [] else s.made_beats j | _ ↦ s.made_beats j ]
+      | ans.Beat n ↦ elim input [
+        | given.Beat to ↦ if to == j then s.made_beats j ++ note_of d i s j ∷ []
+            else s.made_beats j
+        | _ ↦ s.made_beats j
+      ]
       | _ ↦ s.made_beats j
     ]
 

@@ -6,7 +6,10 @@ use Rattle.sat_tree.specs.Shape.{TreeShape}
 use Rattle.sat_bulk.specs.Payloads.{Payload}
 use Rattle.sat_act.specs.declared.entry.Entry.{Entry}
 use Rattle.sat_act.specs.Deployed.{Deployed}
-use Rattle.sat_act.specs.Parts.{tree_of, promise, made, gathered, stable, ready, cut, last_sent, last_pulse, pending, emission, close_cut, view, fallen, in_stamp_mode, entered, taken, killed, version, values_of, value_of, lane, lane_front, waiting, beats, best, seat, moving, carried, last}
+use Rattle.sat_act.specs.Parts.{tree_of, promise, made, gathered, stable, ready, cut, last_sent, last_pulse, pending}
+use Rattle.sat_act.specs.Parts.{emission, close_cut, view, fallen, in_stamp_mode, entered, taken, killed, version}
+use Rattle.sat_act.specs.Parts.{values_of, value_of, lane, lane_front, waiting, beats, best, seat, moving, carried}
+use Rattle.sat_act.specs.Parts.{last}
 use Rattle.sat_act.specs.Answers.{took_close}
 use Rattle.sat_model.specs.State.{SiteState, Version}
 use Rattle.sat_model.specs.Look.{rows, stable_of, ready_of, cut_of, mode_of, waiting_of, front_of, best_of}

@@ -8,7 +8,8 @@ use Rattle.sat_act.specs.declared.act.Act.TheVariants as act
 use Rattle.sat_act.specs.declared.answer.Answer.{Answer}
 use Rattle.sat_act.specs.declared.entry.Entry.{Entry}
 use Rattle.sat_act.specs.Deployed.{Deployed}
-use Rattle.sat_act.specs.Parts.{tree_of, view, seat_in, link_front, values_of, lane, lane_front, beats, seat, moving, carried}
+use Rattle.sat_act.specs.Parts.{tree_of, view, seat_in, link_front, values_of, lane, lane_front, beats, seat, moving}
+use Rattle.sat_act.specs.Parts.{carried}
 use Rattle.sat_act.specs.Answers.{greatest_promise}
 use Rattle.sat_label.specs.declared.carried.Carried.{Carried}
 use Rattle.sat_model.specs.State.{SiteState, fresh_site}

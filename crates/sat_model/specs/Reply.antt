@@ -1,5 +1,6 @@
 -- The answer of a site to what it is handed, by its state alone, and its step.
-use Rattle.std.specs.Prelude.{ℕ, ◌+◌, Bool, false, ◌&&◌, ◌||◌, not, ◌==◌, nat_le, max, List, length, Option, Some, None, is_some, if◌then◌else◌}
+use Rattle.std.specs.Prelude.{ℕ, ◌+◌, Bool, false, ◌&&◌, ◌||◌, not, ◌==◌, nat_le, max, List, length, Option, Some, None}
+use Rattle.std.specs.Prelude.{is_some, if◌then◌else◌}
 use Rattle.std.specs.List.{list_any}
 use Rattle.sat_label.specs.declared.point.Point.{Point}
 use Rattle.sat_label.specs.declared.limits.TheConstants.{PULSE_GEAR, TS_END}
@@ -13,7 +14,8 @@ use Rattle.sat_act.specs.declared.answer.Answer.{Answer}
 use Rattle.sat_act.specs.declared.answer.Answer.TheVariants as ans
 use Rattle.sat_act.specs.declared.answer.Refusal.TheVariants as why
 use Rattle.sat_act.specs.Deployed.{Deployed}
-use Rattle.sat_act.specs.Parts.{BeatNote, replicates, keeps_all, best_passes, all_others, reaches, closed_below, passed_ts, passed_label}
+use Rattle.sat_act.specs.Parts.{BeatNote, replicates, keeps_all, best_passes, all_others, reaches, closed_below}
+use Rattle.sat_act.specs.Parts.{passed_ts, passed_label}
 use Rattle.sat_act.specs.Answers.{refused_if, gear_of, turned, is_drained}
 use Rattle.sat_label.specs.declared.carried.Carried.{Carried}
 use Rattle.sat_model.specs.State.{SiteState, Version}

@@ -1,5 +1,6 @@
 -- A world of sites, links, killed serializers and clients, without the past, and its step.
-use Rattle.std.specs.Prelude.{ℕ, zero, suc, Bool, true, false, ◌&&◌, not, ◌==◌, max, List, [], ◌∷◌, ◌++◌, filter, drop, Option, Some, None, slice_get, if◌then◌else◌}
+use Rattle.std.specs.Prelude.{ℕ, zero, suc, Bool, true, false, ◌&&◌, not, ◌==◌, max, List, [], ◌∷◌, ◌++◌, filter, drop}
+use Rattle.std.specs.Prelude.{Option, Some, None, slice_get, if◌then◌else◌}
 use Rattle.sat_label.specs.declared.point.Point.{Point}
 use Rattle.sat_label.specs.declared.items.Items.TheVariants.{One}
 use Rattle.sat_label.specs.declared.label.Kind.TheVariants as kind
@@ -17,7 +18,8 @@ use Rattle.sat_act.specs.declared.answer.Refusal.TheVariants as why
 use Rattle.sat_act.specs.declared.entry.Entry.{Entry}
 use Rattle.sat_act.specs.Deployed.{Deployed}
 use Rattle.sat_act.specs.Done.{is_of, is_kill}
-use Rattle.sat_act.specs.Parts.{BeatNote, Handling, tree_of, seat_in, goes_beyond, entered, taken, killed, carried, moving, seat, home, is_put, is_taken}
+use Rattle.sat_act.specs.Parts.{BeatNote, Handling, tree_of, seat_in, goes_beyond, entered, taken, killed, carried}
+use Rattle.sat_act.specs.Parts.{moving, seat, home, is_put, is_taken}
 use Rattle.sat_act.specs.Answers.{refused_if, at_seat}
 use Rattle.sat_label.specs.declared.carried.Carried.{Carried}
 use Rattle.sat_bulk.specs.Payloads.{Payload}
@@ -174,16 +176,27 @@ handled_by d emission view a r =
       | ans.Pulsed l ↦ elim a
           [ act.Pulse i ↦ Some (record { epoch = emission i; node = Site i; from = None; label = l }) | _ ↦ None ]
       | ans.Closed f p ↦
-          elim a
-          [ act.Close i ↦ Some (record { epoch = f; node = Site i; from = None; label = record { point = p; kind = kind.Close f } }) | _ ↦ None ]
+          elim a [
+            | act.Close i ↦ Some (record {
+              epoch = f;
+              node = Site i;
+              from = None;
+              label = record { point = p; kind = kind.Close f };
+            })
+            | _ ↦ None
+          ]
       | ans.Hopped l to ↦ elim a
           [ act.Hop f u z ↦ Some (record { epoch = f; node = Serializer z; from = Some u; label = l }) | _ ↦ None ]
       | ans.Shown l ↦
-          elim a
-          [ act.Turn j ↦ Some (record { epoch = view j; node = Site j; from = seat_in d (view j) j; label = l }) | _ ↦ None ]
+          elim a [
+            | act.Turn j ↦ Some (record { epoch = view j; node = Site j; from = seat_in d (view j) j; label = l })
+            | _ ↦ None
+          ]
       | ans.Took l ↦
-          elim a
-          [ act.Turn j ↦ Some (record { epoch = view j; node = Site j; from = seat_in d (view j) j; label = l }) | _ ↦ None ]
+          elim a [
+            | act.Turn j ↦ Some (record { epoch = view j; node = Site j; from = seat_in d (view j) j; label = l })
+            | _ ↦ None
+          ]
       | _ ↦ None
     ]
 
@@ -236,7 +249,10 @@ seat_next c o a r =
 -- client c after an act
 abbrev pub client_next : ℕ → ClientState → Act → Answer → ClientState
 client_next c s a r =
-    record { carried = record { point = point_next c s.carried.point a r; moving = moving_next c s.carried.moving a r }; seat = seat_next c s.seat a r }
+    record {
+      carried = record { point = point_next c s.carried.point a r; moving = moving_next c s.carried.moving a r };
+      seat = seat_next c s.seat a r;
+    }
 
 -- what an act and its answer make of a world
 unfoldable pub world_next : Deployed → WorldState → Act → Answer → WorldState

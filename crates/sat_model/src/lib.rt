@@ -1,7 +1,9 @@
 //! A site and a world as machines without the past.
 #![tactic(auto)]
 
-ghost use Rattle.sat_model.specs.Laws.{AnswersAreLocal, EachPartAgrees, FlagsAreFree, InputsFit, JournalsReplay, LinksLead, OthersStay, RunsGoOn, SitesStep, TimesEnd, UndoneStays, WorldsStart, WorldsStep};
+ghost use Rattle.sat_model.specs.Laws.{AnswersAreLocal, EachPartAgrees, FlagsAreFree, InputsFit, JournalsReplay};
+ghost use Rattle.sat_model.specs.Laws.{LinksLead, OthersStay, RunsGoOn, SitesStep, TimesEnd, UndoneStays, WorldsStart};
+ghost use Rattle.sat_model.specs.Laws.{WorldsStep};
 
 /// Sites and worlds without the past answer what the history answers: a step of the site that is handed something, and
 /// a step of the world, give the entry's answer and the state that stands for the history with it. What is handed fits:

@@ -12,7 +12,8 @@ use Rattle.sat_act.specs.Parts.{Handling, goes_beyond, seat_in}
 use Rattle.sat_model.specs.Interests.{interest_of}
 use Rattle.sat_model.specs.World.{nodes_for}
 use Rattle.sat_serial.specs.Routes.{leads, routes}
-use Rattle.sat_net.specs.Nets.{NetSeen, IsNet, MayHop, link_of, is_dead, fresh_net, after_send, after_hop, after_take, after_kill}
+use Rattle.sat_net.specs.Nets.{NetSeen, IsNet, MayHop, link_of, is_dead, fresh_net, after_send, after_hop, after_take}
+use Rattle.sat_net.specs.Nets.{after_kill}
 use Rattle.sat_net.specs.NetStands.{IsNetOf, StandsNet, handled_at, links_next}
 
 -- ---- nets stay nets

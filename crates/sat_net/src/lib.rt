@@ -6,7 +6,9 @@ mod fault;
 mod net;
 mod places;
 
-ghost use Rattle.sat_net.specs.Laws.{TreesGiveNets, NetsStayNets, NetsStart, SendsGoUp, OthersStayDown, HopsGoOn, SitesTake, KillsLeaveLinks, OthersStay, RestStays, SitesFind, SeatsAreSeats, HopsFind, HopsMayGo, LeadsAreTargets, RoutesAreTargets, LabelsLeave, LabelsStay};
+ghost use Rattle.sat_net.specs.Laws.{TreesGiveNets, NetsStayNets, NetsStart, SendsGoUp, OthersStayDown, HopsGoOn};
+ghost use Rattle.sat_net.specs.Laws.{SitesTake, KillsLeaveLinks, OthersStay, RestStays, SitesFind, SeatsAreSeats};
+ghost use Rattle.sat_net.specs.Laws.{HopsFind, HopsMayGo, LeadsAreTargets, RoutesAreTargets, LabelsLeave, LabelsStay};
 
 pub use fault::HopFault;
 pub use net::Net;

@@ -1,11 +1,14 @@
 //! Nets.
-ghost use Rattle.std.specs.Prelude.{◌≡◌, ◌<◌, true, false, length, map, slice_get, IfOk, IsOk, IsErrOf, IsOkUnless, OnOk, OnErr, MatchOption};
+ghost use Rattle.std.specs.Prelude.{◌≡◌, ◌<◌, true, false, length, map, slice_get, IfOk, IsOk, IsErrOf, IsOkUnless};
+ghost use Rattle.std.specs.Prelude.{OnOk, OnErr, MatchOption};
 ghost use Rattle.sat_label.specs.declared.node.NodeId.TheVariants.{Site as SiteNode, Serializer as SerializerNode};
 ghost use Rattle.sat_label.specs.Words.{below};
 ghost use Rattle.sat_tree.specs.Cut.{is_edge, seat_of, IsNode};
 ghost use Rattle.sat_serial.specs.Outboxes.{fresh};
 ghost use Rattle.sat_serial.specs.Routes.{routes, Arrives};
-ghost use Rattle.sat_net.specs.Nets.{IsNet, link_of, is_dead, fresh_net, after_send, after_copies, after_give, after_take, after_kill, underway_in, underway_up, underway_on, underway_from, MayHop, FindsNothing, HandsOn};
+ghost use Rattle.sat_net.specs.Nets.{IsNet, link_of, is_dead, fresh_net, after_send, after_copies, after_give};
+ghost use Rattle.sat_net.specs.Nets.{after_take, after_kill, underway_in, underway_up, underway_on, underway_from};
+ghost use Rattle.sat_net.specs.Nets.{MayHop, FindsNothing, HandsOn};
 ghost use Rattle.sat_act.specs.Settling.{capped};
 
 use crate::{HopFault, places};

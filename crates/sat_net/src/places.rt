@@ -1,6 +1,7 @@
 //! Changes at one place: a serializer that hands a label on, gives one or is killed, a link that takes a label or gives
 //! one.
-ghost use Rattle.std.specs.Prelude.{◌≡◌, ◌<◌, ◌++◌, [], ◌∷◌, false, true, length, drop, map, get_or, slice_get, Some, IfOk, OnOk, OnErr, IsOk};
+ghost use Rattle.std.specs.Prelude.{◌≡◌, ◌<◌, ◌++◌, [], ◌∷◌, false, true, length, drop, map, get_or, slice_get, Some};
+ghost use Rattle.std.specs.Prelude.{IfOk, OnOk, OnErr, IsOk};
 ghost use Rattle.sat_queue.specs.Queued.{members_of};
 ghost use Rattle.sat_serial.specs.Routes.{routes, Arrives, IsNeighbour};
 ghost use Rattle.sat_serial.specs.Outboxes.{SerializerSeen, outbox, after_handle, after_ship};

@@ -111,9 +111,6 @@ numbers_left of ks o h =
       (let less = beats_left of (take o.next ks) o h.counts in omega arith),
     )
 
-pub all_sent : {I A : Type 0} (of : I → A → Option Made) (ks : List (Kept I A)) (o : OutSeen) → (o.next < length ks → ⊥) → Sends of ks o → Stopped ks o o
-all_sent of ks o none h = inl ((let n = h.next in omega arith), refl)
-
 pub if_true : (A B : Type 0) (b : Bool) → b ≡ true → MatchBool b A B → A
 if_true A B true e h = h
 if_true A B false e h = absurd (cc)

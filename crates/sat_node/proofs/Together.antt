@@ -141,10 +141,6 @@ pub memory_only : {X : Type 0} (r : Result X CallFault) → IfErr r (λ f. f ≡
 memory_only (Ok a) only = tt
 memory_only (Err e) only = inr only
 
--- the number heard is the last one
-pub worn_now : {X : Type 0} (r : Result X CallFault) (last top : ℕ) → r ≡ Err (fault.Worn last) → last ≡ top → last ≡ last_number → IsErrOf r (fault.Worn last_number) ↔ (top ≡ last_number)
-worn_now r last top at is all = ((λ e. sym is ∙ all), (λ e. at ∙ ap (λ (n : ℕ). Err (fault.Worn n)) all))
-
 pub not_ok : {X : Type 0} (P : Type 0) (r : Result X CallFault) → is_err r ≡ true → OnOk r P
 not_ok P (Ok a) e = absurd (cc (e))
 not_ok P (Err f) e = tt

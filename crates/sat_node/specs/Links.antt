@@ -1,5 +1,6 @@
 -- What contracts see of a node's receiving ends, what its entries took there, and what ties a journal to its links.
-use Rattle.std.specs.Prelude.{◌≡◌, ◌≢◌, ℕ, ◌<◌, ◌⊎◌, Bool, true, false, List, [], ◌∷◌, ◌++◌, map, length, Option, Some, None, MatchOption, MatchBool, slice_get}
+use Rattle.std.specs.Prelude.{◌≡◌, ◌≢◌, ℕ, ◌<◌, ◌⊎◌, Bool, true, false, List, [], ◌∷◌, ◌++◌, map, length, Option, Some}
+use Rattle.std.specs.Prelude.{None, MatchOption, MatchBool, slice_get}
 use Rattle.sat_link.specs.Ends.{Receiver, rise}
 use Rattle.sat_node.specs.declared.kept.Kept.{Kept}
 use Rattle.sat_node.specs.declared.kept.Body.{Body}
@@ -73,7 +74,8 @@ OnlyAt {X} link R old new =
 
 -- there are as many as before, and each new member comes from the old one of its number and stands so to it
 abbrev pub Both : {X : Type 0} → (ℕ → X → X → Type 0) → List X → List X → Type 0
-Both {X} R old new = (length new ≡ length old) × ((k : ℕ) (y : X) → slice_get new k ≡ Some y → (x : X) × (slice_get old k ≡ Some x) × R k x y)
+Both {X} R old new = (length new ≡ length old)
+    × ((k : ℕ) (y : X) → slice_get new k ≡ Some y → (x : X) × (slice_get old k ≡ Some x) × R k x y)
 
 -- the places of ends in the list of wires
 abbrev pub out_places : List OutSeen → List ℕ

@@ -1,5 +1,6 @@
 -- What entries put on a link, and what was sent of it.
-use Rattle.std.specs.Prelude.{◌≡◌, ℕ, ◌+◌, ◌^◌, ◌<◌, ◌≤◌, ◌==◌, if◌then◌else◌, ◌⊎◌, List, [], ◌∷◌, ◌++◌, length, take, get_or, Option, Some, None, Result, IfOk, OnErr}
+use Rattle.std.specs.Prelude.{◌≡◌, ℕ, ◌+◌, ◌^◌, ◌<◌, ◌≤◌, ◌==◌, if◌then◌else◌, ◌⊎◌, List, [], ◌∷◌, ◌++◌, length, take}
+use Rattle.std.specs.Prelude.{get_or, Option, Some, None, Result, IfOk, OnErr}
 use Rattle.sat_link.specs.Ends.{Sender, rise}
 use Rattle.sat_node.specs.declared.kept.Kept.{Kept}
 use Rattle.sat_node.specs.declared.kept.Made.{Made}

@@ -1,5 +1,6 @@
 -- What contracts see of a node, and what a take does.
-use Rattle.std.specs.Prelude.{◌≡◌, ℕ, ◌+◌, ◌-◌, ◌^◌, ◌≤◌, ◌<◌, ◌↔◌, ◌⊎◌, max, Bool, true, List, [], ◌∷◌, ◌++◌, Result, IfOk, IfErr, OnOk, OnErr, IsErrOf}
+use Rattle.std.specs.Prelude.{◌≡◌, ℕ, ◌+◌, ◌-◌, ◌^◌, ◌≤◌, ◌<◌, ◌↔◌, ◌⊎◌, max, Bool, true, List, [], ◌∷◌, ◌++◌, Result}
+use Rattle.std.specs.Prelude.{IfOk, IfErr, OnOk, OnErr, IsErrOf}
 use Rattle.sat_node.specs.declared.kept.Kept.{Kept}
 use Rattle.sat_node.specs.declared.kept.CallFault.{CallFault}
 use Rattle.sat_node.specs.declared.kept.CallFault.TheVariants as fault

@@ -1,5 +1,6 @@
 -- What nodes that are lent together keep of one act of theirs.
-use Rattle.std.specs.Prelude.{◌≡◌, ℕ, ◌≤◌, List, [], ◌∷◌, ◌++◌, length, map, max, Bool, true, false, Option, Some, None, slice_get}
+use Rattle.std.specs.Prelude.{◌≡◌, ℕ, ◌≤◌, List, [], ◌∷◌, ◌++◌, length, map, max, Bool, true, false, Option, Some, None}
+use Rattle.std.specs.Prelude.{slice_get}
 use Rattle.std.specs.declared.sync.MutexGuard.{MutexGuard}
 use Rattle.std.specs.Sync.Mutex.{mutex_guard_value}
 use Rattle.sat_node.specs.declared.joint.Part.{Part}
@@ -24,18 +25,22 @@ EndsAfter None old new = new ≡ old
 EndsAfter (Some link) old new = OnlyAt link Cleared old new
 
 -- the input with its copy fits the machine
-pub record IsFit {S M I A : Type 0} (m : Meaning S I A) (takes_in : M → I → Bool) (link : Option ℕ) (h : HeldSeen M I A) (p : Part I) : Type 0 where
+pub record IsFit {S M I A : Type 0} (m : Meaning S I A) (takes_in : M → I →
+    Bool) (link : Option ℕ) (h : HeldSeen M I A) (p : Part I) : Type 0 where
   pub fits : takes_in h.node.machine p.input ≡ true
   pub copied : p.copy ≡ p.input
   pub from : TakesFrom m h link p.input
 
--- the same, taking nothing from a link, and the machine's step wants no memory for it: where there is room, it is taken for sure
-pub record IsSure {S M I A : Type 0} (m : Meaning S I A) (takes_in may_fail : M → I → Bool) (h : HeldSeen M I A) (p : Part I) : Type 0 where
+-- the same, taking nothing from a link, and the machine's step wants no memory for it: where there is room, it is taken
+-- for sure
+pub record IsSure {S M I A : Type 0} (m : Meaning S I A) (takes_in may_fail : M → I →
+    Bool) (h : HeldSeen M I A) (p : Part I) : Type 0 where
   pub fit : IsFit m takes_in None h p
   pub sure : may_fail h.node.machine p.input ≡ false
 
 -- one entry more, of this input under this number, with this answer, which the machine has for it
-pub record Keeps {S M I A : Type 0} (m : Meaning S I A) (number : ℕ) (link : Option ℕ) (input : I) (answer : A) (old new : HeldSeen M I A) : Type 0 where
+pub record Keeps {S M I A : Type 0} (m : Meaning S I A) (number : ℕ) (link : Option ℕ) (input : I) (answer : A)
+    (old new : HeldSeen M I A) : Type 0 where
   pub answers : m.answers old.node.name (replay m old.node.name old.node.entries) input answer
   pub entries : new.node.entries ≡ old.node.entries ++ entry number input answer ∷ []
   pub number_is : new.node.number ≡ number
@@ -68,12 +73,16 @@ abbrev pub top_of : {M I A N J B : Type 0} → ℕ → Option ℕ → HeldSeen M
 top_of heard link home others = most (max (max heard (heard_from link home.ins)) home.node.number) others
 
 -- there is a part for each of these nodes, and each is taken for sure
-abbrev pub AreSure : {S M I A : Type 0} → Meaning S I A → (M → I → Bool) → (M → I → Bool) → List (HeldSeen M I A) → List (Part I) → Type 0
-AreSure m takes_in may_fail nodes parts = (length parts ≡ length nodes) × Each nodes (λ k h. (p : Part _) × (slice_get parts k ≡ Some p) × IsSure m takes_in may_fail h p)
+abbrev pub AreSure : {S M I A : Type 0} → Meaning S I A → (M → I → Bool) → (M → I → Bool) → List (HeldSeen M I A) →
+    List (Part I) → Type 0
+AreSure m takes_in may_fail nodes parts = (length parts ≡ length nodes)
+    × Each nodes (λ k h. (p : Part _) × (slice_get parts k ≡ Some p) × IsSure m takes_in may_fail h p)
 
 -- each of these nodes keeps its part under this number
-abbrev pub AllKeep : {S M I A : Type 0} → Meaning S I A → ℕ → List (Part I) → List (HeldSeen M I A) → List (HeldSeen M I A) → Type 0
-AllKeep m number parts old new = Both (λ k x y. (p : Part _) × (slice_get parts k ≡ Some p) × KeepsSome m number p.input x y) old new
+abbrev pub AllKeep : {S M I A : Type 0} → Meaning S I A → ℕ → List (Part I) → List (HeldSeen M I A) →
+    List (HeldSeen M I A) → Type 0
+AllKeep m number parts old new = Both (λ k x y. (p : Part _) × (slice_get parts k ≡ Some p)
+    × KeepsSome m number p.input x y) old new
 
 -- nothing but the room of these nodes differs
 abbrev pub AllSame : {M I A : Type 0} → List (HeldSeen M I A) → List (HeldSeen M I A) → Type 0

@@ -1,10 +1,12 @@
 //! What lies under a node's lock: the node with its link ends.
-ghost use Rattle.std.specs.Prelude.{◌≡◌, ◌+◌, ◌<◌, ◌≤◌, ◌↔◌, ◌⊎◌, max, true, [], length, Some, None, MatchOption, IfOk, IfErr, OnOk, OnErr, IsErrOf};
+ghost use Rattle.std.specs.Prelude.{◌≡◌, ◌+◌, ◌<◌, ◌≤◌, ◌↔◌, ◌⊎◌, max, true, [], length, Some, None, MatchOption, IfOk};
+ghost use Rattle.std.specs.Prelude.{IfErr, OnOk, OnErr, IsErrOf};
 ghost use Rattle.sat_node.specs.declared.kept.Envelope.{Envelope as Sent};
 ghost use Rattle.sat_node.specs.Meanings.{replay};
 ghost use Rattle.sat_node.specs.Seen.{SameNode, Takes, last_number};
 ghost use Rattle.sat_node.specs.Puts.{Flushed};
-ghost use Rattle.sat_node.specs.Links.{Each, OnlyAt, Tied, Pulled, Cleared, PassedOver, IsLocal, IsOf, front_at, number_of, out_places, in_places};
+ghost use Rattle.sat_node.specs.Links.{Each, OnlyAt, Tied, Pulled, Cleared, PassedOver, IsLocal, IsOf, front_at};
+ghost use Rattle.sat_node.specs.Links.{number_of, out_places, in_places};
 ghost use Rattle.sat_node.specs.Together.{EndsAfter, TakesFrom, heard_from};
 
 use crate::ins::In;
@@ -37,12 +39,14 @@ impl<M: Machine, N: Names> Model for Held<M, N> {
 }
 
 impl<M: Machine, N: Names> Held<M, N> {
-    /// A node with an empty journal and the ends that a node of its name has, in their order. Their links carried nothing.
+    /// A node with an empty journal and the ends that a node of its name has, in their order. Their links carried
+    /// nothing.
     pub fn new(node: Node<M>, outs: Vec<Out<N>>, ins: Vec<In<N>>) -> Held<M, N>
         requires node { node.entries ≡ [] }
         requires outs { Each outs.items (λ k o. (o.link.sent ≡ []) × (o.next ≡ 0) × (o.payloads ≡ []) × (o.beats ≡ 0)) }
         requires ins { Each ins.items (λ k i. (i.link.received ≡ []) × (i.front ≡ None)) }
-        requires places { (out_places outs.items ≡ M.meaning.outs node.name) × (in_places ins.items ≡ M.meaning.ins node.name) }
+        requires places { (out_places outs.items ≡ M.meaning.outs node.name)
+            × (in_places ins.items ≡ M.meaning.ins node.name) }
         ensures { (result.node ≡ node) × (result.outs ≡ outs.items) × (result.ins ≡ ins.items) }
     {
         Held { node, outs, ins }
@@ -70,9 +74,11 @@ impl<M: Machine, N: Names> Held<M, N> {
         self.ins.as_slice()
     }
 
-    /// The envelope in front of a link, which was popped and not yet taken. `None` exactly where there is none, or no such link.
+    /// The envelope in front of a link, which was popped and not yet taken. `None` exactly where there is none, or no
+    /// such link.
     pub fn front(&self, link: usize) -> Option<&Envelope>
-        ensures { MatchOption result (front_at self.now.ins link ≡ None) (λ e. front_at self.now.ins link ≡ Some e.now) }
+        ensures { MatchOption result (front_at self.now.ins link ≡ None) (λ e. front_at self.now.ins link
+            ≡ Some e.now) }
     {
         match self.ins.get(link) {
             Some(end) => end.front(),
@@ -97,8 +103,8 @@ impl<M: Machine, N: Names> Held<M, N> {
         self.node.machine().fits(input)
     }
 
-    /// Sends what the journal puts on a link and was not yet sent, until all was sent or the link was full. `AllocError` where there is
-    /// no memory for a copy: what was sent by then is sent.
+    /// Sends what the journal puts on a link and was not yet sent, until all was sent or the link was full.
+    /// `AllocError` where there is no memory for a copy: what was sent by then is sent.
     pub fn flush<R: Wait>(&mut self, rt: &R, link: usize) -> Result<(), AllocError>
         requires { link < length self.old.outs }
         ensures node { self.new.node ≡ self.old.node }
@@ -121,8 +127,8 @@ impl<M: Machine, N: Names> Held<M, N> {
         end.pull(rt);
     }
 
-    /// Passes over a payload or a beat in front of a link, so that no entry takes it. False where the front is none of these, and then
-    /// nothing changes.
+    /// Passes over a payload or a beat in front of a link, so that no entry takes it. False where the front is none of
+    /// these, and then nothing changes.
     pub fn pass_over(&mut self, link: usize) -> bool
         requires { link < length self.old.ins }
         ensures node { self.new.node ≡ self.old.node }
@@ -133,9 +139,9 @@ impl<M: Machine, N: Names> Held<M, N> {
         end.pass_over()
     }
 
-    /// Takes the room for one entry, and answers the number that it would have: one above the node's own and the one heard. Once there is
-    /// room, the next `act` with at most this heard number fails for memory only where the machine's step does. `Worn` as in `act`;
-    /// `Memory`. Nothing else changes, also after an error.
+    /// Takes the room for one entry, and answers the number that it would have: one above the node's own and the one
+    /// heard. Once there is room, the next `act` with at most this heard number fails for memory only where the
+    /// machine's step does. `Worn` as in `act`; `Memory`. Nothing else changes, also after an error.
     pub fn reserve(&mut self, heard: u64) -> Result<u64, CallFault>
         ensures number { IfOk result (λ n. n ≡ max self.old.node.number heard + 1) }
         ensures room { OnOk result (0 < self.new.node.room) }
@@ -150,8 +156,8 @@ impl<M: Machine, N: Names> Held<M, N> {
         self.node.reserve(heard)
     }
 
-    /// Takes an input that takes nothing from a link. The number heard is that of whoever asks. What the entry puts waits for its links.
-    /// `Worn` and `Memory` come as in `Node::take`. After an error all is as before.
+    /// Takes an input that takes nothing from a link. The number heard is that of whoever asks. What the entry puts
+    /// waits for its links. `Worn` and `Memory` come as in `Node::take`. After an error all is as before.
     pub fn act(
         &mut self,
         heard: u64,
@@ -162,15 +168,17 @@ impl<M: Machine, N: Names> Held<M, N> {
         requires copy { copy ≡ input }
         requires local { IsLocal M.meaning self.old.node input }
         ensures takes { Takes heard input (M.may_fail self.old.node.machine input) result self.old.node self.new.node }
-        ensures answer { IfOk result (λ a. M.meaning.answers self.old.node.name (replay M.meaning self.old.node.name self.old.node.entries) input a) }
+        ensures answer { IfOk result (λ a. M.meaning.answers self.old.node.name
+            (replay M.meaning self.old.node.name self.old.node.entries) input a) }
         ensures outs { self.new.outs ≡ self.old.outs }
         ensures ins { self.new.ins ≡ self.old.ins }
     {
         self.node.take(heard, input, copy)
     }
 
-    /// Takes an input that takes the front of a link: its label, payload or beat. The number heard is the front's. What the entry puts
-    /// waits for its links. `Worn` and `Memory` come as in `Node::take`. After an error all is as before.
+    /// Takes an input that takes the front of a link: its label, payload or beat. The number heard is the front's. What
+    /// the entry puts waits for its links. `Worn` and `Memory` come as in `Node::take`. After an error all is as
+    /// before.
     pub fn handle(
         &mut self,
         link: usize,
@@ -179,9 +187,12 @@ impl<M: Machine, N: Names> Held<M, N> {
     ) -> Result<M::Answer, CallFault>
         requires fits { M.takes_in self.old.node.machine input ≡ true }
         requires copy { copy ≡ input }
-        requires front { (e : Sent) × (front_at self.old.ins link ≡ Some e) × IsOf M.meaning self.old.node link e.body input }
-        ensures takes { Takes (number_of (front_at self.old.ins link)) input (M.may_fail self.old.node.machine input) result self.old.node self.new.node }
-        ensures answer { IfOk result (λ a. M.meaning.answers self.old.node.name (replay M.meaning self.old.node.name self.old.node.entries) input a) }
+        requires front { (e : Sent) × (front_at self.old.ins link ≡ Some e)
+            × IsOf M.meaning self.old.node link e.body input }
+        ensures takes { Takes (number_of (front_at self.old.ins link)) input (M.may_fail self.old.node.machine input)
+            result self.old.node self.new.node }
+        ensures answer { IfOk result (λ a. M.meaning.answers self.old.node.name
+            (replay M.meaning self.old.node.name self.old.node.entries) input a) }
         ensures outs { self.new.outs ≡ self.old.outs }
         ensures ins { OnOk result (OnlyAt link Cleared self.old.ins self.new.ins) }
         ensures err { OnErr result (self.new.ins ≡ self.old.ins) }
@@ -200,10 +211,12 @@ impl<M: Machine, N: Names> Held<M, N> {
     ) -> Result<M::Answer, CallFault>
         requires fits { M.takes_in self.old.node.machine input ≡ true }
         requires copy { copy ≡ input }
-        requires front { (e : Sent) × (front_at self.old.ins link ≡ Some e) × IsOf M.meaning self.old.node link e.body input }
+        requires front { (e : Sent) × (front_at self.old.ins link ≡ Some e)
+            × IsOf M.meaning self.old.node link e.body input }
         requires heard { number_of (front_at self.old.ins link) ≤ heard }
         ensures takes { Takes heard input (M.may_fail self.old.node.machine input) result self.old.node self.new.node }
-        ensures answer { IfOk result (λ a. M.meaning.answers self.old.node.name (replay M.meaning self.old.node.name self.old.node.entries) input a) }
+        ensures answer { IfOk result (λ a. M.meaning.answers self.old.node.name
+            (replay M.meaning self.old.node.name self.old.node.entries) input a) }
         ensures outs { self.new.outs ≡ self.old.outs }
         ensures ins { OnOk result (OnlyAt link Cleared self.old.ins self.new.ins) }
         ensures err { OnErr result (self.new.ins ≡ self.old.ins) }
@@ -227,8 +240,8 @@ impl<M: Machine, N: Names> Held<M, N> {
         }
     }
 
-    /// Takes an input as `handle` does, where a link is named, and as `act` does where none is. The number heard is that of whoever asks,
-    /// and no less than the front's: an act of several nodes has one number at all of them.
+    /// Takes an input as `handle` does, where a link is named, and as `act` does where none is. The number heard is
+    /// that of whoever asks, and no less than the front's: an act of several nodes has one number at all of them.
     pub fn take(
         &mut self,
         heard: u64,
@@ -241,7 +254,8 @@ impl<M: Machine, N: Names> Held<M, N> {
         requires from { TakesFrom M.meaning self.old link input }
         requires heard { heard_from link self.old.ins ≤ heard }
         ensures takes { Takes heard input (M.may_fail self.old.node.machine input) result self.old.node self.new.node }
-        ensures answer { IfOk result (λ a. M.meaning.answers self.old.node.name (replay M.meaning self.old.node.name self.old.node.entries) input a) }
+        ensures answer { IfOk result (λ a. M.meaning.answers self.old.node.name
+            (replay M.meaning self.old.node.name self.old.node.entries) input a) }
         ensures outs { self.new.outs ≡ self.old.outs }
         ensures ins { OnOk result (EndsAfter link self.old.ins self.new.ins) }
         ensures err { OnErr result (self.new.ins ≡ self.old.ins) }

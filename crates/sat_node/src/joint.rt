@@ -1,10 +1,11 @@
-//! One act of nodes that are lent together: all keep an entry under one number, or none does. All memory is taken before the first of them
-//! steps.
+//! One act of nodes that are lent together: all keep an entry under one number, or none does. All memory is taken
+//! before the first of them steps.
 ghost use Rattle.std.specs.Prelude.{◌≡◌, ◌+◌, ◌<◌, ◌≤◌, ◌⊎◌, ◌↔◌, [], ◌∷◌, length, IfOk, IfErr, OnOk, OnErr, IsErrOf};
 ghost use Rattle.sat_node.specs.declared.kept.CallFault.TheVariants.{Memory};
 ghost use Rattle.sat_node.specs.Seen.{last_number};
 ghost use Rattle.sat_node.specs.Links.{Each, OnlyAt};
-ghost use Rattle.sat_node.specs.Together.{AllKeep, AllSame, AreSure, IsFit, IsSure, Keeps, KeepsSome, SameHeld, heard_from, lent, most, top_of};
+ghost use Rattle.sat_node.specs.Together.{AllKeep, AllSame, AreSure, IsFit, IsSure, Keeps, KeepsSome, SameHeld};
+ghost use Rattle.sat_node.specs.Together.{heard_from, lent, most, top_of};
 
 use crate::held::Held;
 use crate::kept::CallFault;
@@ -122,10 +123,10 @@ fn take_home<M: Machine, N: Names>(
     home.take(last, link, input, copy)
 }
 
-/// One act of two nodes that are lent: both keep an entry, under one number, or neither does. The number is one above the greatest of the
-/// one heard, that of the front which the home takes, if a link is named, and those of the two nodes (Lamport, 1978). The home answers;
-/// the other node's part is one that can't fail. `Worn` exactly where that greatest number is the last; `Memory`. After an error both are
-/// as before.
+/// One act of two nodes that are lent: both keep an entry, under one number, or neither does. The number is one above
+/// the greatest of the one heard, that of the front which the home takes, if a link is named, and those of the two
+/// nodes (Lamport, 1978). The home answers; the other node's part is one that can't fail. `Worn` exactly where that
+/// greatest number is the last; `Memory`. After an error both are as before.
 #[tactic(auto, using(crate::proofs::Together::same_self))]
 pub fn take_both<H: Machine, G: Machine, N: Names>(
     home: &mut Held<H, N>,
@@ -137,10 +138,13 @@ pub fn take_both<H: Machine, G: Machine, N: Names>(
 ) -> Result<H::Answer, CallFault>
     requires own { IsFit H.meaning H.takes_in link home.old own }
     requires part { IsSure G.meaning G.takes_in G.may_fail other.old part }
-    ensures home { IfOk result (λ a. Keeps H.meaning (top_of heard link home.old (other.old ∷ []) + 1) link own.input a home.old home.new) }
-    ensures other { OnOk result (KeepsSome G.meaning (top_of heard link home.old (other.old ∷ []) + 1) part.input other.old other.new) }
+    ensures home { IfOk result (λ a. Keeps H.meaning (top_of heard link home.old (other.old ∷ []) + 1) link own.input a
+        home.old home.new) }
+    ensures other { OnOk result (KeepsSome G.meaning (top_of heard link home.old (other.old ∷ []) + 1) part.input
+        other.old other.new) }
     ensures err { OnErr result (SameHeld home.old home.new × SameHeld other.old other.new) }
-    ensures worn { IsErrOf result (CallFault.Worn last_number) ↔ (top_of heard link home.old (other.old ∷ []) ≡ last_number) }
+    ensures worn { IsErrOf result (CallFault.Worn last_number)
+        ↔ (top_of heard link home.old (other.old ∷ []) ≡ last_number) }
     ensures only { IfErr result (λ f. (f ≡ CallFault.Worn last_number) ⊎ (f ≡ Memory)) }
 {
     let last = top_both(&*home, &*other, heard, link);
@@ -194,9 +198,9 @@ fn reserve_rest<M: Machine, N: Names>(
     Ok(())
 }
 
-/// Room for one entry at a home and at all other nodes of an act, and the greatest of their numbers, of the one heard and of that of the
-/// front which the home takes, if a link is named: the act's number is one above it at all of them. `Worn` exactly where it is the last;
-/// `Memory`. Nothing but room changes.
+/// Room for one entry at a home and at all other nodes of an act, and the greatest of their numbers, of the one heard
+/// and of that of the front which the home takes, if a link is named: the act's number is one above it at all of them.
+/// `Worn` exactly where it is the last; `Memory`. Nothing but room changes.
 #[tactic(auto, using(crate::proofs::Together::same_self, crate::proofs::Lent::all_same))]
 pub fn reserve_all<H: Machine, G: Machine, N: Names>(
     home: &mut Held<H, N>,
@@ -208,7 +212,8 @@ pub fn reserve_all<H: Machine, G: Machine, N: Names>(
     ensures home { SameHeld home.old home.new }
     ensures others { AllSame (lent others.old.items) (lent others.new.items) }
     ensures room { OnOk result ((0 < home.new.node.room) × Each (lent others.new.items) (λ _ h. 0 < h.node.room)) }
-    ensures worn { IsErrOf result (CallFault.Worn last_number) ↔ (top_of heard link home.old (lent others.old.items) ≡ last_number) }
+    ensures worn { IsErrOf result (CallFault.Worn last_number)
+        ↔ (top_of heard link home.old (lent others.old.items) ≡ last_number) }
     ensures only { IfErr result (λ f. (f ≡ CallFault.Worn last_number) ⊎ (f ≡ Memory)) }
 {
     let last = top_all(&*home, others.as_slice(), heard, link);
@@ -242,7 +247,8 @@ fn take_at<M: Machine, N: Names>(
     take_sure(node, last, part);
 }
 
-/// Takes at each of these nodes its part, under one above this number, once there is room for it. None of them can fail.
+/// Takes at each of these nodes its part, under one above this number, once there is room for it. None of them can
+/// fail.
 pub fn take_rest<M: Machine, N: Names>(
     nodes: &mut Vec<MutexGuard<'_, Held<M, N>>>,
     last: u64,
@@ -260,11 +266,11 @@ pub fn take_rest<M: Machine, N: Names>(
     }
 }
 
-/// One act of a home and of other nodes of one sort, all lent: all keep an entry, under one number, or none does. The number is one above
-/// the greatest of the one heard, that of the front which the home takes, if a link is named, and those of all nodes (Lamport, 1978). The
-/// home answers; the others' parts, in their order, are such as can't fail. Where a part has to know what the home answers, the home is
-/// stepped by `Held::take` between `reserve_all` and `take_rest`. `Worn` exactly where that greatest number is the last; `Memory`. After an
-/// error all are as before.
+/// One act of a home and of other nodes of one sort, all lent: all keep an entry, under one number, or none does. The
+/// number is one above the greatest of the one heard, that of the front which the home takes, if a link is named, and
+/// those of all nodes (Lamport, 1978). The home answers; the others' parts, in their order, are such as can't fail.
+/// Where a part has to know what the home answers, the home is stepped by `Held::take` between `reserve_all` and
+/// `take_rest`. `Worn` exactly where that greatest number is the last; `Memory`. After an error all are as before.
 pub fn take_all<H: Machine, G: Machine, N: Names>(
     home: &mut Held<H, N>,
     others: &mut Vec<MutexGuard<'_, Held<G, N>>>,
@@ -275,10 +281,13 @@ pub fn take_all<H: Machine, G: Machine, N: Names>(
 ) -> Result<H::Answer, CallFault>
     requires own { IsFit H.meaning H.takes_in link home.old own }
     requires parts { AreSure G.meaning G.takes_in G.may_fail (lent others.old.items) parts.items }
-    ensures home { IfOk result (λ a. Keeps H.meaning (top_of heard link home.old (lent others.old.items) + 1) link own.input a home.old home.new) }
-    ensures others { OnOk result (AllKeep G.meaning (top_of heard link home.old (lent others.old.items) + 1) parts.items (lent others.old.items) (lent others.new.items)) }
+    ensures home { IfOk result (λ a. Keeps H.meaning (top_of heard link home.old (lent others.old.items) + 1) link
+        own.input a home.old home.new) }
+    ensures others { OnOk result (AllKeep G.meaning (top_of heard link home.old (lent others.old.items) + 1) parts.items
+        (lent others.old.items) (lent others.new.items)) }
     ensures err { OnErr result (SameHeld home.old home.new × AllSame (lent others.old.items) (lent others.new.items)) }
-    ensures worn { IsErrOf result (CallFault.Worn last_number) ↔ (top_of heard link home.old (lent others.old.items) ≡ last_number) }
+    ensures worn { IsErrOf result (CallFault.Worn last_number)
+        ↔ (top_of heard link home.old (lent others.old.items) ≡ last_number) }
     ensures only { IfErr result (λ f. (f ≡ CallFault.Worn last_number) ⊎ (f ≡ Memory)) }
 {
     let last = match reserve_all(home, others, heard, link) {

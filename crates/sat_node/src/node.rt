@@ -1,5 +1,6 @@
 //! Nodes that keep journals.
-ghost use Rattle.std.specs.Prelude.{◌≡◌, ◌+◌, ◌<◌, ◌≤◌, max, true, [], ◌∷◌, ◌++◌, ◌↔◌, ◌⊎◌, IfOk, IfErr, OnOk, OnErr, IsErrOf};
+ghost use Rattle.std.specs.Prelude.{◌≡◌, ◌+◌, ◌<◌, ◌≤◌, max, true, [], ◌∷◌, ◌++◌, ◌↔◌, ◌⊎◌, IfOk, IfErr, OnOk, OnErr};
+ghost use Rattle.std.specs.Prelude.{IsErrOf};
 ghost use Rattle.sat_node.specs.Seen.{last_number, SameNode, Takes};
 ghost use Rattle.sat_node.specs.Meanings.{replay, Runs, last_of, Rises};
 
@@ -78,7 +79,13 @@ impl<M: Machine> Model for Node<M> {
 
     ghost Value = { NodeSeen M M.Input M.Answer };
 
-    ghost view = { λ n. record { name = n.name; machine = n.machine; entries = n.journal.items; number = n.lamport; room = vec_capacity n.journal - vec_len n.journal } };
+    ghost view = { λ n. record {
+      name = n.name;
+      machine = n.machine;
+      entries = n.journal.items;
+      number = n.lamport;
+      room = vec_capacity n.journal - vec_len n.journal;
+    } };
 
     ghost invariant = { λ n. M.stands_for n.name n.machine (replay M.meaning n.name n.journal.items)
         × Runs M.meaning n.name n.journal.items

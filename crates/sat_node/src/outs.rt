@@ -1,5 +1,6 @@
 //! The sending end of a link, which lies under a node's lock and keeps how far in the node's journal it is.
-ghost use Rattle.std.specs.Prelude.{◌≡◌, ◌+◌, ◌^◌, ◌<◌, ℕ, [], length, get_or, IfOk, OnErr, OnOk, Some, slice_get, MatchBool, ◌==◌, if◌then◌else◌};
+ghost use Rattle.std.specs.Prelude.{◌≡◌, ◌+◌, ◌^◌, ◌<◌, ℕ, [], length, get_or, IfOk, OnErr, OnOk, Some, slice_get};
+ghost use Rattle.std.specs.Prelude.{MatchBool, ◌==◌, if◌then◌else◌};
 ghost use Rattle.sat_node.specs.declared.kept.Made.TheVariants as made;
 ghost use Rattle.sat_node.specs.Puts.{SameOut, SentOne, SentThing, HasNumbers, FoundFull, Sends, Stopped, Flushed};
 
@@ -46,7 +47,13 @@ impl<N: Names> Model for Out<N> {
 
     ghost Value = { OutSeen };
 
-    ghost view = { λ o. record { place = o.place; link = o.link; next = o.next; payloads = o.payloads.items; beats = o.beats } };
+    ghost view = { λ o. record {
+      place = o.place;
+      link = o.link;
+      next = o.next;
+      payloads = o.payloads.items;
+      beats = o.beats;
+    } };
 
     ghost invariant = { λ o. slice_get N.wires o.place ≡ Some o.link.wire };
 }

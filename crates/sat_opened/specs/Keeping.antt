@@ -62,7 +62,12 @@ site_given i _ = Nothing
 -- an entry of site i's journal
 abbrev pub site_kept : ℕ → Line ActSeen SiteAnswer → Kept
 site_kept i k =
-    record { number = k.lamport; act = site_act i (client_in k.input.by) k.input.input; given = site_given i k.input.input; answer = k.answer.answer }
+    record {
+      number = k.lamport;
+      act = site_act i (client_in k.input.by) k.input.input;
+      given = site_given i k.input.input;
+      answer = k.answer.answer;
+    }
 
 -- whose session keeps it too: its client's, and the operator's where a site closes or falls
 abbrev pub owner_of : Option ℕ → SiteInput → Option Session

@@ -4,7 +4,8 @@ ghost use Rattle.sat_label.specs.declared.items.Items.TheVariants.{One};
 ghost use Rattle.sat_act.specs.declared.act.Act.TheVariants.{Writes};
 ghost use Rattle.sat_machines.specs.Serials.{epoch_in, serial_in};
 ghost use Rattle.sat_machines.specs.Sites.{number_of};
-ghost use Rattle.sat_opened.specs.Keeping.{client_in, write_act, site_act, site_kept, serial_act, serial_kept, kept_under};
+ghost use Rattle.sat_opened.specs.Keeping.{client_in, write_act, site_act, site_kept, serial_act, serial_kept};
+ghost use Rattle.sat_opened.specs.Keeping.{kept_under};
 ghost use Rattle.sat_stitch.specs.Kept.{entry_of};
 
 use sat_act::{Act, Entry};

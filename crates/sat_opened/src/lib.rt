@@ -5,7 +5,9 @@
 mod entries;
 mod opened;
 
-ghost use Rattle.sat_opened.specs.Laws.{OpenedFit, OpenedAreJournals, SitesAreKept, SerialsAreKept, SiteJournals, SerialJournals, SitesHaveOwners, SerialsHaveOwners, PlacesCover, FitsJoin, OpenedAreRuns};
+ghost use Rattle.sat_opened.specs.Laws.{OpenedFit, OpenedAreJournals, SitesAreKept, SerialsAreKept, SiteJournals};
+ghost use Rattle.sat_opened.specs.Laws.{SerialJournals, SitesHaveOwners, SerialsHaveOwners, PlacesCover, FitsJoin};
+ghost use Rattle.sat_opened.specs.Laws.{OpenedAreRuns};
 ghost use Rattle.sat_opened.specs.Hosts.{HostsFit, HostsJoin, HostsAreRuns, HostsAreGood, OpenedAreHosts};
 
 pub use entries::{serial_entries, serial_journal, site_entries, site_journal};

@@ -1,5 +1,6 @@
 //! A source in memory without an end.
-ghost use Rattle.std.specs.Prelude.{◌≡◌, ◌==◌, ℕ, ◌+◌, ◌<◌, ◌≤◌, List, length, take, drop, min, None, IfOk, IsOk, vec_len, if◌then◌else◌};
+ghost use Rattle.std.specs.Prelude.{◌≡◌, ◌==◌, ℕ, ◌+◌, ◌<◌, ◌≤◌, List, length, take, drop, min, None, IfOk, IsOk};
+ghost use Rattle.std.specs.Prelude.{vec_len, if◌then◌else◌};
 ghost use Rattle.std.specs.Io.{ReadsAtMost};
 ghost use Rattle.std.specs.Io.KnownBytes.{ReadConsumes};
 ghost use Rattle.sat_outside.specs.Causes.{CountsEnds, HasCause};

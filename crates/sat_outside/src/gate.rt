@@ -4,7 +4,8 @@ use sat_label::NodeName;
 
 /// What the workers of a run on threads call.
 pub trait Gate: Sync {
-    /// A serializer holds its lock and handles a label.
+    /// A serializer holds its lock and handles a label; or a site's hub holds its lock in a gather, and has taken no
+    /// gear's lock yet.
     fn inside(&self, node: NodeName);
 
     /// A client has its answer with this number, from 1.

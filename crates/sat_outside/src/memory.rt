@@ -1,5 +1,6 @@
 //! A source and a sink in memory that fail at calls that are named.
-ghost use Rattle.std.specs.Prelude.{◌≡◌, ℕ, ◌+◌, ◌-◌, ◌^◌, ◌<◌, ◌≤◌, ◌↔◌, ◌⊎◌, List, [], length, take, drop, min, All, Contains, Some, IfOk, IfSome, IsErr, MatchResult, vec_len, vec_capacity};
+ghost use Rattle.std.specs.Prelude.{◌≡◌, ℕ, ◌+◌, ◌-◌, ◌^◌, ◌<◌, ◌≤◌, ◌↔◌, ◌⊎◌, List, [], length, take, drop, min, All};
+ghost use Rattle.std.specs.Prelude.{Contains, Some, IfOk, IfSome, IsErr, MatchResult, vec_len, vec_capacity};
 ghost use Rattle.std.specs.Io.{ReadsAtMost};
 ghost use Rattle.std.specs.Io.KnownBytes.{ReadConsumes};
 ghost use Rattle.sat_outside.specs.Causes.{CountsEnds, CountsFaults, HasCause};

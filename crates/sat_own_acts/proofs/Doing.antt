@@ -44,18 +44,6 @@ ready_made {M} {E} of Fits For v m none deployment fits fresh = record {
   keeps = λ c had. subst (λ (k : List E). For m k) (sym (let e : c ≡ [] = subst (λ (o : Option M). StandFor For o c) none had in e)) fresh;
 }
 
--- without a machine
-pub held_without : {A M E : Type 0} (these : OwnActs A) (of : M → Deployed) (Fits : ℕ → M → Type 0) (For : M → List E → Type 0) (old new : HeldSeen M) → IsHeld these of Fits For old → new.reader.state ≡ old.reader.state → new.machine ≡ None → new.answered ≡ old.answered
-    → IsHeld these of Fits For new
-held_without {A} {M} {E} these of Fits For old new held state none answered = record {
-  fit = subst IsFit (sym state) held.fit;
-  dialect_is = ap (λ (x : State). x.dialect) state ∙ held.dialect_is;
-  machine_of = subst (λ (o : Option M). IsMachineOf of (deployment_of new.reader.state) o) (sym none) tt;
-  fits = subst (λ (o : Option M). IfSome o (λ m. Fits new.answered m)) (sym none) tt;
-  counted = rw (state, answered) held.counted;
-  known = ([], subst (λ (o : Option M). StandFor For o []) (sym none) refl);
-}
-
 -- ---- an act
 
 one_more : (n m : ℕ) → n ≡ m + 1 → n ≡ suc m
@@ -122,30 +110,6 @@ module _ {A M E : Type 0} (these : OwnActs A) (P : Deployed → A → Type 0) (o
 
 -- ---- the end
 
-closed_as : (o : Option ScriptFault) (s : State) (new : Seen) (result now : Result (Unit {0}) ScriptFault) (rest : List ℕ) → o ≡ None → result ≡ now → Closes o s new result rest → Closes None s new now rest
-closed_as o s new result now rest fresh is closes =
-    subst (λ (x : Result (Unit {0}) ScriptFault). Closes None s new x rest) is (subst (λ (f : Option ScriptFault). Closes f s new result rest) fresh closes)
-
-fault_none : {M E : Type 0} (For : M → List E → Type 0) (v : HeldSeen M) (s : OwnState E) → StandsAt For v s → v.reader.fault ≡ None
-fault_none For v s st = ap (λ (x : Seen). x.fault) st.reader
-
--- the text may not end so
-pub fault_ends : {A M E : Type 0} (these : OwnActs A) (tell : Telling A E) (For : M → List E → Type 0) (old : HeldSeen M) (rest text longer : List ℕ) (new : Seen) (result : Result (Unit {0}) ScriptFault) (fault : ScriptFault) → result ≡ Err fault
-    → Closes old.reader.fault old.reader.state new result rest → longer ≡ text ++ tell.fault fault → EndsText (own_rules these tell) (StandsAt For old) rest text longer 1
-fault_ends these tell For old rest text longer new result fault is closes by = record {
-  added = tell.fault fault;
-  longer_by = by;
-  text_is = λ s st.
-      let had = closed_as old.reader.fault old.reader.state new result (Err fault) rest (fault_none For old s st) is closes in
-      let close : close_at s.script rest ≡ Some fault.cause = ap (λ (x : State). close_at x rest) (sym (state_is For old s st)) ∙ had.1 in
-      let line : number_of s.script ≡ fault.line = ap number_of (sym (state_is For old s st)) ∙ sym had.0 in
-      ap (λ (o : Option Cause). (closing tell s o).text) close ∙ ap (λ (n : ℕ). tell.fault (record { line = n; cause = fault.cause })) line;
-  status_is = λ s st.
-      let had = closed_as old.reader.fault old.reader.state new result (Err fault) rest (fault_none For old s st) is closes in
-      let close : close_at s.script rest ≡ Some fault.cause = ap (λ (x : State). close_at x rest) (sym (state_is For old s st)) ∙ had.1 in
-      ap (λ (o : Option Cause). (closing tell s o).status) close;
-}
-
 -- it ends well
 closed_well : (o : Option ScriptFault) (s : State) (new : Seen) (result : Result (Unit {0}) ScriptFault) (rest : List ℕ) (u : Unit {0}) → result ≡ Ok u → Closes o s new result rest → (close_at s rest ≡ None) × (new ≡ running s)
 closed_well None s new (Ok t) rest u is closes = (closes.0, closes.1)
@@ -156,11 +120,6 @@ pub has_begun : (o : Option ScriptFault) (s : State) (new : Seen) (result : Resu
 has_begun o s new result rest u is closes =
     let well = closed_well o s new result rest u is closes in
     begun_at new.state stage.Ended (ap (λ (x : Seen). x.state.stage) well.1 ∙ close_ends s.stage rest well.0) refl
-
-pub closes_still : (o : Option ScriptFault) (s : State) (new : Seen) (result : Result (Unit {0}) ScriptFault) (rest : List ℕ) → Closes o s new result rest → new.state ≡ s
-closes_still None s new (Ok t) rest closes = ap (λ (x : Seen). x.state) closes.1
-closes_still None s new (Err f) rest closes = ap (λ (x : Seen). x.state) closes.2
-closes_still (Some f) s new result rest closes = ap (λ (x : Seen). x.state) closes.1
 
 -- mid is the follower behind the call that closed its reader
 pub well_ends : {A M E : Type 0} (these : OwnActs A) (tell : Telling A E) (of : M → Deployed) (Fits : ℕ → M → Type 0) (For : M → List E → Type 0) (old mid : HeldSeen M) (x : M) (rest text longer : List ℕ) (result : Result (Unit {0}) ScriptFault) (u : Unit {0})

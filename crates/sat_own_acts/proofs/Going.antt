@@ -60,27 +60,7 @@ begins these P law tell For v reader machine answered = record {
   bounded = omega arith;
 }
 
-pub held_start : {A M E : Type 0} (these : OwnActs A) (of : M → Deployed) (Fits : ℕ → M → Type 0) (For : M → List E → Type 0) (v : HeldSeen M) → v.reader ≡ running (start these.dialect) → v.machine ≡ None → v.answered ≡ 0 → IsHeld these of Fits For v
-held_start these of Fits For v reader machine answered = record {
-  fit = subst (λ (x : Seen). IsFit x.state) (sym reader) (fit_start these.dialect);
-  dialect_is = ap (λ (x : Seen). x.state.dialect) reader;
-  machine_of = subst (λ o. IsMachineOf of (deployment_of v.reader.state) o) (sym machine) tt;
-  fits = subst (λ o. IfSome o (λ m. Fits v.answered m)) (sym machine) tt;
-  counted = omega (arith, answered);
-  known = ([], subst (λ o. StandFor For o []) (sym machine) refl);
-}
-
 -- ---- a bad line
-
-pub bad_line : {A M E : Type 0} (these : OwnActs A) (tell : Telling A E) (For : M → List E → Type 0) (old : HeldSeen M) (line : List ℕ) (cause : Cause) (text longer : List ℕ) → (cause ≢ Memory)
-    → (cause ≢ Memory → own_line these old.reader.state line ≡ Err cause) → longer ≡ text ++ tell.fault (fault_at old.reader.state cause) → BadLine (own_rules these tell) (StandsAt For old) line text longer
-bad_line these tell For old line cause text longer other refused is = record {
-  added = tell.fault (fault_at old.reader.state cause);
-  longer_by = is;
-  each = λ s st.
-      ap (outcome these tell s) (ap (λ (x : State). own_line these x line) (sym (state_is For old s st)) ∙ refused other)
-      ∙ ap (λ (x : State). stops (tell.fault (fault_at x cause))) (sym (state_is For old s st));
-}
 
 -- ---- a good line
 
@@ -195,21 +175,6 @@ held_line these of Fits For old new line result held takes machine answered = el
   | inl same ↦ held_same these of Fits For old new held same machine answered
   | inr moved ↦ held_after these of Fits For old new line moved.0 held moved.1 moved.2 machine answered
 ]
-
-taken_fresh : (o : Option ScriptFault) (s : State) (new : Seen) (result : Result Line ScriptFault) (l : Line) (line : List ℕ) → o ≡ None → result ≡ Ok l → Takes o s new result line → IsGoodLine s line l new
-taken_fresh o s new result l line fresh is takes =
-    subst (λ (x : Result Line ScriptFault). Takes None s new x line) is (subst (λ (f : Option ScriptFault). Takes f s new result line) fresh takes)
-
-pub keeps_line : {M E : Type 0} (For : M → List E → Type 0) (old new : HeldSeen M) (line : List ℕ) (result : Result Line ScriptFault) (l : Line) → result ≡ Ok l → Takes old.reader.fault old.reader.state new.reader result line
-    → new.machine ≡ old.machine → new.answered ≡ old.answered → KeepsLine For old line new
-keeps_line For old new line result l is takes machine answered = λ p good s st.
-    let fresh = taken_fresh old.reader.fault old.reader.state new.reader result l line (ap (λ (x : Seen). x.fault) st.reader) is takes in
-    let same : fresh.says ≡ p = same_ok fresh.says p (sym fresh.good ∙ good) in
-    record {
-      reader = fresh.goes ∙ ap (λ (q : Parsed). running (after old.reader.state q)) same ∙ ap (λ (x : State). running (after x p)) (state_is For old s st);
-      answered = answered ∙ st.answered;
-      machine = subst (λ o. StandFor For o s.entries) (sym machine) st.machine;
-    }
 
 -- ---- a line that has begun
 

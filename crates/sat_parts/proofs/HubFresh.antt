@@ -16,11 +16,5 @@ stands-new d i starts =
     let st = fresh-stands d i (shape_for d i) starts refl in
     record { shape = st.shape; sink = st.sink; views = st.views; proxy = st.proxy; made = st.made }
 
-times-new : (d : Deployed) (i : ℕ) → HasTimes (new_hub d i)
-times-new d i g = subst (λ (n : ℕ). n ≤ 2 ^ 62) (sym (always d.gears g 0)) (omega arith)
-
 pub made-stands : (d e : Deployed) (i : ℕ) (h : HubSeen) → Starts → e ≡ d → h ≡ new_hub d i → StandsHub e i h (fresh_hub i)
 made-stands d e i h starts same is = subst (λ (e : Deployed). StandsHub e i h (fresh_hub i)) (sym same) (subst (λ (h : HubSeen). StandsHub d i h (fresh_hub i)) (sym is) (stands-new d i starts))
-
-pub made-times : (d : Deployed) (i : ℕ) (h : HubSeen) → h ≡ new_hub d i → HasTimes h
-made-times d i h is = subst HasTimes (sym is) (times-new d i)

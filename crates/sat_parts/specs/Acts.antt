@@ -7,7 +7,8 @@ use Rattle.sat_site.specs.declared.input.SiteInput.{SiteInput}
 use Rattle.sat_site.specs.declared.input.SiteInput.TheVariants as site
 use Rattle.sat_joint.specs.Pieces.{Drain}
 use Rattle.sat_joint.specs.Machines.{no_drain}
-use Rattle.sat_hub_laws.specs.Inputs.{HubInput as HubHanded, GearInput as GearHanded, ShownBy as ShownIn, ByTurn, ByStamp, ByWrite}
+use Rattle.sat_hub_laws.specs.Inputs.{HubInput as HubHanded, GearInput as GearHanded, ShownBy as ShownIn, ByTurn}
+use Rattle.sat_hub_laws.specs.Inputs.{ByStamp, ByWrite}
 use Rattle.sat_hub_laws.specs.Inputs as model
 use Rattle.sat_parts.specs.declared.hub_input.HubInput.{HubInput}
 use Rattle.sat_parts.specs.declared.hub_input.HubInput.TheVariants as hub

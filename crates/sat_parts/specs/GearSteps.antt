@@ -1,5 +1,6 @@
 -- A gear's step as a machine of a node: which inputs it takes, and what it answers and then keeps, by what it kept.
-use Rattle.std.specs.Prelude.{ℕ, ◌%◌, ◌==◌, Bool, true, false, ◌&&◌, max, List, [], ◌∷◌, length, map, Option, Some, None}
+use Rattle.std.specs.Prelude.{ℕ, ◌%◌, ◌==◌, Bool, true, false, ◌&&◌, max, List, [], ◌∷◌, length, map, Option, Some}
+use Rattle.std.specs.Prelude.{None}
 use Rattle.std.specs.List.{list_all}
 use Rattle.sat_label.specs.declared.carried.Carried.{Carried}
 use Rattle.sat_label.specs.declared.items.Items.{Items}
@@ -14,7 +15,8 @@ use Rattle.sat_bulk.specs.declared.Drained.{Drained}
 use Rattle.sat_bulk.specs.Payloads.{Payload, version_for}
 use Rattle.sat_sites.specs.Interested.{are_below, keeps}
 use Rattle.sat_sites.specs.declared.shape.Shape.{Shape}
-use Rattle.sat_gear.specs.Gear.{GearSeen, after_drain, after_show, after_tick, after_write, drained_of, is_spent, payload_with, stamped, version_of}
+use Rattle.sat_gear.specs.Gear.{GearSeen, after_drain, after_show, after_tick, after_write, drained_of, is_spent}
+use Rattle.sat_gear.specs.Gear.{payload_with, stamped, version_of}
 use Rattle.sat_act.specs.declared.answer.Answer.{Answer}
 use Rattle.sat_act.specs.declared.answer.Answer.TheVariants as ans
 use Rattle.sat_act.specs.declared.answer.Refusal.TheVariants as why

@@ -1,6 +1,7 @@
 -- A hub's step as a machine of a node: which inputs it takes, and what it answers, sends, makes and shows, and then
 -- keeps, by what it kept.
-use Rattle.std.specs.Prelude.{ℕ, ◌+◌, ◌^◌, ◌≡◌, ◌≤◌, ◌==◌, Bool, true, ◌&&◌, nat_le, nat_lt, List, [], ◌∷◌, length, get_or, Option, Some, None}
+use Rattle.std.specs.Prelude.{ℕ, ◌+◌, ◌^◌, ◌≡◌, ◌≤◌, ◌==◌, Bool, true, ◌&&◌, nat_le, nat_lt, List, [], ◌∷◌, length}
+use Rattle.std.specs.Prelude.{get_or, Option, Some, None}
 use Rattle.std.specs.List.{list_all}
 use Rattle.sat_label.specs.declared.label.Label.{Label}
 use Rattle.sat_bulk.specs.declared.Drained.{Drained}
@@ -14,9 +15,12 @@ use Rattle.sat_epoch.specs.Epochs.{advance_fault, close_fault, fall_fault, is_st
 use Rattle.sat_proxy.specs.Steps.{after_beat, after_bulk, has_come, stamp_shows, turn_shows}
 use Rattle.sat_proxy.specs.Answers.{advance_answer, attach_answer, beat_answer, bulk_answer, stamp_answer, turn_answer}
 use Rattle.sat_hub.specs.Seen.{HubSeen}
-use Rattle.sat_hub.specs.Inputs.{is_beat_here, is_bulk_here, is_carried_here, is_counted, is_front_here, is_given_here, is_other_here}
+use Rattle.sat_hub.specs.Inputs.{is_beat_here, is_bulk_here, is_carried_here, is_counted, is_front_here, is_given_here}
+use Rattle.sat_hub.specs.Inputs.{is_other_here}
 use Rattle.sat_hub.specs.Changes.{beat_for, beaten, gathered, made_for, stamped, turned}
-use Rattle.sat_hub.specs.HubSteps.{close_after, close_answer, emit_after, emit_answer, emit_sends, fall_after, fall_answer, gather_answer, next_close, next_pulse, passed_after, pulse_after, pulse_answer, sent_epoch}
+use Rattle.sat_hub.specs.HubSteps.{close_after, close_answer, emit_after, emit_answer, emit_sends, fall_after}
+use Rattle.sat_hub.specs.HubSteps.{fall_answer, gather_answer, next_close, next_pulse, passed_after, pulse_after}
+use Rattle.sat_hub.specs.HubSteps.{pulse_answer, sent_epoch}
 use Rattle.sat_parts.specs.declared.hub_input.HubInput.{HubInput}
 use Rattle.sat_parts.specs.declared.hub_step.Given.{Given}
 use Rattle.sat_parts.specs.declared.hub_input.HubInput.TheVariants as hub

@@ -16,7 +16,8 @@ use Rattle.sat_node.specs.declared.kept.Body.TheVariants as body
 use Rattle.sat_node.specs.declared.kept.Made.{Made}
 use Rattle.sat_node.specs.Meanings.{Meaning}
 use Rattle.sat_machines.specs.Layout.{label_link, peer}
-use Rattle.sat_machines.specs.Sites.{beat_in, epoch_by, is_turned, label_or, label_taken, number_of, sent_by, some_if, BeatBy}
+use Rattle.sat_machines.specs.Sites.{beat_in, epoch_by, is_turned, label_or, label_taken, number_of, sent_by, some_if}
+use Rattle.sat_machines.specs.Sites.{BeatBy}
 use Rattle.sat_parts.specs.declared.hub_answer.HubAnswer.{HubAnswer}
 use Rattle.sat_parts.specs.declared.hub_input.HubInput.{HubInput}
 use Rattle.sat_parts.specs.declared.hub_input.HubInput.TheVariants as hub

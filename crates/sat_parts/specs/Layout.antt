@@ -1,13 +1,15 @@
 -- The links between hubs, gears and serializers, and which end of a node is which. A hub and a serializer send over
 -- the links that a site and a serializer have, where those between two sites carry beats alone. Beside these each
 -- gear has a lane for its payloads to each other site.
-use Rattle.std.specs.Prelude.{ℕ, ◌+◌, ◌*◌, ◌-◌, ◌==◌, ◌&&◌, Bool, nat_lt, List, [], ◌++◌, length, map, position, unwrap_or, if◌then◌else◌}
+use Rattle.std.specs.Prelude.{ℕ, ◌+◌, ◌*◌, ◌-◌, ◌==◌, ◌&&◌, Bool, nat_lt, List, [], ◌++◌, length, map, position}
+use Rattle.std.specs.Prelude.{unwrap_or, if◌then◌else◌}
 use Rattle.std.specs.List.{flat_map}
 use Rattle.sat_label.specs.declared.node.NodeName.{NodeName}
 use Rattle.sat_label.specs.declared.node.NodeName.TheVariants as named
 use Rattle.sat_label.specs.Words.{below}
 use Rattle.sat_act.specs.Deployed.{Deployed}
-use Rattle.sat_machines.specs.Layout.{all_links, in_places as site_in_places, out_places as site_out_places, peer, site_links}
+use Rattle.sat_machines.specs.Layout.{all_links, in_places as site_in_places, out_places as site_out_places, peer}
+use Rattle.sat_machines.specs.Layout.{site_links}
 
 -- the link for the payloads of a gear of a site to another site
 pub record Lane : Type 0 where
@@ -43,7 +45,7 @@ site_lanes d i = flat_map (gear_lanes d i) (below d.gears)
 abbrev pub all_lanes : Deployed → List Lane
 all_lanes d = flat_map (site_lanes d) (below d.sites)
 
--- ---- places in the list of wires: first the links that sites and serializers have, and then the lanes
+-- ---- places in the list of wires: first the links that hubs and serializers have, and then the lanes
 
 -- how many wires there are
 abbrev pub wire_count : Deployed → ℕ

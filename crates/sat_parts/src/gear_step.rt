@@ -6,7 +6,9 @@ ghost use Rattle.sat_gear.specs.Gear.{AreItemsOf, IsItemOf, drained_of};
 ghost use Rattle.sat_gear.specs.Lanes.{count_of};
 ghost use Rattle.sat_hub.specs.Inputs.{is_carried_here, is_group_here, is_item_here, is_site_here};
 ghost use Rattle.sat_parts.specs.declared.gear_input.GearInput.TheVariants as handed;
-ghost use Rattle.sat_parts.specs.GearSteps.{counts_eq, drained_eq, gear_after, gear_answers, gear_may_fail, gear_takes, is_of, is_read, keeps_here, labels_eq, move_after, move_answer, read_answer, write_after, write_answer};
+ghost use Rattle.sat_parts.specs.GearSteps.{counts_eq, drained_eq, gear_after, gear_answers, gear_may_fail, gear_takes};
+ghost use Rattle.sat_parts.specs.GearSteps.{is_of, is_read, keeps_here, labels_eq, move_after, move_answer};
+ghost use Rattle.sat_parts.specs.GearSteps.{read_answer, write_after, write_answer};
 
 use crate::gear_input::{GearInput, ShownBy};
 use crate::shows::{is_of, may_show, show, show_items};

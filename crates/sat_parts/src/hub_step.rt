@@ -5,7 +5,8 @@ ghost use Rattle.sat_label.specs.declared.label.Label.{Label as LabelSeen};
 ghost use Rattle.sat_hub.specs.Changes.{stamped, turned};
 ghost use Rattle.sat_hub.specs.Inputs.{is_beat_here, is_bulk_here, is_counted, is_other_here, IsFront};
 ghost use Rattle.sat_proxy.specs.Answers.{stamp_answer, turn_answer};
-ghost use Rattle.sat_parts.specs.HubSteps.{hub_after, hub_answers, hub_beat, hub_epoch, hub_sends, hub_shows, hub_takes, is_promise, may_gather, IsGiven};
+ghost use Rattle.sat_parts.specs.HubSteps.{hub_after, hub_answers, hub_beat, hub_epoch, hub_sends, hub_shows};
+ghost use Rattle.sat_parts.specs.HubSteps.{hub_takes, is_promise, may_gather, IsGiven};
 
 use crate::hub_input::HubInput;
 use sat_act::{Answer, Refusal};

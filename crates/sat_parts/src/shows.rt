@@ -1,5 +1,6 @@
 //! What a gear shows.
-ghost use Rattle.std.specs.Prelude.{◌≡◌, ◌+◌, ◌<◌, ◌≤◌, ◌%◌, ◌==◌, ◌&&◌, ◌||◌, not, true, drop, get_or, is_some, length, None};
+ghost use Rattle.std.specs.Prelude.{◌≡◌, ◌+◌, ◌<◌, ◌≤◌, ◌%◌, ◌==◌, ◌&&◌, ◌||◌, not, true, drop, get_or, is_some};
+ghost use Rattle.std.specs.Prelude.{length, None};
 ghost use Rattle.sat_label.specs.Grouped.{list_of};
 ghost use Rattle.sat_sites.specs.Interested.{are_below, keeps, AreBelow};
 ghost use Rattle.sat_gear.specs.Gear.{IsItemOf};

@@ -1,5 +1,6 @@
 //! What a site's node hears from the other sites.
-ghost use Rattle.std.specs.Prelude.{◌≡◌, ◌+◌, ◌-◌, ◌<◌, true, false, length, nat_lt, [], ◌∷◌, IfErr, IfOk, MatchBool, MatchOption, OnErr, OnOk, Some, None};
+ghost use Rattle.std.specs.Prelude.{◌≡◌, ◌+◌, ◌-◌, ◌<◌, true, false, length, nat_lt, [], ◌∷◌, IfErr, IfOk, MatchBool};
+ghost use Rattle.std.specs.Prelude.{MatchOption, OnErr, OnOk, Some, None};
 ghost use Rattle.sat_node.specs.declared.kept.Envelope.{Envelope as Sent};
 ghost use Rattle.sat_node.specs.Links.{front_at};
 ghost use Rattle.sat_site.specs.Inputs.{fits_in};
@@ -7,7 +8,8 @@ ghost use Rattle.sat_node.specs.declared.kept.CallFault.TheVariants.{Memory};
 ghost use Rattle.sat_machines.specs.Layout.{peer};
 ghost use Rattle.sat_machines.specs.Sites.{number_of};
 ghost use Rattle.sat_passes.specs.Faults.{Fails};
-ghost use Rattle.sat_passes.specs.Hearings.{FoundEmpty, Heard, HeardAt, HeardLink, HearsAll, IsHeard, IsMessage, input_from, may_take};
+ghost use Rattle.sat_passes.specs.Hearings.{FoundEmpty, Heard, HeardAt, HeardLink, HearsAll, IsHeard, IsMessage};
+ghost use Rattle.sat_passes.specs.Hearings.{input_from, may_take};
 ghost use Rattle.sat_passes.specs.Members.{Both};
 
 use crate::sites::{site_of, sound};

@@ -1,5 +1,6 @@
 //! A serializer's pass.
-ghost use Rattle.std.specs.Prelude.{◌≡◌, ◌+◌, ◌<◌, true, false, length, IfErr, IfOk, MatchBool, OnErr, OnOk, Some, None};
+ghost use Rattle.std.specs.Prelude.{◌≡◌, ◌+◌, ◌<◌, true, false, length, IfErr, IfOk, MatchBool, OnErr, OnOk, Some};
+ghost use Rattle.std.specs.Prelude.{None};
 ghost use Rattle.sat_node.specs.Links.{Cleared, OnlyAt, Tied, front_at};
 ghost use Rattle.sat_node.specs.Meanings.{replay};
 ghost use Rattle.sat_node.specs.Puts.{Stopped};

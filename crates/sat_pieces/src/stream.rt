@@ -1,5 +1,6 @@
 //! Reading a script from a source, and running it as it comes.
-ghost use Rattle.std.specs.Prelude.{◌≡◌, ◌≢◌, ℕ, ◌≤◌, ◌+◌, false, List, [], length, IfOk, IfSome, OnOk, OnErr, IsErrOf, None, Some, Err};
+ghost use Rattle.std.specs.Prelude.{◌≡◌, ◌≢◌, ℕ, ◌≤◌, ◌+◌, false, List, [], length, IfOk, IfSome, OnOk, OnErr, IsErrOf};
+ghost use Rattle.std.specs.Prelude.{None, Some, Err};
 ghost use Rattle.std.specs.Io.KnownBytes.{Consumes, IsAtEnd};
 ghost use Rattle.sat_act.specs.Deployed.{Deployed};
 ghost use Rattle.sat_outside.specs.Causes.{Rose};
@@ -11,7 +12,8 @@ ghost use Rattle.sat_stream.specs.Stream.{will_be, known_fault, behind, drained,
 ghost use Rattle.sat_stream.specs.declared.limits.TheConstants.{MOST_BYTES as MOST_SCRIPT_BYTES};
 ghost use Rattle.sat_follow.specs.declared.pieces.TheConstants.{BUFFER_BYTES};
 ghost use Rattle.sat_pieces.specs.declared.stream.Stop.TheVariants.{Memory};
-ghost use Rattle.sat_pieces.specs.Streaming.{HasAnswered, HasFront, HasReadLines, IsReported, StopsReading, WasAnswering, run_status};
+ghost use Rattle.sat_pieces.specs.Streaming.{HasAnswered, HasFront, HasReadLines, IsReported, StopsReading};
+ghost use Rattle.sat_pieces.specs.Streaming.{WasAnswering, run_status};
 ghost use Rattle.sat_pieces.specs.UnderWay.{DoesMore, Ends, EndsBefore, IsKnown, IsWorldOf};
 
 use crate::law::good_scripts;

@@ -1,5 +1,6 @@
 -- What is kept of each pair of sites, so that placing one more serializer decides what it adds.
-use Rattle.std.specs.Prelude.{ℕ, zero, suc, ◌<◌, ◌≤◌, ◌+◌, ◌*◌, ◌==◌, max, nat_lt, List, [], ◌∷◌, ◌++◌, length, slice_index, sum_by, All, if◌then◌else◌}
+use Rattle.std.specs.Prelude.{ℕ, zero, suc, ◌<◌, ◌≤◌, ◌+◌, ◌*◌, ◌==◌, max, nat_lt, List, [], ◌∷◌, ◌++◌, length}
+use Rattle.std.specs.Prelude.{slice_index, sum_by, All, if◌then◌else◌}
 use Rattle.std.specs.List.{slice_index_or}
 use Rattle.sat_label.specs.declared.node.NodeId.{NodeId}
 use Rattle.sat_label.specs.declared.node.NodeId.TheVariants.{Site, Serializer}

@@ -2,7 +2,8 @@
 ghost use Rattle.std.specs.Prelude.{◌≡◌, ℕ, ◌<◌, ◌≤◌, ◌*◌, length, slice_index, All};
 ghost use Rattle.sat_delay.specs.Table.{IsWithinLimits};
 ghost use Rattle.sat_plan.specs.declared.limits.TheConstants.{MOST_EDGES, MOST_PAIRS};
-ghost use Rattle.sat_place.specs.Ways.{hop_span, hops_span, way_latency, way_cost, known_cost, known, added_cost, added, IsHopWithin, IsWay, AreWays};
+ghost use Rattle.sat_place.specs.Ways.{hop_span, hops_span, way_latency, way_cost, known_cost, known, added_cost};
+ghost use Rattle.sat_place.specs.Ways.{added, IsHopWithin, IsWay, AreWays};
 
 use crate::ways::{Hop, Way};
 use sat_delay::Delays;

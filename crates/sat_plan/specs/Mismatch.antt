@@ -1,5 +1,6 @@
 -- How far a tree's latencies lie from the best ones.
-use Rattle.std.specs.Prelude.{ℕ, zero, suc, ◌+◌, ◌*◌, ◌==◌, ◌&&◌, not, Bool, List, [], ◌++◌, length, map, filter, slice_index, sum_by, if◌then◌else◌}
+use Rattle.std.specs.Prelude.{ℕ, zero, suc, ◌+◌, ◌*◌, ◌==◌, ◌&&◌, not, Bool, List, [], ◌++◌, length, map, filter}
+use Rattle.std.specs.Prelude.{slice_index, sum_by, if◌then◌else◌}
 use Rattle.sat_label.specs.declared.node.NodeId.{NodeId}
 use Rattle.sat_label.specs.declared.node.NodeId.TheVariants.{Site, Serializer}
 use Rattle.sat_label.specs.Words.{below}

@@ -1,5 +1,6 @@
 -- What is kept of a tree at its places, so that latencies need no walk.
-use Rattle.std.specs.Prelude.{ℕ, ◌≡◌, ◌<◌, ◌≤◌, ◌+◌, ◌*◌, ◌&&◌, not, nat_lt, List, length, map, slice_index, if◌then◌else◌}
+use Rattle.std.specs.Prelude.{ℕ, ◌≡◌, ◌<◌, ◌≤◌, ◌+◌, ◌*◌, ◌&&◌, not, nat_lt, List, length, map, slice_index}
+use Rattle.std.specs.Prelude.{if◌then◌else◌}
 use Rattle.std.specs.List.{slice_index_or}
 use Rattle.sat_label.specs.Words.{bit, below}
 use Rattle.sat_label.specs.declared.node.NodeId.TheVariants.{Site, Serializer}

@@ -1,5 +1,6 @@
 -- The steps that build a tree from a table of delays.
-use Rattle.std.specs.Prelude.{ℕ, zero, suc, nat_lt, List, [], ◌∷◌, ◌++◌, length, map, slice_index, replicate, Some, None, if◌then◌else◌}
+use Rattle.std.specs.Prelude.{ℕ, zero, suc, nat_lt, List, [], ◌∷◌, ◌++◌, length, map, slice_index, replicate, Some}
+use Rattle.std.specs.Prelude.{None, if◌then◌else◌}
 use Rattle.sat_label.specs.Words.{below}
 use Rattle.sat_tree.specs.Shape.{TreeShape}
 use Rattle.sat_delay.specs.Table.{DelayTable, entry}

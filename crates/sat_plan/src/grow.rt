@@ -6,7 +6,8 @@ ghost use Rattle.sat_label.specs.Words.{below};
 ghost use Rattle.sat_plan.specs.Config.{Fits};
 ghost use Rattle.sat_plan.specs.Drafts.{draft_config, best_below};
 ghost use Rattle.sat_plan.specs.Mismatch.{mismatch};
-ghost use Rattle.sat_plan.specs.Steps.{start_at, start_cost, start, seat_cost, nearest, nearest_seats, hung, hung_cost, best_place, parent_cost, best_parent, best_hung, grow, grown};
+ghost use Rattle.sat_plan.specs.Steps.{start_at, start_cost, start, seat_cost, nearest, nearest_seats, hung, hung_cost};
+ghost use Rattle.sat_plan.specs.Steps.{best_place, parent_cost, best_parent, best_hung, grow, grown};
 
 use crate::best::Best;
 use crate::draft::Draft;

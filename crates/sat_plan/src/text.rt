@@ -1,9 +1,11 @@
 //! The text of a tree that was built.
-ghost use Rattle.std.specs.Prelude.{◌≡◌, ◌<◌, ◌++◌, ◌∷◌, [], nat_lt, if◌then◌else◌, length, map, slice_index, IfOk, OnOk, OnErr, string_bytes};
+ghost use Rattle.std.specs.Prelude.{◌≡◌, ◌<◌, ◌++◌, ◌∷◌, [], nat_lt, if◌then◌else◌, length, map, slice_index, IfOk};
+ghost use Rattle.std.specs.Prelude.{OnOk, OnErr, string_bytes};
 ghost use Rattle.std.specs.Fmt.{decimal};
 ghost use Rattle.sat_plan.specs.Config.{config_of, edges, edge_at};
 ghost use Rattle.sat_tree.specs.PlanLine.{spaced, parent_text, tree_line};
-ghost use Rattle.sat_plan.specs.Texts.{place_line, place_lines, edge_line, delay_line, delay_lines, mismatch_line, config_text};
+ghost use Rattle.sat_plan.specs.Texts.{place_line, place_lines, edge_line, delay_line, delay_lines, mismatch_line};
+ghost use Rattle.sat_plan.specs.Texts.{config_text};
 
 use crate::building::Built;
 use crate::edges::{Edge, edges};

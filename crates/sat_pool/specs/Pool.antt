@@ -1,5 +1,6 @@
 -- The updates that wait at a site, by the site that made them: what is read off them, and what the calls make of them.
-use Rattle.std.specs.Prelude.{ℕ, ◌≡◌, Bool, true, ◌&&◌, not, ◌==◌, nat_le, List, [], ◌∷◌, map, filter, get_or, set, replicate, Option, Some, None, if◌then◌else◌}
+use Rattle.std.specs.Prelude.{ℕ, ◌≡◌, Bool, true, ◌&&◌, not, ◌==◌, nat_le, List, [], ◌∷◌, map, filter, get_or, set}
+use Rattle.std.specs.Prelude.{replicate, Option, Some, None, if◌then◌else◌}
 use Rattle.std.specs.List.{flat_map, list_any}
 use Rattle.sat_label.specs.declared.point.Point.{Point}
 use Rattle.sat_label.specs.declared.label.Label.{Label}

@@ -1,7 +1,8 @@
 //! The updates that wait at a site for their turn, by the site that made them and their points.
 #![tactic(auto)]
 
-ghost use Rattle.sat_pool.specs.Laws.{AddCounts, AddKeeps, AddMembers, FoundWaits, NoneWaits, TakeCounts, TakeKeeps, TakeMembers, TakeOfNone, WaitingIsFound};
+ghost use Rattle.sat_pool.specs.Laws.{AddCounts, AddKeeps, AddMembers, FoundWaits, NoneWaits, TakeCounts, TakeKeeps};
+ghost use Rattle.sat_pool.specs.Laws.{TakeMembers, TakeOfNone, WaitingIsFound};
 
 mod others;
 mod pool;

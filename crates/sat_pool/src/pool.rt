@@ -1,5 +1,6 @@
 //! What waits of all sites.
-ghost use Rattle.std.specs.Prelude.{◌≡◌, ◌<◌, [], is_some, length, map, replicate, true, option_copied, IfOk, IfErr, OnOk, OnErr};
+ghost use Rattle.std.specs.Prelude.{◌≡◌, ◌<◌, [], is_some, length, map, replicate, true, option_copied, IfOk, IfErr};
+ghost use Rattle.std.specs.Prelude.{OnOk, OnErr};
 ghost use Rattle.std.specs.Bool.{OnTrue};
 ghost use Rattle.sat_label.specs.Least.{least_label};
 ghost use Rattle.sat_pool.specs.Pool as waits;

@@ -1,5 +1,6 @@
 //! What waits of one gear, where it came in the order of its points.
-ghost use Rattle.std.specs.Prelude.{◌≡◌, ◌++◌, ◌∷◌, ◌<◌, [], drop, length, is_some, option_copied, remove, slice_get, IfErr, OnErr, OnOk, Some};
+ghost use Rattle.std.specs.Prelude.{◌≡◌, ◌++◌, ◌∷◌, ◌<◌, [], drop, length, is_some, option_copied, remove, slice_get};
+ghost use Rattle.std.specs.Prelude.{IfErr, OnErr, OnOk, Some};
 ghost use Rattle.std.specs.Bool.{OnTrue};
 ghost use Rattle.std.specs.VecDeque.{deque_capacity, deque_len};
 ghost use Rattle.sat_label.specs.Order.{point_lt};

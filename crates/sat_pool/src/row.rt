@@ -1,11 +1,13 @@
 //! What waits of one site.
-ghost use Rattle.std.specs.Prelude.{◌≡◌, [], get_or, map, nat_le, option_copied, set, None, if◌then◌else◌, IfOk, IfErr, OnOk, OnErr};
+ghost use Rattle.std.specs.Prelude.{◌≡◌, [], get_or, map, nat_le, option_copied, set, None, if◌then◌else◌, IfOk, IfErr};
+ghost use Rattle.std.specs.Prelude.{OnOk, OnErr};
 ghost use Rattle.std.specs.Bool.{OnTrue};
 ghost use Rattle.std.specs.List.{list_any};
 ghost use Rattle.sat_label.specs.Least.{lesser};
 ghost use Rattle.sat_label.specs.Order.{point_le};
 ghost use Rattle.sat_pool.specs.Pool.{at_point, labelled, placed, without};
-ghost use Rattle.sat_pool.specs.Rows.{first_label, row_view, sets_first, stands_at, Ascends, IsParts, MayStand, SameQueues};
+ghost use Rattle.sat_pool.specs.Rows.{first_label, row_view, sets_first, stands_at, Ascends, IsParts, MayStand};
+ghost use Rattle.sat_pool.specs.Rows.{SameQueues};
 
 use crate::others::Others;
 use crate::rising::Rising;

@@ -1,5 +1,6 @@
 -- Words that the crate's private calls speak of, over the parts alone.
-use Rattle.std.specs.Prelude.{ℕ, zero, suc, ◌*◌, ◌≡◌, ◌==◌, ◌&&◌, Bool, false, not, nat_lt, List, [], ◌++◌, get_or, take, drop, Option, Some, None, option_map, if◌then◌else◌}
+use Rattle.std.specs.Prelude.{ℕ, zero, suc, ◌*◌, ◌≡◌, ◌==◌, ◌&&◌, Bool, false, not, nat_lt, List, [], ◌++◌, get_or}
+use Rattle.std.specs.Prelude.{take, drop, Option, Some, None, option_map, if◌then◌else◌}
 use Rattle.sat_label.specs.declared.point.Point.{Point}
 use Rattle.sat_label.specs.declared.label.Label.{Label}
 use Rattle.sat_bulk.specs.Payloads.{Payload}

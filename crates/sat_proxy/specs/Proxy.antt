@@ -1,5 +1,6 @@
 -- What a site has of the others, and what is read off it.
-use Rattle.std.specs.Prelude.{ℕ, ◌≡◌, ◌<◌, ◌+◌, ◌*◌, ◌-◌, ◌==◌, List, [], length, map, get_or, slice_get, replicate, Option, None, option_map, if◌then◌else◌}
+use Rattle.std.specs.Prelude.{ℕ, ◌≡◌, ◌<◌, ◌+◌, ◌*◌, ◌-◌, ◌==◌, List, [], length, map, get_or, slice_get, replicate}
+use Rattle.std.specs.Prelude.{Option, None, option_map, if◌then◌else◌}
 use Rattle.sat_label.specs.declared.point.Point.{Point}
 use Rattle.sat_label.specs.Order.{point_at}
 use Rattle.sat_label.specs.Words.{below}

@@ -1,5 +1,6 @@
 -- What the calls answer, and what they make of it.
-use Rattle.std.specs.Prelude.{ℕ, Bool, ◌==◌, ◌||◌, map, get_or, set, Option, Some, None, option_map, false, if◌then◌else◌}
+use Rattle.std.specs.Prelude.{ℕ, Bool, ◌==◌, ◌||◌, map, get_or, set, Option, Some, None, option_map, false}
+use Rattle.std.specs.Prelude.{if◌then◌else◌}
 use Rattle.sat_label.specs.declared.point.Point.{Point}
 use Rattle.sat_label.specs.declared.label.Label.{Label}
 use Rattle.sat_label.specs.declared.label.Kind.{Kind}
@@ -70,7 +71,10 @@ with_beat t number beat = record { best = t.best; later = placed t.later number 
 -- a new beat came
 abbrev pub beaten : ProxySeen → ℕ → ℕ → Beat → ProxySeen
 beaten p from number beat =
-    record p { beats = with_taken p.beats from (refreshed (fronts_of p from) (with_beat (taken_of p.beats from) number beat)) }
+    record p {
+      beats = with_taken p.beats from
+          (refreshed (fronts_of p from) (with_beat (taken_of p.beats from) number beat));
+    }
 
 -- a beat that is old or was taken changes nothing; else it is taken
 abbrev pub after_beat : ProxySeen → ℕ → ℕ → Beat → ProxySeen

@@ -1,6 +1,8 @@
 //! The remote proxy of a site (Bravo, Rodrigues and Van Roy, EuroSys 2017): it takes what the other sites send, in any
 //! order, and tells what the site may show next.
-ghost use Rattle.std.specs.Prelude.{ℕ, ◌≡◌, ◌≢◌, ◌<◌, ◌^◌, ◌+◌, ◌*◌, ◌&&◌, ◌||◌, false, true, None, Option, Some, is_none, is_some, length, option_copied, option_map, replicate, MatchResult, IfErr, IfOk, OnErr, OnOk};
+ghost use Rattle.std.specs.Prelude.{ℕ, ◌≡◌, ◌≢◌, ◌<◌, ◌^◌, ◌+◌, ◌*◌, ◌&&◌, ◌||◌, false, true, None, Option, Some};
+ghost use Rattle.std.specs.Prelude.{is_none, is_some, length, option_copied, option_map, replicate, MatchResult, IfErr};
+ghost use Rattle.std.specs.Prelude.{IfOk, OnErr, OnOk};
 ghost use Rattle.sat_label.specs.declared.label.Kind.TheVariants.{Close as CloseKind};
 ghost use Rattle.sat_label.specs.declared.label.Label.{Label as LabelSeen};
 ghost use Rattle.sat_bulk.specs.Windows.{after_take, has_number};
@@ -9,10 +11,15 @@ ghost use Rattle.sat_pool.specs.Pool.{after_add, all_waiting, labels_waiting, wa
 ghost use Rattle.sat_epoch.specs.Epochs.{advance_fault, after_advance, close_cut, in_stamp};
 ghost use Rattle.sat_act.specs.Parts.{best_passes, passed_label, passed_ts};
 ghost use Rattle.sat_act.specs.Answers.{is_drained};
-ghost use Rattle.sat_proxy.specs.Proxy.{fresh_proxy, front_at, lane_place, last_of, no_numbers, outlook_here, window_of, AreViewsOf, IsProxy};
+ghost use Rattle.sat_proxy.specs.Proxy.{fresh_proxy, front_at, lane_place, last_of, no_numbers, outlook_here};
+ghost use Rattle.sat_proxy.specs.Proxy.{window_of, AreViewsOf, IsProxy};
 ghost use Rattle.sat_proxy.specs.Asks.{may_come_at, others};
 ghost use Rattle.sat_proxy.specs.Helps.{comes_here, is_known_here, is_reached_here, lane_fronts, told_by, StaysHere};
-ghost use Rattle.sat_proxy.specs.Steps.{advance_after, after_beat, after_bulk, beat_take, brought, bulk_take, front_after, front_fault, front_gives, front_shows, front_views, has_come, knowing, missing, shown_after, stamp_after, stamp_fault, stamp_label, stamp_shows, turn_after, turn_fault, turn_gives, turn_shows, turn_views, waiting_of};
+ghost use Rattle.sat_proxy.specs.Steps.{advance_after, after_beat, after_bulk, beat_take, brought, bulk_take};
+ghost use Rattle.sat_proxy.specs.Steps.{front_after, front_fault, front_gives, front_shows, front_views, has_come};
+ghost use Rattle.sat_proxy.specs.Steps.{knowing, missing, shown_after, stamp_after, stamp_fault, stamp_label};
+ghost use Rattle.sat_proxy.specs.Steps.{stamp_shows, turn_after, turn_fault, turn_gives, turn_shows, turn_views};
+ghost use Rattle.sat_proxy.specs.Steps.{waiting_of};
 
 use crate::asks::{are_drained, are_known, are_passed, are_reached, candidate, own_passed};
 use crate::known::{fresh_last, know, raise_all};
@@ -74,11 +81,27 @@ impl Model for Proxy {
 
     ghost Value = { ProxySeen };
 
-    ghost view = { λ a. record { sites = a.sites; gears = a.gears; site = a.site; windows = a.windows.items; pool = a.pool; beats = a.beats; last = a.last.items } };
+    ghost view = { λ a. record {
+      sites = a.sites;
+      gears = a.gears;
+      site = a.site;
+      windows = a.windows.items;
+      pool = a.pool;
+      beats = a.beats;
+      last = a.last.items;
+    } };
 
     ghost invariant = { λ a. (a.fronts.items ≡ map front_in a.windows.items)
         × IsProxy
-        (record { sites = a.sites; gears = a.gears; site = a.site; windows = a.windows.items; pool = a.pool; beats = a.beats; last = a.last.items }) };
+        (record {
+          sites = a.sites;
+          gears = a.gears;
+          site = a.site;
+          windows = a.windows.items;
+          pool = a.pool;
+          beats = a.beats;
+          last = a.last.items;
+        }) };
 }
 
 // So many lanes of which no payload was taken.

@@ -1,5 +1,6 @@
 //! A site shows what it can.
-ghost use Rattle.std.specs.Prelude.{◌≡◌, ◌+◌, ◌-◌, ◌^◌, ◌<◌, ◌≤◌, true, false, length, get_or, IfErr, IfOk, OnErr, OnOk, Some, None};
+ghost use Rattle.std.specs.Prelude.{◌≡◌, ◌+◌, ◌-◌, ◌^◌, ◌<◌, ◌≤◌, true, false, length, get_or, IfErr, IfOk, OnErr};
+ghost use Rattle.std.specs.Prelude.{OnOk, Some, None};
 ghost use Rattle.sat_epoch.specs.Epochs.{in_stamp};
 ghost use Rattle.sat_site.specs.declared.input.SiteInput.TheVariants as given;
 ghost use Rattle.sat_node.specs.declared.kept.Body.TheVariants as body;

@@ -2,7 +2,9 @@
 use Rattle.std.specs.Prelude.{ℕ, List, [], ◌∷◌, ◌++◌, codes}
 use Rattle.std.specs.Fmt.{decimal}
 use Rattle.sat_script.specs.declared.fault.Cause.{Cause}
-use Rattle.sat_script.specs.declared.fault.Cause.TheVariants.{AfterEnd, LongLine, NoEnd, NotText, BadHeader, BadAct, NotLive, TooMany, SameName, UnknownName, OutOfRange, BadTree, NoEdge, BadGroup, BadAnswer, SamePoint, Memory}
+use Rattle.sat_script.specs.declared.fault.Cause.TheVariants.{AfterEnd, LongLine, NoEnd, NotText, BadHeader, BadAct}
+use Rattle.sat_script.specs.declared.fault.Cause.TheVariants.{NotLive, TooMany, SameName, UnknownName, OutOfRange}
+use Rattle.sat_script.specs.declared.fault.Cause.TheVariants.{BadTree, NoEdge, BadGroup, BadAnswer, SamePoint, Memory}
 use Rattle.sat_script.specs.declared.fault.ScriptFault.{ScriptFault}
 
 unfoldable pub cause_name : Cause → List ℕ

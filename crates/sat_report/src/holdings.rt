@@ -1,5 +1,6 @@
 //! What each site holds in the end.
-ghost use Rattle.std.specs.Prelude.{◌≡◌, ◌++◌, [], ◌∷◌, ◌<◌, ℕ, List, OnOk, OnErr, length, codes, None, Some, MatchOption};
+ghost use Rattle.std.specs.Prelude.{◌≡◌, ◌++◌, [], ◌∷◌, ◌<◌, ℕ, List, OnOk, OnErr, length, codes, None, Some};
+ghost use Rattle.std.specs.Prelude.{MatchOption};
 ghost use Rattle.std.specs.Fmt.{decimal};
 ghost use Rattle.sat_act.specs.declared.entry.Entry.{Entry};
 ghost use Rattle.sat_act.specs.Parts.{version};
@@ -8,7 +9,8 @@ ghost use Rattle.sat_world.specs.Stands.{StandsFor};
 ghost use Rattle.sat_world.specs.Shows.{IsVersion};
 ghost use Rattle.sat_report.specs.Fronts.{Keeps};
 ghost use Rattle.sat_report.specs.Texts.{item_name, label_text};
-ghost use Rattle.sat_report.specs.Holdings.{mode_word, site_text, site_line, held_text, item_line, item_lines, site_lines, holdings};
+ghost use Rattle.sat_report.specs.Holdings.{mode_word, site_text, site_line, held_text, item_line, item_lines};
+ghost use Rattle.sat_report.specs.Holdings.{site_lines, holdings};
 
 use crate::items::replicates;
 use crate::text::{append_point, append_with_number, item_name};

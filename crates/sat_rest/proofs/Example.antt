@@ -77,9 +77,6 @@ in-range : AllInRange A script
 unfolding tree_of is_edge hangs_on over seat_of parent_of
 in-range = (((((((tt, tt), lit≤ tt), lit≤ tt), (star, refl, refl)), (lit≤ tt, lit≤ tt, lit≤ tt, refl)), lit≤ tt), tt)
 
-plain-path-good : IsGood A (run A script)
-plain-path-good = every-run A script valid trees in-range
-
 within : IsWithin A
 within = record {
   valid = valid;

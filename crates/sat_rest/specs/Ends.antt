@@ -1,5 +1,6 @@
 -- How a settle goes on and ends.
-use Rattle.std.specs.Prelude.{◌≡◌, ◌⊎◌, ◌<◌, ◌≤◌, ℕ, ◌+◌, ◌-◌, ◌*◌, true, false, List, [], ◌∷◌, length, Option, Some, None}
+use Rattle.std.specs.Prelude.{◌≡◌, ◌⊎◌, ◌<◌, ◌≤◌, ℕ, ◌+◌, ◌-◌, ◌*◌, true, false, List, [], ◌∷◌, length, Option, Some}
+use Rattle.std.specs.Prelude.{None}
 use Rattle.sat_label.specs.declared.label.Label.{Label}
 use Rattle.sat_tree.specs.Shape.{TreeShape}
 use Rattle.sat_act.specs.declared.act.Act.{Act}

@@ -9,7 +9,8 @@ use Rattle.sat_tree.specs.Shape.{TreeShape}
 use Rattle.sat_tree.specs.Cut.{is_edge}
 use Rattle.sat_act.specs.declared.entry.Entry.{Entry}
 use Rattle.sat_act.specs.Deployed.{Deployed}
-use Rattle.sat_act.specs.Parts.{tree_of, view, emission, fallen, in_stamp_mode, killed, lane, brought, waiting, entered, taken}
+use Rattle.sat_act.specs.Parts.{tree_of, view, emission, fallen, in_stamp_mode, killed, lane, brought, waiting, entered}
+use Rattle.sat_act.specs.Parts.{taken}
 
 -- some site went on from the view of this epoch by timestamp order
 unfoldable pub LeftByStamps : Deployed → List Entry → ℕ → Type 0

@@ -9,20 +9,51 @@ use Rattle.sat_script.specs.declared.fault.Cause.{Cause}
 use Rattle.sat_script.specs.declared.fault.Cause.TheVariants.{BadAct, NotLive}
 use Rattle.sat_script.specs.declared.form.Form.{Form}
 use Rattle.sat_script.specs.declared.form.Form.TheVariants as form
-use Rattle.sat_script.specs.declared.limits.TheConstants.{MOST_CLIENTS, MOST_SETTLES, LIVE_SITES, LIVE_CLIENTS, LIVE_ACTS, AUDIT_ACTS}
+use Rattle.sat_script.specs.declared.limits.TheConstants.{MOST_CLIENTS, MOST_SETTLES, LIVE_SITES, LIVE_CLIENTS}
+use Rattle.sat_script.specs.declared.limits.TheConstants.{LIVE_ACTS, AUDIT_ACTS}
 
 -- the limits of scripts of a dialect and a format
 abbrev pub limits_of : Dialect → ℕ → Limits
 limits_of dialect.Run format =
-    record { sites = (format_limits format).sites; items = (format_limits format).items; clients = MOST_CLIENTS; acts = (format_limits format).acts; settles = MOST_SETTLES }
+    record {
+      sites = (format_limits format).sites;
+      items = (format_limits format).items;
+      clients = MOST_CLIENTS;
+      acts = (format_limits format).acts;
+      settles = MOST_SETTLES;
+    }
 limits_of dialect.Live format =
-    record { sites = LIVE_SITES; items = (format_limits format).items; clients = LIVE_CLIENTS; acts = LIVE_ACTS; settles = MOST_SETTLES }
+    record {
+      sites = LIVE_SITES;
+      items = (format_limits format).items;
+      clients = LIVE_CLIENTS;
+      acts = LIVE_ACTS;
+      settles = MOST_SETTLES;
+    }
 limits_of dialect.Audit format =
-    record { sites = (format_limits format).sites; items = (format_limits format).items; clients = MOST_CLIENTS; acts = AUDIT_ACTS; settles = MOST_SETTLES }
+    record {
+      sites = (format_limits format).sites;
+      items = (format_limits format).items;
+      clients = MOST_CLIENTS;
+      acts = AUDIT_ACTS;
+      settles = MOST_SETTLES;
+    }
 limits_of dialect.Chain format =
-    record { sites = (format_limits format).sites; items = (format_limits format).items; clients = MOST_CLIENTS; acts = (format_limits format).acts; settles = MOST_SETTLES }
+    record {
+      sites = (format_limits format).sites;
+      items = (format_limits format).items;
+      clients = MOST_CLIENTS;
+      acts = (format_limits format).acts;
+      settles = MOST_SETTLES;
+    }
 limits_of dialect.Lasting format =
-    record { sites = (format_limits format).sites; items = (format_limits format).items; clients = MOST_CLIENTS; acts = (format_limits format).acts; settles = MOST_SETTLES }
+    record {
+      sites = (format_limits format).sites;
+      items = (format_limits format).items;
+      clients = MOST_CLIENTS;
+      acts = (format_limits format).acts;
+      settles = MOST_SETTLES;
+    }
 
 -- the forms of a script for nodes on threads
 unfoldable pub is_live : Form → Bool

@@ -1,7 +1,8 @@
 -- The lines of a script, each by what the lines before it say. A line of the header has one definition, and its causes
 -- stand in it in their order: first what may keep it from having the form, then the causes that the form alone decides,
 -- and then those of its words. The lines of acts are the table's.
-use Rattle.std.specs.Prelude.{ℕ, ◌+◌, List, [], ◌∷◌, ◌++◌, Bool, true, false, ◌&&◌, ◌==◌, nat_lt, length, map, take, drop, is_none, Some, None, Ok, Err, if◌then◌else◌, codes, position}
+use Rattle.std.specs.Prelude.{ℕ, ◌+◌, List, [], ◌∷◌, ◌++◌, Bool, true, false, ◌&&◌, ◌==◌, nat_lt, length, map, take}
+use Rattle.std.specs.Prelude.{drop, is_none, Some, None, Ok, Err, if◌then◌else◌, codes, position}
 use Rattle.std.specs.declared.option.Option.{Option}
 use Rattle.std.specs.declared.result.Result.{Result}
 use Rattle.std.specs.List.{list_all}
@@ -16,9 +17,11 @@ use Rattle.sat_act.specs.declared.deployment.Plan.TheVariants as plan
 use Rattle.sat_script.specs.Causes.{needs, refused, barred, given, bar, has_client, has_item}
 use Rattle.sat_script.specs.State.{State, limits_at}
 use Rattle.sat_script.specs.Table.{act_line}
-use Rattle.sat_script.specs.Words.{is_text, is_number, is_list, are_rising, words_of, value_of, number_below, number_to, sites_in, sites_among}
+use Rattle.sat_script.specs.Words.{is_text, is_number, is_list, are_rising, words_of, value_of, number_below, number_to}
+use Rattle.sat_script.specs.Words.{sites_in, sites_among}
 use Rattle.sat_script.specs.declared.fault.Cause.{Cause}
-use Rattle.sat_script.specs.declared.fault.Cause.TheVariants.{AfterEnd, LongLine, NoEnd, NotText, BadHeader, SameName, OutOfRange, BadTree}
+use Rattle.sat_script.specs.declared.fault.Cause.TheVariants.{AfterEnd, LongLine, NoEnd, NotText, BadHeader, SameName}
+use Rattle.sat_script.specs.declared.fault.Cause.TheVariants.{OutOfRange, BadTree}
 use Rattle.sat_script.specs.declared.form.Form.TheVariants as form
 use Rattle.sat_script.specs.declared.line.Line.{Line}
 use Rattle.sat_script.specs.declared.line.Line.TheVariants as line
@@ -246,7 +249,13 @@ with_settle settles _ = settles
 -- the state at the next line
 abbrev pub after : State → Parsed → State
 after s p =
-    record { dialect = s.dialect; stage = next_stage s.stage p; header = with_parsed s.header p; acts = with_act s.acts p; settles = with_settle s.settles p }
+    record {
+      dialect = s.dialect;
+      stage = next_stage s.stage p;
+      header = with_parsed s.header p;
+      acts = with_act s.acts p;
+      settles = with_settle s.settles p;
+    }
 
 -- what a caller is told of a good line
 abbrev pub told_line : Parsed → Line

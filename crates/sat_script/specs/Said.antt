@@ -1,9 +1,11 @@
 -- What a word says, as the code keeps it.
-use Rattle.std.specs.Prelude.{ℕ, ◌≡◌, ◌||◌, ◌==◌, Bool, true, false, List, [], ◌∷◌, ◌++◌, length, map, Option, Some, None, Result, Ok, Err}
+use Rattle.std.specs.Prelude.{ℕ, ◌≡◌, ◌||◌, ◌==◌, Bool, true, false, List, [], ◌∷◌, ◌++◌, length, map, Option, Some}
+use Rattle.std.specs.Prelude.{None, Result, Ok, Err}
 use Rattle.sat_tree.specs.Shape.{TreeShape}
 use Rattle.sat_act.specs.Deployed.{Deployed}
 use Rattle.sat_act.specs.declared.act.Act.{Act}
-use Rattle.sat_script.specs.Table.{Said, place, num, bytes, at, no_tree, shape, known, says, shapes, all_known, all_say, in_tree, kinds_of, act_of, args_of, act_forms, found_form, unfit}
+use Rattle.sat_script.specs.Table.{Said, place, num, bytes, at, no_tree, shape, known, says, shapes, all_known, all_say}
+use Rattle.sat_script.specs.Table.{in_tree, kinds_of, act_of, args_of, act_forms, found_form, unfit}
 use Rattle.sat_script.specs.Causes.{bar, full}
 use Rattle.sat_script.specs.Dialect.{has_form}
 use Rattle.sat_script.specs.State.{State}

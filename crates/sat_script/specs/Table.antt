@@ -1,7 +1,8 @@
 -- The lines of acts as one table: the word that an act begins with, the kinds of the words after it, and for each kind
 -- its shape, what it must name, what it says and how it is spelled. The causes stand in one line, in their order, each
 -- over all words of the line.
-use Rattle.std.specs.Prelude.{ℕ, ◌^◌, ◌-◌, List, [], ◌∷◌, Bool, true, false, ◌&&◌, ◌==◌, nat_lt, length, Option, Some, None, Result, Ok, Err, is_some, codes, slice_get, if◌then◌else◌}
+use Rattle.std.specs.Prelude.{ℕ, ◌^◌, ◌-◌, List, [], ◌∷◌, Bool, true, false, ◌&&◌, ◌==◌, nat_lt, length, Option, Some}
+use Rattle.std.specs.Prelude.{None, Result, Ok, Err, is_some, codes, slice_get, if◌then◌else◌}
 use Rattle.std.specs.Option.{option_map}
 use Rattle.std.specs.Fmt.{decimal}
 use Rattle.std.specs.List.{list_all}
@@ -20,7 +21,8 @@ use Rattle.sat_act.specs.declared.act.Act.{Act}
 use Rattle.sat_act.specs.declared.act.Act.TheVariants as act
 use Rattle.sat_script.specs.Causes.{needs, barred, given, client_of, item_of}
 use Rattle.sat_script.specs.Dialect.{allows}
-use Rattle.sat_script.specs.Words.{is_token, is_number, is_node, is_serializer, number_below, number_to, number_up_to, node_in, serializer_in}
+use Rattle.sat_script.specs.Words.{is_token, is_number, is_node, is_serializer, number_below, number_to, number_up_to}
+use Rattle.sat_script.specs.Words.{node_in, serializer_in}
 use Rattle.sat_script.specs.declared.fault.Cause.{Cause}
 use Rattle.sat_script.specs.declared.fault.Cause.TheVariants.{BadAct, UnknownName, OutOfRange, NoEdge, BadGroup}
 use Rattle.sat_script.specs.declared.form.Form.{Form}

@@ -1,5 +1,6 @@
 //! The lines after `begin`, by their words.
-ghost use Rattle.std.specs.Prelude.{codes, Bool, true, ◌≡◌, ◌<◌, ◌≤◌, ◌+◌, ◌==◌, [], ◌∷◌, length, map, option_copied, IsTrue, IfSome, MatchResult, Some, None, Ok, Err, if◌then◌else◌};
+ghost use Rattle.std.specs.Prelude.{codes, Bool, true, ◌≡◌, ◌<◌, ◌≤◌, ◌+◌, ◌==◌, [], ◌∷◌, length, map, option_copied};
+ghost use Rattle.std.specs.Prelude.{IsTrue, IfSome, MatchResult, Some, None, Ok, Err, if◌then◌else◌};
 ghost use Rattle.std.specs.Option.{option_map};
 ghost use Rattle.sat_tree.specs.Cut.{IsNode};
 ghost use Rattle.sat_tree.specs.Shape.{TreeShape};
@@ -12,7 +13,8 @@ ghost use Rattle.sat_act.specs.Deployed.{Deployed};
 ghost use Rattle.sat_label.specs.Grouped.{are_items, list_of};
 ghost use Rattle.sat_label.specs.Text.{is_value};
 ghost use Rattle.sat_script.specs.Spelled.{HaveNames};
-ghost use Rattle.sat_script.specs.Table.{shape, shapes, known, all_known, says, all_say, has_node, joins, edge_cause, unfit, said_act, form_line, kinds_say, act_line, kinds_of, act_of, args_of};
+ghost use Rattle.sat_script.specs.Table.{shape, shapes, known, all_known, says, all_say, has_node, joins, edge_cause};
+ghost use Rattle.sat_script.specs.Table.{unfit, said_act, form_line, kinds_say, act_line, kinds_of, act_of, args_of};
 ghost use Rattle.sat_script.specs.Table.{place, num, at};
 ghost use Rattle.sat_script.specs.Words.{node_in, serializer_in, words_of};
 ghost use Rattle.sat_script.specs.declared.form.Form.TheVariants as form;

@@ -1,5 +1,6 @@
 //! A header as far as it has come, and the deployment that it becomes.
-ghost use Rattle.std.specs.Prelude.{◌≡◌, ◌≤◌, ◌<◌, ◌++◌, [], ◌∷◌, false, length, option_copied, OnOk, OnErr, None, Some};
+ghost use Rattle.std.specs.Prelude.{◌≡◌, ◌≤◌, ◌<◌, ◌++◌, [], ◌∷◌, false, length, option_copied, OnOk, OnErr, None};
+ghost use Rattle.std.specs.Prelude.{Some};
 ghost use Rattle.sat_act.specs.Flaw.{flaw};
 ghost use Rattle.sat_act.specs.Parts.{tree_of};
 ghost use Rattle.sat_script.specs.State.{no_header, header_lines};
@@ -36,12 +37,29 @@ impl Model for Header {
     ghost Value = { HeaderSeen };
 
     ghost view = { λ h.
-        record { said = said_by h.whole (record { format = h.format; sites = h.sites; gears = h.gears; items = h.items.items; clients = h.clients.items; plans = h.plans.items }); whole = h.whole } };
+        record {
+          said = said_by h.whole (record {
+            format = h.format;
+            sites = h.sites;
+            gears = h.gears;
+            items = h.items.items;
+            clients = h.clients.items;
+            plans = h.plans.items;
+          });
+          whole = h.whole;
+        } };
 
     ghost invariant = { λ h.
         AreNamed
         (said_by h.whole
-        (record { format = h.format; sites = h.sites; gears = h.gears; items = h.items.items; clients = h.clients.items; plans = h.plans.items })) h.format h.sites h.gears h.item_names h.client_names };
+        (record {
+          format = h.format;
+          sites = h.sites;
+          gears = h.gears;
+          items = h.items.items;
+          clients = h.clients.items;
+          plans = h.plans.items;
+        })) h.format h.sites h.gears h.item_names h.client_names };
 }
 
 impl Header {

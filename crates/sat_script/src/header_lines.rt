@@ -1,8 +1,11 @@
 //! The lines of the header, by their words.
-ghost use Rattle.std.specs.Prelude.{◌≡◌, ◌<◌, ◌≤◌, ◌∷◌, take, drop, map, true, None, Some, length, position, IfOk, IfSome};
+ghost use Rattle.std.specs.Prelude.{◌≡◌, ◌<◌, ◌≤◌, ◌∷◌, take, drop, map, true, None, Some, length, position, IfOk};
+ghost use Rattle.std.specs.Prelude.{IfSome};
 ghost use Rattle.std.specs.List.{list_all};
 ghost use Rattle.sat_script.specs.Words.{are_rising, is_number, sites_among, words_of};
-ghost use Rattle.sat_script.specs.Grammar.{format_line, counted, sites_line, gears_line, item_line, client_line, begin_line, is_slash, are_parents, tree_on, tree_in, tree_line, parted_line, stamp_line, plan_line, named_line, header_form, header_line};
+ghost use Rattle.sat_script.specs.Grammar.{format_line, counted, sites_line, gears_line, item_line, client_line};
+ghost use Rattle.sat_script.specs.Grammar.{begin_line, is_slash, are_parents, tree_on, tree_in, tree_line, parted_line};
+ghost use Rattle.sat_script.specs.Grammar.{stamp_line, plan_line, named_line, header_form, header_line};
 ghost use Rattle.sat_script.specs.Lines.{Gives, IsTreeOf};
 
 use crate::Cause;

@@ -1,5 +1,6 @@
 //! Numbers in digits, of any length.
-ghost use Rattle.std.specs.Prelude.{◌≡◌, ◌-◌, ◌^◌, ◌<◌, ◌≤◌, min, Some, None, IfSome, true, nat_lt, ◌||◌, ◌&&◌, ◌==◌, length, slice_index, if◌then◌else◌};
+ghost use Rattle.std.specs.Prelude.{◌≡◌, ◌-◌, ◌^◌, ◌<◌, ◌≤◌, min, Some, None, IfSome, true, nat_lt, ◌||◌, ◌&&◌, ◌==◌};
+ghost use Rattle.std.specs.Prelude.{length, slice_index, if◌then◌else◌};
 ghost use Rattle.std.specs.Char.{is_ascii_digit};
 ghost use Rattle.std.specs.Str.{all_ascii_digits};
 ghost use Rattle.sat_script.specs.Words.{is_number, value_of, number_below, number_to, number_up_to};

@@ -1,5 +1,6 @@
 //! What the lines so far say: where the next line stands, and what may stand there.
-ghost use Rattle.std.specs.Prelude.{◌≡◌, ◌≤◌, ◌↔◌, ◌++◌, [], ◌∷◌, IsTrue, IfOk, OnOk, OnErr, MatchResult, Some, None, length};
+ghost use Rattle.std.specs.Prelude.{◌≡◌, ◌≤◌, ◌↔◌, ◌++◌, [], ◌∷◌, IsTrue, IfOk, OnOk, OnErr, MatchResult, Some, None};
+ghost use Rattle.std.specs.Prelude.{length};
 ghost use Rattle.sat_script.specs.State.{start, limits_at, number_of, deployment_of, with_one_act};
 ghost use Rattle.sat_script.specs.Causes.{has_room, bar, full};
 ghost use Rattle.sat_script.specs.Dialect.{has_form};
@@ -35,7 +36,13 @@ impl Model for Place {
 
     ghost Value = { State };
 
-    ghost view = { λ a. record { dialect = a.dialect; stage = a.stage; header = a.header.said; acts = a.acts; settles = a.settles } };
+    ghost view = { λ a. record {
+      dialect = a.dialect;
+      stage = a.stage;
+      header = a.header.said;
+      acts = a.acts;
+      settles = a.settles;
+    } };
 
     ghost invariant = { λ a.
         IsKept
@@ -120,8 +127,8 @@ impl Place {
         first + self.header.lines() + u64::from(self.acts)
     }
 
-    /// Whether the next line may be an act of any form that most lines are, but a hop perhaps. Where it says no, it still
-    /// may be.
+    /// Whether the next line may be an act of any form that most lines are, but a hop perhaps. Where it says no, it
+    /// still may be.
     #[inline(always)]
     pub fn takes_acts(&self) -> bool
         ensures { IsTrue result → TakesActs self.now }

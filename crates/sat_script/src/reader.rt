@@ -1,5 +1,6 @@
 //! A reader of lines.
-ghost use Rattle.std.specs.Prelude.{false, ◌≡◌, ◌≤◌, ◌↔◌, ◌++◌, [], ◌∷◌, IsTrue, IfErr, IfSome, OnOk, MatchResult, None, Some, Ok, Err, length, map, take};
+ghost use Rattle.std.specs.Prelude.{false, ◌≡◌, ◌≤◌, ◌↔◌, ◌++◌, [], ◌∷◌, IsTrue, IfErr, IfSome, OnOk, MatchResult};
+ghost use Rattle.std.specs.Prelude.{None, Some, Ok, Err, length, map, take};
 ghost use Rattle.sat_act.specs.Parts.{tree_of};
 ghost use Rattle.sat_script.specs.Causes.{full, item_of};
 ghost use Rattle.sat_script.specs.Said.{said_of, AreRead, TakesActs};

@@ -8,7 +8,8 @@ ghost use Rattle.sat_script.specs.Lines.{Gives};
 ghost use Rattle.sat_script.specs.Said.{said_of};
 ghost use Rattle.sat_script.specs.declared.fault.Cause.TheVariants.{OutOfRange};
 ghost use Rattle.sat_script.specs.declared.form.Form.TheVariants as form;
-ghost use Rattle.sat_script.specs.Table.{place, place_at, num_at, bytes_at, node_at, act_of, form_of, args_of, group_form, group_of, pairs};
+ghost use Rattle.sat_script.specs.Table.{place, place_at, num_at, bytes_at, node_at, act_of, form_of, args_of};
+ghost use Rattle.sat_script.specs.Table.{group_form, group_of, pairs};
 
 use crate::Cause;
 use crate::form::Form;

@@ -2,7 +2,8 @@
 ghost use Rattle.std.specs.Prelude.{◌≡◌, [], false, IfOk, IfSome, map, ◌∷◌, length, take, drop, ◌≤◌, ◌-◌};
 ghost use Rattle.sat_label.specs.Text.{is_between};
 ghost use Rattle.std.specs.List.{list_all};
-ghost use Rattle.sat_script.specs.Words.{is_text, is_token, is_number, is_node, is_serializer, words_of, AreFirst, IsCut, blanks_from};
+ghost use Rattle.sat_script.specs.Words.{is_text, is_token, is_number, is_node, is_serializer, words_of, AreFirst};
+ghost use Rattle.sat_script.specs.Words.{IsCut, blanks_from};
 
 use crate::number::is_number;
 use arrayvec::ArrayVec;

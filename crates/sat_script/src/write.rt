@@ -1,7 +1,8 @@
 //! Writing scripts: the one spelling of each.
 ghost use Rattle.std.specs.Prelude.{◌≡◌, ◌++◌, ◌∷◌, [], codes, OnOk, OnErr, IfOk};
 ghost use Rattle.sat_label.specs.Text.{AppendsFront};
-ghost use Rattle.sat_script.specs.Spelled.{items_text, clients_text, plans_text, act_text, header_text, ended, spelling};
+ghost use Rattle.sat_script.specs.Spelled.{items_text, clients_text, plans_text, act_text, header_text, ended};
+ghost use Rattle.sat_script.specs.Spelled.{spelling};
 
 use crate::write_lines::{act_line, client_line, item_line, number_line, plan_line, push_line};
 use sat_act::{Act, ClientLine, Deployment, Item, Plan};

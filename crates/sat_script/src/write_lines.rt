@@ -3,7 +3,8 @@ ghost use Rattle.std.specs.Prelude.{◌≡◌, ◌++◌, ◌∷◌, [], OnOk, If
 ghost use Rattle.std.specs.Fmt.{decimal};
 ghost use Rattle.sat_label.specs.Text.{node_text};
 ghost use Rattle.sat_label.specs.Words.{bit};
-ghost use Rattle.sat_script.specs.Spelled.{with_comma, line_text, sites_text, item_words, client_words, plan_words, act_text};
+ghost use Rattle.sat_script.specs.Spelled.{with_comma, line_text, sites_text, item_words, client_words, plan_words};
+ghost use Rattle.sat_script.specs.Spelled.{act_text};
 ghost use Rattle.sat_tree.specs.PlanLine.{spaced, parent_text};
 ghost use Rattle.sat_script.specs.Table.{client_name, item_name, text, texts};
 ghost use Rattle.sat_script.specs.Said.{said_of};

@@ -53,7 +53,10 @@ outbox s v = box_of v (neighbours s.tree s.number) s.outboxes
 -- a copy of a label that came from u in the outbox of each neighbour that it goes on to
 abbrev pub after_handle : SerializerSeen → Interested → NodeId → Label → SerializerSeen
 after_handle s a u l =
-    record s { outboxes = change_where (goes a s.tree s.number u l) (λ box. box ++ l ∷ []) (neighbours s.tree s.number) s.outboxes }
+    record s {
+      outboxes = change_where (goes a s.tree s.number u l) (λ box. box
+          ++ l ∷ []) (neighbours s.tree s.number) s.outboxes;
+    }
 
 -- the oldest label for a neighbour taken out
 abbrev pub after_ship : SerializerSeen → NodeId → SerializerSeen

@@ -10,7 +10,8 @@ ghost use Rattle.sat_tree.specs.Shape.{TreeShape};
 ghost use Rattle.sat_sites.specs.Interested.{Interested, is_for, IsLabelOf};
 ghost use Rattle.sat_label.specs.declared.label.Label as declared_label;
 ghost use Rattle.sat_serial.specs.Routes.{goes, AreFarSides, IsFarSide};
-ghost use Rattle.sat_serial.specs.Hits.{code, hits, nodes_at, changed_at, AllInside, Ascending, HasRoomAt, site_place, serializer_place};
+ghost use Rattle.sat_serial.specs.Hits.{code, hits, nodes_at, changed_at, AllInside, Ascending, HasRoomAt, site_place};
+ghost use Rattle.sat_serial.specs.Hits.{serializer_place};
 
 use crate::hits::Hits;
 use sat_label::{Label, NodeId, Nodes, SiteSet};

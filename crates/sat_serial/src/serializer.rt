@@ -1,5 +1,6 @@
 //! Serializers.
-ghost use Rattle.std.specs.Prelude.{◌≡◌, ◌<◌, length, slice_get, true, false, IfOk, IsOk, IsErrOf, IsOkUnless, OnOk, OnErr};
+ghost use Rattle.std.specs.Prelude.{◌≡◌, ◌<◌, length, slice_get, true, false, IfOk, IsOk, IsErrOf, IsOkUnless, OnOk};
+ghost use Rattle.std.specs.Prelude.{OnErr};
 ghost use Rattle.sat_serial.specs.Routes.{routes, Arrives, IsNeighbour};
 ghost use Rattle.sat_serial.specs.Outboxes.{fresh, after_handle, outbox, after_ship, IsSerializer};
 
@@ -30,11 +31,21 @@ impl Model for Serializer {
     ghost Value = { SerializerSeen };
 
     ghost view = { λ a.
-        record { tree = a.router.tree; number = a.router.number; killed = a.killed; outboxes = map members_of a.outboxes.items } };
+        record {
+          tree = a.router.tree;
+          number = a.router.number;
+          killed = a.killed;
+          outboxes = map members_of a.outboxes.items;
+        } };
 
     ghost invariant = { λ a.
         IsSerializer
-        (record { tree = a.router.tree; number = a.router.number; killed = a.killed; outboxes = map members_of a.outboxes.items }) };
+        (record {
+          tree = a.router.tree;
+          number = a.router.number;
+          killed = a.killed;
+          outboxes = map members_of a.outboxes.items;
+        }) };
 }
 
 impl Serializer {

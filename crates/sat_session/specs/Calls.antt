@@ -1,5 +1,6 @@
 -- What the calls of a session do: what they note, and what they make of its client.
-use Rattle.std.specs.Prelude.{◌≡◌, ◌≤◌, ℕ, ◌+◌, max, true, false, List, [], ◌∷◌, ◌++◌, length, ◌⊎◌, ◌↔◌, Option, Some, None, Result, IfOk, IfErr, OnOk, OnErr, IsErrOf}
+use Rattle.std.specs.Prelude.{◌≡◌, ◌≤◌, ℕ, ◌+◌, max, true, false, List, [], ◌∷◌, ◌++◌, length, ◌⊎◌, ◌↔◌, Option, Some}
+use Rattle.std.specs.Prelude.{None, Result, IfOk, IfErr, OnOk, OnErr, IsErrOf}
 use Rattle.sat_label.specs.declared.carried.Carried.{Carried}
 use Rattle.sat_label.specs.declared.items.Items.{Items}
 use Rattle.sat_label.specs.Formats.{limits_of}

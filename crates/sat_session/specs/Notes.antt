@@ -54,7 +54,12 @@ carried_with _ = nothing_carried
 -- an entry of the site of this name, as a session would note it
 abbrev pub site_note : NodeName → Line ActSeen SiteAnswer → Noted
 site_note name k =
-    record { lamport = k.lamport; at = Some name; carried = carried_with k.input.input; entry = entry_of (site_kept (number_of name) k) }
+    record {
+      lamport = k.lamport;
+      at = Some name;
+      carried = carried_with k.input.input;
+      entry = entry_of (site_kept (number_of name) k);
+    }
 
 abbrev pub site_notes : NodeName → List (Line ActSeen SiteAnswer) → List Owned
 site_notes name [] = []
@@ -63,7 +68,12 @@ site_notes name (k ∷ ks) = owned_by (owner_of k.input.by k.input.input) (site_
 -- and of the serializer of this name
 abbrev pub serial_note : NodeName → Line SerialAct SerialAnswer → Noted
 serial_note name k =
-    record { lamport = k.lamport; at = Some name; carried = nothing_carried; entry = entry_of (serial_kept (epoch_in name) (serial_in name) k) }
+    record {
+      lamport = k.lamport;
+      at = Some name;
+      carried = nothing_carried;
+      entry = entry_of (serial_kept (epoch_in name) (serial_in name) k);
+    }
 
 abbrev pub serial_notes : NodeName → List (Line SerialAct SerialAnswer) → List Owned
 serial_notes name [] = []

@@ -1,5 +1,6 @@
 -- What a session keeps: its notes as kept entries, what is true of them, and that they fit the journals of nodes.
-use Rattle.std.specs.Prelude.{◌≡◌, ◌<◌, ◌≤◌, ℕ, true, false, List, [], ◌∷◌, length, map, Option, Some, None, if◌then◌else◌}
+use Rattle.std.specs.Prelude.{◌≡◌, ◌<◌, ◌≤◌, ℕ, true, false, List, [], ◌∷◌, length, map, Option, Some, None}
+use Rattle.std.specs.Prelude.{if◌then◌else◌}
 use Rattle.sat_label.specs.declared.node.NodeName.{NodeName}
 use Rattle.sat_label.specs.Members.{In}
 use Rattle.sat_act.specs.Deployed.{Deployed}
@@ -9,7 +10,8 @@ use Rattle.sat_client.specs.declared.client.Client.{Client}
 use Rattle.sat_model.specs.Fits.{is_carried, is_goal}
 use Rattle.sat_model.specs.Replay.{carrying}
 use Rattle.sat_stitch.specs.Kept.{Given, Nothing, OfClient, Kept, history}
-use Rattle.sat_stitch.specs.Places.{Place, InSession, places, Session, Client as Owner, Operator, session_eq, session_of}
+use Rattle.sat_stitch.specs.Places.{Place, InSession, places, Session, Client as Owner, Operator, session_eq}
+use Rattle.sat_stitch.specs.Places.{session_of}
 use Rattle.sat_stitch.specs.Nodes.{IsSessionAnswer}
 use Rattle.sat_stitch.specs.Stitch.{Distinct}
 use Rattle.sat_opened.specs.Opened.{AreJournals, lists_of, place_at}

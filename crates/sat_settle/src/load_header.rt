@@ -2,7 +2,8 @@
 ghost use Rattle.std.specs.Prelude.{◌≡◌, ◌≤◌, ◌<◌, [], ◌∷◌, map, IfOk};
 ghost use Rattle.sat_act.specs.declared.deployment.Plan.TheVariants as plan;
 ghost use Rattle.sat_label.specs.Words.{below};
-ghost use Rattle.sat_settle.specs.LoadHeader.{three_sites, load_item, load_client, first_tree, second_tree, load_tree, load_deployment};
+ghost use Rattle.sat_settle.specs.LoadHeader.{three_sites, load_item, load_client, first_tree, second_tree, load_tree};
+ghost use Rattle.sat_settle.specs.LoadHeader.{load_deployment};
 
 use crate::load_texts::{client_name, item_name};
 use sat_act::{ClientLine, Deployment, DeploymentFault, Item, Plan};

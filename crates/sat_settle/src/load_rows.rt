@@ -1,7 +1,8 @@
 //! The acts of a large script, by the table of what is drawn.
 ghost use Rattle.std.specs.Prelude.{◌≡◌, ◌≤◌, ◌<◌, ◌+◌, length};
 ghost use Rattle.sat_tree.specs.Cut.{neighbours};
-ghost use Rattle.sat_settle.specs.LoadActs.{row_of, draws_of, neighbour, hop_in, hop_act, bulk_act, row_act, act_at, after_act};
+ghost use Rattle.sat_settle.specs.LoadActs.{row_of, draws_of, neighbour, hop_in, hop_act, bulk_act, row_act, act_at};
+ghost use Rattle.sat_settle.specs.LoadActs.{after_act};
 ghost use Rattle.sat_settle.specs.LoadDraft.{drafted};
 ghost use Rattle.sat_settle.specs.LoadDraws.{after_draws, first};
 ghost use Rattle.sat_settle.specs.LoadHeader.{load_deployment, load_tree};

@@ -3,7 +3,8 @@ ghost use Rattle.std.specs.Prelude.{◌≡◌, ◌<◌, ℕ, IfOk, OnErr};
 ghost use Rattle.sat_act.specs.Ranges.{ArePair};
 ghost use Rattle.sat_act.specs.Settling.{emptied, opening};
 ghost use Rattle.sat_settle.specs.Going.{Makes, Stops};
-ghost use Rattle.sat_settle.specs.Openings.{beat_of, beats_all, beats_from, beats_to, emits_all, gathered_all, gathers_all, number_in, pulsed_all, pulses_all};
+ghost use Rattle.sat_settle.specs.Openings.{beat_of, beats_all, beats_from, beats_to, emits_all, gathered_all};
+ghost use Rattle.sat_settle.specs.Openings.{gathers_all, number_in, pulsed_all, pulses_all};
 
 use crate::trying::{count_of, once, try_act, until_refused};
 use sat_act::{Act, Answer};

@@ -1,5 +1,6 @@
 -- Which queue the least label stands in, as it is looked for, one queue after another.
-use Rattle.std.specs.Prelude.{ℕ, ◌≡◌, ◌≤◌, ◌<◌, Bool, true, List, [], get_or, map, take, slice_get, nat_le, nat_lt, Option, Some, None}
+use Rattle.std.specs.Prelude.{ℕ, ◌≡◌, ◌≤◌, ◌<◌, Bool, true, List, [], get_or, map, take, slice_get, nat_le, nat_lt}
+use Rattle.std.specs.Prelude.{Option, Some, None}
 use Rattle.sat_label.specs.declared.label.Label.{Label}
 use Rattle.sat_label.specs.Order.{label_lt}
 use Rattle.sat_label.specs.Members.{In}

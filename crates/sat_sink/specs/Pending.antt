@@ -1,5 +1,6 @@
 -- Pending labels: the least of them, those of all gears, and what is left without one.
-use Rattle.std.specs.Prelude.{ℕ, ◌≤◌, ◌+◌, ◌<◌, Bool, not, List, [], ◌∷◌, ◌++◌, length, get_or, map, filter, nat_le, min, fold}
+use Rattle.std.specs.Prelude.{ℕ, ◌≤◌, ◌+◌, ◌<◌, Bool, not, List, [], ◌∷◌, ◌++◌, length, get_or, map, filter, nat_le}
+use Rattle.std.specs.Prelude.{min, fold}
 use Rattle.std.specs.List.{flat_map}
 use Rattle.sat_label.specs.declared.label.Label.{Label}
 use Rattle.sat_label.specs.Order.{label_eq}

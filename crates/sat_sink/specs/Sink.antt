@@ -1,5 +1,6 @@
 -- What a sink keeps, what is read off it, and what its calls make of it.
-use Rattle.std.specs.Prelude.{ℕ, ◌≡◌, ◌≤◌, ◌<◌, ◌-◌, ◌==◌, Bool, true, ◌&&◌, not, List, [], ◌∷◌, length, get_or, map, replicate, Option, Some, None, is_some, nat_le, nat_lt}
+use Rattle.std.specs.Prelude.{ℕ, ◌≡◌, ◌≤◌, ◌<◌, ◌-◌, ◌==◌, Bool, true, ◌&&◌, not, List, [], ◌∷◌, length, get_or, map}
+use Rattle.std.specs.Prelude.{replicate, Option, Some, None, is_some, nat_le, nat_lt}
 use Rattle.sat_label.specs.declared.point.Point.{Point}
 use Rattle.sat_label.specs.declared.label.Kind.TheVariants.{Pulse}
 use Rattle.sat_label.specs.declared.label.Label.{Label}
@@ -23,7 +24,13 @@ pub record Sink : Type 0 where
 -- before the first gather
 abbrev pub fresh_sink : ℕ → ℕ → Sink
 fresh_sink site gears =
-    record { site = site; promises = replicate gears 0; pending = replicate gears []; last = point_at 0 site 0; pulse = 0 }
+    record {
+      site = site;
+      promises = replicate gears 0;
+      pending = replicate gears [];
+      last = point_at 0 site 0;
+      pulse = 0;
+    }
 
 -- the least gathered promise
 abbrev pub stable_of : Sink → ℕ

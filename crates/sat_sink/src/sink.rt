@@ -1,10 +1,12 @@
 //! The label sink.
-ghost use Rattle.std.specs.Prelude.{◌≡◌, ◌<◌, length, map, true, is_some, Some, None, if◌then◌else◌, IfOk, IfSome, OnOk, OnErr};
+ghost use Rattle.std.specs.Prelude.{◌≡◌, ◌<◌, length, map, true, is_some, Some, None, if◌then◌else◌, IfOk, IfSome};
+ghost use Rattle.std.specs.Prelude.{OnOk, OnErr};
 ghost use Rattle.std.specs.Bool.{Decides};
 ghost use Rattle.sat_label.specs.Order.{point_le, point_lt};
 ghost use Rattle.sat_gear.specs.Gear.{drained_of};
 ghost use Rattle.sat_sink.specs.Pending.{least, promise_of};
-ghost use Rattle.sat_sink.specs.Sink.{after_emit, after_close, cut_of, fresh_sink, after_gather, may_pulse, pulse_of, after_pulse, ready_of, stable_of, AllAbove, IsDrain};
+ghost use Rattle.sat_sink.specs.Sink.{after_emit, after_close, cut_of, fresh_sink, after_gather, may_pulse, pulse_of};
+ghost use Rattle.sat_sink.specs.Sink.{after_pulse, ready_of, stable_of, AllAbove, IsDrain};
 
 use crate::given::goes_on;
 use crate::queue::{extend_all, extend_from, least_up_to, reserve_all, reserve_from};
@@ -34,11 +36,23 @@ impl Model for LabelSink {
     ghost Value = { Sink };
 
     ghost view = { λ a.
-        record { site = a.site; promises = a.promises.items; pending = map members_of a.pending.items; last = a.last; pulse = a.pulse } };
+        record {
+          site = a.site;
+          promises = a.promises.items;
+          pending = map members_of a.pending.items;
+          last = a.last;
+          pulse = a.pulse;
+        } };
 
     ghost invariant = { λ a.
         IsSink
-        (record { site = a.site; promises = a.promises.items; pending = map members_of a.pending.items; last = a.last; pulse = a.pulse }) };
+        (record {
+          site = a.site;
+          promises = a.promises.items;
+          pending = map members_of a.pending.items;
+          last = a.last;
+          pulse = a.pulse;
+        }) };
 }
 
 // The least of some promises, 0 where there are none.

@@ -40,11 +40,3 @@ done-after x y g h (Ok a) is w = does-after x y g h a is w
 done-after x y g h (Err e) is w = tt
 
 -- ---- both of two tests
-
-pub and-on : (a b : Bool) → a ≡ true → (a && b) ≡ b
-and-on true b e = refl
-and-on false b e = absurd (cc)
-
-pub and-off : (a b r : Bool) → r ≡ a → a ≡ false → r ≡ (a && b)
-and-off true b r e f = absurd (cc)
-and-off false b r e f = e

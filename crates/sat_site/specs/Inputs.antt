@@ -9,7 +9,9 @@ use Rattle.sat_model.specs.Fits.{is_time}
 use Rattle.sat_model.specs.Input.{SiteInput}
 use Rattle.sat_model.specs.Input as given
 use Rattle.sat_hub.specs.Inputs as hub
-pub use Rattle.sat_hub.specs.Inputs.{is_site_here, is_item_here, is_gear_here, is_point_here, is_other_here, is_goal_here, is_carried_here, is_group_here, is_kind_here, is_front_here, is_kept_here, is_guest_here, is_bulk_here, is_cut_here, is_beat_here}
+pub use Rattle.sat_hub.specs.Inputs.{is_site_here, is_item_here, is_gear_here, is_point_here, is_other_here}
+pub use Rattle.sat_hub.specs.Inputs.{is_goal_here, is_carried_here, is_group_here, is_kind_here, is_front_here}
+pub use Rattle.sat_hub.specs.Inputs.{is_kept_here, is_guest_here, is_bulk_here, is_cut_here, is_beat_here}
 use Rattle.sat_site.specs.declared.input.SiteInput as code
 use Rattle.sat_site.specs.declared.input.SiteInput.TheVariants as input
 use Rattle.sat_site.specs.Seen.{SiteSeen, hub_of}

@@ -9,7 +9,8 @@ use Rattle.sat_sink.specs.Sink.{Sink}
 use Rattle.sat_epoch.specs.Epochs.{Epochs}
 use Rattle.sat_proxy.specs.Proxy.{ProxySeen}
 use Rattle.sat_hub.specs.Seen.{HubSeen}
-pub use Rattle.sat_hub.specs.Seen.{IsMadeHere, has_parts_here, IsGuest, IsBeatOf, HasSink, HasEpochs, HasPeers, HasBeats}
+pub use Rattle.sat_hub.specs.Seen.{IsMadeHere, has_parts_here, IsGuest, IsBeatOf, HasSink, HasEpochs, HasPeers}
+pub use Rattle.sat_hub.specs.Seen.{HasBeats}
 
 -- what the site was made from; its gears; its sink, and by gear how much of its lane to each site was gathered; its
 -- epochs; what it has of the other sites; and by site the beats that it made for it

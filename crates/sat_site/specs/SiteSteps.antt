@@ -1,6 +1,7 @@
 -- A site's step as a function: what it answers to an input, what it sends, and what it then keeps, by what it kept
 -- alone. A gear, a payload or a version that is not there leaves all as it is.
-use Rattle.std.specs.Prelude.{ℕ, ◌%◌, Bool, true, false, ◌==◌, max, List, [], ◌∷◌, length, map, set, slice_get, Option, Some, None}
+use Rattle.std.specs.Prelude.{ℕ, ◌%◌, Bool, true, false, ◌==◌, max, List, [], ◌∷◌, length, map, set, slice_get, Option}
+use Rattle.std.specs.Prelude.{Some, None}
 use Rattle.std.specs.List.{flat_map, list_all}
 use Rattle.sat_label.specs.declared.carried.Carried.{Carried}
 use Rattle.sat_label.specs.declared.items.Items.{Items}
@@ -14,7 +15,8 @@ use Rattle.sat_beat.specs.declared.Beat.{Beat}
 use Rattle.sat_sites.specs.Interested.{keeps}
 use Rattle.sat_sites.specs.declared.shape.Shape.{Shape}
 use Rattle.sat_label.specs.Versions.{Version}
-use Rattle.sat_gear.specs.Gear.{GearSeen, drained_of, is_spent, after_move, after_show, stamped, after_tick, version_of, after_write, payload_with}
+use Rattle.sat_gear.specs.Gear.{GearSeen, drained_of, is_spent, after_move, after_show, stamped, after_tick, version_of}
+use Rattle.sat_gear.specs.Gear.{after_write, payload_with}
 use Rattle.sat_sink.specs.Pending.{least, promise_of}
 use Rattle.sat_sink.specs.Sink.{ready_of}
 use Rattle.sat_act.specs.declared.answer.Answer.{Answer}
@@ -29,7 +31,8 @@ use Rattle.sat_proxy.specs.Answers.{advance_answer, attach_answer, beat_answer, 
 use Rattle.sat_hub.specs.Changes.{stamped as hub_stamped, turned as hub_turned}
 use Rattle.sat_hub.specs.HubSteps as hub
 use Rattle.sat_hub.specs.Inputs.{may_turn as hub_may_turn}
-pub use Rattle.sat_hub.specs.HubSteps.{emit_answer, emit_sends, fall_answer, has_target, next_pulse, pulse_answer, sent_epoch}
+pub use Rattle.sat_hub.specs.HubSteps.{emit_answer, emit_sends, fall_answer, has_target, next_pulse, pulse_answer}
+pub use Rattle.sat_hub.specs.HubSteps.{sent_epoch}
 unfoldable pub use Rattle.sat_hub.specs.HubSteps.{some_site}
 use Rattle.sat_site.specs.declared.input.SiteInput as code
 use Rattle.sat_site.specs.declared.input.SiteInput.TheVariants as input

@@ -1,5 +1,6 @@
 -- The state of the model's machine that a site stands for, part by part.
-use Rattle.std.specs.Prelude.{ℕ, ◌≡◌, ◌≢◌, ◌≤◌, ◌<◌, true, false, List, [], length, map, get_or, slice_get, Option, Some, None, is_none}
+use Rattle.std.specs.Prelude.{ℕ, ◌≡◌, ◌≢◌, ◌≤◌, ◌<◌, true, false, List, [], length, map, get_or, slice_get, Option}
+use Rattle.std.specs.Prelude.{Some, None, is_none}
 use Rattle.sat_beat.specs.declared.Beat.{Beat}
 use Rattle.sat_epoch.specs.Epochs.{Epochs, close_cut, is_stamp}
 use Rattle.sat_proxy.specs.Proxy.{note_of}

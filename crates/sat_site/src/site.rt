@@ -1,5 +1,6 @@
 //! Sites.
-ghost use Rattle.std.specs.Prelude.{ℕ, ◌%◌, ◌*◌, ◌≡◌, ◌≤◌, ◌<◌, ◌==◌, ◌^◌, ◌&&◌, length, true, false, slice_get, Some, None, Option, IfOk, IfSome, IsNone, OnOk, OnErr, IsOk, MatchOption, option_copied};
+ghost use Rattle.std.specs.Prelude.{ℕ, ◌%◌, ◌*◌, ◌≡◌, ◌≤◌, ◌<◌, ◌==◌, ◌^◌, ◌&&◌, length, true, false, slice_get, Some};
+ghost use Rattle.std.specs.Prelude.{None, Option, IfOk, IfSome, IsNone, OnOk, OnErr, IsOk, MatchOption, option_copied};
 ghost use Rattle.std.specs.List.{list_any};
 ghost use Rattle.sat_label.specs.declared.label.Label.{Label};
 ghost use Rattle.sat_label.specs.Grouped.{list_of};
@@ -18,14 +19,20 @@ ghost use Rattle.sat_model.specs.State.{SiteState, fresh_site};
 ghost use Rattle.sat_model.specs.Look.{front_of, mode_of};
 ghost use Rattle.sat_proxy.specs.Proxy.{front_at, window_of};
 ghost use Rattle.sat_proxy.specs.Steps.{after_beat, after_bulk, has_come};
-ghost use Rattle.sat_proxy.specs.Answers.{advance_answer, attach_answer, beat_answer, bulk_answer, stamp_answer, turn_answer};
+ghost use Rattle.sat_proxy.specs.Answers.{advance_answer, attach_answer, beat_answer, bulk_answer, stamp_answer};
+ghost use Rattle.sat_proxy.specs.Answers.{turn_answer};
 ghost use Rattle.sat_site.specs.Seen.{IsGuest, IsSite, SiteSeen};
 ghost use Rattle.sat_site.specs.Lanes.{lane_of};
-ghost use Rattle.sat_site.specs.Inputs.{fits_here, fits_in, is_counted, is_asked, is_sized, takes_none, BulkFits, IsFront};
+ghost use Rattle.sat_site.specs.Inputs.{fits_here, fits_in, is_counted, is_asked, is_sized, takes_none, BulkFits};
+ghost use Rattle.sat_site.specs.Inputs.{IsFront};
 ghost use Rattle.sat_site.specs.Stands.{StandsSite, version_seen};
 ghost use Rattle.sat_site.specs.Gives.{PromisesUpTo, IsOfLane};
 ghost use Rattle.sat_site.specs.Changes.{beat_for, beaten, clocked, made_for, new_site, HasGear};
-ghost use Rattle.sat_site.specs.SiteSteps.{close_after, close_answer, fall_after, fall_answer, keeps_each, keeps_item, move_after, move_answer, next_pulse, passed_after, pulse_after, pulse_answer, shown_of, shown_parts, shown_version, site_after, site_answers, site_beat, site_epoch, site_sends, stamped_after, turned_after};
+ghost use Rattle.sat_site.specs.SiteSteps.{close_after, close_answer, fall_after, fall_answer, keeps_each, keeps_item};
+ghost use Rattle.sat_site.specs.SiteSteps.{move_after, move_answer, next_pulse, passed_after, pulse_after};
+ghost use Rattle.sat_site.specs.SiteSteps.{pulse_answer, shown_of, shown_parts, shown_version, site_after};
+ghost use Rattle.sat_site.specs.SiteSteps.{site_answers, site_beat, site_epoch, site_sends, stamped_after};
+ghost use Rattle.sat_site.specs.SiteSteps.{turned_after};
 ghost use Rattle.sat_site.specs.Does.{Does, Reads, Stamps, Writes};
 
 use crate::gears::{
@@ -670,10 +677,20 @@ impl Site {
     pub fn view(&self) -> SiteView
         ensures sound { IsSite self.now }
         ensures seen { result
-            ≡ record { view = self.now.views.view; emission = self.now.views.emission; stamp = in_stamp self.now.views; waiting = length (all_waiting self.now.proxy.pool) } }
+            ≡ record {
+              view = self.now.views.view;
+              emission = self.now.views.emission;
+              stamp = in_stamp self.now.views;
+              waiting = length (all_waiting self.now.proxy.pool);
+            } }
         ensures stands { (d : Deployed) (i : ℕ) (s : SiteState) → StandsSite d i self.now s
             → result
-            ≡ record { view = s.views.view; emission = s.views.emission; stamp = mode_of d s; waiting = length s.proxy.pool } }
+            ≡ record {
+              view = s.views.view;
+              emission = s.views.emission;
+              stamp = mode_of d s;
+              waiting = length s.proxy.pool;
+            } }
     {
         SiteView {
             view: self.hub.view(),

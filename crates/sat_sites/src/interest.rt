@@ -1,5 +1,6 @@
 //! Which sites keep each item.
-ghost use Rattle.std.specs.Prelude.{◌≡◌, ◌<◌, ◌≤◌, ℕ, length, Some, slice_get, IfOk, IfSome, IsErrOf, IsOkUnless, MatchOption};
+ghost use Rattle.std.specs.Prelude.{◌≡◌, ◌<◌, ◌≤◌, ℕ, length, Some, slice_get, IfOk, IfSome, IsErrOf, IsOkUnless};
+ghost use Rattle.std.specs.Prelude.{MatchOption};
 ghost use Rattle.sat_label.specs.Words.{bit, first_failing};
 ghost use Rattle.sat_label.specs.Grouped.{list_of};
 ghost use Rattle.sat_sites.specs.Interested.{are_below, first_bad, is_for, keeps_one, AreBelow, Interested, IsLabelOf};

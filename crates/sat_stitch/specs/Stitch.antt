@@ -1,6 +1,7 @@
 -- The order of merged journals: by number, then by the journal's place, then as the journal has its entries. In this
 -- file lists are the oldest first.
-use Rattle.std.specs.Prelude.{◌≡◌, ◌⊎◌, ℕ, Bool, ◌&&◌, ◌||◌, ◌==◌, nat_lt, List, [], ◌∷◌, ◌++◌, map, flat_map, if◌then◌else◌, reverse}
+use Rattle.std.specs.Prelude.{◌≡◌, ◌⊎◌, ℕ, Bool, ◌&&◌, ◌||◌, ◌==◌, nat_lt, List, [], ◌∷◌, ◌++◌, map, flat_map}
+use Rattle.std.specs.Prelude.{if◌then◌else◌, reverse}
 use Rattle.sat_act.specs.declared.entry.Entry.{Entry}
 use Rattle.sat_stitch.specs.declared.journal.Ranked.{Ranked}
 use Rattle.sat_stitch.specs.declared.journal.Journal.{Journal}

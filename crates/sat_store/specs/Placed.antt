@@ -1,5 +1,6 @@
 -- How a store lays out its versions: side by side, and for each item the place of its version among them.
-use Rattle.std.specs.Prelude.{ℕ, ◌≡◌, ◌≤◌, ◌<◌, ◌+◌, ◌^◌, List, Option, Some, None, length, map, get_or, slice_get, is_none}
+use Rattle.std.specs.Prelude.{ℕ, ◌≡◌, ◌≤◌, ◌<◌, ◌+◌, ◌^◌, List, Option, Some, None, length, map, get_or, slice_get}
+use Rattle.std.specs.Prelude.{is_none}
 use Rattle.std.specs.List.{count_by}
 use Rattle.sat_label.specs.Versions.{Version}
 

@@ -1,5 +1,6 @@
 -- What a replica keeps, why it does not do what it is told, and what a client is told.
-use Rattle.std.specs.Prelude.{ℕ, ◌≡◌, ◌==◌, ◌&&◌, Bool, true, false, List, nat_lt, slice_get, Option, Some, None, if◌then◌else◌, is_none}
+use Rattle.std.specs.Prelude.{ℕ, ◌≡◌, ◌==◌, ◌&&◌, Bool, true, false, List, nat_lt, slice_get, Option, Some, None}
+use Rattle.std.specs.Prelude.{if◌then◌else◌, is_none}
 use Rattle.sat_label.specs.declared.carried.Carried.{Carried}
 use Rattle.sat_label.specs.declared.label.Label.{Label}
 use Rattle.sat_label.specs.Order.{label_lt, point_lt}

@@ -1,12 +1,14 @@
 //! A relay: the process that runs one serializer of the tree.
-ghost use Rattle.std.specs.Prelude.{◌≡◌, ◌<◌, ◌&&◌, true, false, length, slice_get, Some, None, IfOk, IfSome, OnOk, OnErr, IsErrOf, IsOkUnless, MatchOption};
+ghost use Rattle.std.specs.Prelude.{◌≡◌, ◌<◌, ◌&&◌, true, false, length, slice_get, Some, None, IfOk, IfSome, OnOk};
+ghost use Rattle.std.specs.Prelude.{OnErr, IsErrOf, IsOkUnless, MatchOption};
 ghost use Rattle.sat_sites.specs.Interested.{IsLabelOf};
 ghost use Rattle.sat_tree.specs.Cut.{is_edge, IsNode};
 ghost use Rattle.sat_serial.specs.Outboxes.{after_handle, fresh};
 ghost use Rattle.sat_serial.specs.Routes.{leads, routes, IsNeighbour};
 ghost use Rattle.sat_label.specs.declared.node.NodeId.TheVariants.{Serializer as SerializerNode};
 ghost use Rattle.sat_store_example.specs.declared.fault.RelayFault.TheVariants as fault;
-ghost use Rattle.sat_store_example.specs.Relays.{IsRelay, arrives, is_kind_of, is_label_of, is_neighbour, is_node, shipped, waiting_for};
+ghost use Rattle.sat_store_example.specs.Relays.{IsRelay, arrives, is_kind_of, is_label_of, is_neighbour, is_node};
+ghost use Rattle.sat_store_example.specs.Relays.{shipped, waiting_for};
 ghost use Rattle.sat_store_example.specs.Waiting.{is_it};
 
 use crate::{Offer, RelayFault};
@@ -50,7 +52,12 @@ impl Relay {
         requires sites { interest.now.sites ≡ length tree.now.seats }
         ensures { IfOk result
             (λ r. r
-            ≡ record { tree = tree.now; interest = interest.now; number = number; serializer = fresh tree.now number }) }
+            ≡ record {
+              tree = tree.now;
+              interest = interest.now;
+              number = number;
+              serializer = fresh tree.now number;
+            }) }
     {
         let serializer = Serializer::new(alloc, tree, number)?;
         Ok(Relay {

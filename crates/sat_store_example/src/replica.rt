@@ -1,5 +1,6 @@
 //! A replica: the process that runs one site of the store.
-ghost use Rattle.std.specs.Prelude.{ℕ, ◌≡◌, ◌∷◌, [], ◌<◌, slice_get, Some, None, IfOk, IfSome, IsOk, OnOk, OnErr, IsErrOf, IsOkUnless, MatchOption, true, false, option_copied};
+ghost use Rattle.std.specs.Prelude.{ℕ, ◌≡◌, ◌∷◌, [], ◌<◌, slice_get, Some, None, IfOk, IfSome, IsOk, OnOk, OnErr};
+ghost use Rattle.std.specs.Prelude.{IsErrOf, IsOkUnless, MatchOption, true, false, option_copied};
 ghost use Rattle.sat_act.specs.Deployed.{Deployed};
 ghost use Rattle.sat_model.specs.State.{SiteState, fresh_site};
 ghost use Rattle.sat_proxy.specs.Proxy.{front_at};
@@ -13,7 +14,9 @@ ghost use Rattle.sat_site.specs.Stands.{StandsSite};
 ghost use Rattle.sat_site.specs.declared.input.SiteInput.TheVariants as input;
 ghost use Rattle.sat_store_example.specs.declared.fault.ReplicaFault.TheVariants as fault;
 ghost use Rattle.sat_store_example.specs.Duties.{duty_input, sending_input};
-ghost use Rattle.sat_store_example.specs.Replicas.{arrive_fault, attach_fault, call_fault, hand_fault, has_lane, inbox_after, joined, next_label, posted, told, with_site, MayTell, ReadsNewer};
+ghost use Rattle.sat_store_example.specs.Replicas.{arrive_fault, attach_fault, call_fault, hand_fault, has_lane};
+ghost use Rattle.sat_store_example.specs.Replicas.{inbox_after, joined, next_label, posted, told, with_site, MayTell};
+ghost use Rattle.sat_store_example.specs.Replicas.{ReadsNewer};
 ghost use Rattle.sat_store_example.specs.Waiting.{is_it, link_of, no_links, with_label, without_front};
 ghost use Rattle.sat_store_example.specs.declared.links.TheConstants.{LINKS};
 
@@ -308,7 +311,11 @@ impl Replica {
         ensures answer { IfOk result (λ answer. answer ≡ site_answers self.old.site (sending_input sending)) }
         ensures after { OnOk result
             (self.new
-            ≡ record self.old { site = site_after self.old.site (sending_input sending); outbox = posted self.old.outbox self.old.site.views.emission (site_sends self.old.site (sending_input sending)) }) }
+            ≡ record self.old {
+              site = site_after self.old.site (sending_input sending);
+              outbox = posted self.old.outbox self.old.site.views.emission
+                  (site_sends self.old.site (sending_input sending));
+            }) }
         ensures err { OnErr result (self.new ≡ self.old) }
     {
         let given = sending.input();
@@ -408,7 +415,10 @@ impl Replica {
         ensures answer { IfOk result (λ answer. answer
             ≡ site_answers self.old.site (input.Turn (next_label self.old))) }
         ensures after { IfOk result (λ answer. self.new
-            ≡ record self.old { site = site_after self.old.site (input.Turn (next_label self.old)); inbox = inbox_after answer self.old.site.views.view self.old.inbox }) }
+            ≡ record self.old {
+              site = site_after self.old.site (input.Turn (next_label self.old));
+              inbox = inbox_after answer self.old.site.views.view self.old.inbox;
+            }) }
         ensures err { OnErr result (self.new ≡ self.old) }
     {
         let view = self.site.view();

@@ -1,5 +1,6 @@
 -- What a reader of pieces shows.
-use Rattle.std.specs.Prelude.{◌==◌, ℕ, ◌≡◌, ◌≢◌, ◌≤◌, ◌+◌, ◌-◌, ◌*◌, List, [], ◌∷◌, ◌++◌, length, ◌&&◌, nat_lt, Some, None, Ok, Err, IfSome, MatchResult, if◌then◌else◌}
+use Rattle.std.specs.Prelude.{◌==◌, ℕ, ◌≡◌, ◌≢◌, ◌≤◌, ◌+◌, ◌-◌, ◌*◌, List, [], ◌∷◌, ◌++◌, length, ◌&&◌, nat_lt, Some}
+use Rattle.std.specs.Prelude.{None, Ok, Err, IfSome, MatchResult, if◌then◌else◌}
 use Rattle.std.specs.declared.option.Option.{Option}
 use Rattle.std.specs.declared.result.Result.{Result}
 use Rattle.std.specs.List.{slice_split}

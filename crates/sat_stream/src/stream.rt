@@ -1,5 +1,6 @@
 //! A reader that takes a script in pieces.
-ghost use Rattle.std.specs.Prelude.{◌≡◌, ◌≢◌, ℕ, ◌+◌, ◌≤◌, true, List, [], ◌∷◌, ◌++◌, length, None, Some, IfSome, IfErr, OnOk, OnErr, MatchOption};
+ghost use Rattle.std.specs.Prelude.{◌≡◌, ◌≢◌, ℕ, ◌+◌, ◌≤◌, true, List, [], ◌∷◌, ◌++◌, length, None, Some, IfSome};
+ghost use Rattle.std.specs.Prelude.{IfErr, OnOk, OnErr, MatchOption};
 ghost use Rattle.sat_stream.specs.Reading.{reading, UnlessMemory};
 ghost use Rattle.sat_script.specs.Spelled.{AreActsOf, HaveNames};
 ghost use Rattle.sat_script.specs.Words.{HasNo, IsCut};
@@ -52,7 +53,8 @@ impl Model for ScriptReader {
 }
 
 impl ScriptReader {
-    ghost use Rattle.sat_stream.specs.Stream.{will_be, known_fault, Knows, bytes_of, line_of, stuck_with, TakesPiece, behind, drained, LacksOnlyItsEnd};
+    ghost use Rattle.sat_stream.specs.Stream.{will_be, known_fault, Knows, bytes_of, line_of, stuck_with, TakesPiece};
+    ghost use Rattle.sat_stream.specs.Stream.{behind, drained, LacksOnlyItsEnd};
 
     /// A reader at the beginning of a script.
     pub fn new(alloc: Global, live: bool) -> ScriptReader

@@ -1,5 +1,6 @@
 -- A tree cut at an edge.
-use Rattle.std.specs.Prelude.{ℕ, zero, suc, Bool, false, ◌||◌, not, ◌==◌, List, [], ◌∷◌, ◌++◌, length, map, filter, Option, ◌≡◌, ◌<◌, Some, None, slice_get, if◌then◌else◌, unwrap_or}
+use Rattle.std.specs.Prelude.{ℕ, zero, suc, Bool, false, ◌||◌, not, ◌==◌, List, [], ◌∷◌, ◌++◌, length, map, filter}
+use Rattle.std.specs.Prelude.{Option, ◌≡◌, ◌<◌, Some, None, slice_get, if◌then◌else◌, unwrap_or}
 use Rattle.sat_label.specs.declared.node.NodeId.{NodeId}
 use Rattle.sat_label.specs.declared.node.NodeId.TheVariants.{Site, Serializer}
 use Rattle.sat_label.specs.Order.{node_eq}

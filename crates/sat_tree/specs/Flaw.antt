@@ -1,5 +1,6 @@
 -- What keeps lists of parents and seats from being a tree.
-use Rattle.std.specs.Prelude.{ℕ, ◌+◌, ◌≤◌, ◌<◌, ◌==◌, ◌&&◌, Bool, nat_lt, nat_le, List, length, Option, Some, None, if◌then◌else◌}
+use Rattle.std.specs.Prelude.{ℕ, ◌+◌, ◌≤◌, ◌<◌, ◌==◌, ◌&&◌, Bool, nat_lt, nat_le, List, length, Option, Some, None}
+use Rattle.std.specs.Prelude.{if◌then◌else◌}
 use Rattle.sat_label.specs.declared.limits.TheConstants.{MOST_SERIALIZERS, MOST_SITES}
 use Rattle.sat_label.specs.Words.{first_failing}
 use Rattle.sat_tree.specs.declared.fault.TreeFault.{TreeFault}

@@ -11,7 +11,8 @@ pub enum TreeFault {
     /// This many serializers: none, or more than 15.
     #[error("a tree has 1 to 15 serializers, and not {0}")]
     TooMany(usize),
-    /// The first place that makes it no tree: a serializer whose parent is wrong, or, counted on from the last serializer,
+    /// The first place that makes it no tree: a serializer whose parent is wrong, or, counted on from the last
+    /// serializer,
     /// a site whose seat is none of them.
     #[error("no tree at place {0}")]
     NotATree(u16),

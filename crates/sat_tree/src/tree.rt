@@ -1,5 +1,6 @@
 //! Trees.
-ghost use Rattle.std.specs.Prelude.{◌≡◌, ◌≢◌, ℕ, ◌<◌, ◌≤◌, ◌&&◌, nat_lt, true, length, IfOk, slice_get, Some, MatchOption, IsOkUnless, IsErrOf};
+ghost use Rattle.std.specs.Prelude.{◌≡◌, ◌≢◌, ℕ, ◌<◌, ◌≤◌, ◌&&◌, nat_lt, true, length, IfOk, slice_get, Some};
+ghost use Rattle.std.specs.Prelude.{MatchOption, IsOkUnless, IsErrOf};
 ghost use Rattle.sat_label.specs.declared.node.NodeId.TheVariants.{Site};
 ghost use Rattle.sat_label.specs.declared.limits.TheConstants.{MOST_SITES};
 ghost use Rattle.sat_label.specs.Words.{bit};

@@ -1,5 +1,6 @@
 -- The greatest point of each item that a reader's past is known to have.
-use Rattle.std.specs.Prelude.{◌≡◌, ◌<◌, ◌≤◌, ◌-◌, ◌==◌, not, ℕ, Bool, true, false, List, length, get_or, Option, Some, None, if◌then◌else◌}
+use Rattle.std.specs.Prelude.{◌≡◌, ◌<◌, ◌≤◌, ◌-◌, ◌==◌, not, ℕ, Bool, true, false, List, length, get_or, Option, Some}
+use Rattle.std.specs.Prelude.{None, if◌then◌else◌}
 use Rattle.sat_label.specs.declared.point.Point.{Point}
 use Rattle.sat_label.specs.Order.{point_le, zero_point}
 use Rattle.sat_label.specs.Words.{has}

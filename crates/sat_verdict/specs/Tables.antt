@@ -1,5 +1,6 @@
 -- The tables that the checker replicates.
-use Rattle.std.specs.Prelude.{◌≡◌, ◌<◌, ◌-◌, ◌==◌, ◌&&◌, nat_lt, nat_le, max, map, set, ℕ, zero, suc, false, List, [], ◌∷◌, length, reverse, take, get_or, Option, Some, None, if◌then◌else◌}
+use Rattle.std.specs.Prelude.{◌≡◌, ◌<◌, ◌-◌, ◌==◌, ◌&&◌, nat_lt, nat_le, max, map, set, ℕ, zero, suc, false, List, []}
+use Rattle.std.specs.Prelude.{◌∷◌, length, reverse, take, get_or, Option, Some, None, if◌then◌else◌}
 use Rattle.std.specs.Ordering.{nat_cmp, ordering_then}
 use Rattle.std.specs.declared.cmp.Ordering.{Ordering}
 use Rattle.sat_label.specs.declared.point.Point.{Point}

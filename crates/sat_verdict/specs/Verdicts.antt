@@ -3,7 +3,8 @@ use Rattle.std.specs.Prelude.{◌≡◌, ◌≤◌, ℕ, suc, List, length, Opti
 use Rattle.sat_label.specs.declared.point.Point.{Point}
 use Rattle.sat_label.specs.declared.site_set.SiteSet.{SiteSet}
 use Rattle.sat_verdict.specs.declared.tale.Tale.{Tale}
-use Rattle.sat_verdict.specs.Goals.{ShowsNow, Lacks, Misses, ShowsNew, CausalTo, Causal, OnceTo, Once, FreshTo, Fresh, Stands, MadeAt}
+use Rattle.sat_verdict.specs.Goals.{ShowsNow, Lacks, Misses, ShowsNew, CausalTo, Causal, OnceTo, Once, FreshTo, Fresh}
+use Rattle.sat_verdict.specs.Goals.{Stands, MadeAt}
 
 -- entry n shows a point at site k that lacks a cause there, the one that entry m made and no lower entry; no entry
 -- before n does so

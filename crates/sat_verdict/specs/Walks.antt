@@ -1,5 +1,6 @@
 -- Walks over the entries of one client, and what such a walk shows of a site.
-use Rattle.std.specs.Prelude.{◌≡◌, ◌<◌, ◌≤◌, ◌+◌, ◌-◌, ◌==◌, ◌&&◌, not, ℕ, Bool, false, List, [], length, get_or, set, Option, Some, None}
+use Rattle.std.specs.Prelude.{◌≡◌, ◌<◌, ◌≤◌, ◌+◌, ◌-◌, ◌==◌, ◌&&◌, not, ℕ, Bool, false, List, [], length, get_or, set}
+use Rattle.std.specs.Prelude.{Option, Some, None}
 use Rattle.sat_label.specs.declared.site_set.SiteSet.{SiteSet}
 use Rattle.sat_label.specs.Words.{bit}
 use Rattle.sat_verdict.specs.declared.tale.Tale.{Tale}

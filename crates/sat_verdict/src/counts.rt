@@ -1,7 +1,8 @@
 //! Of each client, how far its entries are known: by the client of each entry before it.
 ghost use Rattle.std.specs.Prelude.{◌≡◌, ◌≤◌, length, map, reverse, IfOk};
 ghost use Rattle.sat_verdict.specs.declared.limits.TheConstants.{MOST_ENTRIES};
-ghost use Rattle.sat_verdict.specs.Tables.{number_in, row_before, AreBlankTo, AreRows, IsUnique, HasClients, Learns, Raises};
+ghost use Rattle.sat_verdict.specs.Tables.{number_in, row_before, AreBlankTo, AreRows, IsUnique, HasClients, Learns};
+ghost use Rattle.sat_verdict.specs.Tables.{Raises};
 
 use crate::Tale;
 use crate::row::{Row, filled};

@@ -1,5 +1,6 @@
 //! The verdicts on causes and on showing once: one pass over the entries.
-ghost use Rattle.std.specs.Prelude.{◌≡◌, ◌≢◌, ◌≤◌, ◌<◌, ◌-◌, ◌&&◌, ◌==◌, not, true, ℕ, Some, None, [], get_or, length, map, reverse, IfOk, IsTrue};
+ghost use Rattle.std.specs.Prelude.{◌≡◌, ◌≢◌, ◌≤◌, ◌<◌, ◌-◌, ◌&&◌, ◌==◌, not, true, ℕ, Some, None, [], get_or, length};
+ghost use Rattle.std.specs.Prelude.{map, reverse, IfOk, IsTrue};
 ghost use Rattle.sat_label.specs.Words.{bit};
 ghost use Rattle.sat_label.specs.Grouped.{list_of};
 ghost use Rattle.sat_verdict.specs.declared.limits.TheConstants.{MOST_ENTRIES};

@@ -1,5 +1,7 @@
 -- Each code is exact where its parts are.
-use Rattle.std.proofs.Common.{◌≡◌, ℕ, zero, suc, ◌+◌, ◌*◌, ◌<◌, ◌≤◌, ◌^◌, Bool, true, false, List, [], ◌∷◌, ◌++◌, length, take, drop, Option, Some, None, Ok, Err, refl, sym, ◌∙◌, ap, subst, arith, inl, inr, append_assoc, length-append, take-append-drop}
+use Rattle.std.proofs.Common.{◌≡◌, ℕ, zero, suc, ◌+◌, ◌*◌, ◌<◌, ◌≤◌, ◌^◌, Bool, true, false, List, [], ◌∷◌, ◌++◌}
+use Rattle.std.proofs.Common.{length, take, drop, Option, Some, None, Ok, Err, refl, sym, ◌∙◌, ap, subst, arith, inl}
+use Rattle.std.proofs.Common.{inr, append_assoc, length-append, take-append-drop}
 use native.Mathlib.Nat.{mul-le-mul_right, suc-mul}
 use Rattle.std.specs.Prelude.{slice_index, nat_lt, if◌then◌else◌}
 use Rattle.std.specs.declared.result.Result.{Result}
@@ -11,7 +13,9 @@ use Rattle.std.proofs.lemmas.Bool.Decides.{nat_tests}
 use Rattle.std.proofs.lemmas.List.{drop_at, get_or-take, get_or-drop, get_or_past, length-take, length-take-le}
 use Rattle.sat_wire.specs.declared.fault.Cause.{Cause}
 use Rattle.sat_wire.specs.declared.fault.Stop.{Stop}
-use Rattle.sat_wire.specs.Code.{Read, Code, AreBytes, IsExact, and_then, both_fit, all_fit, byte_at, byte, number16, number64, nothing, both, mapped, checked, made, stopped, ended, spelled_if, fits_if, read_if, optional, read_members, counted}
+use Rattle.sat_wire.specs.Code.{Read, Code, AreBytes, IsExact, and_then, both_fit, all_fit, byte_at, byte, number16}
+use Rattle.sat_wire.specs.Code.{number64, nothing, both, mapped, checked, made, stopped, ended, spelled_if, fits_if}
+use Rattle.sat_wire.specs.Code.{read_if, optional, read_members, counted}
 
 pub taken_bytes : (n : ℕ) (bytes : List ℕ) → AreBytes bytes → AreBytes (take n bytes)
 taken_bytes n bytes small i = elim (cases_lt i n) [
@@ -117,12 +121,20 @@ only16 bytes rest n small is =
     let taken = taken_bytes 2 bytes small in
     let spelled : to_be_bytes w16 n ≡ take 2 bytes =
     be_bytes_2 (take 2 bytes) n (length-take-le 2 bytes enough) taken value in
-    let below : n < 65536 = omega (arith, value, taken 0, taken 1) in
-    (sym (take-append-drop 2 bytes) ∙ ap (λ (l : List ℕ). l ++ drop 2 bytes) (sym spelled) ∙ ap (λ (l : List ℕ). to_be_bytes w16 n ++ l) after, grind (arith, nat_tests, below))
+    let below : n < 65536 = omega (arith, value, taken 0, taken 1) in (
+      sym (take-append-drop 2 bytes) ∙ ap (λ (l : List ℕ). l ++ drop 2 bytes) (sym spelled)
+          ∙ ap (λ (l : List ℕ). to_be_bytes w16 n ++ l) after,
+      grind (arith, nat_tests, below),
+    )
 
 pub exact16 : IsExact number16
 exact16 =
-    record { again = again16; only = only16; short = λ x fits. omega arith; inside = λ bytes stop small is. ends_inside (nat_lt (length bytes) 2) _ stop (length bytes) is }
+    record {
+      again = again16;
+      only = only16;
+      short = λ x fits. omega arith;
+      inside = λ bytes stop small is. ends_inside (nat_lt (length bytes) 2) _ stop (length bytes) is;
+    }
 
 again64 : (n : ℕ) (rest : List ℕ) → number64.fits n ≡ true → number64.read (to_be_bytes w64 n ++ rest) ≡ Ok (n, rest)
 again64 n rest fits =
@@ -145,12 +157,20 @@ only64 bytes rest n small is =
     let spelled : to_be_bytes w64 n ≡ take 8 bytes =
     be_bytes_8 (take 8 bytes) n (length-take-le 8 bytes enough) taken value in
     let below : n < 18446744073709551616 =
-    omega (arith, value, taken 0, taken 1, taken 2, taken 3, taken 4, taken 5, taken 6, taken 7) in
-    (sym (take-append-drop 8 bytes) ∙ ap (λ (l : List ℕ). l ++ drop 8 bytes) (sym spelled) ∙ ap (λ (l : List ℕ). to_be_bytes w64 n ++ l) after, grind (arith, nat_tests, below))
+    omega (arith, value, taken 0, taken 1, taken 2, taken 3, taken 4, taken 5, taken 6, taken 7) in (
+      sym (take-append-drop 8 bytes) ∙ ap (λ (l : List ℕ). l ++ drop 8 bytes) (sym spelled)
+          ∙ ap (λ (l : List ℕ). to_be_bytes w64 n ++ l) after,
+      grind (arith, nat_tests, below),
+    )
 
 pub exact64 : IsExact number64
 exact64 =
-    record { again = again64; only = only64; short = λ x fits. omega arith; inside = λ bytes stop small is. ends_inside (nat_lt (length bytes) 8) _ stop (length bytes) is }
+    record {
+      again = again64;
+      only = only64;
+      short = λ x fits. omega arith;
+      inside = λ bytes stop small is. ends_inside (nat_lt (length bytes) 8) _ stop (length bytes) is;
+    }
 
 -- the greatest numbers
 pub byte_high : (n : ℕ) → byte.fits n ≡ true → n ≤ 255
@@ -165,8 +185,11 @@ pub exact_nothing : IsExact nothing
 exact_nothing = record {
   again = λ x rest fits. refl;
   only =
-      λ bytes rest x small is.
-      (ap (λ (z : Unit {0} × List ℕ). z.1) (let same : (let z : Unit {0} × List ℕ = (tt, bytes) in z) ≡ (x, rest) = cc in same), refl);
+      λ bytes rest x small is. (
+        ap (λ (z : Unit {0} × List ℕ). z.1) (let same : (let z : Unit {0} × List ℕ = (tt, bytes) in z)
+            ≡ (x, rest) = cc in same),
+        refl,
+      );
   short = λ x fits. omega arith;
   inside = λ bytes stop small is. cc;
 }
@@ -193,8 +216,11 @@ module _ {A B : Type 0} (first : Code A) (second : Code B) (p : IsExact first) (
       let back = q.only x.0.1 y.0.1 y.0.0 (rest_bytes (first.spell x.0.0) x.0.1 bytes front.0 small) y.1 in
       let same : (let z : (A × B) × List ℕ = ((x.0.0, y.0.0), y.0.1) in z) ≡ (pair, rest) = cc (y.2) in
       subst (λ (z : (A × B) × List ℕ). (bytes ≡ (first.spell z.0.0 ++ second.spell z.0.1) ++ z.1)
-      × (both_fit (first.fits z.0.0) (second.fits z.0.1) ≡ true)) same
-      (front.0 ∙ ap (λ (l : List ℕ). first.spell x.0.0 ++ l) back.0 ∙ sym (append_assoc (first.spell x.0.0) (second.spell y.0.0) y.0.1), and_is (first.fits x.0.0) (second.fits y.0.0) front.1 back.1)
+      × (both_fit (first.fits z.0.0) (second.fits z.0.1) ≡ true)) same (
+        front.0 ∙ ap (λ (l : List ℕ). first.spell x.0.0 ++ l) back.0
+            ∙ sym (append_assoc (first.spell x.0.0) (second.spell y.0.0) y.0.1),
+        and_is (first.fits x.0.0) (second.fits y.0.0) front.1 back.1,
+      )
 
   both_short : (pair : A × B) → (both first second).fits pair ≡ true
       → length (first.spell pair.0 ++ second.spell pair.1) ≤ first.most + second.most
@@ -224,8 +250,11 @@ module _ {A B : Type 0} (to : A → B) where
       → (x : A) × (o ≡ Ok (x, rest)) × (y ≡ to x)
   made_of o y rest is =
       let x = went_on o (λ x. Ok (to x.0, x.1)) (y, rest) is in
-      let same : (let z : B × List ℕ = (to x.0.0, x.0.1) in z) ≡ (y, rest) = cc (x.2) in
-      (x.0.0, x.1 ∙ ap (λ (l : List ℕ). let r : Read A = Ok (x.0.0, l) in r) (ap (λ (z : B × List ℕ). z.1) same), ap (λ (z : B × List ℕ). z.0) (sym same))
+      let same : (let z : B × List ℕ = (to x.0.0, x.0.1) in z) ≡ (y, rest) = cc (x.2) in (
+        x.0.0,
+        x.1 ∙ ap (λ (l : List ℕ). let r : Read A = Ok (x.0.0, l) in r) (ap (λ (z : B × List ℕ). z.1) same),
+        ap (λ (z : B × List ℕ). z.0) (sym same),
+      )
 
   -- where that stops, the reading does
   pub made_stops : (o : Read A) (stop : Stop) → made to o ≡ Err stop → o ≡ Err stop

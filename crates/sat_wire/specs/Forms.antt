@@ -1,5 +1,6 @@
 -- Values of several forms are read exactly where each form is.
-use Rattle.std.proofs.Common.{◌≡◌, ℕ, zero, suc, ◌+◌, ◌≤◌, Bool, true, List, [], ◌∷◌, ◌++◌, length, Ok, Err, sym, ◌∙◌, ap, arith}
+use Rattle.std.proofs.Common.{◌≡◌, ℕ, zero, suc, ◌+◌, ◌≤◌, Bool, true, List, [], ◌∷◌, ◌++◌, length, Ok, Err, sym, ◌∙◌}
+use Rattle.std.proofs.Common.{ap, arith}
 use Rattle.std.specs.Prelude.{slice_get}
 use Rattle.sat_wire.specs.declared.fault.Cause.{Cause}
 use Rattle.sat_wire.specs.declared.fault.Stop.{Stop}
@@ -27,8 +28,11 @@ module _ {A : Type 0} (number : A → ℕ) (fields : A → List ℕ) (fits : A �
     form_of = record {
       only = λ bytes rest y small is.
           let x = made_of to (code.read bytes) y rest is in
-          let front = p.only bytes rest x.0 small x.1 in
-          (ap number x.2 ∙ numbered x.0, front.0 ∙ ap (λ (l : List ℕ). l ++ rest) (sym (ap fields x.2 ∙ spelled x.0)), ap fits x.2 ∙ fitting x.0 ∙ front.1);
+          let front = p.only bytes rest x.0 small x.1 in (
+            ap number x.2 ∙ numbered x.0,
+            front.0 ∙ ap (λ (l : List ℕ). l ++ rest) (sym (ap fields x.2 ∙ spelled x.0)),
+            ap fits x.2 ∙ fitting x.0 ∙ front.1,
+          );
       inside = λ bytes stop small is. let left =
           p.inside bytes stop small (made_stops to (code.read bytes) stop is) in omega (arith, left);
     }

@@ -10,8 +10,10 @@ use Rattle.sat_label.specs.declared.label.Label.{Label}
 use Rattle.sat_label.specs.declared.carried.Carried.{Carried}
 use Rattle.sat_label.specs.Grouped.{are_items, list_of}
 use Rattle.sat_wire.specs.declared.fault.Cause.TheVariants as cause
-use Rattle.sat_wire.specs.Code.{Read, Code, IsExact, byte, number16, number64, nothing, both, mapped, checked, made, stopped, optional, counted, chosen, read_form}
-use Rattle.sat_wire.specs.Exact.{exact_byte, exact16, exact64, exact_nothing, exact_both, exact_mapped, exact_checked, exact_optional, exact_counted, byte_high}
+use Rattle.sat_wire.specs.Code.{Read, Code, IsExact, byte, number16, number64, nothing, both, mapped, checked, made}
+use Rattle.sat_wire.specs.Code.{stopped, optional, counted, chosen, read_form}
+use Rattle.sat_wire.specs.Exact.{exact_byte, exact16, exact64, exact_nothing, exact_both, exact_mapped, exact_checked}
+use Rattle.sat_wire.specs.Exact.{exact_optional, exact_counted, byte_high}
 use Rattle.sat_wire.specs.Forms.{AreForms, form_of, form_again, no_form, exact_chosen}
 use Rattle.sat_wire.specs.Texts.{value, exact_value}
 

@@ -6,7 +6,8 @@ use Rattle.sat_label.specs.declared.point.Point.{Point}
 use Rattle.sat_bulk.specs.Payloads.{Payload}
 use Rattle.sat_beat.specs.declared.Beat.{Beat}
 use Rattle.sat_wire.specs.Code.{Code, IsExact, both_fit, byte, number16, number64, both, mapped, optional, counted}
-use Rattle.sat_wire.specs.Exact.{exact_byte, exact16, exact64, exact_both, exact_mapped, exact_optional, exact_counted, byte_high, high16}
+use Rattle.sat_wire.specs.Exact.{exact_byte, exact16, exact64, exact_both, exact_mapped, exact_optional, exact_counted}
+use Rattle.sat_wire.specs.Exact.{byte_high, high16}
 use Rattle.sat_wire.specs.Labels.{exact_label, exact_point, label, label_allows, point, values}
 use Rattle.sat_wire.specs.Texts.{exact_value, value}
 

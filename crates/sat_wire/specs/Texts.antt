@@ -1,5 +1,6 @@
 -- Bytes with their count before them, and the values of items.
-use Rattle.std.proofs.Common.{◌≡◌, ℕ, suc, ◌+◌, ◌<◌, ◌≤◌, Bool, true, false, ◌&&◌, List, [], ◌∷◌, ◌++◌, length, take, drop, Ok, Err, refl, sym, ◌∙◌, ap, arith, append_assoc, length-append, take-append-drop}
+use Rattle.std.proofs.Common.{◌≡◌, ℕ, suc, ◌+◌, ◌<◌, ◌≤◌, Bool, true, false, ◌&&◌, List, [], ◌∷◌, ◌++◌, length, take}
+use Rattle.std.proofs.Common.{drop, Ok, Err, refl, sym, ◌∙◌, ap, arith, append_assoc, length-append, take-append-drop}
 use Rattle.std.specs.Prelude.{nat_le, nat_lt, if◌then◌else◌}
 use Rattle.std.specs.List.{list_all}
 use Rattle.std.specs.Int.{w16, to_be_bytes}
@@ -9,7 +10,8 @@ use Rattle.sat_label.specs.Text.{is_between, is_value}
 use Rattle.sat_wire.specs.declared.fault.Cause.TheVariants as cause
 use Rattle.sat_wire.specs.declared.fault.Stop.{Stop}
 use Rattle.sat_wire.specs.Code.{Read, Code, AreBytes, IsExact, all_fit, byte, number16, checked, ended, bytes_at, text}
-use Rattle.sat_wire.specs.Exact.{taken_bytes, rest_bytes, went_on, goes_on, part_stops, and_both, and_is, passed, ends_inside, exact16, exact_checked}
+use Rattle.sat_wire.specs.Exact.{taken_bytes, rest_bytes, went_on, goes_on, part_stops, and_both, and_is, passed}
+use Rattle.sat_wire.specs.Exact.{ends_inside, exact16, exact_checked}
 
 -- ---- bytes
 

@@ -1,5 +1,6 @@
 -- What all of some bytes spell.
-use Rattle.std.proofs.Common.{◌≡◌, ℕ, ◌-◌, Bool, true, false, List, [], ◌++◌, length, Ok, Err, refl, sym, ◌∙◌, ap, arith}
+use Rattle.std.proofs.Common.{◌≡◌, ℕ, ◌-◌, Bool, true, false, List, [], ◌++◌, length, Ok, Err, refl, sym, ◌∙◌, ap}
+use Rattle.std.proofs.Common.{arith}
 use Rattle.std.specs.Prelude.{nat_lt, if◌then◌else◌}
 use Rattle.std.specs.declared.result.Result.{Result}
 use Rattle.std.proofs.lemmas.Bool.Decides.{nat_tests}
@@ -57,8 +58,10 @@ module _ {A : Type 0} (code : Code A) (exact : IsExact code) where
       let y = went_on (code.read bytes) closed x (placed_ok (length bytes) (and_then (code.read bytes) closed) x is) in
       let p = none_behind (nat_lt 0 (length y.0.1)) y.0.0 x (length y.0.1) y.2 in
       let empty : y.0.1 ≡ [] = nil_from_length y.0.1 (grind (arith, nat_tests, p.0)) in
-      let front = exact.only bytes y.0.1 y.0.0 small y.1 in
-      (front.0 ∙ ap (λ (l : List ℕ). code.spell y.0.0 ++ l) empty ∙ append-nil (code.spell y.0.0) ∙ ap code.spell p.1, ap code.fits (sym p.1) ∙ front.1)
+      let front = exact.only bytes y.0.1 y.0.0 small y.1 in (
+        front.0 ∙ ap (λ (l : List ℕ). code.spell y.0.0 ++ l) empty ∙ append-nil (code.spell y.0.0) ∙ ap code.spell p.1,
+        ap code.fits (sym p.1) ∙ front.1,
+      )
 
   pub value_is : (bytes : List ℕ) (x y : A) → code.fits x ≡ true → bytes ≡ code.spell x
       → whole code bytes ≡ Ok y → y ≡ x

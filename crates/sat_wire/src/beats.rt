@@ -1,6 +1,7 @@
 //! Beats, and the lists in them.
 ghost use Rattle.std.specs.Prelude.{◌≡◌, ◌+◌, ◌≤◌, ◌++◌, true, nat_lt, length};
-ghost use Rattle.sat_wire.specs.Payloads.{beat, beat_allows, counts, exact_beat, exact_counts, exact_points, points, small_beat, small_counts, small_points};
+ghost use Rattle.sat_wire.specs.Payloads.{beat, beat_allows, counts, exact_beat, exact_counts, exact_points, points};
+ghost use Rattle.sat_wire.specs.Payloads.{small_beat, small_counts, small_points};
 
 use crate::Wire;
 use crate::fault::ReadFault;

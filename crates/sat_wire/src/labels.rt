@@ -4,7 +4,9 @@ ghost use Rattle.sat_label.specs.declared.items.Items.TheVariants as items_of;
 ghost use Rattle.sat_wire.specs.Bounds.{small9, small10, small22, small23};
 ghost use Rattle.sat_wire.specs.Code.{allowed_if, made, number16, optional, StopsAt};
 ghost use Rattle.sat_wire.specs.Exact.{exact_optional};
-ghost use Rattle.sat_wire.specs.Labels.{ascend, exact_items, exact_kind, exact_label, four, four_of, items, kind_allows, label, label_allows, label_kind, numbers, numbers_fit, three, three_of, two, two_of};
+ghost use Rattle.sat_wire.specs.Labels.{ascend, exact_items, exact_kind, exact_label, four, four_of, items};
+ghost use Rattle.sat_wire.specs.Labels.{kind_allows, label, label_allows, label_kind, numbers, numbers_fit, three};
+ghost use Rattle.sat_wire.specs.Labels.{three_of, two, two_of};
 
 use crate::Wire;
 use crate::fault::{Cause, ReadFault, Stop};

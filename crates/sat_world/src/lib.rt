@@ -7,6 +7,7 @@ mod clocks;
 mod nets;
 mod places;
 mod start;
+mod tally;
 mod underway;
 mod world;
 

@@ -1,6 +1,7 @@
 //! What one act does to the net of an epoch: None stands for an epoch of stamp order, in which no label goes over a
 //! link.
-ghost use Rattle.std.specs.Prelude.{ℕ, ◌≡◌, ◌<◌, true, length, slice_get, Some, None, Option, IsSome, IfOk, OnOk, OnErr};
+ghost use Rattle.std.specs.Prelude.{ℕ, ◌≡◌, ◌<◌, true, length, slice_get, Some, None, Option, IsSome, IfOk, OnOk};
+ghost use Rattle.std.specs.Prelude.{OnErr};
 ghost use Rattle.sat_label.specs.declared.label.Label.{Label};
 ghost use Rattle.sat_label.specs.declared.node.NodeId.TheVariants.{Serializer as SerializerNode};
 ghost use Rattle.sat_tree.specs.Cut.{is_edge, IsNode};

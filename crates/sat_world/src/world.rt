@@ -1,5 +1,6 @@
 //! The world of all acts but a settle.
-ghost use Rattle.std.specs.Prelude.{◌≡◌, ◌<◌, ◌+◌, ℕ, true, false, List, [], ◌∷◌, length, slice_get, IfOk, IsNone, OnErr, IsOk, MatchOption, Some, None};
+ghost use Rattle.std.specs.Prelude.{◌≡◌, ◌<◌, ◌+◌, ℕ, true, false, List, [], ◌∷◌, length, slice_get, IfOk, IsNone};
+ghost use Rattle.std.specs.Prelude.{OnErr, IsOk, MatchOption, Some, None};
 ghost use Rattle.sat_act.specs.declared.act.Act.{Act as ActSeen};
 ghost use Rattle.sat_act.specs.declared.entry.Entry.{Entry};
 ghost use Rattle.sat_act.specs.Answers.{answer};
@@ -7,11 +8,12 @@ ghost use Rattle.sat_act.specs.Runs.{IsRun, is_settle};
 ghost use Rattle.sat_act.specs.Ranges.{IsActOf};
 ghost use Rattle.sat_act.specs.Settling.{is_done, capped};
 ghost use Rattle.sat_act.specs.Headline.{IsGood};
-ghost use Rattle.sat_act.specs.Parts.{view, emission, in_stamp_mode, waiting, replicates, version, carried, moving, seat, tree_of, entered, taken};
+ghost use Rattle.sat_act.specs.Parts.{view, emission, in_stamp_mode, waiting, replicates, version, carried, moving};
+ghost use Rattle.sat_act.specs.Parts.{seat, tree_of, entered, taken};
 ghost use Rattle.sat_tree.specs.Shape.{TreeShape};
 ghost use Rattle.sat_label.specs.declared.node.NodeId.TheVariants.{Serializer as SerializerNode};
 ghost use Rattle.sat_world.specs.TakesNone.{takes_none};
-ghost use Rattle.sat_world.specs.Counts.{counted, shown_count};
+ghost use Rattle.sat_world.specs.Counts.{shown_count};
 ghost use Rattle.sat_world.specs.Underway.{underway};
 ghost use Rattle.sat_world.specs.Applies.{Applies};
 ghost use Rattle.sat_world.specs.Steps.{act_at, is_quiet, WritesBy};
@@ -20,7 +22,7 @@ ghost use Rattle.sat_world.specs.Worlds.{IsWorld};
 ghost use Rattle.sat_world.specs.Shows.{IsVersion};
 ghost use Rattle.sat_world.specs.Stands.{StandsFor};
 
-use crate::{Client, SiteView, Version, clocks, nets, places, start, underway};
+use crate::{Client, SiteView, Version, clocks, nets, places, start, tally, underway};
 use sat_act::{Act, Answer, Deployment, Refusal};
 use sat_label::{Items, Label, NodeId, Value, Values};
 use sat_net::Net;
@@ -47,21 +49,25 @@ impl Model for World {
     ghost Value = { WorldSeen };
 
     ghost view = { λ w.
-        record { deployment = w.deployment; interest = w.interest; sites = w.sites.items; nets = w.nets.items; clients = w.clients.items; shown = w.shown } };
+        record {
+          deployment = w.deployment;
+          interest = w.interest;
+          sites = w.sites.items;
+          nets = w.nets.items;
+          clients = w.clients.items;
+          shown = w.shown;
+        } };
 
     ghost invariant = { λ w.
         IsWorld
-        (record { deployment = w.deployment; interest = w.interest; sites = w.sites.items; nets = w.nets.items; clients = w.clients.items; shown = w.shown }) };
-}
-
-// The number of answers Shown, after one more answer.
-fn more_shown(shown: u64, answer: &Answer) -> u64
-    ensures { result ≡ counted answer.now shown }
-{
-    match answer {
-        Answer::Shown(_) => shown.saturating_add(1),
-        _ => shown,
-    }
+        (record {
+          deployment = w.deployment;
+          interest = w.interest;
+          sites = w.sites.items;
+          nets = w.nets.items;
+          clients = w.clients.items;
+          shown = w.shown;
+        }) };
 }
 
 impl World {
@@ -281,7 +287,7 @@ impl World {
         ensures fine { IsOk result }
     {
         let answer = places::step_at(&mut self.sites, site, SiteInput::Stamp)?;
-        self.shown = more_shown(self.shown, &answer);
+        self.shown = tally::more_shown(self.shown, &answer);
         Ok(answer)
     }
 
@@ -504,7 +510,7 @@ impl World {
         let front = nets::front_at(&self.nets, place, site);
         let answer = places::turn_at(&mut self.sites, site, front);
         nets::take_at(&mut self.nets, place, site, &answer);
-        self.shown = more_shown(self.shown, &answer);
+        self.shown = tally::more_shown(self.shown, &answer);
         Ok(answer)
     }
 
