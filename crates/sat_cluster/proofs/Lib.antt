@@ -2,4 +2,5 @@ mod Marks
 mod Answering
 pub mod Doing
 mod Ending
+pub mod Locking
 pub mod Watching

@@ -1,9 +1,11 @@
 -- What contracts see of a cluster, and which sessions it gives.
-use Rattle.std.specs.Prelude.{ℕ, ◌≡◌, ◌+◌, Bool, true, false, List, length, filter, get_or, position, replicate, Option, Some, None}
+use Rattle.std.specs.Prelude.{ℕ, ◌≡◌, ◌+◌, Bool, true, false, List, length, filter, get_or, position, replicate, Option}
+use Rattle.std.specs.Prelude.{Some, None}
 use Rattle.std.specs.Str.{bytes_eq}
 use Rattle.sat_label.specs.declared.node.NodeName.{NodeName}
 use Rattle.sat_act.specs.Deployed.{Deployed}
 use Rattle.sat_opened.specs.Opened.{serial_names}
+use Rattle.sat_parts.specs.Layout.{gear_names}
 use Rattle.sat_cluster.specs.declared.fault.SessionFault.{SessionFault}
 use Rattle.sat_cluster.specs.declared.fault.SessionFault.TheVariants as fault
 
@@ -38,9 +40,11 @@ session_fault None given = Some fault.NoSuch
 session_fault (Some number) given = taken_if (get_or given number false)
 
 -- what a cluster keeps: its deployment, a lock for each node, the names of the serializers, and a mark for each session
-pub record IsCluster (d own : Deployed) (sites serials : ℕ) (names : List NodeName) (given : List Bool) : Type 0 where
+pub record IsCluster (d own : Deployed) (hubs gears serials : ℕ) (names : List NodeName) (given : List Bool)
+    : Type 0 where
   pub deployment : own ≡ d
-  pub site_locks : sites ≡ d.sites
+  pub hub_locks : hubs ≡ d.sites
+  pub gear_locks : gears ≡ length (gear_names d)
   pub serial_locks : serials ≡ length (serial_names d)
   pub names_are : names ≡ serial_names d
   pub marks : length given ≡ operator_number d + 1

@@ -1,3 +1,4 @@
 pub mod Clusters
 pub mod Doing
 pub mod Ends
+pub mod Locking

@@ -1,20 +1,26 @@
-//! What a session asks of a node that is lent to it, and what it answers alone.
-ghost use Rattle.std.specs.Prelude.{◌≡◌, ◌<◌, length, Some, None};
-ghost use Rattle.sat_label.specs.declared.node.NodeName.TheVariants.{Serializer as AtSerializer, Site as AtSite};
-ghost use Rattle.sat_act.specs.Answers.{InRange};
+//! What a session asks of nodes that are lent to it, and what it answers alone.
+ghost use Rattle.std.specs.Prelude.{◌≡◌, ◌<◌, length, map, Some, None};
+ghost use Rattle.sat_label.specs.declared.node.NodeName.TheVariants.{Gear as AtGear, Serializer as AtSerializer};
+ghost use Rattle.sat_label.specs.declared.node.NodeName.TheVariants.{Site as AtSite};
+ghost use Rattle.sat_act.specs.Answers.{InRange, gear_of};
+ghost use Rattle.sat_model.specs.Reply.{gear_for};
 ghost use Rattle.sat_stitch.specs.Places.{Client as OfClient, session_of};
 ghost use Rattle.sat_node.specs.Meanings.{Runs};
-ghost use Rattle.sat_machines.specs.Sites.{site_meaning};
 ghost use Rattle.sat_machines.specs.Serials.{serial_meaning};
+ghost use Rattle.sat_parts.specs.Gears.{gear_meaning};
+ghost use Rattle.sat_parts.specs.Hubs.{hub_meaning};
 ghost use Rattle.sat_session.specs.Calls.{IsGroup};
 ghost use Rattle.sat_cluster.specs.Doing.{Did, node_of};
 
 use sat_act::{Act, Answer};
 use sat_label::{Items, Value, Values};
-use sat_machines::{Laid, SerialNode, SiteNode};
+use sat_machines::{Laid, SerialNode};
 use sat_node::{CallFault, Held, Names};
-use sat_pump::Watched;
+use sat_parts::{GearNode, HubNode};
+use sat_parts_pump::Watched;
+use sat_parts_session::{attach, close, fall, move_to, read, write, writes};
 use sat_session::Session;
+use std::sync::MutexGuard;
 
 // ---- without a node
 
@@ -24,8 +30,8 @@ pub(crate) fn alone<N: Laid>(session: &mut Session<N>, act: Act) -> Result<Answe
     requires own { session_of act ≡ Some (OfClient session.old.number) }
     requires client { session.old.number < length N.deployment.clients }
     requires range { InRange N.deployment act }
-    requires nowhere { node_of act session.old.client.seat ≡ None }
-    ensures { Did act result session.old session.new }
+    requires nowhere { node_of N.deployment act session.old.client.seat ≡ None }
+    ensures { Did N.deployment act result session.old session.new }
 {
     session.alone(act)
 }
@@ -39,7 +45,7 @@ pub(crate) fn write_alone<N: Laid>(
 ) -> Result<Answer, CallFault>
     requires client { session.old.number < length N.deployment.clients }
     requires seat { session.old.client.seat ≡ None }
-    ensures { Did (Act.Write session.old.number item value.now) result session.old session.new }
+    ensures { Did N.deployment (Act.Write session.old.number item value.now) result session.old session.new }
 {
     if session.lamport() == u64::MAX {
         return Err(CallFault::Worn(u64::MAX));
@@ -69,7 +75,7 @@ pub(crate) fn writes_alone<N: Laid>(
     requires client { session.old.number < length N.deployment.clients }
     requires group { IsGroup N.deployment items values.now }
     requires seat { session.old.client.seat ≡ None }
-    ensures { Did (Act.Writes session.old.number items values.now) result session.old session.new }
+    ensures { Did N.deployment (Act.Writes session.old.number items values.now) result session.old session.new }
 {
     if session.lamport() == u64::MAX {
         return Err(CallFault::Worn(u64::MAX));
@@ -88,11 +94,18 @@ pub(crate) fn writes_alone<N: Laid>(
     )
 }
 
-// ---- at a node
+// ---- at nodes
 
-// What is known of a site's journal.
-fn site_runs<N: Laid + Names>(held: &Held<SiteNode<N>, N>)
-    ensures { Runs (site_meaning N.deployment) held.now.node.name held.now.node.entries }
+// What is known of a gear's journal.
+fn gear_runs<N: Laid + Names>(held: &Held<GearNode<N>, N>)
+    ensures { Runs (gear_meaning N.deployment) held.now.node.name held.now.node.entries }
+{
+    let _ = held.node().journal();
+}
+
+// What is known of a hub's journal.
+fn hub_runs<N: Laid + Names>(held: &Held<HubNode<N>, N>)
+    ensures { Runs (hub_meaning N.deployment) held.now.node.name held.now.node.entries }
 {
     let _ = held.node().journal();
 }
@@ -104,10 +117,10 @@ fn serial_runs<N: Laid + Names>(held: &Held<SerialNode<N>, N>)
     let _ = held.node().journal();
 }
 
-/// A write at the client's site.
+/// A write at the item's gear of the client's site.
 pub(crate) fn write_at<N: Laid + Names>(
     session: &mut Session<N>,
-    watched: &mut Watched<N>,
+    held: &mut Held<GearNode<N>, N>,
     site: u16,
     item: u16,
     value: &Value,
@@ -115,19 +128,19 @@ pub(crate) fn write_at<N: Laid + Names>(
     requires client { session.old.number < length N.deployment.clients }
     requires item { item < length N.deployment.items }
     requires seat { session.old.client.seat ≡ Some site }
-    requires name { watched.old.node.name ≡ AtSite site }
-    ensures { Did (Act.Write session.old.number item value.now) result session.old session.new }
+    requires name { held.old.node.name ≡ AtGear site (gear_of N.deployment item) }
+    ensures { Did N.deployment (Act.Write session.old.number item value.now) result session.old session.new }
 {
-    let held = &mut watched.held;
-    let result = session.write(held, item, value);
-    site_runs(held);
+    let result = write(session, held, item, value);
+    gear_runs(held);
     result
 }
 
-/// A write of several items at the client's site.
+/// A write of several items at their gears of the client's site: that of the least item, and the others.
 pub(crate) fn writes_at<N: Laid + Names>(
     session: &mut Session<N>,
-    watched: &mut Watched<N>,
+    home: &mut Held<GearNode<N>, N>,
+    others: &mut Vec<MutexGuard<'_, Held<GearNode<N>, N>>>,
     site: u16,
     items: Items,
     values: &Values,
@@ -135,50 +148,47 @@ pub(crate) fn writes_at<N: Laid + Names>(
     requires client { session.old.number < length N.deployment.clients }
     requires group { IsGroup N.deployment items values.now }
     requires seat { session.old.client.seat ≡ Some site }
-    requires name { watched.old.node.name ≡ AtSite site }
-    ensures { Did (Act.Writes session.old.number items values.now) result session.old session.new }
+    requires name { home.old.node.name ≡ AtGear site (gear_for N.deployment items) }
+    ensures { Did N.deployment (Act.Writes session.old.number items values.now) result session.old session.new }
 {
-    let held = &mut watched.held;
-    let result = session.writes(held, items, values);
-    site_runs(held);
+    let result = writes(session, home, others, items, values);
+    gear_runs(home);
     result
 }
 
-/// A read at the client's site.
+/// A read at the item's gear of the client's site.
 pub(crate) fn read_at<N: Laid + Names>(
     session: &mut Session<N>,
-    watched: &mut Watched<N>,
+    held: &mut Held<GearNode<N>, N>,
     site: u16,
     item: u16,
 ) -> Result<Answer, CallFault>
     requires client { session.old.number < length N.deployment.clients }
     requires item { item < length N.deployment.items }
     requires seat { session.old.client.seat ≡ Some site }
-    requires name { watched.old.node.name ≡ AtSite site }
-    ensures { Did (Act.Read session.old.number item) result session.old session.new }
+    requires name { held.old.node.name ≡ AtGear site (gear_of N.deployment item) }
+    ensures { Did N.deployment (Act.Read session.old.number item) result session.old session.new }
 {
-    let held = &mut watched.held;
-    let result = session.read(held, item);
-    site_runs(held);
+    let result = read(session, held, item);
+    gear_runs(held);
     result
 }
 
-/// A move from the client's site to another one.
+/// A move from the client's site to another one, at gear 0.
 pub(crate) fn move_at<N: Laid + Names>(
     session: &mut Session<N>,
-    watched: &mut Watched<N>,
+    held: &mut Held<GearNode<N>, N>,
     site: u16,
     to: u16,
 ) -> Result<Answer, CallFault>
     requires client { session.old.number < length N.deployment.clients }
     requires to { to < N.deployment.sites }
     requires seat { session.old.client.seat ≡ Some site }
-    requires name { watched.old.node.name ≡ AtSite site }
-    ensures { Did (Act.Move session.old.number to) result session.old session.new }
+    requires name { held.old.node.name ≡ AtGear site 0 }
+    ensures { Did N.deployment (Act.Move session.old.number to) result session.old session.new }
 {
-    let held = &mut watched.held;
-    let result = session.move_to(held, to);
-    site_runs(held);
+    let result = move_to(session, held, to);
+    gear_runs(held);
     result
 }
 
@@ -192,11 +202,11 @@ pub(crate) fn attach_at<N: Laid + Names>(
     requires site { site < N.deployment.sites }
     requires seat { session.old.client.seat ≡ None }
     requires name { watched.old.node.name ≡ AtSite site }
-    ensures { Did (Act.Attach session.old.number site) result session.old session.new }
+    ensures { Did N.deployment (Act.Attach session.old.number site) result session.old session.new }
 {
     let held = &mut watched.held;
-    let result = session.attach(held, site);
-    site_runs(held);
+    let result = attach(session, held, site);
+    hub_runs(held);
     result
 }
 
@@ -208,11 +218,11 @@ pub(crate) fn close_at<N: Laid + Names>(
 ) -> Result<Answer, CallFault>
     requires operator { session.old.number ≡ length N.deployment.clients }
     requires name { watched.old.node.name ≡ AtSite site }
-    ensures { Did (Act.Close site) result session.old session.new }
+    ensures { Did N.deployment (Act.Close site) result session.old session.new }
 {
     let held = &mut watched.held;
-    let result = session.close(held, site);
-    site_runs(held);
+    let result = close(session, held, site);
+    hub_runs(held);
     result
 }
 
@@ -224,11 +234,11 @@ pub(crate) fn fall_at<N: Laid + Names>(
 ) -> Result<Answer, CallFault>
     requires operator { session.old.number ≡ length N.deployment.clients }
     requires name { watched.old.node.name ≡ AtSite site }
-    ensures { Did (Act.Fall site) result session.old session.new }
+    ensures { Did N.deployment (Act.Fall site) result session.old session.new }
 {
     let held = &mut watched.held;
-    let result = session.fall(held, site);
-    site_runs(held);
+    let result = fall(session, held, site);
+    hub_runs(held);
     result
 }
 
@@ -241,7 +251,7 @@ pub(crate) fn kill_at<N: Laid + Names>(
 ) -> Result<Answer, CallFault>
     requires operator { session.old.number ≡ length N.deployment.clients }
     requires name { held.old.node.name ≡ AtSerializer epoch serializer }
-    ensures { Did (Act.Kill epoch serializer) result session.old session.new }
+    ensures { Did N.deployment (Act.Kill epoch serializer) result session.old session.new }
 {
     let result = session.kill(held, epoch, serializer);
     serial_runs(held);

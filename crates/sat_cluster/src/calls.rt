@@ -19,7 +19,7 @@ use std::sync::Wait;
 // Where a lock's node has another name, which never is, a call answers `Memory`, as for want of memory.
 impl<N: Laid + Names> Cluster<N> {
     // A write of a client that has a seat.
-    #[tactic(auto, using(crate::proofs::Doing::did_not, crate::proofs::Doing::site_seat))]
+    #[tactic(auto, using(crate::proofs::Doing::did_not, crate::proofs::Doing::gear_seat))]
     fn write_seated<R: Wait>(
         &self,
         rt: &R,
@@ -31,17 +31,17 @@ impl<N: Laid + Names> Cluster<N> {
         requires client { session.old.number < length N.deployment.clients }
         requires item { item < length N.deployment.items }
         requires seat { session.old.client.seat ≡ Some site }
-        ensures { Did (Act.Write session.old.number item value.now) result session.old session.new }
+        ensures { Did N.deployment (Act.Write session.old.number item value.now) result session.old session.new }
     {
-        let Some(mut guard) = self.site(rt, site) else {
+        let Some(mut guard) = self.gear(rt, site, self.gear_of(item)) else {
             return Err(CallFault::Memory);
         };
-        let watched = &mut *guard;
-        write_at(session, watched, site, item, value)
+        let held = &mut *guard;
+        write_at(session, held, site, item, value)
     }
 
     // A write of several items by a client that has a seat.
-    #[tactic(auto, using(crate::proofs::Doing::did_not, crate::proofs::Doing::site_seat))]
+    #[tactic(auto, using(crate::proofs::Doing::did_not, crate::proofs::Doing::gear_seat))]
     fn writes_seated<R: Wait>(
         &self,
         rt: &R,
@@ -53,17 +53,21 @@ impl<N: Laid + Names> Cluster<N> {
         requires client { session.old.number < length N.deployment.clients }
         requires group { IsGroup N.deployment items values.now }
         requires seat { session.old.client.seat ≡ Some site }
-        ensures { Did (Act.Writes session.old.number items values.now) result session.old session.new }
+        ensures { Did N.deployment (Act.Writes session.old.number items values.now) result session.old session.new }
     {
-        let Some(mut guard) = self.site(rt, site) else {
+        let Ok(mut others) = self.room_for_gears() else {
             return Err(CallFault::Memory);
         };
-        let watched = &mut *guard;
-        writes_at(session, watched, site, items, values)
+        let home = self.gear_of(items.least());
+        let Some(mut guard) = self.add_beside(rt, &mut others, site, &items, home) else {
+            return Err(CallFault::Memory);
+        };
+        let held = &mut *guard;
+        writes_at(session, held, &mut others, site, items, values)
     }
 
     // A read of a client that has a seat.
-    #[tactic(auto, using(crate::proofs::Doing::did_not, crate::proofs::Doing::site_seat))]
+    #[tactic(auto, using(crate::proofs::Doing::did_not, crate::proofs::Doing::gear_seat))]
     fn read_seated<R: Wait>(
         &self,
         rt: &R,
@@ -74,17 +78,17 @@ impl<N: Laid + Names> Cluster<N> {
         requires client { session.old.number < length N.deployment.clients }
         requires item { item < length N.deployment.items }
         requires seat { session.old.client.seat ≡ Some site }
-        ensures { Did (Act.Read session.old.number item) result session.old session.new }
+        ensures { Did N.deployment (Act.Read session.old.number item) result session.old session.new }
     {
-        let Some(mut guard) = self.site(rt, site) else {
+        let Some(mut guard) = self.gear(rt, site, self.gear_of(item)) else {
             return Err(CallFault::Memory);
         };
-        let watched = &mut *guard;
-        read_at(session, watched, site, item)
+        let held = &mut *guard;
+        read_at(session, held, site, item)
     }
 
     // A move of a client that has a seat.
-    #[tactic(auto, using(crate::proofs::Doing::did_not, crate::proofs::Doing::site_seat))]
+    #[tactic(auto, using(crate::proofs::Doing::did_not, crate::proofs::Doing::gear_seat))]
     fn move_seated<R: Wait>(
         &self,
         rt: &R,
@@ -95,13 +99,13 @@ impl<N: Laid + Names> Cluster<N> {
         requires client { session.old.number < length N.deployment.clients }
         requires to { to < N.deployment.sites }
         requires seat { session.old.client.seat ≡ Some site }
-        ensures { Did (Act.Move session.old.number to) result session.old session.new }
+        ensures { Did N.deployment (Act.Move session.old.number to) result session.old session.new }
     {
-        let Some(mut guard) = self.site(rt, site) else {
+        let Some(mut guard) = self.gear(rt, site, 0) else {
             return Err(CallFault::Memory);
         };
-        let watched = &mut *guard;
-        move_at(session, watched, site, to)
+        let held = &mut *guard;
+        move_at(session, held, site, to)
     }
 
     // An attach of a client that has no seat.
@@ -115,9 +119,9 @@ impl<N: Laid + Names> Cluster<N> {
         requires client { session.old.number < length N.deployment.clients }
         requires site { site < N.deployment.sites }
         requires seat { session.old.client.seat ≡ None }
-        ensures { Did (Act.Attach session.old.number site) result session.old session.new }
+        ensures { Did N.deployment (Act.Attach session.old.number site) result session.old session.new }
     {
-        let Some(mut guard) = self.site(rt, site) else {
+        let Some(mut guard) = self.hub(rt, site) else {
             return Err(CallFault::Memory);
         };
         let watched = &mut *guard;
@@ -136,7 +140,7 @@ impl<N: Laid + Names> Cluster<N> {
     ) -> Result<Answer, CallFault>
         requires client { session.old.number < length N.deployment.clients }
         requires item { item < length N.deployment.items }
-        ensures { Did (Act.Write session.old.number item value.now) result session.old session.new }
+        ensures { Did N.deployment (Act.Write session.old.number item value.now) result session.old session.new }
     {
         match session.client().seat {
             Some(site) => self.write_seated(rt, session, site, item, value),
@@ -155,7 +159,7 @@ impl<N: Laid + Names> Cluster<N> {
     ) -> Result<Answer, CallFault>
         requires client { session.old.number < length N.deployment.clients }
         requires group { IsGroup N.deployment items values.now }
-        ensures { Did (Act.Writes session.old.number items values.now) result session.old session.new }
+        ensures { Did N.deployment (Act.Writes session.old.number items values.now) result session.old session.new }
     {
         match session.client().seat {
             Some(site) => self.writes_seated(rt, session, site, items, values),
@@ -173,7 +177,7 @@ impl<N: Laid + Names> Cluster<N> {
     ) -> Result<Answer, CallFault>
         requires client { session.old.number < length N.deployment.clients }
         requires item { item < length N.deployment.items }
-        ensures { Did (Act.Read session.old.number item) result session.old session.new }
+        ensures { Did N.deployment (Act.Read session.old.number item) result session.old session.new }
     {
         match session.client().seat {
             Some(site) => self.read_seated(rt, session, site, item),
@@ -194,7 +198,7 @@ impl<N: Laid + Names> Cluster<N> {
     ) -> Result<Answer, CallFault>
         requires client { session.old.number < length N.deployment.clients }
         requires site { site < N.deployment.sites }
-        ensures { Did (Act.Move session.old.number site) result session.old session.new }
+        ensures { Did N.deployment (Act.Move session.old.number site) result session.old session.new }
     {
         match session.client().seat {
             Some(seat) => self.move_seated(rt, session, seat, site),
@@ -210,7 +214,7 @@ impl<N: Laid + Names> Cluster<N> {
     #[tactic(auto, using(crate::proofs::Doing::as_leave))]
     pub fn leave(&self, session: &mut Session<N>) -> Result<Answer, CallFault>
         requires client { session.old.number < length N.deployment.clients }
-        ensures { Did (Act.Leave session.old.number) result session.old session.new }
+        ensures { Did N.deployment (Act.Leave session.old.number) result session.old session.new }
     {
         let client = session.number();
         alone(session, Act::Leave { client })
@@ -227,7 +231,7 @@ impl<N: Laid + Names> Cluster<N> {
     ) -> Result<Answer, CallFault>
         requires client { session.old.number < length N.deployment.clients }
         requires site { site < N.deployment.sites }
-        ensures { Did (Act.Attach session.old.number site) result session.old session.new }
+        ensures { Did N.deployment (Act.Attach session.old.number site) result session.old session.new }
     {
         match session.client().seat {
             Some(_) => {
@@ -249,9 +253,9 @@ impl<N: Laid + Names> Cluster<N> {
     ) -> Result<Answer, CallFault>
         requires operator { session.old.number ≡ length N.deployment.clients }
         requires site { site < N.deployment.sites }
-        ensures { Did (Act.Close site) result session.old session.new }
+        ensures { Did N.deployment (Act.Close site) result session.old session.new }
     {
-        let Some(mut guard) = self.site(rt, site) else {
+        let Some(mut guard) = self.hub(rt, site) else {
             return Err(CallFault::Memory);
         };
         let watched = &mut *guard;
@@ -268,9 +272,9 @@ impl<N: Laid + Names> Cluster<N> {
     ) -> Result<Answer, CallFault>
         requires operator { session.old.number ≡ length N.deployment.clients }
         requires site { site < N.deployment.sites }
-        ensures { Did (Act.Fall site) result session.old session.new }
+        ensures { Did N.deployment (Act.Fall site) result session.old session.new }
     {
-        let Some(mut guard) = self.site(rt, site) else {
+        let Some(mut guard) = self.hub(rt, site) else {
             return Err(CallFault::Memory);
         };
         let watched = &mut *guard;
@@ -288,7 +292,7 @@ impl<N: Laid + Names> Cluster<N> {
     ) -> Result<Answer, CallFault>
         requires operator { session.old.number ≡ length N.deployment.clients }
         requires serializer { IsActOf N.deployment (Act.Kill epoch serializer) }
-        ensures { Did (Act.Kill epoch serializer) result session.old session.new }
+        ensures { Did N.deployment (Act.Kill epoch serializer) result session.old session.new }
     {
         let Some(mut guard) = self.serial(rt, epoch, serializer) else {
             return Err(CallFault::Memory);

@@ -1,33 +1,44 @@
 //! A cluster: the locked nodes of a deployment, and its sessions.
-ghost use Rattle.std.specs.Prelude.{◌≡◌, ◌<◌, ◌+◌, ◌^◌, true, false, [], length, position, replicate, set, MatchOption, IsErrOf, IsOk, IfOk, IfSome, OnErr, Some};
+ghost use Rattle.std.specs.Prelude.{◌≡◌, ◌<◌, ◌+◌, ◌*◌, ◌^◌, true, false, [], length, position, replicate, set};
+ghost use Rattle.std.specs.Prelude.{MatchOption, IsErrOf, IsOk, IfOk, IfSome, OnErr, Some};
 ghost use Rattle.std.specs.Sync.Mutex.{mutex_guard_value};
 ghost use Rattle.sat_label.specs.Order.{name_eq};
-ghost use Rattle.sat_label.specs.declared.node.NodeName.TheVariants.{Serializer as AtSerializer, Site as AtSite};
+ghost use Rattle.sat_label.specs.declared.node.NodeName.TheVariants.{Gear as AtGear, Serializer as AtSerializer};
+ghost use Rattle.sat_label.specs.declared.node.NodeName.TheVariants.{Site as AtSite};
+ghost use Rattle.sat_act.specs.Answers.{gear_of};
 ghost use Rattle.sat_opened.specs.Opened.{serial_names};
+ghost use Rattle.sat_parts.specs.Layout.{gear_names};
 ghost use Rattle.sat_cluster.specs.Clusters.{client_of, count_given, none_given, operator_number, session_fault};
 ghost use Rattle.sat_cluster.specs.Ends.{Ends};
 
 use crate::fault::SessionFault;
-use crate::locks::{Locks, lock_serials, lock_sites, names_of, open_serials, open_sites};
+use crate::locks::{Locks, cover_hubs, cover_nodes, names_of, open_hubs, open_nodes};
 use crate::room::Room;
 use sat_act::Deployment;
 use sat_finish::{Ended, FinishFault, Opened};
 use sat_label::{Name, NodeName};
 use sat_machines::{Laid, SerialNode};
 use sat_node::{Held, Names};
-use sat_pump::Watched;
+use sat_parts::GearNode;
+use sat_parts_pump::Watched;
+use sat_parts_wires::{AllNodes, Wires};
 use sat_session::Session;
-use sat_wires::{AllNodes, Wires};
 use std::alloc::{AllocError, Global};
 use std::marker::Model;
 use std::sync::{Mutex, MutexGuard, Wait};
 
-/// The sites and serializers of N's deployment, each under its lock, and which sessions were given. Contracts see the
-/// latter: by the number of its client, the operator's last. With each site lies what its passes have looked at.
+/// The hubs, the gears, site by site, and the serializers of N's deployment, each under its lock, and which sessions
+/// were given. Contracts see the latter: by the number of its client, the operator's last. With each hub lies what its
+/// passes have looked at.
+///
+/// A thread takes one lock alone; or that of a hub and then those of its gears, ascending; or those of some gears of
+/// one site, ascending. So nobody who holds a gear's lock asks for a hub's, nobody holds locks of two sites, and a
+/// serializer's lock is held alone: no threads wait for one another in a circle.
 #[derive(Drop)]
 pub struct Cluster<N: Laid + Names> {
     d: Deployment,
-    sites: Locks<Watched<N>>,
+    hubs: Locks<Watched<N>>,
+    gears: Locks<Held<GearNode<N>, N>>,
     serials: Locks<Held<SerialNode<N>, N>>,
     room: Mutex<Room<N>>,
     names: Vec<NodeName>,
@@ -41,7 +52,7 @@ impl<N: Laid + Names> Model for Cluster<N> {
 
     ghost view = { λ c. record { given = c.given.items } };
 
-    ghost invariant = { λ c. IsCluster N.deployment c.d c.sites c.serials c.names.items c.given.items };
+    ghost invariant = { λ c. IsCluster N.deployment c.d c.hubs c.gears c.serials c.names.items c.given.items };
 }
 
 // Marks for so many sessions, of which none was given.
@@ -62,24 +73,40 @@ fn count_marks(marks: &[bool]) -> u64
     marks.iter().filter(|mark| **mark).count() as u64
 }
 
+// The place of a gear among all, of so many at each site.
+#[tactic(auto, using(crate::proofs::Marks::place_small))]
+fn gear_place(site: u16, gears: u16, gear: u16) -> usize
+    ensures { result ≡ site * gears + gear }
+{
+    usize::from(site) * usize::from(gears) + usize::from(gear)
+}
+
 impl<N: Laid + Names> Cluster<N> {
-    /// Puts each site and each serializer of N's deployment under a lock of its own, with its ends of the links. It
-    /// asks that the links were made for that deployment, and that N's list of wires is theirs. No session was given.
+    /// Puts each hub, each gear and each serializer of N's deployment under a lock of its own, with its ends of the
+    /// links. It asks that the links were made for that deployment, and that N's list of wires is theirs. No session
+    /// was given.
+    #[tactic(auto, using(crate::proofs::Marks::room_gears))]
     pub fn new(alloc: Global, d: Deployment, wires: Wires) -> Result<Cluster<N>, AllocError>
         requires deployment { N.deployment ≡ d }
         requires made { wires.deployment ≡ d }
         requires wires { N.wires ≡ wires.wires }
         ensures { IfOk result (λ cluster. cluster.given ≡ none_given d) }
     {
-        let AllNodes { sites, serials } = AllNodes::<N>::new(alloc, &d, wires)?;
+        let AllNodes {
+            hubs,
+            gears,
+            serials,
+        } = AllNodes::<N>::new(alloc, &d, wires)?;
         let names = names_of(alloc, serials.as_slice())?;
         let given = marks(alloc, d.clients().len() + 1)?;
-        let room = Room::new(alloc, usize::from(d.sites()), names.len())?;
-        let sites = lock_sites(alloc, sites)?;
-        let serials = lock_serials(alloc, serials)?;
+        let room = Room::new(alloc, usize::from(d.sites()), gears.len(), names.len())?;
+        let hubs = cover_hubs(alloc, hubs)?;
+        let gears = cover_nodes(alloc, gears)?;
+        let serials = cover_nodes(alloc, serials)?;
         Ok(Cluster {
             d,
-            sites,
+            hubs,
+            gears,
             serials,
             room: Mutex::new(room),
             names,
@@ -94,6 +121,19 @@ impl<N: Laid + Names> Cluster<N> {
         &self.d
     }
 
+    // The number of the gear that has an item.
+    pub(crate) fn gear_of(&self, item: u16) -> u16
+        ensures gear { result ≡ gear_of N.deployment item }
+        ensures inside { result < N.deployment.gears }
+    {
+        item % self.d.gears()
+    }
+
+    // Where memory comes from.
+    pub(crate) fn allocator(&self) -> Global {
+        *self.names.allocator()
+    }
+
     /// The names of all serializers, epoch by epoch.
     pub fn serializers(&self) -> &[NodeName]
         ensures { result.now ≡ serial_names N.deployment }
@@ -101,11 +141,13 @@ impl<N: Laid + Names> Cluster<N> {
         self.names.as_slice()
     }
 
-    // Takes the lock of a site. `None` where its node has another name, which never is.
-    pub(crate) fn site<R: Wait>(&self, rt: &R, site: u16) -> Option<MutexGuard<'_, Watched<N>>>
+    // Takes the lock of a hub. Whoever calls it holds no lock. `None` where its node has another name, which never is.
+    pub(crate) fn hub<R: Wait>(&self, rt: &R, site: u16) -> Option<MutexGuard<'_, Watched<N>>>
         ensures { IfSome result (λ guard. (mutex_guard_value guard).node.name ≡ AtSite site) }
     {
-        let guard = self.sites.lock(rt, usize::from(site))?;
+        let lock = self.hubs.at(usize::from(site))?;
+        // No lock is held.
+        let guard = lock.lock(rt);
         if guard.name().is_same(&NodeName::Site(site)) {
             Some(guard)
         } else {
@@ -113,8 +155,29 @@ impl<N: Laid + Names> Cluster<N> {
         }
     }
 
-    // Takes the lock of a serializer of an epoch's tree. `None` where there is none of this name, or its node has
-    // another one, which never is.
+    // Takes the lock of a gear. Whoever calls it holds no lock, or that of the gear's hub and those of gears of the
+    // same site with lower numbers. `None` where there is none of this name, or its node has another one, which never
+    // is.
+    pub(crate) fn gear<R: Wait>(
+        &self,
+        rt: &R,
+        site: u16,
+        gear: u16,
+    ) -> Option<MutexGuard<'_, Held<GearNode<N>, N>>>
+        ensures { IfSome result (λ guard. (mutex_guard_value guard).node.name ≡ AtGear site gear) }
+    {
+        let lock = self.gears.at(gear_place(site, self.d.gears(), gear))?;
+        // No lock is held but those of the gear's hub and of gears of its site with lower numbers.
+        let guard = lock.lock(rt);
+        if guard.node().name().is_same(&NodeName::Gear { site, gear }) {
+            Some(guard)
+        } else {
+            None
+        }
+    }
+
+    // Takes the lock of a serializer of an epoch's tree. Whoever calls it holds no lock. `None` where there is none of
+    // this name, or its node has another one, which never is.
     pub(crate) fn serial<R: Wait>(
         &self,
         rt: &R,
@@ -125,7 +188,9 @@ impl<N: Laid + Names> Cluster<N> {
     {
         let name = NodeName::Serializer { epoch, number };
         let place = self.place(&name)?;
-        let guard = self.serials.lock(rt, place)?;
+        let lock = self.serials.at(place)?;
+        // No lock is held.
+        let guard = lock.lock(rt);
         if guard.node().name().is_same(&name) {
             Some(guard)
         } else {
@@ -239,13 +304,15 @@ impl<N: Laid + Names> Cluster<N> {
 
     /// Takes all locks apart. It takes no memory.
     pub fn open(self) -> Opened<N>
-        ensures sites { length result.sites ≡ N.deployment.sites }
+        ensures hubs { length result.hubs ≡ N.deployment.sites }
+        ensures gears { length result.gears ≡ length (gear_names N.deployment) }
         ensures serials { length result.serials ≡ length (serial_names N.deployment) }
         ensures given { result.given ≡ count_given self.given }
     {
         let Cluster {
             d,
-            sites,
+            hubs,
+            gears,
             serials,
             room,
             names: _,
@@ -255,15 +322,16 @@ impl<N: Laid + Names> Cluster<N> {
         let given = count_marks(given.as_slice());
         Opened::new(
             d,
-            open_sites(sites, room.sites),
-            open_serials(serials, room.serials),
+            open_hubs(hubs, room.hubs),
+            open_nodes(gears, room.gears),
+            open_nodes(serials, room.serials),
             given,
         )
     }
 
     /// Takes all locks apart, and merges what nodes and sessions kept into one journal. `SessionsOut` exactly where not
-    /// as many sessions came back as were given, and else `Differ` where nodes and sessions did not keep the same of
-    /// acts at nodes.
+    /// as many sessions came back as were given, else `Differ` where nodes and sessions did not keep the same of acts
+    /// at nodes, and else `Apart` where the home of an act and one of its gears did not.
     #[tactic(auto, using(crate::proofs::Ending::ends_of))]
     pub fn finish(self, alloc: Global, sessions: Vec<Session<N>>) -> Result<Ended, FinishFault<N>>
         ensures { Ends N.deployment self.given sessions.items result }

@@ -1,11 +1,12 @@
-//! The running nodes of a deployment: a lock for each site and each serializer, the sessions that were given, what
-//! these do at the nodes, the nodes' passes, and the end.
+//! The running nodes of a deployment: a lock for each hub, each gear and each serializer, the sessions that were given,
+//! what these do at the nodes, the nodes' passes, and the end.
 #![tactic(auto)]
 
 mod asking;
 mod calls;
 mod cluster;
 mod fault;
+mod groups;
 mod locks;
 mod passing;
 mod room;

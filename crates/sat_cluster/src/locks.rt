@@ -3,12 +3,13 @@ ghost use Rattle.std.specs.Prelude.{◌≡◌, ◌≤◌, [], length, map, vec_c
 ghost use Rattle.sat_opened.specs.Opened.{name_in};
 
 use sat_label::NodeName;
-use sat_machines::{Laid, SerialNode, SiteNode};
+use sat_machines::Laid;
 use sat_node::{Held, Locked, Machine, Names};
-use sat_pump::Watched;
+use sat_parts::HubNode;
+use sat_parts_pump::Watched;
 use std::alloc::{AllocError, Global};
 use std::marker::Model;
-use std::sync::{Mutex, MutexGuard, Wait};
+use std::sync::Mutex;
 
 /// The names of nodes, in their order.
 pub fn names_of<M: Machine, N: Names>(
@@ -39,7 +40,7 @@ impl<T> Model for Locks<T> {
 }
 
 // Puts each node under a lock, in their order.
-fn lock_all<M: Machine + Drop, N: Names>(
+fn cover_all<M: Machine + Drop, N: Names>(
     alloc: Global,
     nodes: Vec<Held<M, N>>,
 ) -> Result<Vec<Locked<M, N>>, AllocError>
@@ -52,10 +53,10 @@ fn lock_all<M: Machine + Drop, N: Names>(
     Ok(locks)
 }
 
-// The same of sites, of which nothing was looked at.
-fn lock_watched<N: Laid + Names>(
+// The same of hubs, of which nothing was looked at.
+fn cover_watched<N: Laid + Names>(
     alloc: Global,
-    nodes: Vec<Held<SiteNode<N>, N>>,
+    nodes: Vec<Held<HubNode<N>, N>>,
 ) -> Result<Vec<Mutex<Watched<N>>>, AllocError>
     ensures { IfOk result (λ locks. vec_len locks ≡ vec_len nodes) }
 {
@@ -67,7 +68,7 @@ fn lock_watched<N: Laid + Names>(
 }
 
 // Takes all locks apart. There is room for the nodes.
-fn unlock_all<M: Machine + Drop, N: Names>(
+fn open_all<M: Machine + Drop, N: Names>(
     locks: Vec<Locked<M, N>>,
     room: Vec<Held<M, N>>,
 ) -> Vec<Held<M, N>>
@@ -81,11 +82,11 @@ fn unlock_all<M: Machine + Drop, N: Names>(
     nodes
 }
 
-// The same of sites. What was looked at is forgotten.
-fn unlock_watched<N: Laid + Names>(
+// The same of hubs. What was looked at is forgotten.
+fn open_watched<N: Laid + Names>(
     locks: Vec<Mutex<Watched<N>>>,
-    room: Vec<Held<SiteNode<N>, N>>,
-) -> Vec<Held<SiteNode<N>, N>>
+    room: Vec<Held<HubNode<N>, N>>,
+) -> Vec<Held<HubNode<N>, N>>
     requires { (room.items ≡ []) × (vec_len locks ≤ vec_capacity room) }
     ensures { length result.items ≡ vec_len locks }
 {
@@ -96,54 +97,53 @@ fn unlock_watched<N: Laid + Names>(
     nodes
 }
 
-/// Puts each site under a lock, in their order. Nothing of it was looked at.
-pub fn lock_sites<N: Laid + Names>(
+/// Puts each hub under a lock, in their order. Nothing of it was looked at.
+pub fn cover_hubs<N: Laid + Names>(
     alloc: Global,
-    nodes: Vec<Held<SiteNode<N>, N>>,
+    nodes: Vec<Held<HubNode<N>, N>>,
 ) -> Result<Locks<Watched<N>>, AllocError>
     ensures { IfOk result (λ locks. locks ≡ length nodes.items) }
 {
-    let locks = lock_watched(alloc, nodes)?;
+    let locks = cover_watched(alloc, nodes)?;
     Ok(Locks { locks })
 }
 
-/// Puts each serializer under a lock, in their order.
-pub fn lock_serials<N: Laid + Names>(
+/// Puts each node of one sort under a lock, in their order.
+pub fn cover_nodes<M: Machine + Drop, N: Names>(
     alloc: Global,
-    nodes: Vec<Held<SerialNode<N>, N>>,
-) -> Result<Locks<Held<SerialNode<N>, N>>, AllocError>
+    nodes: Vec<Held<M, N>>,
+) -> Result<Locks<Held<M, N>>, AllocError>
     ensures { IfOk result (λ locks. locks ≡ length nodes.items) }
 {
-    let locks = lock_all(alloc, nodes)?;
+    let locks = cover_all(alloc, nodes)?;
     Ok(Locks { locks })
 }
 
-/// Takes all locks of sites apart, into this room. It takes no memory.
-pub fn open_sites<N: Laid + Names>(
+/// Takes all locks of hubs apart, into this room. It takes no memory.
+pub fn open_hubs<N: Laid + Names>(
     locks: Locks<Watched<N>>,
-    room: Vec<Held<SiteNode<N>, N>>,
-) -> Vec<Held<SiteNode<N>, N>>
+    room: Vec<Held<HubNode<N>, N>>,
+) -> Vec<Held<HubNode<N>, N>>
     requires { (room.items ≡ []) × (locks ≤ vec_capacity room) }
     ensures { length result.items ≡ locks }
 {
-    unlock_watched(locks.locks, room)
+    open_watched(locks.locks, room)
 }
 
-/// Takes all locks of serializers apart, into this room. It takes no memory.
-pub fn open_serials<N: Laid + Names>(
-    locks: Locks<Held<SerialNode<N>, N>>,
-    room: Vec<Held<SerialNode<N>, N>>,
-) -> Vec<Held<SerialNode<N>, N>>
+/// Takes all locks of nodes of one sort apart, into this room. It takes no memory.
+pub fn open_nodes<M: Machine + Drop, N: Names>(
+    locks: Locks<Held<M, N>>,
+    room: Vec<Held<M, N>>,
+) -> Vec<Held<M, N>>
     requires { (room.items ≡ []) × (locks ≤ vec_capacity room) }
     ensures { length result.items ≡ locks }
 {
-    unlock_all(locks.locks, room)
+    open_all(locks.locks, room)
 }
 
 impl<T: Drop> Locks<T> {
-    /// Takes the lock of this number. `None` where there is none.
-    pub fn lock<R: Wait>(&self, rt: &R, number: usize) -> Option<MutexGuard<'_, T>> {
-        let lock = self.locks.as_slice().get(number)?;
-        Some(lock.lock(rt))
+    /// The lock of this number, which is not taken here. `None` where there is none.
+    pub fn at(&self, number: usize) -> Option<&Mutex<T>> {
+        self.locks.as_slice().get(number)
     }
 }

@@ -6,7 +6,7 @@ use Rattle.std.proofs.lemmas.Slice.Zip.{AllZip-long}
 use Rattle.sat_act.specs.declared.act.Act.{Act}
 use Rattle.sat_act.specs.declared.entry.Entry.{Entry}
 use Rattle.sat_act.specs.Deployed.{Deployed}
-use Rattle.sat_finish.specs.Finishing.{note_entry}
+use Rattle.sat_parts_notes.specs.Collecting.{note_entry}
 use Rattle.sat_node.specs.declared.kept.CallFault.{CallFault}
 use Rattle.sat_session.specs.Notes.{SessionSeen}
 use Rattle.sat_undone.specs.Undone.{DoesFront}

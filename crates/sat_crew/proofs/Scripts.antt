@@ -9,7 +9,7 @@ use Rattle.sat_act.specs.declared.entry.Entry.{Entry}
 use Rattle.sat_act.specs.Deployed.{Deployed}
 use Rattle.sat_act.specs.Ranges.{IsActOf}
 use Rattle.sat_node.specs.declared.kept.CallFault.{CallFault}
-use Rattle.sat_finish.specs.Finishing.{note_entry}
+use Rattle.sat_parts_notes.specs.Collecting.{note_entry}
 use Rattle.sat_session.specs.Calls.{IsFault}
 use Rattle.sat_session.specs.Notes.{SessionSeen, session_at}
 use Rattle.sat_undone.specs.declared.tries.TheConstants.{MOST_TRIES}

@@ -4,8 +4,9 @@ use Rattle.std.proofs.lemmas.List.{map-append}
 use Rattle.sat_act.specs.declared.act.Act.{Act}
 use Rattle.sat_act.specs.declared.answer.Answer.{Answer}
 use Rattle.sat_act.specs.declared.entry.Entry.{Entry}
+use Rattle.sat_act.specs.Deployed.{Deployed}
 use Rattle.sat_node.specs.declared.kept.CallFault.{CallFault}
-use Rattle.sat_finish.specs.Finishing.{note_entry}
+use Rattle.sat_parts_notes.specs.Collecting.{note_entry}
 use Rattle.sat_session.specs.Calls.{IsFault, note}
 use Rattle.sat_session.specs.Notes.{SessionSeen}
 use Rattle.sat_undone.specs.declared.tries.TheConstants.{MOST_TRIES}
@@ -17,27 +18,27 @@ use Rattle.sat_crew.proofs.Standing.{stood-done, stood-waits}
 
 -- ---- one try
 
-one-more : (a : Act) (r : Answer) (b : Bool) (old new : SessionSeen) → Did a (Ok r) old new → has_to_wait a r ≡ b → OneMore a b (entries_in old) (entries_in new)
-one-more a r b old new did waiting = record {
+one-more : (d : Deployed) (a : Act) (r : Answer) (b : Bool) (old new : SessionSeen) → Did d a (Ok r) old new → has_to_wait a r ≡ b → OneMore a b (entries_in old) (entries_in new)
+one-more d a r b old new did waiting = record {
   entry = record { act = a; answer = r; inner = false };
   act = refl;
   waiting = waiting;
-  more = ap (map note_entry) did.noted ∙ map-append note_entry old.noted (note new.lamport (node_of a old.client.seat) old.client.carried a r ∷ []);
+  more = ap (map note_entry) did.noted ∙ map-append note_entry old.noted (note new.lamport (node_of d a old.client.seat) old.client.carried a r ∷ []);
 }
 
-pub tried_done : (a : Act) (r : Answer) (result : Result Answer CallFault) (old new : SessionSeen) → Did a result old new → result ≡ Ok r → has_to_wait a r ≡ false → Tried a (Ok false) (entries_in old) (entries_in new)
-tried_done a r result old new did is waiting = one-more a r false old new (subst (λ (x : Result Answer CallFault). Did a x old new) is did) waiting
+pub tried_done : (d : Deployed) (a : Act) (r : Answer) (result : Result Answer CallFault) (old new : SessionSeen) → Did d a result old new → result ≡ Ok r → has_to_wait a r ≡ false → Tried a (Ok false) (entries_in old) (entries_in new)
+tried_done d a r result old new did is waiting = one-more d a r false old new (subst (λ (x : Result Answer CallFault). Did d a x old new) is did) waiting
 
-pub tried_waits : (a : Act) (r : Answer) (result : Result Answer CallFault) (old new : SessionSeen) → Did a result old new → result ≡ Ok r → has_to_wait a r ≡ true → Tried a (Ok true) (entries_in old) (entries_in new)
-tried_waits a r result old new did is waiting = one-more a r true old new (subst (λ (x : Result Answer CallFault). Did a x old new) is did) waiting
+pub tried_waits : (d : Deployed) (a : Act) (r : Answer) (result : Result Answer CallFault) (old new : SessionSeen) → Did d a result old new → result ≡ Ok r → has_to_wait a r ≡ true → Tried a (Ok true) (entries_in old) (entries_in new)
+tried_waits d a r result old new did is waiting = one-more d a r true old new (subst (λ (x : Result Answer CallFault). Did d a x old new) is did) waiting
 
 -- a pass failed behind it
-pub tried_broken : (a : Act) (r : Answer) (f : CallFault) (result : Result Answer CallFault) (old new : SessionSeen) → Did a result old new → result ≡ Ok r → has_to_wait a r ≡ true → IsFault f → Tried a (Err f) (entries_in old) (entries_in new)
-tried_broken a r f result old new did is waiting fault = (fault, inr (one-more a r true old new (subst (λ (x : Result Answer CallFault). Did a x old new) is did) waiting))
+pub tried_broken : (d : Deployed) (a : Act) (r : Answer) (f : CallFault) (result : Result Answer CallFault) (old new : SessionSeen) → Did d a result old new → result ≡ Ok r → has_to_wait a r ≡ true → IsFault f → Tried a (Err f) (entries_in old) (entries_in new)
+tried_broken d a r f result old new did is waiting fault = (fault, inr (one-more d a r true old new (subst (λ (x : Result Answer CallFault). Did d a x old new) is did) waiting))
 
-pub tried_failed : (a : Act) (f : CallFault) (result : Result Answer CallFault) (old new : SessionSeen) → Did a result old new → result ≡ Err f → Tried a (Err f) (entries_in old) (entries_in new)
-tried_failed a f result old new did is =
-    let failed : Did a (Err f) old new = subst (λ (x : Result Answer CallFault). Did a x old new) is did in
+pub tried_failed : (d : Deployed) (a : Act) (f : CallFault) (result : Result Answer CallFault) (old new : SessionSeen) → Did d a result old new → result ≡ Err f → Tried a (Err f) (entries_in old) (entries_in new)
+tried_failed d a f result old new did is =
+    let failed : Did d a (Err f) old new = subst (λ (x : Result Answer CallFault). Did d a x old new) is did in
     (failed.only, inl (ap entries_in failed.err))
 
 pub tried_fault : (a : Act) (f : CallFault) (result : Result Bool CallFault) (old new : List Entry) → Tried a result old new → result ≡ Err f → IsFault f

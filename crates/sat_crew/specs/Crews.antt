@@ -4,7 +4,7 @@ use Rattle.std.specs.List.{AllZip}
 use Rattle.sat_act.specs.declared.act.Act.{Act}
 use Rattle.sat_act.specs.declared.entry.Entry.{Entry}
 use Rattle.sat_act.specs.Deployed.{Deployed}
-use Rattle.sat_finish.specs.Finishing.{note_entry, noted_entries}
+use Rattle.sat_parts_notes.specs.Collecting.{note_entry, noted_entries}
 use Rattle.sat_label.specs.Members.{In}
 use Rattle.sat_stitch.specs.Places.{Session, session_part}
 use Rattle.sat_session.specs.Notes.{SessionSeen, session_at}

@@ -1,5 +1,6 @@
 -- How a session stands in its acts while they are done.
-use Rattle.std.specs.Prelude.{◌≡◌, ℕ, ◌⊎◌, Bool, true, false, List, [], ◌∷◌, ◌++◌, length, take, drop, Option, Some, None, IfSome, Result, Ok, Err}
+use Rattle.std.specs.Prelude.{◌≡◌, ℕ, ◌⊎◌, Bool, true, false, List, [], ◌∷◌, ◌++◌, length, take, drop, Option, Some}
+use Rattle.std.specs.Prelude.{None, IfSome, Result, Ok, Err}
 use Rattle.std.specs.List.{AllByRecursion}
 use Rattle.sat_act.specs.declared.act.Act.{Act}
 use Rattle.sat_act.specs.declared.entry.Entry.{Entry}

@@ -64,7 +64,7 @@ fn call<N: Laid + Names, R: Wait>(
 ) -> Result<Answer, CallFault>
     requires range { IsActOf N.deployment act.now }
     requires own { is_of (session_at N.deployment session.old.number) act.now ≡ true }
-    ensures { Did act.now result session.old session.new }
+    ensures { Did N.deployment act.now result session.old session.new }
 {
     // This brings what is known of the session into the proof.
     let _ = session.number();

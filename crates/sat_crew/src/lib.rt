@@ -1,5 +1,5 @@
-//! A crew: each session of a cluster does its acts of a script, in a thread of its own, and each node makes its passes
-//! in one.
+//! A crew: each session of a cluster of hubs, gears and serializers does its acts of a script, in a thread of its own,
+//! each serializer makes its passes in one, and each site those of its hub and of its gears.
 #![tactic(auto)]
 
 mod acting;

@@ -1,5 +1,6 @@
 //! A crew at work.
-ghost use Rattle.std.specs.Prelude.{◌≡◌, ◌≤◌, ◌+◌, ◌++◌, [], vec_capacity, vec_len, IfErr, IfOk, IfSome, MatchOption, OnOk};
+ghost use Rattle.std.specs.Prelude.{◌≡◌, ◌≤◌, ◌+◌, ◌++◌, [], vec_capacity, vec_len, IfErr, IfOk, IfSome, MatchOption};
+ghost use Rattle.std.specs.Prelude.{OnOk};
 ghost use Rattle.std.specs.List.{AllByRecursion, AllZip};
 ghost use Rattle.sat_act.specs.Ranges.{IsActOf};
 ghost use Rattle.sat_session.specs.Calls.{IsFault};
@@ -58,7 +59,7 @@ fn add_serials<N: Laid + Names>(
     Ok(())
 }
 
-// A worker for each site.
+// A worker for each site, which is its hub and its gears.
 fn add_sites<N: Laid + Names>(
     workers: &mut Vec<Worker<N>>,
     cluster: &Cluster<N>,
@@ -73,7 +74,7 @@ fn add_sites<N: Laid + Names>(
     Ok(())
 }
 
-// A worker for each node: the serializers, and then the sites.
+// A worker for each serializer, and then for each site.
 fn passers<N: Laid + Names>(
     alloc: Global,
     cluster: &Cluster<N>,
@@ -289,14 +290,14 @@ fn run<N: Laid + Names + Send + Sync, R: Threads + Wait + Clock + Sync, G: Gate>
     }
 }
 
-/// Does a script at the nodes of a cluster, on threads: one for each session, which does its acts in their order, and
-/// one for each serializer and each site, which makes its passes until all sessions' threads have returned, or until
-/// for many passes none was at work, as where the system refuses threads. A client whose attach has to wait tries
-/// again, `MOST_TRIES` times in a row at the most, and then leaves out its further acts. At the end the nodes make
-/// passes until nothing is left to do. After Ok each session did all its acts, or its client gave up at the end of what
-/// it did, after exactly so many tries; after an error each did a front of its acts. Each try is of the act that comes
-/// next. `Worn`, with the greatest u64, where a worker's call answered it; `Memory`. All sessions come back, in their
-/// order.
+/// Does a script at the nodes of a cluster, on threads: one for each session, which does its acts in their order, one
+/// for each serializer, and one for each site, which makes the passes of its hub and of its gears. Passes are made
+/// until all sessions' threads have returned, or until for many passes none was at work, as where the system refuses
+/// threads. A client whose attach has to wait tries again, `MOST_TRIES` times in a row at the most, and then leaves out
+/// its further acts. At the end all nodes make passes until nothing is left to do. After Ok each session did all its
+/// acts, or its client gave up at the end of what it did, after exactly so many tries; after an error each did a front
+/// of its acts. Each try is of the act that comes next. `Worn`, with the greatest u64, where a worker's call answered
+/// it; `Memory`. All sessions come back, in their order.
 #[tactic(auto, using(crate::proofs::Hiring::untouched, crate::proofs::Hiring::back_as, crate::proofs::Hiring::through_as))]
 pub fn crew<N: Laid + Names + Send + Sync, R: Threads + Wait + Clock + Sync, G: Gate>(
     rt: &R,

@@ -11,7 +11,7 @@ pub(crate) struct Caller<N: Laid> {
     pub(crate) fault: Option<CallFault>,
 }
 
-/// Makes the passes of its node.
+/// Makes the passes of its node: a serializer, or a hub, with which go those of the gears of its site.
 #[derive(Drop)]
 pub(crate) struct Passer {
     pub(crate) node: NodeName,

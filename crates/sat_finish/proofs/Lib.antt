@@ -1,10 +1,7 @@
-pub mod Keys
+pub mod Equals
+pub mod Rising
 pub mod Walks
-pub mod Sorts
-pub mod Places
-pub mod Alone
-pub mod Sessions
-pub mod Whole
-pub mod Loops
-pub mod SameActs
-pub mod SameAnswers
+pub mod Named
+pub mod Agree
+pub mod Parted
+pub mod Journaled

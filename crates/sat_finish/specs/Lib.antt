@@ -1,7 +1,6 @@
-pub mod Filing
-pub mod Differences
-pub mod Ending
 pub mod Finishing
-pub mod Findings
+pub mod Parts
+pub mod Partings
+pub mod Walking
 pub mod Ends
-pub mod Naming
+pub mod Findings

@@ -1,4 +1,5 @@
 //! How a run ends, and why it doesn't.
+use crate::joint::Joint;
 use crate::opened::Opened;
 use sat_act::{Deployment, Entries};
 use sat_machines::Laid;
@@ -27,6 +28,13 @@ pub enum FinishFault<N: Laid + Names> {
     Differ {
         node: Option<Noted>,
         session: Option<Noted>,
+    },
+    /// What the home of an act and one of its gears kept of it under one number is not the same: act, answer, and what
+    /// passed between them. None stands for no part.
+    Apart {
+        lamport: u64,
+        home: Option<Joint>,
+        other: Option<Joint>,
     },
     /// There was no memory. All comes back.
     Memory {

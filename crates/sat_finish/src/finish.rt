@@ -12,7 +12,9 @@ use std::alloc::Global;
 
 impl<N: Laid + Names> Opened<N> {
     /// Merges what all nodes and sessions kept into one journal. `SessionsOut` exactly where not as many sessions came
-    /// back as were given, and else `Differ` exactly where nodes and sessions did not keep the same of acts at nodes.
+    /// back as were given, else `Differ` exactly where nodes and sessions did not keep the same of acts at nodes, and
+    /// else `Apart` exactly where the home of an act of several nodes and one of its gears did not keep the same part
+    /// of it.
     pub fn finish(self, alloc: Global, sessions: Vec<Session<N>>) -> Result<Ended, FinishFault<N>>
         ensures { MatchResult result (IsEnd N.deployment self sessions.items)
             (IsFault N.deployment self sessions.items) }
@@ -29,14 +31,16 @@ impl<N: Laid + Names> Opened<N> {
         }
         let Opened {
             deployment,
-            mut sites,
+            mut hubs,
+            mut gears,
             mut serials,
             given,
         } = self;
         match find(
             alloc,
             &deployment,
-            &mut sites,
+            &mut hubs,
+            &mut gears,
             &mut serials,
             sessions.as_slice(),
         ) {
@@ -44,14 +48,20 @@ impl<N: Laid + Names> Opened<N> {
                 deployment,
                 journal,
             }),
-            Found::Apart(difference) => Err(FinishFault::Differ {
+            Found::Differ(difference) => Err(FinishFault::Differ {
                 node: difference.node,
                 session: difference.session,
+            }),
+            Found::Apart(parting) => Err(FinishFault::Apart {
+                lamport: parting.lamport,
+                home: parting.home,
+                other: parting.other,
             }),
             Found::Memory => Err(FinishFault::Memory {
                 opened: Opened {
                     deployment,
-                    sites,
+                    hubs,
+                    gears,
                     serials,
                     given,
                 },

@@ -1,16 +1,21 @@
-//! Opened nodes and the sessions that came back: one journal of a run, or where they differ.
+//! Hubs, gears and serializers out of their locks, and the sessions that came back: one journal of a run, or where they
+//! are not one.
 #![tactic(auto)]
 
-mod collect;
-mod compare;
+mod acts;
 mod fault;
-mod filed;
 mod find;
 mod finish;
-mod journals;
-mod names;
+mod gear_parts;
+mod hub_parts;
+mod joint;
+mod nodes;
 mod opened;
+mod part;
 mod same;
+mod shown;
+mod walk;
 
 pub use fault::{Ended, FinishFault};
+pub use joint::{Given, Joint};
 pub use opened::Opened;

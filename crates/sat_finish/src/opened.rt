@@ -2,15 +2,18 @@
 ghost use Rattle.std.specs.Prelude.{◌≡◌};
 
 use sat_act::Deployment;
-use sat_machines::{Laid, SerialNode, SiteNode};
+use sat_machines::{Laid, SerialNode};
 use sat_node::{Held, Names};
+use sat_parts::{GearNode, HubNode};
 use std::marker::Model;
 
-/// All nodes of a deployment out of their locks. Contracts see what each node kept, and how many sessions were given.
+/// All nodes of a deployment out of their locks: hubs by site, gears by site and number, serializers by epoch and
+/// number. Contracts see what each node kept, and how many sessions were given.
 #[derive(Drop)]
 pub struct Opened<N: Laid + Names> {
     pub(crate) deployment: Deployment,
-    pub(crate) sites: Vec<Held<SiteNode<N>, N>>,
+    pub(crate) hubs: Vec<Held<HubNode<N>, N>>,
+    pub(crate) gears: Vec<Held<GearNode<N>, N>>,
     pub(crate) serials: Vec<Held<SerialNode<N>, N>>,
     pub(crate) given: u64,
 }
@@ -21,7 +24,12 @@ impl<N: Laid + Names> Model for Opened<N> {
 
     ghost Value = { OpenedSeen };
 
-    ghost view = { λ o. record { sites = o.sites.items; serials = o.serials.items; given = o.given } };
+    ghost view = { λ o. record {
+      hubs = o.hubs.items;
+      gears = o.gears.items;
+      serials = o.serials.items;
+      given = o.given;
+    } };
 
     ghost invariant = { λ o. N.deployment ≡ o.deployment };
 }
@@ -30,16 +38,19 @@ impl<N: Laid + Names> Opened<N> {
     /// These nodes of a deployment, for which so many sessions were given.
     pub fn new(
         deployment: Deployment,
-        sites: Vec<Held<SiteNode<N>, N>>,
+        hubs: Vec<Held<HubNode<N>, N>>,
+        gears: Vec<Held<GearNode<N>, N>>,
         serials: Vec<Held<SerialNode<N>, N>>,
         given: u64,
     ) -> Opened<N>
         requires { N.deployment ≡ deployment }
-        ensures { result ≡ record { sites = sites.items; serials = serials.items; given = given } }
+        ensures { result
+            ≡ record { hubs = hubs.items; gears = gears.items; serials = serials.items; given = given } }
     {
         Opened {
             deployment,
-            sites,
+            hubs,
+            gears,
             serials,
             given,
         }

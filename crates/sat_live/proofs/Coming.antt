@@ -9,8 +9,9 @@ use Rattle.std.proofs.lemmas.Slice.Zip.{AllZip-long}
 use Rattle.sat_act.specs.declared.act.Act.{Act}
 use Rattle.sat_act.specs.declared.deployment.ClientLine.{ClientLine}
 use Rattle.sat_act.specs.Deployed.{Deployed}
-use Rattle.sat_session.specs.Notes.{SessionSeen, node_notes, session_notes}
+use Rattle.sat_session.specs.Notes.{SessionSeen, session_notes}
 use Rattle.sat_session.specs.Sessions.{IsSession}
+use Rattle.sat_parts_notes.specs.Notes.{part_notes}
 use Rattle.sat_finish.specs.declared.fault.Ended.{Ended}
 use Rattle.sat_finish.specs.declared.fault.FinishFault.{FinishFault}
 use Rattle.sat_finish.specs.declared.fault.FinishFault.TheVariants as fault
@@ -21,9 +22,9 @@ use Rattle.sat_cluster.specs.Clusters.{client_of, count_given, none_given, opera
 use Rattle.sat_cluster.specs.Ends.{Ends}
 use Rattle.sat_crew.specs.Crews.{CameBack, CameThrough, GiveFronts, IsFresh}
 use Rattle.sat_live.specs.declared.nodes.Came.{Came}
-use Rattle.sat_live.specs.declared.nodes.Came.TheVariants.{Whole, Apart, Memory}
+use Rattle.sat_live.specs.declared.nodes.Came.TheVariants.{Whole, Differ, Apart, Memory}
 use Rattle.sat_live.specs.Coming.{AreGiven, IsCame, IsEnded, IsFinished}
-use Rattle.sat_live.proofs.Differing.{each_tried}
+use Rattle.sat_live.proofs.Differing.{each_tried, parts_apart}
 
 -- ---- the sessions that were given
 
@@ -112,7 +113,8 @@ one-run d o xs e is =
 meets : {N : Type 0} (d : Deployed) (o : OpenedSeen) (xs : List SessionSeen) (result : Result Ended (FinishFault N)) → o.given ≡ length xs → MatchResult result (IsEnd d o xs) (IsFault d o xs) → IsFinished d xs result
 meets d o xs (Ok e) many is = one-run d o xs e is
 meets d o xs (Err (fault.SessionsOut given returned opened sessions)) many is = is.2 (is.0 ∙ (many ∙ sym is.1))
-meets d o xs (Err (fault.Differ kept noted)) many is = (node_notes o.sites o.serials, is.1)
+meets d o xs (Err (fault.Differ kept noted)) many is = (part_notes o.hubs o.gears o.serials, is.1)
+meets d o xs (Err (fault.Apart number home other)) many is = parts_apart d o.hubs o.gears number home other is.2
 meets d o xs (Err (fault.Memory opened sessions)) many is = tt
 
 pub finished : {N : Type 0} (d : Deployed) (given : List Bool) (xs : List SessionSeen) (result : Result Ended (FinishFault N)) → count_given given ≡ length xs → Ends d given xs result → IsFinished d xs result
@@ -120,5 +122,6 @@ finished d given xs result many ends = meets d ends.opened xs result (ends.count
 
 pub came_of : (d : Deployed) (acts : List Act) (xs ys : List SessionSeen) (came : Came) → GiveFronts → AllZip (CameBack d acts) xs ys → AllByRecursion (IsSession d) ys → IsEnded d ys came → IsCame d acts came
 came_of d acts xs ys (Whole journal) law back are is = record { one = is.0; fronts = law d acts xs ys journal back is.1 }
-came_of d acts xs ys (Apart kept noted) law back are is = record { nodes = is.0; sessions = session_notes d ys; each = each_tried d acts xs ys back are; difference = is.1 }
+came_of d acts xs ys (Differ kept noted) law back are is = record { nodes = is.0; sessions = session_notes d ys; each = each_tried d acts xs ys back are; difference = is.1 }
+came_of d acts xs ys (Apart number home other) law back are is = is
 came_of d acts xs ys Memory law back are is = tt

@@ -13,12 +13,13 @@ use Rattle.sat_runs.specs.Runs.{history}
 use Rattle.sat_stitch.specs.Kept.{acts_of}
 use Rattle.sat_session.specs.declared.noted.Noted.{Noted}
 use Rattle.sat_undone.specs.Undone.{AreFronts, FrontsAreDone, undone}
-use Rattle.sat_outcome.specs.Texts.{differ_text, undone_text}
+use Rattle.sat_finish.specs.declared.joint.Joint.{Joint}
+use Rattle.sat_outcome.specs.Texts.{apart_text, differ_text, undone_text}
 use Rattle.sat_live.specs.declared.telling.Told.{Told}
-use Rattle.sat_live.specs.Coming.{AreApart, IsJournalOf}
-use Rattle.sat_live.specs.Telling.{CanBeTold, IsRunTold}
-use Rattle.sat_live.specs.Told.{AreActsDone, HasDiffered, HasLeft, HasLived, IsTold}
-use Rattle.sat_live.proofs.Differing.{tells_act}
+use Rattle.sat_live.specs.Coming.{AreTwoNotes, IsJournalOf}
+use Rattle.sat_live.specs.Telling.{CanBeTold, CanPartsBeTold, IsRunTold}
+use Rattle.sat_live.specs.Told.{AreActsDone, ArePartsApart, HasDiffered, HasLeft, HasLived, IsTold}
+use Rattle.sat_live.proofs.Differing.{tells_act, tells_part}
 use Rattle.sat_live.proofs.Journals.{journal_is}
 
 -- ---- by the status
@@ -98,11 +99,11 @@ pub told_run : {E : Type 0} (d : Deployed) (acts : List Act) (journal : List Ent
 told_run d acts journal (Err fault) good doing once is names each came none ran = tt
 told_run d acts journal (Ok told) good doing once is names each came none ran = run-told d acts journal told.text.items told.status good doing once is names each came none ran
 
-pub told_apart : {E : Type 0} (d : Deployed) (acts : List Act) (node session : Option Noted) (result : Result Told E) → AreApart acts node session
+pub told_differ : {E : Type 0} (d : Deployed) (acts : List Act) (node session : Option Noted) (result : Result Told E) → AreTwoNotes acts node session
     → IfOk result (λ told. told.text.items ≡ differ_text d node session) → IfOk result (λ told. told.status ≡ 6) → IfOk result (λ _. CanBeTold d acts node session) → IfOk result (λ told. IsTold d acts told.text.items told.status)
-told_apart d acts kept noted (Err fault) found wrote status notes = tt
-told_apart d acts kept noted (Ok told) found wrote status notes =
-    told-differed d acts told.text.items told.status status (record {
+told_differ d acts kept noted (Err fault) found wrote status notes = tt
+told_differ d acts kept noted (Ok told) found wrote status notes =
+    told-differed d acts told.text.items told.status status (inl (record {
       nodes = found.nodes;
       sessions = found.sessions;
       each = found.each;
@@ -114,7 +115,22 @@ told_apart d acts kept noted (Ok told) found wrote status notes =
       at_session = notes.at_session;
       apart = found.difference.apart;
       written = wrote;
-    })
+    }))
+
+pub told_apart : {E : Type 0} (d : Deployed) (acts : List Act) (number : ℕ) (home other : Option Joint) (result : Result Told E) → ArePartsApart home other
+    → IfOk result (λ told. told.text.items ≡ apart_text d number home other) → IfOk result (λ told. told.status ≡ 6) → IfOk result (λ _. CanPartsBeTold d acts home other) → IfOk result (λ told. IsTold d acts told.text.items told.status)
+told_apart d acts number home other (Err fault) found wrote status parts = tt
+told_apart d acts number home other (Ok told) found wrote status parts =
+    told-differed d acts told.text.items told.status status (inr (record {
+      number = number;
+      home = home;
+      other = other;
+      parts = found;
+      tells = tells_part acts home other found.apart parts.act parts.alone;
+      at_home = parts.at_home;
+      at_other = parts.at_other;
+      written = wrote;
+    }))
 
 -- there is no other status
 pub told_status : {E : Type 0} (d : Deployed) (acts : List Act) (result : Result Told E) → IfOk result (λ told. IsTold d acts told.text.items told.status) → IfOk result (λ told. (told.status ≡ 0) ⊎ (told.status ≡ 6) ⊎ (told.status ≡ 8))

@@ -10,8 +10,9 @@ use Rattle.sat_script.specs.Spelled.{spelling}
 use Rattle.sat_report.specs.Holdings.{report}
 use Rattle.sat_runs.specs.Runs.{history}
 use Rattle.sat_session.specs.declared.noted.Noted.{Noted}
+use Rattle.sat_finish.specs.declared.joint.Joint.{Joint}
 use Rattle.sat_outcome.specs.Texts.{unsettled_text}
-use Rattle.sat_live.specs.Told.{IsAtNode}
+use Rattle.sat_live.specs.Told.{IsAtNode, IsJointAct, IsPartAt}
 
 -- a settle behind them has nothing left to do: their script, and their report
 pub record IsRunWhole (d : Deployed) (done : List Act) (text : List ℕ) : Type 0 where
@@ -37,3 +38,11 @@ pub record CanBeTold (d : Deployed) (acts : List Act) (node session : Option Not
   pub at_node : IfSome node (IsAtNode d)
   pub at_session : IfSome session (IsAtNode d)
   pub act : session ≡ None → IfSome node (λ n. In acts n.entry.act)
+
+-- two parts that can be told: each is of an act at a node of the deployment; and the home's, or the other's where the
+-- home has none, is of an act of several nodes, one of these acts where a client did it
+pub record CanPartsBeTold (d : Deployed) (acts : List Act) (home other : Option Joint) : Type 0 where
+  pub at_home : IfSome home (IsPartAt d)
+  pub at_other : IfSome other (IsPartAt d)
+  pub act : IfSome home (λ j. IsJointAct acts j.entry.act)
+  pub alone : home ≡ None → IfSome other (λ j. IsJointAct acts j.entry.act)

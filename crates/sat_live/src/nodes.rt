@@ -2,33 +2,38 @@
 ghost use Rattle.std.specs.Prelude.{◌≡◌, [], length, IfOk, IfSome};
 ghost use Rattle.std.specs.List.{AllByRecursion, AllZip};
 ghost use Rattle.sat_act.specs.Ranges.{IsActOf};
+ghost use Rattle.sat_session.specs.Sessions.{IsSession};
 ghost use Rattle.sat_cluster.specs.Clusters.{count_given};
 ghost use Rattle.sat_crew.specs.Crews.{CameBack, IsFresh};
-ghost use Rattle.sat_session.specs.Sessions.{IsSession};
 ghost use Rattle.sat_live.specs.Coming.{AreGiven, IsCame, IsEnded};
 
 use sat_act::{Act, ClientLine, Deployment, Entries};
 use sat_cluster::Cluster;
 use sat_crew::{CrewFault, crew, fronts};
-use sat_finish::FinishFault;
+use sat_finish::{FinishFault, Joint};
 use sat_machines::Laid;
 use sat_node::{CallFault, Names};
 use sat_outside::Gate;
+use sat_parts_wires::Wires;
 use sat_session::{Noted, Session};
-use sat_wires::Wires;
 use std::alloc::{AllocError, Global};
 use std::sync::Wait;
 use std::thread::Threads;
 use std::time::Clock;
 
-/// The one journal of nodes and sessions, the oldest entry first; or what a node and a session kept of an act, where
-/// this is not the same; or that there was no memory.
+/// The one journal of nodes and sessions, the oldest entry first; or what a node and a session kept of an act, or what
+/// two nodes of one act kept of it, where this is not the same; or that there was no memory.
 #[derive(Drop)]
 pub(crate) enum Came {
     Whole(Entries),
-    Apart {
+    Differ {
         node: Option<Noted>,
         session: Option<Noted>,
+    },
+    Apart {
+        lamport: u64,
+        home: Option<Joint>,
+        other: Option<Joint>,
     },
     Memory,
 }
@@ -116,7 +121,18 @@ fn ended<N: Laid + Names>(alloc: Global, cluster: Cluster<N>, sessions: Vec<Sess
 {
     match cluster.finish(alloc, sessions) {
         Ok(ended) => Came::Whole(ended.journal),
-        Err(FinishFault::Differ { node, session }) => Came::Apart { node, session },
+        Err(FinishFault::Differ { node, session }) => Came::Differ { node, session },
+        Err(
+            FinishFault::Apart {
+                lamport,
+                home,
+                other,
+            },
+        ) => Came::Apart {
+            lamport,
+            home,
+            other,
+        },
         Err(FinishFault::SessionsOut { .. }) => unreachable!(),
         Err(FinishFault::Memory { .. }) => Came::Memory,
     }

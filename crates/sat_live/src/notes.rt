@@ -1,11 +1,12 @@
-//! What may be told of two notes that are not the same.
+//! What may be told of two notes, or of two parts of an act, that are not the same.
 ghost use Rattle.std.specs.Prelude.{◌≡◌, ◌<◌, true, None, IfSome};
 ghost use Rattle.sat_label.specs.Members.{In};
-ghost use Rattle.sat_live.specs.Told.{IsAtNode, IsNodeOf};
-ghost use Rattle.sat_live.specs.Telling.{CanBeTold};
+ghost use Rattle.sat_live.specs.Told.{IsAtNode, IsJointAct, IsNodeOf, IsPartAt};
+ghost use Rattle.sat_live.specs.Telling.{CanBeTold, CanPartsBeTold};
 
 use crate::lines::{is_kill, is_site};
 use sat_act::{Act, Deployment};
+use sat_finish::Joint;
 use sat_label::NodeName;
 use sat_session::Noted;
 
@@ -89,4 +90,71 @@ pub(crate) fn can_be_told(
     ensures { result ≡ true → CanBeTold d.now acts.now node.now session.now }
 {
     is_at_node_if(d, node) && is_at_node_if(d, session) && is_of_script(acts, node, session)
+}
+
+// ---- parts of acts
+
+// Whether a part is of an act that stands for itself, at a node of the deployment.
+fn is_part(d: &Deployment, part: &Joint) -> bool
+    ensures { result ≡ true → IsPartAt d.now part.now }
+{
+    !part.entry.inner && is_node(d, part.at)
+}
+
+fn is_part_if(d: &Deployment, part: &Option<Joint>) -> bool
+    ensures { result ≡ true → IfSome part.now (IsPartAt d.now) }
+{
+    match part {
+        Some(part) => is_part(d, part),
+        None => true,
+    }
+}
+
+// Whether an act is one of several nodes: a gather, a turn or a stamp, or a write of several items that is one of these
+// acts.
+fn is_joint(acts: &[Act], act: &Act) -> bool
+    ensures { result ≡ true → IsJointAct acts.now act.now }
+{
+    match act {
+        Act::Gather { site: _ } => true,
+        Act::Turn { site: _ } => true,
+        Act::Stamp { site: _ } => true,
+        Act::Writes { .. } => is_among(acts, act),
+        _ => false,
+    }
+}
+
+fn is_joint_if(acts: &[Act], part: &Option<Joint>) -> bool
+    ensures { result ≡ true → IfSome part.now (λ j. IsJointAct acts.now j.entry.act) }
+{
+    match part {
+        Some(part) => is_joint(acts, &part.entry.act),
+        None => true,
+    }
+}
+
+// Whether the act of another node's part is one of several nodes, where its home has no part beside it.
+fn is_joint_alone(acts: &[Act], home: &Option<Joint>, other: &Option<Joint>) -> bool
+    ensures { result ≡ true → home.now ≡ None → IfSome other.now (λ j. IsJointAct acts.now j.entry.act) }
+{
+    if home.is_some() {
+        return true;
+    }
+    is_joint_if(acts, other)
+}
+
+/// Whether two parts can be told: each is of an act at a node of the deployment; and the home's, or the other's where
+/// the home has none, is of an act of several nodes, one of these where a client did it. All that nodes keep is so.
+pub(crate) fn can_parts_be_told(
+    d: &Deployment,
+    acts: &[Act],
+    home: &Option<Joint>,
+    other: &Option<Joint>,
+) -> bool
+    ensures { result ≡ true → CanPartsBeTold d.now acts.now home.now other.now }
+{
+    is_part_if(d, home)
+        && is_part_if(d, other)
+        && is_joint_if(acts, home)
+        && is_joint_alone(acts, home, other)
 }

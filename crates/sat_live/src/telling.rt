@@ -6,16 +6,17 @@ ghost use Rattle.sat_act.specs.Settling.{answer_of};
 ghost use Rattle.sat_script.specs.Spelled.{AreActsOf, spelling};
 ghost use Rattle.sat_world.specs.Stands.{StandsFor};
 ghost use Rattle.sat_runs.specs.Running.{IsAnswering};
-ghost use Rattle.sat_outcome.specs.Texts.{differ_text, undone_text, unsettled_text};
+ghost use Rattle.sat_outcome.specs.Texts.{apart_text, differ_text, undone_text, unsettled_text};
 ghost use Rattle.sat_live.specs.Coming.{IsJournalOf};
 ghost use Rattle.sat_live.specs.Told.{IsTold};
-ghost use Rattle.sat_live.specs.Telling.{CanBeTold, IsRunTold};
+ghost use Rattle.sat_live.specs.Telling.{CanBeTold, CanPartsBeTold, IsRunTold};
 
 use crate::lines::acts_in;
 use crate::names::have_names;
-use crate::notes::can_be_told;
+use crate::notes::{can_be_told, can_parts_be_told};
 use sat_act::{Act, Answer, Deployment, Entry};
-use sat_outcome::{write_differ, write_undone, write_unsettled};
+use sat_finish::Joint;
+use sat_outcome::{write_apart, write_differ, write_undone, write_unsettled};
 use sat_report::write_holdings;
 use sat_runs::{answer_acts, good_runs};
 use sat_script::write_script;
@@ -27,8 +28,8 @@ use sat_world::World;
 use std::alloc::{AllocError, Global};
 
 /// What is printed of a script that nodes on threads did, and the status that says what it is: 0 for the script of
-/// their journal and its report, 6 for a difference between a node and a session, 8 for the first act that is lacking,
-/// or for a settle with something left to do.
+/// their journal and its report, 6 for a difference between a node and a session or between two nodes of one act, 8 for
+/// the first act that is lacking, or for a settle with something left to do.
 #[derive(Drop)]
 pub struct Told {
     pub text: Vec<u8>,
@@ -89,7 +90,7 @@ fn tell_undone(alloc: Global, d: &Deployment, act: &Act) -> Result<Told, AllocEr
 
 /// What is told where a node and a session did not keep the same of an act of a script. Notes that can't be told, which
 /// no node and no session keeps, are answered as want of memory.
-pub(crate) fn tell_apart(
+pub(crate) fn tell_differ(
     alloc: Global,
     d: &Deployment,
     acts: &[Act],
@@ -105,6 +106,28 @@ pub(crate) fn tell_apart(
     }
     let mut text = Vec::new(alloc);
     write_differ(d, node, session, &mut text)?;
+    Ok(Told { text, status: 6 })
+}
+
+/// What is told where two nodes did not keep the same of one act. Parts that can't be told, which no node keeps, are
+/// answered as want of memory.
+pub(crate) fn tell_apart(
+    alloc: Global,
+    d: &Deployment,
+    acts: &[Act],
+    lamport: u64,
+    home: &Option<Joint>,
+    other: &Option<Joint>,
+) -> Result<Told, AllocError>
+    ensures text { IfOk result (λ told. told.text.items ≡ apart_text d.now lamport home.now other.now) }
+    ensures status { IfOk result (λ told. told.status ≡ 6) }
+    ensures parts { IfOk result (λ _. CanPartsBeTold d.now acts.now home.now other.now) }
+{
+    if !can_parts_be_told(d, acts, home, other) {
+        return Err(AllocError);
+    }
+    let mut text = Vec::new(alloc);
+    write_apart(d, lamport, home, other, &mut text)?;
     Ok(Told { text, status: 6 })
 }
 

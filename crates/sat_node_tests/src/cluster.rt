@@ -11,9 +11,9 @@ use sat_label::{Name, NodeName, SiteSet, Value};
 use sat_machines::Laid;
 use sat_node::{CallFault, Names};
 use sat_outside::FreeGate;
+use sat_parts_wires::Wires;
 use sat_session::Session;
 use sat_tree::Tree;
-use sat_wires::Wires;
 use std::alloc::{AllocError, Global};
 use std::marker::Brand;
 use std::sync::Wait;
@@ -98,10 +98,16 @@ fn code(answer: &Result<Answer, CallFault>) -> u64 {
     }
 }
 
+// A pass of a site: of its hub, and of its gear.
+fn pass<N: Laid + Names, R: Wait>(rt: &R, cluster: &Cluster<N>, site: u16) {
+    let _ = cluster.round(rt, NodeName::Site(site), &FreeGate);
+    let _ = cluster.round(rt, NodeName::Gear { site, gear: 0 }, &FreeGate);
+}
+
 // Four passes over all nodes.
 fn passes<N: Laid + Names, R: Wait>(rt: &R, cluster: &Cluster<N>) {
     for _ in 0..4usize {
-        let _ = cluster.round(rt, NodeName::Site(0), &FreeGate);
+        pass(rt, cluster, 0);
         let _ = cluster.round(
             rt,
             NodeName::Serializer {
@@ -110,7 +116,7 @@ fn passes<N: Laid + Names, R: Wait>(rt: &R, cluster: &Cluster<N>) {
             },
             &FreeGate,
         );
-        let _ = cluster.round(rt, NodeName::Site(1), &FreeGate);
+        pass(rt, cluster, 1);
     }
 }
 

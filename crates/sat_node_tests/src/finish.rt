@@ -1,27 +1,28 @@
-//! The end of a run of one site, in each way.
-ghost use Rattle.std.specs.Prelude.{◌≡◌, ◌<◌, [], IfOk};
-ghost use Rattle.sat_label.specs.declared.node.NodeName.TheVariants.{Site as AtSite};
-ghost use Rattle.sat_machines.specs.Layout.{out_places, in_places};
+//! The end of a run of one site of one gear, in each way.
+ghost use Rattle.std.specs.Prelude.{◌≡◌, length};
 
 use sat_act::{Deployment, Plan};
+use sat_bulk::Drained;
 use sat_finish::{Ended, FinishFault, Opened};
-use sat_label::NodeName;
-use sat_machines::{Laid, SiteNode};
-use sat_node::{Held, Names, Node};
+use sat_machines::Laid;
+use sat_node::{Held, Names};
+use sat_parts::{Drains, GearAct, GearInput, GearNode, HubAct, HubInput, HubNode, part_inputs};
+use sat_parts_session::close;
+use sat_parts_wires::{AllNodes, Wires};
 use sat_session::Session;
 use std::alloc::{AllocError, Global};
 use std::marker::Brand;
 use std::test::Fail;
 
-// Site 0 with no links.
-fn alone<N: Laid + Names>(alloc: Global, d: &Deployment) -> Result<Held<SiteNode<N>, N>, AllocError>
-    requires deployment { N.deployment ≡ d.now }
-    requires site { 0 < d.now.sites }
-    requires places { (out_places N.deployment (AtSite 0) ≡ []) × (in_places N.deployment (AtSite 0) ≡ []) }
-{
-    let machine = SiteNode::new(alloc, d, 0)?;
-    let node = Node::new(alloc, NodeName::Site(0), machine);
-    Ok(Held::new(node, Vec::new(alloc), Vec::new(alloc)))
+/// What is done in a run in which the operator closed site 0: how many sessions were given, whether the operator's came
+/// back, and who kept its part of a gather, the gear with so many labels in the hub's answer.
+#[derive(Clone, Copy)]
+struct Way {
+    given: u64,
+    comes: bool,
+    hub: bool,
+    gear: bool,
+    labels: u64,
 }
 
 // The operator's session, or none.
@@ -38,38 +39,197 @@ fn back<N: Laid>(
     Ok(sessions)
 }
 
-// How a run ended, as a number, with the length of its journal.
-fn way<N: Laid + Names>(end: &Result<Ended, FinishFault<N>>) -> (u8, usize) {
+// A hub keeps a gather of what one gear gives, whatever that gear keeps of it.
+fn gathers<N: Laid + Names>(
+    alloc: Global,
+    hub: &mut Held<HubNode<N>, N>,
+    given: Drained,
+) -> Result<(), AllocError> {
+    // This brings its law into the proof; it does nothing when it runs.
+    part_inputs();
+    let mut members = Vec::new(alloc);
+    members.push(given)?;
+    let drained = Drains::of(members);
+    let input = HubAct::of_hub(HubInput::Gather { drained });
+    let copy = input.copy()?;
+    if !hub.fits(&input) {
+        return Err(AllocError);
+    }
+    match hub.act(1, input, copy) {
+        Ok(_) => Ok(()),
+        Err(_) => Err(AllocError),
+    }
+}
+
+// A gear keeps its part of a gather, whatever the hub keeps of it.
+fn drains<N: Laid + Names>(
+    gear: &mut Held<GearNode<N>, N>,
+    drained: Drained,
+    labels: u64,
+) -> Result<(), AllocError> {
+    // This brings its law into the proof; it does nothing when it runs.
+    part_inputs();
+    let stable = 0;
+    let input = GearAct::of_gear(GearInput::Drain {
+        drained,
+        labels,
+        stable,
+    });
+    let copy = input.copy()?;
+    if !gear.fits(&input) {
+        return Err(AllocError);
+    }
+    match gear.act(1, input, copy) {
+        Ok(_) => Ok(()),
+        Err(_) => Err(AllocError),
+    }
+}
+
+// Each of the two keeps its part, or does not.
+fn act<N: Laid + Names>(
+    alloc: Global,
+    hub: &mut Held<HubNode<N>, N>,
+    gear: &mut Held<GearNode<N>, N>,
+    way: Way,
+) -> Result<(), AllocError> {
+    let given = gear.node().machine().gear().undrained()?;
+    let again = given.copy()?;
+    if way.hub {
+        gathers(alloc, hub, given)?;
+    }
+    if way.gear {
+        drains(gear, again, way.labels)?;
+    }
+    Ok(())
+}
+
+// How a run ended, as a number, with the length of its journal, or with who kept a part of an act that is not the
+// other's: 1 the home, 2 another node, 3 both.
+fn told<N: Laid + Names>(end: &Result<Ended, FinishFault<N>>) -> (u8, usize) {
     match end {
         Ok(ended) => (0, ended.journal.as_slice().len()),
         Err(FinishFault::SessionsOut { .. }) => (1, 0),
         Err(FinishFault::Differ { .. }) => (2, 0),
         Err(FinishFault::Memory { .. }) => (3, 0),
+        Err(
+            FinishFault::Apart {
+                lamport: _,
+                home,
+                other,
+            },
+        ) => match (home, other) {
+            (Some(_), Some(_)) => (4, 3),
+            (None, Some(_)) => (4, 2),
+            (Some(_), None) => (4, 1),
+            (None, None) => (4, 0),
+        },
     }
 }
 
-// How a run ends in which the operator closed site 0, and its session came back or did not.
+// The hub and the gear, after the operator closed the site and they did what is asked.
+fn done<N: Laid + Names>(
+    alloc: Global,
+    d: &Deployment,
+    wires: Wires,
+    operator: &mut Session<N>,
+    way: Way,
+) -> Result<AllNodes<N>, AllocError>
+    requires deployment { N.deployment ≡ d.now }
+    requires made { wires.deployment ≡ d.now }
+    requires wires { N.wires ≡ wires.wires }
+    requires operator { operator.old.number ≡ length N.deployment.clients }
+{
+    let mut nodes = AllNodes::<N>::new(alloc, d, wires)?;
+    let Some(mut hub) = nodes.hubs.pop() else {
+        return Err(AllocError);
+    };
+    let Some(mut gear) = nodes.gears.pop() else {
+        return Err(AllocError);
+    };
+    let _ = close(operator, &mut hub, 0);
+    act(alloc, &mut hub, &mut gear, way)?;
+    nodes.hubs.push(hub)?;
+    nodes.gears.push(gear)?;
+    Ok(nodes)
+}
+
+// How a run ends.
 fn end<N: Laid + Names>(
     alloc: Global,
     d: &Deployment,
-    comes: bool,
-    given: u64,
+    wires: Wires,
+    way: Way,
 ) -> Result<(u8, usize), AllocError>
     requires deployment { N.deployment ≡ d.now }
-    requires site { d.now.sites ≡ 1 }
-    requires places { (out_places N.deployment (AtSite 0) ≡ []) × (in_places N.deployment (AtSite 0) ≡ []) }
+    requires made { wires.deployment ≡ d.now }
+    requires wires { N.wires ≡ wires.wires }
 {
     let copy = d.copy()?;
-    let mut held = alone::<N>(alloc, d)?;
     let mut operator = Session::<N>::of_operator(alloc, d);
-    let _ = operator.close(&mut held, 0);
-    let sessions = back(alloc, operator, comes)?;
-    let mut sites = Vec::new(alloc);
-    sites.push(held)?;
-    let opened = Opened::new(copy, sites, Vec::new(alloc), given);
+    let AllNodes {
+        hubs,
+        gears,
+        serials,
+    } = done(alloc, d, wires, &mut operator, way)?;
+    let sessions = back(alloc, operator, way.comes)?;
+    let opened = Opened::new(copy, hubs, gears, serials, way.given);
     let ended = opened.finish(alloc, sessions);
-    Ok(way(&ended))
+    Ok(told(&ended))
 }
+
+// A session that stays away, or that was not given; then a gather that both nodes kept, or one of them, or with other
+// answers.
+const WAYS: &[Way] = &[
+    Way {
+        given: 1,
+        comes: true,
+        hub: false,
+        gear: false,
+        labels: 0,
+    },
+    Way {
+        given: 1,
+        comes: false,
+        hub: false,
+        gear: false,
+        labels: 0,
+    },
+    Way {
+        given: 0,
+        comes: false,
+        hub: false,
+        gear: false,
+        labels: 0,
+    },
+    Way {
+        given: 1,
+        comes: true,
+        hub: true,
+        gear: true,
+        labels: 0,
+    },
+    Way {
+        given: 1,
+        comes: true,
+        hub: true,
+        gear: false,
+        labels: 0,
+    },
+    Way {
+        given: 1,
+        comes: true,
+        hub: false,
+        gear: true,
+        labels: 0,
+    },
+    Way {
+        given: 1,
+        comes: true,
+        hub: true,
+        gear: true,
+        labels: 5,
+    },
+];
 
 #[test]
 fn a_run_ends(rt: HostRuntime) -> Result<(), Fail> {
@@ -77,11 +237,12 @@ fn a_run_ends(rt: HostRuntime) -> Result<(), Fail> {
     let mut plans = Vec::new(alloc);
     plans.push(Plan::Stamp)?;
     let d = Deployment::new(alloc, 1, 1, 1, Vec::new(alloc), Vec::new(alloc), plans)?;
-    let ends = [
-        end::<Brand>(alloc, &d, true, 1)?,
-        end::<Brand>(alloc, &d, false, 1)?,
-        end::<Brand>(alloc, &d, false, 0)?,
-    ];
-    assert_eq!(rt; ends.as_slice(), [(0, 1), (1, 0), (2, 0)].as_slice());
+    let mut ends = Vec::new(alloc);
+    for way in WAYS {
+        let wires = Wires::new(alloc, &d, 3)?;
+        ends.push(end::<Brand>(alloc, &d, wires, *way)?)?;
+    }
+    let wanted = [(0, 1), (1, 0), (2, 0), (0, 2), (4, 1), (4, 2), (4, 3)];
+    assert_eq!(rt; ends.as_slice(), wanted.as_slice());
     Ok(())
 }

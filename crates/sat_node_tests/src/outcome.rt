@@ -1,7 +1,8 @@
 //! Each text on its happy path.
 use sat_act::{Act, Answer, ClientLine, Deployment, Entry, Item, Plan};
+use sat_finish::{Given, Joint};
 use sat_label::{Carried, Name, NodeName, Point, SiteSet};
-use sat_outcome::{write_differ, write_undone, write_unsettled};
+use sat_outcome::{write_apart, write_differ, write_undone, write_unsettled};
 use sat_session::Noted;
 use sat_tree::Tree;
 use std::alloc::{AllocError, Global};
@@ -47,6 +48,34 @@ fn note(at: Option<NodeName>, act: Act, answer: Answer) -> Noted {
             inner: false,
         },
     }
+}
+
+// A gather at site 0, as a node kept it.
+fn gathered(at: NodeName, labels: u64) -> Joint {
+    Joint {
+        at,
+        entry: Entry {
+            act: Act::Gather { site: 0 },
+            answer: Answer::Gathered { labels, stable: 4 },
+            inner: false,
+        },
+        given: Given::Nothing,
+    }
+}
+
+#[test]
+fn two_parts_of_an_act_are_told(rt: HostRuntime) -> Result<(), Fail> {
+    let alloc = rt.alloc();
+    let d = deployment(alloc)?;
+    let mut out = Vec::new(alloc);
+    let home = Some(gathered(NodeName::Site(0), 1));
+    let other = Some(gathered(NodeName::Gear { site: 0, gear: 0 }, 2));
+    write_apart(&d, 9, &home, &other, &mut out)?;
+    write_apart(&d, 10, &None, &other, &mut out)?;
+    let want =
+        b"apart\n9 0 gather 0 -> gathered 1 stable 4\n9 1 gather 0 -> gathered 2 stable 4\napart\nnone\n10 1 gather 0 -> gathered 2 stable 4\n";
+    assert_eq!(rt; out.as_slice(), want.as_slice());
+    Ok(())
 }
 
 #[test]

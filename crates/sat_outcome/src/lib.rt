@@ -4,4 +4,4 @@
 mod places;
 mod texts;
 
-pub use texts::{write_differ, write_undone, write_unsettled};
+pub use texts::{write_apart, write_differ, write_undone, write_unsettled};

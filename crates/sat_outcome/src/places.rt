@@ -31,7 +31,7 @@ fn add_serials(more: u64, first: u64, epoch: u16, plans: &[Plan]) -> u64
     add_serials(more + u64::from(serials_in(plan)), first + 1, epoch, rest)
 }
 
-/// The place of a node among all: sites by number, then gears by site and number, then serializers by epoch and number.
+/// The place of a node among all: hubs by site, then gears by site and number, then serializers by epoch and number.
 pub fn node_place(d: &Deployment, name: NodeName) -> u64
     ensures { result ≡ node_place d.now name }
 {

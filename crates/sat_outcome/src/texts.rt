@@ -1,13 +1,14 @@
 //! The texts.
-ghost use Rattle.std.specs.Prelude.{◌≡◌, ◌++◌, ◌∷◌, [], codes, OnOk};
+ghost use Rattle.std.specs.Prelude.{◌≡◌, ◌++◌, ◌∷◌, [], OnOk};
 ghost use Rattle.std.specs.Fmt.{decimal};
 ghost use Rattle.sat_script.specs.Spelled.{act_text};
-ghost use Rattle.sat_report.specs.Answers.{answer_text};
-ghost use Rattle.sat_outcome.specs.Texts.{differ_text, kept_text, known_text, note_text, number_text, place_of, undone_text, unsettled_text};
+ghost use Rattle.sat_outcome.specs.Texts.{apart_text, differ_text, entry_text, joint_text, kept_text, known_text};
+ghost use Rattle.sat_outcome.specs.Texts.{note_text, number_text, part_text, place_of, undone_text, unsettled_text};
 
 use crate::places::node_place;
 use itoa::write_digits;
 use sat_act::{Act, Deployment, Entry};
+use sat_finish::Joint;
 use sat_label::{NodeName, write_point};
 use sat_report::append_answer;
 use sat_script::act_line;
@@ -63,8 +64,7 @@ fn append_act(d: &Deployment, act: &Act, out: &mut Vec<u8>) -> Result<(), AllocE
 
 // An act's line, and its answer.
 fn append_entry(d: &Deployment, entry: &Entry, out: &mut Vec<u8>) -> Result<(), AllocError>
-    ensures { OnOk result (out.new.items ≡ out.old.items
-        ++ (act_text d.now entry.now.act ++ codes " -> " ++ answer_text d.now entry.now.act entry.now.answer)) }
+    ensures { OnOk result (out.new.items ≡ out.old.items ++ entry_text d.now entry.now) }
 {
     append_act(d, &entry.act, out)?;
     out.extend_from_slice(b" -> ")?;
@@ -119,6 +119,56 @@ pub fn write_differ(
     out.extend_from_slice(b"differ\n")?;
     append_kept(d, node, out)?;
     append_kept(d, session, out)
+}
+
+fn append_joint(
+    d: &Deployment,
+    number: u64,
+    joint: &Joint,
+    out: &mut Vec<u8>,
+) -> Result<(), AllocError>
+    ensures { OnOk result (out.new.items ≡ out.old.items ++ joint_text d.now number joint.now) }
+{
+    append_number(number, out)?;
+    out.push(b' ')?;
+    append_number(node_place(d, joint.at), out)?;
+    out.push(b' ')?;
+    append_entry(d, &joint.entry, out)
+}
+
+// The part that was kept of an act under a number, and a new line.
+fn append_part(
+    d: &Deployment,
+    number: u64,
+    joint: &Option<Joint>,
+    out: &mut Vec<u8>,
+) -> Result<(), AllocError>
+    ensures { OnOk result (out.new.items ≡ out.old.items ++ (part_text d.now number joint.now ++ 10 ∷ [])) }
+{
+    match joint {
+        None => out.extend_from_slice(b"none\n"),
+        Some(joint) => {
+            append_joint(d, number, joint, out)?;
+            out.push(b'\n')?;
+            Ok(())
+        }
+    }
+}
+
+/// Appends what two nodes of one act kept of it under its Lamport number, its home and another node, where they are not
+/// the same. For want of memory a front of it may stand there.
+pub fn write_apart(
+    d: &Deployment,
+    lamport: u64,
+    home: &Option<Joint>,
+    other: &Option<Joint>,
+    out: &mut Vec<u8>,
+) -> Result<(), AllocError>
+    ensures { OnOk result (out.new.items ≡ out.old.items ++ apart_text d.now lamport home.now other.now) }
+{
+    out.extend_from_slice(b"apart\n")?;
+    append_part(d, lamport, home, out)?;
+    append_part(d, lamport, other, out)
 }
 
 /// Appends the act that a history lacks. For want of memory a front of it may stand there.

@@ -1,5 +1,6 @@
 -- What a hub's node has heard by then. Only the contracts of private functions speak of it.
-use Rattle.std.specs.Prelude.{◌≡◌, ℕ, ◌+◌, ◌*◌, ◌&&◌, ◌||◌, ◌==◌, Bool, true, nat_le, nat_lt, List, [], ◌∷◌, ◌++◌, length, map, Some, None, slice_get}
+use Rattle.std.specs.Prelude.{◌≡◌, ℕ, ◌+◌, ◌*◌, ◌&&◌, ◌||◌, ◌==◌, Bool, true, nat_le, nat_lt, List, [], ◌∷◌, ◌++◌}
+use Rattle.std.specs.Prelude.{length, map, Some, None, slice_get}
 use Rattle.sat_label.specs.Words.{below}
 use Rattle.sat_act.specs.Deployed.{Deployed}
 use Rattle.sat_link.specs.Ends.{rise}
@@ -12,7 +13,8 @@ use Rattle.sat_parts.specs.Layout.{lane_end}
 use Rattle.sat_parts_passes.specs.Sendings.{HubHeld, HubKept}
 use Rattle.sat_parts_hearing.specs.declared.ends.Source.{Source}
 use Rattle.sat_parts_hearing.specs.declared.ends.Source.TheVariants as source
-use Rattle.sat_parts_hearing.specs.Hearings.{Hears, IsEmptied, IsHeard, came_at, came_over, end_of, input_from, on_link, sources_of}
+use Rattle.sat_parts_hearing.specs.Hearings.{Hears, IsEmptied, IsHeard, came_at, came_over, end_of, input_from, on_link}
+use Rattle.sat_parts_hearing.specs.Hearings.{sources_of}
 
 -- ---- one link
 

@@ -1,5 +1,6 @@
 //! One message for a hub from another site.
-ghost use Rattle.std.specs.Prelude.{◌≡◌, ◌<◌, true, false, [], ◌∷◌, length, IfErr, IfOk, MatchBool, MatchOption, None, OnOk};
+ghost use Rattle.std.specs.Prelude.{◌≡◌, ◌<◌, true, false, [], ◌∷◌, length, IfErr, IfOk, MatchBool, MatchOption, None};
+ghost use Rattle.std.specs.Prelude.{OnOk};
 ghost use Rattle.sat_node.specs.declared.kept.Envelope.{Envelope as Sent};
 ghost use Rattle.sat_node.specs.declared.kept.CallFault.TheVariants.{Memory};
 ghost use Rattle.sat_node.specs.Links.{front_at};

@@ -104,7 +104,8 @@ fn hear_all<N: Laid + Names, R: Wait>(
     ensures outs { held.new.outs ≡ held.old.outs }
     ensures all { OnOk result (HearsAll N.deployment held.old held.new) }
     ensures emptied { OnOk result
-        (Both (λ k j i. IsHeard (hears_at N.deployment (number_of held.old.node.name) k) j i) held.old.ins held.new.ins) }
+        (Both (λ k j i. IsHeard (hears_at N.deployment (number_of held.old.node.name) k) j i)
+        held.old.ins held.new.ins) }
     ensures fault { IfErr result (Fails held.new) }
 {
     sound(held);
@@ -120,11 +121,11 @@ fn hear_all<N: Laid + Names, R: Wait>(
 
 /// What a hub's node hears from the other sites: each payload and each beat that came over their links is taken where
 /// it fits the hub, and else passed over. The links are heard in the order of the sites, and of each site the lanes of
-/// its gears, in their order, before the link of its hub's beats; each until it was found empty. The links of trees stay
-/// as they are: what comes there is shown or taken in turns. How many entries the node kept. `Worn`, with the greatest
-/// u64, only where that is the node's number or a received envelope's after the call; `Memory`, also for a message that
-/// no node puts on its link: a label, a payload that is not of the lane's gear, a beat on a lane or a payload among
-/// beats. After an error, what was kept by then stays.
+/// its gears, in their order, before the link of its hub's beats; each until it was found empty. The links of trees
+/// stay as they are: what comes there is shown or taken in turns. How many entries the node kept. `Worn`, with the
+/// greatest u64, only where that is the node's number or a received envelope's after the call; `Memory`, also for a
+/// message that no node puts on its link: a label, a payload that is not of the lane's gear, a beat on a lane or a
+/// payload among beats. After an error, what was kept by then stays.
 pub fn receive<N: Laid + Names, R: Wait>(
     rt: &R,
     held: &mut Held<HubNode<N>, N>,
@@ -134,7 +135,8 @@ pub fn receive<N: Laid + Names, R: Wait>(
     ensures count { IfOk result (λ n. length held.new.node.entries ≡ length held.old.node.entries + n) }
     ensures all { OnOk result (HearsAll N.deployment held.old held.new) }
     ensures emptied { OnOk result
-        (Both (λ k j i. IsHeard (hears_at N.deployment (number_of held.old.node.name) k) j i) held.old.ins held.new.ins) }
+        (Both (λ k j i. IsHeard (hears_at N.deployment (number_of held.old.node.name) k) j i)
+        held.old.ins held.new.ins) }
     ensures fault { IfErr result (Fails held.new) }
 {
     let before = held.node().journal().len();

@@ -1,5 +1,6 @@
 -- Notes in the order of their sessions and of their numbers.
-use Rattle.std.specs.Prelude.{◌≡◌, ℕ, ◌+◌, Bool, true, false, ◌&&◌, ◌||◌, ◌==◌, nat_lt, List, [], ◌∷◌, Option, Some, None}
+use Rattle.std.specs.Prelude.{◌≡◌, ℕ, ◌+◌, Bool, true, false, ◌&&◌, ◌||◌, ◌==◌, nat_lt, List, [], ◌∷◌, Option, Some}
+use Rattle.std.specs.Prelude.{None}
 use Rattle.sat_label.specs.Members.{In}
 use Rattle.sat_stitch.specs.Places.{Session, Client, Operator}
 use Rattle.sat_session.specs.Owned.{Owned}

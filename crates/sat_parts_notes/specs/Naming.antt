@@ -18,7 +18,8 @@ plan_names e (plan.Tree t) = tree_names (record { epoch = e; tree = t })
 
 -- these are all nodes of a deployment, each once: hubs by site, gears by site and number, and serializers by epoch and
 -- number
-pub record AreNamed (d : Deployed) (hubs : List HubHeld) (gears : List GearHeld) (serials : List SerialHeld) : Type 0 where
-  pub hubs_are : map name_in hubs ≡ map named.Site (below d.sites)
-  pub gears_are : map name_in gears ≡ gear_names d
-  pub serials_are : map name_in serials ≡ serial_names d
+pub record AreNamed (d : Deployed) (hubs : List HubHeld) (gears : List GearHeld) (serials : List SerialHeld) : Type 0
+  where
+    pub hubs_are : map name_in hubs ≡ map named.Site (below d.sites)
+    pub gears_are : map name_in gears ≡ gear_names d
+    pub serials_are : map name_in serials ≡ serial_names d

@@ -4,7 +4,9 @@ ghost use Rattle.sat_joint.specs.Seen.{seen};
 ghost use Rattle.sat_opened.specs.Keeping.{kept_under, serial_kept};
 ghost use Rattle.sat_machines.specs.Serials.{epoch_in, serial_in};
 ghost use Rattle.sat_parts_opened.specs.Keeping.{serial_noted};
-ghost use Rattle.sat_parts_notes.specs.Collecting.{Lines, alone_line, alone_lines, at_places, collected, home_line, journals_of, lines_at_gear, lines_at_hub, lines_at_serial, session_journal};
+ghost use Rattle.sat_parts_notes.specs.Collecting.{Lines, alone_line, alone_lines, at_places, collected, home_line};
+ghost use Rattle.sat_parts_notes.specs.Collecting.{journals_of, lines_at_gear, lines_at_hub, lines_at_serial};
+ghost use Rattle.sat_parts_notes.specs.Collecting.{session_journal};
 
 use crate::notes::{gear_in, site_in};
 use sat_act::{Entries, Entry};

@@ -1,5 +1,6 @@
 //! What nodes and sessions kept of the acts of sessions at nodes.
-ghost use Rattle.std.specs.Prelude.{◌≡◌, ◌≤◌, ◌++◌, true, false, map, length, option_map, slice_get, Some, IfOk, MatchOption, OnOk};
+ghost use Rattle.std.specs.Prelude.{◌≡◌, ◌≤◌, ◌++◌, true, false, map, length, option_map, slice_get, Some, IfOk};
+ghost use Rattle.std.specs.Prelude.{MatchOption, OnOk};
 ghost use Rattle.std.specs.List.{flat_map};
 ghost use Rattle.sat_machines.specs.Serials.{epoch_in, serial_in};
 ghost use Rattle.sat_machines.specs.Sites.{number_of};
@@ -7,8 +8,10 @@ ghost use Rattle.sat_stitch.specs.Kept.{entry_of};
 ghost use Rattle.sat_parts.specs.Gears.{gear_number};
 ghost use Rattle.sat_opened.specs.Keeping.{serial_kept, kept_under, serial_owner};
 ghost use Rattle.sat_parts_opened.specs.Keeping.{gear_kept, hub_kept, hub_owner, is_own_line};
-ghost use Rattle.sat_session.specs.Notes.{session_at, owned_by, nothing_carried, serial_note, serial_notes, notes_at_serial, at_node, own_notes, notes_of, session_notes};
-ghost use Rattle.sat_parts_notes.specs.Notes.{gear_carried, gear_owned, hub_carried, hub_owned, notes_at_gear, notes_at_hub, part_notes};
+ghost use Rattle.sat_session.specs.Notes.{session_at, owned_by, nothing_carried, serial_note, serial_notes};
+ghost use Rattle.sat_session.specs.Notes.{notes_at_serial, at_node, own_notes, notes_of, session_notes};
+ghost use Rattle.sat_parts_notes.specs.Notes.{gear_carried, gear_owned, hub_carried, hub_owned, notes_at_gear};
+ghost use Rattle.sat_parts_notes.specs.Notes.{notes_at_hub, part_notes};
 ghost use Rattle.sat_parts_notes.specs.Filing.{owner_in};
 
 use crate::filed::Filed;

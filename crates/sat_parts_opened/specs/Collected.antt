@@ -1,6 +1,7 @@
 -- The parts that passed between a gear and the homes of its site, read off each entry of their journals alone: no
 -- state is asked, since an entry holds what was given in it.
-use Rattle.std.specs.Prelude.{◌≡◌, ℕ, Bool, true, false, ◌&&◌, ◌==◌, not, nat_lt, List, [], reverse, slice_get, Option, Some, None}
+use Rattle.std.specs.Prelude.{◌≡◌, ℕ, Bool, true, false, ◌&&◌, ◌==◌, not, nat_lt, List, [], reverse, slice_get, Option}
+use Rattle.std.specs.Prelude.{Some, None}
 use Rattle.std.specs.List.{flat_map}
 use Rattle.sat_label.specs.Grouped.{list_of}
 use Rattle.sat_label.specs.declared.items.Items.{Items}
@@ -17,7 +18,8 @@ use Rattle.sat_node.specs.Meanings.{Runs}
 use Rattle.sat_joint.specs.Compare.{Gave, Got, NoShare, Share}
 use Rattle.sat_hub_laws.specs.Changes.{input_is_own}
 use Rattle.sat_hub_laws.specs.Lines.{gear_piece, gear_pieces, hub_piece, hub_pieces}
-use Rattle.sat_hub_laws.specs.Parts.{Part, given_parts, input_share, kept_parts, part_if, part_of, same_home, written_at}
+use Rattle.sat_hub_laws.specs.Parts.{Part, given_parts, input_share, kept_parts, part_if, part_of, same_home}
+use Rattle.sat_hub_laws.specs.Parts.{written_at}
 use Rattle.sat_hub_laws.specs.Sites.{has_part}
 use Rattle.sat_parts.specs.declared.hub_answer.HubAnswer.{HubAnswer}
 use Rattle.sat_parts.specs.declared.gear_answer.GearAnswer.{GearAnswer}

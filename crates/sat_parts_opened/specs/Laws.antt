@@ -27,7 +27,8 @@ use Rattle.sat_joint.specs.Table.{Alone, AtGear, AtHub, AtSerial, Node, link_nod
 use Rattle.sat_joint.specs.Machines.{kept_site, whole}
 use Rattle.sat_joint.specs.Joint.{BeatsFit, IsJointMerge, IsSessionList, KnowsClient, PayloadsFit}
 use Rattle.sat_joint.specs.Journals.{home_entries, noted, oldest}
-use Rattle.sat_hub_laws.specs.Lines.{GearLine, HubLine, IsGearJournal, IsHubJournal, gear_pieces, hub_pieces, node_lists}
+use Rattle.sat_hub_laws.specs.Lines.{GearLine, HubLine, IsGearJournal, IsHubJournal, gear_pieces, hub_pieces}
+use Rattle.sat_hub_laws.specs.Lines.{node_lists}
 use Rattle.sat_hub_laws.specs.Parts.{PartsAgree}
 use Rattle.sat_hub_laws.specs.Laws.{IsOtherList, JournalsFit}
 use Rattle.sat_parts.specs.declared.hub_answer.HubAnswer.{HubAnswer}
@@ -43,7 +44,8 @@ use Rattle.sat_opened.specs.Opened.{entries_at, name_in, serial_names}
 use Rattle.sat_opened.specs.Laws.{SerialHeld}
 use Rattle.sat_parts_opened.specs.Opened.{PartsOpened, gears_of, hubs_of, others_of, pieces_at, pieces_of}
 use Rattle.sat_parts_opened.specs.Hosts.{PartsHosted}
-use Rattle.sat_parts_opened.specs.Keeping.{gear_kept, gear_noted, gear_owner, hub_kept, hub_noted, hub_owner, node_of, own_noted, serial_noted}
+use Rattle.sat_parts_opened.specs.Keeping.{gear_kept, gear_noted, gear_owner, hub_kept, hub_noted, hub_owner, node_of}
+use Rattle.sat_parts_opened.specs.Keeping.{own_noted, serial_noted}
 use Rattle.sat_parts.specs.Layout.{gear_names}
 
 -- a hub, and a gear, with its link ends

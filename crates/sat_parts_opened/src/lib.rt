@@ -6,7 +6,11 @@ mod entries;
 mod kept_parts;
 mod parts;
 
-ghost use Rattle.sat_parts_opened.specs.Laws.{FitsJoin, GearJournals, GearsAreKept, GearsAreParts, GearsHaveOwners, HostsAreRuns, HostsFit, HostsStand, HubJournals, HubsAreKept, HubsAreParts, HubsHaveOwners, NodesCover, OpenedAreHosts, OpenedAreJournals, OpenedAreRuns, OpenedFit, OpenedStand, OwnAreHomes, SerialJournals, SerialsAreKept};
+ghost use Rattle.sat_parts_opened.specs.Laws.{FitsJoin, GearJournals, GearsAreKept, GearsAreParts, GearsHaveOwners};
+ghost use Rattle.sat_parts_opened.specs.Laws.{HostsAreRuns, HostsFit, HostsStand, HubJournals, HubsAreKept};
+ghost use Rattle.sat_parts_opened.specs.Laws.{HubsAreParts, HubsHaveOwners, NodesCover, OpenedAreHosts};
+ghost use Rattle.sat_parts_opened.specs.Laws.{OpenedAreJournals, OpenedAreRuns, OpenedFit, OpenedStand, OwnAreHomes};
+ghost use Rattle.sat_parts_opened.specs.Laws.{SerialJournals, SerialsAreKept};
 ghost use Rattle.sat_parts_opened.specs.Collected.{GearsGive, GearsKeepParts, HubPartsKept, HubsGive};
 ghost use Rattle.sat_parts_opened.specs.Within.{AgreeIfWithin, WithinIfAgree};
 

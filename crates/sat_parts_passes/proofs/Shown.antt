@@ -298,8 +298,3 @@ module _ (d : Deployed) (link : Option ℕ) (act : ShownBy) (given : HubInput) (
       let home : Keeps (hub_meaning d) (show_number link h gears) link (of_hub given) a h h' = subst (λ (o : HubActSeen). Keeps (hub_meaning d) (show_number link h gears) link o a h h') is keeps in
       let t : Told a = told-by a h.node.name (replay (hub_meaning d) h.node.name h.node.entries) st home.answers in
       record { answer = a; told = t.told; shows = t.shows; home = home; parts = parts-keep shown parts are shows all }
-
-pub fails_shown : (r : Result HubAnswer CallFault) (link : Option ℕ) (h : HubHeld) (gears : List GearHeld) → IsErrOf r (fault.Worn last_number) ↔ (top_of 0 link h gears ≡ last_number)
-    → IfErr r (λ f. (f ≡ fault.Worn last_number) ⊎ (f ≡ fault.Memory)) → IfErr r (FailsShown link h gears)
-fails_shown (Ok a) link h gears worn only = tt
-fails_shown (Err f) link h gears worn only = ⊎_elim (λ (is : f ≡ fault.Worn last_number). inr (is, worn.0 (ap Err is))) (λ (is : f ≡ fault.Memory). inl is) only

@@ -1,5 +1,5 @@
 //! Whether a hub's last beat for another site is the one that it would make.
-ghost use Rattle.std.specs.Prelude.{◌≡◌, ◌<◌, length, IfOk, IfSome, option_copied};
+ghost use Rattle.std.specs.Prelude.{◌≡◌, ◌<◌, ◌≤◌, length, IfOk, IfSome, option_copied};
 ghost use Rattle.sat_hub.specs.Changes.{beat_for, made_for};
 ghost use Rattle.sat_passes.specs.Sendings.{is_told, last_made};
 
@@ -8,8 +8,19 @@ use sat_hub::Hub;
 use sat_passes::is_one;
 use std::alloc::AllocError;
 
-// How many beats the hub made for another site, by halving. No memory holds 2^64 - 1 beats: `None` where there are so
-// many.
+// A place to ask between two: as far behind the first as that is, and never behind the middle. So the first places are
+// asked where few are taken, each twice as far as the one before, and once one is not taken, the middle is.
+fn between(low: u64, high: u64) -> u64
+    requires { low < high }
+    ensures from { low ≤ result }
+    ensures below { result < high }
+{
+    let half = (high - low) / 2;
+    if low < half { low + low } else { low + half }
+}
+
+// How many beats the hub made for another site, by doubling and halving. No memory holds 2^64 - 1 beats: `None` where
+// there are so many.
 fn beats_made(hub: &Hub, to: u16) -> Option<u64>
     requires { to < hub.now.shape.sites }
     ensures { IfSome result (λ n. n ≡ length (made_for hub.now to)) }
@@ -17,7 +28,7 @@ fn beats_made(hub: &Hub, to: u16) -> Option<u64>
     let mut low: u64 = 0;
     let mut high: u64 = u64::MAX;
     'halving: while low < high {
-        let middle = low + (high - low) / 2;
+        let middle = between(low, high);
         if hub.made_beat(to, middle).is_some() {
             low = middle + 1;
         } else {

@@ -4,7 +4,8 @@ ghost use Rattle.sat_sink.specs.Pending.{promise_of};
 ghost use Rattle.sat_node.specs.Together.{AllSame, SameHeld, lent};
 ghost use Rattle.sat_parts.specs.declared.hub_input.HubInput.TheVariants as handed;
 ghost use Rattle.sat_parts.specs.HubSteps.{hub_takes};
-ghost use Rattle.sat_parts_passes.specs.Gathers.{FailsAll, IsGathered, drain_act, drain_part, gather_act, given_by, gives, label_count, stable_with, twice};
+ghost use Rattle.sat_parts_passes.specs.Gathers.{FailsAll, IsGathered, drain_act, drain_part, gather_act, given_by};
+ghost use Rattle.sat_parts_passes.specs.Gathers.{gives, label_count, stable_with, twice};
 
 use crate::known::sound;
 use sat_bulk::Drained;

@@ -28,7 +28,7 @@ pub fn sound<N: Laid + Names>(held: &Held<HubNode<N>, N>)
     ensures steps { EachStep }
 {
     let machine = held.node().machine();
-    let _ = machine.hub().next();
+    let _ = machine.hub().shape();
     // This brings its laws into the proof; it does nothing when it runs.
     site_laws();
 }

@@ -6,7 +6,8 @@ ghost use Rattle.sat_node.specs.Together.{lent};
 ghost use Rattle.sat_parts.specs.declared.gear_input.GearInput.TheVariants as handed;
 ghost use Rattle.sat_parts.specs.Acts.{is_shown_clients};
 ghost use Rattle.sat_parts.specs.GearSteps.{gear_takes};
-ghost use Rattle.sat_parts_passes.specs.Shows.{all_take, may_take, part_if, show_act, show_input, show_part, shows_kind, shows_one};
+ghost use Rattle.sat_parts_passes.specs.Shows.{all_take, may_take, part_if, show_act, show_input, show_part};
+ghost use Rattle.sat_parts_passes.specs.Shows.{shows_kind, shows_one};
 
 use sat_bulk::Payload;
 use sat_hub::is_here;

@@ -5,7 +5,8 @@ ghost use Rattle.sat_parts.specs.declared.hub_input.HubInput.TheVariants as give
 ghost use Rattle.sat_parts.specs.Hubs.{hub_puts};
 ghost use Rattle.sat_machines.specs.Sites.{number_of};
 ghost use Rattle.sat_passes.specs.Sendings.{FailsAlone};
-ghost use Rattle.sat_parts_passes.specs.Sendings.{AreTold, Follows, IsIdle, IsTold, Sent, StaysSent, is_sending, pending_count, would_do};
+ghost use Rattle.sat_parts_passes.specs.Sendings.{AreTold, Follows, IsIdle, IsTold, Sent, StaysSent, is_sending};
+ghost use Rattle.sat_parts_passes.specs.Sendings.{pending_count, would_do};
 ghost use Rattle.sat_parts_passes.specs.Waiting.{SentOrFull};
 
 use crate::beats::is_told;

@@ -9,7 +9,8 @@ ghost use Rattle.sat_parts.specs.Acts.{is_hub_clients, is_shown_clients};
 ghost use Rattle.sat_parts.specs.HubSteps.{hub_shows};
 ghost use Rattle.sat_parts.specs.Hubs.{hub_meaning};
 ghost use Rattle.sat_parts_passes.specs.Sendings.{of_hub, would_do};
-ghost use Rattle.sat_parts_passes.specs.Shows.{FailsShown, IsShown, all_take, body_label, is_showing, label_of, show_input, turn_of, would_show};
+ghost use Rattle.sat_parts_passes.specs.Shows.{FailsShown, IsShown, all_take, body_label, is_showing, label_of};
+ghost use Rattle.sat_parts_passes.specs.Shows.{show_input, turn_of, would_show};
 
 use crate::known::sound;
 use crate::parts::{all_take, parts_of};

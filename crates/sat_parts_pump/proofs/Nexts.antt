@@ -74,12 +74,3 @@ takes_none x o n is alone = alone ∙ ap (next_by x) (sym is)
 -- there is no such link
 pub beyond : (R : InSeen → InSeen → Type 0) (link : ℕ) (a : List InSeen) → length a ≤ link → OnlyAt link R a a
 beyond R link a le = (refl, λ k y at. (y, at, ((λ other. refl), (λ here. absurd (let less : k < length a = slice_get_within a k y at in omega arith)))))
-
-pub pulled_none : (s : Bool) (link : ℕ) (a b : List InSeen) → s ≡ true → b ≡ a → IsPulled s link a b
-pulled_none s link a b e same = subst (λ (t : Bool). IsPulled t link a b) (sym e) same
-
-pub pulled_one : (s : Bool) (link k : ℕ) (a b : List InSeen) → s ≡ false → k ≡ link → OnlyAt k Pulled a b → IsPulled s link a b
-pulled_one s link k a b e is pulled = subst (λ (t : Bool). IsPulled t link a b) (sym e) (subst (λ (m : ℕ). OnlyAt m Pulled a b) is pulled)
-
-pub pulled_beyond : (s : Bool) (link k : ℕ) (a : List InSeen) → s ≡ false → k ≡ link → length a ≤ k → IsPulled s link a a
-pulled_beyond s link k a e is le = pulled_one s link k a a e is (beyond Pulled k a le)

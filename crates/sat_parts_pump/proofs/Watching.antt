@@ -36,7 +36,3 @@ watched_more old new upto ts more w e = record {
     longer zero xs ys le = omega arith
     longer (suc n) [] ys le = absurd (omega arith)
     longer (suc n) (x ∷ xs) ys le = (let h = longer n xs ys (omega arith) in omega arith)
-
--- none more
-pub watched_same : (old new : HubHeld) (upto ts : ℕ) → IsWatched old upto ts → new.node.entries ≡ old.node.entries → IsWatched new upto ts
-watched_same old new upto ts w e = watched_more old new upto ts [] w (e ∙ sym (append-nil old.node.entries))

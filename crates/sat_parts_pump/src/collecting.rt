@@ -67,8 +67,8 @@ fn gather_held<N: Laid + Names>(
 /// due because of one of them: all keep an entry, under one number, or none does. The hub is handed what each gear
 /// gives, and each gear keeps what it gave and what the hub answered. False where none is due, or these are not the
 /// gears of the hub's site, or the hub may not be handed what these gears give, which is never so of those; then
-/// nothing changes. `Worn`, with the greatest u64, only where that is the number of one of the nodes; `Memory`. After an
-/// error all are as before, but for room.
+/// nothing changes. `Worn`, with the greatest u64, only where that is the number of one of the nodes; `Memory`. After
+/// an error all are as before, but for room.
 pub fn gather<N: Laid + Names>(
     watched: &mut Watched<N>,
     gears: &mut Vec<MutexGuard<'_, Held<GearNode<N>, N>>>,

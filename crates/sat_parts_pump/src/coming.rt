@@ -6,7 +6,8 @@ ghost use Rattle.sat_machines.specs.Layout.{label_link, label_links};
 ghost use Rattle.sat_parts.specs.declared.hub_input.HubInput.TheVariants as handed;
 ghost use Rattle.sat_parts.specs.HubSteps.{hub_shows};
 ghost use Rattle.sat_parts_passes.specs.Sendings.{would_do};
-ghost use Rattle.sat_parts_pump.specs.Next.{IsPulled, label_at, label_with, lent_by, lent_for, next_alone, next_by, next_of};
+ghost use Rattle.sat_parts_pump.specs.Next.{IsPulled, label_at, label_with, lent_by, lent_for, next_alone, next_by};
+ghost use Rattle.sat_parts_pump.specs.Next.{next_of};
 
 use crate::lending::Lent;
 use crate::watched::Watched;

@@ -1,5 +1,6 @@
 //! The gears of a site keep up with what came.
-ghost use Rattle.std.specs.Prelude.{◌≡◌, ◌≢◌, ◌↔◌, ◌<◌, ◌≤◌, true, false, drop, max, nat_lt, IfErr, IfOk, IsErrOf, OnErr, OnOk};
+ghost use Rattle.std.specs.Prelude.{◌≡◌, ◌≢◌, ◌↔◌, ◌<◌, ◌≤◌, true, false, drop, max, nat_lt, IfErr, IfOk, IsErrOf};
+ghost use Rattle.std.specs.Prelude.{OnErr, OnOk};
 ghost use Rattle.sat_label.specs.declared.limits.TheConstants.{TS_END};
 ghost use Rattle.sat_node.specs.Seen.{last_number};
 ghost use Rattle.sat_node.specs.Together.{SameHeld};

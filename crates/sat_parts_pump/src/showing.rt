@@ -102,12 +102,12 @@ fn show_held<N: Laid + Names>(
     show_next(hub, gears, d, &next)
 }
 
-/// Does what a hub does next, as `pull_next` answered it, with the gears that this needs, which are lent with the hub in the
-/// order of their numbers: where it shows an update, the hub and each of these keep an entry, under one number, or none
-/// does; else the hub keeps one alone. False where nothing is next, or these are not the gears that it needs, or one of
-/// them may not be handed what the hub shows, which is never so of those; then nothing changes. `Worn`, with the
-/// greatest u64, only where that is the number of the front that the hub takes or of one of the nodes; `Memory`. After
-/// an error all are as before, but for room.
+/// Does what a hub does next, as `pull_next` answered it, with the gears that this needs, which are lent with the hub
+/// in the order of their numbers: where it shows an update, the hub and each of these keep an entry, under one number,
+/// or none does; else the hub keeps one alone. False where nothing is next, or these are not the gears that it needs,
+/// or one of them may not be handed what the hub shows, which is never so of those; then nothing changes. `Worn`, with
+/// the greatest u64, only where that is the number of the front that the hub takes or of one of the nodes; `Memory`.
+/// After an error all are as before, but for room.
 pub fn show<N: Laid + Names>(
     watched: &mut Watched<N>,
     gears: &mut Vec<MutexGuard<'_, Held<GearNode<N>, N>>>,

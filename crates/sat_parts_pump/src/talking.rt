@@ -16,8 +16,8 @@ use std::sync::Wait;
 
 /// What a hub sends: it emits what is ready and then a pulse, makes a beat for each other site for which it would
 /// differ from the last one made, and sends what waits for its links as far as it fits. How many entries the node kept.
-/// `Worn`, with the greatest u64, only where that is the node's number; `Memory`. After an error, what was kept and sent
-/// by then stays.
+/// `Worn`, with the greatest u64, only where that is the node's number; `Memory`. After an error, what was kept and
+/// sent by then stays.
 pub fn send<N: Laid + Names, R: Wait>(rt: &R, watched: &mut Watched<N>) -> Result<u64, CallFault>
     ensures made { Sent watched.old watched.new }
     ensures ins { watched.new.ins ≡ watched.old.ins }

@@ -245,23 +245,6 @@ pub gears_from : (d : Deployed) (seat : Option ℕ) (items : Items) (result : Re
 gears_from d seat items (Ok r) old mid a b same ab at = (at.0, record { seated = at.1.seated; home_is = sym same.same.0 ∙ at.1.home_is; others_are = sym (names-same a b ab) ∙ at.1.others_are })
 gears_from d seat items (Err f) old mid a b same ab at = tt
 
--- no room was found
-pub none_done : {M I A : Type 0} (top : ℕ) (a : Act) (input : I) (answer_of : A → Answer) (r : Result ℕ CallFault) (f : CallFault) (old new : NodeSeen M I A) (x : SessionSeen) → r ≡ Err f → SameNode old new → (IsErrOf r (fault.Worn last_number) ↔ (top ≡ last_number)) → IfErr r (λ g. (g ≡ fault.Worn last_number) ⊎ (g ≡ fault.Memory)) →
-    AtNodeAbove top a input answer_of (Err f) old new x x
-none_done top a input answer_of (Ok n) f old new x e same worn only = absurd (cc (e))
-none_done top a input answer_of (Err g) f old new x e same worn only =
-    let is : g ≡ f = cc (e) in
-    record {
-      entered = tt;
-      number = tt;
-      name = same.0;
-      unchanged = same;
-      notes = record { noted = tt; client = tt; lamport = tt; same = refl; err = refl };
-      worn = λ w. (let v : f ≡ fault.Worn last_number = cc (w) in worn.0 (ap Err (is ∙ v)));
-      spent = λ w. tt;
-      only = subst (λ (h : CallFault). (h ≡ fault.Worn last_number) ⊎ (h ≡ fault.Memory)) is only;
-    }
-
 -- ---- which gears they are
 
 where-is : (test : ℕ → Bool) (n m : ℕ) → m ≡ n + 1 → gears_where test m ≡ (if test n then gears_where test n ++ n ∷ [] else gears_where test n)
@@ -270,10 +253,6 @@ where-is test n m e = (let w : m ≡ suc n = omega arith in ap (gears_where test
 map-last : {X Y : Type 0} (f : X → Y) (xs : List X) (x : X) → map f (xs ++ x ∷ []) ≡ map f xs ++ f x ∷ []
 map-last f [] x = refl
 map-last f (y ∷ ys) x = ap (λ zs. f y ∷ zs) (map-last f ys x)
-
-pub where_none : (test : ℕ → Bool) (site gear below : ℕ) (names : List NodeName) → below ≡ gear + 1 → test gear ≡ false → names ≡ map (named.Gear site) (gears_where test gear) → names ≡ map (named.Gear site) (gears_where test below)
-where_none test site gear below names e none is =
-    is ∙ sym (ap (map (named.Gear site)) (where-is test gear below e ∙ ap (λ (b : Bool). if b then gears_where test gear ++ gear ∷ [] else gears_where test gear) none))
 
 pub where_more : (test : ℕ → Bool) (site gear below : ℕ) (gears rest : List GearHeld) (last : GearHeld) → below ≡ gear + 1 → test gear ≡ true → last.node.name ≡ named.Gear site gear → gears ≡ rest ++ last ∷ [] → map name_in rest ≡ map (named.Gear site) (gears_where test gear) →
     map name_in gears ≡ map (named.Gear site) (gears_where test below)

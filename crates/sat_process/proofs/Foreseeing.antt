@@ -17,18 +17,8 @@ foreseen_unspelled would size allowed below not_ = sym (foreseen_else would size
 pub foreseen_is : (would : Became) (size : ℕ) (allowed : Bool) → size ≤ 2 ^ 40 → allowed ≡ true → would ≡ foreseen would size allowed
 foreseen_is would size allowed below is = sym (foreseen_else would size allowed below ∙ ap (λ (b : Bool). if b then would else became.Unspelled) is)
 
-full-by : (b : Bool) (would : Became) (allowed : Bool) → (if b then became.Full else if allowed then would else became.Unspelled) ≡ became.Taken → (b ≡ false) × (allowed ≡ true) × (would ≡ became.Taken)
-full-by true would allowed is = absurd (cc (is))
-full-by false would true is = (refl, refl, is)
-full-by false would false is = absurd (cc (is))
-
 -- what is taken: the journal is not full, it has a spelling, and the node would take it
 pub record IsTaken (would : Became) (size : ℕ) (allowed : Bool) : Type 0 where
   pub fits : size ≤ 2 ^ 40
   pub spelled : allowed ≡ true
   pub is : would ≡ became.Taken
-
-pub foreseen_taken : (would : Became) (size : ℕ) (allowed : Bool) → foreseen would size allowed ≡ became.Taken → IsTaken would size allowed
-foreseen_taken would size allowed is =
-    let p = full-by (nat_lt (2 ^ 40) size) would allowed is in
-    record { fits = grind (arith, nat_tests, p.0); spelled = p.1; is = p.2 }

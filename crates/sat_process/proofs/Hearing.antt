@@ -24,10 +24,6 @@ use Rattle.sat_process.specs.Processes.{Becomes, Ends, EndsHearing, Hears, Hears
 use Rattle.sat_process.specs.Taking.{Takes}
 use Rattle.sat_process.proofs.Saying.{grows_quiet}
 
--- the bytes of a message came
-pub message_came : (link : ℕ) (m : Message) (a b : Option (List Posted)) → ComesOne link (λ bytes. bytes ≡ letter.spell m) a b → Grows a b (posted link (letter.spell m) ∷ [])
-message_came link m a b p = subst (λ (bytes : List ℕ). Grows a b (posted link bytes ∷ [])) p.2 p.1
-
 module _ {D T M I A : Type 0} (state : D → DiskState) (asked : ℕ → I → Option Handed) (took : I → Option Body) where
   -- ---- what is put down
 

@@ -46,12 +46,6 @@ pub record IsHopped (d : Deployed) (h : SerialHost) (link : ℕ) (m : Message) :
   pub heard : (m.sent.lamport == last_number) ≡ false
   pub own : (h.node.number == last_number) ≡ false
 
-pub hop_taken : (d : Deployed) (h : SerialHost) (link : ℕ) (m : Message) → would_come d h link m ≡ Taken → IsHopped d h link m
-hop_taken d h link m is =
-    let w = worn_by (m.sent.lamport == last_number) (h.node.number == last_number) (would_body d h link m.number m.sent.body) is in
-    let p = body-taken d h link m.number m.sent.body w.2 in
-    record { reception = when_turn (turn_of (get_or h.wanted link 0) m.number m.sent.body) (hop_reception d h.node.machine link m.sent.body) p.0 p.1; heard = w.0; own = w.1 }
-
 -- ---- what a hop takes
 
 abbrev IsHopOf : Body → SerialAct → Type 0

@@ -146,10 +146,6 @@ never_early r a b = (let e : received.Early ≡ received.Taken = sym a ∙ b in 
 pub never_unfit : (r : Received) → r ≡ received.Unfit → r ≡ received.Taken → ⊥
 never_unfit r a b = (let e : received.Unfit ≡ received.Taken = sym a ∙ b in absurd (cc (e)))
 
--- no number above it is the greatest
-pub not_worn : (a b : ℕ) → (a == last_number) ≡ false → (b == last_number) ≡ false → max b a ≡ last_number → ⊥
-not_worn a b x y is = grind (arith, nat_tests, x, y, is)
-
 -- what the message is, as what the site is handed
 pub came_not_asked : (name : NodeName) (link : ℕ) (b : Body) (i : ActSeen) → Some (act_with name link b) ≡ Some i → (n : ℕ) → asked_at_site n i ≡ None
 came_not_asked name link (body.Label l) i e n = (let same : act_with name link (body.Label l) ≡ i = cc (e) in ap (asked_at_site n) (sym same))

@@ -1,5 +1,6 @@
 -- A process, and what its calls do.
-use Rattle.std.specs.Prelude.{◌≡◌, ◌⊎◌, ℕ, ◌+◌, ◌^◌, max, nat_lt, Bool, List, [], ◌∷◌, Some, None, Ok, Err, if◌then◌else◌}
+use Rattle.std.specs.Prelude.{◌≡◌, ◌⊎◌, ℕ, ◌+◌, ◌^◌, max, nat_lt, Bool, List, [], ◌∷◌, Some, None, Ok, Err}
+use Rattle.std.specs.Prelude.{if◌then◌else◌}
 use Rattle.std.specs.declared.option.Option.{Option}
 use Rattle.std.specs.declared.result.Result.{Result}
 use Rattle.sat_node.specs.declared.kept.Body.{Body}
@@ -161,8 +162,8 @@ module _ {M I A : Type 0} (asked : ℕ → I → Option Handed) (took : I → Op
       (handed_allows (handed_as (max old.node.number heard + 1) given_asked))) b
       × Becomes (handed_as (max old.node.number heard + 1) given_asked) b old new)
 
-  -- the process ended as it was handed this, which it would have taken: the disk failed; or memory ran out, and the disk
-  -- has all and this besides
+  -- the process ended as it was handed this, which it would have taken: the disk failed; or memory ran out, and the
+  -- disk has all and this besides
   pub record Ends {D T : Type 0} (state : D → DiskState) (would : Became) (size : ℕ) (g : Handed)
       (h : HostSeen M I A) (disk : D) (e : Ended D T) : Type 0 where
     pub taken : foreseen would size (handed_allows g) ≡ became.Taken

@@ -1,5 +1,6 @@
 -- What a site is handed, and what becomes of it.
-use Rattle.std.specs.Prelude.{ℕ, ◌+◌, ◌-◌, List, [], ◌∷◌, ◌==◌, ◌&&◌, ◌||◌, not, nat_lt, nat_le, Bool, true, false, length, get_or, Option, Some, None, if◌then◌else◌}
+use Rattle.std.specs.Prelude.{ℕ, ◌+◌, ◌-◌, List, [], ◌∷◌, ◌==◌, ◌&&◌, ◌||◌, not, nat_lt, nat_le, Bool, true, false}
+use Rattle.std.specs.Prelude.{length, get_or, Option, Some, None, if◌then◌else◌}
 use Rattle.sat_label.specs.declared.label.Label.{Label}
 use Rattle.sat_label.specs.declared.node.NodeName.{NodeName}
 use Rattle.sat_label.specs.declared.node.NodeName.TheVariants as named
@@ -24,7 +25,8 @@ use Rattle.sat_host_laws.specs.Messages.{SiteHost}
 use Rattle.sat_handed.specs.declared.handed.Handed.{Handed}
 use Rattle.sat_handed.specs.declared.handed.Handed.TheVariants as given
 use Rattle.sat_process.specs.declared.hosted.Became.{Became}
-use Rattle.sat_process.specs.declared.hosted.Became.TheVariants.{Taken, Early, Again, Unfit, Unspelled, Worn, Full, Memory}
+use Rattle.sat_process.specs.declared.hosted.Became.TheVariants.{Taken, Early, Again, Unfit, Unspelled, Worn, Full}
+use Rattle.sat_process.specs.declared.hosted.Became.TheVariants.{Memory}
 
 -- ---- what an entry was handed
 

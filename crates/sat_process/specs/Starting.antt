@@ -24,8 +24,8 @@ fault_with (durable.Disk disk) transport = fault.Disk disk transport
 fault_with (durable.Torn disk at) transport = fault.Torn disk transport at
 fault_with (durable.Memory disk) transport = fault.Memory disk transport
 
--- P of the disk, where it failed, Q of it and a place, where it is torn there, R of it and a number, where that record is
--- strange, and S of it, where memory was missing
+-- P of the disk, where it failed, Q of it and a place, where it is torn there, R of it and a number, where that record
+-- is strange, and S of it, where memory was missing
 abbrev pub MatchProcess : {D T : Type 0} → ProcessFault D T → (D → Type 0) → (D → ℕ → Type 0) → (D → ℕ → Type 0)
     → (D → Type 0) → Type 0
 MatchProcess (fault.Disk disk transport) P Q R S = P disk

@@ -8,7 +8,9 @@ ghost use Rattle.sat_handed.specs.Transports.{Grows};
 ghost use Rattle.sat_process.specs.declared.hosted.Became.TheVariants as became;
 ghost use Rattle.sat_process.specs.Keeping.{IsJournalOf, IsJournalOr};
 ghost use Rattle.sat_process.specs.Letters.{Comes};
-ghost use Rattle.sat_process.specs.Processes.{Acts, Becomes, Ends, EndsHearing, Hears, HearsHanded, IsAnswered, IsNumber, LeavesHeard, SameInside, disk_ended, foreseen, handed_as, transport_ended};
+ghost use Rattle.sat_process.specs.Processes.{Acts, Becomes, Ends, EndsHearing, Hears, HearsHanded, IsAnswered};
+ghost use Rattle.sat_process.specs.Processes.{IsNumber, LeavesHeard, SameInside, disk_ended, foreseen, handed_as};
+ghost use Rattle.sat_process.specs.Processes.{transport_ended};
 
 use crate::hosted::{Became, Hosted};
 use crate::letters::{Letter, next_letter};

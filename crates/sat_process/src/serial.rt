@@ -4,7 +4,8 @@ ghost use Rattle.sat_host_laws.specs.Messages.{SameHost};
 ghost use Rattle.sat_handed.specs.declared.handed.Handed.TheVariants as handed;
 ghost use Rattle.sat_process.specs.declared.hosted.Became.TheVariants as became;
 ghost use Rattle.sat_process.specs.Taking.{Takes};
-ghost use Rattle.sat_process.specs.Serials.{asked_at_serializer, serial_link_count, took_at_serializer, would_body, would_come, would_hop, would_kill};
+ghost use Rattle.sat_process.specs.Serials.{asked_at_serializer, serial_link_count, took_at_serializer, would_body};
+ghost use Rattle.sat_process.specs.Serials.{would_come, would_hop, would_kill};
 
 use crate::hosted::{Became, Hosted};
 use crate::site::would_count;
@@ -120,7 +121,8 @@ fn neighbours<N: Laid>(host: &Host<SerialNode<N>>) -> u16
 }
 
 impl<N: Laid> Hosted for SerialNode<N> {
-    ghost use Rattle.sat_process.specs.Serials.{asked_at_serializer, serial_link_count, serial_would, took_at_serializer};
+    ghost use Rattle.sat_process.specs.Serials.{asked_at_serializer, serial_link_count, serial_would};
+    ghost use Rattle.sat_process.specs.Serials.{took_at_serializer};
 
     ghost deployment = { N.deployment };
 

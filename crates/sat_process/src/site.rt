@@ -9,7 +9,9 @@ ghost use Rattle.sat_host_laws.specs.Messages.{SameHost};
 ghost use Rattle.sat_handed.specs.declared.handed.Handed.TheVariants as handed;
 ghost use Rattle.sat_process.specs.declared.hosted.Became.TheVariants as became;
 ghost use Rattle.sat_process.specs.Taking.{Takes};
-ghost use Rattle.sat_process.specs.Sites.{asked_at_site, has_come, is_by, peer_of, site_link_count, took_at_site, trees_in, would_ask, would_body, would_come, would_count, would_fit, would_keep, would_turn};
+ghost use Rattle.sat_process.specs.Sites.{asked_at_site, has_come, is_by, peer_of, site_link_count, took_at_site};
+ghost use Rattle.sat_process.specs.Sites.{trees_in, would_ask, would_body, would_come, would_count, would_fit};
+ghost use Rattle.sat_process.specs.Sites.{would_keep, would_turn};
 
 use crate::hosted::{Became, Hosted};
 use sat_act::{Deployment, Plan};

@@ -1,7 +1,8 @@
 //! What a process says.
 ghost use Rattle.std.specs.Prelude.{◌≡◌, ◌-◌, ◌^◌, [], get_or, min, true, IfErr, IfOk};
 ghost use Rattle.sat_handed.specs.Transports.{Grows};
-ghost use Rattle.sat_process.specs.Processes.{EndsHearing, HearsThen, LeavesHeard, SameProcess, disk_ended, transport_ended};
+ghost use Rattle.sat_process.specs.Processes.{EndsHearing, HearsThen, LeavesHeard, SameProcess, disk_ended};
+ghost use Rattle.sat_process.specs.Processes.{transport_ended};
 ghost use Rattle.sat_process.specs.Speaking.{SameOthers, Says, SaysAll, SaysEach, SaysLink, SaysThen};
 
 use crate::hosted::Hosted;
@@ -53,7 +54,8 @@ impl<D: Disk, T: Transport, M: Hosted> Process<D, T, M> {
     /// so many, or all that there are. Answers how many were passed; those that have no spelling are not handed on.
     /// After `AllocError` some were.
     pub fn speak_all(&mut self, link: u16, most: u32) -> Result<u32, AllocError>
-        ensures says { IfOk result (λ n. SaysAll (M.meaning.puts self.old.host.node.name) self.old.host.node.entries link
+        ensures says { IfOk result (λ n. SaysAll (M.meaning.puts self.old.host.node.name) self.old.host.node.entries
+            link
             most (get_or self.old.host.cursors link 0) (get_or self.new.host.cursors link 0) n
             (T.sent self.old.transport) (T.sent self.new.transport)) }
         ensures said { SaysThen (M.meaning.puts self.old.host.node.name) self.old.host.node.entries

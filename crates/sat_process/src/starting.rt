@@ -9,7 +9,8 @@ ghost use Rattle.sat_handed.specs.declared.handed.Handed.{Handed};
 ghost use Rattle.sat_handed.specs.Handed.{body_of, input_of};
 ghost use Rattle.sat_handed.specs.Told.{IsFed};
 ghost use Rattle.sat_process.specs.Keeping.{IsJournalOf};
-ghost use Rattle.sat_process.specs.Starting.{Feeds, HasStrange, IsStrange, MatchProcess, NotTaken, disk_begun, fault_with, transport_begun};
+ghost use Rattle.sat_process.specs.Starting.{Feeds, HasStrange, IsStrange, MatchProcess, NotTaken, disk_begun};
+ghost use Rattle.sat_process.specs.Starting.{fault_with, transport_begun};
 ghost use Rattle.sat_process.specs.Taking.{Takes};
 
 use crate::hosted::{Became, Hosted};

@@ -17,7 +17,8 @@ use sat_machines::{Laid, SerialNode, SiteNode};
 /// What all processes of a deployment are together, at any time between their calls, whatever they were handed and
 /// however often they were stopped and begun again. Each has a host that keeps what hosts keep. Where the transports
 /// made nothing up, and sessions noted what the hosts noted, the hosts' journals, merged, are one run, of which the
-/// headline holds. It asks for a process of each site and of each serializer, once and in order; no call changes a name.
+/// headline holds. It asks for a process of each site and of each serializer, once and in order; no call changes a
+/// name.
 pub fn processes_keep<D: Disk, T: Transport, E: Disk, U: Transport, N: Laid>(
     sites: &[Process<D, T, SiteNode<N>>],
     serials: &[Process<E, U, SerialNode<N>>],

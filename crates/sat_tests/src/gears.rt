@@ -12,7 +12,12 @@ use std::test::Fail;
 fn two_sites(alloc: Global) -> Result<Shape, Fail>
     ensures shape { IfOk result (λ shape. IsShape shape) }
     ensures whole { IfOk result (λ shape. shape
-        ≡ record { sites = 2; gears = 1; site = 0; interest = record { sites = 2; replicas = record { bits = 3 } ∷ [] } }) }
+        ≡ record {
+          sites = 2;
+          gears = 1;
+          site = 0;
+          interest = record { sites = 2; replicas = record { bits = 3 } ∷ [] };
+        }) }
 {
     let interest = Interest::new(alloc, 2, &[SiteSet { bits: 3 }])?;
     Ok(Shape {

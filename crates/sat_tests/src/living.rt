@@ -20,6 +20,18 @@ const ROOM: usize = 65_536;
 const THREE_SITES: &str =
     "saturn 1\nsites 3\ngears 1\nitem x 0,2\nitem y 1,2\nclient a 0\nclient b 1\nplan tree - / 0 0 0\nbegin\nwrite a x X\nwrite b y Y1\nwrite b y Y2\nend\n";
 
+const TWO_GEARS: &str =
+    "saturn 1\nsites 2\ngears 2\nitem x 0,1\nclient a 0\nplan tree - / 0 0\nbegin\nwrite a x 1\nwrite a x 2\nend\n";
+
+// What each of its two sites holds in the end.
+const BOTH_HOLD: &[(&str, &str)] = &[
+    ("site 0 view 1 emission 1 tree", " waiting 0"),
+    ("item x ", " 2"),
+    ("site 1 view 1 emission 1 tree", " waiting 0"),
+    ("item x ", " 2"),
+    ("done", ""),
+];
+
 // What each site holds in the end: how a line begins, and how it ends.
 const HOLDINGS: &[(&str, &str)] = &[
     ("site 0 view 1 emission 1 tree", " waiting 0"),
@@ -32,16 +44,29 @@ const HOLDINGS: &[(&str, &str)] = &[
     ("done", ""),
 ];
 
-// Holds the second client after its first answer until a serializer is inside its lock, and that serializer there until
-// the client has its second answer. So a run on one thread, or under one lock, makes a hold run out.
+// Holds a client after its first answer until a node is inside its lock, and that node there until the client has its
+// second answer. So a run on one thread, or under one lock round the node and all that the client asks, makes a hold
+// run out.
 #[derive(Drop)]
 struct Holds {
+    client: u16,
+    node: NodeName,
     inside: AtomicU64,
     answers: AtomicU64,
     ran_out: AtomicU64,
 }
 
 impl Holds {
+    fn of(client: u16, node: NodeName) -> Holds {
+        Holds {
+            client,
+            node,
+            inside: AtomicU64::new(0),
+            answers: AtomicU64::new(0),
+            ran_out: AtomicU64::new(0),
+        }
+    }
+
     fn until(&self, word: &AtomicU64, least: u64) {
         for _ in 0..MOST_TURNS {
             if word.load(Ordering::SeqCst) >= least {
@@ -54,13 +79,15 @@ impl Holds {
 }
 
 impl Gate for Holds {
-    fn inside(&self, _node: NodeName) {
-        self.inside.store(1, Ordering::SeqCst);
-        self.until(&self.answers, 2);
+    fn inside(&self, node: NodeName) {
+        if node.is_same(&self.node) {
+            self.inside.store(1, Ordering::SeqCst);
+            self.until(&self.answers, 2);
+        }
     }
 
     fn answered(&self, client: u16, count: u64) {
-        if client == 1 {
+        if client == self.client {
             self.answers.store(count, Ordering::SeqCst);
             if count == 1 {
                 self.until(&self.inside, 1);
@@ -134,18 +161,35 @@ fn lines_hold(report: &str, wanted: &[(&str, &str)]) -> bool {
     lines.next().is_none()
 }
 
+// The holdings of a script at nodes on threads, in which this client and this node are held.
+fn held<R: AllocGlobal + Threads + Wait + Clock + Sync>(
+    rt: &R,
+    script: &str,
+    holds: &Holds,
+    wanted: &[(&str, &str)],
+) -> Result<bool, Fail> {
+    let (status, sink) = lived(rt, script, holds)?;
+    if status != 0 || holds.ran_out.load(Ordering::SeqCst) != 0 {
+        return Ok(false);
+    }
+    let report = report_of(rt.alloc(), sink.held())?;
+    Ok(lines_hold(report, wanted))
+}
+
 #[test]
 fn clients_and_nodes_go_side_by_side(rt: HostRuntime) -> Result<(), Fail> {
-    let holds = Holds {
-        inside: AtomicU64::new(0),
-        answers: AtomicU64::new(0),
-        ran_out: AtomicU64::new(0),
+    let serializer = NodeName::Serializer {
+        epoch: 1,
+        number: 0,
     };
-    let (status, sink) = lived(&rt, THREE_SITES, &holds)?;
-    assert_eq!(rt; holds.ran_out.load(Ordering::SeqCst), 0);
-    assert_eq!(rt; status, 0);
-    let report = report_of(rt.alloc(), sink.held())?;
-    assert!(rt; lines_hold(report, HOLDINGS));
+    assert!(rt; held(&rt, THREE_SITES, &Holds::of(1, serializer), HOLDINGS)?);
+    Ok(())
+}
+
+// Client a writes at a gear of site 0 while that site's hub is held in a gather.
+#[test]
+fn a_client_writes_while_its_hub_gathers(rt: HostRuntime) -> Result<(), Fail> {
+    assert!(rt; held(&rt, TWO_GEARS, &Holds::of(0, NodeName::Site(0)), BOTH_HOLD)?);
     Ok(())
 }
 
@@ -163,6 +207,18 @@ const WHOLE: &[(&str, &[&str])] = &[
     (
         "saturn 1\nsites 2\ngears 1\nitem x 0,1\nclient a 0\nclient b 1\nplan tree - / 0 0\nbegin\nmove a 1\nattach a 1\nread a x\nend\n",
         &[" attached\n", " read none\n"],
+    ),
+    // A write of several items of two gears, which the other site shows at once, and one of items of one gear.
+    (
+        "saturn 2\nsites 2\ngears 2\nitem w 0,1\nitem x 0,1\nitem y 0,1\nclient a 0\nplan tree - / 0 0\nbegin\nwrites a w 1 x 2\nwrites a w 3 y 4\nread a x\nread a y\nend\n",
+        &[
+            " shown w,x ",
+            " shown w,y ",
+            "item w ",
+            " 3\n",
+            "item w ",
+            " 3\n",
+        ],
     ),
     // Two clients write, while the operator switches from one tree to another, kills the first one and has both sites
     // fall.

@@ -1,4 +1,4 @@
-//! The one call of a sink that the program does not make, at site 0 with two gears.
+//! A gather of what two gears of site 0 gave, of one timestamp.
 ghost use Rattle.std.specs.Prelude.{◌≡◌, [], IfOk};
 ghost use Rattle.sat_label.specs.declared.items.Items.TheVariants.{One};
 

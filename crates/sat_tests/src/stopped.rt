@@ -1,6 +1,6 @@
-//! The example store on disks. Each site keeps what it is handed on a disk of its own before it answers, and what the processes say to
-//! one another crosses as bytes: payloads in any order and more than once. The disk of a site fails in the middle of a client's move,
-//! its process is stopped, and it is made again from what the disk holds.
+//! The example store on disks. Each site keeps what it is handed on a disk of its own before it answers, and what the
+//! processes say to one another crosses as bytes: payloads in any order and more than once. The disk of a site fails in
+//! the middle of a client's move, its process is stopped, and it is made again from what the disk holds.
 use crate::stores::{
     Line, crossed, deployment, first_tree, fresh_relays, line_of, say, say_answer, second_tree,
 };
@@ -17,7 +17,8 @@ use std::test::Fail;
 
 pub(crate) type OnDisk = Durable<MemoryDisk, KeptSite>;
 
-// All processes, a client, and the payloads on their way. Site 0 alone sends labels, and its relay notes the last that it took.
+// All processes, a client, and the payloads on their way. Site 0 alone sends labels, and its relay notes the last that
+// it took.
 #[derive(Drop)]
 struct Lasting {
     deployment: Deployment,
@@ -351,9 +352,9 @@ fn go(alloc: Global, store: &mut Lasting, text: &str, out: &mut Vec<u8>) -> Resu
     }
 }
 
-// The disk of site 0 fails as the client leaves, so the move is not answered, and is asked for again; the process is stopped behind the
-// move, and its disk fails once more as a label that the relay has leaves. The photos come in the wrong order, one of them twice, and
-// site 1 is stopped before it takes the label of the move.
+// The disk of site 0 fails as the client leaves, so the move is not answered, and is asked for again; the process is
+// stopped behind the move, and its disk fails once more as a label that the relay has leaves. The photos come in the
+// wrong order, one of them twice, and site 1 is stopped before it takes the label of the move.
 const SITES_STOP: &str = "write 0 0 beach -> wrote 1.0.0
 write 0 0 dunes -> wrote 2.0.0
 tear 0 -> torn

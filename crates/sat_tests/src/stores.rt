@@ -1,5 +1,6 @@
-//! The example store, with three sites, as its builder would run it: each process holds a replica or a relay, and the code below carries
-//! their messages, as bytes, line by line: left what is done, right what came of it. Labels stay in order on each link; payloads are late.
+//! The example store, with three sites, as its builder would run it: each process holds a replica or a relay, and the
+//! code below carries their messages, as bytes, line by line: left what is done, right what came of it. Labels stay in
+//! order on each link; payloads are late.
 ghost use Rattle.std.specs.Prelude.{◌≡◌, length, IfOk};
 
 use sat_act::{Answer, ClientLine, Deployment, Item, Plan, Refusal};
@@ -29,8 +30,8 @@ fn items(alloc: Global) -> Result<Vec<Item>, Fail> {
     Ok(items)
 }
 
-// Every process knows the deployment: three sites of one gear, and a tree for each of two epochs. No client is named: those of a
-// store come and go.
+// Every process knows the deployment: three sites of one gear, and a tree for each of two epochs. No client is named:
+// those of a store come and go.
 pub(crate) fn deployment(alloc: Global, first: &Tree, second: &Tree) -> Result<Deployment, Fail>
     ensures { IfOk result (λ d. d.sites ≡ 3) }
 {
@@ -424,8 +425,8 @@ fn go(alloc: Global, store: &mut Store, text: &str, out: &mut Vec<u8>) -> Result
 
 // ---- the stories
 
-// A client writes a photo at site 0 and leaves for site 1, which lets it in only once the photo is there. There it writes into the
-// album, which comes after all that it saw, and goes to site 2, two relays away.
+// A client writes a photo at site 0 and leaves for site 1, which lets it in only once the photo is there. There it
+// writes into the album, which comes after all that it saw, and goes to site 2, two relays away.
 const A_CLIENT_MOVES: &str = "write 0 0 beach -> wrote 1.0.0
 move 0 1 -> moved 2.0.0
 attach 1 -> refused NotYet
@@ -452,8 +453,8 @@ down 1 1 2 -> went
 bring 1 2 -> brought 3.1.0
 turn 2 -> shown 3.1.0";
 
-// Site 0 closes the first epoch between two photos, and the second one goes by the second tree, which is quicker: its label waits
-// at site 1, on a link of its own, until all of the first tree was taken.
+// Site 0 closes the first epoch between two photos, and the second one goes by the second tree, which is quicker: its
+// label waits at site 1, on a link of its own, until all of the first tree was taken.
 const A_TREE_IS_SWITCHED: &str = "write 0 0 beach -> wrote 1.0.0
 gather 0 -> gathered
 emit 0 -> emitted 1.0.0
@@ -484,8 +485,9 @@ turn 1 -> refused NoPayload 2.0.0
 bring 0 1 -> brought 2.0.0
 turn 1 -> shown 2.0.0";
 
-// The root dies before it has the photo's label, which stays on the link from site 0 for good. All close the epoch; site 1 falls,
-// hears from the others how far they are, and goes on by timestamps to the end of the epoch. The second one has a tree that lives.
+// The root dies before it has the photo's label, which stays on the link from site 0 for good. All close the epoch;
+// site 1 falls, hears from the others how far they are, and goes on by timestamps to the end of the epoch. The second
+// one has a tree that lives.
 const A_RELAY_DIES: &str = "write 0 0 beach -> wrote 1.0.0
 gather 0 -> gathered
 emit 0 -> emitted 1.0.0

@@ -1,5 +1,5 @@
-//! What a disk holds, byte by byte: journals that are cut short or spoiled at each place, and whatever stands behind the
-//! byte that closes one.
+//! What a disk holds, byte by byte: journals that are cut short or spoiled at each place, and whatever stands behind
+//! the byte that closes one.
 use crate::stopped::{OnDisk, started, stepped};
 use crate::stores::{deployment, first_tree, second_tree};
 use sat_act::Deployment;

@@ -1,5 +1,6 @@
 -- What the command `audit` makes of a text.
-use Rattle.std.specs.Prelude.{ℕ, ◌≡◌, ◌+◌, nat_lt, Bool, true, false, List, length, take, Option, IfSome, Result, Ok, Err, if◌then◌else◌}
+use Rattle.std.specs.Prelude.{ℕ, ◌≡◌, ◌+◌, nat_lt, Bool, true, false, List, length, take, Option, IfSome, Result, Ok}
+use Rattle.std.specs.Prelude.{Err, if◌then◌else◌}
 use Rattle.sat_outside.specs.Streams.{Told, Takes}
 use Rattle.sat_script.specs.State.{header_lines}
 use Rattle.sat_script.specs.declared.fault.Cause.TheVariants.{AfterEnd}

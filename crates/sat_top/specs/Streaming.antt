@@ -3,7 +3,8 @@ use Rattle.std.specs.Prelude.{ℕ, false, List, [], Option, Some}
 use Rattle.sat_outside.specs.Streams.{Told, Takes}
 use Rattle.sat_chain_runs.specs.ChainTexts.{chain_meaning}
 use Rattle.sat_lasting_runs.specs.LastingTexts.{lasting_meaning}
-use Rattle.sat_follow.specs.Following.{StopsReading as FollowStops, HasFront as FollowFront, WasAnswering as FollowAnswering}
+use Rattle.sat_follow.specs.Following.{StopsReading as FollowStops, HasFront as FollowFront}
+use Rattle.sat_follow.specs.Following.{WasAnswering as FollowAnswering}
 use Rattle.sat_top.specs.declared.words.Command.{Command}
 use Rattle.sat_top.specs.declared.words.Command.TheVariants.{Run, Draw, Chain, Durable}
 use Rattle.sat_top.specs.Chaining.{HasChainAnswered}

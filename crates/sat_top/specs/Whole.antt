@@ -1,5 +1,6 @@
 -- What a command makes of the whole text of a source, and what it leaves.
-use Rattle.std.specs.Prelude.{ℕ, ◌≡◌, ◌≤◌, ◌||◌, ◌==◌, nat_le, Bool, true, false, List, [], ◌∷◌, ◌++◌, Option, Some, None, IsSome, Result, Ok, Err, codes}
+use Rattle.std.specs.Prelude.{ℕ, ◌≡◌, ◌≤◌, ◌||◌, ◌==◌, nat_le, Bool, true, false, List, [], ◌∷◌, ◌++◌, Option, Some}
+use Rattle.std.specs.Prelude.{None, IsSome, Result, Ok, Err, codes}
 use Rattle.sat_outside.specs.Streams.{Told, Takes}
 use Rattle.sat_follow.specs.Following.{IsTextOf}
 use Rattle.sat_act.specs.declared.act.Act.{Act}
@@ -22,7 +23,8 @@ use Rattle.sat_plan.specs.Mismatch.{mismatch}
 use Rattle.sat_plan.specs.Steps.{built}
 use Rattle.sat_plan.specs.Texts.{config_text, plan_text}
 use Rattle.sat_top.specs.declared.words.Command.{Command}
-use Rattle.sat_top.specs.declared.words.Command.TheVariants.{Run, Draw, Plan, Place, Audit, Chain, Durable, Load, Help, Version}
+use Rattle.sat_top.specs.declared.words.Command.TheVariants.{Run, Draw, Plan, Place, Audit, Chain, Durable, Load, Help}
+use Rattle.sat_top.specs.declared.words.Command.TheVariants.{Version}
 use Rattle.sat_place.specs.Placing.{IsLeast, worth}
 use Rattle.sat_place.specs.Search.{least_places}
 use Rattle.sat_place.specs.Shape.{Shape, shape_reading}

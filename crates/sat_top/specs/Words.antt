@@ -1,11 +1,13 @@
 -- The words that say a command.
-use Rattle.std.specs.Prelude.{ℕ, ◌≤◌, ◌-◌, ◌^◌, ◌==◌, Bool, false, nat_lt, List, [], ◌∷◌, Option, Some, None, if◌then◌else◌, codes}
+use Rattle.std.specs.Prelude.{ℕ, ◌≤◌, ◌-◌, ◌^◌, ◌==◌, Bool, false, nat_lt, List, [], ◌∷◌, Option, Some, None}
+use Rattle.std.specs.Prelude.{if◌then◌else◌, codes}
 use Rattle.std.specs.Str.{bytes_eq}
 use Rattle.sat_script.specs.Words.{number_up_to}
 use Rattle.sat_settle.specs.declared.load_script.TheConstants.{MOST_LOADED}
 use Rattle.sat_top.specs.declared.words.TheConstants.{MOST_REPLICAS}
 use Rattle.sat_top.specs.declared.words.Command.{Command}
-use Rattle.sat_top.specs.declared.words.Command.TheVariants.{Run, Draw, Plan, Place, Audit, Durable, Chain, Load, Help, Version}
+use Rattle.sat_top.specs.declared.words.Command.TheVariants.{Run, Draw, Plan, Place, Audit, Durable, Chain, Load, Help}
+use Rattle.sat_top.specs.declared.words.Command.TheVariants.{Version}
 
 -- the command of one word
 unfoldable pub command_named : List ℕ → Option Command

@@ -152,8 +152,8 @@ fn placed<R: AllocGlobal + Threads + Sync, S: Source, K: Sink>(
 }
 
 /// Does the command that the words say, as [`still`] does, but `place` on several threads; and `live`, whose workers
-/// call the gate. Its further statuses: 6, what nodes and sessions kept differs; 8, the history is not whole. `live`
-/// may wait.
+/// call the gate. Its further statuses: 6, what was kept of one act at two places is not the same; 8, the history is
+/// not whole. `live` may wait.
 pub fn saturn<R: AllocGlobal + Threads + Wait + Clock + Sync, S: Source, K: Sink, G: Gate>(
     rt: &R,
     words: &[String],

@@ -3,7 +3,8 @@ ghost use Rattle.std.specs.Prelude.{◌≡◌, ◌-◌, ◌^◌, [], ◌∷◌, 
 ghost use Rattle.sat_script.specs.Words.{number_up_to};
 ghost use Rattle.sat_settle.specs.declared.load_script.TheConstants.{MOST_LOADED};
 ghost use Rattle.sat_top.specs.declared.words.TheConstants.{MOST_REPLICAS};
-ghost use Rattle.sat_top.specs.Words.{command_named, chain_of, command_of_two, load_of, command_of_three, command_of, is_live, IsCommand};
+ghost use Rattle.sat_top.specs.Words.{command_named, chain_of, command_of_two, load_of, command_of_three, command_of};
+ghost use Rattle.sat_top.specs.Words.{is_live, IsCommand};
 
 use sat_script::number_up_to;
 use sat_settle::MOST_LOADED;

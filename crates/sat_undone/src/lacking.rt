@@ -1,5 +1,6 @@
 //! What is lacking.
-ghost use Rattle.std.specs.Prelude.{◌≡◌, ◌<◌, ◌+◌, ◌^◌, ◌++◌, List, [], ◌∷◌, get_or, length, set, None, Some, IfOk, MatchOption};
+ghost use Rattle.std.specs.Prelude.{◌≡◌, ◌<◌, ◌+◌, ◌^◌, ◌++◌, List, [], ◌∷◌, get_or, length, set, None, Some, IfOk};
+ghost use Rattle.std.specs.Prelude.{MatchOption};
 ghost use Rattle.sat_act.specs.declared.act.Act.{Act as Deed};
 ghost use Rattle.sat_act.specs.declared.entry.Entry.{Entry as Line};
 ghost use Rattle.std.specs.List.{AllByRecursion};

@@ -31,7 +31,7 @@ fn meaning(status: u8) -> Option<&'static str> {
         3 => Some("standard input could not be read"),
         4 => Some("standard output could not be written"),
         5 => Some("out of memory"),
-        6 => Some("a node and a session kept different things of one act"),
+        6 => Some("what was kept of one act at two places is not the same"),
         7 => Some("the history is not as it should be"),
         8 => Some("the history is not whole"),
         _ => None,

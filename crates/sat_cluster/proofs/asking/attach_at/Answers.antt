@@ -1,11 +1,11 @@
 use Rattle.std.proofs.Common.{◌∙◌, ap}
-use Rattle.sat_passes.specs.Hearings.{SiteHeld}
+use Rattle.sat_parts_passes.specs.Sendings.{HubHeld}
 use Rattle.sat_cluster.proofs.Doing.{did_attach}
 use Rattle.sat_cluster.proofs.Watching.{asked_watched}
 use Rattle.sat_cluster.proofs.asking.attach_at.Goals as goal
 
 pub returns : goal.returns
-returns g c = did_attach g.N.Laid.deployment c.args.site c.attach-result.result c.watched.inside.held.node c.attach-result.new.held.node c.args.session.now c.attach-result.new.self c.requires.seat (ap (λ (h : SiteHeld). h.node.name) c.watched.view_is ∙ c.requires.name) c.attach-result.ensures.done c.site_runs.ensures
+returns g c = did_attach g.N.Laid.deployment c.args.site c.attach-result.result c.watched.inside.held.node c.attach-result.new.held.node c.args.session.now c.attach-result.new.session c.requires.seat (ap (λ (h : HubHeld). h.node.name) c.watched.view_is ∙ c.requires.name) c.attach-result.ensures.done c.hub_runs.ensures
 
 pub invariant_of-watched : goal.invariant_of-watched
-invariant_of-watched g c = asked_watched _ _ _ c.attach-result.result c.watched.inside.held c.attach-result.new.held c.args.session.now c.attach-result.new.self _ _ c.attach-result.ensures.done c.watched.invariant
+invariant_of-watched g c = asked_watched _ _ _ c.attach-result.result c.watched.inside.held c.attach-result.new.held c.args.session.now c.attach-result.new.session _ _ c.attach-result.ensures.done c.watched.invariant

@@ -1,5 +1,5 @@
 use Rattle.std.proofs.Common.{◌∙◌, sym}
-use Rattle.sat_finish.proofs.SameActs.{act-decides}
+use Rattle.sat_parts_notes.proofs.SameActs.{act-decides}
 use Rattle.sat_live.proofs.notes.is_same.Goals as goal
 
 pub returns : goal.returns

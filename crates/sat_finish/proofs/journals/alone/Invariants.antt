@@ -1,6 +1,0 @@
-use Rattle.std.proofs.Common.{◌≡◌, take}
-use Rattle.sat_finish.specs.Finishing.{alone_lines}
-use Rattle.sat_finish.proofs.journals.alone.Given as goal
-
-abbrev pub invariant-loop-noted : goal.invariant-loop-noted
-invariant-loop-noted l = l.list ≡ alone_lines (take l.noted-index l.notes)

@@ -1,4 +1,0 @@
-pub mod Clusters
-pub mod Doing
-pub mod Ends
-pub mod Locking

@@ -1,6 +1,0 @@
-mod Owning
-mod Standing
-mod Trying
-mod Scripts
-mod Hiring
-mod Parts

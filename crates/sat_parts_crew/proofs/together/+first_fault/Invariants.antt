@@ -1,5 +1,0 @@
-use Rattle.std.proofs.Common.{length}
-use Rattle.sat_parts_crew.proofs.together.+first_fault.Given as goal
-
-abbrev pub decreases-first_fault : goal.decreases-first_fault
-decreases-first_fault g l = length l.workers.now

@@ -1,6 +1,0 @@
-pub mod Finishing
-pub mod Parts
-pub mod Partings
-pub mod Walking
-pub mod Ends
-pub mod Findings
