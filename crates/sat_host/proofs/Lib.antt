@@ -4,3 +4,4 @@ pub mod Turning
 pub mod Bulking
 pub mod Locals
 pub mod Growing
+pub mod Labels

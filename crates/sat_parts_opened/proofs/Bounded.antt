@@ -18,7 +18,7 @@ use Rattle.sat_joint.specs.Pieces.{EachOf, Piece, given_of}
 use Rattle.sat_joint.specs.Table.{AtGear, AtHub, Node, home_at, is_shared, stands_in}
 use Rattle.sat_joint.specs.Compare.{Share}
 use Rattle.sat_joint.proofs.Nodes.{IsBeside, beside, gear-in-range}
-use Rattle.sat_hub_laws.specs.Inputs.{GearInput, HubInput, ByStamp, ByTurn, ByWrite}
+use Rattle.sat_hub_laws.specs.Inputs.{GearInput, HubInput}
 use Rattle.sat_hub_laws.specs.Inputs as given
 use Rattle.sat_hub_laws.specs.Gears.{gear_act, gear_fits, is_own, is_write, write_act}
 use Rattle.sat_hub_laws.specs.Hubs.{hub_act}

@@ -1,5 +1,5 @@
 -- Journals, entry by entry.
-use Rattle.std.proofs.Common.{◌≡◌, ◌<◌, ℕ, ◌+◌, Bool, true, false, List, [], ◌∷◌, ◌++◌, length, take, get_or, if◌then◌else◌, sym, ap, ◌∙◌, ◌&&◌, ◌||◌, ◌==◌, map, refl}
+use Rattle.std.proofs.Common.{◌≡◌, ◌<◌, ℕ, ◌+◌, Bool, true, false, List, [], ◌∷◌, ◌++◌, length, take, get_or, if◌then◌else◌, sym, ap, ◌∙◌, ◌&&◌, ◌||◌, ◌==◌, refl}
 use Rattle.std.specs.List.{flat_map}
 use Rattle.std.proofs.lemmas.List.{append-nil, take_more, flat_map_more}
 use Rattle.sat_node.specs.declared.kept.Kept.{Kept as Line}
@@ -8,17 +8,13 @@ use Rattle.sat_joint.specs.Journals.{Noted}
 use Rattle.sat_parts.specs.declared.gear_answer.GearAnswer.{GearAnswer}
 use Rattle.sat_parts.specs.Acts.{GearActSeen}
 use Rattle.sat_parts_opened.specs.Keeping.{gear_kept, is_own_line, own_noted}
-use Rattle.std.proofs.lemmas.List.{map-append}
 use Rattle.sat_label.proofs.Truth.{same-number}
 use Rattle.sat_label.specs.Words.{has}
 use Rattle.sat_act.specs.Deployed.{Deployed}
 use Rattle.sat_act.specs.Answers.{gear_of}
 use Rattle.sat_act.specs.Parts.{replicates}
 use Rattle.sat_joint.specs.Table.{AtGear, gear_nodes, gears_if, item_gears, same_node}
-use Rattle.sat_hub_laws.specs.Parts.{Part as PartOf, part_if}
 use Rattle.sat_hub_laws.specs.Sites.{has_part}
-use Rattle.sat_parts_opened.specs.declared.parts.Part.{Part}
-use Rattle.sat_parts_opened.specs.Seen.{part_seen}
 
 pub one_more : {X Y : Type 0} (f : X → List Y) (old mid new : List Y) (xs : List X) (i : ℕ) (x : X) → i < length xs → new ≡ mid ++ f (get_or xs i x)
     → mid ≡ old ++ flat_map f (take i xs) → new ≡ old ++ flat_map f (take (i + 1) xs)
@@ -34,15 +30,6 @@ pub own_not : (i g : ℕ) (k : Line GearActSeen GearAnswer) (old : List Noted) �
 own_not i g k old e = sym (append-nil old) ∙ ap (λ (b : Bool). old ++ (if b then (k.lamport, entry_of (gear_kept i g k), true) ∷ [] else [])) (sym e)
 
 -- ---- parts
-
--- an entry in which the gear has a part is one more
-pub part_here : (b : Bool) (p : PartOf) (q : Part) (old new : List Part) → b ≡ true → part_seen q ≡ p → new ≡ old ++ q ∷ [] → map part_seen new ≡ map part_seen old ++ part_if b p []
-part_here b p q old new e w grown =
-    ap (map part_seen) grown ∙ (map-append part_seen old (q ∷ []) ∙ (λ t. map part_seen old ++ part_if (sym e t) (w t) []))
-
--- and another is none
-pub part_not : (b : Bool) (p : PartOf) (old : List Part) → b ≡ false → map part_seen old ≡ map part_seen old ++ part_if b p []
-part_not b p old e = sym (append-nil (map part_seen old)) ∙ ap (λ (b : Bool). map part_seen old ++ part_if b p []) (sym e)
 
 -- one more item
 pub has_more : (d : Deployed) (i g x : ℕ) (xs : List ℕ) → has_part d i (x ∷ xs) g ≡ ((replicates d x i && (gear_of d x == g)) || has_part d i xs g)

@@ -101,10 +101,6 @@ home-and true true e = refl
 home-and true false e = refl
 home-and false c e = absurd (cc)
 
-no-show : (r : Answer) → (b : Bool) → is_shown r ≡ b → b ≡ false → (d : Deployed) (i g : ℕ) → shows_at d i g r ≡ false
-no-show (ans.Shown l) b e f d i g = absurd (cc)
-no-show _ b e f d i g = refl
-
 module _ (d : Deployed) (i g c number : ℕ) where
   abbrev here : HubInput → Answer → Piece
   here input r = record { number = number; act = hub_act i c (hub_handed input); handed = hub_given (hub_handed input); answer = r }

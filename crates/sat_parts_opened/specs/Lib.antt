@@ -4,4 +4,3 @@ pub mod Keeping
 pub mod Laws
 pub mod Within
 pub mod Collected
-pub mod Seen

@@ -1,8 +1,6 @@
 -- What is known of all hubs, gears and serializers of a deployment once their locks were taken apart, and their
 -- journals as lines of machines and as pieces of acts.
 use Rattle.std.specs.Prelude.{◌≡◌, ℕ, List, [], ◌∷◌, map}
-use Rattle.std.specs.List.{flat_map}
-use Rattle.sat_label.specs.declared.node.NodeName.{NodeName}
 use Rattle.sat_label.specs.declared.node.NodeName.TheVariants as named
 use Rattle.sat_label.specs.Words.{below}
 use Rattle.sat_act.specs.Deployed.{Deployed}

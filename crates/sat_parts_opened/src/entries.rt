@@ -125,7 +125,7 @@ fn gear_entry<N: Laid>(
 }
 
 // The client of an act, 0 where it is none's.
-pub(crate) fn client_number(by: Option<u16>) -> u16
+fn client_number(by: Option<u16>) -> u16
     ensures { result ≡ client_in by }
 {
     match by {
@@ -149,7 +149,7 @@ fn is_own(input: &GearInput) -> bool
 }
 
 // The act that an input of a hub is.
-pub(crate) fn act_of_hub(site: u16, client: u16, input: &HubInput) -> Act
+fn act_of_hub(site: u16, client: u16, input: &HubInput) -> Act
     ensures { result ≡ hub_act site client (hub_handed input.now) }
 {
     match input {

@@ -3,8 +3,6 @@
 #![tactic(auto)]
 
 mod entries;
-mod kept_parts;
-mod parts;
 
 ghost use Rattle.sat_parts_opened.specs.Laws.{FitsJoin, GearJournals, GearsAreKept, GearsAreParts, GearsHaveOwners};
 ghost use Rattle.sat_parts_opened.specs.Laws.{HostsAreRuns, HostsFit, HostsStand, HubJournals, HubsAreKept};
@@ -15,8 +13,6 @@ ghost use Rattle.sat_parts_opened.specs.Collected.{GearsGive, GearsKeepParts, Hu
 ghost use Rattle.sat_parts_opened.specs.Within.{AgreeIfWithin, WithinIfAgree};
 
 pub use entries::{gear_entries, hub_entries};
-pub use kept_parts::gear_parts;
-pub use parts::{Part, Passed, hub_parts};
 
 /// The journals of all opened hubs, gears and serializers fit; where the parts of hubs and gears agree, with sessions
 /// that fit they are one run, in which each site's state is that of its hub and its gears.

@@ -1,100 +1,37 @@
--- What a site that did something by itself stands for then.
-use Rattle.std.proofs.Common.{◌≡◌, ℕ, zero, suc, ◌+◌, ◌-◌, ◌<◌, ◌≤◌, ◌==◌, ◌&&◌, ◌||◌, max, not, Bool, true, false, List, [], ◌∷◌, ◌++◌, length, map, filter, cond, get_or, Option, Some, None, slice_get, Result, Ok, Err, IfOk, OnOk, inl, inr, refl, sym, ap, ◌∙◌, subst, length-append, arith}
+-- What is left to send of a site that did something by itself.
+use Rattle.std.proofs.Common.{◌≡◌, ℕ, zero, suc, ◌+◌, ◌-◌, ◌<◌, ◌≤◌, ◌==◌, ◌&&◌, ◌||◌, not, Bool, true, false, List, [], ◌∷◌, ◌++◌, length, map, filter, cond, get_or, Option, Some, None, slice_get, inl, inr, refl, sym, ap, ◌∙◌, length-append, arith}
 use Rattle.std.specs.Prelude.{nat_le, nat_lt, is_some, option_map, if◌then◌else◌}
 use Rattle.std.proofs.lemmas.Bool.Decides.{nat_tests}
 use Rattle.std.proofs.lemmas.List.{ext_get_or, length-map}
 use Rattle.std.proofs.lemmas.Option.{slice_get-map}
 use Rattle.sat_label.specs.declared.label.Label.{Label}
-use Rattle.sat_label.specs.declared.node.NodeName.{NodeName}
-use Rattle.sat_label.specs.declared.node.NodeName.TheVariants as named
 use Rattle.sat_label.specs.Members.{In}
 use Rattle.sat_label.specs.Order.{label_eq}
-use Rattle.sat_label.proofs.Least.{least-is}
 use Rattle.sat_label.proofs.Members.{In-parts}
 use Rattle.sat_beat.specs.declared.Beat.{Beat}
 use Rattle.sat_sink.specs.Sink as sink
-use Rattle.sat_act.specs.declared.answer.Answer.{Answer}
 use Rattle.sat_act.specs.declared.answer.Answer.TheVariants as ans
 use Rattle.sat_act.specs.declared.answer.Refusal.TheVariants as why
 use Rattle.sat_act.specs.Answers.{refused_if}
 use Rattle.sat_act.specs.Deployed.{Deployed}
-use Rattle.sat_act.specs.Limits.{IsDeployment}
 use Rattle.sat_act.specs.Parts.{BeatNote}
 use Rattle.sat_act.specs.Settling.{is_done}
 use Rattle.sat_model.specs.Input as given
 use Rattle.sat_model.specs.Look.{ready_of, rows, stable_of}
-use Rattle.sat_model.specs.Next.{note_of as machine_note, site_next}
+use Rattle.sat_model.specs.Next.{note_of as machine_note}
 use Rattle.sat_model.specs.Reply.{site_answer}
 use Rattle.sat_model.specs.State.{SiteState}
 use Rattle.sat_proxy.specs.Proxy.{close_in, note_of}
-use Rattle.sat_site.specs.declared.input.SiteInput.{SiteInput}
 use Rattle.sat_site.specs.declared.input.SiteInput.TheVariants as input
 use Rattle.sat_site.specs.Changes.{beat_for, count_to, made_for}
-use Rattle.sat_site.specs.Inputs.{fits_here, input_of}
-use Rattle.sat_site.specs.Laws.{EachStep}
+use Rattle.sat_site.specs.Inputs.{fits_here}
 use Rattle.sat_site.specs.Seen.{SiteSeen, IsSite}
 use Rattle.sat_site.specs.SiteSteps.{emit_answer, next_pulse, pulse_answer, site_answers}
 use Rattle.sat_site.specs.Stands.{StandsSite}
 use Rattle.sat_site.proofs.Parts.{count-is}
 use Rattle.sat_site.proofs.Rows.{all-rows, cut-same, ready-same, stable-same}
-use Rattle.sat_node.specs.declared.kept.CallFault.{CallFault}
-use Rattle.sat_node.specs.Meanings.{replay}
-use Rattle.sat_node.specs.Seen.{entry, Takes}
-use Rattle.sat_machines.specs.declared.site_answer.SiteAnswer.{SiteAnswer}
-use Rattle.sat_machines.specs.Acts.{ActSeen}
-use Rattle.sat_machines.specs.Sites.{AnswersAt, Stands, number_of, site_meaning}
-use Rattle.sat_passes.specs.Followed.{Follows, StaysSent, pending_count}
-use Rattle.sat_passes.specs.Hearings.{SiteHeld, of_site}
-use Rattle.sat_passes.specs.Sendings.{AreTold, IsIdle, IsTold, last_made, would_do}
-use Rattle.sat_passes.proofs.Hops.{state_next}
-use Rattle.sat_passes.proofs.Sendings.{done_by, told_more}
-
--- ---- a node's machine
-
--- only sites stand for a state
-pub at_site : (d : Deployed) (name : NodeName) (x : SiteSeen) (s : SiteState) → Stands d name x s → StandsSite d (number_of name) x s
-at_site d (named.Site i) x s st = st
-at_site d (named.Serializer e z) x s st = absurd st
-at_site d (named.Gear e z) x s st = absurd st
-
-given-follows : (d : Deployed) (r : Result SiteAnswer CallFault) (number : ℕ) (may : Bool) (old new : SiteHeld) (given : SiteInput) → EachStep → IsDeployment d → IsSite old.node.machine → IsSite new.node.machine
-    → Stands d old.node.name old.node.machine (replay (site_meaning d) old.node.name old.node.entries)
-    → Stands d new.node.name new.node.machine (replay (site_meaning d) new.node.name new.node.entries)
-    → would_do old.node.machine given ≡ true → Takes number (of_site given) may r old.node new.node
-    → IfOk r (λ a. AnswersAt d (number_of old.node.name) (replay (site_meaning d) old.node.name old.node.entries) (of_site given) a)
-    → OnOk r (Follows d (number_of old.node.name) given old.node.machine new.node.machine)
-given-follows d (Err f) number may old new given law dep site stays st sn would takes h = tt
-given-follows d (Ok a) number may old new given law dep site stays st sn would takes h = record {
-  state = s;
-  before = at_site d old.node.name old.node.machine s st;
-  site = site;
-  done = done_by d old.node.name old.node.machine s given law dep site st would;
-  after = subst (λ (t : SiteState). StandsSite d (number_of old.node.name) new.node.machine t) next
-      (subst (λ (n : NodeName). StandsSite d (number_of n) new.node.machine (replay (site_meaning d) new.node.name new.node.entries)) takes.name
-      (at_site d new.node.name new.node.machine (replay (site_meaning d) new.node.name new.node.entries) sn));
-  stays = stays;
-}
-  where
-    s : SiteState
-    s = replay (site_meaning d) old.node.name old.node.entries
-
-    next : replay (site_meaning d) new.node.name new.node.entries ≡ site_next d (number_of old.node.name) s (input_of given) (site_answer d (number_of old.node.name) s (input_of given))
-    next =
-        (λ j. replay (site_meaning d) (takes.name j) (takes.taken j))
-        ∙ (state_next (site_meaning d) old.node.name _ old.node.entries (entry (max old.node.number number + 1) (of_site given) a)
-        ∙ ap (site_next d (number_of old.node.name) s (input_of given)) h.answer)
-
--- an input that was done leads from the state that the machine stood for to the next
-pub act_follows : (d : Deployed) (r : Result SiteAnswer CallFault) (number : ℕ) (may : Bool) (old new : SiteHeld) (given : SiteInput) (act : ActSeen) → act ≡ of_site given → EachStep → IsDeployment d → IsSite old.node.machine → IsSite new.node.machine
-    → Stands d old.node.name old.node.machine (replay (site_meaning d) old.node.name old.node.entries)
-    → Stands d new.node.name new.node.machine (replay (site_meaning d) new.node.name new.node.entries)
-    → would_do old.node.machine given ≡ true → Takes number act may r old.node new.node
-    → IfOk r (λ a. AnswersAt d (number_of old.node.name) (replay (site_meaning d) old.node.name old.node.entries) act a)
-    → OnOk r (Follows d (number_of old.node.name) given old.node.machine new.node.machine)
-act_follows d r number may old new given act is law dep site stays st sn would takes h =
-    given-follows d r number may old new given law dep site stays st sn would
-    (subst (λ (x : ActSeen). Takes number x may r old.node new.node) is takes)
-    (subst (λ (x : ActSeen). IfOk r (λ a. AnswersAt d (number_of old.node.name) (replay (site_meaning d) old.node.name old.node.entries) x a)) is h)
+use Rattle.sat_passes.specs.Followed.{pending_count}
+use Rattle.sat_passes.specs.Sendings.{last_made, would_do}
 
 -- ---- an emission lowers the number of pending labels
 
@@ -159,25 +96,9 @@ emitted-is d i s done = go (ready_of d s) refl done where
   go None e done = absurd (cc (done))
   go (Some l) e done = (l, e, ap (λ (o : Option Label). elim o [ None ↦ ans.Refused why.Idle | Some l ↦ ans.Emitted l ]) e)
 
-next-less : (d : Deployed) (i : ℕ) (s : SiteState) (l : Label) → ready_of d s ≡ Some l
-    → length (rows (site_next d i s given.Emit (ans.Emitted l)).sink.pending d.gears) < length (rows s.sink.pending d.gears)
-unfolding site_next
-next-less d i s l ready =
-    let k = least-is (λ m. nat_le m.point.ts (stable_of d s)) (rows s.sink.pending d.gears) l ready in
-    rows-less (λ m. not (label_eq l m)) s.sink.pending d.gears l k.member (same-label l)
-
 pub pending-is : (d : Deployed) (i : ℕ) (x : SiteSeen) (s : SiteState) → IsSite x → StandsSite d i x s → pending_count x ≡ length (rows s.sink.pending d.gears)
 pending-is d i x s site st =
     ap (λ (ls : List Label). length ls) (all-rows s.sink.pending x.sink.pending d.gears (site.sink.rows ∙ count-is d i x s st) st.sink.pending)
-
-pub emitted_less : (d : Deployed) (i : ℕ) (x y : SiteSeen) → Follows d i input.Emit x y → pending_count y < pending_count x
-emitted_less d i x y f =
-    let e = emitted-is d i f.state f.done in
-    let less = next-less d i f.state e.0 e.1 in
-    let was = pending-is d i x f.state f.site f.before in
-    let now = pending-is d i y (site_next d i f.state given.Emit (ans.Emitted e.0)) f.stays
-    (subst (λ (a : Answer). StandsSite d i y (site_next d i f.state given.Emit a)) e.2 f.after) in
-    omega arith
 
 -- ---- what is left to emit, and whether a pulse is
 
@@ -213,30 +134,6 @@ and-false false = refl
 
 pub not-less : (n : ℕ) → nat_lt n n ≡ false
 not-less n = grind (arith, nat_tests)
-
-next-pulses : (d : Deployed) (i : ℕ) (s : SiteState) (l : Label) → l.point.ts ≡ stable_of d s → pulses d (site_next d i s given.Pulse (ans.Pulsed l)) ≡ false
-unfolding site_next
-next-pulses d i s l e =
-    ap (λ (b : Bool). not (is_some (ready_of d s)) && b) (ap (λ (t : ℕ). nat_lt t (stable_of d s)) e ∙ not-less (stable_of d s)) ∙ and-false (not (is_some (ready_of d s)))
-
-next-ready : (d : Deployed) (i : ℕ) (s : SiteState) (l : Label) → ready_of d (site_next d i s given.Pulse (ans.Pulsed l)) ≡ ready_of d s
-unfolding site_next
-next-ready d i s l = refl
-
--- after a pulse none is left
-pub pulsed_none : (d : Deployed) (i : ℕ) (x y : SiteSeen) → Follows d i input.Pulse x y → would_do y input.Pulse ≡ false
-pulsed_none d i x y f =
-    let e = pulsed-is d i f.state f.done in
-    pulse-by d i y (site_next d i f.state given.Pulse (ans.Pulsed e.0)) f.stays
-    (subst (λ (a : Answer). StandsSite d i y (site_next d i f.state given.Pulse a)) e.2 f.after) ∙ next-pulses d i f.state e.0 e.1
-
--- and what is left to emit stays
-pub pulsed_emit : (d : Deployed) (i : ℕ) (x y : SiteSeen) → Follows d i input.Pulse x y → would_do y input.Emit ≡ would_do x input.Emit
-pulsed_emit d i x y f =
-    let e = pulsed-is d i f.state f.done in
-    emit-by d i y (site_next d i f.state given.Pulse (ans.Pulsed e.0)) f.stays
-    (subst (λ (a : Answer). StandsSite d i y (site_next d i f.state given.Pulse a)) e.2 f.after)
-    ∙ (ap (λ (o : Option Label). is_done (emit_answer o)) (next-ready d i f.state e.0) ∙ sym (emit-by d i x f.state f.site f.before))
 
 -- ---- beats
 
@@ -313,75 +210,3 @@ last-more ns n =
 
 pub same-number : (n : ℕ) → (n == n) ≡ true
 same-number n = grind (arith, nat_tests)
-
-noted-here : (d : Deployed) (i : ℕ) (s : SiteState) (j n : ℕ) → IsNoted d i (site_next d i s (given.Beat j) (ans.Beat n)) j
-unfolding site_next
-noted-here d i s j n =
-    ap (λ (b : Bool). last-note (if b then s.made_beats j ++ machine_note d i s j ∷ [] else s.made_beats j)) (same-number j) ∙ last-more (s.made_beats j) (machine_note d i s j)
-
-noted-there : (d : Deployed) (i : ℕ) (s : SiteState) (j n k : ℕ) → IsNoted d i s k → IsNoted d i (site_next d i s (given.Beat j) (ans.Beat n)) k
-unfolding site_next
-noted-there d i s j n k noted = go (j == k) where
-  go : (b : Bool) → last-note (if b then s.made_beats k ++ machine_note d i s k ∷ [] else s.made_beats k) ≡ Some (machine_note d i s k)
-  go true = last-more (s.made_beats k) (machine_note d i s k)
-  go false = noted
-
-next-pulse-same : (d : Deployed) (i : ℕ) (s : SiteState) (j n : ℕ) → pulses d (site_next d i s (given.Beat j) (ans.Beat n)) ≡ pulses d s
-unfolding site_next
-next-pulse-same d i s j n = refl
-
-next-ready-same : (d : Deployed) (i : ℕ) (s : SiteState) (j n : ℕ) → ready_of d (site_next d i s (given.Beat j) (ans.Beat n)) ≡ ready_of d s
-unfolding site_next
-next-ready-same d i s j n = refl
-
-pub beat-is : (d : Deployed) (i : ℕ) (s : SiteState) (j : ℕ) → site_answer d i s (given.Beat j) ≡ ans.Beat (length (s.made_beats j))
-unfolding site_answer
-beat-is d i s j = refl
-
-beaten-stands : (d : Deployed) (i j : ℕ) (x y : SiteSeen) → (f : Follows d i (input.Beat j) x y) → StandsSite d i y (site_next d i f.state (given.Beat j) (ans.Beat (length (f.state.made_beats j))))
-beaten-stands d i j x y f = subst (λ (a : Answer). StandsSite d i y (site_next d i f.state (given.Beat j) a)) (beat-is d i f.state j) f.after
-
--- after a beat for a site it is told
-pub beaten_told : (d : Deployed) (i j : ℕ) (x y : SiteSeen) → j < d.sites → Follows d i (input.Beat j) x y → IsTold y j
-beaten_told d i j x y less f = λ differ. noted-told d i y _ j less f.stays (beaten-stands d i j x y f) (noted-here d i f.state j _)
-
--- and all else stays
-pub beaten_stays : (d : Deployed) (i j : ℕ) (x y : SiteSeen) → Follows d i (input.Beat j) x y → StaysSent d.sites x y
-beaten_stays d i j x y f =
-    let sn = beaten-stands d i j x y f in
-    let shape : y.shape ≡ x.shape = f.after.shape ∙ sym f.before.shape in
-    record {
-      shape = shape;
-      emit = emit-by d i y _ f.stays sn ∙ (ap (λ (o : Option Label). is_done (emit_answer o)) (next-ready-same d i f.state j _) ∙ sym (emit-by d i x f.state f.site f.before));
-      pulse = pulse-by d i y _ f.stays sn ∙ (next-pulse-same d i f.state j _ ∙ sym (pulse-by d i x f.state f.site f.before));
-      told = λ k less told differ. noted-told d i y _ k less f.stays sn
-          (noted-there d i f.state j _ k (told-noted d i x f.state k less f.site f.before (told (λ e. differ (e ∙ sym (ap (λ s. s.site) shape))))));
-    }
-
-pub stays_same : (n : ℕ) (x y : SiteSeen) → y ≡ x → StaysSent n x y
-stays_same n x y e = record {
-  shape = ap (λ (z : SiteSeen). z.shape) e;
-  emit = ap (λ (z : SiteSeen). would_do z input.Emit) e;
-  pulse = ap (λ (z : SiteSeen). would_do z input.Pulse) e;
-  told = λ j less told. subst (λ (z : SiteSeen). IsTold z j) (sym e) told;
-}
-
-pub stays_then : (n : ℕ) (x y z : SiteSeen) → StaysSent n x y → StaysSent n y z → StaysSent n x z
-stays_then n x y z a b = record {
-  shape = b.shape ∙ a.shape;
-  emit = b.emit ∙ a.emit;
-  pulse = b.pulse ∙ a.pulse;
-  told = λ j less told. b.told j less (a.told j less told);
-}
-
--- one site more is told
-pub told_on : (sites n : ℕ) (x y : SiteSeen) → n < sites → StaysSent sites x y → AreTold n x → IsTold y n → AreTold (n + 1) y
-told_on sites n x y less stays all here = told_more y n (λ j lt. stays.told j (omega arith) (all j lt)) here
-
--- nothing is left to send
-pub idle_is : (n : ℕ) (x y z : SiteSeen) → y.shape.sites ≡ n → would_do x input.Emit ≡ false → would_do y input.Emit ≡ would_do x input.Emit → would_do y input.Pulse ≡ false → StaysSent n y z → AreTold n z → IsIdle z
-idle_is n x y z sites none emit pulse stays told = record {
-  emit = stays.emit ∙ (emit ∙ none);
-  pulse = stays.pulse ∙ pulse;
-  beats = subst (λ (m : ℕ). AreTold m z) (sym (ap (λ s. s.sites) stays.shape ∙ sites)) told;
-}

@@ -3,6 +3,5 @@ pub mod Neighbours
 pub mod Hops
 pub mod Faults
 pub mod Drains
-pub mod Hearing
 pub mod Sendings
 pub mod Following

@@ -1,12 +1,11 @@
 -- What a site's node sends.
-use Rattle.std.specs.Prelude.{◌≡◌, ◌≢◌, ◌⊎◌, ℕ, ◌-◌, ◌<◌, ◌&&◌, ◌==◌, Bool, true, false, List, [], ◌∷◌, ◌++◌, length}
+use Rattle.std.specs.Prelude.{◌≡◌, ◌≢◌, ◌⊎◌, ℕ, ◌-◌, ◌&&◌, ◌==◌, Bool, true, false, List, [], ◌∷◌, length}
 use Rattle.std.specs.Prelude.{Option, Some, None, slice_get}
 use Rattle.sat_label.specs.declared.point.Point.{Point}
 use Rattle.sat_label.specs.Order.{point_eq}
 use Rattle.sat_beat.specs.declared.Beat.{Beat}
 use Rattle.sat_act.specs.Settling.{is_done}
 use Rattle.sat_site.specs.declared.input.SiteInput.{SiteInput}
-use Rattle.sat_site.specs.declared.input.SiteInput.TheVariants as input
 use Rattle.sat_site.specs.Changes.{beat_for, made_for}
 use Rattle.sat_site.specs.Inputs.{fits_in}
 use Rattle.sat_site.specs.Seen.{SiteSeen}
@@ -15,7 +14,6 @@ use Rattle.sat_node.specs.declared.kept.CallFault.{CallFault}
 use Rattle.sat_node.specs.declared.kept.CallFault.TheVariants as fault
 use Rattle.sat_node.specs.Seen.{last_number}
 use Rattle.sat_node.specs.Links.{HeldSeen}
-use Rattle.sat_passes.specs.Hearings.{SiteHeld, SiteKept}
 
 -- whether the site may be handed it and would do it
 abbrev pub would_do : SiteSeen → SiteInput → Bool
@@ -28,33 +26,6 @@ last_made beats = slice_get beats (length beats - 1)
 -- site j is the site itself, or the last beat that was made for it is the one that would be made
 abbrev pub IsTold : SiteSeen → ℕ → Type 0
 IsTold x j = j ≢ x.shape.site → last_made (made_for x j) ≡ Some (beat_for x j)
-
--- of each of the first n sites
-abbrev pub AreTold : ℕ → SiteSeen → Type 0
-AreTold n x = (j : ℕ) → j < n → IsTold x j
-
--- nothing is left to emit, no pulse is left to send, and the last beat that was made for each other site is the one
--- that would be made
-pub record IsIdle (x : SiteSeen) : Type 0 where
-  pub emit : would_do x input.Emit ≡ false
-  pub pulse : would_do x input.Pulse ≡ false
-  pub beats : AreTold x.shape.sites x
-
-abbrev pub is_sending : SiteInput → Bool
-is_sending input.Emit = true
-is_sending input.Pulse = true
-is_sending (input.Beat j) = true
-is_sending _ = false
-
--- each of these entries is an emission, a pulse or a beat, which was done
-abbrev pub AreSent : List SiteKept → Type 0
-AreSent [] = Unit {0}
-AreSent (k ∷ ks) = (is_sending k.input.input ≡ true) × (is_done k.answer.answer ≡ true) × AreSent ks
-
--- the node kept some of these more, or none
-pub record Sent (old new : SiteHeld) : Type 0 where
-  pub name : new.node.name ≡ old.node.name
-  pub added : (more : List SiteKept) × (new.node.entries ≡ old.node.entries ++ more) × AreSent more
 
 -- memory ran out, or the greatest number is the node's
 abbrev pub FailsAlone : {M I A : Type 0} → HeldSeen M I A → CallFault → Type 0

@@ -3,14 +3,8 @@
 
 mod beats;
 mod flushing;
-mod receiving;
 mod relaying;
-mod sending;
-mod sites;
 
 pub use beats::is_one;
 pub use flushing::flush_all;
-pub use receiving::receive;
 pub use relaying::relay;
-pub use sending::send;
-pub use sites::sound;

@@ -2,17 +2,14 @@
 use Rattle.std.specs.Prelude.{◌≡◌, ◌<◌, ◌+◌, ℕ, zero, suc, List, [], ◌∷◌, ◌++◌, length, map, take, get_or, set, Option, Some, None, IfSome, slice_get}
 use Rattle.std.proofs.Common.{refl, sym, ap, ◌∙◌, subst, arith, length-append}
 use Rattle.std.proofs.lemmas.List.{append-nil, append_assoc, map-append, take_more}
-use Rattle.atomic_table.specs.Seated.{TableId}
 use Rattle.sat_link.specs.Ends.{Sender, Receiver, capacity_of}
 use Rattle.sat_node.specs.declared.kept.Envelope.{Envelope}
 use Rattle.sat_node.specs.Puts.{OutSeen}
 use Rattle.sat_node.specs.Links.{Each, InSeen, in_places, out_places}
-use Rattle.sat_label.proofs.Numbers.{get-map}
-use Rattle.sat_act.specs.Deployed.{Deployed}
-use Rattle.sat_machines.specs.Layout.{Link, all_links}
-use Rattle.sat_wires.specs.Wires.{HaveRoom, IsFreshIn, IsFreshOut, IsWires, NothingReceived, NothingSent, wire_in, wire_out}
+use Rattle.sat_machines.specs.Layout.{Link}
+use Rattle.sat_wires.specs.Wires.{HaveRoom, IsFreshIn, IsFreshOut, wire_in, wire_out}
 use Rattle.sat_wires.specs.declared.way.Way.{Way}
-use Rattle.sat_wires.specs.Ways.{link_of, place_back_in, place_in}
+use Rattle.sat_wires.specs.Ways.{link_of, place_back_in}
 use Rattle.sat_wires.specs.Ends.{AllIns, AllOuts, ArePairs, InAt, InIf, OutAt, OutIf}
 
 -- one more member
@@ -42,9 +39,6 @@ pair-more capacity ins outs l m p w c s r = record {
 pub pair_more : (capacity : ℕ) (ins ins' : List (Sender Envelope)) (outs outs' : List (Receiver Envelope)) (l : Sender Envelope) (m : Receiver Envelope) → ArePairs capacity ins outs →
     ins' ≡ ins ++ l ∷ [] → outs' ≡ outs ++ m ∷ [] → l.wire ≡ m.wire → capacity_of l.wire ≡ capacity → l.sent ≡ [] → m.received ≡ [] → ArePairs capacity ins' outs'
 pair_more capacity ins ins' outs outs' l m p a b w c s r = subst (λ (os : List (Receiver Envelope)). ArePairs capacity ins' os) (sym b) (subst (λ (is : List (Sender Envelope)). ArePairs capacity is (outs ++ m ∷ [])) (sym a) (pair-more capacity ins outs l m p w c s r))
-
-pub are_wires : (d : Deployed) (capacity : ℕ) (links : List Link) (ins : List (Sender Envelope)) (outs : List (Receiver Envelope)) → links ≡ all_links d → length ins ≡ length links → ArePairs capacity ins outs → IsWires d links ins outs
-are_wires d capacity links ins outs a b p = record { links_are = a; many = b; same = p.same; sent = p.sent; received = p.received }
 
 pub have_room : (capacity : ℕ) (ins : List (Sender Envelope)) (outs : List (Receiver Envelope)) → ArePairs capacity ins outs → HaveRoom capacity (map wire_in ins)
 have_room capacity ins outs p = p.room
@@ -77,13 +71,6 @@ outs_start = record { places = refl; fresh = λ k o at. absurd (cc) }
 pub ins_start : AreIns [] []
 ins_start = record { places = refl; fresh = λ k i at. absurd (cc) }
 
-pub outs_grow : (all : List Link) (ws : List Way) (n : ℕ) (w : Way) (os os' : List OutSeen) (o : OutSeen) → os' ≡ os ++ o ∷ [] → n < length ws → AreOuts (map (place_in all) (map link_of (take n ws))) os → OutAt (place_in all (link_of (get_or ws n w))) o →
-    AreOuts (map (place_in all) (map link_of (take (n + 1) ws))) os'
-outs_grow all ws n w os os' o new lt are at = record {
-  places = ap (map (λ (o : OutSeen). o.place)) new ∙ (map-append (λ (o : OutSeen). o.place) os (o ∷ []) ∙ ((λ j. are.places j ++ at.at j ∷ []) ∙ sym (way_more (place_in all) ws n w lt)));
-  fresh = subst (λ (os : List OutSeen). Each os (λ _ o. IsFreshOut o)) (sym new) (each-more (λ _ o. IsFreshOut o) os o are.fresh at.fresh);
-}
-
 pub ins_grow : (all : List Link) (ws : List Way) (n : ℕ) (w : Way) (is is' : List InSeen) (i : InSeen) → is' ≡ is ++ i ∷ [] → n < length ws → AreIns (map (place_back_in all) (map link_of (take n ws))) is → InAt (place_back_in all (link_of (get_or ws n w))) i →
     AreIns (map (place_back_in all) (map link_of (take (n + 1) ws))) is'
 ins_grow all ws n w is is' i new lt are at = record {
@@ -94,12 +81,6 @@ ins_grow all ws n w is is' i new lt are at = record {
 -- the same of ends that are taken out at given places
 place_more : (ks : List ℕ) (n : ℕ) → n < length ks → take (n + 1) ks ≡ take n ks ++ get_or ks n 0 ∷ []
 place_more ks n lt = take_more ks n 0 lt
-
-pub outs_at_more : (ks : List ℕ) (n : ℕ) (os os' : List OutSeen) (o : OutSeen) → os' ≡ os ++ o ∷ [] → n < length ks → AreOuts (take n ks) os → OutAt (get_or ks n 0) o → AreOuts (take (n + 1) ks) os'
-outs_at_more ks n os os' o new lt are at = record {
-  places = ap (map (λ (o : OutSeen). o.place)) new ∙ (map-append (λ (o : OutSeen). o.place) os (o ∷ []) ∙ ((λ j. are.places j ++ at.at j ∷ []) ∙ sym (place_more ks n lt)));
-  fresh = subst (λ (os : List OutSeen). Each os (λ _ o. IsFreshOut o)) (sym new) (each-more (λ _ o. IsFreshOut o) os o are.fresh at.fresh);
-}
 
 pub ins_behind : (is : List InSeen) → Each is (λ _ i. IsFreshIn i) → AreIns (in_places is ++ []) is
 ins_behind is all = record { places = sym (append-nil (in_places is)); fresh = all }

@@ -1,17 +1,16 @@
 -- The lists of ways, one more at a time, and the places of links.
-use Rattle.std.specs.Prelude.{◌≡◌, ◌<◌, ◌≤◌, ◌+◌, ◌-◌, ◌^◌, ℕ, suc, Bool, nat_lt, not, cond, List, [], ◌∷◌, ◌++◌, length, map, position, unwrap_or, Option, Some, None}
+use Rattle.std.specs.Prelude.{◌≡◌, ◌<◌, ◌+◌, ◌-◌, ◌^◌, ℕ, suc, Bool, nat_lt, not, cond, List, [], ◌∷◌, ◌++◌, length, map, position, unwrap_or, Option, Some, None}
 use Rattle.std.specs.List.{flat_map, prefix_len}
-use Rattle.std.proofs.Common.{refl, sym, ap, ◌∙◌, subst, arith}
+use Rattle.std.proofs.Common.{refl, sym, ap, ◌∙◌, arith}
 use Rattle.std.proofs.lemmas.List.{append-nil, length-map, map-append}
 use Rattle.std.proofs.lemmas.List.Concat.{flat_map-append}
 use Rattle.sat_label.specs.declared.node.NodeName.TheVariants.{Serializer as AtSerializer, Site as AtSite}
 use Rattle.sat_label.specs.Words.{below}
 use Rattle.sat_tree.specs.Shape.{TreeShape}
-use Rattle.sat_tree.specs.Cut.{neighbours, seat_of}
 use Rattle.sat_act.specs.Deployed.{Deployed}
 use Rattle.sat_act.specs.Limits.{IsDeployment}
 use Rattle.sat_act.specs.Parts.{tree_of}
-use Rattle.sat_machines.specs.Layout.{Link, Bulk, Planted, all_links, in_places, link_eq, links_of, out_places, peer, place_back, place_of, serial_links, site_links, turned}
+use Rattle.sat_machines.specs.Layout.{Link, Bulk, Planted, all_links, in_places, link_eq, out_places, peer, place_back, place_of, serial_links, site_links, turned}
 use Rattle.sat_opened.proofs.Layouts.{tree-at}
 use Rattle.sat_wires.specs.declared.way.Way.{Way}
 use Rattle.sat_wires.specs.Ways.{bulk_links, link_of, place_back_in, place_in}

@@ -1,12 +1,11 @@
 -- What contracts see of the links of a deployment, and of nodes that were just made.
-use Rattle.std.specs.Prelude.{ℕ, ◌≡◌, List, [], None, length, map}
+use Rattle.std.specs.Prelude.{ℕ, ◌≡◌, List, [], None}
 use Rattle.atomic_table.specs.Seated.{TableId}
 use Rattle.sat_act.specs.Deployed.{Deployed}
 use Rattle.sat_link.specs.Ends.{Sender, Receiver, capacity_of}
 use Rattle.sat_node.specs.declared.kept.Envelope.{Envelope}
 use Rattle.sat_node.specs.Puts.{OutSeen}
 use Rattle.sat_node.specs.Links.{Each, HeldSeen, InSeen}
-use Rattle.sat_machines.specs.Layout.{Link, all_links}
 
 -- the deployment that they were made for, and the wire of each of its links
 pub record WiresSeen : Type 0 where
@@ -29,15 +28,6 @@ NothingSent ls = Each ls (λ _ l. l.sent ≡ [])
 
 abbrev pub NothingReceived : List (Receiver Envelope) → Type 0
 NothingReceived ls = Each ls (λ _ l. l.received ≡ [])
-
--- the two ends of each link of a deployment, through which nothing went
-pub record IsWires (d : Deployed) (links : List Link) (ins : List (Sender Envelope))
-    (outs : List (Receiver Envelope)) : Type 0 where
-  pub links_are : links ≡ all_links d
-  pub many : length ins ≡ length links
-  pub same : map wire_out outs ≡ map wire_in ins
-  pub sent : NothingSent ins
-  pub received : NothingReceived outs
 
 -- an end at which nothing was sent, and one at which nothing came
 pub record IsFreshOut (o : OutSeen) : Type 0 where

@@ -1,4 +1,4 @@
-//! The links between the nodes of a deployment, and all its nodes with their ends of them.
+//! The links between the nodes of a deployment, their ends, and all serializers with theirs.
 #![tactic(auto)]
 
 mod ends;
@@ -10,7 +10,7 @@ mod wires;
 
 pub use ends::Ends;
 pub use layout::{all_ways, peer, serial_ways, site_ways};
-pub use made::{AllNodes, make_serials};
+pub use made::make_serials;
 pub use way::Way;
 pub use ways::Ways;
-pub use wires::{LinkPairs, Wires, make_pairs};
+pub use wires::{LinkPairs, make_pairs};

@@ -1,74 +1,21 @@
-//! All nodes of a deployment, at which nothing happened.
+//! All serializers of a deployment, at which nothing happened.
 ghost use Rattle.std.specs.Prelude.{◌≡◌, ◌<◌, ◌+◌, ◌-◌, ◌^◌, ◌++◌, length, drop, map, IfOk, OnOk, Some};
 ghost use Rattle.std.specs.List.{flat_map};
-ghost use Rattle.sat_label.specs.Words.{below};
-ghost use Rattle.sat_label.specs.declared.node.NodeName.TheVariants.{Serializer as AtSerializer, Site as AtSite};
+ghost use Rattle.sat_label.specs.declared.node.NodeName.TheVariants.{Serializer as AtSerializer};
 ghost use Rattle.sat_act.specs.Parts.{tree_of};
 ghost use Rattle.sat_machines.specs.Layout.{all_links, planted};
 ghost use Rattle.sat_opened.specs.Opened.{name_in, serial_names, tree_names};
 ghost use Rattle.sat_wires.specs.Wires.{AllNew, IsNew};
 
 use crate::ends::Ends;
-use crate::layout::{serial_ways, site_ways};
+use crate::layout::serial_ways;
 use crate::ways::Ways;
-use crate::wires::Wires;
 use sat_act::{Deployment, Plan};
 use sat_label::NodeName;
-use sat_machines::{Laid, SerialNode, SiteNode};
+use sat_machines::{Laid, SerialNode};
 use sat_node::{Held, Names, Node};
 use sat_tree::Tree;
 use std::alloc::{AllocError, Global};
-
-/// Every site of a deployment, and every serializer of its trees, with their link ends.
-#[derive(Drop)]
-pub struct AllNodes<N: Laid + Names> {
-    pub sites: Vec<Held<SiteNode<N>, N>>,
-    pub serials: Vec<Held<SerialNode<N>, N>>,
-}
-
-// A site.
-#[tactic(auto, using(crate::proofs::Places::site_outs, crate::proofs::Places::site_ins))]
-fn make_site<N: Laid + Names>(
-    alloc: Global,
-    d: &Deployment,
-    all: &Ways,
-    ends: &mut Ends<N>,
-    site: u16,
-) -> Result<Held<SiteNode<N>, N>, AllocError>
-    requires deployment { N.deployment ≡ d.now }
-    requires links { all.now ≡ all_links d.now }
-    requires site { site < d.now.sites }
-    ensures name { IfOk result (λ held. name_in held ≡ AtSite site) }
-    ensures fresh { IfOk result (λ held. IsNew held) }
-{
-    let own = site_ways(alloc, d, site)?;
-    let outs = ends.outs(alloc, all, &own)?;
-    let ins = ends.ins(alloc, all, &own)?;
-    let machine = SiteNode::new(alloc, d, site)?;
-    let node = Node::new(alloc, NodeName::Site(site), machine);
-    Ok(Held::new(node, outs, ins))
-}
-
-// All sites, in order.
-#[tactic(auto, using(crate::proofs::Names::none_new))]
-fn make_sites<N: Laid + Names>(
-    alloc: Global,
-    d: &Deployment,
-    all: &Ways,
-    ends: &mut Ends<N>,
-) -> Result<Vec<Held<SiteNode<N>, N>>, AllocError>
-    requires deployment { N.deployment ≡ d.now }
-    requires links { all.now ≡ all_links d.now }
-    ensures names { IfOk result (λ sites. map name_in sites.items ≡ map AtSite (below d.now.sites)) }
-    ensures fresh { IfOk result (λ sites. AllNew sites.items) }
-{
-    let mut sites = Vec::new(alloc);
-    for site in 0..d.sites() {
-        let held = make_site(alloc, d, all, ends, site)?;
-        sites.push(held)?;
-    }
-    Ok(sites)
-}
 
 // A serializer of the tree of an epoch.
 fn make_serial<N: Laid + Names>(
@@ -169,24 +116,4 @@ pub fn make_serials<N: Laid + Names>(
     let mut serials = Vec::new(alloc);
     add_trees(&mut serials, alloc, d, all, ends, 1, d.plans())?;
     Ok(serials)
-}
-
-impl<N: Laid + Names> AllNodes<N> {
-    /// Makes all nodes of N's deployment with the ends of its links: each site and each serializer once and in order,
-    /// at which nothing happened. It asks that the links were made for that deployment, and that N's list of wires is
-    /// theirs.
-    pub fn new(alloc: Global, d: &Deployment, wires: Wires) -> Result<AllNodes<N>, AllocError>
-        requires deployment { N.deployment ≡ d.now }
-        requires made { wires.deployment ≡ d.now }
-        requires wires { N.wires ≡ wires.wires }
-        ensures sites { IfOk result (λ all. map name_in all.sites.items ≡ map AtSite (below d.now.sites)) }
-        ensures serials { IfOk result (λ all. map name_in all.serials.items ≡ serial_names d.now) }
-        ensures fresh { IfOk result (λ all. AllNew all.sites.items × AllNew all.serials.items) }
-    {
-        let (ways, ins, outs) = wires.apart();
-        let mut ends = Ends::<N>::new(alloc, ins, outs)?;
-        let sites = make_sites(alloc, d, &ways, &mut ends)?;
-        let serials = make_serials(alloc, d, &ways, &mut ends)?;
-        Ok(AllNodes { sites, serials })
-    }
 }

@@ -1,38 +1,10 @@
-//! All links of a deployment.
-ghost use Rattle.std.specs.Prelude.{◌≡◌, ◌<◌, ◌+◌, length, map, IfOk, OnOk};
-ghost use Rattle.sat_machines.specs.Layout.{all_links};
-ghost use Rattle.sat_wires.specs.Wires.{HaveRoom, NothingReceived, NothingSent, wire_in, wire_out};
+//! Links, with both their ends.
+ghost use Rattle.std.specs.Prelude.{◌≡◌, ◌<◌, ◌+◌, length, IfOk, OnOk};
 ghost use Rattle.sat_wires.specs.Ends.{ArePairs};
 
-use crate::layout::all_ways;
-use crate::ways::Ways;
-use sat_act::Deployment;
 use sat_link::{LinkIn, LinkOut, link};
 use sat_node::Envelope;
 use std::alloc::{AllocError, Global};
-use std::marker::Model;
-use std::snapshot::Snapshot;
-
-/// The links of a deployment, with both their ends: two for each edge of a tree, and one for each two sites in an
-/// order, for payloads and beats. Contracts see the deployment, and the wire of each link in the order of all links.
-#[derive(Drop)]
-pub struct Wires {
-    made_for: Snapshot<Deployment>,
-    ways: Ways,
-    ins: Vec<LinkIn<Envelope>>,
-    outs: Vec<LinkOut<Envelope>>,
-}
-
-impl Model for Wires {
-    ghost use Rattle.std.specs.Prelude.{map};
-    ghost use Rattle.sat_wires.specs.Wires.{IsWires, WiresSeen, wire_in};
-
-    ghost Value = { WiresSeen };
-
-    ghost view = { λ w. record { deployment = w.made_for.value; wires = map wire_in w.ins.items } };
-
-    ghost invariant = { λ w. IsWires w.made_for.value w.ways w.ins.items w.outs.items };
-}
 
 /// The two ends of each of some links, in one order.
 #[derive(Drop)]
@@ -70,39 +42,4 @@ pub fn make_pairs(alloc: Global, capacity: usize, count: usize) -> Result<LinkPa
         add_pair(&mut pairs, alloc, capacity)?;
     }
     Ok(pairs)
-}
-
-impl Wires {
-    /// The links of a deployment, each of which holds at most `capacity` messages.
-    #[tactic(auto, using(crate::proofs::Pairs::are_wires, crate::proofs::Pairs::have_room))]
-    pub fn new(alloc: Global, d: &Deployment, capacity: usize) -> Result<Wires, AllocError>
-        requires { 0 < capacity }
-        ensures deployment { IfOk result (λ wires. wires.deployment ≡ d.now) }
-        ensures links { IfOk result (λ wires. length wires.wires ≡ length (all_links d.now)) }
-        ensures capacity { IfOk result (λ wires. HaveRoom capacity wires.wires) }
-    {
-        let ways = all_ways(alloc, d)?;
-        let LinkPairs { ins, outs } = make_pairs(alloc, capacity, ways.len())?;
-        Ok(Wires {
-            made_for: Snapshot::of(d),
-            ways,
-            ins,
-            outs,
-        })
-    }
-
-    /// The ways of all links, and the links' ends in the same order.
-    pub(crate) fn apart(self) -> (Ways, Vec<LinkIn<Envelope>>, Vec<LinkOut<Envelope>>)
-        ensures ways { result.0 ≡ all_links self.deployment }
-        ensures ins { (map wire_in result.1.items ≡ self.wires) × NothingSent result.1.items }
-        ensures outs { (map wire_out result.2.items ≡ self.wires) × NothingReceived result.2.items }
-    {
-        let Wires {
-            made_for: _,
-            ways,
-            ins,
-            outs,
-        } = self;
-        (ways, ins, outs)
-    }
 }

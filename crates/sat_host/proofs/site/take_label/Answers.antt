@@ -5,7 +5,7 @@ use Rattle.sat_node.specs.declared.kept.Body.{Body}
 use Rattle.sat_machines.specs.Acts.{ActSeen}
 use Rattle.sat_machines.specs.Sites.{site_meaning}
 use Rattle.sat_passes.specs.Hearings.{of_site}
-use Rattle.sat_pump.proofs.Turns.{turn_is_of}
+use Rattle.sat_host.proofs.Labels.{turn_is_of}
 use Rattle.sat_host.proofs.site.take_label.Goals as goal
 
 pub handle-requires-clause-carries : goal.handle-requires-clause-carries

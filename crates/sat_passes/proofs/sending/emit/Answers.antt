@@ -1,5 +1,0 @@
-use Rattle.sat_passes.proofs.Following.{emitted_less}
-use Rattle.sat_passes.proofs.sending.emit.Goals as goal
-
-pub returns-clause-less : goal.returns-clause-less
-returns-clause-less g c = λ done. emitted_less _ _ _ _ c.in_default.ensures.follows

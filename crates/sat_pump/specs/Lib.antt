@@ -1,5 +1,0 @@
-pub mod Adds
-pub mod Times
-pub mod Watched
-pub mod Shows
-pub mod Steps
