@@ -245,6 +245,73 @@ fn scripts_are_done_whole(rt: HostRuntime) -> Result<(), Fail> {
     Ok(())
 }
 
+// One client writes two items of two gears under one label, nine times, and another one at the other site reads them.
+const GROUPS: &str =
+    "saturn 2\nsites 2\ngears 2\nitem x 0,1\nitem y 0,1\nclient a 0\nclient b 1\nplan tree - / 0 0\nbegin\nwrites a x 1 y 1\nread b x\nread b y\nread b x\nread b y\nwrites a x 2 y 2\nread b x\nread b y\nread b x\nread b y\nwrites a x 3 y 3\nread b x\nread b y\nread b x\nread b y\nwrites a x 4 y 4\nread b x\nread b y\nread b x\nread b y\nwrites a x 5 y 5\nread b x\nread b y\nread b x\nread b y\nwrites a x 6 y 6\nread b x\nread b y\nread b x\nread b y\nwrites a x 7 y 7\nread b x\nread b y\nread b x\nread b y\nwrites a x 8 y 8\nread b x\nread b y\nread b x\nread b y\nwrites a x 9 y 9\nread b x\nread b y\nread b x\nread b y\nend\n";
+
+const GROUPS_HELD: &[(&str, &str)] = &[
+    ("site 0 view 1 emission 1 tree", " waiting 0"),
+    ("item x ", " 9"),
+    ("item y ", " 9"),
+    ("site 1 view 1 emission 1 tree", " waiting 0"),
+    ("item x ", " 9"),
+    ("item y ", " 9"),
+    ("done", ""),
+];
+
+// A history of such a reader that sees half of what was written.
+const HALF: &str =
+    "saturn 2\nbegin\nread b x\nread b y\nread b x\nread b y\nend\n1 read none\n2 read none\n3 read 1.0.0 1\n4 read none\nholdings\n";
+
+// The value that a read answers, a digit, and 0 where there is none.
+fn digit(answer: &str) -> u8 {
+    if answer.ends_with(" none") {
+        return b'0';
+    }
+    match answer.as_bytes().last() {
+        Some(byte) => *byte,
+        None => b'0',
+    }
+}
+
+// Whether client b is ever answered an older value of y than it has read of x.
+fn sees_half(output: &[u8]) -> Result<bool, Fail> {
+    let Ok(text) = str::from_utf8(output) else {
+        return Err("the output is no text".into());
+    };
+    let Some((script, report)) = text.split_once("\nend\n") else {
+        return Err("there is no script".into());
+    };
+    let Some((_, acts)) = script.split_once("\nbegin\n") else {
+        return Err("the script has no acts".into());
+    };
+    let mut answers = report.lines();
+    let mut read = b'0';
+    for act in acts.lines() {
+        let Some(answer) = answers.next() else {
+            return Err("an answer is missing".into());
+        };
+        if act == "read b x" {
+            read = digit(answer);
+        }
+        if act == "read b y" && digit(answer) < read {
+            return Ok(true);
+        }
+    }
+    Ok(false)
+}
+
+#[test]
+fn no_reader_sees_half_of_a_group(rt: HostRuntime) -> Result<(), Fail> {
+    let (status, sink) = lived(&rt, GROUPS, &FreeGate)?;
+    assert_eq!(rt; status, 0);
+    let report = report_of(rt.alloc(), sink.held())?;
+    assert!(rt; lines_hold(report, GROUPS_HELD));
+    assert!(rt; !sees_half(sink.held())?);
+    assert!(rt; sees_half(HALF.as_bytes())?);
+    Ok(())
+}
+
 // Links on which one message stands: what comes behind it waits at its sender.
 #[test]
 fn full_links_come_to_an_end(rt: HostRuntime) -> Result<(), Fail> {

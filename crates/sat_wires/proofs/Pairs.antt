@@ -9,7 +9,7 @@ use Rattle.sat_node.specs.Links.{Each, InSeen, in_places, out_places}
 use Rattle.sat_machines.specs.Layout.{Link}
 use Rattle.sat_wires.specs.Wires.{HaveRoom, IsFreshIn, IsFreshOut, wire_in, wire_out}
 use Rattle.sat_wires.specs.declared.way.Way.{Way}
-use Rattle.sat_wires.specs.Ways.{link_of, place_back_in}
+use Rattle.sat_wires.specs.Ways.{link_of, place_back_in, place_in}
 use Rattle.sat_wires.specs.Ends.{AllIns, AllOuts, ArePairs, InAt, InIf, OutAt, OutIf}
 
 -- one more member
@@ -71,6 +71,13 @@ outs_start = record { places = refl; fresh = λ k o at. absurd (cc) }
 pub ins_start : AreIns [] []
 ins_start = record { places = refl; fresh = λ k i at. absurd (cc) }
 
+pub outs_grow : (all : List Link) (ws : List Way) (n : ℕ) (w : Way) (os os' : List OutSeen) (o : OutSeen) → os' ≡ os ++ o ∷ [] → n < length ws → AreOuts (map (place_in all) (map link_of (take n ws))) os → OutAt (place_in all (link_of (get_or ws n w))) o →
+    AreOuts (map (place_in all) (map link_of (take (n + 1) ws))) os'
+outs_grow all ws n w os os' o new lt are at = record {
+  places = ap (map (λ (o : OutSeen). o.place)) new ∙ (map-append (λ (o : OutSeen). o.place) os (o ∷ []) ∙ ((λ j. are.places j ++ at.at j ∷ []) ∙ sym (way_more (place_in all) ws n w lt)));
+  fresh = subst (λ (os : List OutSeen). Each os (λ _ o. IsFreshOut o)) (sym new) (each-more (λ _ o. IsFreshOut o) os o are.fresh at.fresh);
+}
+
 pub ins_grow : (all : List Link) (ws : List Way) (n : ℕ) (w : Way) (is is' : List InSeen) (i : InSeen) → is' ≡ is ++ i ∷ [] → n < length ws → AreIns (map (place_back_in all) (map link_of (take n ws))) is → InAt (place_back_in all (link_of (get_or ws n w))) i →
     AreIns (map (place_back_in all) (map link_of (take (n + 1) ws))) is'
 ins_grow all ws n w is is' i new lt are at = record {
@@ -81,6 +88,12 @@ ins_grow all ws n w is is' i new lt are at = record {
 -- the same of ends that are taken out at given places
 place_more : (ks : List ℕ) (n : ℕ) → n < length ks → take (n + 1) ks ≡ take n ks ++ get_or ks n 0 ∷ []
 place_more ks n lt = take_more ks n 0 lt
+
+pub outs_at_more : (ks : List ℕ) (n : ℕ) (os os' : List OutSeen) (o : OutSeen) → os' ≡ os ++ o ∷ [] → n < length ks → AreOuts (take n ks) os → OutAt (get_or ks n 0) o → AreOuts (take (n + 1) ks) os'
+outs_at_more ks n os os' o new lt are at = record {
+  places = ap (map (λ (o : OutSeen). o.place)) new ∙ (map-append (λ (o : OutSeen). o.place) os (o ∷ []) ∙ ((λ j. are.places j ++ at.at j ∷ []) ∙ sym (place_more ks n lt)));
+  fresh = subst (λ (os : List OutSeen). Each os (λ _ o. IsFreshOut o)) (sym new) (each-more (λ _ o. IsFreshOut o) os o are.fresh at.fresh);
+}
 
 pub ins_behind : (is : List InSeen) → Each is (λ _ i. IsFreshIn i) → AreIns (in_places is ++ []) is
 ins_behind is all = record { places = sym (append-nil (in_places is)); fresh = all }
