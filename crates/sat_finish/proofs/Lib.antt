@@ -5,3 +5,4 @@ pub mod Named
 pub mod Agree
 pub mod Parted
 pub mod Journaled
+pub mod Marked

@@ -4,3 +4,4 @@ pub mod Partings
 pub mod Walking
 pub mod Ends
 pub mod Findings
+pub mod Marks

@@ -1,5 +1,6 @@
 -- What a walk of parts finds.
 use Rattle.std.specs.Prelude.{◌≡◌, ◌<◌, ◌≤◌, ℕ, List, [], ◌∷◌, Option, Some, None, slice_get}
+use Rattle.std.specs.Global.{Vec}
 use Rattle.std.specs.List.{flat_map}
 use Rattle.sat_label.specs.declared.node.NodeName.{NodeName}
 use Rattle.sat_label.specs.declared.node.NodeName.TheVariants as named
@@ -9,7 +10,9 @@ use Rattle.sat_parts.specs.declared.gear_answer.GearAnswer.{GearAnswer}
 use Rattle.sat_parts.specs.Acts.{GearActSeen}
 use Rattle.sat_opened.specs.Opened.{entries_at}
 use Rattle.sat_parts_opened.specs.Laws.{GearHeld, HubHeld}
+use Rattle.sat_finish.specs.declared.site_marks.Marks.{Marks}
 use Rattle.sat_finish.specs.declared.walk.Parting.{Parting}
+use Rattle.sat_finish.specs.Marks.{HubMarks, WrittenMarks}
 use Rattle.sat_finish.specs.Parts.{PartSeen, SameParts, gear_parts, home_parts, kept_part}
 use Rattle.sat_finish.specs.Partings.{IsParting, IsPartingAt, IsPartingOf}
 
@@ -33,6 +36,16 @@ abbrev pub IsStray : ℕ → ℕ → ℕ → List (Line GearActSeen GearAnswer) 
 IsStray n i g es None = (h : ℕ) → n ≤ h → parts_of i g h es ≡ []
 IsStray n i g es (Some p) =
     (h : ℕ) × (n ≤ h) × IsPartingOf (named.Gear i h) (named.Gear i g) [] (parts_of i g h es) p.lamport p.home p.other
+
+-- the marked places of each gear of site i that a list has
+abbrev pub AreGearMarks : List GearHeld → ℕ → List (Vec ℕ) → Type 0
+AreGearMarks gears i list =
+    (h : ℕ) (marks : Vec ℕ) → slice_get list h ≡ Some marks → WrittenMarks (entries_at (named.Gear i h) gears) marks.items
+
+-- and of its hub
+pub record AreMarks (hubs : List HubHeld) (gears : List GearHeld) (i : ℕ) (marks : Marks) : Type 0 where
+  pub at_hub : HubMarks (entries_at (named.Site i) hubs) marks.hub.items
+  pub at_gears : AreGearMarks gears i marks.gears.items
 
 module _ (d : Deployed) (hubs : List HubHeld) (gears : List GearHeld) where
   -- a node that stands at a place is the one of its name, and no gear has a number that is too great

@@ -1,5 +1,5 @@
 //! The parts of gears in the journals of gears: of another gear in writes of several items, and of the gear itself.
-ghost use Rattle.std.specs.Prelude.{ℕ, ◌≡◌, ◌≢◌, ◌≤◌, ◌++◌, false, [], ◌∷◌, Some, IfOk, OnOk, MatchOption};
+ghost use Rattle.std.specs.Prelude.{ℕ, ◌≡◌, ◌≢◌, ◌≤◌, ◌++◌, false, [], ◌∷◌, Some, slice_get, IfOk, OnOk, MatchOption};
 ghost use Rattle.std.specs.List.{flat_map};
 ghost use Rattle.sat_act.specs.declared.answer.Answer.TheVariants.{Wrote};
 ghost use Rattle.sat_model.specs.Next.{payload_at};
@@ -9,6 +9,7 @@ ghost use Rattle.sat_hub_laws.specs.Parts.{same_home, written_at};
 ghost use Rattle.sat_parts.specs.Acts.{client_in, gear_handed, shown_in};
 ghost use Rattle.sat_parts_opened.specs.Collected.{write_gives};
 ghost use Rattle.sat_finish.specs.declared.joint.Given.TheVariants as given;
+ghost use Rattle.sat_finish.specs.Marks.{HandedMarks, WrittenMarks, read_as, read_at};
 ghost use Rattle.sat_finish.specs.Parts.{kept_part, part_if, payload_given, written_part};
 ghost use Rattle.sat_finish.specs.Walking.{parts_in, parts_of};
 
@@ -27,7 +28,8 @@ use std::alloc::{AllocError, Global};
 
 // ---- at another gear, which is the home
 
-/// The parts of a gear in the journal of another gear of its site, the home, the oldest first.
+/// The parts of a gear in the journal of another gear of its site, the home, the oldest first. It reads the marked places
+/// alone.
 pub(crate) fn written_parts<N: Laid>(
     alloc: Global,
     d: &Deployment,
@@ -35,15 +37,16 @@ pub(crate) fn written_parts<N: Laid>(
     home: u16,
     gear: u16,
     journal: &[Kept<GearAct<N>, GearAnswer>],
+    marks: &[usize],
 ) -> Result<Vec<Part>, AllocError>
+    requires { WrittenMarks journal.now marks.now }
     ensures { IfOk result (λ list. list.items ≡ flat_map (written_part d.now site home gear) journal.now) }
 {
     let mut list = Vec::new(alloc);
-    add_written(alloc, &mut list, d, site, home, gear, journal)?;
+    add_written(alloc, &mut list, d, site, home, gear, journal, marks)?;
     Ok(list)
 }
 
-#[tactic(auto, using(sat_parts_opened::proofs::Loops::one_more))]
 fn add_written<N: Laid>(
     alloc: Global,
     list: &mut Vec<Part>,
@@ -52,14 +55,34 @@ fn add_written<N: Laid>(
     home: u16,
     gear: u16,
     journal: &[Kept<GearAct<N>, GearAnswer>],
+    marks: &[usize],
 ) -> Result<(), AllocError>
     ensures { OnOk result (list.new.items
-        ≡ list.old.items ++ flat_map (written_part d.now site home gear) journal.now) }
+        ≡ list.old.items ++ read_at (written_part d.now site home gear) journal.now marks.now) }
 {
-    for kept in journal {
-        add_one_written(alloc, list, d, site, home, gear, kept)?;
+    for mark in marks {
+        add_written_at(alloc, list, d, site, home, gear, journal, *mark)?;
     }
     Ok(())
+}
+
+fn add_written_at<N: Laid>(
+    alloc: Global,
+    list: &mut Vec<Part>,
+    d: &Deployment,
+    site: u16,
+    home: u16,
+    gear: u16,
+    journal: &[Kept<GearAct<N>, GearAnswer>],
+    mark: usize,
+) -> Result<(), AllocError>
+    ensures { OnOk result (list.new.items
+        ≡ list.old.items ++ read_as (written_part d.now site home gear) (slice_get journal.now mark)) }
+{
+    match journal.get(mark) {
+        None => Ok(()),
+        Some(kept) => add_one_written(alloc, list, d, site, home, gear, kept),
+    }
 }
 
 fn add_one_written<N: Laid>(
@@ -198,6 +221,57 @@ fn add_kept<N: Laid>(
         add_one_kept(alloc, list, site, home, kept)?;
     }
     Ok(())
+}
+
+/// The parts that a gear of a site kept of acts of another gear there, the oldest first. It reads the marked places
+/// alone.
+pub(crate) fn handed_parts<N: Laid>(
+    alloc: Global,
+    site: u16,
+    home: u16,
+    journal: &[Kept<GearAct<N>, GearAnswer>],
+    marks: &[usize],
+) -> Result<Vec<Part>, AllocError>
+    requires { HandedMarks journal.now marks.now }
+    ensures { IfOk result (λ list. (g : ℕ) → list.items ≡ flat_map (kept_part site g (Some home)) journal.now) }
+{
+    let mut list = Vec::new(alloc);
+    add_handed(alloc, &mut list, site, home, journal, marks)?;
+    Ok(list)
+}
+
+fn add_handed<N: Laid>(
+    alloc: Global,
+    list: &mut Vec<Part>,
+    site: u16,
+    home: u16,
+    journal: &[Kept<GearAct<N>, GearAnswer>],
+    marks: &[usize],
+) -> Result<(), AllocError>
+    ensures { OnOk result ((g : ℕ) → list.new.items
+        ≡ list.old.items ++ read_at (kept_part site g (Some home)) journal.now marks.now) }
+{
+    for mark in marks {
+        add_handed_at(alloc, list, site, home, journal, *mark)?;
+    }
+    Ok(())
+}
+
+fn add_handed_at<N: Laid>(
+    alloc: Global,
+    list: &mut Vec<Part>,
+    site: u16,
+    home: u16,
+    journal: &[Kept<GearAct<N>, GearAnswer>],
+    mark: usize,
+) -> Result<(), AllocError>
+    ensures { OnOk result ((g : ℕ) → list.new.items
+        ≡ list.old.items ++ read_as (kept_part site g (Some home)) (slice_get journal.now mark)) }
+{
+    match journal.get(mark) {
+        None => Ok(()),
+        Some(kept) => add_one_kept(alloc, list, site, Some(home), kept),
+    }
 }
 
 fn add_one_kept<N: Laid>(
@@ -343,8 +417,8 @@ fn writer(answer: &Answer) -> Option<u16>
     }
 }
 
-// Whether an input is an act of the gear's own, and no part of another node's.
-fn is_own(input: &GearInput) -> bool
+/// Whether an input is an act of the gear's own, and no part of another node's.
+pub(crate) fn is_own(input: &GearInput) -> bool
     ensures { result ≡ input_is_own (gear_handed input.now) }
 {
     match input {

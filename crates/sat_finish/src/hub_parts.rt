@@ -2,6 +2,7 @@
 ghost use Rattle.std.specs.Prelude.{◌≡◌, ◌++◌, false, nat_lt, slice_get, IfOk, OnOk};
 ghost use Rattle.std.specs.List.{flat_map};
 ghost use Rattle.sat_parts_opened.specs.Collected.{shows_at};
+ghost use Rattle.sat_finish.specs.Marks.{HubMarks, read_as, read_at};
 ghost use Rattle.sat_finish.specs.Parts.{given_by, hub_part, part_if, shown_by};
 ghost use Rattle.sat_finish.specs.Walking.{parts_in};
 
@@ -15,35 +16,54 @@ use sat_node::Kept;
 use sat_parts::{HubAct, HubAnswer, HubInput};
 use std::alloc::{AllocError, Global};
 
-/// The parts of a gear of a site in the journal of the site's hub, the oldest first.
+/// The parts of a gear of a site in the journal of the site's hub, the oldest first. It reads the marked places alone.
 pub(crate) fn hub_parts<N: Laid>(
     alloc: Global,
     d: &Deployment,
     site: u16,
     gear: u16,
     journal: &[Kept<HubAct<N>, HubAnswer>],
+    marks: &[usize],
 ) -> Result<Vec<Part>, AllocError>
+    requires { HubMarks journal.now marks.now }
     ensures { IfOk result (λ list. list.items ≡ flat_map (hub_part d.now site gear) journal.now) }
 {
     let mut list = Vec::new(alloc);
-    add_parts(&mut list, d, site, gear, journal)?;
+    add_parts(&mut list, d, site, gear, journal, marks)?;
     Ok(list)
 }
 
-#[tactic(auto, using(sat_parts_opened::proofs::Loops::one_more))]
 fn add_parts<N: Laid>(
     list: &mut Vec<Part>,
     d: &Deployment,
     site: u16,
     gear: u16,
     journal: &[Kept<HubAct<N>, HubAnswer>],
+    marks: &[usize],
 ) -> Result<(), AllocError>
-    ensures { OnOk result (list.new.items ≡ list.old.items ++ flat_map (hub_part d.now site gear) journal.now) }
+    ensures { OnOk result (list.new.items ≡ list.old.items ++ read_at (hub_part d.now site gear) journal.now marks.now) }
 {
-    for kept in journal {
-        add_part(list, d, site, gear, kept)?;
+    for mark in marks {
+        add_part_at(list, d, site, gear, journal, *mark)?;
     }
     Ok(())
+}
+
+fn add_part_at<N: Laid>(
+    list: &mut Vec<Part>,
+    d: &Deployment,
+    site: u16,
+    gear: u16,
+    journal: &[Kept<HubAct<N>, HubAnswer>],
+    mark: usize,
+) -> Result<(), AllocError>
+    ensures { OnOk result (list.new.items
+        ≡ list.old.items ++ read_as (hub_part d.now site gear) (slice_get journal.now mark)) }
+{
+    match journal.get(mark) {
+        None => Ok(()),
+        Some(kept) => add_part(list, d, site, gear, kept),
+    }
 }
 
 fn add_part<N: Laid>(

@@ -9,11 +9,13 @@ mod finish;
 mod gear_parts;
 mod hub_parts;
 mod joint;
+mod marks;
 mod nodes;
 mod opened;
 mod part;
 mod same;
 mod shown;
+mod site_marks;
 mod walk;
 
 pub use fault::{Ended, FinishFault};

@@ -64,9 +64,11 @@ fn has_some(d: &Deployment, site: u16, gear: u16, items: &[u16]) -> bool
 fn has_item(d: &Deployment, site: u16, gear: u16, item: u16) -> bool
     ensures { result ≡ (replicates d.now item site && (item % d.now.gears == gear)) }
 {
-    let gears = d.gears();
+    if item % d.gears() != gear {
+        return false;
+    }
     match d.items().get(usize::from(item)) {
         None => false,
-        Some(found) => found.replicas.has(site) && item % gears == gear,
+        Some(found) => found.replicas.has(site),
     }
 }

@@ -1,18 +1,22 @@
 //! Where the home of an act and one of its gears are apart: the parts of all pairs of a gear and a home at its site are
 //! walked from the front.
-ghost use Rattle.std.specs.Prelude.{◌≡◌, ◌<◌, ◌+◌, ◌*◌, [], Some, None, option_map, slice_get, IfOk};
+ghost use Rattle.std.specs.Prelude.{◌≡◌, ◌<◌, [], Some, None, option_map, slice_get, IfOk};
 ghost use Rattle.std.specs.List.{flat_map};
 ghost use Rattle.sat_label.specs.declared.node.NodeName.TheVariants as named;
 ghost use Rattle.sat_apart.specs.Lists.{Rising, member_at};
+ghost use Rattle.sat_opened.specs.Opened.{entries_at};
+ghost use Rattle.sat_finish.specs.Marks.{HandedMarks, HubMarks, WrittenMarks};
 ghost use Rattle.sat_finish.specs.Parts.{hub_part, kept_part, part_number, written_part};
 ghost use Rattle.sat_finish.specs.Partings.{joint_at};
-ghost use Rattle.sat_finish.specs.Walking.{HasNames, IsStray, IsWalked, IsWalkedAll, IsWalkedAt, IsWalkedFar};
+ghost use Rattle.sat_finish.specs.Walking.{AreMarks, HasNames, IsStray, IsWalked, IsWalkedAll, IsWalkedAt, IsWalkedFar};
 ghost use Rattle.sat_finish.specs.Walking.{IsWalkedGear, IsWalkedGears, IsWalkedSite};
 
-use crate::gear_parts::{kept_parts, stray, written_parts};
+use crate::gear_parts::{handed_parts, kept_parts, stray, written_parts};
 use crate::hub_parts::hub_parts;
 use crate::joint::Joint;
+use crate::nodes::{gear_at, hub_at};
 use crate::part::Part;
+use crate::site_marks::{Marks, marks_at, marks_handed};
 use sat_act::Deployment;
 use sat_apart::first_apart;
 use sat_label::NodeName;
@@ -88,7 +92,9 @@ fn of_hub<N: Laid, W: Names>(
     number: u16,
     hub: &Held<HubNode<N>, W>,
     gear: &Held<GearNode<N>, W>,
+    marks: &[usize],
 ) -> Result<Option<Parting>, AllocError>
+    requires { HubMarks hub.now.node.entries marks.now }
     ensures { IfOk result (λ o. IsWalked (named.Site site) (named.Gear site number)
         (flat_map (hub_part d.now site number) hub.now.node.entries)
         (flat_map (kept_part site number None) gear.now.node.entries) o) }
@@ -97,7 +103,7 @@ fn of_hub<N: Laid, W: Names>(
     let node = gear.node();
     let _ = home.lamport();
     let _ = node.lamport();
-    let left = hub_parts(alloc, d, site, number, home.journal())?;
+    let left = hub_parts(alloc, d, site, number, home.journal(), marks)?;
     let right = kept_parts(alloc, site, None, node.journal())?;
     walked(
         NodeName::Site(site),
@@ -116,7 +122,11 @@ fn of_gear<N: Laid, W: Names>(
     other: u16,
     home: &Held<GearNode<N>, W>,
     gear: &Held<GearNode<N>, W>,
+    written: &[usize],
+    handed: &[usize],
 ) -> Result<Option<Parting>, AllocError>
+    requires written { WrittenMarks home.now.node.entries written.now }
+    requires handed { HandedMarks gear.now.node.entries handed.now }
     ensures { IfOk result (λ o. IsWalked (named.Gear site other) (named.Gear site number)
         (flat_map (written_part d.now site other number) home.now.node.entries)
         (flat_map (kept_part site number (Some other)) gear.now.node.entries) o) }
@@ -125,8 +135,8 @@ fn of_gear<N: Laid, W: Names>(
     let node = gear.node();
     let _ = first.lamport();
     let _ = node.lamport();
-    let left = written_parts(alloc, d, site, other, number, first.journal())?;
-    let right = kept_parts(alloc, site, Some(other), node.journal())?;
+    let left = written_parts(alloc, d, site, other, number, first.journal(), written)?;
+    let right = handed_parts(alloc, site, other, node.journal(), handed)?;
     walked(
         NodeName::Gear { site, gear: other },
         NodeName::Gear { site, gear: number },
@@ -177,49 +187,6 @@ fn of_strays<N: Laid, W: Names>(
 
 // ---- all of them
 
-// The hub of a site. No cluster has another node there.
-fn hub_at<'a, N: Laid, W: Names>(
-    hubs: &'a [Held<HubNode<N>, W>],
-    site: u16,
-) -> Result<&'a Held<HubNode<N>, W>, AllocError>
-    ensures there { IfOk result (λ h. slice_get hubs.now site ≡ Some h.now) }
-    ensures name { IfOk result (λ h. h.now.node.name ≡ named.Site site) }
-{
-    match hubs.get(usize::from(site)) {
-        None => Err(AllocError),
-        Some(held) => {
-            if held.node().name().is_same(&NodeName::Site(site)) {
-                Ok(held)
-            } else {
-                Err(AllocError)
-            }
-        }
-    }
-}
-
-// The gear of a number of a site, of which each has so many. No cluster has another node there.
-fn gear_at<'a, N: Laid, W: Names>(
-    gears: &'a [Held<GearNode<N>, W>],
-    count: u16,
-    site: u16,
-    gear: u16,
-) -> Result<&'a Held<GearNode<N>, W>, AllocError>
-    ensures there { IfOk result (λ h. slice_get gears.now (site * count + gear) ≡ Some h.now) }
-    ensures name { IfOk result (λ h. h.now.node.name ≡ named.Gear site gear) }
-{
-    let place = usize::from(site) * usize::from(count) + usize::from(gear);
-    match gears.get(place) {
-        None => Err(AllocError),
-        Some(held) => {
-            if held.node().name().is_same(&NodeName::Gear { site, gear }) {
-                Ok(held)
-            } else {
-                Err(AllocError)
-            }
-        }
-    }
-}
-
 // A gear and its hub.
 fn at_hub<N: Laid, W: Names>(
     alloc: Global,
@@ -228,13 +195,15 @@ fn at_hub<N: Laid, W: Names>(
     gears: &[Held<GearNode<N>, W>],
     site: u16,
     gear: u16,
+    marks: &Marks,
 ) -> Result<Option<Parting>, AllocError>
-    requires { HasNames d.now hubs.now gears.now }
+    requires names { HasNames d.now hubs.now gears.now }
+    requires marks { AreMarks hubs.now gears.now site marks.now }
     ensures { IfOk result (λ o. IsWalkedAt d.now hubs.now gears.now site gear None o) }
 {
     let hub = hub_at(hubs, site)?;
     let own = gear_at(gears, d.gears(), site, gear)?;
-    of_hub(alloc, d, site, gear, hub, own)
+    of_hub(alloc, d, site, gear, hub, own, marks.hub.as_slice())
 }
 
 // A gear and another one of its site.
@@ -246,14 +215,31 @@ fn at_gear<N: Laid, W: Names>(
     site: u16,
     gear: u16,
     home: u16,
+    marks: &Marks,
+    handed: &[usize],
 ) -> Result<Option<Parting>, AllocError>
-    requires { HasNames d.now hubs.now gears.now }
+    requires names { HasNames d.now hubs.now gears.now }
+    requires marks { AreMarks hubs.now gears.now site marks.now }
+    requires handed { HandedMarks (entries_at (named.Gear site gear) gears.now) handed.now }
     ensures { IfOk result (λ o. IsWalkedAt d.now hubs.now gears.now site gear (Some home) o) }
 {
     let _ = hubs.len();
     let other = gear_at(gears, d.gears(), site, home)?;
     let own = gear_at(gears, d.gears(), site, gear)?;
-    of_gear(alloc, d, site, gear, home, other, own)
+    let Some(written) = marks.gears.get(usize::from(home)) else {
+        return Err(AllocError);
+    };
+    of_gear(
+        alloc,
+        d,
+        site,
+        gear,
+        home,
+        other,
+        own,
+        written.as_slice(),
+        handed,
+    )
 }
 
 // A gear and all gears of its site, itself among them.
@@ -264,12 +250,26 @@ fn at_gears<N: Laid, W: Names>(
     gears: &[Held<GearNode<N>, W>],
     site: u16,
     gear: u16,
+    marks: &Marks,
 ) -> Result<Option<Parting>, AllocError>
-    requires { HasNames d.now hubs.now gears.now }
+    requires names { HasNames d.now hubs.now gears.now }
+    requires marks { AreMarks hubs.now gears.now site marks.now }
     ensures { IfOk result (λ o. IsWalkedGears d.now hubs.now gears.now d.now.gears site gear o) }
 {
+    let _ = hubs.len();
+    let handed = marks_handed(alloc, d, hubs, gears, site, gear)?;
     for home in 0..d.gears() {
-        let found = at_gear(alloc, d, hubs, gears, site, gear, home)?;
+        let found = at_gear(
+            alloc,
+            d,
+            hubs,
+            gears,
+            site,
+            gear,
+            home,
+            marks,
+            handed.as_slice(),
+        )?;
         if let Some(parting) = found {
             return Ok(Some(parting));
         }
@@ -302,15 +302,17 @@ fn at_homes<N: Laid, W: Names>(
     gears: &[Held<GearNode<N>, W>],
     site: u16,
     gear: u16,
+    marks: &Marks,
 ) -> Result<Option<Parting>, AllocError>
-    requires { HasNames d.now hubs.now gears.now }
+    requires names { HasNames d.now hubs.now gears.now }
+    requires marks { AreMarks hubs.now gears.now site marks.now }
     ensures { IfOk result (λ o. IsWalkedGear d.now hubs.now gears.now site gear o) }
 {
-    let found = at_hub(alloc, d, hubs, gears, site, gear)?;
+    let found = at_hub(alloc, d, hubs, gears, site, gear, marks)?;
     if let Some(parting) = found {
         return Ok(Some(parting));
     }
-    let found = at_gears(alloc, d, hubs, gears, site, gear)?;
+    let found = at_gears(alloc, d, hubs, gears, site, gear, marks)?;
     if let Some(parting) = found {
         return Ok(Some(parting));
     }
@@ -329,8 +331,9 @@ fn at_site<N: Laid, W: Names>(
     requires site { site < d.now.sites }
     ensures { IfOk result (λ o. IsWalkedSite d.now hubs.now gears.now site o) }
 {
+    let marks = marks_at(alloc, d, hubs, gears, site)?;
     for gear in 0..d.gears() {
-        let found = at_homes(alloc, d, hubs, gears, site, gear)?;
+        let found = at_homes(alloc, d, hubs, gears, site, gear, &marks)?;
         if let Some(parting) = found {
             return Ok(Some(parting));
         }

@@ -1,7 +1,7 @@
 use Rattle.std.proofs.Common.{◌≡◌, ◌++◌, take}
-use Rattle.std.specs.List.{flat_map}
+use Rattle.sat_finish.specs.Marks.{read_at}
 use Rattle.sat_finish.specs.Parts.{written_part}
 use Rattle.sat_finish.proofs.gear_parts.add_written.Given as goal
 
-abbrev pub invariant-loop-kept : goal.invariant-loop-kept
-invariant-loop-kept g l = l.list.items ≡ l.initial.list.items ++ flat_map (written_part l.d l.site l.home l.gear) (take l.kept-index l.journal)
+abbrev pub invariant-loop-mark : goal.invariant-loop-mark
+invariant-loop-mark g l = l.list.items ≡ l.initial.list.items ++ read_at (written_part l.d l.site l.home l.gear) l.journal (take l.mark-index l.marks)

@@ -1,7 +1,7 @@
 use Rattle.std.proofs.Common.{◌≡◌, ◌++◌, take}
-use Rattle.std.specs.List.{flat_map}
+use Rattle.sat_finish.specs.Marks.{read_at}
 use Rattle.sat_finish.specs.Parts.{hub_part}
 use Rattle.sat_finish.proofs.hub_parts.add_parts.Given as goal
 
-abbrev pub invariant-loop-kept : goal.invariant-loop-kept
-invariant-loop-kept g l = l.list.items ≡ l.initial.list.items ++ flat_map (hub_part l.d l.site l.gear) (take l.kept-index l.journal)
+abbrev pub invariant-loop-mark : goal.invariant-loop-mark
+invariant-loop-mark g l = l.list.items ≡ l.initial.list.items ++ read_at (hub_part l.d l.site l.gear) l.journal (take l.mark-index l.marks)
