@@ -40,7 +40,8 @@ IsStray n i g es (Some p) =
 -- the marked places of each gear of site i that a list has
 abbrev pub AreGearMarks : List GearHeld → ℕ → List (Vec ℕ) → Type 0
 AreGearMarks gears i list =
-    (h : ℕ) (marks : Vec ℕ) → slice_get list h ≡ Some marks → WrittenMarks (entries_at (named.Gear i h) gears) marks.items
+    (h : ℕ) (marks : Vec ℕ) → slice_get list h ≡ Some marks
+    → WrittenMarks (entries_at (named.Gear i h) gears) marks.items
 
 -- and of its hub
 pub record AreMarks (hubs : List HubHeld) (gears : List GearHeld) (i : ℕ) (marks : Marks) : Type 0 where

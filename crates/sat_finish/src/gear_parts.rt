@@ -28,8 +28,8 @@ use std::alloc::{AllocError, Global};
 
 // ---- at another gear, which is the home
 
-/// The parts of a gear in the journal of another gear of its site, the home, the oldest first. It reads the marked places
-/// alone.
+/// The parts of a gear in the journal of another gear of its site, the home, the oldest first. It reads the marked
+/// places alone.
 pub(crate) fn written_parts<N: Laid>(
     alloc: Global,
     d: &Deployment,

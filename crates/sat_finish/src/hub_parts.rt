@@ -41,7 +41,8 @@ fn add_parts<N: Laid>(
     journal: &[Kept<HubAct<N>, HubAnswer>],
     marks: &[usize],
 ) -> Result<(), AllocError>
-    ensures { OnOk result (list.new.items ≡ list.old.items ++ read_at (hub_part d.now site gear) journal.now marks.now) }
+    ensures { OnOk result (list.new.items
+        ≡ list.old.items ++ read_at (hub_part d.now site gear) journal.now marks.now) }
 {
     for mark in marks {
         add_part_at(list, d, site, gear, journal, *mark)?;

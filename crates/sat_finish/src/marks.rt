@@ -1,8 +1,8 @@
 //! The places of the entries in journals that may tell of parts. A walk of all pairs of nodes at a site reads these
 //! alone, so that it takes each journal whole only once.
 ghost use Rattle.std.specs.Prelude.{◌≡◌, ◌&&◌, IfOk, OnOk};
-ghost use Rattle.sat_finish.specs.Marks.{HandedMarks, HubMarks, WrittenMarks, gear_tells, hub_tells, is_handed, is_shown};
-ghost use Rattle.sat_finish.specs.Marks.{is_written, noted};
+ghost use Rattle.sat_finish.specs.Marks.{HandedMarks, HubMarks, WrittenMarks, gear_tells, hub_tells, is_handed};
+ghost use Rattle.sat_finish.specs.Marks.{is_shown, is_written, noted};
 
 use crate::gear_parts::is_own;
 use sat_act::Answer;
