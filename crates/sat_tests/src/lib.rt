@@ -19,8 +19,6 @@ mod lasting;
 #[cfg(test)]
 mod living;
 #[cfg(test)]
-mod lossy;
-#[cfg(test)]
 mod outside;
 #[cfg(test)]
 mod parts;

@@ -1,95 +1,29 @@
 //! Three sites and two serializers, each a host, and sessions at them. What carries the hosts' messages is a list that
 //! is gone through in an order of its own: some are passed over, some are handed twice, and all are asked for again. In
 //! the end all journals, merged, are a script, of which `run` prints what the hosts answered.
-ghost use Rattle.std.specs.Prelude.{◌≡◌, ◌<◌, false, length, IfOk};
+ghost use Rattle.std.specs.Prelude.{◌≡◌, ◌<◌, false, length};
 ghost use Rattle.sat_machines.specs.Acts.{is_clients};
 
-use sat_act::{Answer, ClientLine, Deployment, Entries, Entry, Item, Plan, Refusal};
+use crate::shared::{ALBUM, PHOTO, TREE, WAYS, deployment, is_run};
+use sat_act::{Answer, Deployment, Entries, Refusal};
 use sat_host::{
     Host, Hosts, Received, act_at_site, kill_at_serializer, receive_at_serializer, receive_at_site,
 };
-use sat_label::{Name, SiteSet, Value};
+use sat_label::Value;
 use sat_machines::{Laid, SerialNode, SiteAct, SiteNode};
 use sat_message::Message;
 use sat_node::{CallFault, Machine};
 use sat_opened::{serial_entries, site_entries};
-use sat_outside::CleanSink;
-use sat_report::write_line;
-use sat_script::write_script;
 use sat_session::Session;
 use sat_site::SiteInput;
 use sat_stitch::{Journal, stitch};
-use sat_top::still_in_memory;
-use sat_tree::Tree;
 use std::alloc::{AllocError, Global};
 use std::marker::Brand;
 use std::test::Fail;
 
-const PHOTO: u16 = 0;
-
-const ALBUM: u16 = 1;
-
-// ---- the deployment
-
-fn name(alloc: Global, text: &[u8]) -> Result<Name, Fail> {
-    let name = Name::of(alloc, text)?.ok_or("no name")?;
-    Ok(name)
-}
-
-// The photo is kept at the sites 0 and 1, the album at 1 and 2.
-fn items(alloc: Global) -> Result<Vec<Item>, Fail>
-    ensures { IfOk result (λ items. length items.items ≡ 2) }
-{
-    let mut items = Vec::new(alloc);
-    items.push(Item {
-        name: name(alloc, b"photo")?,
-        replicas: SiteSet { bits: 3 },
-    })?;
-    items.push(Item {
-        name: name(alloc, b"album")?,
-        replicas: SiteSet { bits: 6 },
-    })?;
-    Ok(items)
-}
-
-// A client at each site.
-fn clients(alloc: Global) -> Result<Vec<ClientLine>, Fail>
-    ensures { IfOk result (λ clients. length clients.items ≡ 3) }
-{
-    let mut clients = Vec::new(alloc);
-    clients.push(ClientLine {
-        name: name(alloc, b"ann")?,
-        site: 0,
-    })?;
-    clients.push(ClientLine {
-        name: name(alloc, b"bob")?,
-        site: 1,
-    })?;
-    clients.push(ClientLine {
-        name: name(alloc, b"cid")?,
-        site: 2,
-    })?;
-    Ok(clients)
-}
-
-// The sites 0 and 1 sit at serializer 0, and site 2 at serializer 1 below it.
-fn deployment(alloc: Global) -> Result<Deployment, Fail>
-    ensures clients { IfOk result (λ d. length d.clients ≡ 3) }
-    ensures items { IfOk result (λ d. length d.items ≡ 2) }
-{
-    let tree = Tree::new(alloc, &[None, Some(0)], &[0, 0, 1])?;
-    let mut plans = Vec::new(alloc);
-    plans.push(Plan::Tree(tree))?;
-    let items = items(alloc)?;
-    let clients = clients(alloc)?;
-    let deployment = Deployment::new(alloc, 1, 3, 1, items, clients, plans)?;
-    Ok(deployment)
-}
-
 // ---- the transport
 
-// A way from one node to another, with the number of its link at each: the nodes 0 to 2 are the sites, 3 and 4 the
-// serializers.
+// A way from one node to another, with the number of its link at each.
 #[derive(Clone, Copy)]
 struct Way {
     from: usize,
@@ -97,24 +31,6 @@ struct Way {
     to: usize,
     into: usize,
 }
-
-// At a site first the other sites in order and then its tree; at a serializer its sites and then its serializers.
-const WAYS: [(usize, usize, usize, usize); 14] = [
-    (0, 0, 1, 0),
-    (0, 1, 2, 0),
-    (1, 0, 0, 0),
-    (1, 1, 2, 1),
-    (2, 0, 0, 1),
-    (2, 1, 1, 1),
-    (0, 2, 3, 0),
-    (1, 2, 3, 1),
-    (2, 2, 4, 0),
-    (3, 0, 0, 2),
-    (3, 1, 1, 2),
-    (3, 2, 4, 1),
-    (4, 0, 2, 2),
-    (4, 1, 3, 2),
-];
 
 #[derive(Drop)]
 struct Posted {
@@ -352,35 +268,7 @@ fn merged<N: Laid>(alloc: Global, hosts: &Hosts<N>) -> Result<Entries, AllocErro
     stitch(alloc, journals.as_slice())
 }
 
-// What `run` prints of a script.
-fn ran(alloc: Global, script: Vec<u8>) -> Result<CleanSink, Fail> {
-    let mut words = Vec::new(alloc);
-    words.push(String::from_str(alloc, "run")?)?;
-    let (_, sink) = still_in_memory(alloc, words.as_slice(), script, 4096, 65_536)?;
-    Ok(sink)
-}
-
-// Whether `run` answers the acts of the hosts as these did.
-fn is_run(alloc: Global, d: &Deployment, all: &[Entry]) -> Result<bool, Fail> {
-    let mut acts = Vec::new(alloc);
-    let mut report = Vec::new(alloc);
-    let mut number = 0u64;
-    for entry in all {
-        number = number.wrapping_add(1);
-        acts.push(entry.act.copy()?)?;
-        write_line(d, number, &entry.act, &entry.answer, &mut report)?;
-    }
-    report.extend_from_slice(b"holdings\n")?;
-    let mut script = Vec::new(alloc);
-    write_script(d, acts.as_slice(), &mut script)?;
-    let sink = ran(alloc, script)?;
-    Ok(sink.held().starts_with(report.as_slice()))
-}
-
 // ---- the run
-
-// The link of the tree at each site, behind those of the other sites.
-const TREE: usize = 2;
 
 // How many labels each node took: the sites and then the serializers, which take nothing else.
 fn labels<N: Laid>(alloc: Global, hosts: &Hosts<N>) -> Result<Vec<u64>, AllocError> {

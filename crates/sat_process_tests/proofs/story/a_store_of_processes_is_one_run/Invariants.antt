@@ -1,4 +1,4 @@
-use Rattle.sat_tests.proofs.lossy.what_is_lost_doubled_and_out_of_order_comes_at_last.Given as goal
+use Rattle.sat_process_tests.proofs.story.a_store_of_processes_is_one_run.Given as goal
 
 -- the deployment that was just made
 abbrev pub ghosts-run : goal.ghosts-run
