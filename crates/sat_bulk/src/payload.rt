@@ -148,6 +148,15 @@ fn copy_group(of: &Box<Group>) -> Result<Box<Group>, AllocError>
     make_group(alloc, of.label, parts)
 }
 
+// The first of some parts.
+fn first_part(parts: Vec<Option<Version>>) -> Option<Version>
+    requires { 0 < length parts.items }
+    ensures { result ≡ get_or parts.items 0 None }
+{
+    let mut parts = parts;
+    parts[0].take()
+}
+
 impl Payload {
     /// The payload of an update with this label, which gives copies of these values to its items.
     #[tactic(auto, using(crate::proofs::Payloads::made_labels, crate::proofs::Payloads::made_payload))]
@@ -251,6 +260,18 @@ impl Payload {
                     kept: Kept::Many(group),
                 })
             }
+        }
+    }
+
+    /// The version of the first of its items, None where it is not there. It takes no memory.
+    #[tactic(auto, using(crate::proofs::Payloads::taken_at))]
+    pub fn into_first(self) -> Option<Version>
+        requires { 0 < length self.values }
+        ensures { result ≡ version_in self 0 }
+    {
+        match self.kept {
+            Kept::One(version) => Some(version),
+            Kept::Many(group) => first_part(Box::into_inner(group).parts),
         }
     }
 

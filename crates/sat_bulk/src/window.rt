@@ -191,9 +191,9 @@ impl Window {
         self.mark(number)
     }
 
-    // Takes the number at the front.
+    /// Takes the number at the front. It takes no memory.
     #[tactic(auto, using(crate::proofs::Marks::advanced, crate::proofs::Marks::rises_front))]
-    fn advance(&mut self)
+    pub fn advance(&mut self)
         requires { self.old.front + 1 < 2 ^ 64 }
         ensures { self.new ≡ settled (self.old.front + 1) self.old.above }
     {

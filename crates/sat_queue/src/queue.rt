@@ -106,6 +106,7 @@ impl<T: Copy> Queue<T> {
     }
 
     /// Takes the front member out, None where the queue is empty. It takes no memory.
+    #[inline(always)]
     pub fn take(&mut self) -> Option<T>
         ensures member { self.old.members ≡ option_to_list result ++ self.new.members }
         ensures rest { self.new.members ≡ drop 1 self.old.members }
