@@ -1,6 +1,6 @@
 -- What waits of a site in the queues of its gears and beside them.
-use Rattle.std.specs.Prelude.{◌≡◌, ◌⊎◌, ◌<◌, ◌≤◌, ◌+◌, ℕ, zero, suc, Bool, true, false, not, cond, List, [], ◌∷◌, ◌++◌, length, get_or, set, take, map, Option, Some, None, if◌then◌else◌, refl}
-use Rattle.std.specs.Prelude.{is_some, OnOk, OnErr}
+use Rattle.std.specs.Prelude.{◌≡◌, ◌⊎◌, ◌<◌, ◌≤◌, ◌+◌, ◌&&◌, ℕ, zero, suc, Bool, true, false, not, cond, List, [], ◌∷◌, ◌++◌, length, get_or, set, take, map, Option, Some, None, if◌then◌else◌, refl}
+use Rattle.std.specs.Prelude.{is_some, IfNone, IfSome, OnOk, OnErr, OnSome}
 use Rattle.std.specs.Option.{option_or}
 use Rattle.std.proofs.Common.{arith, sym, ◌∙◌, ap, subst, inl, inr, Result, Ok, Err}
 use Rattle.std.proofs.lemmas.Bool.{cases_eq, cases_lt, false_from_ne_true}
@@ -15,11 +15,12 @@ use Rattle.sat_label.proofs.Least.{least-append, least-is, least-nil, least-none
 use Rattle.sat_label.proofs.Members.{In-left, In-right, In-parts}
 use Rattle.sat_label.proofs.Orders.{gears-not_eq, labels-lt, lt-not_eq, point_lt-trans, same-point}
 use Rattle.sat_bulk.specs.Payloads.{Payload}
-use Rattle.sat_pool.specs.Pool.{at_point, labelled, placed, without}
-use Rattle.sat_pool.specs.Rows.{first_label, flat, placed_all, row_view, sets_first, stands_at, Ascends, IsKept, IsParts, MayStand, SameQueues}
+use Rattle.sat_pool.specs.Pool.{at_point, labelled, placed, row_after_take_of, row_waiting_of, without}
+use Rattle.sat_pool.specs.Rows.{first_label, flat, placed_all, row_view, sets_first, stands_at, stands_below, Ascends, IsKept, IsParts, MayStand, SameQueues}
 use Rattle.sat_pool.specs.Places.{AreBelow}
 use Rattle.sat_pool.proofs.Firsts.{least-first}
 use Rattle.sat_pool.proofs.Keyed.{lt-by, placed-ascends, placed-in, without-ascends, without-none}
+use Rattle.sat_pool.proofs.Labels.{found_of}
 use Rattle.sat_pool.proofs.Members.{at-in, eq-turned, in-at, in-placed-new, in-row, in-without, none-at, point-self, row-in, without-in, Place}
 use Rattle.sat_pool.proofs.Places.{none-there, on-ascends}
 
@@ -559,6 +560,19 @@ queue_some queues g was lt e = sym (e ∙ get_or_default queues g was [] lt)
 pub queue_none : (queues : List (List Payload)) (g : ℕ) → length queues ≤ g → get_or queues g [] ≡ []
 queue_none queues g le = get_or_past queues g [] le
 
+-- of a queue whose front may be taken
+pub take_front_rows : (queues : List (List Payload)) (g : ℕ) (q : Point) (was new : List Payload) (r : Option Payload) → was ≡ get_or queues g was → OnSome r (new ≡ without was q) → OnSome r (set queues g new ≡ set queues g (without (get_or queues g []) q))
+take_front_rows queues g q was new None e n = tt
+take_front_rows queues g q was new (Some x) e n = take_rows queues g q was new e n
+
+pub left_front_rows : (queues : List (List Payload)) (g : ℕ) (was new : List Payload) (r : Option Payload) → was ≡ get_or queues g was → IfNone r (new ≡ was) → IfNone r (set queues g new ≡ queues)
+left_front_rows queues g was new None e n = ap (set queues g) n ∙ set-was queues g was e
+left_front_rows queues g was new (Some x) e n = tt
+
+pub found_front : (queues : List (List Payload)) (g : ℕ) (q : Point) (was : List Payload) (r : Option Payload) → g < length queues → was ≡ get_or queues g was → IfSome r (λ p. Some p ≡ at_point was q) → IfSome r (λ p. Some p ≡ at_point (get_or queues g []) q)
+found_front queues g q was None lt e f = tt
+found_front queues g q was (Some x) lt e f = f ∙ ap (λ (ps : List Payload). at_point ps q) (sym (queue_some queues g was lt e))
+
 -- taken out of a queue, or from among the others
 pub record Out (queues after : List (List Payload)) (others aside : List Payload) (q : Point) (o : Option Payload) : Type 0 where
   pub parts : IsParts after aside
@@ -577,20 +591,57 @@ out_aside queues after others aside q None u is e f none g h =
     let k : TakenOut queues after others aside q = taken_out queues after others aside q is f h in
     record { parts = k.parts; found = found_or queues others q None u is e g; view = k.view }
 
--- ---- the first is kept
+-- the front of its gear's queue, which is that of a label
+pub record Front (queues after : List (List Payload)) (others : List Payload) (l : Label) (r : Option Payload) : Type 0 where
+  pub parts : IsParts after others
+  pub found : r ≡ row_waiting_of (row_view queues others) l
+  pub view : row_view after others ≡ row_after_take_of (row_view queues others) l (row_waiting_of (row_view queues others) l)
 
-pub kept_stays : (queues after : List (List Payload)) (others aside : List Payload) (f : Option Label) → IsKept queues others f → IsParts after aside → row_view after aside ≡ row_view queues others → IsKept after aside f
-kept_stays queues after others aside f is parts e = record { parts = parts; first = is.first ∙ ap first_label (sym e) }
+pub out_front : (queues after : List (List Payload)) (others : List Payload) (l : Label) (r : Option Payload) → IsParts queues others → IfSome r (λ p. Some p ≡ at_point (get_or queues l.point.gear []) l.point) → IfSome r (λ p. p.label ≡ l) →
+    OnSome r (after ≡ set queues l.point.gear (without (get_or queues l.point.gear []) l.point)) → is_some r ≡ true → Front queues after others l r
+out_front queues after others l None is found same new some = absurd (cc)
+out_front queues after others l (Some p) is found same new some =
+    let out : Out queues after others others l.point (Some p) = out_queued queues after others l.point (Some p) is found new some in
+    let of : Some p ≡ row_waiting_of (row_view queues others) l = found_of (row_view queues others) l p out.found same in
+    record { parts = out.parts; found = of; view = out.view ∙ ap (row_after_take_of (row_view queues others) l) of }
 
-pub kept_put : (queues after : List (List Payload)) (others aside : List Payload) (f n : Option Label) (p : Payload) → IsKept queues others f → IsParts after aside → row_view after aside ≡ placed (row_view queues others) p → n ≡ sets_first f p.label → IsKept after aside n
-kept_put queues after others aside f n p is parts e w = record {
+-- ---- the first is kept, where it is known
+
+pub kept_stays : (queues after : List (List Payload)) (others aside : List Payload) (f : Option Label) (k : Bool) → IsKept queues others f k → IsParts after aside → row_view after aside ≡ row_view queues others → IsKept after aside f k
+kept_stays queues after others aside f k is parts e = record { parts = parts; first = λ t. is.first t ∙ ap first_label (sym e) }
+
+pub kept_put : (queues after : List (List Payload)) (others aside : List Payload) (f n : Option Label) (k : Bool) (p : Payload) → IsKept queues others f k → IsParts after aside → row_view after aside ≡ placed (row_view queues others) p → n ≡ sets_first f p.label → IsKept after aside n k
+kept_put queues after others aside f n k p is parts e w = record {
   parts = parts;
-  first = w ∙ (ap (λ (o : Option Label). sets_first o p.label) is.first ∙ (first_set (row_view queues others) p ∙ ap first_label (sym e)));
+  first = λ t. w ∙ (ap (λ (o : Option Label). sets_first o p.label) (is.first t) ∙ (first_set (row_view queues others) p ∙ ap first_label (sym e)));
 }
 
-pub kept_out : (queues after : List (List Payload)) (others aside : List Payload) (f n : Option Label) (q : Point) → IsKept queues others f → IsParts after aside → row_view after aside ≡ without (row_view queues others) q → n ≡ (if stands_at f q then first_label (row_view after aside) else f) → IsKept after aside n
-kept_out queues after others aside f n q is parts e w = record { parts = parts; first = w ∙ go (stands_at f q) refl }
+-- behind the first
+stays-first : (f : Option Label) (l : Label) → stands_below f l.point ≡ true → f ≡ sets_first f l
+stays-first None l e = absurd (cc)
+stays-first (Some m) l e = sym (ap (λ (b : Bool). if b then Some m else Some l) e)
+
+below-first : (k b : Bool) → (k && not b) ≡ false → k ≡ true → b ≡ true
+below-first true true e t = refl
+below-first true false e t = absurd (cc)
+below-first false b e t = absurd (cc)
+
+pub kept_behind : {X : Type 0} (queues after : List (List Payload)) (others aside : List Payload) (f : Option Label) (k : Bool) (p : Payload) (r : Result X Payload) → IsKept queues others f k → IsParts after aside → OnOk r (row_view after aside ≡ placed (row_view queues others) p) → OnErr r (row_view after aside ≡ row_view queues others) →
+    (k && not (stands_below f p.label.point)) ≡ false → IsKept after aside f k
+kept_behind queues after others aside f k p (Ok x) is parts ok err behind = record {
+  parts = parts;
+  first = λ t. (kept_put queues after others aside f f k p is parts ok (stays-first f p.label (below-first k (stands_below f p.label.point) behind t))).first t;
+}
+kept_behind queues after others aside f k p (Err x) is parts ok err behind = kept_stays queues after others aside f k is parts err
+
+pub kept_out : (queues after : List (List Payload)) (others aside : List Payload) (f n : Option Label) (k : Bool) (q : Point) → IsKept queues others f k → IsParts after aside → row_view after aside ≡ without (row_view queues others) q → n ≡ (if stands_at f q then first_label (row_view after aside) else f) → IsKept after aside n k
+kept_out queues after others aside f n k q is parts e w = record { parts = parts; first = λ t. w ∙ go t (stands_at f q) refl }
   where
-    go : (b : Bool) → stands_at f q ≡ b → (if b then first_label (row_view after aside) else f) ≡ first_label (row_view after aside)
-    go true s = refl
-    go false s = is.first ∙ (first_left (row_view queues others) q (ap (λ (o : Option Label). stands_at o q) (sym is.first) ∙ s) ∙ ap first_label (sym e))
+    go : k ≡ true → (b : Bool) → stands_at f q ≡ b → (if b then first_label (row_view after aside) else f) ≡ first_label (row_view after aside)
+    go t true s = refl
+    go t false s = is.first t ∙ (first_left (row_view queues others) q (ap (λ (o : Option Label). stands_at o q) (sym (is.first t)) ∙ s) ∙ ap first_label (sym e))
+
+-- where it is forgotten, it may be any
+pub kept_not : (queues : List (List Payload)) (others : List Payload) (f : Option Label) (k : Bool) → IsParts queues others → k ≡ false → IsKept queues others f k
+kept_not queues others f true parts e = absurd (cc)
+kept_not queues others f false parts e = record { parts = parts; first = λ t. absurd (cc) }

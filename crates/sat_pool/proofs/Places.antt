@@ -1,18 +1,19 @@
 -- The queue of a gear: where a point is found in it, and what waits after one comes or is taken.
 use Rattle.std.specs.Prelude.{◌≡◌, ◌⊎◌, ◌<◌, ◌≤◌, ◌+◌, ◌-◌, ℕ, zero, suc, Bool, true, false, not, cond, List, [], ◌∷◌, ◌++◌, length, get_or, drop, remove, slice_get, Option, Some, None, is_some, option_copied, ◌↔◌, if◌then◌else◌, refl}
 use Rattle.std.specs.Bool.{OnTrue}
-use Rattle.std.specs.Option.{IfSome, OnSome}
+use Rattle.std.specs.Option.{IfNone, IfSome, OnSome}
 use Rattle.std.proofs.Common.{arith, sym, ◌∙◌, ap, subst, inl, inr, Bor}
 use Rattle.std.proofs.lemmas.Bool.{cases_lt, false_from_ne_true}
 use Rattle.sat_label.specs.declared.point.Point.{Point}
+use Rattle.sat_label.specs.declared.label.Label.{Label}
 use Rattle.sat_label.specs.Order.{point_lt, point_eq}
 use Rattle.sat_label.specs.Members.{In}
 use Rattle.sat_label.proofs.Members.{In-parts}
-use Rattle.sat_label.proofs.Orders.{lt-not_eq, point_lt-trans, same-point}
+use Rattle.sat_label.proofs.Orders.{lt-not_eq, point_lt-trans, same-label, same-point}
 use Rattle.sat_bulk.specs.Payloads.{Payload}
 use Rattle.sat_pool.specs.Pool.{at_point, without}
 use Rattle.sat_pool.specs.Rows.{Ascends}
-use Rattle.sat_pool.specs.Places.{if_at, place_of, AreBelow}
+use Rattle.sat_pool.specs.Places.{if_at, is_labelled, place_of, AreBelow}
 use Rattle.sat_pool.proofs.Keyed.{without-ascends, without-none, without-others}
 use Rattle.sat_pool.proofs.Members.{none-at, point-self}
 
@@ -187,6 +188,34 @@ take_misses ps seen q k up same at e = sym (none-there-is (if_at (slice_get ps k
 pub take_leaves : (ps seen : List Payload) (q : Point) (k : ℕ) → Ascends ps → ps ≡ seen → k ≡ place_of ps q → is_some (if_at (slice_get ps k) q) ≡ false → seen ≡ without seen q
 take_leaves ps seen q k up same at e =
     sym (without-none seen q (none-at seen q (sym (take_misses ps seen q k up same at e))))
+
+-- ---- the first, if it is that of a label
+
+labelled-at : (o : Option Payload) (l : Label) → is_labelled o l ≡ true → is_some (if_at o l.point) ≡ true
+labelled-at None l e = absurd (cc)
+labelled-at (Some p) l e = ap (λ (b : Bool). is_some (if b then Some p else None)) (subst (λ (m : Label). point_eq p.label.point m.point ≡ true) (same-label p.label l e) (point-self p.label.point))
+
+pub labelled_same : (o r : Option Payload) (l : Label) → r ≡ o → is_labelled o l ≡ true → IfSome r (λ p. p.label ≡ l)
+labelled_same o None l e is = tt
+labelled_same None (Some p) l e is = absurd (cc)
+labelled_same (Some x) (Some p) l e is = (let s : p ≡ x = cc in ap (λ (y : Payload). y.label) s) ∙ same-label x.label l is
+
+pub labelled_found : (ps seen : List Payload) (l : Label) (r : Option Payload) → Ascends ps → ps ≡ seen → is_labelled (slice_get ps 0) l ≡ true → r ≡ slice_get ps 0 → IfSome r (λ p. Some p ≡ at_point seen l.point)
+labelled_found ps seen l None up same is e = tt
+labelled_found ps seen l (Some p) up same is e = first_found ps seen l.point (Some p) up same (labelled-at (slice_get ps 0) l is) e
+
+pub labelled_left : (ps seen new : List Payload) (l : Label) → Ascends ps → ps ≡ seen → is_labelled (slice_get ps 0) l ≡ true → new ≡ drop 1 ps → new ≡ without seen l.point
+labelled_left ps seen new l up same is n = first_done ps seen new l.point up same (labelled-at (slice_get ps 0) l is) n
+
+pub labelled_done : (ps seen new : List Payload) (l : Label) (r : Option Payload) → Ascends ps → ps ≡ seen → is_labelled (slice_get ps 0) l ≡ true → new ≡ drop 1 ps → OnSome r (new ≡ without seen l.point)
+labelled_done ps seen new l None up same is n = tt
+labelled_done ps seen new l (Some p) up same is n = labelled_left ps seen new l up same is n
+
+-- one was there
+pub labelled_some : (ps seen new : List Payload) (l : Label) (r : Option Payload) → is_labelled (slice_get ps 0) l ≡ true → r ≡ slice_get ps 0 → IfNone r (new ≡ seen)
+labelled_some ps seen new l (Some p) is e = tt
+labelled_some [] seen new l None is e = absurd (cc)
+labelled_some (p ∷ ps) seen new l None is e = absurd (cc)
 
 -- ---- after one comes
 

@@ -12,9 +12,10 @@ use Rattle.sat_label.specs.Members.{In}
 use Rattle.sat_label.specs.Least.{least_label, lesser}
 use Rattle.sat_label.proofs.Least.{least-append}
 use Rattle.sat_bulk.specs.Payloads.{Payload}
-use Rattle.sat_pool.specs.Pool.{Waiting, row_of, all_waiting, labelled, labels_waiting, at_point, waiting_at, is_before, least_before, has_ts_to, has_up_to, placed, without, after_add, after_take, IsRow, IsPool}
+use Rattle.sat_pool.specs.Pool.{Waiting, row_of, all_waiting, labelled, labels_waiting, at_point, waiting_at, is_before, least_before, has_ts_to, has_up_to, placed, without, row_waiting_of, row_after_take_of, after_add, after_take, IsRow, IsPool}
 use Rattle.sat_pool.specs.Rows.{IsKeptPool, OfOneSite}
 use Rattle.sat_pool.proofs.Firsts.{row-site}
+use Rattle.sat_pool.proofs.Labels.{took}
 use Rattle.sat_pool.proofs.Members.{in-row, in-own, none-pool, none-all, add-pool, add-length, again-length, take-none, take-pool, take-length}
 
 abbrev waits : List (List Payload) → Waiting
@@ -165,3 +166,13 @@ taken_kept rows n q was r p is lt e new some =
     let k : length (all_waiting (after_take (waits rows) q)) + 1 ≡ length (all_waiting (waits rows)) = take-length (waits rows) q p is.pool (at-own rows q was (Some p) lt e some) in
     let c : n ≡ length (all_waiting (waits rows)) = is.counts in
     subst (λ (w : Waiting). IsKeptPool w (n - 1)) (sym (after-gone rows q was r lt e new)) (record { pool = take-pool (waits rows) q is.pool; counts = omega arith })
+
+-- the same by labels
+pub label_waits : (rows : List (List Payload)) (n : ℕ) (l : Label) (was r : List Payload) (p : Payload) → IsKeptPool (record { rows = rows }) n → l.point.site < length rows → was ≡ get_or rows l.point.site was → r ≡ row_after_take_of was l (row_waiting_of was l) → Some p ≡ row_waiting_of was l → 1 ≤ n
+label_waits rows n l was r p is lt e new some = one_waits rows n l.point was p is lt e (took was r l p some new).0
+
+pub label_taken_kept : (rows : List (List Payload)) (n : ℕ) (l : Label) (was r : List Payload) (p : Payload) → IsKeptPool (record { rows = rows }) n → l.point.site < length rows → was ≡ get_or rows l.point.site was → r ≡ row_after_take_of was l (row_waiting_of was l) → Some p ≡ row_waiting_of was l →
+    IsKeptPool (record { rows = set rows l.point.site r }) (n - 1)
+label_taken_kept rows n l was r p is lt e new some =
+    let k : (Some p ≡ at_point was l.point) × (r ≡ without was l.point) = took was r l p some new in
+    taken_kept rows n l.point was r p is lt e k.1 k.0

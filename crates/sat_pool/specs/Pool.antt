@@ -47,6 +47,10 @@ waiting_at w q = at_point (row_of w q.site) q
 abbrev pub waiting_of : Waiting → Label → Option Payload
 waiting_of w l = elim (waiting_at w l.point) [ None ↦ None | Some p ↦ if label_eq p.label l then Some p else None ]
 
+-- of one site's payloads that of a label, so that `waiting_of w l` is that of its site
+abbrev pub row_waiting_of : List Payload → Label → Option Payload
+row_waiting_of ps l = elim (at_point ps l.point) [ None ↦ None | Some p ↦ if label_eq p.label l then Some p else None ]
+
 -- whether a label is not past the close cut of its site, if one is given
 abbrev pub is_before : List (Option Point) → Label → Bool
 is_before closes l = elim (get_or closes l.point.site None) [ None ↦ true | Some p ↦ point_le l.point p ]
@@ -74,6 +78,11 @@ placed (q ∷ qs) p = if point_lt p.label.point q.label.point then p ∷ q ∷ q
 -- those without this point
 abbrev pub without : List Payload → Point → List Payload
 without ps q = filter (λ p. not (point_eq p.label.point q)) ps
+
+-- those of one site without the payload of a label, if it was there
+abbrev pub row_after_take_of : List Payload → Label → Option Payload → List Payload
+row_after_take_of ps l None = ps
+row_after_take_of ps l (Some p) = without ps l.point
 
 -- one payload more waits
 abbrev pub after_add : Waiting → Payload → Waiting

@@ -1,5 +1,5 @@
 -- What is kept of the updates that wait: queues of those that came in order, a map from points to payloads of the
--- others, the first label, and how many there are.
+-- others, the first label where it is known, and how many there are.
 use Rattle.std.specs.Prelude.{ℕ, ◌≡◌, ◌<◌, Bool, true, false, List, [], ◌∷◌, get_or, length, map, Option, Some, None}
 use Rattle.std.specs.Prelude.{if◌then◌else◌}
 use Rattle.std.specs.List.{flat_map}
@@ -64,10 +64,10 @@ pub record IsParts (queues : List (List Payload)) (others : List Payload) : Type
   pub apart : (g : ℕ) (x y : Payload) → In (get_or queues g []) x → In others y
       → point_eq x.label.point y.label.point ≡ false
 
--- the first label is kept
-pub record IsKept (queues : List (List Payload)) (others : List Payload) (kept : Option Label) : Type 0 where
+-- the first label is kept, where it is known
+pub record IsKept (queues : List (List Payload)) (others : List Payload) (kept : Option Label) (knows : Bool) : Type 0 where
   pub parts : IsParts queues others
-  pub first : kept ≡ first_label (row_view queues others)
+  pub first : knows ≡ true → kept ≡ first_label (row_view queues others)
 
 -- the same waits in them
 pub record SameQueues (queues after : List (List Payload)) : Type 0 where
@@ -84,6 +84,11 @@ pub record MayStand (queues : List (List Payload)) (others : List Payload) (q : 
 abbrev pub stands_at : Option Label → Point → Bool
 stands_at None q = false
 stands_at (Some l) q = point_eq l.point q
+
+-- whether a label, if there is one, is below a point
+abbrev pub stands_below : Option Label → Point → Bool
+stands_below None q = false
+stands_below (Some l) q = point_lt l.point q
 
 -- the first label, once one more came
 abbrev pub sets_first : Option Label → Label → Option Label

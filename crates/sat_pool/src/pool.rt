@@ -1,7 +1,5 @@
 //! What waits of all sites.
-ghost use Rattle.std.specs.Prelude.{◌≡◌, ◌<◌, [], is_some, length, map, replicate, true, option_copied, IfOk, IfErr};
-ghost use Rattle.std.specs.Prelude.{OnOk, OnErr};
-ghost use Rattle.std.specs.Bool.{OnTrue};
+ghost use Rattle.std.specs.Prelude.{◌≡◌, ◌<◌, [], length, map, replicate, option_copied, IfOk, IfErr, OnOk, OnErr};
 ghost use Rattle.sat_label.specs.Least.{least_label};
 ghost use Rattle.sat_pool.specs.Pool as waits;
 ghost use Rattle.sat_pool.specs.Rows.{first_label, OfOneSite};
@@ -14,7 +12,9 @@ use std::marker::Model;
 
 /// The updates that wait at a site for their turn, by the site that made them and their points. No call walks what
 /// waits: the least of a site is its first, and a count is kept. Only where the payloads of a gear are not taken in the
-/// order of their points, as those of a gear's labels are, does one that is taken move others of its gear.
+/// order of their points, as those of a gear's labels are, does one that is taken move others of its gear. Where the
+/// first of a site was taken, the next one is looked for among its gears once it is asked for, and
+/// [`look`](Pool::look) has it at hand for all that ask.
 #[derive(Drop)]
 pub struct Pool {
     rows: Vec<Row>,
@@ -78,6 +78,15 @@ fn least_of_all(rows: &[Row], closes: &[Option<Point>]) -> Option<Label>
         least = lesser(least, least_of(row, closes));
     }
     least
+}
+
+// Looks for the first label of each site that is not known.
+fn look_at_all(rows: &mut Vec<Row>)
+    ensures { rows.new.items ≡ rows.old.items }
+{
+    'sites: for site in 0..rows.len() {
+        rows[site].look();
+    }
 }
 
 // Whether a label with a timestamp up to this one waits.
@@ -156,40 +165,25 @@ impl Pool {
         Some(taken)
     }
 
-    // Whether a label is that of the first of its site.
-    fn is_first(&self, label: &Label) -> bool
-        ensures { OnTrue result (is_some (waits.waiting_of self.now label.now) ≡ true) }
-    {
-        match self.first(label.point.site) {
-            None => false,
-            Some(first) => first.is_same(label),
-        }
-    }
-
-    // Whether the payload of a label waits. Mostly it is the first of its site, which is at hand.
-    #[tactic(auto, using(crate::proofs::Labels::of_none, crate::proofs::Labels::of_some))]
-    fn has_label(&self, label: &Label) -> bool
-        ensures { result ≡ is_some (waits.waiting_of self.now label.now) }
-    {
-        if self.is_first(label) {
-            return true;
-        }
-        match self.get(&label.point) {
-            None => false,
-            Some(waiting) => waiting.label().is_same(label),
-        }
-    }
-
-    /// Takes the payload of a label, if it waits. It takes no memory.
-    #[tactic(auto, using(crate::proofs::Labels::is_there, crate::proofs::Labels::not_there))]
+    /// Takes the payload of a label, if it waits. It takes no memory, and looks for no first label of its site.
     pub fn take_if(&mut self, label: &Label) -> Option<Payload>
         ensures found { result ≡ waits.waiting_of self.old label.now }
         ensures new { self.new ≡ waits.after_take_of self.old label.now (waits.waiting_of self.old label.now) }
     {
-        if !self.has_label(label) {
+        if label.point.site as usize >= self.rows.len() {
             return None;
         }
-        self.take(&label.point)
+        let row = &mut self.rows[label.point.site as usize];
+        let taken = row.take_if(label)?;
+        self.count -= 1;
+        Some(taken)
+    }
+
+    /// Looks for the first label of each site that is not known, so that it is at hand. It takes no memory.
+    pub fn look(&mut self)
+        ensures { self.new ≡ self.old }
+    {
+        look_at_all(&mut self.rows);
     }
 
     /// The least waiting label that is not past the close cut of its site. `closes` has a place for each site; where it

@@ -1,12 +1,12 @@
 //! What waits of one gear, where it came in the order of its points.
 ghost use Rattle.std.specs.Prelude.{◌≡◌, ◌++◌, ◌∷◌, ◌<◌, [], drop, length, is_some, option_copied, remove, slice_get};
-ghost use Rattle.std.specs.Prelude.{IfErr, OnErr, OnOk, Some};
+ghost use Rattle.std.specs.Prelude.{IfErr, IfNone, IfSome, OnErr, OnOk, OnSome, Some};
 ghost use Rattle.std.specs.Bool.{OnTrue};
 ghost use Rattle.std.specs.VecDeque.{deque_capacity, deque_len};
 ghost use Rattle.sat_label.specs.Order.{point_lt};
 ghost use Rattle.sat_pool.specs.Pool.{at_point, without};
 ghost use Rattle.sat_pool.specs.Rows.{first_label, Ascends};
-ghost use Rattle.sat_pool.specs.Places.{if_at, place_of, AreBelow};
+ghost use Rattle.sat_pool.specs.Places.{if_at, is_labelled, place_of, AreBelow};
 
 use sat_bulk::Payload;
 use sat_label::{Label, Point};
@@ -69,6 +69,17 @@ fn waits_at(waiting: &VecDeque<Payload>, place: usize, point: &Point) -> bool
     match payload_at(waiting, place) {
         None => false,
         Some(payload) => if_at(payload, point).is_some(),
+    }
+}
+
+// Whether the first is the payload of a label.
+#[inline(always)]
+fn starts_with(waiting: &VecDeque<Payload>, label: &Label) -> bool
+    ensures { result ≡ is_labelled (slice_get waiting.now.items 0) label.now }
+{
+    match payload_at(waiting, 0) {
+        None => false,
+        Some(payload) => payload.label().is_same(label),
     }
 }
 
@@ -237,6 +248,20 @@ impl Rising {
             return None;
         }
         take_at(&mut self.waiting, place)
+    }
+
+    /// Takes the first, if it is the payload of a label. It looks at no other one, and takes no memory.
+    #[inline(always)]
+    pub fn take_first_if(&mut self, label: &Label) -> Option<Payload>
+        ensures found { IfSome result (λ p. Some p ≡ at_point self.old label.now.point) }
+        ensures same { IfSome result (λ p. p.label ≡ label.now) }
+        ensures new { OnSome result (self.new ≡ without self.old label.now.point) }
+        ensures none { IfNone result (self.new ≡ self.old) }
+    {
+        if !starts_with(&self.waiting, label) {
+            return None;
+        }
+        take_first(&mut self.waiting)
     }
 
     /// The label of the first, which is the least.

@@ -1,13 +1,13 @@
 //! What waits of one site.
-ghost use Rattle.std.specs.Prelude.{◌≡◌, [], get_or, map, nat_le, option_copied, set, None, if◌then◌else◌, IfOk, IfErr};
-ghost use Rattle.std.specs.Prelude.{OnOk, OnErr};
+ghost use Rattle.std.specs.Prelude.{◌≡◌, ◌&&◌, [], get_or, is_some, map, nat_le, not, option_copied, set, None, Some};
+ghost use Rattle.std.specs.Prelude.{if◌then◌else◌, IfOk, IfErr, IfNone, IfSome, OnOk, OnErr, OnSome};
 ghost use Rattle.std.specs.Bool.{OnTrue};
 ghost use Rattle.std.specs.List.{list_any};
 ghost use Rattle.sat_label.specs.Least.{lesser};
 ghost use Rattle.sat_label.specs.Order.{point_le};
-ghost use Rattle.sat_pool.specs.Pool.{at_point, labelled, placed, without};
-ghost use Rattle.sat_pool.specs.Rows.{first_label, row_view, sets_first, stands_at, Ascends, IsParts, MayStand};
-ghost use Rattle.sat_pool.specs.Rows.{SameQueues};
+ghost use Rattle.sat_pool.specs.Pool.{at_point, labelled, placed, row_after_take_of, row_waiting_of, without};
+ghost use Rattle.sat_pool.specs.Rows.{first_label, row_view, sets_first, stands_at, stands_below, Ascends, IsParts};
+ghost use Rattle.sat_pool.specs.Rows.{MayStand, SameQueues};
 
 use crate::others::Others;
 use crate::rising::Rising;
@@ -17,12 +17,14 @@ use std::alloc::{AllocError, Global};
 use std::marker::Model;
 
 /// The payloads of one site's updates that wait, by their points: for each gear those that came in order, beside them
-/// the others, and the first label of all. Contracts see the list of the payloads.
+/// the others, and the first label of all, while `knows` says so: once it was taken, the next one is not looked for
+/// before it is asked for, since turns by tree never ask. Contracts see the list of the payloads.
 #[derive(Drop)]
 pub struct Row {
     rising: Vec<Rising>,
     others: Others,
     first: Option<Label>,
+    knows: bool,
 }
 
 impl Model for Row {
@@ -34,7 +36,7 @@ impl Model for Row {
 
     ghost view = { λ a. row_view a.rising.items a.others };
 
-    ghost invariant = { λ a. IsKept a.rising.items a.others a.first };
+    ghost invariant = { λ a. IsKept a.rising.items a.others a.first a.knows };
 }
 
 // The lesser of two labels, of which each may be missing.
@@ -65,6 +67,24 @@ fn stands_at(label: Option<Label>, point: &Point) -> bool
         None => false,
         Some(label) => label.point.is_same(point),
     }
+}
+
+// Whether a label, if there is one, is below a point.
+fn stands_below(label: &Option<Label>, point: &Point) -> bool
+    ensures { result ≡ stands_below label.now point.now }
+{
+    match label {
+        None => false,
+        Some(label) => label.point.is_below(point),
+    }
+}
+
+// Whether the first label, if it is known, is another one once a payload of this point came.
+#[inline(always)]
+fn may_lead(knows: bool, first: &Option<Label>, point: &Point) -> bool
+    ensures { result ≡ (knows && not (stands_below first.now point.now)) }
+{
+    knows && !stands_below(first, point)
 }
 
 // The first label, once one more came.
@@ -130,6 +150,23 @@ fn take_rising(rising: &mut Vec<Rising>, point: &Point) -> Option<Payload>
     }
     let queue = &mut rising[point.gear as usize];
     queue.take(point)
+}
+
+// Takes the first out of its gear's queue, if it is the payload of a label.
+#[inline(always)]
+fn take_front(rising: &mut Vec<Rising>, label: &Label) -> Option<Payload>
+    ensures found { IfSome result (λ p. Some p
+        ≡ at_point (get_or rising.old.items label.now.point.gear []) label.now.point) }
+    ensures same { IfSome result (λ p. p.label ≡ label.now) }
+    ensures new { OnSome result (rising.new.items ≡ set rising.old.items label.now.point.gear
+        (without (get_or rising.old.items label.now.point.gear []) label.now.point)) }
+    ensures none { IfNone result (rising.new.items ≡ rising.old.items) }
+{
+    if label.point.gear as usize >= rising.len() {
+        return None;
+    }
+    let queue = &mut rising[label.point.gear as usize];
+    queue.take_first_if(label)
 }
 
 // Puts a payload at the end of its gear's queue.
@@ -230,7 +267,8 @@ fn take_out(rising: &mut Vec<Rising>, others: &mut Others, point: &Point) -> Opt
     others.remove(point)
 }
 
-// The first label of all: the least.
+// The first label of all: the least. A call of its own, since it is seldom made.
+#[inline(never)]
 #[tactic(auto, using(crate::proofs::Parts::first_start, crate::proofs::Parts::first_more, crate::proofs::Parts::first_whole))]
 fn first_of(rising: &[Rising], others: &Others) -> Option<Label>
     requires { IsParts rising.now others.now }
@@ -269,12 +307,27 @@ impl Row {
             rising: Vec::new(alloc),
             others: Others::new(alloc),
             first: None,
+            knows: true,
         }
     }
 
     /// One payload more waits; one that waited at its point comes back. For want of memory the payload itself does, and
     /// all is as before.
     pub fn insert(&mut self, payload: Payload) -> Result<Option<Payload>, Payload>
+        ensures before { IfOk result (λ before. before ≡ at_point self.old payload.label.point) }
+        ensures ok { OnOk result (self.new ≡ placed self.old payload) }
+        ensures back { IfErr result (λ back. back ≡ payload) }
+        ensures err { OnErr result (self.new ≡ self.old) }
+    {
+        if may_lead(self.knows, &self.first, &payload.label().point) {
+            return self.insert_first(payload);
+        }
+        put(&mut self.rising, &mut self.others, payload)
+    }
+
+    // The same, where it may become the first. A call of its own, since mostly it does not.
+    #[inline(never)]
+    fn insert_first(&mut self, payload: Payload) -> Result<Option<Payload>, Payload>
         ensures before { IfOk result (λ before. before ≡ at_point self.old payload.label.point) }
         ensures ok { OnOk result (self.new ≡ placed self.old payload) }
         ensures back { IfErr result (λ back. back ≡ payload) }
@@ -296,22 +349,86 @@ impl Row {
         }
     }
 
-    /// Takes the payload that waits at a point. It takes no memory.
+    /// Takes the payload that waits at a point. It takes no memory. The first label is looked for, if that one was it.
     pub fn remove(&mut self, point: &Point) -> Option<Payload>
         ensures found { result ≡ at_point self.old point.now }
         ensures new { self.new ≡ without self.old point.now }
     {
         let taken = take_out(&mut self.rising, &mut self.others, point);
+        if !self.knows {
+            return taken;
+        }
         self.first = first_left(self.first, &self.rising, &self.others, point);
         taken
     }
 
-    /// The first label, which is the least.
+    /// Takes the payload of a label, if it waits: mostly it is the first of its gear's queue. It takes no memory, and
+    /// looks for no first label.
+    pub fn take_if(&mut self, label: &Label) -> Option<Payload>
+        ensures found { result ≡ row_waiting_of self.old label.now }
+        ensures new { self.new ≡ row_after_take_of self.old label.now (row_waiting_of self.old label.now) }
+    {
+        let front = take_front(&mut self.rising, label);
+        if front.is_some() {
+            self.knows = false;
+            return front;
+        }
+        self.take_behind(label)
+    }
+
+    // Takes the payload of a label, wherever it stands. A call of its own, since it is seldom made.
+    #[inline(never)]
+    #[tactic(auto, using(crate::proofs::Labels::is_there, crate::proofs::Labels::not_there))]
+    fn take_behind(&mut self, label: &Label) -> Option<Payload>
+        ensures found { result ≡ row_waiting_of self.old label.now }
+        ensures new { self.new ≡ row_after_take_of self.old label.now (row_waiting_of self.old label.now) }
+    {
+        if !self.has_label(label) {
+            return None;
+        }
+        self.take(&label.point)
+    }
+
+    // Whether the payload of a label waits.
+    #[tactic(auto, using(crate::proofs::Labels::of_none, crate::proofs::Labels::of_some))]
+    fn has_label(&self, label: &Label) -> bool
+        ensures { result ≡ is_some (row_waiting_of self.now label.now) }
+    {
+        match self.get(&label.point) {
+            None => false,
+            Some(waiting) => waiting.label().is_same(label),
+        }
+    }
+
+    // Takes the payload that waits at a point, and looks for no first label.
+    fn take(&mut self, point: &Point) -> Option<Payload>
+        ensures found { result ≡ at_point self.old point.now }
+        ensures new { self.new ≡ without self.old point.now }
+    {
+        self.knows = false;
+        take_out(&mut self.rising, &mut self.others, point)
+    }
+
+    /// Looks for the first label if it is not known, so that it is at hand.
+    pub fn look(&mut self)
+        ensures { self.new ≡ self.old }
+    {
+        if self.knows {
+            return;
+        }
+        self.first = first_of(self.rising.as_slice(), &self.others);
+        self.knows = true;
+    }
+
+    /// The first label, which is the least. Where it is not at hand, each call looks for it.
     pub fn first(&self) -> Option<Label>
         ensures first { result ≡ first_label self.now }
         ensures ascends { Ascends self.now }
     {
-        self.first
+        if self.knows {
+            return self.first;
+        }
+        first_of(self.rising.as_slice(), &self.others)
     }
 
     /// Whether a label with a point up to this one waits.
