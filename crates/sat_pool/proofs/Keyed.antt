@@ -1,5 +1,5 @@
 -- A map of payloads under their points against the list of the payloads.
-use Rattle.std.specs.Prelude.{◌≡◌, ◌⊎◌, ◌||◌, ◌&&◌, ◌==◌, Bool, true, false, not, nat_lt, cond, List, [], ◌∷◌, Option, Some, if◌then◌else◌, refl}
+use Rattle.std.specs.Prelude.{◌≡◌, ◌⊎◌, ◌||◌, ◌&&◌, ◌==◌, Bool, true, false, not, nat_lt, cond, List, [], ◌∷◌, length, Option, Some, None, if◌then◌else◌, refl}
 use Rattle.std.specs.Ordering.{match_ordering, ordering_then}
 use Rattle.std.specs.declared.cmp.Ordering.TheVariants.{Less, Equal, Greater}
 use Rattle.std.specs.BTreeMap.{is_at, insert_entry}
@@ -151,3 +151,8 @@ removed_kept es new q is e = kept-by new (without (values_of es) q) (is-without 
 
 pub removed_seen : (es new : List (Point × Payload)) (q : Point) → IsKeptRow es → new ≡ remove_entry (is_at (point_cmp q)) es → values_of new ≡ without (values_of es) q
 removed_seen es new q is e = seen-by new (without (values_of es) q) (is-without es new q is e)
+
+-- where the map is empty
+pub empty_none : (entries : List (Point × Payload)) (seen : List Payload) (q : Point) → values_of entries ≡ seen → length entries ≡ 0 → None ≡ at_point seen q
+empty_none [] seen q e n = ap (λ (ps : List Payload). at_point ps q) e
+empty_none (x ∷ entries) seen q e n = absurd (cc)

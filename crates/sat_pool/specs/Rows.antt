@@ -65,7 +65,8 @@ pub record IsParts (queues : List (List Payload)) (others : List Payload) : Type
       → point_eq x.label.point y.label.point ≡ false
 
 -- the first label is kept, where it is known
-pub record IsKept (queues : List (List Payload)) (others : List Payload) (kept : Option Label) (knows : Bool) : Type 0 where
+pub record IsKept (queues : List (List Payload)) (others : List Payload) (kept : Option Label) (knows : Bool)
+    : Type 0 where
   pub parts : IsParts queues others
   pub first : knows ≡ true → kept ≡ first_label (row_view queues others)
 

@@ -70,7 +70,19 @@ impl Others {
     }
 
     /// The payload that waits at a point. It takes no memory.
+    #[inline(always)]
     pub fn get(&self, point: &Point) -> Option<&Payload>
+        ensures { option_copied result ≡ at_point self.now point.now }
+    {
+        if self.waiting.is_empty() {
+            return None;
+        }
+        self.find(point)
+    }
+
+    // The same, where some wait. A call of its own, since mostly none does.
+    #[inline(never)]
+    fn find(&self, point: &Point) -> Option<&Payload>
         ensures { option_copied result ≡ at_point self.now point.now }
     {
         self.waiting.get(point)

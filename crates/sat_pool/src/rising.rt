@@ -38,6 +38,7 @@ impl Model for Rising {
 }
 
 // Whether a payload's point is below another.
+#[inline(always)]
 fn is_below(payload: &Payload, point: &Point) -> bool
     ensures { result ≡ point_lt payload.now.label.point point.now }
 {
@@ -192,6 +193,7 @@ impl Rising {
     }
 
     /// Whether a point is above those of all that wait.
+    #[inline(always)]
     pub fn is_past(&self, point: &Point) -> bool
         ensures { OnTrue result (AreBelow self.now point.now) }
     {
@@ -202,6 +204,7 @@ impl Rising {
     }
 
     /// A payload whose point is above all waits behind them. For want of memory it comes back, and all is as before.
+    #[inline(always)]
     pub fn push(&mut self, payload: Payload) -> Result<(), Payload>
         requires { AreBelow self.old payload.label.point }
         ensures ok { OnOk result (self.new ≡ self.old ++ payload ∷ []) }

@@ -70,6 +70,7 @@ fn stands_at(label: Option<Label>, point: &Point) -> bool
 }
 
 // Whether a label, if there is one, is below a point.
+#[inline(always)]
 fn stands_below(label: &Option<Label>, point: &Point) -> bool
     ensures { result ≡ stands_below label.now point.now }
 {
@@ -120,6 +121,7 @@ fn make_queues(rising: &mut Vec<Rising>, gear: u16) -> Result<(), AllocError>
 
 // Whether a payload may stand at the end of its gear's queue: its point is above all there, and none of the others has
 // it.
+#[inline(always)]
 #[tactic(auto, using(crate::proofs::Parts::may_stand))]
 fn goes_on(rising: &Vec<Rising>, others: &Others, point: &Point) -> bool
     ensures { OnTrue result (MayStand rising.now.items others.now point.now) }
@@ -169,10 +171,17 @@ fn take_front(rising: &mut Vec<Rising>, label: &Label) -> Option<Payload>
     queue.take_first_if(label)
 }
 
-// Puts a payload at the end of its gear's queue.
-fn push(rising: &mut Vec<Rising>, others: &Others, payload: Payload) -> Result<(), Payload>
+// Puts a payload of this point at the end of its gear's queue.
+#[inline(always)]
+fn push(
+    rising: &mut Vec<Rising>,
+    others: &Others,
+    point: &Point,
+    payload: Payload,
+) -> Result<(), Payload>
+    requires point { point.now ≡ payload.label.point }
     requires parts { IsParts rising.old.items others.now }
-    requires may { MayStand rising.old.items others.now payload.label.point }
+    requires may { MayStand rising.old.items others.now point.now }
     ensures parts { IsParts rising.new.items others.now }
     ensures before { at_point (row_view rising.old.items others.now) payload.label.point ≡ None }
     ensures ok { OnOk result (row_view rising.new.items others.now
@@ -181,11 +190,12 @@ fn push(rising: &mut Vec<Rising>, others: &Others, payload: Payload) -> Result<(
     ensures err { OnErr result (row_view rising.new.items others.now
         ≡ row_view rising.old.items others.now) }
 {
-    let queue = &mut rising[payload.label().point.gear as usize];
+    let queue = &mut rising[point.gear as usize];
     queue.push(payload)
 }
 
-// Puts a payload among the others; one that waited at its point comes back.
+// Puts a payload among the others; one that waited at its point comes back. A call of its own, since it is seldom made.
+#[inline(never)]
 fn put_aside(
     rising: &mut Vec<Rising>,
     others: &mut Others,
@@ -223,15 +233,17 @@ fn store(
     ensures err { OnErr result (row_view rising.new.items others.new
         ≡ row_view rising.old.items others.old) }
 {
-    if goes_on(rising, others, &payload.label().point) {
-        push(rising, others, payload)?;
+    let point = payload.label().point;
+    if goes_on(rising, others, &point) {
+        push(rising, others, &point, payload)?;
         return Ok(None);
     }
     put_aside(rising, others, payload)
 }
 
-// The same, where it may have none.
-fn put(
+// The same, where it may have none. A call of its own, since mostly it has one, at whose end the payload may stand.
+#[inline(never)]
+fn put_anywhere(
     rising: &mut Vec<Rising>,
     others: &mut Others,
     payload: Payload,
@@ -250,6 +262,32 @@ fn put(
         return Err(payload);
     }
     store(rising, others, payload)
+}
+
+// The same of a payload of this point: mostly at the end of its gear's queue, which is there.
+#[inline(always)]
+fn put(
+    rising: &mut Vec<Rising>,
+    others: &mut Others,
+    point: &Point,
+    payload: Payload,
+) -> Result<Option<Payload>, Payload>
+    requires point { point.now ≡ payload.label.point }
+    requires parts { IsParts rising.old.items others.old }
+    ensures parts { IsParts rising.new.items others.new }
+    ensures before { IfOk result (λ before. before
+        ≡ at_point (row_view rising.old.items others.old) payload.label.point) }
+    ensures ok { OnOk result (row_view rising.new.items others.new
+        ≡ placed (row_view rising.old.items others.old) payload) }
+    ensures back { IfErr result (λ back. back ≡ payload) }
+    ensures err { OnErr result (row_view rising.new.items others.new
+        ≡ row_view rising.old.items others.old) }
+{
+    if goes_on(rising, others, point) {
+        push(rising, others, point, payload)?;
+        return Ok(None);
+    }
+    put_anywhere(rising, others, payload)
 }
 
 // Takes the payload at a point out.
@@ -313,16 +351,18 @@ impl Row {
 
     /// One payload more waits; one that waited at its point comes back. For want of memory the payload itself does, and
     /// all is as before.
+    #[inline(always)]
     pub fn insert(&mut self, payload: Payload) -> Result<Option<Payload>, Payload>
         ensures before { IfOk result (λ before. before ≡ at_point self.old payload.label.point) }
         ensures ok { OnOk result (self.new ≡ placed self.old payload) }
         ensures back { IfErr result (λ back. back ≡ payload) }
         ensures err { OnErr result (self.new ≡ self.old) }
     {
-        if may_lead(self.knows, &self.first, &payload.label().point) {
+        let point = payload.label().point;
+        if may_lead(self.knows, &self.first, &point) {
             return self.insert_first(payload);
         }
-        put(&mut self.rising, &mut self.others, payload)
+        put(&mut self.rising, &mut self.others, &point, payload)
     }
 
     // The same, where it may become the first. A call of its own, since mostly it does not.
@@ -334,7 +374,7 @@ impl Row {
         ensures err { OnErr result (self.new ≡ self.old) }
     {
         let label = payload.label();
-        let before = put(&mut self.rising, &mut self.others, payload)?;
+        let before = put(&mut self.rising, &mut self.others, &label.point, payload)?;
         self.first = first_with(self.first, label);
         Ok(before)
     }
