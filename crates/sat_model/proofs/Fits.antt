@@ -57,7 +57,9 @@ use Rattle.sat_model.proofs.Simple.{view-agrees}
 use Rattle.sat_model.proofs.Ranges.{made-has-kind}
 use Rattle.sat_model.proofs.Writing.{parts-all, values-many}
 use Rattle.sat_model.proofs.Times.{made-ends, sent-ends, cut-ends, cut-site, carried-all, carried-ends, greatest-ends}
-use Rattle.sat_model.proofs.OnLinks.{entered-leads}
+use Rattle.sat_model.specs.World.{link_left}
+use Rattle.sat_model.proofs.OnLinks.{entered-leads, In-drop}
+use Rattle.sat_model.proofs.Parts.{link-agrees}
 
 -- ---- over plain values
 
@@ -202,20 +204,29 @@ kind-fits d h j l v run has s = go l.kind refl has
     go kind.Pulse w b = refl
     go (kind.Close f) w b = eq-eqb f (site_state d h j).views.view (sym (close-epoch d h l.point.site (view h j) f l v run s w) ∙ sym (view-agrees d h j run))
 
+-- a label that was put on the link to a site, in the epoch that it views
+link-fits : (d : Deployed) (h : List Entry) (j : ℕ) (l : Label) (t : TreeShape) (z : NodeId) → IsValid d → IsRun d h → z ≡ Serializer (seat_of t j) → In (entered d h (view h j) t z (Site j)) l → is_front d j (site_state d h j) l ≡ true
+link-fits d h j l t z v run w m =
+    let q : SentIn h l.point.site (view h j) l × IsOnLink d t z (Site j) l = entered-leads d h (view h j) t z (Site j) l run m in
+    let s : Sent h l.point.site l = sent-in h l.point.site (view h j) l q.0 in
+    let g : goes_beyond d t (Serializer (seat_of t j)) (Site j) l ≡ true = subst (λ (n : NodeId). goes_beyond d t n (Site j) l ≡ true) w q.1.target in
+    and_from _ _ (le-leb l.point.ts TS_END (sent-ends d h l.point.site l run s))
+    (and_from _ _ (other-site d j l.point.site q.1.site (target-other d h j l run s (front-target d t j l g))) (kind-fits d h j l v run q.1.kind q.0))
+
+-- one that stands there still
+pub left-fits : (d : Deployed) (h : List Entry) (j : ℕ) (l : Label) (t : TreeShape) → IsValid d → IsRun d h → tree_of d (view h j) ≡ Some t → In (link_left d h (view h j) (Serializer (seat_of t j)) (Site j)) l → is_front d j (site_state d h j) l ≡ true
+left-fits d h j l t v run is m =
+    link-fits d h j l t (Serializer (seat_of t j)) v run refl
+    (In-drop (taken d h (view h j) (Serializer (seat_of t j)) (Site j)) (entered d h (view h j) t (Serializer (seat_of t j)) (Site j)) l
+    (subst (λ (ls : List Label). In ls l) (link-agrees d h (view h j) t (Serializer (seat_of t j)) (Site j) is) m))
+
 pub front-fits : (d : Deployed) (h : List Entry) (j : ℕ) (l : Label) → IsValid d → IsRun d h → turn_front d h j ≡ Some l → is_front d j (site_state d h j) l ≡ true
 unfolding turn_front link_front
 front-fits d h j l v run e = tree (tree_of d (view h j)) refl e
   where
-    leads : (t : TreeShape) (z : NodeId) → z ≡ Serializer (seat_of t j) → SentIn h l.point.site (view h j) l × IsOnLink d t z (Site j) l → is_front d j (site_state d h j) l ≡ true
-    leads t z w q =
-        let s : Sent h l.point.site l = sent-in h l.point.site (view h j) l q.0 in
-        let g : goes_beyond d t (Serializer (seat_of t j)) (Site j) l ≡ true = subst (λ (n : NodeId). goes_beyond d t n (Site j) l ≡ true) w q.1.target in
-        and_from _ _ (le-leb l.point.ts TS_END (sent-ends d h l.point.site l run s))
-        (and_from _ _ (other-site d j l.point.site q.1.site (target-other d h j l run s (front-target d t j l g))) (kind-fits d h j l v run q.1.kind q.0))
-
     node : (t : TreeShape) → tree_of d (view h j) ≡ Some t → (o : Option NodeId) → seat_in d (view h j) j ≡ o → elim o [ None ↦ None | Some z ↦ slice_get (entered d h (view h j) t z (Site j)) (taken d h (view h j) z (Site j)) ] ≡ Some l → is_front d j (site_state d h j) l ≡ true
     node t k None s e = absurd (cc)
-    node t k (Some z) s e = leads t z (seat-is d (view h j) j t z k s) (entered-leads d h (view h j) t z (Site j) l run (In-get (entered d h (view h j) t z (Site j)) (taken d h (view h j) z (Site j)) l e))
+    node t k (Some z) s e = link-fits d h j l t z v run (seat-is d (view h j) j t z k s) (In-get (entered d h (view h j) t z (Site j)) (taken d h (view h j) z (Site j)) l e)
 
     tree : (o : Option TreeShape) → tree_of d (view h j) ≡ o → elim o [ None ↦ None | Some t ↦ elim (seat_in d (view h j) j) [ None ↦ None | Some z ↦ slice_get (entered d h (view h j) t z (Site j)) (taken d h (view h j) z (Site j)) ] ] ≡ Some l → is_front d j (site_state d h j) l ≡ true
     tree None k e = absurd (cc)

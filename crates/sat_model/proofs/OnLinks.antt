@@ -19,7 +19,7 @@ use Rattle.sat_model.specs.Laws.{LinksLead}
 use Rattle.sat_model.proofs.Parts.{link-agrees}
 use Rattle.sat_model.proofs.Ranges.{sent-range, sent-has-kind}
 
-In-drop : {X : Type 0} (n : ℕ) (xs : List X) (x : X) → In (drop n xs) x → In xs x
+pub In-drop : {X : Type 0} (n : ℕ) (xs : List X) (x : X) → In (drop n xs) x → In xs x
 In-drop zero xs x m = m
 In-drop (suc n) [] x m = m
 In-drop (suc n) (y ∷ xs) x m = inr (In-drop n xs x m)
