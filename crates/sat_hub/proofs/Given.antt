@@ -122,6 +122,18 @@ pub shown-guest : (w x : HubSeen) (front : Option Label) (r : Option (Bor Payloa
 shown-guest w x front None same k e = tt
 shown-guest w x front (Some p) same k e = subst (λ (y : HubSeen). IsGuest y.shape p.now) same (k.proxy.waiting p.now (shows-waits w.views w.proxy front p.now (sym e)))
 
+-- ---- what the payload of a label is, and leaves
+
+pub front-from : (w x : HubSeen) (l : Label) → w ≡ x → IsHub w → IsFront x l → l.point.site < w.proxy.sites
+front-from w x l same k f = subst (λ (n : ℕ). l.point.site < n) (sym k.proxy.sites) (subst (λ (y : HubSeen). IsFront y l) (sym same) f).from
+
+pub front-guest : (w x : HubSeen) (l : Label) (o : Option Payload) → w ≡ x → IsHub w → o ≡ made.waiting_of w.proxy.pool l → IfSome o (λ p. IsGuest x.shape p)
+front-guest w x l None same k e = tt
+front-guest w x l (Some p) same k e = subst (λ (y : HubSeen). IsGuest y.shape p) same (k.proxy.waiting p (found w.proxy.pool l p (sym e)).there)
+
+pub front-after : (w x : HubSeen) (l : Label) (p : ProxySeen) → w ≡ x → p ≡ made.shown_after w.proxy l (made.waiting_of w.proxy.pool l) → record w { proxy = p } ≡ record x { proxy = made.shown_after x.proxy l (made.waiting_of x.proxy.pool l) }
+front-after w x l p same e = (λ j. record w { proxy = e j }) ∙ ap (λ (y : HubSeen). record y { proxy = made.shown_after y.proxy l (made.waiting_of y.proxy.pool l) }) same
+
 -- ---- what a turn shows and leaves
 
 -- a payload that a turn gives is shown

@@ -72,15 +72,19 @@ beat-hub w (Err e) p from n beat k sound new err = proxy-hub w p k (subst (λ (q
 taken-still : (shape : Shape) (p : ProxySeen) (last : List Point) (q : Point) → HasPeers shape p → IsProxy (record p { last = last; pool = after_take p.pool q }) → HasPeers shape (record p { last = last; pool = after_take p.pool q })
 taken-still shape p last q has sound = still shape p (record p { last = last; pool = after_take p.pool q }) has sound refl refl refl (λ x i. (take-in p.pool q x has.sound.pool i).0)
 
+-- where the payload of a label is shown, or none waits
+shown-peers : (shape : Shape) (p : ProxySeen) (l : Label) (o : Option Payload) → HasPeers shape p → IsProxy (made.shown_after p l o) → HasPeers shape (made.shown_after p l o)
+shown-peers shape p l None has sound = has
+shown-peers shape p l (Some x) has sound = taken-still shape p (made.knowing p l).last l.point has sound
+
+pub show-hub : (w : HubSeen) (p : ProxySeen) (l : Label) → IsHub w → IsProxy p → p ≡ made.shown_after w.proxy l (made.waiting_of w.proxy.pool l) → IsHub (record w { proxy = p })
+show-hub w p l k sound new = proxy-hub w p k (subst (λ (q : ProxySeen). HasPeers w.shape q) (sym new) (shown-peers w.shape w.proxy l (made.waiting_of w.proxy.pool l) k.proxy (subst (λ (q : ProxySeen). IsProxy q) new sound)))
+
 turn-peers : (shape : Shape) (views : Epochs) (p : ProxySeen) (front : Option Label) → HasPeers shape p → IsProxy (made.turn_after views p front) → HasPeers shape (made.turn_after views p front)
 turn-peers shape views p front has sound = go (in_stamp views) front sound
   where
-    shown : (l : Label) (o : Option Payload) → IsProxy (made.shown_after p l o) → HasPeers shape (made.shown_after p l o)
-    shown l None sound = has
-    shown l (Some x) sound = taken-still shape p (made.knowing p l).last l.point has sound
-
     kinds : (l : Label) (kind : Kind) → IsProxy (made.front_after p l kind) → HasPeers shape (made.front_after p l kind)
-    kinds l (Update items) sound = shown l (made.waiting_of p.pool l) sound
+    kinds l (Update items) sound = shown-peers shape p l (made.waiting_of p.pool l) has sound
     kinds l (Move j) sound = still shape p (made.knowing p l) has sound refl refl refl (λ x i. i)
     kinds l Pulse sound = still shape p (made.knowing p l) has sound refl refl refl (λ x i. i)
     kinds l (Close e) sound = still shape p (made.knowing p l) has sound refl refl refl (λ x i. i)

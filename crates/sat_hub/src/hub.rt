@@ -16,7 +16,8 @@ ghost use Rattle.sat_sink.specs.Sink.{may_pulse, ready_of};
 ghost use Rattle.sat_model.specs.Interests.{interest_of};
 ghost use Rattle.sat_act.specs.declared.answer.Answer.TheVariants as ans;
 ghost use Rattle.sat_proxy.specs.Proxy.{front_at, window_of, IsProxy};
-ghost use Rattle.sat_proxy.specs.Steps.{after_beat, after_bulk, has_come, stamp_fault, stamp_shows, turn_shows};
+ghost use Rattle.sat_proxy.specs.Steps.{after_beat, after_bulk, has_come, shown_after, stamp_fault, stamp_shows};
+ghost use Rattle.sat_proxy.specs.Steps.{turn_shows, waiting_of};
 ghost use Rattle.sat_proxy.specs.Answers.{advance_answer, attach_answer, beat_answer, bulk_answer, stamp_answer};
 ghost use Rattle.sat_proxy.specs.Answers.{turn_answer};
 ghost use Rattle.sat_hub.specs.Seen.{IsGather, IsGuest, IsHub};
@@ -372,6 +373,23 @@ impl Hub {
         let turned = self.proxy.turn(&mut self.views, front);
         sound(&self.views, &self.proxy);
         turned
+    }
+
+    /// Gives the update of a label, if its payload waits, as `turn` does by tree. It takes no memory; where none waits
+    /// nothing changes.
+    #[inline(always)]
+    pub fn show_front(&mut self, label: &Label) -> Option<Payload>
+        requires front { IsFront self.old label.now }
+        ensures found { result ≡ waiting_of self.old.proxy.pool label.now }
+        ensures guest { IfSome result (λ p. IsGuest self.old.shape p) }
+        ensures after { self.new
+            ≡ record self.old {
+              proxy = shown_after self.old.proxy label.now (waiting_of self.old.proxy.pool label.now);
+            } }
+    {
+        let shown = self.proxy.show_front(label);
+        sound(&self.views, &self.proxy);
+        shown
     }
 
     /// Whether a turn would do something, with this front. It takes no memory.

@@ -440,7 +440,6 @@ impl Proxy {
     }
 
     // Shows the update of a label, if its payload waits.
-    #[tactic(auto, using(crate::proofs::Turns::taken_if, crate::proofs::Turns::stays_if))]
     fn show(&mut self, label: Label) -> Result<Turned, TurnFault>
         requires { label.point.site < self.old.sites }
         ensures fault { MatchResult result (λ _. missing label (waiting_of self.old.pool label) ≡ None)
@@ -449,12 +448,25 @@ impl Proxy {
         ensures new { OnOk result (self.new ≡ shown_after self.old label (waiting_of self.old.pool label)) }
         ensures err { OnErr result (self.new ≡ self.old) }
     {
-        let Some(payload) = self.pool.take_if(&label) else {
+        let Some(payload) = self.show_front(&label) else {
             return Err(TurnFault::NoPayload(label));
         };
-        limits(&self.pool, &self.beats, self.site);
-        know(&mut self.last, &label);
         Ok(Turned::Show(payload))
+    }
+
+    /// Gives the update of a label, if its payload waits, as `turn` does by tree. It takes no memory; where none waits
+    /// nothing changes.
+    #[inline(always)]
+    #[tactic(auto, using(crate::proofs::Turns::taken_if, crate::proofs::Turns::stays_if))]
+    pub fn show_front(&mut self, label: &Label) -> Option<Payload>
+        requires site { label.now.point.site < self.old.sites }
+        ensures found { result ≡ waiting_of self.old.pool label.now }
+        ensures new { self.new ≡ shown_after self.old label.now (waiting_of self.old.pool label.now) }
+    {
+        let payload = self.pool.take_if(label)?;
+        limits(&self.pool, &self.beats, self.site);
+        know(&mut self.last, label);
+        Some(payload)
     }
 
     /// Whether a turn would do something, with this front. It takes no memory.
