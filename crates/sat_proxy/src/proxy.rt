@@ -535,6 +535,27 @@ impl Proxy {
         if !views.in_stamp_mode() {
             return Err(StampFault::TreeOrder);
         }
+        self.look();
+        self.give_next(views)
+    }
+
+    // Has the first label of each site at hand.
+    fn look(&mut self)
+        ensures { self.new ≡ self.old }
+    {
+        self.pool.look();
+    }
+
+    // Gives the update that is next, of a site that goes by timestamp order.
+    fn give_next(&mut self, views: &Views) -> Result<Payload, StampFault>
+        requires views { AreViewsOf self.old views.now }
+        requires stamp { in_stamp views.now ≡ true }
+        ensures fault { MatchResult result (λ _. stamp_fault views.now self.old ≡ None)
+            (λ fault. stamp_fault views.now self.old ≡ Some fault) }
+        ensures shown { IfOk result (λ payload. stamp_shows views.now self.old ≡ Some payload) }
+        ensures new { OnOk result (self.new ≡ stamp_after views.now self.old) }
+        ensures err { OnErr result (self.new ≡ self.old) }
+    {
         let Some(label) = self.next_stamp(views) else {
             return Err(StampFault::NotYet);
         };

@@ -2,7 +2,7 @@ use Rattle.std.proofs.Common.{rules, ◌≡◌, Some, true, sym, ◌∙◌}
 use Rattle.sat_epoch.specs.Epochs.{in_stamp}
 use Rattle.sat_proxy.specs.Steps.{stamp_label}
 use Rattle.sat_proxy.proofs.Stamps.{stamp-done, stamp-there}
-use Rattle.sat_proxy.proofs.proxy.Proxy.stamp.Goals as goal
+use Rattle.sat_proxy.proofs.proxy.Proxy.give_next.Goals as goal
 
 pub invariant_of-self : goal.invariant_of-self
 invariant_of-self c =
@@ -21,6 +21,6 @@ returns-in_default-take-clause-err c =
 
 pub returns-clause-new : goal.returns-clause-new
 returns-clause-new c =
-    let stamp : in_stamp c.args.views.now ≡ true = search rules in
+    let stamp : in_stamp c.args.views.now ≡ true = c.requires.stamp in
     let next : Some c.in-Some.label ≡ stamp_label c.args.views.now c.args.self.now = search rules in
     stamp-done c.args.views.now _ c.args.self.now c.in-Some.label c.in-Some-take.payload c.take.new.self c.self.view_is stamp next c.in-Some-take.ensures.found c.take.ensures.new
