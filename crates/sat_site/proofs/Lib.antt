@@ -29,3 +29,4 @@ pub mod Asked
 pub mod Made
 pub mod Taken
 pub mod Sets
+pub mod Fronts

@@ -7,3 +7,4 @@ pub mod SiteSteps
 pub mod Does
 pub mod Laws
 pub mod Lanes
+pub mod Turns
