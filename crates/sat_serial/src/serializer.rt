@@ -97,8 +97,8 @@ impl Serializer {
         Ok(nodes)
     }
 
-    // Puts a copy of a label that came from a neighbour into the outbox of every other neighbour beyond which a target of
-    // it lies. For want of memory all is as before.
+    // Puts a copy of a label that came from a neighbour into the outbox of every other neighbour beyond which a target
+    // of it lies. For want of memory all is as before.
     #[inline(always)]
     fn hand_copies(
         &mut self,
