@@ -36,7 +36,7 @@ less-count v (u ∷ nodes) (box ∷ boxes) e = go (node_eq v u) (less-count v no
     go true rest = e
     go false rest = ap suc rest
 
-own-count : (t : TreeShape) (z : ℕ) (s : SerializerSeen) → IsPlaced t z s → length s.outboxes ≡ length (neighbours s.tree s.number)
+pub own-count : (t : TreeShape) (z : ℕ) (s : SerializerSeen) → IsPlaced t z s → length s.outboxes ≡ length (neighbours s.tree s.number)
 own-count t z s p = p.each ∙ (λ i. length (neighbours (sym p.tree i) (sym p.number i)))
 
 pub placed-handle : (t : TreeShape) (a : Interested) (u : NodeId) (l : Label) (z : ℕ) (s : SerializerSeen) → IsPlaced t z s → IsPlaced t z (after_handle s a u l)
@@ -59,7 +59,7 @@ placed-kill t z s p = record { tree = p.tree; number = p.number; each = p.each }
 -- ---- a net
 
 -- one serializer changed, which is still at its place
-changed-serializer : (n : NetSeen) (f : SerializerSeen → SerializerSeen) (z : ℕ) → IsNet n → ((y : ℕ) (s : SerializerSeen) → IsPlaced n.tree y s → IsPlaced n.tree y (f s)) → IsNet (record n { serializers = change_at f z n.serializers })
+pub changed-serializer : (n : NetSeen) (f : SerializerSeen → SerializerSeen) (z : ℕ) → IsNet n → ((y : ℕ) (s : SerializerSeen) → IsPlaced n.tree y s → IsPlaced n.tree y (f s)) → IsNet (record n { serializers = change_at f z n.serializers })
 changed-serializer n f z k same = record {
   tree = k.tree;
   serializers = length-change f z n.serializers ∙ k.serializers;
@@ -71,7 +71,7 @@ changed-serializer n f z k same = record {
 }
 
 -- one link from a site changed
-changed-link : (n : NetSeen) (f : List Label → List Label) (i : ℕ) → IsNet n → IsNet (record n { up = change_at f i n.up })
+pub changed-link : (n : NetSeen) (f : List Label → List Label) (i : ℕ) → IsNet n → IsNet (record n { up = change_at f i n.up })
 changed-link n f i k = record { tree = k.tree; serializers = k.serializers; placed = k.placed; up = length-change f i n.up ∙ k.up }
 
 pub net-send : (n : NetSeen) (i : ℕ) (l : Label) → IsNet n → IsNet (after_send n i l)

@@ -6,3 +6,5 @@ pub mod Links
 pub mod Stands
 pub mod Sums
 pub mod Calls
+pub mod Lent
+pub mod Handed

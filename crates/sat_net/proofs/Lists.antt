@@ -54,7 +54,7 @@ zero-one k = grind (arith, nat_tests)
 one-zero : (k : ℕ) → (suc k == 0) ≡ false
 one-zero k = grind (arith, nat_tests)
 
-both-less : (i k : ℕ) → (suc i == suc k) ≡ (i == k)
+pub both-less : (i k : ℕ) → (suc i == suc k) ≡ (i == k)
 both-less i k = grind (arith, nat_tests)
 
 abbrev choose : {Y : Type 0} → Bool → Y → Y → Y

@@ -1,3 +1,4 @@
 pub mod Nets
+pub mod Lending
 pub mod NetStands
 pub mod Laws

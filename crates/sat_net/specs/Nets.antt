@@ -2,6 +2,7 @@
 use Rattle.std.specs.Prelude.{ℕ, zero, suc, ◌≡◌, ◌+◌, Bool, true, false, List, [], ◌∷◌, ◌++◌, length, map, drop}
 use Rattle.std.specs.Prelude.{replicate, get_or, slice_get, Some, None}
 use Rattle.std.specs.List.{sum_by}
+use Rattle.sat_label.specs.Members.{In}
 use Rattle.sat_label.specs.declared.label.Label.{Label}
 use Rattle.sat_label.specs.declared.node.NodeId.{NodeId}
 use Rattle.sat_label.specs.declared.node.NodeId.TheVariants.{Site, Serializer}
@@ -10,7 +11,7 @@ use Rattle.sat_sites.specs.Interested.{Interested, IsLabelOf}
 use Rattle.sat_tree.specs.Shape.{TreeShape}
 use Rattle.sat_tree.specs.Cut.{neighbours, seat_of, is_edge, IsNode, IsTree}
 use Rattle.sat_serial.specs.Routes.{leads, routes}
-use Rattle.sat_serial.specs.Outboxes.{SerializerSeen, fresh, outbox, after_handle, after_ship}
+use Rattle.sat_serial.specs.Outboxes.{SerializerSeen, fresh, outbox, with_box, after_handle, after_ship}
 
 -- a tree; its serializers, in whose outboxes stands what goes to their neighbours; and what stands on the link from
 -- each site to its serializer, the oldest first
@@ -132,3 +133,41 @@ pub record HandsOn (n : NetSeen) (a : Interested) (u : NodeId) (z : ℕ) (l : La
   pub front : slice_get (link_of n u (Serializer z)) 0 ≡ Some l
   pub routed : nodes ≡ routes a n.tree z u l
   pub after : m ≡ after_hop n a u z l
+
+-- ---- links that are lent out
+
+-- these labels stand on the link from one node to another
+abbrev pub with_link : NetSeen → NodeId → NodeId → List Label → NetSeen
+with_link n (Site i) v ls = record n { up = change_at (λ link. ls) i n.up }
+with_link n (Serializer z) v ls = record n { serializers = change_at (λ s. with_box s v ls) z n.serializers }
+
+-- what stands on the link to a site
+abbrev pub link_to : NetSeen → ℕ → List Label
+link_to n j = link_of n (Serializer (seat_of n.tree j)) (Site j)
+
+-- these labels stand there
+abbrev pub with_link_to : NetSeen → ℕ → List Label → NetSeen
+with_link_to n j ls = with_link n (Serializer (seat_of n.tree j)) (Site j) ls
+
+-- ---- hops over a link, one after another
+
+-- serializer z, which is alive, has handed on so many of the oldest labels on the link from u, one after another
+pub data HopsOn (a : Interested) (u : NodeId) (z : ℕ) (n : NetSeen) : ℕ → NetSeen → Type 0 where
+  none : HopsOn a u z n 0 n
+  more : (k : ℕ) (m : NetSeen) (l : Label) → HopsOn a u z n k m → is_dead m z ≡ false
+      → slice_get (link_of m u (Serializer z)) 0 ≡ Some l → HopsOn a u z n (suc k) (after_hop m a u z l)
+
+-- and it hands on nothing more: it is dead, or none is left on the link
+pub record HopsOut (a : Interested) (u : NodeId) (z : ℕ) (n : NetSeen) (k : ℕ) (m : NetSeen) : Type 0 where
+  pub hops : HopsOn a u z n k m
+  pub left : is_dead m z ≡ false → slice_get (link_of m u (Serializer z)) 0 ≡ None
+
+-- what hops from u to serializer z ask for, until none is left: an interest of the tree's sites, an edge of the tree,
+-- and, where the serializer is alive, that each label on the link has a target beyond the edge
+pub record MayHopAll (n : NetSeen) (a : Interested) (u : NodeId) (z : ℕ) : Type 0 where
+  pub sites : a.sites ≡ length n.tree.seats
+  pub node : IsNode n.tree u
+  pub edge : is_edge n.tree u (Serializer z) ≡ true
+  pub label : (l : Label) → is_dead n z ≡ false → In (link_of n u (Serializer z)) l → IsLabelOf a l
+  pub target : (l : Label) → is_dead n z ≡ false → In (link_of n u (Serializer z)) l
+      → leads a n.tree u (Serializer z) l ≡ true

@@ -1,6 +1,8 @@
 //! Nets.
-ghost use Rattle.std.specs.Prelude.{◌≡◌, ◌<◌, true, false, length, map, slice_get, IfOk, IsOk, IsErrOf, IsOkUnless};
-ghost use Rattle.std.specs.Prelude.{OnOk, OnErr, MatchOption};
+ghost use Rattle.std.specs.Prelude.{◌≡◌, ◌<◌, ℕ, [], true, false, length, map, slice_get, IfOk, IsOk, IsErrOf};
+ghost use Rattle.std.specs.Prelude.{IsOkUnless, OnOk, OnErr, MatchOption};
+ghost use Rattle.sat_label.specs.Members.{In};
+ghost use Rattle.sat_label.specs.declared.label.Label as declared_label;
 ghost use Rattle.sat_label.specs.declared.node.NodeId.TheVariants.{Site as SiteNode, Serializer as SerializerNode};
 ghost use Rattle.sat_label.specs.Words.{below};
 ghost use Rattle.sat_tree.specs.Cut.{is_edge, seat_of, IsNode};
@@ -8,7 +10,9 @@ ghost use Rattle.sat_serial.specs.Outboxes.{fresh};
 ghost use Rattle.sat_serial.specs.Routes.{routes, Arrives};
 ghost use Rattle.sat_net.specs.Nets.{IsNet, link_of, is_dead, fresh_net, after_send, after_copies, after_give};
 ghost use Rattle.sat_net.specs.Nets.{after_take, after_kill, underway_in, underway_up, underway_on, underway_from};
-ghost use Rattle.sat_net.specs.Nets.{MayHop, FindsNothing, HandsOn};
+ghost use Rattle.sat_net.specs.Nets.{MayHop, FindsNothing, HandsOn, MayHopAll, HopsOn, HopsOut};
+ghost use Rattle.sat_net.specs.Nets.{with_link, link_to, with_link_to};
+ghost use Rattle.sat_net.specs.Lending.{HandsOver};
 ghost use Rattle.sat_act.specs.Settling.{capped};
 
 use crate::{HopFault, places};
@@ -141,6 +145,52 @@ impl Net {
         Ok(Some((label, nodes)))
     }
 
+    /// Takes labels from the link to a serializer, which hands them on, until none is left, and answers how many: none
+    /// where the serializer was killed. For want of memory some are left on the link, and those before them are handed
+    /// on. It asks of each label what `hop` asks of one.
+    pub fn hop_all(&mut self, interest: &Interest, from: NodeId, to: u16) -> Result<u64, AllocError>
+        requires { MayHopAll self.old interest.now from to }
+        ensures ok { IfOk result (λ done. HopsOut interest.now from to self.old done self.new) }
+        ensures err { OnErr result ((k : ℕ) × HopsOn interest.now from to self.old k self.new) }
+        ensures limits { IsNet self.old }
+    {
+        let _ = &self.tree;
+        if self.is_dead(to) {
+            return Ok(0);
+        }
+        let next = NodeId::Serializer(to);
+        let mut labels = self.lend(from, next);
+        let count = labels.len() as u64;
+        let done = self.hand_all(interest, from, &mut labels, to);
+        self.restore(from, next, labels);
+        if let Err(fault) = done {
+            return Err(fault);
+        }
+        Ok(count)
+    }
+
+    /// Lends out what a site's serializer has for it: there is nothing until `restore_to` gives it back. It takes no
+    /// memory.
+    pub fn lend_to(&mut self, site: u16) -> Queue<Label>
+        requires { site < length self.old.tree.seats }
+        ensures labels { result.members ≡ link_to self.old site }
+        ensures rest { self.new ≡ with_link_to self.old site [] }
+        ensures limits { IsNet self.old }
+    {
+        let seat = self.seat(site);
+        self.lend(NodeId::Serializer(seat), NodeId::Site(site))
+    }
+
+    /// Gives back what a site's serializer has for it. It takes no memory.
+    pub fn restore_to(&mut self, site: u16, labels: Queue<Label>)
+        requires { site < length self.old.tree.seats }
+        ensures after { self.new ≡ with_link_to self.old site labels.members }
+        ensures limits { IsNet self.old }
+    {
+        let seat = self.seat(site);
+        self.restore(NodeId::Serializer(seat), NodeId::Site(site), labels);
+    }
+
     /// Kills a serializer: it hands nothing on from now on, and what it had put on its links stays there. `Already`
     /// says that it was killed before. It takes no memory.
     pub fn kill(&mut self, z: u16) -> Result<(), KillFault>
@@ -268,5 +318,57 @@ impl Net {
     {
         let nodes = places::hand_on(&mut self.serializers, interest, from, label, to)?;
         Ok(nodes)
+    }
+
+    // Lends out what stands on the link from one node to another.
+    fn lend(&mut self, from: NodeId, to: NodeId) -> Queue<Label>
+        requires from { IsNode self.old.tree from }
+        requires to { IsNode self.old.tree to }
+        requires edge { is_edge self.old.tree from to ≡ true }
+        ensures labels { result.members ≡ link_of self.old from to }
+        ensures rest { self.new ≡ with_link self.old from to [] }
+    {
+        match from {
+            NodeId::Site(site) => places::lend_link(&mut self.up, site),
+            NodeId::Serializer(z) => places::lend_box(&mut self.serializers, z, to),
+        }
+    }
+
+    // Gives it back.
+    fn restore(&mut self, from: NodeId, to: NodeId, labels: Queue<Label>)
+        requires from { IsNode self.old.tree from }
+        requires to { IsNode self.old.tree to }
+        requires edge { is_edge self.old.tree from to ≡ true }
+        ensures { self.new ≡ with_link self.old from to labels.members }
+    {
+        match from {
+            NodeId::Site(site) => places::restore_link(&mut self.up, site, labels),
+            NodeId::Serializer(z) => places::restore_box(&mut self.serializers, z, to, labels),
+        }
+    }
+
+    // Hands labels that came from a neighbour to a serializer that is alive, from the front on: none is left. For want
+    // of memory some are left, and those before them are handed on.
+    fn hand_all(
+        &mut self,
+        interest: &Interest,
+        from: NodeId,
+        labels: &mut Queue<Label>,
+        to: u16,
+    ) -> Result<(), AllocError>
+        requires within { to < length self.old.tree.parents }
+        requires arrives { (l : declared_label.Label) → In labels.old.members l
+            → Arrives interest.now self.old.tree to from l }
+        requires alive { is_dead self.old to ≡ false }
+        ensures tree { self.new.tree ≡ self.old.tree }
+        ensures ok { OnOk result (HandsOver self.old interest.now from to labels.old.members
+            (length labels.old.members) self.new labels.new.members) }
+        ensures err { OnErr result ((k : ℕ)
+            × HandsOver self.old interest.now from to labels.old.members k self.new labels.new.members) }
+    {
+        if let Err(fault) = places::hand_all(&mut self.serializers, interest, from, labels, to) {
+            return Err(fault);
+        }
+        Ok(())
     }
 }

@@ -1,5 +1,5 @@
 -- Outboxes of the neighbours.
-use Rattle.std.proofs.Common.{◌≡◌, ◌≢◌, ℕ, zero, suc, ◌+◌, ◌<◌, ◌||◌, Bool, true, false, cond, List, [], ◌∷◌, ◌++◌, length, map, take, drop, set, get_or, Option, Some, None, slice_get, inl, inr, refl, sym, ap, ◌∙◌, subst, arith}
+use Rattle.std.proofs.Common.{◌≡◌, ℕ, zero, suc, ◌+◌, ◌<◌, ◌||◌, Bool, true, false, cond, List, [], ◌∷◌, ◌++◌, length, map, take, drop, set, get_or, Option, Some, None, slice_get, inl, inr, refl, sym, ap, ◌∙◌, subst, arith}
 use Rattle.std.specs.List.{list_any, position, position_from}
 use Rattle.std.specs.Option.{option_to_list}
 use Rattle.std.proofs.lemmas.Bool.{cases_Bool}
@@ -58,7 +58,7 @@ at-place v (u ∷ nodes) (box ∷ boxes) (suc k) d less same here before =
     let rest : AtPlace v nodes boxes k = at-place v nodes boxes k d (omega arith) (omega arith) here (λ j low. before (suc j) (omega arith)) in
     (rw other rest.0, rw other (ap (λ tail. box ∷ tail) rest.1))
 
-none-cond : (b : Bool) (i : ℕ) (rest : Option ℕ) → cond b (Some i) rest ≡ None → (b ≡ false) × (rest ≡ None)
+pub none-cond : (b : Bool) (i : ℕ) (rest : Option ℕ) → cond b (Some i) rest ≡ None → (b ≡ false) × (rest ≡ None)
 none-cond true i rest e = absurd (cc)
 none-cond false i rest e = (refl, e)
 
@@ -103,6 +103,14 @@ queue-at queues k q less = get_or-map (λ (p : Queued Label). p.members) queues 
 pub length-labels : (queues : List (Queued Label)) → length (map members_of queues) ≡ length queues
 length-labels [] = refl
 length-labels (q ∷ queues) = ap suc (length-labels queues)
+
+-- the queue of a node has the labels of its outbox
+pub queue-of : (v : NodeId) (nodes : List NodeId) (queues : List (Queued Label)) (k : ℕ) (q : Queued Label) → length queues ≡ length nodes → position (node_eq v) nodes ≡ Some k → q ≡ get_or queues k q →
+    q.members ≡ box_of v nodes (map members_of queues)
+unfolding AtPlace
+queue-of v nodes queues k q same at here =
+    let less : k < length queues = subst (λ (n : ℕ). k < n) (sym same) (within v nodes k at) in
+    sym ((placed v nodes (map members_of queues) k (length-labels queues ∙ same) at).0 ∙ (queue-at queues k q less ∙ sym (ap (λ (p : Queued Label). p.members) here)))
 
 -- the label that leaves the queue of a node is the oldest of its outbox
 pub taken-first : (v : NodeId) (nodes : List NodeId) (queues : List (Queued Label)) (k : ℕ) (q : Queued Label) (r : Option Label) (left : List Label) →

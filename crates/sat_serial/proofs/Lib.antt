@@ -1,3 +1,4 @@
 pub mod Ways
 pub mod Boxes
 pub mod Places
+pub mod Lent

@@ -1,5 +1,6 @@
 -- Serializers, and what happens to their outboxes.
-use Rattle.std.specs.Prelude.{ℕ, ◌≡◌, ◌<◌, Bool, false, List, [], ◌∷◌, ◌++◌, length, drop, replicate, if◌then◌else◌}
+use Rattle.std.specs.Prelude.{ℕ, ◌≡◌, ◌<◌, ◌≤◌, Bool, false, List, [], ◌∷◌, ◌++◌, length, take, drop, replicate}
+use Rattle.std.specs.Prelude.{if◌then◌else◌}
 use Rattle.sat_label.specs.declared.label.Label.{Label}
 use Rattle.sat_label.specs.declared.node.NodeId.{NodeId}
 use Rattle.sat_label.specs.Order.{node_eq}
@@ -46,6 +47,12 @@ boxes_without v (u ∷ nodes) [] = []
 boxes_without v (u ∷ nodes) (box ∷ boxes) =
     if node_eq v u then drop 1 box ∷ boxes else box ∷ boxes_without v nodes boxes
 
+-- the outboxes of these nodes, with these labels in that of v, the first of that node
+abbrev pub box_in : NodeId → List Label → List NodeId → List (List Label) → List (List Label)
+box_in v ls [] boxes = boxes
+box_in v ls (u ∷ nodes) [] = []
+box_in v ls (u ∷ nodes) (box ∷ boxes) = if node_eq v u then ls ∷ boxes else box ∷ box_in v ls nodes boxes
+
 -- what stands in the outbox of a neighbour
 abbrev pub outbox : SerializerSeen → NodeId → List Label
 outbox s v = box_of v (neighbours s.tree s.number) s.outboxes
@@ -61,6 +68,22 @@ after_handle s a u l =
 -- the oldest label for a neighbour taken out
 abbrev pub after_ship : SerializerSeen → NodeId → SerializerSeen
 after_ship s v = record s { outboxes = boxes_without v (neighbours s.tree s.number) s.outboxes }
+
+-- these labels stand in the outbox of a neighbour
+abbrev pub with_box : SerializerSeen → NodeId → List Label → SerializerSeen
+with_box s v ls = record s { outboxes = box_in v ls (neighbours s.tree s.number) s.outboxes }
+
+-- copies of labels that came from u, one label after another
+abbrev pub after_handles : SerializerSeen → Interested → NodeId → List Label → SerializerSeen
+after_handles s a u [] = s
+after_handles s a u (l ∷ ls) = after_handles (after_handle s a u l) a u ls
+
+-- of these labels from u the first n were handed on, and the others are left
+pub record HandsOnSome (s : SerializerSeen) (a : Interested) (u : NodeId) (ls : List Label) (n : ℕ)
+    (t : SerializerSeen) (rest : List Label) : Type 0 where
+  pub many : n ≤ length ls
+  pub after : t ≡ after_handles s a u (take n ls)
+  pub left : rest ≡ drop n ls
 
 -- What the two changes do to the outbox of each neighbour of a serializer: a label goes
 -- last into just the outboxes of the neighbours that it goes on to, and the first leaves just the outbox that is

@@ -230,6 +230,19 @@ impl Router {
     }
 }
 
+/// Makes room for one label more in the outboxes at some places.
+#[inline(always)]
+pub fn make_room(outboxes: &mut [Queue<Label>], places: &[u8]) -> Result<(), AllocError>
+    requires { AllInside (length outboxes.old) places.now }
+    ensures members { map members_of outboxes.new ≡ map members_of outboxes.old }
+    ensures room { OnOk result (All (HasRoomAt outboxes.new) places.now) }
+{
+    for place in places {
+        outboxes[*place as usize].reserve(1)?;
+    }
+    Ok(())
+}
+
 /// Puts a copy of a label into the outboxes at some places, ascending. There is room.
 pub fn push_at(outboxes: &mut [Queue<Label>], places: &[u8], label: &Label)
     requires inside { AllInside (length outboxes.old) places.now }

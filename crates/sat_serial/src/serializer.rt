@@ -1,10 +1,13 @@
 //! Serializers.
-ghost use Rattle.std.specs.Prelude.{◌≡◌, ◌<◌, length, slice_get, true, false, IfOk, IsOk, IsErrOf, IsOkUnless, OnOk};
-ghost use Rattle.std.specs.Prelude.{OnErr};
+ghost use Rattle.std.specs.Prelude.{◌≡◌, ◌<◌, ℕ, [], length, slice_get, true, false, IfOk, IsOk, IsErrOf, IsOkUnless};
+ghost use Rattle.std.specs.Prelude.{OnOk, OnErr};
+ghost use Rattle.sat_label.specs.Members.{In};
+ghost use Rattle.sat_label.specs.declared.label.Label as declared_label;
 ghost use Rattle.sat_serial.specs.Routes.{routes, Arrives, IsNeighbour};
-ghost use Rattle.sat_serial.specs.Outboxes.{fresh, after_handle, outbox, after_ship, IsSerializer};
+ghost use Rattle.sat_serial.specs.Outboxes.{fresh, after_handle, after_handles, HandsOnSome, outbox, with_box};
+ghost use Rattle.sat_serial.specs.Outboxes.{after_ship, IsSerializer};
 
-use crate::router::{Router, push_at};
+use crate::router::{Router, make_room, push_at};
 use crate::{HandleFault, KillFault};
 use sat_label::{Label, NodeId, Nodes};
 use sat_queue::{Queue, empty_queues};
@@ -12,6 +15,7 @@ use sat_sites::Interest;
 use sat_tree::Tree;
 use std::alloc::{AllocError, Global};
 use std::marker::Model;
+use std::mem;
 
 /// One serializer of a tree. Contracts see the tree, its number there, whether it was killed, and the labels in the
 /// outbox of each neighbour, the oldest first, in the order of the neighbours: sites ascending, then serializers
@@ -91,6 +95,79 @@ impl Serializer {
             .room_at(alloc, &mut self.outboxes, hits.as_slice())?;
         push_at(&mut self.outboxes, hits.as_slice(), &label);
         Ok(nodes)
+    }
+
+    // Puts a copy of a label that came from a neighbour into the outbox of every other neighbour beyond which a target
+    // of it lies. For want of memory all is as before.
+    #[inline(always)]
+    fn hand_copies(
+        &mut self,
+        interest: &Interest,
+        from: NodeId,
+        label: &Label,
+    ) -> Result<(), AllocError>
+        requires { Arrives interest.now self.old.tree self.old.number from label.now }
+        ensures ok { OnOk result (self.new ≡ after_handle self.old interest.now from label.now) }
+        ensures err { OnErr result (self.new ≡ self.old) }
+    {
+        let hits = self.router.hits(interest, from, label);
+        make_room(&mut self.outboxes, hits.as_slice())?;
+        push_at(&mut self.outboxes, hits.as_slice(), label);
+        Ok(())
+    }
+
+    /// Hands labels that came from a neighbour on, from the front on, each as `handle` does: none is left in the queue.
+    /// For want of memory some are left, and those before them are handed on. It asks for a serializer that is alive,
+    /// and for what `handle` asks for of each label.
+    pub fn handle_all(
+        &mut self,
+        interest: &Interest,
+        from: NodeId,
+        labels: &mut Queue<Label>,
+    ) -> Result<(), AllocError>
+        requires alive { self.old.killed ≡ false }
+        requires arrives { (l : declared_label.Label) → In labels.old.members l
+            → Arrives interest.now self.old.tree self.old.number from l }
+        ensures after { OnOk result (self.new ≡ after_handles self.old interest.now from labels.old.members) }
+        ensures empty { OnOk result (labels.new.members ≡ []) }
+        ensures err { OnErr result ((n : ℕ)
+            × HandsOnSome self.old interest.now from labels.old.members n self.new labels.new.members) }
+    {
+        for _ in 0..labels.len() {
+            let Some(label) = labels.front() else {
+                unreachable!()
+            };
+            if let Err(fault) = self.hand_copies(interest, from, &label) {
+                return Err(fault);
+            }
+            let _ = labels.take();
+        }
+        Ok(())
+    }
+
+    /// Lends the outbox of a neighbour out: it is empty until `restore` gives it back. It takes no memory.
+    pub fn lend(&mut self, to: NodeId) -> Queue<Label>
+        requires { IsNeighbour self.old.tree self.old.number to }
+        ensures labels { result.members ≡ outbox self.old to }
+        ensures rest { self.new ≡ with_box self.old to [] }
+        ensures limits { IsSerializer self.old }
+    {
+        let none = Queue::new(*self.outboxes.allocator());
+        let Some(place) = self.router.place(to) else {
+            return none;
+        };
+        mem::replace(&mut self.outboxes[place], none)
+    }
+
+    /// Gives the outbox of a neighbour back. It takes no memory.
+    pub fn restore(&mut self, to: NodeId, labels: Queue<Label>)
+        requires { IsNeighbour self.old.tree self.old.number to }
+        ensures after { self.new ≡ with_box self.old to labels.members }
+        ensures limits { IsSerializer self.old }
+    {
+        if let Some(place) = self.router.place(to) {
+            self.outboxes[place] = labels;
+        }
     }
 
     /// The nodes that `handle` answers while the serializer is alive; `handle` says what it asks for.
