@@ -64,13 +64,13 @@ tried-runs d h a k p run = go (is_done (answer d h a)) refl
     go true e = subst (IsRun d) (sym (tried-is d a h true e)) (inner-is-run d h a k p run)
     go false e = subst (IsRun d) (sym (tried-is d a h false e)) run
 
-done-one : (r : Answer) → is_done r ≡ true → done_by r ≡ 1
+pub done-one : (r : Answer) → is_done r ≡ true → done_by r ≡ 1
 done-one (ans.Refused y) e = absurd (cc)
 done-one ans.Again e = absurd (cc)
 done-one ans.Old e = absurd (cc)
 done-one _ e = refl
 
-done-none : (r : Answer) → is_done r ≡ false → done_by r ≡ 0
+pub done-none : (r : Answer) → is_done r ≡ false → done_by r ≡ 0
 done-none (ans.Refused y) e = refl
 done-none ans.Again e = refl
 done-none ans.Old e = refl

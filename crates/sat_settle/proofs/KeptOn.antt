@@ -1,6 +1,6 @@
 -- What is kept of the entries of a settle.
-use Rattle.std.specs.Prelude.{◌≡◌, ◌<◌, ◌≤◌, ◌+◌, ◌-◌, ◌^◌, ℕ, zero, suc, Bool, true, false, ◌&&◌, nat_lt, min, List, [], ◌∷◌, ◌++◌, length, take, get_or, if◌then◌else◌, refl}
-use Rattle.std.proofs.Common.{sym, subst, ap, ◌∙◌, arith}
+use Rattle.std.specs.Prelude.{◌≡◌, ◌<◌, ◌≤◌, ◌+◌, ◌-◌, ◌^◌, ℕ, zero, suc, Bool, true, false, min, List, [], ◌∷◌, ◌++◌, length, take, get_or, refl}
+use Rattle.std.proofs.Common.{sym, subst, ap, ◌∙◌}
 use Rattle.std.proofs.lemmas.List.{take_more, take_all}
 use Rattle.sat_label.specs.Members.{In}
 use Rattle.sat_label.specs.Words.{below}
@@ -21,14 +21,14 @@ use Rattle.sat_rest.proofs.Rounds.{round-act, until-ends}
 use Rattle.sat_rest.proofs.Settles.{opening-is, emptied-is}
 use Rattle.sat_world.specs.Seen.{WorldSeen}
 use Rattle.sat_world.specs.Stands.{StandsFor}
-use Rattle.sat_settle.specs.Going.{Reaches, Makes, MakesUntil, Tries, rounds_from}
+use Rattle.sat_settle.specs.Going.{Reaches, Makes, Tries, rounds_from}
 use Rattle.sat_settle.specs.Kept.{brings, hands_on, carries, added, noted, kept, Keeps, KeepsUntil}
 use Rattle.sat_settle.proofs.Extending.{extends-self, extends-one, extends-trans, for_each-last}
 use Rattle.sat_settle.proofs.Going.{some-done, none-done, tried-done}
 use Rattle.sat_settle.proofs.Until.{IsOnWay, none-yet, goes-past, stays-there, told, one-longer, refused-is}
 use Rattle.sat_settle.proofs.Loops.{Steps}
-use Rattle.sat_settle.proofs.Ranges.{MayTry, may-try, in-at, within}
-use Rattle.sat_settle.proofs.Turning.{Turns, turns-none, turn-next, turn-last, until-makes, told as told-round, whole-round, rounds-none, Rounds}
+use Rattle.sat_settle.proofs.Ranges.{may-try, in-at, within}
+use Rattle.sat_settle.proofs.Turning.{Turns, turns-none, turn-next, turn-last, told as told-round}
 use Rattle.sat_settle.proofs.Settled.{settle-is}
 use Rattle.sat_rest.specs.Ends.{IsWithin}
 

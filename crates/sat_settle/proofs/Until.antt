@@ -5,14 +5,17 @@ use Rattle.sat_act.specs.declared.act.Act.{Act}
 use Rattle.sat_act.specs.declared.entry.Entry.{Entry}
 use Rattle.sat_act.specs.Deployed.{Deployed}
 use Rattle.sat_act.specs.Answers.{answer}
-use Rattle.sat_act.specs.Runs.{IsRun}
+use Rattle.sat_act.specs.Ranges.{IsActOf}
+use Rattle.sat_act.specs.Runs.{IsRun, is_settle}
 use Rattle.sat_act.specs.Settling.{is_done, inner_entry, tried}
 use Rattle.sat_rest.specs.Ends.{UntilRefused, ends, goes_on}
+use Rattle.sat_world.specs.Again.{Again, Spends}
+use Rattle.sat_world.specs.Again as times
 use Rattle.sat_world.specs.Seen.{WorldSeen}
 use Rattle.sat_world.specs.Stands.{StandsFor}
 use Rattle.sat_settle.specs.Going.{Extends, Reaches, Makes, MakesUntil, StopsUntil}
 use Rattle.sat_settle.proofs.Extending.{extends-self, extends-one, extends-trans, until-extends}
-use Rattle.sat_settle.proofs.Going.{none-done, some-done, tried-done}
+use Rattle.sat_settle.proofs.Going.{applies-makes, done-none, done-one, none-done, some-done, tried-done}
 
 -- n times done on the way from h to k
 pub record IsOnWay (d : Deployed) (a : Act) (h k : List Entry) (n : ℕ) (w : WorldSeen) : Type 0 where
@@ -96,3 +99,26 @@ pub repeats-stop : (v w u : WorldSeen) (a : Act) (n : ℕ) → Repeats v a n w �
 repeats-stop v w u a n r e h k run st until =
     let o : IsOnWay v.deployment a h k n w = r.each h k run st until in
     record { now = o.now; stands = subst (λ (x : WorldSeen). StandsFor x o.now) (sym e) o.stands; run = o.run; from = o.from; to = until-extends v.deployment a o.now k o.rest }
+
+-- ---- what the world did again and again by itself
+
+next-is : (n : ℕ) → n + 1 ≡ suc n
+next-is n = omega arith
+
+one-is-some : (n : ℕ) → n ≡ 1 → n ≡ 0 → ⊥
+one-is-some n e f = omega arith
+
+pub again-repeats : (a : Act) (v w : WorldSeen) (n : ℕ) → IsActOf v.deployment a → is_settle a ≡ false → Again a v n w → Repeats v a n w
+again-repeats a v w n k p times.none = repeats-none v a
+again-repeats a v w n k p (times.more {n = m} {v = u} r g goes d) =
+    let q : Repeats v a m u = again-repeats a v u m k p g in
+    subst (λ (x : ℕ). Repeats v a x w) (next-is m)
+    (repeats-more v u w a m 1 q goes.deployment (applies-makes u w a r 1 (subst (λ (d : Deployed). IsActOf d a) (sym q.deployment) k) p goes (sym (done-one r d))) (one-is-some 1 refl))
+
+pub spends-until : (v w : WorldSeen) (a : Act) (n : ℕ) → IsActOf v.deployment a → is_settle a ≡ false → Spends a v n w → n < 2 ^ 64 → MakesUntil v a n w
+spends-until v w a n k p s few =
+    let q : Repeats v a n w = again-repeats a v w n k p s.again in
+    repeats-end v w w a n 0 q (applies-makes w w a s.refusal 0 (subst (λ (d : Deployed). IsActOf d a) (sym q.deployment) k) p s.applies (sym (done-none s.refusal s.undone))) refl few
+
+pub again-stops : (v w : WorldSeen) (a : Act) (n : ℕ) → IsActOf v.deployment a → is_settle a ≡ false → Again a v n w → StopsUntil v a w
+again-stops v w a n k p g = repeats-stop v w w a n (again-repeats a v w n k p g) refl

@@ -1,5 +1,5 @@
 -- What is kept of the entries that a settle makes: the first of those that move a payload or a label.
-use Rattle.std.specs.Prelude.{◌≡◌, ℕ, Bool, true, false, ◌&&◌, not, nat_lt, List, [], ◌∷◌, ◌++◌, length, if◌then◌else◌}
+use Rattle.std.specs.Prelude.{◌≡◌, Bool, true, false, ◌&&◌, not, nat_lt, List, [], ◌∷◌, ◌++◌, length, if◌then◌else◌}
 use Rattle.sat_label.specs.declared.label.Kind.{Kind}
 use Rattle.sat_label.specs.declared.label.Kind.TheVariants.{Pulse}
 use Rattle.sat_act.specs.declared.act.Act.{Act}
@@ -7,7 +7,6 @@ use Rattle.sat_act.specs.declared.act.Act.TheVariants as act
 use Rattle.sat_act.specs.declared.answer.Answer.{Answer}
 use Rattle.sat_act.specs.declared.answer.Answer.TheVariants as ans
 use Rattle.sat_act.specs.declared.entry.Entry.{Entry}
-use Rattle.sat_act.specs.Deployed.{Deployed}
 use Rattle.sat_act.specs.Runs.{IsRun}
 use Rattle.sat_rest.specs.Ends.{UntilRefused}
 use Rattle.sat_world.specs.Seen.{WorldSeen}

@@ -46,21 +46,6 @@ pub fn once(world: &mut World, act: &Act) -> Result<u64, AllocError>
     Ok(count_of(&answer))
 }
 
-// A hop, and how many acts were done: one or none.
-fn hop_once(world: &mut World, epoch: u16, from: NodeId, to: u16) -> Result<u64, AllocError>
-    requires { IsActOf world.old.deployment (Act.Hop epoch from to) }
-    ensures deployment { world.new.deployment ≡ world.old.deployment }
-    ensures ok { IfOk result
-        (λ done. Makes world.old (tried world.old.deployment (Act.Hop epoch from to)) done world.new) }
-    ensures err { OnErr result (world.new ≡ world.old) }
-{
-    let answered = world.hop(epoch, from, to);
-    match &answered {
-        Ok(answer) => Ok(count_of(answer)),
-        Err(_) => Err(AllocError),
-    }
-}
-
 // Labels go over a link until none is left there.
 fn hops(world: &mut World, epoch: u16, from: NodeId, to: u16) -> Result<u64, AllocError>
     requires { IsActOf world.old.deployment (Act.Hop epoch from to) }
@@ -68,43 +53,17 @@ fn hops(world: &mut World, epoch: u16, from: NodeId, to: u16) -> Result<u64, All
     ensures ok { IfOk result (λ done. MakesUntil world.old (Act.Hop epoch from to) done world.new) }
     ensures err { OnErr result (StopsUntil world.old (Act.Hop epoch from to) world.new) }
 {
-    for done in 0..u64::MAX {
-        let more = hop_once(world, epoch, from, to)?;
-        if more == 0 {
-            return Ok(done);
-        }
-    }
-    Err(AllocError)
-}
-
-// A turn, and how many acts were done: one or none.
-fn turn_once(world: &mut World, site: u16) -> Result<u64, AllocError>
-    requires { IsActOf world.old.deployment (Act.Turn site) }
-    ensures deployment { world.new.deployment ≡ world.old.deployment }
-    ensures ok { IfOk result (λ done. Makes world.old (tried world.old.deployment (Act.Turn site)) done world.new) }
-    ensures err { OnErr result (world.new ≡ world.old) }
-{
-    let answered = world.turn(site);
-    match &answered {
-        Ok(answer) => Ok(count_of(answer)),
-        Err(_) => Err(AllocError),
-    }
+    let done = world.hops(epoch, from, to)?;
+    Ok(done)
 }
 
 // Turns of a site until one is refused.
-fn turns(world: &mut World, site: u16) -> Result<u64, AllocError>
+fn turns(world: &mut World, site: u16) -> u64
     requires { IsActOf world.old.deployment (Act.Turn site) }
     ensures deployment { world.new.deployment ≡ world.old.deployment }
-    ensures ok { IfOk result (λ done. MakesUntil world.old (Act.Turn site) done world.new) }
-    ensures err { OnErr result (StopsUntil world.old (Act.Turn site) world.new) }
+    ensures until { MakesUntil world.old (Act.Turn site) result world.new }
 {
-    for done in 0..u64::MAX {
-        let more = turn_once(world, site)?;
-        if more == 0 {
-            return Ok(done);
-        }
-    }
-    Err(AllocError)
+    world.turns(site)
 }
 
 // The same of any act.
@@ -136,7 +95,7 @@ pub fn until_refused(world: &mut World, act: &Act) -> Result<u64, AllocError>
 {
     match act {
         Act::Hop { epoch, from, to } => hops(world, *epoch, *from, *to),
-        Act::Turn { site } => turns(world, *site),
+        Act::Turn { site } => Ok(turns(world, *site)),
         _ => again(world, act),
     }
 }

@@ -1,11 +1,10 @@
 -- What stands on a link behind its front.
-use Rattle.std.specs.Prelude.{◌≡◌, ◌<◌, ◌+◌, ◌-◌, ℕ, zero, suc, true, List, [], ◌∷◌, drop, length, Option, Some, None, slice_get, refl}
+use Rattle.std.specs.Prelude.{◌≡◌, ◌<◌, ◌+◌, ◌-◌, ℕ, zero, suc, List, [], ◌∷◌, drop, length, Option, Some, None, slice_get, refl}
 use Rattle.std.proofs.Common.{sym, subst, ap, ◌∙◌, arith}
 use Rattle.sat_label.specs.declared.label.Label.{Label}
 use Rattle.sat_label.specs.declared.node.NodeId.{NodeId}
 use Rattle.sat_label.specs.declared.node.NodeId.TheVariants.{Serializer}
 use Rattle.sat_tree.specs.Shape.{TreeShape}
-use Rattle.sat_tree.specs.Cut.{is_edge, IsNode}
 use Rattle.sat_act.specs.declared.act.Act.TheVariants as act
 use Rattle.sat_act.specs.declared.entry.Entry.{Entry}
 use Rattle.sat_act.specs.Parts.{entered, taken, tree_of}
@@ -21,7 +20,7 @@ use Rattle.sat_world.proofs.Hops.{IsEdge}
 use Rattle.sat_world.proofs.Lists.{there}
 
 -- a place of what is left of a list
-behind : {A : Type 0} (xs : List A) (n k : ℕ) → slice_get (drop n xs) k ≡ slice_get xs (n + k)
+pub behind : {A : Type 0} (xs : List A) (n k : ℕ) → slice_get (drop n xs) k ≡ slice_get xs (n + k)
 behind xs zero k = ap (slice_get xs) (omega arith)
 behind [] (suc n) k = refl
 behind (x ∷ xs) (suc n) k = let e : suc n + k ≡ suc (n + k) = omega arith in behind xs n k ∙ ap (slice_get (x ∷ xs)) (sym e)

@@ -18,7 +18,7 @@ use Rattle.sat_world.specs.Seen.{WorldSeen}
 use Rattle.sat_world.specs.Stands.{Stands, StandsFor}
 use Rattle.sat_world.specs.Worlds.{IsWorld}
 
-cap-more : (n m : ℕ) → min (min n m + 1) m ≡ min (n + 1) m
+pub cap-more : (n m : ℕ) → min (min n m + 1) m ≡ min (n + 1) m
 cap-more n m = omega arith
 
 none-more : (ls : List Label) → length (ls ++ []) ≡ length ls

@@ -208,20 +208,24 @@ hop-edge w v e u z net is k b at =
     let edge : is_edge net.tree u (Serializer z) ≡ true = subst (λ (t : TreeShape). is_edge t u (Serializer z) ≡ true) t a.4 in
     record { node = subst (λ (t : TreeShape). IsNode t u) t a.3; end = Rattle.sat_net.proofs.Edges.edge-within net.tree u z of.net.tree edge; edge = edge }
 
-has-kind : (d : Deployed) (k : Kind) → HasKind d k → IsKindOf (interest_of d) k
+pub has-kind : (d : Deployed) (k : Kind) → HasKind d k → IsKindOf (interest_of d) k
 has-kind d (kind.Update items) h = subst (λ (n : ℕ). AreBelow n (list_of items)) (sym (length-map d.items replicas_of)) h.0
 has-kind d (kind.Move j) h = h
 has-kind d kind.Pulse h = h
 has-kind d (kind.Close e) h = h
 
--- a label at the front of a link of a world
-front-on : (w : WorldSeen) (n : ℕ) (net : NetSeen) (u : NodeId) (z : ℕ) (l : Label) → IsWorld w → slice_get w.nets n ≡ Some (Some net) → IsEdge w.deployment n net u z → slice_get (link_of net u (Serializer z)) 0 ≡ Some l → IsOnLink w.deployment net.tree u (Serializer z) l
+-- a label on a link of a world
+pub leads-on : (w : WorldSeen) (n : ℕ) (net : NetSeen) (u : NodeId) (z : ℕ) (l : Label) → IsWorld w → slice_get w.nets n ≡ Some (Some net) → IsEdge w.deployment n net u z → In (link_of net u (Serializer z)) l → IsOnLink w.deployment net.tree u (Serializer z) l
 unfolding world_state
-front-on w n net u z l k at edge front =
+leads-on w n net u z l k at edge m =
     let of : IsNetOf w.deployment (n + 1) net = k.frame.planted n (Some net) at in
     let same : link_of net u (Serializer z) ≡ link_left w.deployment k.history (n + 1) u (Serializer z) = (k.stands.nets n net at).each u (Serializer z) edge.node edge.end edge.edge in
     links-lead w.deployment k.history (n + 1) net.tree u (Serializer z) l (is_valid w.deployment k.frame.deployment) k.run of.tree
-    (subst (λ (ls : List Label). In ls l) same (In-get (link_of net u (Serializer z)) 0 l front))
+    (subst (λ (ls : List Label). In ls l) same m)
+
+-- one at its front
+front-on : (w : WorldSeen) (n : ℕ) (net : NetSeen) (u : NodeId) (z : ℕ) (l : Label) → IsWorld w → slice_get w.nets n ≡ Some (Some net) → IsEdge w.deployment n net u z → slice_get (link_of net u (Serializer z)) 0 ≡ Some l → IsOnLink w.deployment net.tree u (Serializer z) l
+front-on w n net u z l k at edge front = leads-on w n net u z l k at edge (In-get (link_of net u (Serializer z)) 0 l front)
 
 pub hop-may : (w v : WorldSeen) (e : ℕ) (u : NodeId) (z : ℕ) (net : NetSeen) → w ≡ v → IsWorld w → IsActOf v.deployment (act.Hop e u z) → slice_get w.nets (e - 1) ≡ Some (Some net) → MayHop net w.interest u z
 hop-may w v e u z net is k b at =

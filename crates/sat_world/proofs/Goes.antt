@@ -147,7 +147,7 @@ planted-at w n p q nets k at new rest m o has = go (set-cases w.nets n m q o (su
 -- ---- a turn
 
 -- whether a turn's answer takes the front
-abbrev is_taking : Answer → Bool
+abbrev pub is_taking : Answer → Bool
 is_taking (ans.Shown l) = true
 is_taking (ans.Took l) = true
 is_taking _ = false
@@ -175,7 +175,7 @@ taken-not (ans.Shown l) (Some net) j e = absurd (cc)
 taken-not (ans.Took l) (Some net) j e = absurd (cc)
 taken-not _ (Some net) j e = refl
 
-taken-so : (r : Answer) (net : NetSeen) (j : ℕ) → is_taking r ≡ true → net_taken r (Some net) j ≡ Some (after_take net j)
+pub taken-so : (r : Answer) (net : NetSeen) (j : ℕ) → is_taking r ≡ true → net_taken r (Some net) j ≡ Some (after_take net j)
 taken-so (ans.Shown l) net j e = refl
 taken-so (ans.Took l) net j e = refl
 taken-so _ net j e = absurd (cc)

@@ -56,7 +56,7 @@ here-given : (i : ℕ) (x : SiteInput) → given_at i i x ≡ Some x
 here-given i x = ap (λ (b : Bool). if b then Some x else None) (same-number i)
 
 -- the machine's state of a site of the history
-state-at : (d : Deployed) (h : List Entry) (i : ℕ) → (world_state d h).sites i ≡ site_state d h i
+pub state-at : (d : Deployed) (h : List Entry) (i : ℕ) → (world_state d h).sites i ≡ site_state d h i
 unfolding world_state
 state-at d h i = refl
 

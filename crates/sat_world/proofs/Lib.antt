@@ -23,3 +23,5 @@ pub mod Shown
 pub mod Clocked
 pub mod Lefts
 pub mod Reaching
+pub mod Again
+pub mod Turning

@@ -1,12 +1,10 @@
 -- Which site each act reaches, and what it is handed there, in each history that a world stands for.
 use Rattle.std.specs.Prelude.{◌≡◌, ◌<◌, ◌^◌, ◌&&◌, ◌==◌, ℕ, Bool, true, false, nat_le, nat_lt, List, length, get_or, Option, Some, None, slice_get, if◌then◌else◌, refl}
-use Rattle.std.proofs.Common.{IfOk, Result, Ok, Err, sym, subst, ap, ◌∙◌, arith}
+use Rattle.std.proofs.Common.{IfOk, Result, sym, subst, ap, ◌∙◌, arith}
 use Rattle.std.specs.declared.alloc.AllocError.{AllocError}
 use Rattle.std.proofs.lemmas.Bool.{and_from}
 use Rattle.sat_label.proofs.Truth.{same-number}
 use Rattle.sat_label.specs.declared.items.Items.{Items}
-use Rattle.sat_beat.specs.declared.Beat.{Beat}
-use Rattle.sat_sites.specs.declared.shape.Shape.{Shape}
 use Rattle.sat_act.specs.declared.act.Act.{Act}
 use Rattle.sat_act.specs.declared.act.Act.TheVariants as act
 use Rattle.sat_act.specs.declared.entry.Entry.{Entry}
@@ -26,11 +24,11 @@ use Rattle.sat_model.proofs.Local.{given-fits}
 use Rattle.sat_site.specs.declared.input.SiteInput as code
 use Rattle.sat_site.specs.declared.input.SiteInput.TheVariants as input
 use Rattle.sat_site.specs.Changes.{made_for}
-use Rattle.sat_site.specs.Seen.{SiteSeen, IsSite}
-use Rattle.sat_site.specs.Inputs.{input_of, fits_in, is_sized}
+use Rattle.sat_site.specs.Seen.{SiteSeen}
+use Rattle.sat_site.specs.Inputs.{input_of, is_sized}
 use Rattle.sat_site.specs.Stands.{StandsSite}
-use Rattle.sat_world.specs.Reaches.{IsHandedTo, Reaches, handed_alone, is_clock}
-use Rattle.sat_world.specs.Seen.{WorldSeen, HasClient, HasSite}
+use Rattle.sat_world.specs.Reaches.{Reaches, handed_alone, is_clock}
+use Rattle.sat_world.specs.Seen.{WorldSeen, HasClient}
 use Rattle.sat_world.specs.Stands.{Stands, StandsFor}
 use Rattle.sat_world.specs.Steps.{Hands, IsNumber, WritesBy, act_at}
 use Rattle.sat_world.specs.Worlds.{IsWorld}

@@ -5,6 +5,7 @@ pub mod Stands
 pub mod Worlds
 pub mod Steps
 pub mod Applies
+pub mod Again
 pub mod Shows
 pub mod Clocks
 pub mod Starts

@@ -1,5 +1,5 @@
 -- What the acts of a world answer and do.
-use Rattle.std.specs.Prelude.{ℕ, ◌≡◌, Bool, true, false, List, set, Option, Some, None, slice_get}
+use Rattle.std.specs.Prelude.{ℕ, ◌≡◌, Bool, true, false, List, [], set, Option, Some, None, slice_get}
 use Rattle.sat_label.specs.declared.items.Items.{Items}
 use Rattle.sat_label.specs.declared.label.Label.{Label}
 use Rattle.sat_label.specs.declared.node.NodeId.{NodeId}
@@ -25,13 +25,16 @@ use Rattle.sat_model.specs.Look.{front_of}
 use Rattle.sat_model.specs.Reply.{site_answer}
 use Rattle.sat_model.specs.Replay.{given_at}
 use Rattle.sat_model.specs.World.{WorldState, world_given, world_answer, world_next}
-use Rattle.sat_net.specs.Nets.{NetSeen, link_of, is_dead, after_send, after_hop, after_take, after_kill}
+use Rattle.sat_net.specs.Nets.{NetSeen, link_of, is_dead, after_send, after_hop, after_take, after_kill, HopsOn}
+use Rattle.sat_net.specs.Nets.{HopsOut, link_to, with_link_to}
 use Rattle.sat_site.specs.declared.input.SiteInput as code
 use Rattle.sat_site.specs.declared.input.SiteInput.TheVariants as input
 use Rattle.sat_site.specs.Seen.{SiteSeen, IsSite}
 use Rattle.sat_site.specs.Inputs.{input_of, fits_in, is_sized}
 use Rattle.sat_site.specs.SiteSteps.{site_answers, site_after}
 use Rattle.sat_site.specs.Stands.{StandsSite}
+use Rattle.sat_site.specs.Turns.{TurnsOn}
+use Rattle.sat_proxy.specs.Answers.{turn_answer}
 use Rattle.sat_world.specs.Counts.{counted}
 use Rattle.sat_world.specs.Seen.{WorldSeen, HasSite}
 use Rattle.sat_world.specs.Stands.{Stands}
@@ -201,3 +204,40 @@ pub record KillsAt (nets : List (Option NetSeen)) (n z : ℕ) (r : Answer) (now 
   pub at : slice_get nets n ≡ Some (Some before)
   pub kill : Kills before z r after
   pub rest : now ≡ set nets n (Some after)
+
+-- the net at a place, which is there, had so many hops over the link from u to serializer z
+pub record HopsOnAt (nets : List (Option NetSeen)) (n : ℕ) (a : Interested) (u : NodeId) (z count : ℕ)
+    (now : List (Option NetSeen)) : Type 0 where
+  pub before : NetSeen
+  pub after : NetSeen
+  pub at : slice_get nets n ≡ Some (Some before)
+  pub hops : HopsOn a u z before count after
+  pub rest : now ≡ set nets n (Some after)
+
+-- and has no more
+pub record HopsOutAt (nets : List (Option NetSeen)) (n : ℕ) (a : Interested) (u : NodeId) (z count : ℕ)
+    (now : List (Option NetSeen)) : Type 0 where
+  pub before : NetSeen
+  pub after : NetSeen
+  pub at : slice_get nets n ≡ Some (Some before)
+  pub hops : HopsOut a u z before count after
+  pub rest : now ≡ set nets n (Some after)
+
+-- the labels on the link to site j, in the net at a place, are lent out
+pub record LendsAt (nets : List (Option NetSeen)) (n j : ℕ) (lent : List Label)
+    (now : List (Option NetSeen)) : Type 0 where
+  pub before : NetSeen
+  pub at : slice_get nets n ≡ Some (Some before)
+  pub labels : lent ≡ link_to before j
+  pub rest : now ≡ set nets n (Some (with_link_to before j []))
+
+-- site i has turned the first so many of these labels, and turns no more
+pub record TurnsAt (xs : List SiteSeen) (i : ℕ) (labels : List Label) (count shown : ℕ)
+    (ys : List SiteSeen) : Type 0 where
+  pub before : SiteSeen
+  pub after : SiteSeen
+  pub at : slice_get xs i ≡ Some before
+  pub turns : TurnsOn before labels count shown after
+  pub sound : IsSite after
+  pub end : is_done (turn_answer after.views after.proxy (slice_get labels count)) ≡ false
+  pub rest : ys ≡ set xs i after

@@ -1,16 +1,18 @@
 //! What one act does to the net of an epoch: None stands for an epoch of stamp order, in which no label goes over a
 //! link.
-ghost use Rattle.std.specs.Prelude.{ℕ, ◌≡◌, ◌<◌, true, length, slice_get, Some, None, Option, IsSome, IfOk, OnOk};
-ghost use Rattle.std.specs.Prelude.{OnErr};
+ghost use Rattle.std.specs.Prelude.{ℕ, ◌≡◌, ◌<◌, true, is_some, length, set, slice_get, Some, None, Option, IsSome};
+ghost use Rattle.std.specs.Prelude.{IfOk, OnErr, OnOk};
 ghost use Rattle.sat_label.specs.declared.label.Label.{Label};
 ghost use Rattle.sat_label.specs.declared.node.NodeId.TheVariants.{Serializer as SerializerNode};
 ghost use Rattle.sat_tree.specs.Cut.{is_edge, IsNode};
-ghost use Rattle.sat_net.specs.Nets.{NetSeen, MayHop, link_of};
-ghost use Rattle.sat_world.specs.Steps.{front_to, net_sent, net_taken, Hops, HopsAt, Kills, KillsAt, NetAt};
+ghost use Rattle.sat_net.specs.Nets.{MayHop, MayHopAll, NetSeen, link_of, with_link_to};
+ghost use Rattle.sat_world.specs.Steps.{front_to, net_sent, net_taken, Hops, HopsAt, HopsOnAt, HopsOutAt, Kills};
+ghost use Rattle.sat_world.specs.Steps.{KillsAt, LendsAt, NetAt};
 
 use sat_act::{Answer, Refusal};
 use sat_label::{Label, NodeId};
 use sat_net::{HopFault, Net};
+use sat_queue::Queue;
 use sat_sites::Interest;
 use std::alloc::AllocError;
 
@@ -157,6 +159,64 @@ pub fn hop_at(
     };
     let answer = hop(net, interest, from, to)?;
     Ok(answer)
+}
+
+/// Labels go over a link to a serializer until none is done, in the net at a place, which is there: how many did. For
+/// want of memory some did.
+pub fn hops_at(
+    nets: &mut Vec<Option<Net>>,
+    place: usize,
+    interest: &Interest,
+    from: NodeId,
+    to: u16,
+) -> Result<u64, AllocError>
+    requires within { place < length nets.old.items }
+    requires there { (o : Option NetSeen) → slice_get nets.old.items place ≡ Some o → IsSome o }
+    requires hops { (n : NetSeen) → slice_get nets.old.items place ≡ Some (Some n) → MayHopAll n interest.now from to }
+    ensures ok { IfOk result (λ done. HopsOutAt nets.old.items place interest.now from to done nets.new.items) }
+    ensures err { OnErr result
+        ((done : ℕ) × HopsOnAt nets.old.items place interest.now from to done nets.new.items) }
+{
+    let Some(net) = &mut nets[place] else {
+        unreachable!()
+    };
+    let done = net.hop_all(interest, from, to)?;
+    Ok(done)
+}
+
+/// Whether an epoch has a net at its place.
+pub fn is_there(nets: &[Option<Net>], place: usize) -> bool
+    requires { place < length nets.now }
+    ensures { (o : Option NetSeen) → slice_get nets.now place ≡ Some o → result ≡ is_some o }
+{
+    nets[place].is_some()
+}
+
+/// Lends out what stands on the link to a site, in the net at a place, which is there. It takes no memory.
+pub fn lend_at(nets: &mut Vec<Option<Net>>, place: usize, site: u16) -> Queue<Label>
+    requires within { place < length nets.old.items }
+    requires there { (o : Option NetSeen) → slice_get nets.old.items place ≡ Some o → IsSome o }
+    requires seat { (n : NetSeen) → slice_get nets.old.items place ≡ Some (Some n) → site < length n.tree.seats }
+    ensures { LendsAt nets.old.items place site result.members nets.new.items }
+{
+    let Some(net) = &mut nets[place] else {
+        unreachable!()
+    };
+    net.lend_to(site)
+}
+
+/// Gives it back.
+pub fn restore_at(nets: &mut Vec<Option<Net>>, place: usize, site: u16, labels: Queue<Label>)
+    requires within { place < length nets.old.items }
+    requires there { (o : Option NetSeen) → slice_get nets.old.items place ≡ Some o → IsSome o }
+    requires seat { (n : NetSeen) → slice_get nets.old.items place ≡ Some (Some n) → site < length n.tree.seats }
+    ensures { (n : NetSeen) → slice_get nets.old.items place ≡ Some (Some n)
+        → nets.new.items ≡ set nets.old.items place (Some (with_link_to n site labels.members)) }
+{
+    let Some(net) = &mut nets[place] else {
+        unreachable!()
+    };
+    net.restore_to(site, labels);
 }
 
 // A kill in one net.

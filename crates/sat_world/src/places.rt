@@ -1,16 +1,19 @@
 //! Acts at one place of a list: a site that is handed something, a client that is told an answer.
-ghost use Rattle.std.specs.Prelude.{ℕ, ◌≡◌, ◌<◌, true, length, set, slice_get, Some, IfOk, OnErr, IsOk};
+ghost use Rattle.std.specs.Prelude.{ℕ, ◌≡◌, ◌<◌, true, drop, length, set, slice_get, Some, IfOk, OnErr, IsOk};
+ghost use Rattle.sat_label.specs.declared.label.Label.{Label as LabelSeen};
+ghost use Rattle.sat_label.specs.Members.{In};
 ghost use Rattle.sat_client.specs.declared.client.Client.{Client as ClientSeen};
 ghost use Rattle.sat_client.specs.Clients.{after_leave};
 ghost use Rattle.sat_site.specs.Seen.{SiteSeen, IsSite};
-ghost use Rattle.sat_site.specs.Inputs.{fits_in, takes_none};
+ghost use Rattle.sat_site.specs.Inputs.{fits_in, takes_none, IsFront};
 ghost use Rattle.sat_sink.specs.Sink.{ready_of};
-ghost use Rattle.sat_world.specs.Steps.{StepsAt, told, joined, IsNumber, MayTell};
+ghost use Rattle.sat_world.specs.Steps.{StepsAt, TurnsAt, told, joined, IsNumber, MayTell};
 
 use sat_act::Answer;
 use sat_bulk::Payload;
 use sat_client::Client;
 use sat_label::{Carried, Items, Label, Value};
+use sat_queue::Queue;
 use sat_site::{Site, SiteInput};
 use std::alloc::AllocError;
 
@@ -117,6 +120,20 @@ pub fn turn_at(sites: &mut Vec<Site>, place: u16, front: Option<Label>) -> Answe
     let site = &mut sites[place as usize];
     sound(site);
     site.turn(front)
+}
+
+/// Hands a site the labels of the link to it, one after another, until it turns no more: how many it turned, and how
+/// many of them showed an update.
+pub fn turn_all_at(sites: &mut Vec<Site>, place: u16, labels: &mut Queue<Label>) -> (u64, u64)
+    requires within { place < length sites.old.items }
+    requires fronts { (x : SiteSeen) → slice_get sites.old.items place ≡ Some x → IsSite x
+        → (l : LabelSeen) → In labels.old.members l → IsFront x l }
+    ensures turns { TurnsAt sites.old.items place labels.old.members result.0 result.1 sites.new.items }
+    ensures left { labels.new.members ≡ drop result.0 labels.old.members }
+{
+    let site = &mut sites[place as usize];
+    sound(site);
+    site.turn_all(labels)
 }
 
 /// Hands a site a payload. For want of memory the sites are as before.

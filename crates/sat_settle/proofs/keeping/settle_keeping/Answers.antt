@@ -1,7 +1,5 @@
-use Rattle.std.proofs.Common.{subst, sym, ap, ◌∙◌}
-use Rattle.sat_act.specs.Deployed.{Deployed}
+use Rattle.std.proofs.Common.{subst, sym}
 use Rattle.sat_act.specs.Limits.{IsDeployment}
-use Rattle.sat_act.specs.Settling.{round_acts}
 use Rattle.sat_settle.proofs.Settled.{ends-by, settled-answer, settled-stands}
 use Rattle.sat_settle.proofs.KeptOn.{settle-keeps}
 use Rattle.sat_settle.proofs.keeping.settle_keeping.Goals as goal

@@ -13,7 +13,4 @@ pub returns-in-Hop-clause-err : goal.returns-in-Hop-clause-err
 returns-in-Hop-clause-err c = rw c.in-Hop.is c.hops.ensures.err
 
 pub returns-in-Turn-clause-ok : goal.returns-in-Turn-clause-ok
-returns-in-Turn-clause-ok c = rw c.in-Turn.is c.turns.ensures.ok
-
-pub returns-in-Turn-clause-err : goal.returns-in-Turn-clause-err
-returns-in-Turn-clause-err c = rw c.in-Turn.is c.turns.ensures.err
+returns-in-Turn-clause-ok c = rw c.in-Turn.is c.turns.ensures.until
