@@ -1,5 +1,5 @@
 -- What an act answers and leaves, by what it was handed.
-use Rattle.std.specs.Prelude.{◌≡◌, Bool, true, false, IfOk, OnOk, ◌&&◌, refl}
+use Rattle.std.specs.Prelude.{◌≡◌, IfOk, OnOk}
 use Rattle.std.proofs.Common.{Result, Ok, Err, ap, sym, ◌∙◌}
 use Rattle.std.specs.declared.alloc.AllocError.{AllocError}
 use Rattle.sat_act.specs.declared.answer.Answer.{Answer}

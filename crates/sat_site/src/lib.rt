@@ -9,6 +9,7 @@ mod input;
 mod output;
 mod shape;
 mod site;
+mod turning;
 
 pub use input::SiteInput;
 pub use output::{SiteOutput, SiteView};

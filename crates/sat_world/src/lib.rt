@@ -6,6 +6,7 @@ ghost use Rattle.sat_world.specs.Laws.{FlagsStayFree, UndoneKeeps};
 mod clocks;
 mod nets;
 mod places;
+mod repeating;
 mod start;
 mod tally;
 mod underway;

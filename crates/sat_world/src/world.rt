@@ -1,5 +1,5 @@
 //! The world of all acts but a settle.
-ghost use Rattle.std.specs.Prelude.{◌≡◌, ◌<◌, ◌+◌, ℕ, true, false, List, [], ◌∷◌, length, slice_get, IfOk, IsNone};
+ghost use Rattle.std.specs.Prelude.{◌≡◌, ◌<◌, ◌+◌, true, false, List, [], ◌∷◌, length, slice_get, IfOk, IsNone};
 ghost use Rattle.std.specs.Prelude.{OnErr, IsOk, MatchOption, Some, None};
 ghost use Rattle.sat_act.specs.declared.act.Act.{Act as ActSeen};
 ghost use Rattle.sat_act.specs.declared.entry.Entry.{Entry};
@@ -15,7 +15,6 @@ ghost use Rattle.sat_label.specs.declared.node.NodeId.TheVariants.{Serializer as
 ghost use Rattle.sat_world.specs.TakesNone.{takes_none};
 ghost use Rattle.sat_world.specs.Counts.{shown_count};
 ghost use Rattle.sat_world.specs.Underway.{underway};
-ghost use Rattle.sat_world.specs.Again.{Again, Spends};
 ghost use Rattle.sat_world.specs.Applies.{Applies};
 ghost use Rattle.sat_world.specs.Steps.{act_at, is_quiet, WritesBy};
 ghost use Rattle.sat_world.specs.Reaches.{Reaches, HandsSome};
@@ -36,11 +35,11 @@ use std::marker::Model;
 #[derive(Drop)]
 pub struct World {
     deployment: Deployment,
-    interest: Interest,
-    sites: Vec<Site>,
-    nets: Vec<Option<Net>>,
+    pub(crate) interest: Interest,
+    pub(crate) sites: Vec<Site>,
+    pub(crate) nets: Vec<Option<Net>>,
     clients: Vec<Client>,
-    shown: u64,
+    pub(crate) shown: u64,
 }
 
 impl Model for World {
@@ -487,19 +486,6 @@ impl World {
         Ok(answer)
     }
 
-    /// Hops of an epoch's tree over one link, each as `apply` does it, until one is refused: how many were done. For
-    /// want of memory some were done.
-    pub fn hops(&mut self, epoch: u16, from: NodeId, to: u16) -> Result<u64, AllocError>
-        requires { IsActOf self.old.deployment (Act.Hop epoch from to) }
-        ensures ok { IfOk result (λ done. Spends (Act.Hop epoch from to) self.old done self.new) }
-        ensures err { OnErr result ((done : ℕ) × Again (Act.Hop epoch from to) self.old done self.new) }
-        ensures deployment { self.new.deployment ≡ self.old.deployment }
-    {
-        let place = epoch as usize - 1;
-        let done = nets::hops_at(&mut self.nets, place, &self.interest, from, to)?;
-        Ok(done)
-    }
-
     /// The label at a place of the link to a serializer, counted from the oldest one that it has not taken, None where
     /// there is none. It asks for an edge of an epoch's tree. It takes no memory, and works after a kill too.
     pub fn ahead(&self, epoch: u16, from: NodeId, to: u16, count: u64) -> Option<Label>
@@ -526,24 +512,6 @@ impl World {
         nets::take_at(&mut self.nets, place, site, &answer);
         self.shown = tally::more_shown(self.shown, &answer);
         Ok(answer)
-    }
-
-    /// Turns of a site, each as `apply` does it, until one is refused: how many were done. It takes no memory.
-    pub fn turns(&mut self, site: u16) -> u64
-        requires { IsActOf self.old.deployment (Act.Turn site) }
-        ensures spends { Spends (Act.Turn site) self.old result self.new }
-        ensures deployment { self.new.deployment ≡ self.old.deployment }
-    {
-        let known = &self.sites[site as usize];
-        let place = known.view().view as usize - 1;
-        if !nets::is_there(&self.nets, place) {
-            return 0;
-        }
-        let mut labels = nets::lend_at(&mut self.nets, place, site);
-        let (done, shown) = places::turn_all_at(&mut self.sites, site, &mut labels);
-        nets::restore_at(&mut self.nets, place, site, labels);
-        self.shown = self.shown.saturating_add(shown);
-        done
     }
 
     /// A payload of a lane comes in, that of a number or the next one, as `apply` does it.
