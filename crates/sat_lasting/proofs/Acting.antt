@@ -10,7 +10,6 @@ use Rattle.sat_act.specs.Answers.{answer}
 use Rattle.sat_act.specs.Limits.{IsDeployment}
 use Rattle.sat_act.proofs.Valid.{is_valid}
 use Rattle.sat_bodies.specs.Bodies.{input_allows}
-use Rattle.sat_durable.specs.Machine.{run_of}
 use Rattle.sat_model.specs.Replay.{handed, site_state}
 use Rattle.sat_site.specs.declared.input.SiteInput.{SiteInput}
 use Rattle.sat_site.specs.Inputs.{fits_in, input_of}
@@ -33,11 +32,9 @@ use Rattle.sat_lasting_laws.specs.Ranges.{IsLastingActOf}
 use Rattle.sat_lasting_laws.specs.Reached.{is_at, site_at}
 use Rattle.sat_lasting_laws.proofs.Held.{held, lastings}
 use Rattle.sat_lasting.specs.declared.cut.Cut.{Cut}
-use Rattle.sat_lasting.specs.declared.kept_site.KeptSite.{KeptSite}
 use Rattle.sat_lasting.specs.declared.slot.Slot.{Slot}
 use Rattle.sat_lasting.specs.Cuts.{cut_at}
 use Rattle.sat_lasting.specs.Lasts.{AreInputs, Changes, LastingApplies, LastingSeen, LastsAt, LastsFor, Steps, Stops, whole_answer}
-use Rattle.sat_lasting.specs.Sites.{fresh_kept, site_meaning}
 use Rattle.sat_lasting.specs.Slots.{IsFew, SlotFits, SlotKeeps, StepsSlot, TakesNext, after_inputs, is_there, with_input}
 use Rattle.sat_lasting.proofs.Allowed.{all_have_bodies}
 use Rattle.sat_lasting.proofs.Behind.{behind-sound}

@@ -1,12 +1,12 @@
 -- The site behind the inputs of which a disk has a journal is one.
-use Rattle.std.proofs.Common.{◌≡◌, ◌<◌, ◌+◌, ℕ, Bool, true, false, ◌&&◌, List, [], ◌∷◌, length, Option, Some, None, Result, Ok, Err, refl, sym, subst, ◌∙◌}
+use Rattle.std.proofs.Common.{◌≡◌, ◌<◌, ◌+◌, ℕ, Bool, true, false, List, [], ◌∷◌, length, Option, Some, None, Ok, Err, refl, subst}
 use Rattle.std.specs.Prelude.{if◌then◌else◌}
 use Rattle.std.proofs.lemmas.Bool.{and_parts}
 use Rattle.sat_act.specs.Deployed.{Deployed}
 use Rattle.sat_act.specs.Limits.{IsDeployment}
 use Rattle.sat_bodies.specs.Bodies.{input_allows}
 use Rattle.sat_durable.specs.Journal.{reading}
-use Rattle.sat_durable.specs.Machine.{Recovers, Run, or_torn, recovered, replay_from, run_of, started, taken, taken_if}
+use Rattle.sat_durable.specs.Machine.{Recovers, Run, or_torn, replay_from, run_of, started, taken, taken_if}
 use Rattle.sat_site.specs.declared.input.SiteInput.{SiteInput}
 use Rattle.sat_site.specs.declared.output.SiteOutput.{SiteOutput}
 use Rattle.sat_site.specs.Inputs.{fits_in}

@@ -3,7 +3,7 @@ use Rattle.std.proofs.Common.{◌≡◌, ◌≤◌, ◌<◌, ◌^◌, ℕ, zero,
 use Rattle.std.specs.Prelude.{if◌then◌else◌}
 use Rattle.sat_act.specs.Deployed.{Deployed}
 use Rattle.sat_durable.specs.declared.memory.MemoryDisk.{MemoryDisk}
-use Rattle.sat_durable.specs.Disk.{DiskState, IsSynced, Rests}
+use Rattle.sat_durable.specs.Disk.{DiskState, IsSynced}
 use Rattle.sat_durable.specs.Journal.{reading, with_last}
 use Rattle.sat_durable.specs.Journals.{is_whole}
 use Rattle.sat_durable.specs.Drills.{Chosen, CutLeaves, IsCalm, StepsTold, is_kept}
@@ -20,7 +20,7 @@ use Rattle.sat_lasting.specs.declared.cut.Cut.{Cut}
 use Rattle.sat_lasting.specs.declared.kept_site.KeptSite.{KeptSite}
 use Rattle.sat_lasting.specs.declared.slot.Slot.{Slot}
 use Rattle.sat_lasting.specs.Sites.{fresh_kept, site_meaning}
-use Rattle.sat_lasting.specs.Slots.{Arms, CameTo, FailsBy, HasInputs, IsFew, LeftBy, SlotFits, SlotKeeps, StepsKept, StepsSlot, TakesNext, Waits, after_inputs, is_there, slot_disk, with_input}
+use Rattle.sat_lasting.specs.Slots.{Arms, CameTo, FailsBy, HasInputs, IsFew, LeftBy, SlotFits, SlotKeeps, StepsKept, StepsSlot, TakesNext, after_inputs, is_there, slot_disk, with_input}
 
 abbrev Journalled : Deployed → ℕ → List ℕ → List SiteInput → Type 0
 Journalled d i content inputs = Recovers site_meaning (fresh_kept d i) content inputs

@@ -81,8 +81,8 @@ impl Slot {
         Ok(count)
     }
 
-    /// Puts an input into the journal, which is cut off where a cut falls into it, and tells whether the input is there.
-    /// Where it was cut off the site is made again. The buffer is for the input's record.
+    /// Puts an input into the journal, which is cut off where a cut falls into it, and tells whether the input is
+    /// there. Where it was cut off the site is made again. The buffer is for the input's record.
     pub(crate) fn step(
         &mut self,
         alloc: Global,
