@@ -10,11 +10,10 @@ use Rattle.sat_act.specs.Answers.{answer}
 use Rattle.sat_act.specs.Limits.{IsDeployment}
 use Rattle.sat_act.proofs.Valid.{is_valid}
 use Rattle.sat_bodies.specs.Bodies.{input_allows}
-use Rattle.sat_durable.specs.Machine.{run_of}
 use Rattle.sat_model.specs.Replay.{handed, site_state}
 use Rattle.sat_site.specs.declared.input.SiteInput.{SiteInput}
 use Rattle.sat_site.specs.Inputs.{fits_in, input_of}
-use Rattle.sat_site.specs.Stands.{StandsSite}
+use Rattle.sat_site.specs.Seen.{IsSite}
 use Rattle.sat_world.specs.Applies.{Applies}
 use Rattle.sat_world.specs.Reaches.{IsHandedTo, Reaches}
 use Rattle.sat_world.specs.Seen.{WorldSeen}
@@ -33,13 +32,12 @@ use Rattle.sat_lasting_laws.specs.Ranges.{IsLastingActOf}
 use Rattle.sat_lasting_laws.specs.Reached.{is_at, site_at}
 use Rattle.sat_lasting_laws.proofs.Held.{held, lastings}
 use Rattle.sat_lasting.specs.declared.cut.Cut.{Cut}
-use Rattle.sat_lasting.specs.declared.kept_site.KeptSite.{KeptSite}
 use Rattle.sat_lasting.specs.declared.slot.Slot.{Slot}
 use Rattle.sat_lasting.specs.Cuts.{cut_at}
 use Rattle.sat_lasting.specs.Lasts.{AreInputs, Changes, LastingApplies, LastingSeen, LastsAt, LastsFor, Steps, Stops, whole_answer}
-use Rattle.sat_lasting.specs.Sites.{fresh_kept, site_meaning}
-use Rattle.sat_lasting.specs.Slots.{FitsKept, IsFew, SlotFits, SlotKeeps, StepsSlot, is_there, with_input}
+use Rattle.sat_lasting.specs.Slots.{IsFew, SlotFits, SlotKeeps, StepsSlot, TakesNext, after_inputs, is_there, with_input}
 use Rattle.sat_lasting.proofs.Allowed.{all_have_bodies}
+use Rattle.sat_lasting.proofs.Behind.{behind-sound}
 use Rattle.sat_lasting.proofs.Handing.{cut-armed, cut-elsewhere, cut-nowhere, cut-stays, cut-used, falls-in, falls-nowhere, inputs-count, next-none, next-some, no-site, site-is, stop-stays, stop-used}
 use Rattle.sat_lasting.proofs.Handing as handing
 use Rattle.sat_lasting.proofs.Sets.{get-set, same-number, same-some, set-there}
@@ -134,16 +132,22 @@ both-true : (a b : Bool) → a ≡ true → b ≡ true → (a && b) ≡ true
 both-true true b e f = f
 both-true false b e f = absurd (cc)
 
-kept-fits : (d : Deployed) (h : List Entry) (a : Act) (i : ℕ) (given : SiteInput) (machine : KeptSite) → IsDeployment d → IsHandedTo d h a i given → StandsSite d i machine.site (site_state d h i) → FitsKept given machine
-kept-fits d h a i given machine limits to stands sound =
-    let fits : fits_in machine.site given ≡ true = to.fits machine.site sound stands in
-    both-true (fits_in machine.site given) (input_allows given) fits (all_have_bodies d i machine.site (site_state d h i) given limits stands fits)
+-- what is known of the site behind inputs of which a disk has a journal, and of the next one
+record Takes (d : Deployed) (i : ℕ) (xs : List SiteInput) (given : SiteInput) : Type 0 where
+  pub sound : IsSite (after_inputs d i xs).site
+  pub fits : fits_in (after_inputs d i xs).site given ≡ true
+  pub allows : input_allows given ≡ true
+  pub takes : TakesNext d i xs given
+
+takes-it : (d : Deployed) (h : List Entry) (a : Act) (i : ℕ) (given : SiteInput) (xs : List SiteInput) (here : Slot) → IsDeployment d → IsHandedTo d h a i given → AreInputs d h i xs → SlotKeeps d i xs here → Takes d i xs given
+takes-it d h a i given xs here limits to are has =
+    let sound : IsSite (after_inputs d i xs).site = behind-sound d i xs _ limits to.site has.has.keeps.shown in
+    let fits : fits_in (after_inputs d i xs).site given ≡ true = to.fits (after_inputs d i xs).site sound are.stands in
+    let allows : input_allows given ≡ true = all_have_bodies d i (after_inputs d i xs).site (site_state d h i) given limits are.stands fits in
+    record { sound = sound; fits = fits; allows = allows; takes = both-true (fits_in (after_inputs d i xs).site given) (input_allows given) fits allows }
 
 slot-fits : (d : Deployed) (h : List Entry) (a : Act) (i : ℕ) (given : SiteInput) (xs : List SiteInput) (here : Slot) → IsDeployment d → IsHandedTo d h a i given → AreInputs d h i xs → SlotKeeps d i xs here → SlotFits given here
-slot-fits d h a i given xs here limits to are has = record {
-  whole = has.whole;
-  fits = kept-fits d h a i given here.kept limits to (subst (λ (m : KeptSite). StandsSite d i m.site (site_state d h i)) (sym has.has.keeps.same) are.stands);
-}
+slot-fits d h a i given xs here limits to are has = record { whole = has.whole; allows = (takes-it d h a i given xs here limits to are has).allows }
 
 pub fits-there : (d : Deployed) (s : LastingSeen) (c : List LastingEntry) (a : Act) (i : ℕ) (given : SiteInput) → IsDeployment d → IsHandedTo d (kept c) a i given → LastsAt d s c i → (here : Slot) → slice_get s.slots i ≡ Some here → SlotFits given here
 fits-there d s c a i given limits to x here at =
@@ -218,8 +222,11 @@ module _ (s : LastingSeen) (a : Act) (i : ℕ) (given : SiteInput) (cut : Option
   there-at : (c : List LastingEntry) → IsLastingRun d c → LastsFor s c → LastsAt d s c i
   there-at c run st = st.sites i (to-site c run st).site
 
-  did : (c : List LastingEntry) (x : LastsAt d s c i) → StepsSlot d i x.inputs given cut there changes.after
-  did c x = changes.holds x.inputs (subst (λ (y : Slot). SlotKeeps d i x.inputs y) (same-some x.slot changes.before (sym x.at ∙ changes.was)) x.keeps)
+  known : (c : List LastingEntry) → IsLastingRun d c → LastsFor s c → (x : LastsAt d s c i) → Takes d i x.inputs given
+  known c run st x = takes-it d (kept c) a i given x.inputs x.slot limits (to-site c run st) x.are x.keeps
+
+  did : (c : List LastingEntry) → IsLastingRun d c → LastsFor s c → (x : LastsAt d s c i) → StepsSlot d i x.inputs given cut there changes.after
+  did c run st x = changes.holds x.inputs (known c run st x).takes (subst (λ (y : Slot). SlotKeeps d i x.inputs y) (same-some x.slot changes.before (sym x.at ∙ changes.was)) x.keeps)
 
   handed-else : (c : List LastingEntry) (k : ℕ) → IsLastingRun d c → LastsFor s c → (i == k) ≡ false → handed d (kept c) a k ≡ None
   handed-else c k run st ne = sym (handing.alone d (kept c) a k of.1) ∙ ((to-site c run st).hands k ∙ ap (λ (b : Bool). if b then Some (input_of given) else None) ne)
@@ -249,16 +256,15 @@ module _ (s : LastingSeen) (a : Act) (i : ℕ) (given : SiteInput) (cut : Option
   whole-applies t n e done =
       applies-of s (now_with t slots cuts) (lasting.Plain a) (whole_answer cut n) limits of done.deployment
       (λ c run st. answered d c a (cut_at cut) n (whole_answer cut n) (falls d s c a i cut (there-at c run st) took (at-site c run st)) (says-so c run st)
-      (answer-whole cut there n (did c (there-at c run st)).told e))
+      (answer-whole cut there n (did c run st (there-at c run st)).told e))
       (λ c run st. lasts-by s (now_with t slots cuts) c (entry_of (lasting.Plain a) (whole_answer cut n) ∷ c) i done.deployment st
       (subst (λ (l : List Entry). StandsFor t l) (sym (kept-whole c a cut n)) (done.stands (kept c) (held d c run) st.world))
       (λ k ne x. lasts-else c (whole_answer cut n) t k run st ne
       (λ xs are. as-kept d (kept (entry_of (lasting.Plain a) (whole_answer cut n) ∷ c)) (plain_entry a n ∷ kept c) k xs (kept-whole c a cut n) (next-none d (kept c) a n k xs (handed-else c k run st ne) are)) x)
       (λ x. lasts-here c (whole_answer cut n) t (x.inputs ++ given ∷ []) run st
       (as-kept d (kept (entry_of (lasting.Plain a) (whole_answer cut n) ∷ c)) (plain_entry a n ∷ kept c) i (x.inputs ++ given ∷ []) (kept-whole c a cut n)
-      (next-some d (kept c) a i given n x.inputs limits (held d c run) (says-so c run st) (handed-here c run st) (did c x).sound
-      ((to-site c run st).fits (run_of site_meaning (fresh_kept d i) x.inputs).machine.site (did c x).sound x.are.stands) x.are))
-      (subst (λ (b : Bool). SlotKeeps d i (with_input b x.inputs given) changes.after) e (did c x).keeps)))
+      (next-some d (kept c) a i given n x.inputs limits (held d c run) (says-so c run st) (handed-here c run st) (known c run st x).sound (known c run st x).fits x.are))
+      (subst (λ (b : Bool). SlotKeeps d i (with_input b x.inputs given) changes.after) e (did c run st x).keeps)))
     where
       says-so : (c : List LastingEntry) → IsLastingRun d c → LastsFor s c → n ≡ answer d (kept c) a
       says-so c run st = done.answer (kept c) (held d c run) st.world
@@ -268,14 +274,14 @@ module _ (s : LastingSeen) (a : Act) (i : ℕ) (given : SiteInput) (cut : Option
   without-applies e =
       applies-of s (now_with s.world slots cuts) (lasting.Plain a) says.StoppedWithout limits of refl
       (λ c run st. answered-without d c a (cut_at cut) says.StoppedWithout (falls d s c a i cut (there-at c run st) took (at-site c run st))
-      (answer-without cut there (answer d (kept c) a) (did c (there-at c run st)).told e))
+      (answer-without cut there (answer d (kept c) a) (did c run st (there-at c run st)).told e))
       (λ c run st. lasts-by s (now_with s.world slots cuts) c (entry_of (lasting.Plain a) says.StoppedWithout ∷ c) i refl st
       (subst (λ (l : List Entry). StandsFor s.world l) (sym (kept-without c a)) st.world)
       (λ k ne x. lasts-else c says.StoppedWithout s.world k run st ne
       (λ xs are. as-kept d (kept (entry_of (lasting.Plain a) says.StoppedWithout ∷ c)) (kept c) k xs (kept-without c a) are) x)
       (λ x. lasts-here c says.StoppedWithout s.world x.inputs run st
       (as-kept d (kept (entry_of (lasting.Plain a) says.StoppedWithout ∷ c)) (kept c) i x.inputs (kept-without c a) x.are)
-      (subst (λ (b : Bool). SlotKeeps d i (with_input b x.inputs given) changes.after) e (did c x).keeps)))
+      (subst (λ (b : Bool). SlotKeeps d i (with_input b x.inputs given) changes.after) e (did c run st x).keeps)))
 
 -- ---- a plain act at no site
 

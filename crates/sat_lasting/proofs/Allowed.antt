@@ -1,6 +1,6 @@
 -- What fits a site of a deployment has a body.
 use Rattle.std.specs.Prelude.{◌≡◌, ◌<◌, ◌≤◌, ◌^◌, ℕ, suc, Bool, true, false, ◌&&◌, ◌||◌, not, ◌==◌, nat_le, nat_lt, List, [], ◌∷◌, length, Option, Some, None, is_some, refl}
-use Rattle.std.proofs.Common.{arith, ap, sym, ◌∙◌}
+use Rattle.std.proofs.Common.{arith, ap, ◌∙◌}
 use Rattle.std.proofs.lemmas.Bool.Decides.{nat_tests}
 use Rattle.sat_label.specs.declared.items.Items.{Items}
 use Rattle.sat_label.specs.declared.items.Items.TheVariants.{One, Two, Three, Four}
@@ -8,7 +8,6 @@ use Rattle.sat_label.specs.declared.label.Kind.{Kind}
 use Rattle.sat_label.specs.declared.label.Kind.TheVariants as kind
 use Rattle.sat_label.specs.declared.label.Label.{Label}
 use Rattle.sat_label.specs.Grouped.{are_items, list_of}
-use Rattle.sat_beat.specs.declared.Beat.{Beat}
 use Rattle.sat_bulk.specs.Payloads.{Payload}
 use Rattle.sat_sites.specs.Interested.{are_below, keeps, keeps_one}
 use Rattle.sat_sites.specs.declared.shape.Shape.{Shape}
@@ -20,10 +19,10 @@ use Rattle.sat_model.specs.Fits.{is_time}
 use Rattle.sat_bodies.specs.Bodies.{input_allows}
 use Rattle.sat_wire.specs.Code.{both_fit}
 use Rattle.sat_wire.specs.Labels.{ascend, kind_allows, label_allows}
-use Rattle.sat_wire.specs.Payloads.{beat_allows, payload_allows}
+use Rattle.sat_wire.specs.Payloads.{payload_allows}
 use Rattle.sat_site.specs.declared.input.SiteInput.{SiteInput}
 use Rattle.sat_site.specs.declared.input.SiteInput.TheVariants as input
-use Rattle.sat_site.specs.Inputs.{fits_here, fits_in, is_bulk_here, is_carried_here, is_counted, is_front_here, is_group_here, is_guest_here, is_kept_here, is_kind_here, is_other_here, is_gear_here, is_sized}
+use Rattle.sat_site.specs.Inputs.{fits_here, is_carried_here, is_counted, is_front_here, is_group_here, is_guest_here, is_kept_here, is_kind_here, is_other_here, is_gear_here, is_sized}
 use Rattle.sat_site.specs.Seen.{SiteSeen, has_parts_here}
 use Rattle.sat_site.specs.Stands.{StandsSite}
 use Rattle.sat_lasting.specs.Laws.{AllHaveBodies}

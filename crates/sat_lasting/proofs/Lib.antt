@@ -1,4 +1,5 @@
 pub mod Allowed
+pub mod Behind
 pub mod Sets
 pub mod Slotting
 pub mod Handing

@@ -3,7 +3,7 @@ use Rattle.std.proofs.Common.{◌≡◌, ◌≤◌, ◌<◌, ◌^◌, ℕ, zero,
 use Rattle.std.specs.Prelude.{if◌then◌else◌}
 use Rattle.sat_act.specs.Deployed.{Deployed}
 use Rattle.sat_durable.specs.declared.memory.MemoryDisk.{MemoryDisk}
-use Rattle.sat_durable.specs.Disk.{DiskState, IsSynced, Rests}
+use Rattle.sat_durable.specs.Disk.{DiskState, IsSynced}
 use Rattle.sat_durable.specs.Journal.{reading, with_last}
 use Rattle.sat_durable.specs.Journals.{is_whole}
 use Rattle.sat_durable.specs.Drills.{Chosen, CutLeaves, IsCalm, StepsTold, is_kept}
@@ -14,30 +14,33 @@ use Rattle.sat_durable.specs.Told as drill
 use Rattle.sat_durable.proofs.Drilling.{leaves_weaker}
 use Rattle.sat_durable.proofs.Lifting.{keeps_more, recovers_more, recovers_same}
 use Rattle.sat_lasting_laws.specs.declared.lasting_act.TheConstants.{MOST_CALLS}
-use Rattle.sat_site.specs.Seen.{IsSite}
 use Rattle.sat_site.specs.declared.input.SiteInput.{SiteInput}
 use Rattle.sat_site.specs.declared.output.SiteOutput.{SiteOutput}
 use Rattle.sat_lasting.specs.declared.cut.Cut.{Cut}
 use Rattle.sat_lasting.specs.declared.kept_site.KeptSite.{KeptSite}
 use Rattle.sat_lasting.specs.declared.slot.Slot.{Slot}
 use Rattle.sat_lasting.specs.Sites.{fresh_kept, site_meaning}
-use Rattle.sat_lasting.specs.Slots.{Arms, CameTo, FailsBy, FitsKept, HasInputs, IsFew, LeftBy, SlotFits, SlotKeeps, StepsKept, StepsSlot, Waits, is_there, slot_disk, with_input}
+use Rattle.sat_lasting.specs.Slots.{Arms, CameTo, FailsBy, HasInputs, IsFew, LeftBy, SlotFits, SlotKeeps, StepsKept, StepsSlot, TakesNext, after_inputs, is_there, slot_disk, with_input}
 
 abbrev Journalled : Deployed → ℕ → List ℕ → List SiteInput → Type 0
 Journalled d i content inputs = Recovers site_meaning (fresh_kept d i) content inputs
 
 -- a new one
-pub fresh-has : (d : Deployed) (i : ℕ) (fresh machine : KeptSite) (old new : DiskState) → fresh ≡ fresh_kept d i → old.told ≡ drill.told None false [] → Keeps site_meaning fresh new machine [] → (IsCalm old → IsCalm new) → HasInputs d i [] new machine
+-- where a machine has these inputs, it is the one behind them
+by-machine : (d : Deployed) (i : ℕ) (inputs : List SiteInput) (disk : DiskState) (machine : KeptSite) → Keeps site_meaning (fresh_kept d i) disk machine inputs → Keeps site_meaning (fresh_kept d i) disk (after_inputs d i inputs) inputs
+by-machine d i inputs disk machine keeps = record { same = refl; shown = keeps.shown; left = keeps.left }
+
+pub fresh-has : (d : Deployed) (i : ℕ) (fresh machine : KeptSite) (old new : DiskState) → fresh ≡ fresh_kept d i → old.told ≡ drill.told None false [] → Keeps site_meaning fresh new machine [] → (IsCalm old → IsCalm new) → HasInputs d i [] new
 fresh-has d i fresh machine old new is told keeps calm = record {
-  keeps = subst (λ (m : KeptSite). Keeps site_meaning m new machine []) is keeps;
+  keeps = by-machine d i [] new machine (subst (λ (m : KeptSite). Keeps site_meaning m new machine []) is keeps);
   fails = calm (false, [], told);
 }
 
--- a site and its journal, apart
-pub parts-keep : (d : Deployed) (i : ℕ) (inputs : List SiteInput) (slot : Slot) (disk : MemoryDisk) (machine : KeptSite) → slot_disk slot ≡ disk → slot.kept ≡ machine → is_whole slot.journal ≡ true → HasInputs d i inputs (memory_state disk) machine → SlotKeeps d i inputs slot
-parts-keep d i inputs slot disk machine is same whole has = record {
+-- a journal of its own
+pub parts-keep : (d : Deployed) (i : ℕ) (inputs : List SiteInput) (slot : Slot) (disk : MemoryDisk) → slot_disk slot ≡ disk → is_whole slot.journal ≡ true → HasInputs d i inputs (memory_state disk) → SlotKeeps d i inputs slot
+parts-keep d i inputs slot disk is whole has = record {
   whole = whole;
-  has = subst (λ (x : MemoryDisk). HasInputs d i inputs (memory_state x) slot.kept) (sym is) (subst (λ (m : KeptSite). HasInputs d i inputs (memory_state disk) m) (sym same) has);
+  has = subst (λ (x : MemoryDisk). HasInputs d i inputs (memory_state x)) (sym is) has;
 }
 
 -- ---- a cut that waits
@@ -69,27 +72,27 @@ leaves new P Q (suc (suc zero)) keep synced few steps = steps.1
 leaves new P Q (suc (suc (suc zero))) keep synced few steps = steps.1
 leaves new P Q (suc (suc (suc (suc calls)))) keep synced few steps = absurd (omega (arith, few))
 
-module _ (d : Deployed) (i : ℕ) (inputs : List SiteInput) (given : SiteInput) (machine next : KeptSite) (old new : DiskState) (body : List ℕ)
-    (keeps : Keeps site_meaning (fresh_kept d i) old machine inputs) (fits : site_meaning.fits machine given ≡ true) (again : site_meaning.input_of (site_meaning.body given) ≡ Some given) (is : body ≡ site_meaning.body given) where
+module _ (d : Deployed) (i : ℕ) (inputs : List SiteInput) (given : SiteInput) (old new : DiskState) (body : List ℕ)
+    (keeps : Keeps site_meaning (fresh_kept d i) old (after_inputs d i inputs) inputs) (fits : TakesNext d i inputs given) (again : site_meaning.input_of (site_meaning.body given) ≡ Some given) (is : body ≡ site_meaning.body given) where
   -- a disk that says one body more says one input more
   more : (c : List ℕ) → reading c ≡ with_last (reading old.content) body → Journalled d i c (inputs ++ given ∷ [])
-  more c says = recovers_more site_meaning (fresh_kept d i) old machine inputs keeps given fits again c (says ∙ ap (λ (l : List ℕ). with_last (reading old.content) l) is)
+  more c says = recovers_more site_meaning (fresh_kept d i) old (after_inputs d i inputs) inputs keeps given fits again c (says ∙ ap (λ (l : List ℕ). with_last (reading old.content) l) is)
 
   as-before : (c : List ℕ) → reading c ≡ reading old.content → Journalled d i c inputs
-  as-before c says = recovers_same site_meaning (fresh_kept d i) old machine inputs keeps c says
+  as-before c says = recovers_same site_meaning (fresh_kept d i) old (after_inputs d i inputs) inputs keeps c says
 
-  keeps-next : next ≡ site_meaning.after machine given → reading new.content ≡ with_last (reading old.content) body → IsSynced new → Keeps site_meaning (fresh_kept d i) new next (inputs ++ given ∷ [])
-  keeps-next after added synced =
-      keeps_more site_meaning (fresh_kept d i) old machine inputs keeps given fits again new next after (added ∙ ap (λ (l : List ℕ). with_last (reading old.content) l) is) synced
+  keeps-next : reading new.content ≡ with_last (reading old.content) body → IsSynced new → Keeps site_meaning (fresh_kept d i) new (after_inputs d i (inputs ++ given ∷ [])) (inputs ++ given ∷ [])
+  keeps-next added synced =
+      by-machine d i (inputs ++ given ∷ []) new (site_meaning.after (after_inputs d i inputs) given) (keeps_more site_meaning (fresh_kept d i) old (after_inputs d i inputs) inputs keeps given fits again new (site_meaning.after (after_inputs d i inputs) given) refl (added ∙ ap (λ (l : List ℕ). with_last (reading old.content) l) is) synced)
 
   -- the site behind it is one into which no cut fell
-  pub step-done : (cut : Option Cut) → IsFew cut → FailsBy cut old → next ≡ site_meaning.after machine given → reading new.content ≡ with_last (reading old.content) body → IsSynced new → ToldOf old new body true old.told →
-      (cut ≡ None) × HasInputs d i (inputs ++ given ∷ []) new next
-  step-done None few fails after added synced told = (
+  pub step-done : (cut : Option Cut) → IsFew cut → FailsBy cut old → reading new.content ≡ with_last (reading old.content) body → IsSynced new → ToldOf old new body true old.told →
+      (cut ≡ None) × HasInputs d i (inputs ++ given ∷ []) new
+  step-done None few fails added synced told = (
     refl,
-    record { keeps = keeps-next after added synced; fails = (told-by old new body true old.told (drill.told None fails.0 fails.1) fails.2 told).1 },
+    record { keeps = keeps-next added synced; fails = (told-by old new body true old.told (drill.told None fails.0 fails.1) fails.2 told).1 },
   )
-  step-done (Some cut) few fails after added synced told =
+  step-done (Some cut) few fails added synced told =
       absurd (never new (λ c. reading c ≡ with_last (reading old.content) body) (λ c. reading c ≡ reading old.content) cut.calls cut.keep fails.0 few
       (told-by old new body true old.told (drill.told (Some cut.calls) cut.keep fails.0) fails.1 told))
 
@@ -118,22 +121,19 @@ five-head head bytes body is more = omega (arith, five-long head bytes body is m
 pub five-short : (head bytes body : List ℕ) → Five head → bytes ≡ head ++ body → length body < 2 ^ 32 → length bytes < 2 ^ 32 + 5
 five-short head bytes body is more short = omega (arith, short, five-long head bytes body is more)
 
-module _ (given : SiteInput) (old new : Slot) (head bytes : List ℕ) (sound : IsSite old.kept.site) (fits : SlotFits given old) (again : site_meaning.input_of (site_meaning.body given) ≡ Some given)
+module _ (given : SiteInput) (old new : Slot) (head bytes : List ℕ) (again : site_meaning.input_of (site_meaning.body given) ≡ Some given)
     (five : Five head) (is : bytes ≡ head ++ site_meaning.body given) where
-  pub took-done : new.kept ≡ site_meaning.after old.kept given → is_whole new.journal ≡ true → reading (memory_state (slot_disk new)).content ≡ with_last (reading (memory_state (slot_disk old)).content) (drop 5 bytes) →
+  pub took-done : is_whole new.journal ≡ true → reading (memory_state (slot_disk new)).content ≡ with_last (reading (memory_state (slot_disk old)).content) (drop 5 bytes) →
       IsSynced (memory_state (slot_disk new)) → ToldOf (memory_state (slot_disk old)) (memory_state (slot_disk new)) (drop 5 bytes) true (memory_state (slot_disk old)).told → StepsKept old given true new
-  took-done after whole added synced told d i inputs cut few waits =
-      let x = step-done d i inputs given old.kept new.kept (memory_state (slot_disk old)) (memory_state (slot_disk new)) (drop 5 bytes) waits.keeps (fits.fits sound) again (behind-five head bytes (site_meaning.body given) five is) cut few waits.fails after added synced told in
+  took-done whole added synced told d i inputs cut few fits waits =
+      let x = step-done d i inputs given (memory_state (slot_disk old)) (memory_state (slot_disk new)) (drop 5 bytes) waits.keeps fits again (behind-five head bytes (site_meaning.body given) five is) cut few waits.fails added synced told in
       (x.0, record { whole = whole; has = x.1 })
 
   pub took-failed : ToldOf (memory_state (slot_disk old)) (memory_state (slot_disk new)) (drop 5 bytes) false (memory_state (slot_disk old)).told → StepsKept old given false new
-  took-failed told d i inputs cut few waits =
-      step-failed d i inputs given old.kept new.kept (memory_state (slot_disk old)) (memory_state (slot_disk new)) (drop 5 bytes) waits.keeps (fits.fits sound) again (behind-five head bytes (site_meaning.body given) five is) cut few waits.fails told
+  took-failed told d i inputs cut few fits waits =
+      step-failed d i inputs given (memory_state (slot_disk old)) (memory_state (slot_disk new)) (drop 5 bytes) waits.keeps fits again (behind-five head bytes (site_meaning.body given) five is) cut few waits.fails told
 
 -- ---- what a slot has behind a step
-
-sound-in : (d : Deployed) (i : ℕ) (inputs : List SiteInput) (machine : KeptSite) (old : DiskState) → HasInputs d i inputs old machine → IsSite machine.site → IsSite (run_of site_meaning (fresh_kept d i) inputs).machine.site
-sound-in d i inputs machine old has sound = subst (λ (m : KeptSite). IsSite m.site) has.keeps.same sound
 
 there-as : (cut : Option Cut) → cut ≡ None → true ≡ is_there cut
 there-as cut e = sym (ap (λ (o : Option Cut). is_there o) e)
@@ -165,18 +165,18 @@ pub crashed-calm : (disk : MemoryDisk) (crashed : DiskState) → crashed.told �
 crashed-calm disk crashed tells = (memory_keeps disk, crashed.content, tells)
 
 -- an armed slot takes what it took before
-pub armed-fits : (given : SiteInput) (old mid : Slot) → mid.kept ≡ old.kept → is_whole mid.journal ≡ is_whole old.journal → SlotFits given old → SlotFits given mid
-armed-fits given old mid kept whole fits = record { whole = whole ∙ fits.whole; fits = subst (λ (m : KeptSite). FitsKept given m) (sym kept) fits.fits }
+pub armed-fits : (given : SiteInput) (old mid : Slot) → is_whole mid.journal ≡ is_whole old.journal → SlotFits given old → SlotFits given mid
+armed-fits given old mid whole fits = record { whole = whole ∙ fits.whole; allows = fits.allows }
 
 module _ (d : Deployed) (i : ℕ) (inputs : List SiteInput) (given : SiteInput) (cut : Option Cut) (old mid new : Slot) (done : Bool)
-    (few : IsFew cut) (sound : IsSite old.kept.site) (arms : Arms cut (memory_state (slot_disk old)) old.kept (memory_state (slot_disk mid)) mid.kept) (steps : StepsKept mid given done new) (keeps : SlotKeeps d i inputs old) where
+    (few : IsFew cut) (arms : Arms cut (memory_state (slot_disk old)) (memory_state (slot_disk mid))) (steps : StepsKept mid given done new) (fits : TakesNext d i inputs given) (keeps : SlotKeeps d i inputs old) where
   came-to : CameTo d i inputs given cut done new
-  came-to = steps d i inputs cut few (arms d i inputs keeps.has)
+  came-to = steps d i inputs cut few fits (arms d i inputs keeps.has)
 
   pub slot-done : done ≡ true → StepsSlot d i inputs given cut true new
   slot-done is =
       let x : CameTo d i inputs given cut true new = subst (λ (b : Bool). CameTo d i inputs given cut b new) is came-to in
-      record { told = there-as cut x.0; keeps = x.1; sound = sound-in d i inputs old.kept (memory_state (slot_disk old)) keeps.has sound }
+      record { told = there-as cut x.0; keeps = x.1 }
 
   pub slot-failed : (crashed : DiskState) (there : Bool) (made : Slot) → done ≡ false →
       crashed.content ≡ (if memory_keeps (slot_disk new) then (memory_state (slot_disk new)).content else memory_synced (slot_disk new)) →
@@ -188,7 +188,6 @@ module _ (d : Deployed) (i : ℕ) (inputs : List SiteInput) (given : SiteInput) 
       record {
         told = e;
         keeps = makes (with_input there inputs given) (left-content d i inputs given cut (slot_disk new) crashed there left content e) (crashed-calm (slot_disk new) crashed tells);
-        sound = sound-in d i inputs old.kept (memory_state (slot_disk old)) keeps.has sound;
       }
 
 -- ---- a site that is made again
@@ -198,9 +197,9 @@ slot-left d i inputs old content left has = has.has.keeps.left content left
 
 pub made-has : (d : Deployed) (i : ℕ) (inputs : List SiteInput) (fresh machine : KeptSite) (old new : DiskState) → fresh ≡ fresh_kept d i →
     ((xs : List SiteInput) → Recovers site_meaning fresh old.content xs → Keeps site_meaning fresh new machine xs) → (IsCalm old → IsCalm new) →
-    Recovers site_meaning (fresh_kept d i) old.content inputs → IsCalm old → HasInputs d i inputs new machine
+    Recovers site_meaning (fresh_kept d i) old.content inputs → IsCalm old → HasInputs d i inputs new
 made-has d i inputs fresh machine old new is keeps calms recovers calm = record {
-  keeps = subst (λ (m : KeptSite). Keeps site_meaning m new machine inputs) is (keeps inputs (subst (λ (m : KeptSite). Recovers site_meaning m old.content inputs) (sym is) recovers));
+  keeps = by-machine d i inputs new machine (subst (λ (m : KeptSite). Keeps site_meaning m new machine inputs) is (keeps inputs (subst (λ (m : KeptSite). Recovers site_meaning m old.content inputs) (sym is) recovers)));
   fails = calms calm;
 }
 

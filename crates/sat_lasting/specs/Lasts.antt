@@ -25,7 +25,7 @@ use Rattle.sat_lasting.specs.declared.cut.Cut.{Cut}
 use Rattle.sat_lasting.specs.declared.slot.Slot.{Slot}
 use Rattle.sat_lasting.specs.Cuts.{cut_at}
 use Rattle.sat_lasting.specs.Sites.{fresh_kept, site_meaning}
-use Rattle.sat_lasting.specs.Slots.{SlotKeeps, StepsSlot}
+use Rattle.sat_lasting.specs.Slots.{SlotKeeps, StepsSlot, TakesNext}
 
 -- ---- the inputs of a site
 
@@ -116,7 +116,8 @@ pub record Changes (i : ℕ) (old new : List Slot) (R : Slot → Slot → Type 0
 -- by a step
 abbrev pub Steps : Deployed → ℕ → SiteInput → Option Cut → Bool → Slot → Slot → Type 0
 Steps d i given cut there before after =
-    (inputs : List SiteInput) → SlotKeeps d i inputs before → StepsSlot d i inputs given cut there after
+    (inputs : List SiteInput) → TakesNext d i inputs given → SlotKeeps d i inputs before
+    → StepsSlot d i inputs given cut there after
 
 -- by a stop, which tells of so many inputs
 abbrev pub Stops : Deployed → ℕ → ℕ → Slot → Slot → Type 0

@@ -1,4 +1,4 @@
--- A site beside its journal, and beside the one in the world.
+-- The journal of what a site was handed, beside the site in the world.
 use Rattle.std.specs.Prelude.{◌≡◌, ◌≤◌, ℕ, Bool, true, false, List, [], ◌∷◌, ◌++◌, Option, Some, None, if◌then◌else◌}
 use Rattle.sat_act.specs.Deployed.{Deployed}
 use Rattle.sat_durable.specs.declared.memory.MemoryDisk.{MemoryDisk}
@@ -11,7 +11,7 @@ use Rattle.sat_durable.specs.Told as drill
 use Rattle.sat_lasting_laws.specs.declared.lasting_act.TheConstants.{MOST_CALLS}
 use Rattle.sat_lasting_laws.specs.Lastings.{keeps_input}
 use Rattle.sat_site.specs.declared.input.SiteInput.{SiteInput}
-use Rattle.sat_site.specs.Seen.{IsSite}
+use Rattle.sat_bodies.specs.Bodies.{input_allows}
 use Rattle.sat_lasting.specs.declared.cut.Cut.{Cut}
 use Rattle.sat_lasting.specs.declared.kept_site.KeptSite.{KeptSite}
 use Rattle.sat_lasting.specs.declared.slot.Slot.{Slot}
@@ -27,29 +27,33 @@ abbrev pub FailsBy : Option Cut → DiskState → Type 0
 FailsBy None disk = IsCalm disk
 FailsBy (Some cut) disk = (synced : List ℕ) × (disk.told ≡ drill.told (Some cut.calls) cut.keep synced)
 
--- site i has just these inputs behind it, and so has its disk, which fails where the cut says
+-- site i behind just these inputs
+abbrev pub after_inputs : Deployed → ℕ → List SiteInput → KeptSite
+after_inputs d i inputs = (run_of site_meaning (fresh_kept d i) inputs).machine
+
+-- the disk of site i has just these inputs, and fails where the cut says
 pub record Waits (d : Deployed) (i : ℕ) (inputs : List SiteInput) (cut : Option Cut) (disk : DiskState)
-    (machine : KeptSite) : Type 0 where
-  pub keeps : Keeps site_meaning (fresh_kept d i) disk machine inputs
+    : Type 0 where
+  pub keeps : Keeps site_meaning (fresh_kept d i) disk (after_inputs d i inputs) inputs
   pub fails : FailsBy cut disk
 
 -- the same of a disk that will not fail
-abbrev pub HasInputs : Deployed → ℕ → List SiteInput → DiskState → KeptSite → Type 0
-HasInputs d i inputs disk machine = Waits d i inputs None disk machine
+abbrev pub HasInputs : Deployed → ℕ → List SiteInput → DiskState → Type 0
+HasInputs d i inputs disk = Waits d i inputs None disk
 
--- the same of a site and its journal, which takes a body more
+-- the same of its journal, which takes a body more
 pub record SlotKeeps (d : Deployed) (i : ℕ) (inputs : List SiteInput) (slot : Slot) : Type 0 where
   pub whole : is_whole slot.journal ≡ true
-  pub has : HasInputs d i inputs (memory_state (slot_disk slot)) slot.kept
+  pub has : HasInputs d i inputs (memory_state (slot_disk slot))
 
--- a site takes this
-abbrev pub FitsKept : SiteInput → KeptSite → Type 0
-FitsKept given kept = IsSite kept.site → site_meaning.fits kept given ≡ true
+-- behind these inputs the site takes this
+abbrev pub TakesNext : Deployed → ℕ → List SiteInput → SiteInput → Type 0
+TakesNext d i inputs given = site_meaning.fits (after_inputs d i inputs) given ≡ true
 
--- a site takes this, and its journal a body
+-- this has a body, and the journal takes one
 pub record SlotFits (given : SiteInput) (slot : Slot) : Type 0 where
   pub whole : is_whole slot.journal ≡ true
-  pub fits : FitsKept given slot.kept
+  pub allows : input_allows given ≡ true
 
 -- with one input more, if it is there
 abbrev pub with_input : Bool → List SiteInput → SiteInput → List SiteInput
@@ -65,12 +69,11 @@ abbrev pub IsFew : Option Cut → Type 0
 IsFew None = Unit {0}
 IsFew (Some cut) = cut.calls ≤ MOST_CALLS
 
--- what a step leaves, and whether the input is there; and what is known of the site before it
+-- what a step leaves, and whether the input is there
 pub record StepsSlot (d : Deployed) (i : ℕ) (inputs : List SiteInput) (given : SiteInput) (cut : Option Cut)
     (there : Bool) (new : Slot) : Type 0 where
   pub told : there ≡ is_there cut
   pub keeps : SlotKeeps d i (with_input there inputs given) new
-  pub sound : IsSite (run_of site_meaning (fresh_kept d i) inputs).machine.site
 
 -- what the disk of a site is left with whose step a cut fell into: with the input where it is there, and else without
 -- it
@@ -86,12 +89,13 @@ abbrev pub CameTo : Deployed → ℕ → List SiteInput → SiteInput → Option
 CameTo d i inputs given cut true new = (cut ≡ None) × SlotKeeps d i (inputs ++ given ∷ []) new
 CameTo d i inputs given cut false new = LeftBy d i inputs given cut (memory_state (slot_disk new))
 
--- a site that was handed an input came to this, whichever cut waits at it
+-- a journal to which an input was appended came to this, whichever cut waits at it
 abbrev pub StepsKept : Slot → SiteInput → Bool → Slot → Type 0
 StepsKept old given done new = (d : Deployed) (i : ℕ) (inputs : List SiteInput) (cut : Option Cut) → IsFew cut
-    → Waits d i inputs cut (memory_state (slot_disk old)) old.kept → CameTo d i inputs given cut done new
+    → TakesNext d i inputs given → Waits d i inputs cut (memory_state (slot_disk old))
+    → CameTo d i inputs given cut done new
 
--- a site and its disk were armed by a cut, or by none
-abbrev pub Arms : Option Cut → DiskState → KeptSite → DiskState → KeptSite → Type 0
-Arms cut old machine new same =
-    (d : Deployed) (i : ℕ) (inputs : List SiteInput) → HasInputs d i inputs old machine → Waits d i inputs cut new same
+-- a disk was armed by a cut, or by none
+abbrev pub Arms : Option Cut → DiskState → DiskState → Type 0
+Arms cut old new =
+    (d : Deployed) (i : ℕ) (inputs : List SiteInput) → HasInputs d i inputs old → Waits d i inputs cut new

@@ -1,5 +1,6 @@
 //! A site whose inputs can be journalled.
-ghost use Rattle.std.specs.Prelude.{◌≡◌, ◌<◌, ◌^◌, ◌++◌, true, length, Some, IfOk, OnOk, OnErr};
+ghost use Rattle.std.specs.Prelude.{◌≡◌, ◌<◌, ◌^◌, ◌++◌, true, length, Some, IfOk, OnOk};
+ghost use Rattle.sat_bodies.specs.Bodies.{input_allows};
 ghost use Rattle.sat_lasting.specs.Sites.{fresh_kept, site_meaning};
 
 use sat_act::Deployment;
@@ -15,7 +16,6 @@ pub struct KeptSite {
 }
 
 impl KeptSite {
-    ghost use Rattle.sat_site.specs.Seen.{IsSite};
     ghost use Rattle.sat_lasting.specs.Sites.{site_of};
 
     /// The site with this number of a deployment, at which nothing has happened.
@@ -33,37 +33,20 @@ impl KeptSite {
     {
         &self.site
     }
+}
 
-    /// Puts the body of an input that fits behind other bytes, as `encode` of the machine gives it. For want of memory
-    /// they are as before.
-    pub(crate) fn write(&self, input: &SiteInput, out: &mut Vec<u8>) -> Result<(), AllocError>
-        requires { site_meaning.fits self.now input.now ≡ true }
-        ensures body { OnOk result (out.new.items ≡ out.old.items ++ site_meaning.body input.now) }
-        ensures again { site_meaning.input_of (site_meaning.body input.now) ≡ Some input.now }
-        ensures short { length (site_meaning.body input.now) < 2 ^ 32 }
-    {
-        let bytes = size(input);
-        out.reserve(bytes)?;
-        write(input, out);
-        Ok(())
-    }
-
-    /// Takes an input that fits, as `step` of the machine does, and answers nothing. After an error nothing changed.
-    pub(crate) fn take(&mut self, input: SiteInput) -> Result<(), AllocError>
-        requires { site_meaning.fits self.old input ≡ true }
-        ensures after { OnOk result (self.new ≡ site_meaning.after self.old input) }
-        ensures err { OnErr result (self.new ≡ self.old) }
-    {
-        self.site.act(input)?;
-        Ok(())
-    }
-
-    // What is true of each site. It does nothing.
-    pub(crate) fn sound(&self)
-        ensures { IsSite (site_of self.now) }
-    {
-        let _ = self.site.view();
-    }
+/// Puts the body of an input behind other bytes, as `encode` of the machine gives it. For want of memory they are as
+/// before.
+pub(crate) fn put_body(input: &SiteInput, out: &mut Vec<u8>) -> Result<(), AllocError>
+    requires { input_allows input.now ≡ true }
+    ensures body { OnOk result (out.new.items ≡ out.old.items ++ site_meaning.body input.now) }
+    ensures again { site_meaning.input_of (site_meaning.body input.now) ≡ Some input.now }
+    ensures short { length (site_meaning.body input.now) < 2 ^ 32 }
+{
+    let bytes = size(input);
+    out.reserve(bytes)?;
+    write(input, out);
+    Ok(())
 }
 
 impl Machine for KeptSite {

@@ -17,10 +17,9 @@ use sat_world::World;
 use std::alloc::{AllocError, Global};
 use std::marker::Model;
 
-/// A world, and each of its sites once more beside the journal of its inputs. An act goes first to the journal, and
-/// only where its input is there to the world: so the world never knows of an input that a stop could take away. Sites
-/// are held twice, which costs the memory of a second copy of each and the time of a second step: the copy is what the
-/// journal's inputs make, and so a recovery.
+/// A world, and for each of its sites the journal of its inputs. An act goes first to the journal, and only where its
+/// input is there to the world: so the world never knows of an input that a stop could take away. Sites are held once:
+/// a stop makes its site again from the disk, counts the inputs, and lets it go, since that site is the world's.
 #[derive(Drop)]
 pub struct Lasting {
     world: World,

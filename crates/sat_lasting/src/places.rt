@@ -37,7 +37,7 @@ pub(crate) fn slot_at(slots: &Vec<Slot>, site: u16) -> &Slot
     &slots.as_slice()[site as usize]
 }
 
-/// Hands a site an input, and tells whether the input is there.
+/// Puts an input into the journal of a site, and tells whether the input is there.
 pub(crate) fn step_at(
     slots: &mut Vec<Slot>,
     alloc: Global,
@@ -56,7 +56,7 @@ pub(crate) fn step_at(
         (λ there. Changes site slots.old.items slots.new.items (Steps d.now site input cut there)) }
 {
     let slot = &mut slots[site as usize];
-    let there = slot.step(alloc, d, site, input, cut, buffer)?;
+    let there = slot.step(alloc, d, site, &input, cut, buffer)?;
     Ok(there)
 }
 

@@ -1,4 +1,4 @@
-//! A site beside its journal, and beside the one in the world.
+//! The journal of what a site was handed, beside the site in the world.
 ghost use Rattle.std.specs.Prelude.{◌≡◌, ◌<◌, List, [], ◌∷◌, length, None, IfOk, OnOk, if◌then◌else◌};
 ghost use Rattle.sat_durable.specs.Drills.{IsCalm};
 ghost use Rattle.sat_durable.specs.Journals.{is_whole};
@@ -7,10 +7,12 @@ ghost use Rattle.sat_durable.specs.Memory.{memory_keeps, memory_state, memory_sy
 ghost use Rattle.sat_durable.specs.Told.{told as told_of};
 ghost use Rattle.sat_site.specs.declared.input.SiteInput.{SiteInput as InputSeen};
 ghost use Rattle.sat_lasting.specs.Sites.{fresh_kept, site_meaning};
-ghost use Rattle.sat_lasting.specs.Slots.{Arms, IsFew, SlotFits, SlotKeeps, StepsKept, StepsSlot, is_there, slot_disk};
+ghost use Rattle.sat_lasting.specs.Slots.{Arms, IsFew, SlotFits, SlotKeeps, StepsKept, StepsSlot, TakesNext, is_there};
+ghost use Rattle.sat_lasting.specs.Slots.{slot_disk};
 
 use crate::KeptSite;
 use crate::cut::Cut;
+use crate::kept_site::put_body;
 use sat_act::Deployment;
 use sat_durable::{AppendFault, Journal, MemoryDisk, create, recover};
 use sat_site::SiteInput;
@@ -19,11 +21,10 @@ use std::alloc::{AllocError, Global};
 /// The most bytes of records behind which one more is written. Two copies of so many are in no memory.
 const MOST_BYTES: u64 = 1 << 40;
 
-/// A site, and the journal of its inputs. Where memory was missing to make the site again the journal isn't whole.
+/// The journal of a site's inputs. Where memory was missing to make the site again it isn't whole.
 #[derive(Drop)]
 pub(crate) struct Slot {
     journal: Journal<MemoryDisk>,
-    kept: KeptSite,
 }
 
 impl Slot {
@@ -36,8 +37,8 @@ impl Slot {
         let disk = MemoryDisk::new(alloc);
         match create(disk, fresh) {
             Ok(durable) => {
-                let (journal, kept) = durable.into_parts();
-                Ok(Slot { journal, kept })
+                let (journal, _) = durable.into_parts();
+                Ok(Slot { journal })
             }
             Err(_) => Err(AllocError),
         }
@@ -80,24 +81,23 @@ impl Slot {
         Ok(count)
     }
 
-    /// Hands the site an input, which is cut off where a cut falls into it, and tells whether the input is there. Where
-    /// the site was cut off it is made again. The buffer is for the input's record.
+    /// Puts an input into the journal, which is cut off where a cut falls into it, and tells whether the input is
+    /// there. Where it was cut off the site is made again. The buffer is for the input's record.
     pub(crate) fn step(
         &mut self,
         alloc: Global,
         d: &Deployment,
         site: u16,
-        input: SiteInput,
+        input: &SiteInput,
         cut: Option<Cut>,
         buffer: &mut Vec<u8>,
     ) -> Result<bool, AllocError>
         requires site { site < d.now.sites }
-        requires fits { SlotFits input self.old }
+        requires fits { SlotFits input.now self.old }
         requires few { IsFew cut }
-        ensures { IfOk result (λ there. (inputs : List InputSeen) → SlotKeeps d.now site inputs self.old
-            → StepsSlot d.now site inputs input cut there self.new) }
+        ensures { IfOk result (λ there. (inputs : List InputSeen) → TakesNext d.now site inputs input.now
+            → SlotKeeps d.now site inputs self.old → StepsSlot d.now site inputs input.now cut there self.new) }
     {
-        self.kept.sound();
         self.arm(cut);
         if self.take(input, buffer)? {
             return Ok(true);
@@ -110,28 +110,24 @@ impl Slot {
 
     // Arms the disk, where a cut waits.
     fn arm(&mut self, cut: Option<Cut>)
-        ensures kept { self.new.kept ≡ self.old.kept }
         ensures whole { is_whole self.new.journal ≡ is_whole self.old.journal }
-        ensures waits { Arms cut (memory_state (slot_disk self.old)) self.old.kept (memory_state (slot_disk self.new))
-            self.new.kept }
+        ensures waits { Arms cut (memory_state (slot_disk self.old)) (memory_state (slot_disk self.new)) }
     {
         if let Some(cut) = cut {
             self.journal.arm(cut.calls, cut.keep);
         }
     }
 
-    // Hands the site an input, and tells whether its disk did all of its calls, and did not fail where it was armed.
-    fn take(&mut self, input: SiteInput, buffer: &mut Vec<u8>) -> Result<bool, AllocError>
-        requires { SlotFits input self.old }
-        ensures { IfOk result (λ done. StepsKept self.old input done self.new) }
+    // Appends an input, and tells whether the disk did all of its calls, and did not fail where it was armed.
+    fn take(&mut self, input: &SiteInput, buffer: &mut Vec<u8>) -> Result<bool, AllocError>
+        requires { SlotFits input.now self.old }
+        ensures { IfOk result (λ done. StepsKept self.old input.now done self.new) }
     {
-        self.kept.sound();
         if self.journal.size() > MOST_BYTES {
             return Err(AllocError);
         }
         begin(buffer)?;
-        self.kept.write(&input, buffer)?;
-        self.kept.take(input)?;
+        put_body(input, buffer)?;
         match self.journal.append(buffer) {
             Ok(()) => Ok(true),
             Err(AppendFault::Disk) => Ok(false),
@@ -176,8 +172,8 @@ fn made_again(
     let fresh = KeptSite::new(alloc, d, site)?;
     match recover(alloc, disk, fresh) {
         Ok(made) => {
-            let (journal, kept) = made.durable.into_parts();
-            Ok((Slot { journal, kept }, made.inputs))
+            let (journal, _) = made.durable.into_parts();
+            Ok((Slot { journal }, made.inputs))
         }
         Err(_) => Err(AllocError),
     }

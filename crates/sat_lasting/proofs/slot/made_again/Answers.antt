@@ -5,7 +5,7 @@ use Rattle.sat_lasting.proofs.slot.made_again.Goals as goal
 
 pub returns-in-Ok-clause-keeps : goal.returns-in-Ok-clause-keeps
 returns-in-Ok-clause-keeps c xs recovers calm =
-    parts-keep c.args.d.now c.args.site _ _ _ _ c.into_parts-journal.ensures.disk c.into_parts-journal.ensures.machine c.into_parts-journal.ensures.whole
+    parts-keep c.args.d.now c.args.site _ _ _ c.into_parts-journal.ensures.disk c.into_parts-journal.ensures.whole
     (made-has c.args.d.now c.args.site xs _ _ (memory_state c.args.disk) (memory_state (disk_of c.in-Ok.made.durable)) c.in_ok-fresh.ensures c.in-Ok.ensures.keeps (rw c.in-Ok.is at c.recover.ensures.calm) recovers calm)
 
 pub returns-in-Ok-clause-count : goal.returns-in-Ok-clause-count
