@@ -114,7 +114,7 @@ passed_whole n best (Some b) bs rest left rises ends some removal e =
 
 -- ---- the best goes forward
 
-above-all : (n : ℕ) (bs : List (ℕ × Beat)) → RisesFrom (n + 1) bs → above n bs ≡ bs
+pub above-all : (n : ℕ) (bs : List (ℕ × Beat)) → RisesFrom (n + 1) bs → above n bs ≡ bs
 above-all n [] rises = refl
 above-all n (b ∷ bs) rises = ap (λ (t : Bool). if t then above n bs else b ∷ bs) (lt-leb b.0 n (higher n b.0 rises.0))
 
@@ -122,7 +122,7 @@ passed-all : (n : ℕ) (best : Option (ℕ × Beat)) (bs : List (ℕ × Beat)) �
 passed-all n best [] rises = refl
 passed-all n best (b ∷ bs) rises = ap (λ (t : Bool). if t then passed n (Some b) bs else kept best (b ∷ bs)) (lt-leb b.0 n (higher n b.0 rises.0))
 
-above-rises : (m n : ℕ) (bs : List (ℕ × Beat)) → RisesFrom m bs → RisesFrom (n + 1) (above n bs)
+pub above-rises : (m n : ℕ) (bs : List (ℕ × Beat)) → RisesFrom m bs → RisesFrom (n + 1) (above n bs)
 above-rises m n [] rises = tt
 above-rises m n (b ∷ bs) rises = go (nat_le b.0 n) refl (above-rises (b.0 + 1) n bs rises.1)
   where

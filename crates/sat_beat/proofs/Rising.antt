@@ -124,7 +124,7 @@ rise-filter p counts (b ∷ bs) rise = go (p b) (rise-filter p b.1.counts bs ris
     go false rest = rise-lower counts b.1.counts (filter p bs) rise.0 rest
 
 -- the last one has the greatest counts
-last-most : (counts : List ℕ) (bs : List (ℕ × Beat)) (c d : ℕ × Beat) (beat : Beat) → RiseFrom counts (bs ++ c ∷ []) → are_reached c.1.counts beat.counts ≡ true → In (bs ++ c ∷ []) d → are_reached d.1.counts beat.counts ≡ true
+pub last-most : (counts : List ℕ) (bs : List (ℕ × Beat)) (c d : ℕ × Beat) (beat : Beat) → RiseFrom counts (bs ++ c ∷ []) → are_reached c.1.counts beat.counts ≡ true → In (bs ++ c ∷ []) d → are_reached d.1.counts beat.counts ≡ true
 last-most counts [] c d beat rise r (inl e) = subst (λ (x : ℕ × Beat). are_reached x.1.counts beat.counts ≡ true) e r
 last-most counts [] c d beat rise r (inr m) = absurd m
 last-most counts (b ∷ bs) c d beat rise r (inl e) =

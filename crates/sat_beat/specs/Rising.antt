@@ -32,6 +32,10 @@ RisesTo bs n beat = (c : ℕ × Beat) → In bs c → c.0 < n → are_reached c.
 abbrev pub RisesOn : List (ℕ × Beat) → ℕ → Beat → Type 0
 RisesOn bs n beat = (c : ℕ × Beat) → In bs c → n ≤ c.0 → are_reached beat.counts c.1.counts ≡ true
 
+-- each of them has a number below this one
+abbrev pub AreBelow : List (ℕ × Beat) → ℕ → Type 0
+AreBelow bs n = (c : ℕ × Beat) → In bs c → c.0 < n
+
 -- there are some, and the last of them has a number up to n
 abbrev pub EndsTo : List (ℕ × Beat) → ℕ → Type 0
 EndsTo bs n = (b : ℕ × Beat) × (slice_get bs (length bs - 1) ≡ Some b) × (b.0 ≤ n)

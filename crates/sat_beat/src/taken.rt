@@ -1,10 +1,10 @@
 //! The beats that were taken of one site.
-ghost use Rattle.std.specs.Prelude.{◌≡◌, ℕ, get_or, is_none, true, if◌then◌else◌, option_map, option_copied, Some};
-ghost use Rattle.std.specs.Prelude.{None, IfOk, IfErr, OnOk, OnErr};
+ghost use Rattle.std.specs.Prelude.{◌≡◌, ℕ, get_or, is_none, length, false, true, if◌then◌else◌, option_map};
+ghost use Rattle.std.specs.Prelude.{option_copied, Some, None, IfOk, IfErr, OnOk, OnErr};
 ghost use Rattle.sat_beat.specs.Beats.{after_take, are_reached, has_beat, is_complete, is_old, is_old_by, moved};
 ghost use Rattle.sat_beat.specs.Beats.{newest, next_number, none_taken, passed, placed, refreshed, starts_to};
 ghost use Rattle.sat_beat.specs.Beats.{take_answer, RisesFrom};
-ghost use Rattle.sat_beat.specs.Rising.{last_before, starts_complete, CountsRise, EndsTo, RisesOn, RisesTo};
+ghost use Rattle.sat_beat.specs.Rising.{last_before, starts_complete, AreBelow, CountsRise, EndsTo, RisesOn, RisesTo};
 
 use crate::{Beat, BeatTake};
 use std::alloc::Global;
@@ -186,13 +186,30 @@ fn move_forward(best: &mut Option<(u64, Beat)>, later: &mut BTreeMap<u64, Beat>,
 // Whether the counts of the next beat below a number are at or below those of a beat. Where counts rise, those of all
 // below are.
 #[tactic(auto, using(crate::proofs::Rising::none_below, crate::proofs::Rising::rises_from_last))]
-fn rises_to(later: &BTreeMap<u64, Beat>, number: u64, beat: &Beat) -> bool
+fn rises_among(later: &BTreeMap<u64, Beat>, number: u64, beat: &Beat) -> bool
     requires { CountsRise later.now.entries }
     ensures { result ≡ true → RisesTo later.now.entries number beat.now }
 {
     match later.range(..number).next_back() {
         None => true,
         Some((_, below)) => are_reached(below.counts.as_slice(), beat.counts.as_slice()),
+    }
+}
+
+// The same, which mostly the last of all beats tells: beats come in the order of their numbers.
+fn rises_to(later: &BTreeMap<u64, Beat>, number: u64, beat: &Beat) -> bool
+    requires { CountsRise later.now.entries }
+    ensures { result ≡ true → RisesTo later.now.entries number beat.now }
+{
+    match later.last_key_value() {
+        None => true,
+        Some((last, below)) => {
+            if *last < number {
+                are_reached(below.counts.as_slice(), beat.counts.as_slice())
+            } else {
+                rises_among(later, number, beat)
+            }
+        }
     }
 }
 
@@ -299,13 +316,26 @@ impl Taken {
         }
     }
 
+    // Whether the later beats, if any, have numbers below one, as mostly they have: the last of them tells.
+    fn are_below(&self, number: u64) -> bool
+        ensures { result ≡ true → AreBelow self.now.later number }
+    {
+        match self.later.last_key_value() {
+            None => true,
+            Some((last, _)) => *last < number,
+        }
+    }
+
     // None where a beat of this number is among the later ones, else whether the counts of the next one above it are at
     // or above those of a beat. Where counts rise, those of all above are.
-    #[tactic(auto, using(crate::proofs::Rising::none_above, crate::proofs::Rising::rises_to_first, crate::proofs::Rising::none_from, crate::proofs::Rising::first_from))]
+    #[tactic(auto, using(crate::proofs::Rising::none_above, crate::proofs::Rising::rises_to_first, crate::proofs::Rising::none_from, crate::proofs::Rising::first_from, crate::proofs::Last::none_has, crate::proofs::Last::none_on))]
     fn rises_on(&self, number: u64, beat: &Beat) -> Option<bool>
         ensures has { is_none result ≡ has_beat self.now.later number }
         ensures above { CountsRise self.now.later → result ≡ Some true → RisesOn self.now.later number beat.now }
     {
+        if self.are_below(number) {
+            return Some(true);
+        }
         match self.later.range(number..).next() {
             None => Some(true),
             Some((found, above)) => {
@@ -318,14 +348,29 @@ impl Taken {
         }
     }
 
+    // Whether a beat that is newer than the best one is complete, and none waits: then it is the best at once.
+    fn is_at_once(&self, number: u64, beat: &Beat, fronts: &[u64]) -> bool
+        ensures none { result ≡ true → length self.now.later ≡ 0 }
+        ensures young { result ≡ true → is_old self.now.best number ≡ false }
+        ensures complete { result ≡ true → is_complete fronts.now beat.now ≡ true }
+    {
+        self.later.is_empty()
+            && !self.is_old(None, number)
+            && are_reached(beat.counts.as_slice(), fronts)
+    }
+
     /// Takes a beat, and moves the best forward. For want of memory the beat comes back, and all is as before.
-    #[tactic(auto, using(crate::proofs::Passed::take_old, crate::proofs::Passed::take_again, crate::proofs::Passed::take_new))]
+    #[tactic(auto, using(crate::proofs::Passed::take_old, crate::proofs::Passed::take_again, crate::proofs::Passed::take_new, crate::proofs::Last::take_at_once))]
     pub fn take(&mut self, number: u64, beat: Beat, fronts: &[u64]) -> Result<BeatTake, Beat>
         ensures answer { IfOk result (λ took. took ≡ take_answer fronts.now self.old number) }
         ensures new { OnOk result (self.new ≡ after_take fronts.now self.old number beat) }
         ensures back { IfErr result (λ back. back ≡ beat) }
         ensures err { OnErr result (self.new ≡ self.old) }
     {
+        if self.is_at_once(number, &beat, fronts) {
+            self.best = Some((number, beat));
+            return Ok(BeatTake::New);
+        }
         let newest = self.newest(fronts);
         if self.is_old(newest, number) {
             self.forward(newest);
