@@ -2,3 +2,4 @@ pub mod Spreads
 pub mod Gears
 pub mod Places
 pub mod Targets
+pub mod Copies

@@ -1,6 +1,7 @@
 //! Gears.
 ghost use Rattle.std.specs.Prelude.{ℕ, ◌≡◌, ◌≤◌, ◌<◌, ◌↔◌, ◌^◌, [], length, max, true, slice_get, Some, None, IfOk};
 ghost use Rattle.std.specs.Prelude.{IsErrOf, IsOkUnless, OnErr, MatchOption, OnOk, ◌+◌, ◌/◌, false, if◌then◌else◌};
+ghost use Rattle.std.specs.Prelude.{drop, take};
 ghost use Rattle.sat_label.specs.declared.label.Kind.TheVariants.{Update, Move};
 ghost use Rattle.sat_label.specs.Grouped.{list_of};
 ghost use Rattle.sat_sites.specs.Interested.{IsLabelOf};
@@ -298,6 +299,15 @@ impl Gear {
         ensures limits { IsGear self.now }
     {
         self.lanes.at(to, number)
+    }
+
+    /// Copies of so many payloads made for a site, from a number on, or of all that there are.
+    pub fn copies(&self, to: u16, number: u64, most: usize) -> Result<Vec<Payload>, AllocError>
+        requires { to < self.now.shape.sites }
+        ensures copies { IfOk result (λ copies. copies.items ≡ take most (drop number (lane_to self.now to))) }
+        ensures limits { IsGear self.now }
+    {
+        self.lanes.copies(to, number, most)
     }
 
     /// How many payloads were made for a site. It takes no memory.

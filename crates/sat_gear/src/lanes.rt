@@ -1,6 +1,6 @@
 //! The payloads that a gear made, each once, and for each site which of them were made for it.
-ghost use Rattle.std.specs.Prelude.{◌≡◌, ◌≤◌, ◌<◌, [], get_or, length, map, replicate, slice_get, Some, None, IfOk};
-ghost use Rattle.std.specs.Prelude.{OnOk, OnErr, MatchOption};
+ghost use Rattle.std.specs.Prelude.{◌≡◌, ◌≤◌, ◌<◌, [], drop, get_or, length, map, replicate, slice_get, take, Some};
+ghost use Rattle.std.specs.Prelude.{None, IfOk, OnOk, OnErr, MatchOption};
 ghost use Rattle.sat_label.specs.Words.{bit};
 ghost use Rattle.sat_queue.specs.Queued.{members_of};
 ghost use Rattle.sat_gear.specs.Lanes.{count_of, lanes_where, numbers_where};
@@ -106,6 +106,24 @@ impl Lanes {
     {
         let place = self.lanes[site as usize].get(number as usize)?;
         Some(&self.made[place as usize])
+    }
+
+    /// Copies of so many payloads of the lane of a site, from a number on, or of all that there are.
+    #[tactic(auto, using(crate::proofs::Copies::copies_more, crate::proofs::Copies::copies_end, crate::proofs::Copies::copies_all))]
+    pub fn copies(&self, site: u16, number: u64, most: usize) -> Result<Vec<Payload>, AllocError>
+        requires { site < length self.now }
+        ensures { IfOk result (λ copies. copies.items ≡ take most (drop number (get_or self.now site []))) }
+    {
+        let behind = self.count(site).saturating_sub(number);
+        let count = behind.min(most as u64);
+        let mut copies = Vec::with_capacity(*self.made.allocator(), count as usize)?;
+        for offset in 0..count {
+            let Some(payload) = self.at(site, number + offset) else {
+                return Ok(copies);
+            };
+            copies.push(payload.copy()?)?;
+        }
+        Ok(copies)
     }
 
     /// How many payloads the lane of a site holds. It takes no memory.

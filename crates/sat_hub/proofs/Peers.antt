@@ -1,7 +1,7 @@
 -- What a site has of the others, and its epochs, stay what they are to be.
-use Rattle.std.specs.Prelude.{◌≡◌, ◌<◌, ℕ, Bool, true, false, ◌||◌, List, length, map, Option, Some, None, OnErr, OnOk, MatchResult, if◌then◌else◌, refl}
-use Rattle.std.proofs.Common.{Result, Ok, Err, subst, ap, sym, ◌∙◌, inl, inr}
-use Rattle.std.proofs.lemmas.List.{length-set, length-replicate}
+use Rattle.std.specs.Prelude.{◌≡◌, ◌<◌, ◌≤◌, ◌+◌, ◌^◌, ℕ, zero, suc, Bool, true, false, ◌||◌, List, [], ◌∷◌, length, map, take, Option, Some, None, OnErr, OnOk, MatchResult, if◌then◌else◌, refl}
+use Rattle.std.proofs.Common.{Result, Ok, Err, arith, subst, ap, sym, ◌∙◌, inl, inr}
+use Rattle.std.proofs.lemmas.List.{length-set, length-replicate, length-take-le}
 use Rattle.sat_label.specs.declared.label.Label.{Label}
 use Rattle.sat_label.specs.declared.label.Kind.{Kind}
 use Rattle.sat_label.specs.declared.label.Kind.TheVariants.{Update, Move, Pulse, Close}
@@ -24,8 +24,10 @@ use Rattle.sat_proxy.specs.declared.proxy.TurnFault.{TurnFault}
 use Rattle.sat_proxy.specs.declared.proxy.Turned.{Turned}
 use Rattle.sat_proxy.specs.Proxy.{ProxySeen, IsProxy, best_of, window_of}
 use Rattle.sat_proxy.specs.Steps as made
+use Rattle.sat_proxy.proofs.Keeping.{bulk-sound}
 use Rattle.sat_hub.specs.Seen.{HubSeen, HasPeers, IsGuest, IsHub}
 use Rattle.sat_hub.specs.HubSteps.{passed_after}
+use Rattle.sat_hub.specs.Inputs.{BulksFit}
 use Rattle.sat_hub.proofs.Sound.{proxy-hub, views-hub}
 
 -- of what waits then, all waited before
@@ -53,6 +55,40 @@ bulk-peers shape p from gear n x has sound guest = go (has_number (window_of p f
 pub bulk-hub : (w : HubSeen) (r : Result Take Payload) (p : ProxySeen) (from gear n : ℕ) (x : Payload) → IsHub w → IsGuest w.shape x → IsProxy p → OnOk r (p ≡ made.after_bulk w.proxy from gear n x) → OnErr r (p ≡ w.proxy) → IsHub (record w { proxy = p })
 bulk-hub w (Ok t) p from gear n x k guest sound new err = proxy-hub w p k (subst (λ (q : ProxySeen). HasPeers w.shape q) (sym new) (bulk-peers w.shape w.proxy from gear n x k.proxy (subst (λ (q : ProxySeen). IsProxy q) new sound) guest))
 bulk-hub w (Err e) p from gear n x k guest sound new err = proxy-hub w p k (subst (λ (q : ProxySeen). HasPeers w.shape q) (sym err) k.proxy)
+
+-- ---- payloads of a lane
+
+bulks-peers : (shape : Shape) (p : ProxySeen) (from gear n : ℕ) (xs : List Payload) → HasPeers shape p → from < shape.sites → gear < shape.gears → n + length xs < 2 ^ 63 → ((x : Payload) → In xs x → x.label.point.site ≡ from) → ((x : Payload) → In xs x → IsGuest shape x) →
+    HasPeers shape (made.after_bulks p from gear n xs)
+bulks-peers shape p from gear n [] has lt lg small site guests = has
+bulks-peers shape p from gear n (x ∷ xs) has lt lg small site guests =
+    let sound : IsProxy (made.after_bulk p from gear n x) = bulk-sound p from gear n x has.sound (subst (λ (m : ℕ). from < m) (sym has.sites) lt) (subst (λ (m : ℕ). gear < m) (sym has.gears) lg) (narrow n (length xs) small) (site x (inl refl)) in
+    bulks-peers shape (made.after_bulk p from gear n x) from gear (n + 1) xs (bulk-peers shape p from gear n x has sound (guests x (inl refl))) lt lg (next n (length xs) small) (λ y i. site y (inr i)) (λ y i. guests y (inr i))
+  where
+    narrow : (a b : ℕ) → a + suc b < 2 ^ 63 → a + 1 < 2 ^ 64
+    narrow a b small = omega arith
+
+    next : (a b : ℕ) → a + suc b < 2 ^ 63 → a + 1 + b < 2 ^ 63
+    next a b small = omega arith
+
+-- of the first so many each is one of all
+taken-in : {X : Type 0} (k : ℕ) (xs : List X) (x : X) → In (take k xs) x → In xs x
+taken-in zero xs x i = absurd i
+taken-in (suc k) [] x i = absurd i
+taken-in (suc k) (y ∷ xs) x (inl e) = inl e
+taken-in (suc k) (y ∷ xs) x (inr i) = inr (taken-in k xs x i)
+
+-- the first so many of them come
+pub first-peers : (w : HubSeen) (from gear n k : ℕ) (xs : List Payload) → IsHub w → BulksFit w from gear n xs → k ≤ length xs → HasPeers w.shape (made.after_bulks w.proxy from gear n (take k xs))
+first-peers w from gear n k xs hub fits le =
+    bulks-peers w.shape w.proxy from gear n (take k xs) hub.proxy fits.sender fits.number (low (length (take k xs)) (length xs) (length-take-le k xs le) le fits.small)
+    (λ x i. fits.made x (taken-in k xs x i)) (λ x i. fits.guests x (taken-in k xs x i))
+  where
+    low : (a b : ℕ) → a ≡ k → k ≤ b → n + b < 2 ^ 63 → n + a < 2 ^ 63
+    low a b e le small = omega arith
+
+pub bulks-hub : (w : HubSeen) (p : ProxySeen) (from gear n k : ℕ) (xs : List Payload) → IsHub w → BulksFit w from gear n xs → k ≤ length xs → p ≡ made.after_bulks w.proxy from gear n (take k xs) → IsHub (record w { proxy = p })
+bulks-hub w p from gear n k xs hub fits le new = proxy-hub w p hub (subst (λ (q : ProxySeen). HasPeers w.shape q) (sym new) (first-peers w from gear n k xs hub fits le))
 
 -- ---- a beat
 

@@ -1,6 +1,6 @@
 -- What a hub asks of what it is handed.
-use Rattle.std.specs.Prelude.{ℕ, ◌≡◌, ◌<◌, ◌^◌, ◌==◌, Bool, true, false, ◌&&◌, ◌||◌, not, nat_le, nat_lt, length}
-use Rattle.std.specs.Prelude.{slice_get, Option, Some, None, is_none}
+use Rattle.std.specs.Prelude.{ℕ, ◌≡◌, ◌<◌, ◌+◌, ◌^◌, ◌==◌, Bool, true, false, ◌&&◌, ◌||◌, not, nat_le, nat_lt}
+use Rattle.std.specs.Prelude.{List, length, slice_get, Option, Some, None, is_none}
 use Rattle.std.specs.List.{list_all}
 use Rattle.sat_label.specs.declared.carried.Carried.{Carried}
 use Rattle.sat_label.specs.declared.items.Items.{Items}
@@ -9,6 +9,7 @@ use Rattle.sat_label.specs.declared.label.Kind.TheVariants as kind
 use Rattle.sat_label.specs.declared.label.Label.{Label}
 use Rattle.sat_label.specs.declared.point.Point.{Point}
 use Rattle.sat_label.specs.Grouped.{are_items, list_of}
+use Rattle.sat_label.specs.Members.{In}
 use Rattle.sat_label.specs.Words.{below}
 use Rattle.sat_bulk.specs.Payloads.{Payload}
 use Rattle.sat_bulk.specs.Windows.{has_number}
@@ -131,6 +132,14 @@ pub record BulkFits (x : HubSeen) (from gear n : ℕ) (p : Payload) : Type 0 whe
   pub made : p.label.point.site ≡ from
   pub guest : IsGuest x.shape p
   pub alone : has_number (window_of x.proxy from gear) n ≡ false → waiting_at x.proxy.pool p.label.point ≡ None
+
+-- payloads of a lane that fit, with the numbers from one on
+pub record BulksFit (x : HubSeen) (from gear first : ℕ) (ps : List Payload) : Type 0 where
+  pub sender : from < x.shape.sites
+  pub number : gear < x.shape.gears
+  pub small : first + length ps < 2 ^ 63
+  pub made : (p : Payload) → In ps p → p.label.point.site ≡ from
+  pub guests : (p : Payload) → In ps p → IsGuest x.shape p
 
 -- ---- what may be done
 

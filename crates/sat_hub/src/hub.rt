@@ -1,6 +1,6 @@
 //! Hubs.
 ghost use Rattle.std.specs.Prelude.{◌≡◌, ◌≤◌, ◌<◌, ◌%◌, ◌^◌, ◌&&◌, length, map, is_none, is_some, slice_get, Some};
-ghost use Rattle.std.specs.Prelude.{IfOk, IfSome, MatchOption, OnOk, OnErr, option_copied};
+ghost use Rattle.std.specs.Prelude.{take, IfOk, IfSome, MatchOption, OnOk, OnErr, option_copied};
 ghost use Rattle.std.specs.Bool.{Decides};
 ghost use Rattle.std.specs.List.{flat_map};
 ghost use Rattle.sat_label.specs.declared.limits.TheConstants.{MOST_EPOCHS};
@@ -16,13 +16,13 @@ ghost use Rattle.sat_sink.specs.Sink.{may_pulse, ready_of};
 ghost use Rattle.sat_model.specs.Interests.{interest_of};
 ghost use Rattle.sat_act.specs.declared.answer.Answer.TheVariants as ans;
 ghost use Rattle.sat_proxy.specs.Proxy.{front_at, window_of, IsProxy};
-ghost use Rattle.sat_proxy.specs.Steps.{after_beat, after_bulk, has_come, shown_after, stamp_fault, stamp_shows};
-ghost use Rattle.sat_proxy.specs.Steps.{turn_shows, waiting_of};
+ghost use Rattle.sat_proxy.specs.Steps.{after_beat, after_bulk, after_bulks, has_come, shown_after, stamp_fault};
+ghost use Rattle.sat_proxy.specs.Steps.{stamp_shows, turn_shows, waiting_of, ComeNext};
 ghost use Rattle.sat_proxy.specs.Answers.{advance_answer, attach_answer, beat_answer, bulk_answer, stamp_answer};
 ghost use Rattle.sat_proxy.specs.Answers.{turn_answer};
 ghost use Rattle.sat_hub.specs.Seen.{IsGather, IsGuest, IsHub};
 ghost use Rattle.sat_hub.specs.Inputs.{is_beat_here, is_bulk_here, is_counted, is_front_here, is_other_here, may_turn};
-ghost use Rattle.sat_hub.specs.Inputs.{BulkFits, IsFront};
+ghost use Rattle.sat_hub.specs.Inputs.{BulkFits, BulksFit, IsFront};
 ghost use Rattle.sat_hub.specs.Changes.{beat_for, beaten, fresh_hub, gathered, made_for, new_hub, stamped, turned};
 ghost use Rattle.sat_hub.specs.HubSteps.{close_after, close_answer, emit_after, emit_answer, emit_sends, fall_after};
 ghost use Rattle.sat_hub.specs.HubSteps.{fall_answer, gather_answer, next_close, next_pulse, passed_after, pulse_after};
@@ -478,6 +478,22 @@ impl Hub {
             Ok(Take::Again) => Ok(Answer::Again),
             Err(_) => Err(AllocError),
         }
+    }
+
+    /// Takes payloads of the lane from a site and a gear, with the numbers from `first` on, each as the next of its
+    /// lane, and answers how many came: all, or those before the first that is not the next or for which there was no
+    /// memory; the others are let go.
+    pub fn bulk_all(&mut self, from: u16, gear: u16, first: u64, payloads: Vec<Payload>) -> usize
+        requires { BulksFit self.old from gear first payloads.items }
+        ensures count { result ≤ length payloads.items }
+        ensures after { self.new ≡ record self.old {
+          proxy = after_bulks self.old.proxy from gear first (take result payloads.items);
+        } }
+        ensures next { ComeNext self.old.proxy from gear first payloads.items result }
+    {
+        let count = self.proxy.bulk_all(from, gear, first, payloads);
+        sound(&self.views, &self.proxy);
+        count
     }
 
     /// Whether the payload with this number of the lane of a gear of another site came here. It takes no memory.

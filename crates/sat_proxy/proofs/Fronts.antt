@@ -59,7 +59,7 @@ settled-rises n (x ∷ xs) = go (x == n) (settled-rises (n + 1) xs)
         below-it n m le = omega arith
     go false le = omega arith
 
-front-rises : (w : Numbers) (n : ℕ) → w.front ≤ (after_take w n).front
+pub front-rises : (w : Numbers) (n : ℕ) → w.front ≤ (after_take w n).front
 front-rises w n = go (has_number w n) (n == w.front) refl
   where
     same : (a b m : ℕ) → a ≡ b → a + 1 ≤ m → b ≤ m
@@ -86,15 +86,12 @@ other-fronts p from gear k w lg apart = is-map-below (front_at p k) (fronts_of (
         get-map-below (front_at (with_window p (lane_place p from gear) w) k) p.gears g d lt ∙
         ap front_in (get_or-set_other p.windows (lane_place p from gear) (lane_place p k g) w no_numbers (λ e. apart (one-row k from p.gears g gear lt lg e)))
 
--- no front of the site falls
-pub none-fell : (p : ProxySeen) (from gear n : ℕ) → lane_place p from gear < length p.windows → NoneFell (fronts_of p from) (fronts_of (with_window p (lane_place p from gear) (after_take (window_of p from gear) n)) from)
-none-fell p from gear n within g = go (cases_lt g p.gears)
+-- no front of the site falls, where that of one lane doesn't
+pub none-fell-to : (p : ProxySeen) (from gear : ℕ) (new : Numbers) → lane_place p from gear < length p.windows → (window_of p from gear).front ≤ new.front → NoneFell (fronts_of p from) (fronts_of (with_window p (lane_place p from gear) new) from)
+none-fell-to p from gear new within rises g = go (cases_lt g p.gears)
   where
     place : ℕ
     place = lane_place p from gear
-
-    new : Numbers
-    new = after_take (window_of p from gear) n
 
     after : ProxySeen
     after = with_window p place new
@@ -105,7 +102,7 @@ none-fell p from gear n within g = go (cases_lt g p.gears)
     lane : (m : ℕ) → (m ≡ place) ⊎ (m ≡ place → ⊥) → (get_or p.windows m no_numbers).front ≤ (get_or (set p.windows place new) m no_numbers).front
     lane m (inl e) =
         subst (λ (j : ℕ). (get_or p.windows j no_numbers).front ≤ (get_or (set p.windows place new) j no_numbers).front) (sym e)
-        (by (window_of p from gear).front (get_or (set p.windows place new) place no_numbers).front (window_of p from gear).front new.front refl (ap front_in (get_or-set_same p.windows place new no_numbers within)) (front-rises (window_of p from gear) n))
+        (by (window_of p from gear).front (get_or (set p.windows place new) place no_numbers).front (window_of p from gear).front new.front refl (ap front_in (get_or-set_same p.windows place new no_numbers within)) rises)
     lane m (inr f) = by (get_or p.windows m no_numbers).front (get_or (set p.windows place new) m no_numbers).front (get_or p.windows m no_numbers).front (get_or p.windows m no_numbers).front refl (ap front_in (get_or-set_other p.windows place m new no_numbers f)) (omega arith)
 
     go : (g < p.gears) ⊎ (p.gears ≤ g) → get_or (fronts_of p from) g 0 ≤ get_or (fronts_of after from) g 0

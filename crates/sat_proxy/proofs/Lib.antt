@@ -5,6 +5,8 @@ pub mod Raised
 pub mod Stamps
 pub mod Fronts
 pub mod Sound
+pub mod Bulks
+pub mod Keeping
 pub mod SameBeats
 pub mod SameLanes
 pub mod SameLists

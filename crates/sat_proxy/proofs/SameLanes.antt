@@ -166,13 +166,13 @@ take-open w n open_ = go (has_number w n) (n == w.front) refl refl
     go false false e f = placed-rises (w.front + 1) n w.above (above n w.front (has ◌==◌ w.above n) e f) open_
 
 -- a number below those of a list that rises is not in it
-not-below : (low n : ℕ) (xs : List ℕ) → n < low → Rises low xs → has ◌==◌ xs n ≡ false
+pub not-below : (low n : ℕ) (xs : List ℕ) → n < low → Rises low xs → has ◌==◌ xs n ≡ false
 not-below low n [] lt rises = refl
 not-below low n (x ∷ xs) lt rises =
     let up : low ≤ x = rises.0 in
     or_from (x == n) (has ◌==◌ xs n) (ne_eqb x n (λ e. omega arith)) (not-below (x + 1) n xs (omega arith) rises.1)
 
-not-self : (n : ℕ) → nat_lt n n ≡ false
+pub not-self : (n : ℕ) → nat_lt n n ≡ false
 not-self n = grind (arith, nat_tests)
 
 -- the front of a window is that of the numbers that it has

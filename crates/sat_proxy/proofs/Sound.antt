@@ -18,7 +18,7 @@ use Rattle.sat_beat.specs.Beats.{BeatsSeen, TakenBeats, after_take, forward, fre
 use Rattle.sat_proxy.specs.Proxy.{ProxySeen, first_point, fresh_proxy, front_in, fronts_of, lane_place, no_numbers, window_of, IsProxy}
 use Rattle.sat_proxy.specs.Steps.{after_beat, beat_take, beaten, brought, with_beat}
 use Rattle.sat_proxy.specs.Helps.{lane_fronts}
-use Rattle.sat_proxy.proofs.Fronts.{none-fell, other-fronts, site_fronts, with_window}
+use Rattle.sat_proxy.proofs.Fronts.{front-rises, none-fell-to, other-fronts, site_fronts, with_window}
 use Rattle.sat_proxy.proofs.Raised.{length-map-below}
 
 -- ---- the numbers of lanes
@@ -96,7 +96,7 @@ beat-sound p from b t is lt sound e keeps = record {
 pub beat-answer : (p : ProxySeen) (from n : ℕ) → IsProxy p → from < p.sites → take_answer (fronts_of p from) (taken_of p.beats from) n ≡ beat_take p from n
 beat-answer p from n is lt = ap (λ (t : TakenBeats). if is_old t.best n then came.Old else (if has_beat (taken_of p.beats from).later n then came.Again else came.New)) (refreshed-same (fronts_of p from) (taken_of p.beats from) (is.best from lt))
 
-same-taken : (b : BeatsSeen) (i : ℕ) → with_taken b i (taken_of b i) ≡ b
+pub same-taken : (b : BeatsSeen) (i : ℕ) → with_taken b i (taken_of b i) ≡ b
 same-taken b i = ap (λ (rows : List TakenBeats). record b { rows = rows }) (set-get_or b.rows i none_taken)
 
 pub beat-after : (p : ProxySeen) (from n : ℕ) (beat : Beat) → IsProxy p → from < p.sites → record p { beats = with_taken p.beats from (after_take (fronts_of p from) (taken_of p.beats from) n beat) } ≡ after_beat p from n beat
@@ -134,11 +134,11 @@ beat-done p from n beat all given fronts took b is lt lanes same part answer new
 
 -- ---- a payload
 
--- a payload came: the windows, what waits and the beats after it
-pub bring-sound : (p : ProxySeen) (from gear n : ℕ) (w : Waiting) (b : BeatsSeen) (t : TakenBeats) → IsProxy p → IsWindow (windows.after_take (window_of p from gear) n) → from < p.sites → gear < p.gears → lane_place p from gear < length p.windows → IsPool w → length w.rows ≡ p.sites → IsBeats b → b ≡ with_taken p.beats from t →
-    KeepsBest (fronts_of (with_window p (lane_place p from gear) (windows.after_take (window_of p from gear) n)) from) (taken_of p.beats from) (taken_of b from) →
-    IsProxy (record p { windows = set p.windows (lane_place p from gear) (windows.after_take (window_of p from gear) n); pool = w; beats = b })
-bring-sound p from gear n w b t is whole lt lg within waits rows sound e keeps = record {
+-- a lane went on: the windows, what waits and the beats after it
+pub lane-sound : (p : ProxySeen) (from gear : ℕ) (new : Numbers) (w : Waiting) (b : BeatsSeen) (t : TakenBeats) → IsProxy p → IsWindow new → (window_of p from gear).front ≤ new.front → from < p.sites → gear < p.gears → lane_place p from gear < length p.windows → IsPool w → length w.rows ≡ p.sites → IsBeats b → b ≡ with_taken p.beats from t →
+    KeepsBest (fronts_of (with_window p (lane_place p from gear) new) from) (taken_of p.beats from) (taken_of b from) →
+    IsProxy (record p { windows = set p.windows (lane_place p from gear) new; pool = w; beats = b })
+lane-sound p from gear new w b t is whole rises lt lg within waits rows sound e keeps = record {
   site = is.site;
   windows = length-set p.windows (lane_place p from gear) new ∙ is.windows;
   numbers = set_numbers p.windows (lane_place p from gear) new is.numbers whole within;
@@ -151,14 +151,11 @@ bring-sound p from gear n w b t is whole lt lg within waits rows sound e keeps =
   last = is.last;
 }
   where
-    new : Numbers
-    new = windows.after_take (window_of p from gear) n
-
     after : ProxySeen
     after = record p { windows = set p.windows (lane_place p from gear) new; pool = w; beats = b }
 
     go : (k : ℕ) → k < p.sites → (k ≡ from) ⊎ (k ≡ from → ⊥) → IsBest (fronts_of after k) (taken_of b k)
-    go k low (inl same) = subst (λ (j : ℕ). IsBest (fronts_of after j) (taken_of b j)) (sym same) (keeps.best (fronts_of p from) (none-fell p from gear n within) (is.best from lt).complete)
+    go k low (inl same) = subst (λ (j : ℕ). IsBest (fronts_of after j) (taken_of b j)) (sym same) (keeps.best (fronts_of p from) (none-fell-to p from gear new within rises) (is.best from lt).complete)
     go k low (inr apart) = others-best p after from k t e apart (other-fronts p from gear k new lg apart) (is.best k low)
 
 pub added-rows : (w : Waiting) (q : Payload) → length (pool.after_add w q).rows ≡ length w.rows
@@ -175,7 +172,7 @@ pub bring-done : (p : ProxySeen) (from gear n : ℕ) (q : Payload) (place : ℕ)
     b ≡ with_taken p.beats from (refreshed fronts (taken_of p.beats from)) → KeepsBest fronts (taken_of p.beats from) (taken_of b from) → IsPool w → IsBeats b → BringDone p from gear n q (set all place front) (set p.windows place new) w b
 bring-done p from gear n q place all given fronts was new seen front w b is lt lg lanes at within old next there head whole same part add beats keeps waits sound = record {
   fronts = moved;
-  sound = subst (λ (x : ProxySeen). IsProxy x) (sym here) (bring-sound p from gear n w b (refreshed fronts (taken_of p.beats from)) is (subst (λ (v : Numbers). IsWindow v) (there ∙ (get_or-set_same p.windows place new seen within ∙ taken)) whole) lt lg (subst (λ (m : ℕ). m < length p.windows) at within) waits (ap (λ (v : Waiting). length v.rows) add ∙ (added-rows p.pool q ∙ is.rows)) sound beats (subst (λ (xs : List ℕ). KeepsBest xs (taken_of p.beats from) (taken_of b from)) those keeps));
+  sound = subst (λ (x : ProxySeen). IsProxy x) (sym here) (lane-sound p from gear (windows.after_take (window_of p from gear) n) w b (refreshed fronts (taken_of p.beats from)) is (subst (λ (v : Numbers). IsWindow v) (there ∙ (get_or-set_same p.windows place new seen within ∙ taken)) whole) (front-rises (window_of p from gear) n) lt lg (subst (λ (m : ℕ). m < length p.windows) at within) waits (ap (λ (v : Waiting). length v.rows) add ∙ (added-rows p.pool q ∙ is.rows)) sound beats (subst (λ (xs : List ℕ). KeepsBest xs (taken_of p.beats from) (taken_of b from)) those keeps));
   after = λ i. record p { windows = set p.windows (at i) (taken i); pool = add i; beats = (beats ∙ ap (λ (xs : List ℕ). with_taken p.beats from (refreshed xs (taken_of p.beats from))) those) i };
 }
   where

@@ -1,12 +1,13 @@
 -- Words that the crate's private calls speak of, over the parts alone.
-use Rattle.std.specs.Prelude.{ℕ, zero, suc, ◌*◌, ◌≡◌, ◌==◌, ◌&&◌, Bool, false, not, nat_lt, List, [], ◌++◌, get_or}
-use Rattle.std.specs.Prelude.{take, drop, Option, Some, None, option_map, if◌then◌else◌}
+use Rattle.std.specs.Prelude.{ℕ, zero, suc, ◌+◌, ◌*◌, ◌≡◌, ◌<◌, ◌==◌, ◌&&◌, Bool, false, not, nat_lt, List, [], ◌∷◌}
+use Rattle.std.specs.Prelude.{◌++◌, get_or, take, drop, Option, Some, None, option_map, if◌then◌else◌}
 use Rattle.sat_label.specs.declared.point.Point.{Point}
 use Rattle.sat_label.specs.declared.label.Label.{Label}
 use Rattle.sat_bulk.specs.Payloads.{Payload}
+use Rattle.sat_bulk.specs.Windows.{Numbers, after_take, has_number}
 use Rattle.sat_label.specs.declared.carried.Carried.{Carried}
 use Rattle.sat_label.specs.Order.{mark, point_le}
-use Rattle.sat_pool.specs.Pool.{Waiting, row_of, has_ts_to}
+use Rattle.sat_pool.specs.Pool.{Waiting, after_add, row_of, has_ts_to}
 use Rattle.sat_beat.specs.Beats.{BeatsSeen, taken_of}
 use Rattle.sat_epoch.specs.Epochs.{Epochs, in_stamp}
 use Rattle.sat_act.specs.Parts.{BeatNote, best_passes, closed_below, reaches}
@@ -34,6 +35,25 @@ waiting_below w (suc n) = waiting_below w n ++ row_of w n
 -- the fronts of a site's lanes, among those of all
 abbrev pub lane_fronts : List ℕ → ℕ → ℕ → List ℕ
 lane_fronts fronts from gears = take gears (drop (from * gears) fronts)
+
+-- what waits of all sites, and the numbers of one lane that were taken
+pub record LaneSeen : Type 0 where
+  pub waits : Waiting
+  pub numbers : Numbers
+
+-- a payload of the lane whose number was taken changes nothing; else it is taken, and the payload waits
+abbrev pub lane_after : LaneSeen → ℕ → Payload → LaneSeen
+lane_after s n q = if has_number s.numbers n then s
+    else record { waits = after_add s.waits q; numbers = after_take s.numbers n }
+
+-- payloads of the lane come one after another, with the numbers from n on
+abbrev pub lane_afters : LaneSeen → ℕ → List Payload → LaneSeen
+lane_afters s n [] = s
+lane_afters s n (q ∷ qs) = lane_afters (lane_after s n q) (n + 1) qs
+
+-- each of the first so many is the next of the lane when it comes
+abbrev pub ComeInLane : LaneSeen → ℕ → List Payload → ℕ → Type 0
+ComeInLane s n qs count = (k : ℕ) → k < count → (lane_afters s n (take k qs)).numbers.front ≡ n + k
 
 -- the close cut of an epoch: a site's own, or that in the best beat of another
 abbrev pub cut_of : BeatsSeen → ℕ → Option Point → ℕ → ℕ → Option Point

@@ -1,6 +1,6 @@
 -- What the calls answer, and what they make of it.
-use Rattle.std.specs.Prelude.{ℕ, Bool, ◌==◌, ◌||◌, map, get_or, set, Option, Some, None, option_map, false}
-use Rattle.std.specs.Prelude.{if◌then◌else◌}
+use Rattle.std.specs.Prelude.{ℕ, ◌+◌, ◌≡◌, ◌<◌, Bool, ◌==◌, ◌||◌, List, [], ◌∷◌, take, map, get_or, set, Option}
+use Rattle.std.specs.Prelude.{Some, None, option_map, false, if◌then◌else◌}
 use Rattle.sat_label.specs.declared.point.Point.{Point}
 use Rattle.sat_label.specs.declared.label.Label.{Label}
 use Rattle.sat_label.specs.declared.label.Kind.{Kind}
@@ -27,7 +27,8 @@ use Rattle.sat_proxy.specs.declared.proxy.TurnFault.{TurnFault}
 use Rattle.sat_proxy.specs.declared.proxy.TurnFault.TheVariants as turn
 use Rattle.sat_proxy.specs.declared.proxy.StampFault.{StampFault}
 use Rattle.sat_proxy.specs.declared.proxy.StampFault.TheVariants as stamp
-use Rattle.sat_proxy.specs.Proxy.{ProxySeen, lane_place, window_of, fronts_of, best_of, last_of, close_in, outlook_here}
+use Rattle.sat_proxy.specs.Proxy.{ProxySeen, front_at, lane_place, window_of, fronts_of, best_of, last_of, close_in}
+use Rattle.sat_proxy.specs.Proxy.{outlook_here}
 use Rattle.sat_proxy.specs.Asks.{stamp_next_at, may_pass_at}
 
 -- ---- a payload
@@ -55,6 +56,16 @@ brought p from gear number payload = with_best (with_payload p from gear number 
 abbrev pub after_bulk : ProxySeen → ℕ → ℕ → ℕ → Payload → ProxySeen
 after_bulk p from gear number payload =
     if has_number (window_of p from gear) number then p else brought p from gear number payload
+
+-- payloads of a lane come one after another, with the numbers from n on
+abbrev pub after_bulks : ProxySeen → ℕ → ℕ → ℕ → List Payload → ProxySeen
+after_bulks p from gear n [] = p
+after_bulks p from gear n (q ∷ qs) = after_bulks (after_bulk p from gear n q) from gear (n + 1) qs
+
+-- each of the first so many is the next of the lane when it comes
+abbrev pub ComeNext : ProxySeen → ℕ → ℕ → ℕ → List Payload → ℕ → Type 0
+ComeNext p from gear n qs count =
+    (k : ℕ) → k < count → front_at (after_bulks p from gear n (take k qs)) from gear ≡ n + k
 
 -- ---- a beat
 

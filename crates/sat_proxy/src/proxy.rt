@@ -1,10 +1,12 @@
 //! The remote proxy of a site (Bravo, Rodrigues and Van Roy, EuroSys 2017): it takes what the other sites send, in any
 //! order, and tells what the site may show next.
-ghost use Rattle.std.specs.Prelude.{ℕ, ◌≡◌, ◌≢◌, ◌<◌, ◌^◌, ◌+◌, ◌*◌, ◌&&◌, ◌||◌, false, true, None, Option, Some};
+ghost use Rattle.std.specs.Prelude.{ℕ, ◌≡◌, ◌≢◌, ◌<◌, ◌≤◌, ◌^◌, ◌+◌, ◌*◌, ◌&&◌, ◌||◌, false, true, None, Option, Some};
 ghost use Rattle.std.specs.Prelude.{is_none, is_some, length, option_copied, option_map, replicate, MatchResult, IfErr};
-ghost use Rattle.std.specs.Prelude.{IfOk, OnErr, OnOk};
+ghost use Rattle.std.specs.Prelude.{take, IfOk, OnErr, OnOk};
 ghost use Rattle.sat_label.specs.declared.label.Kind.TheVariants.{Close as CloseKind};
 ghost use Rattle.sat_label.specs.declared.label.Label.{Label as LabelSeen};
+ghost use Rattle.sat_label.specs.Members.{In};
+ghost use Rattle.sat_bulk.specs.Payloads.{Payload as PayloadSeen};
 ghost use Rattle.sat_bulk.specs.Windows.{after_take, has_number};
 ghost use Rattle.sat_beat.specs.Beats.{IsBeats};
 ghost use Rattle.sat_pool.specs.Pool.{after_add, all_waiting, labels_waiting, waiting_at, IsPool};
@@ -14,12 +16,13 @@ ghost use Rattle.sat_act.specs.Answers.{is_drained};
 ghost use Rattle.sat_proxy.specs.Proxy.{fresh_proxy, front_at, lane_place, last_of, no_numbers, outlook_here};
 ghost use Rattle.sat_proxy.specs.Proxy.{window_of, AreViewsOf, IsProxy};
 ghost use Rattle.sat_proxy.specs.Asks.{may_come_at, others};
-ghost use Rattle.sat_proxy.specs.Helps.{comes_here, is_known_here, is_reached_here, lane_fronts, told_by, StaysHere};
-ghost use Rattle.sat_proxy.specs.Steps.{advance_after, after_beat, after_bulk, beat_take, brought, bulk_take};
-ghost use Rattle.sat_proxy.specs.Steps.{front_after, front_fault, front_gives, front_shows, front_views, has_come};
-ghost use Rattle.sat_proxy.specs.Steps.{knowing, missing, shown_after, stamp_after, stamp_fault, stamp_label};
+ghost use Rattle.sat_proxy.specs.Helps.{comes_here, is_known_here, is_reached_here, lane_after, lane_afters};
+ghost use Rattle.sat_proxy.specs.Helps.{lane_fronts, told_by, ComeInLane, StaysHere};
+ghost use Rattle.sat_proxy.specs.Steps.{advance_after, after_beat, after_bulk, after_bulks, beat_take, brought};
+ghost use Rattle.sat_proxy.specs.Steps.{bulk_take, front_after, front_fault, front_gives, front_shows, front_views};
+ghost use Rattle.sat_proxy.specs.Steps.{has_come, knowing, missing, shown_after, stamp_after, stamp_fault, stamp_label};
 ghost use Rattle.sat_proxy.specs.Steps.{stamp_shows, turn_after, turn_fault, turn_gives, turn_shows, turn_views};
-ghost use Rattle.sat_proxy.specs.Steps.{waiting_of};
+ghost use Rattle.sat_proxy.specs.Steps.{waiting_of, ComeNext};
 
 use crate::asks::{are_drained, are_known, are_passed, are_reached, candidate, own_passed};
 use crate::known::{fresh_last, know, raise_all};
@@ -160,6 +163,48 @@ fn take_both(
         None => Ok(()),
         Some(payload) => Err(payload),
     }
+}
+
+// Takes a payload where its number is the next of its lane, and answers whether it was taken: for want of memory it is
+// not. What waits is added first, since the front goes on without memory.
+#[tactic(auto, using(crate::proofs::Bulks::next_comes))]
+fn bring_next(pool: &mut Pool, window: &mut Window, number: u64, payload: Payload) -> bool
+    requires site { payload.label.point.site < length pool.old.rows }
+    requires small { number < 2 ^ 63 }
+    ensures taken { result ≡ true → record { waits = pool.new; numbers = window.new }
+        ≡ lane_after (record { waits = pool.old; numbers = window.old }) number payload }
+    ensures next { result ≡ true → number ≡ window.old.front }
+    ensures pool { result ≡ false → pool.new ≡ pool.old }
+    ensures window { result ≡ false → window.new ≡ window.old }
+{
+    if number != window.front() {
+        return false;
+    }
+    if let Err(_) = pool.add(payload) {
+        return false;
+    }
+    window.advance();
+    true
+}
+
+// Takes payloads of a lane, with the numbers from `first` on, as long as each is the next and there is memory, and
+// answers how many came.
+fn bring_all(pool: &mut Pool, window: &mut Window, first: u64, payloads: Vec<Payload>) -> usize
+    requires site { (p : PayloadSeen) → In payloads.items p → p.label.point.site < length pool.old.rows }
+    requires small { first + length payloads.items < 2 ^ 63 }
+    ensures count { result ≤ length payloads.items }
+    ensures lane { record { waits = pool.new; numbers = window.new }
+        ≡ lane_afters (record { waits = pool.old; numbers = window.old }) first (take result payloads.items) }
+    ensures next { ComeInLane (record { waits = pool.old; numbers = window.old }) first payloads.items result }
+{
+    let mut done: usize = 0;
+    for payload in payloads {
+        if !bring_next(pool, window, first + done as u64, payload) {
+            return done;
+        }
+        done += 1;
+    }
+    done
 }
 
 // What waits is in its rows, and the beats that came are in theirs.
@@ -359,6 +404,28 @@ impl Proxy {
         self.beats.refresh(from, fronts);
         limits(&self.pool, &self.beats, from);
         Ok(())
+    }
+
+    /// Takes payloads of a lane, with the numbers from `first` on, each as the next of its lane, and answers how many
+    /// came: all, or those before the first that is not the next or for which there was no memory; the others are let
+    /// go.
+    pub fn bulk_all(&mut self, from: u16, gear: u16, first: u64, payloads: Vec<Payload>) -> usize
+        requires from { from < self.old.sites }
+        requires gear { gear < self.old.gears }
+        requires small { first + length payloads.items < 2 ^ 63 }
+        requires made { (p : PayloadSeen) → In payloads.items p → p.label.point.site ≡ from }
+        ensures count { result ≤ length payloads.items }
+        ensures new { self.new ≡ after_bulks self.old from gear first (take result payloads.items) }
+        ensures next { ComeNext self.old from gear first payloads.items result }
+    {
+        let place = self.lane(from, gear);
+        let window = &mut self.windows[place];
+        let count = bring_all(&mut self.pool, window, first, payloads);
+        self.fronts[place] = self.windows[place].front();
+        let fronts = fronts_from(self.fronts.as_slice(), self.sites, from, self.gears);
+        self.beats.refresh(from, fronts);
+        limits(&self.pool, &self.beats, from);
+        count
     }
 
     /// Takes a beat of a site, which has one count for each gear, in any order; again, or old, it changes nothing. For

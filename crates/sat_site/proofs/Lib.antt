@@ -30,3 +30,4 @@ pub mod Made
 pub mod Taken
 pub mod Sets
 pub mod Fronts
+pub mod Bulked

@@ -1,6 +1,6 @@
 -- What a site shows is what the machine keeps.
-use Rattle.std.specs.Prelude.{◌≡◌, ◌<◌, ◌%◌, ℕ, true, false, List, length, Option, Some, None, slice_get, IfSome, IsNone, MatchOption}
-use Rattle.std.proofs.Common.{Bor, subst, ap, sym, ◌∙◌}
+use Rattle.std.specs.Prelude.{◌≡◌, ◌<◌, ◌%◌, ℕ, true, false, List, length, take, drop, Option, Some, None, slice_get, IfOk, IfSome, IsNone, MatchOption}
+use Rattle.std.proofs.Common.{Bor, Result, Ok, Err, subst, ap, sym, ◌∙◌}
 use Rattle.sat_bulk.specs.Payloads.{Payload}
 use Rattle.sat_label.specs.declared.label.Kind.{Kind}
 use Rattle.sat_label.specs.Order.{kind_numbers}
@@ -34,6 +34,15 @@ some-version d i x s g n gear v at e item kept st some = shows-some d i x s n ge
 -- the lane of a gear is the machine's
 pub lane-same : (d : Deployed) (i : ℕ) (x : SiteSeen) (s : SiteState) (g to n : ℕ) (gear : GearSeen) (o : Option Payload) → HasGear x g gear → to < x.shape.sites → StandsSite d i x s → slice_get (lane_to gear to) n ≡ o → slice_get ((s.gears g).lanes to) n ≡ o
 lane-same d i x s g to n gear o at lt st e = ap (λ (ps : List Payload). slice_get ps n) (sym ((st.gears.each g gear at).lanes to (subst (λ (m : ℕ). to < m) (sites-are d i x s st) lt))) ∙ e
+
+-- so are copies of a part of it
+copies-same : (d : Deployed) (i : ℕ) (x : SiteSeen) (s : SiteState) (g to n most : ℕ) (gear : GearSeen) (ps : List Payload) → HasGear x g gear → to < x.shape.sites → StandsSite d i x s → ps ≡ take most (drop n (lane_to gear to)) → ps ≡ take most (drop n ((s.gears g).lanes to))
+copies-same d i x s g to n most gear ps at lt st e = e ∙ ap (λ (qs : List Payload). take most (drop n qs)) ((st.gears.each g gear at).lanes to (subst (λ (m : ℕ). to < m) (sites-are d i x s st) lt))
+
+pub copies-shown : {X E : Type 0} (r : Result X E) (items : X → List Payload) (d : Deployed) (i : ℕ) (x : SiteSeen) (s : SiteState) (g to n most : ℕ) (gear : GearSeen) → HasGear x g gear → to < x.shape.sites → StandsSite d i x s → IfOk r (λ c. items c ≡ take most (drop n (lane_to gear to))) →
+    IfOk r (λ c. items c ≡ take most (drop n ((s.gears g).lanes to)))
+copies-shown (Ok c) items d i x s g to n most gear at lt st e = copies-same d i x s g to n most gear (items c) at lt st e
+copies-shown (Err e) items d i x s g to n most gear at lt st h = tt
 
 pub of-lane : (x : SiteSeen) (g to n : ℕ) (gear : GearSeen) (p : Payload) → IsSite x → HasGear x g gear → IsGear gear → slice_get (lane_to gear to) n ≡ Some p → IsOfLane x.shape g to p
 of-lane x g to n gear p k at good e =

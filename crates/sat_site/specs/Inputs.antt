@@ -1,5 +1,5 @@
 -- What a site is handed: as the machine of the model reads it, and what the site asks of it.
-use Rattle.std.specs.Prelude.{ℕ, ◌^◌, ◌==◌, Bool, true, false, ◌&&◌, nat_lt, length, Some, None}
+use Rattle.std.specs.Prelude.{ℕ, ◌^◌, ◌==◌, Bool, true, false, ◌&&◌, nat_lt, List, length, Some, None}
 use Rattle.sat_label.specs.declared.label.Label.{Label}
 use Rattle.sat_label.specs.Grouped.{list_of}
 use Rattle.sat_bulk.specs.Payloads.{Payload}
@@ -81,6 +81,10 @@ IsFront x l = hub.IsFront (hub_of x) l
 -- a payload of a lane that fits
 abbrev pub BulkFits : SiteSeen → ℕ → ℕ → ℕ → Payload → Type 0
 BulkFits x from gear n p = hub.BulkFits (hub_of x) from gear n p
+
+-- payloads of a lane that fit
+abbrev pub BulksFit : SiteSeen → ℕ → ℕ → ℕ → List Payload → Type 0
+BulksFit x from gear first ps = hub.BulksFit (hub_of x) from gear first ps
 
 -- inputs of which a site can be asked whether it would do them
 abbrev pub is_asked : code.SiteInput → Bool

@@ -8,3 +8,4 @@ pub mod Does
 pub mod Laws
 pub mod Lanes
 pub mod Turns
+pub mod Bulks

@@ -1,6 +1,7 @@
 //! Sites.
-ghost use Rattle.std.specs.Prelude.{ℕ, ◌%◌, ◌*◌, ◌≡◌, ◌≤◌, ◌<◌, ◌==◌, ◌^◌, ◌&&◌, length, true, false, slice_get, Some};
-ghost use Rattle.std.specs.Prelude.{None, Option, IfOk, IfSome, IsNone, OnOk, OnErr, IsOk, MatchOption, option_copied};
+ghost use Rattle.std.specs.Prelude.{ℕ, ◌%◌, ◌*◌, ◌≡◌, ◌≤◌, ◌<◌, ◌==◌, ◌^◌, ◌&&◌, drop, length, take, true, false, Some};
+ghost use Rattle.std.specs.Prelude.{slice_get, None, Option, IfOk, IfSome, IsNone, OnOk, OnErr, IsOk, MatchOption};
+ghost use Rattle.std.specs.Prelude.{option_copied};
 ghost use Rattle.std.specs.List.{list_any};
 ghost use Rattle.sat_label.specs.declared.label.Label.{Label};
 ghost use Rattle.sat_label.specs.Grouped.{list_of};
@@ -631,6 +632,23 @@ impl Site {
     {
         let gear = self.gear(gear);
         gear.payload(to, number)
+    }
+
+    /// Copies of so many payloads that a gear made for another site, from a number on, or of all that there are.
+    pub fn copies(
+        &self,
+        gear: u16,
+        to: u16,
+        number: u64,
+        most: usize,
+    ) -> Result<Vec<Payload>, AllocError>
+        requires gear { gear < self.now.shape.gears }
+        requires site { to < self.now.shape.sites }
+        ensures { (d : Deployed) (i : ℕ) (s : SiteState) → StandsSite d i self.now s
+            → IfOk result (λ copies. copies.items ≡ take most (drop number ((s.gears gear).lanes to))) }
+    {
+        let gear = self.gear(gear);
+        gear.copies(to, number, most)
     }
 
     /// How many payloads a gear made for another site. It takes no memory.

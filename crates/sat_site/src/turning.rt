@@ -1,5 +1,5 @@
-//! What comes to a site and is shown there: by turns, one or many, and in timestamp order.
-ghost use Rattle.std.specs.Prelude.{◌+◌, ◌≡◌, ◌<◌, ◌^◌, drop, false, is_some, length, slice_get, Some, IfSome};
+//! What comes to a site and is shown there: payloads of a lane, turns, one or many, and updates in timestamp order.
+ghost use Rattle.std.specs.Prelude.{◌+◌, ◌≡◌, ◌≤◌, ◌<◌, ◌^◌, drop, false, is_some, length, slice_get, Some, IfSome};
 ghost use Rattle.sat_label.specs.declared.label.Kind.TheVariants.{Update};
 ghost use Rattle.sat_label.specs.declared.label.Label.{Label};
 ghost use Rattle.sat_label.specs.Grouped.{list_of};
@@ -11,7 +11,8 @@ ghost use Rattle.sat_act.specs.Settling.{is_done};
 ghost use Rattle.sat_proxy.specs.Steps.{waiting_of};
 ghost use Rattle.sat_proxy.specs.Answers.{stamp_answer, turn_answer};
 ghost use Rattle.sat_site.specs.Seen.{IsGuest, IsSite};
-ghost use Rattle.sat_site.specs.Inputs.{IsFront};
+ghost use Rattle.sat_site.specs.Bulks.{BulksOn};
+ghost use Rattle.sat_site.specs.Inputs.{BulksFit, IsFront};
 ghost use Rattle.sat_site.specs.SiteSteps.{shown_of, shown_parts, shown_version, stamped_after, turned_after};
 ghost use Rattle.sat_site.specs.Turns.{shown_more, TurnsOn};
 
@@ -24,6 +25,20 @@ use sat_proxy::{StampFault, TurnFault, Turned};
 use sat_queue::Queue;
 
 impl Site {
+    /// Takes payloads of the lane from a site and a gear, with the numbers from `first` on, one after another, each as
+    /// the next of its lane, and answers how many came: all, or those before the first that is not the next or for
+    /// which there was no memory; the others are let go.
+    pub fn bulk_all(&mut self, from: u16, gear: u16, first: u64, payloads: Vec<Payload>) -> usize
+        requires { BulksFit self.old from gear first payloads.items }
+        ensures count { result ≤ length payloads.items }
+        ensures steps { BulksOn self.old from gear first payloads.items result self.new }
+        ensures site { IsSite self.new }
+    {
+        let count = self.hub.bulk_all(from, gear, first, payloads);
+        limits_of(&self.hub);
+        count
+    }
+
     /// Shows or takes the front of the link to the site, and answers it. It takes no memory.
     pub fn turn(&mut self, front: Option<Label>) -> Answer
         requires { (l : Label) → front ≡ Some l → IsFront self.old l }

@@ -1,5 +1,5 @@
 -- A site whose hub did something is one.
-use Rattle.std.proofs.Common.{◌≡◌, ◌<◌, ℕ, [], ◌∷◌, ◌++◌, length, Option, Some, None, Ok, refl, sym, ap, subst, ◌∙◌}
+use Rattle.std.proofs.Common.{◌≡◌, ◌<◌, ◌+◌, ◌^◌, arith, ℕ, [], ◌∷◌, ◌++◌, length, Option, Some, None, Ok, refl, sym, ap, subst, ◌∙◌}
 use Rattle.std.proofs.lemmas.List.{get_or_default}
 use Rattle.sat_label.specs.declared.label.Label.{Label}
 use Rattle.sat_bulk.specs.declared.window.Take.TheVariants as take
@@ -20,7 +20,8 @@ use Rattle.sat_hub.specs.Seen.{HubSeen, IsHub}
 use Rattle.sat_hub.proofs.Peers.{advance-hub, beat-hub, bulk-hub, stamp-hub, turn-hub}
 use Rattle.sat_hub.proofs.Sound.{beaten-hub, close-hub, pulsed-hub, ready-here, sent-hub, views-hub}
 use Rattle.sat_site_laws.proofs.Epoched.{closed-epochs, fell-epochs, passed-epochs, turned-epochs}
-use Rattle.sat_site_laws.proofs.Others.{advanced-proxy, beat-proxy, bulk-proxy, left-proxy, turned-proxy}
+use Rattle.sat_proxy.proofs.Keeping.{bulk-sound}
+use Rattle.sat_site_laws.proofs.Others.{advanced-proxy, beat-proxy, left-proxy, turned-proxy}
 
 -- ---- what is sent
 
@@ -63,8 +64,11 @@ stamps-hub h k = go (stamp_shows h.views h.proxy) refl
 pub takes-hub : (h : HubSeen) (from gear n : ℕ) (p : Payload) → IsHub h → BulkFits h from gear n p → IsHub (record h { proxy = after_bulk h.proxy from gear n p })
 takes-hub h from gear n p k fits =
     bulk-hub h (Ok take.New) (after_bulk h.proxy from gear n p) from gear n p k fits.guest
-    (bulk-proxy h.proxy from gear n p k.proxy.sound (subst (λ (m : ℕ). from < m) (sym k.proxy.sites) fits.sender) (subst (λ (m : ℕ). gear < m) (sym k.proxy.gears) fits.number) fits.small (subst (λ (m : ℕ). p.label.point.site < m) (sym k.proxy.sites) fits.guest.from))
+    (bulk-sound h.proxy from gear n p k.proxy.sound (subst (λ (m : ℕ). from < m) (sym k.proxy.sites) fits.sender) (subst (λ (m : ℕ). gear < m) (sym k.proxy.gears) fits.number) (next n fits.small) fits.made)
     refl tt
+  where
+    next : (a : ℕ) → a < 2 ^ 63 → a + 1 < 2 ^ 64
+    next a lt = omega arith
 
 pub hears-hub : (h : HubSeen) (from n : ℕ) (beat : Beat) → IsHub h → from < h.shape.sites → length beat.counts ≡ h.shape.gears → IsHub (record h { proxy = after_beat h.proxy from n beat })
 hears-hub h from n beat k lt counts =
