@@ -1,5 +1,5 @@
 -- Steps of a settle, one after another.
-use Rattle.std.specs.Prelude.{OnErr, Result, Ok, Err, ◌≡◌, ◌+◌, ◌-◌, ◌^◌, ℕ, suc, min, Bool, true, false, List, ◌∷◌, length, refl}
+use Rattle.std.specs.Prelude.{◌≡◌, ◌+◌, ◌-◌, ◌^◌, ℕ, suc, min, Bool, true, false, List, ◌∷◌, length, refl}
 use Rattle.std.proofs.Common.{sym, subst, ap, ◌∙◌, arith, inl}
 use Rattle.sat_act.specs.declared.act.Act.{Act}
 use Rattle.sat_act.specs.declared.answer.Answer.{Answer}
@@ -11,6 +11,7 @@ use Rattle.sat_act.specs.Ranges.{IsActOf}
 use Rattle.sat_act.specs.Runs.{IsRun, is_settle}
 use Rattle.sat_act.specs.Settling.{capped, is_done, inner_entry, tried}
 use Rattle.sat_model.specs.Laws.{leaves_all}
+pub use Rattle.sat_world.proofs.Again.{on-err}
 use Rattle.sat_world.specs.Applies.{Applies}
 use Rattle.sat_world.specs.Seen.{WorldSeen}
 use Rattle.sat_world.specs.Stands.{StandsFor}
@@ -161,8 +162,3 @@ stops-then u v w F G m same p q h run st =
 -- a world that is as before has stopped at once
 pub stops-at-once : (v w : WorldSeen) (f : List Entry → List Entry) → ((h : List Entry) → Extends h (f h)) → w ≡ v → Stops v f w
 stops-at-once v w f ext e h run st = record { now = h; stands = subst (λ (u : WorldSeen). StandsFor u h) (sym e) st; run = run; from = extends-self h; to = ext h }
-
--- a fact that holds after want of memory
-pub on-err : {X E : Type 0} (r : Result X E) (P : Type 0) → P → OnErr r P
-on-err (Ok x) P p = tt
-on-err (Err e) P p = p

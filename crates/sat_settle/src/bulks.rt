@@ -2,45 +2,22 @@
 ghost use Rattle.std.specs.Prelude.{◌≡◌, ◌<◌, None, IfOk, OnErr};
 ghost use Rattle.sat_act.specs.Limits.{IsDeployment};
 ghost use Rattle.sat_act.specs.Ranges.{IsActOf};
-ghost use Rattle.sat_act.specs.Settling.{tried};
 ghost use Rattle.sat_settle.specs.Going.{Makes, MakesUntil, Stops, StopsUntil};
 ghost use Rattle.sat_settle.specs.Rounds.{bulked, bulks_by, bulks_out, bulks_to};
 
-use crate::trying::count_of;
 use sat_act::Act;
 use sat_world::World;
 use std::alloc::AllocError;
 
-// The next payload of a lane comes: how many came, one or none.
-fn bulk_once(world: &mut World, from: u16, gear: u16, to: u16) -> Result<u64, AllocError>
-    requires { IsActOf world.old.deployment (Act.Bulk from gear to None) }
-    ensures deployment { world.new.deployment ≡ world.old.deployment }
-    ensures ok { IfOk result
-        (λ done. Makes world.old (tried world.old.deployment (Act.Bulk from gear to None)) done world.new) }
-    ensures err { OnErr result (world.new ≡ world.old) }
-{
-    let answered = world.bulk(from, gear, to, None);
-    match &answered {
-        Ok(answer) => Ok(count_of(answer)),
-        Err(_) => Err(AllocError),
-    }
-}
-
-// The payloads of a lane come one after another, until none is left: how many came. No memory holds the entries of 2^64
-// - 1 acts.
+// The payloads of a lane come one after another, until none is left: how many came.
 fn bulk_lane(world: &mut World, from: u16, gear: u16, to: u16) -> Result<u64, AllocError>
     requires { IsActOf world.old.deployment (Act.Bulk from gear to None) }
     ensures deployment { world.new.deployment ≡ world.old.deployment }
     ensures ok { IfOk result (λ done. MakesUntil world.old (Act.Bulk from gear to None) done world.new) }
     ensures err { OnErr result (StopsUntil world.old (Act.Bulk from gear to None) world.new) }
 {
-    for done in 0..u64::MAX {
-        let more = bulk_once(world, from, gear, to)?;
-        if more == 0 {
-            return Ok(done);
-        }
-    }
-    Err(AllocError)
+    let done = world.bulks(from, gear, to)?;
+    Ok(done)
 }
 
 // Those of a lane to another site, none of a site's to itself.

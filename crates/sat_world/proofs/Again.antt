@@ -102,7 +102,7 @@ module _ (w : WorldSeen) (e : ℕ) (u : NodeId) (z : ℕ) (net : NetSeen) (k : I
       go false d = refused-by n m (ans.Refused why.Empty) g (finds_none d (h.left d)) refl
 
 -- what they are of the world that the code sees
-act-seen : (w v : WorldSeen) (a : Act) → w ≡ v → IsActOf v.deployment a → IsActOf w.deployment a
+pub act-seen : (w v : WorldSeen) (a : Act) → w ≡ v → IsActOf v.deployment a → IsActOf w.deployment a
 act-seen w v a is b = subst (λ (x : WorldSeen). IsActOf x.deployment a) (sym is) b
 
 pub did-hops : (w v : WorldSeen) (e : ℕ) (u : NodeId) (z n : ℕ) (nets : List (Option NetSeen)) → w ≡ v → IsWorld w → IsActOf v.deployment (act.Hop e u z) → HopsOnAt w.nets (e - 1) w.interest u z n nets → Gone (act.Hop e u z) w n (record w { nets = nets })

@@ -25,3 +25,4 @@ pub mod Lefts
 pub mod Reaching
 pub mod Again
 pub mod Turning
+pub mod Bulking

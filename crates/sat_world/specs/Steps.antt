@@ -17,6 +17,7 @@ use Rattle.sat_act.specs.Done.{write_in}
 use Rattle.sat_act.specs.Ranges.{IsActOf}
 use Rattle.sat_act.specs.Settling.{is_done}
 use Rattle.sat_serial.specs.Routes.{routes}
+use Rattle.sat_bulk.specs.Payloads.{Payload}
 use Rattle.sat_client.specs.declared.client.Client.{Client}
 use Rattle.sat_client.specs.Clients.{after_join, after_move, after_observe, is_move}
 use Rattle.sat_model.specs.State.{SiteState}
@@ -33,6 +34,7 @@ use Rattle.sat_site.specs.Seen.{SiteSeen, IsSite}
 use Rattle.sat_site.specs.Inputs.{input_of, fits_in, is_sized}
 use Rattle.sat_site.specs.SiteSteps.{site_answers, site_after}
 use Rattle.sat_site.specs.Stands.{StandsSite}
+use Rattle.sat_site.specs.Bulks.{BulksOn}
 use Rattle.sat_site.specs.Turns.{TurnsOn}
 use Rattle.sat_proxy.specs.Answers.{turn_answer}
 use Rattle.sat_world.specs.Counts.{counted}
@@ -230,6 +232,15 @@ pub record LendsAt (nets : List (Option NetSeen)) (n j : ℕ) (lent : List Label
   pub at : slice_get nets n ≡ Some (Some before)
   pub labels : lent ≡ link_to before j
   pub rest : now ≡ set nets n (Some (with_link_to before j []))
+
+-- site i has taken the first so many of these payloads of a lane, with the numbers from one on
+pub record BulksAt (xs : List SiteSeen) (i from gear first : ℕ) (ps : List Payload) (count : ℕ)
+    (ys : List SiteSeen) : Type 0 where
+  pub before : SiteSeen
+  pub after : SiteSeen
+  pub at : slice_get xs i ≡ Some before
+  pub bulks : BulksOn before from gear first ps count after
+  pub rest : ys ≡ set xs i after
 
 -- site i has turned the first so many of these labels, and turns no more
 pub record TurnsAt (xs : List SiteSeen) (i : ℕ) (labels : List Label) (count shown : ℕ)

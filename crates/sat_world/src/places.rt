@@ -1,13 +1,13 @@
 //! Acts at one place of a list: a site that is handed something, a client that is told an answer.
-ghost use Rattle.std.specs.Prelude.{ℕ, ◌≡◌, ◌<◌, true, drop, length, set, slice_get, Some, IfOk, OnErr, IsOk};
+ghost use Rattle.std.specs.Prelude.{ℕ, ◌≡◌, ◌≤◌, ◌<◌, true, drop, length, set, slice_get, Some, IfOk, OnErr, IsOk};
 ghost use Rattle.sat_label.specs.declared.label.Label.{Label as LabelSeen};
 ghost use Rattle.sat_label.specs.Members.{In};
 ghost use Rattle.sat_client.specs.declared.client.Client.{Client as ClientSeen};
 ghost use Rattle.sat_client.specs.Clients.{after_leave};
 ghost use Rattle.sat_site.specs.Seen.{SiteSeen, IsSite};
-ghost use Rattle.sat_site.specs.Inputs.{fits_in, takes_none, IsFront};
+ghost use Rattle.sat_site.specs.Inputs.{fits_in, takes_none, BulksFit, IsFront};
 ghost use Rattle.sat_sink.specs.Sink.{ready_of};
-ghost use Rattle.sat_world.specs.Steps.{StepsAt, TurnsAt, told, joined, IsNumber, MayTell};
+ghost use Rattle.sat_world.specs.Steps.{BulksAt, StepsAt, TurnsAt, told, joined, IsNumber, MayTell};
 
 use sat_act::Answer;
 use sat_bulk::Payload;
@@ -156,6 +156,27 @@ pub fn bulk_at(
     sound(site);
     let answer = site.bulk(from, gear, number, payload)?;
     Ok(answer)
+}
+
+/// Hands a site payloads of a lane, with the numbers from `first` on, one after another: how many it took. They are
+/// all, or those before the first that is not the next of the lane or for which there was no memory.
+pub fn bulk_all_at(
+    sites: &mut Vec<Site>,
+    place: u16,
+    from: u16,
+    gear: u16,
+    first: u64,
+    payloads: Vec<Payload>,
+) -> usize
+    requires within { place < length sites.old.items }
+    requires fits { (x : SiteSeen) → slice_get sites.old.items place ≡ Some x → IsSite x
+        → BulksFit x from gear first payloads.items }
+    ensures count { result ≤ length payloads.items }
+    ensures bulks { BulksAt sites.old.items place from gear first payloads.items result sites.new.items }
+{
+    let site = &mut sites[place as usize];
+    sound(site);
+    site.bulk_all(from, gear, first, payloads)
 }
 
 /// The number of a payload at its receiver: the one that is asked for, or else that of the next of its lane.

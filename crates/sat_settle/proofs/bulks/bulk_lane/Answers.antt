@@ -1,18 +1,12 @@
 use Rattle.std.proofs.Common.{◌<◌, ◌^◌, arith, refl}
 use Rattle.sat_settle.proofs.Going.{on-err}
-use Rattle.sat_settle.proofs.Until.{repeats-more, repeats-end, repeats-stop}
+use Rattle.sat_settle.proofs.Until.{again-stops, spends-until}
 use Rattle.sat_settle.proofs.bulks.bulk_lane.Goals as goal
 
-pub returns-in_err-more-clause-err : goal.returns-in_err-more-clause-err
-returns-in_err-more-clause-err c = on-err _ _ (repeats-stop _ _ _ _ _ c.loop-done.invariant c.in_err-more.ensures.err)
+pub returns-in_err-done-clause-err : goal.returns-in_err-done-clause-err
+returns-in_err-done-clause-err c = on-err _ _ (again-stops _ _ _ _ c.requires refl c.in_err-done.ensures.err.1)
 
-pub returns-then-more-eq0-clause-ok : goal.returns-then-more-eq0-clause-ok
-returns-then-more-eq0-clause-ok c =
-    let l : c.loop-done.done < 2 ^ 64 = omega arith in
-    repeats-end _ _ _ _ _ _ c.loop-done.invariant c.in_ok-more.ensures.ok c.if-more-eq0.true l
-
-pub loop-done-preserved : goal.loop-done-preserved
-loop-done-preserved c = repeats-more _ _ _ _ _ _ c.loop-done.invariant c.in_ok-more.ensures.deployment c.in_ok-more.ensures.ok c.if-more-eq0.false
-
-pub returns-clause-err : goal.returns-clause-err
-returns-clause-err c = repeats-stop _ _ _ _ _ c.loop-done.invariant refl
+pub returns-clause-ok : goal.returns-clause-ok
+returns-clause-ok c =
+    let few : c.in_ok-done.done < 2 ^ 64 = omega arith in
+    spends-until _ _ _ _ c.requires refl c.in_ok-done.ensures.ok few

@@ -1,6 +1,0 @@
-use Rattle.std.proofs.Common.{refl}
-use Rattle.sat_settle.proofs.Going.{applies-makes}
-use Rattle.sat_settle.proofs.bulks.bulk_once.Goals as goal
-
-pub returns-in-Ok-clause-ok : goal.returns-in-Ok-clause-ok
-returns-in-Ok-clause-ok c = applies-makes _ _ _ _ _ c.requires refl (rw c.in-Ok.is at c.bulk-answered.ensures.applies) c.count_of.ensures
