@@ -223,6 +223,7 @@ impl LastingLines {
     }
 
     // Makes the sites of the deployment that was read, to which nothing has happened, where there are none yet.
+    #[inline(always)]
     fn start(&mut self) -> Result<(), AllocError>
         requires begun { IsSome (deployment_of self.old.reader.state) }
         ensures reader { self.new.reader ≡ self.old.reader }
@@ -232,6 +233,17 @@ impl LastingLines {
         if self.lasting.is_some() {
             return Ok(());
         }
+        self.make()
+    }
+
+    // Makes them.
+    fn make(&mut self) -> Result<(), AllocError>
+        requires begun { IsSome (deployment_of self.old.reader.state) }
+        requires none { self.old.machine ≡ None }
+        ensures reader { self.new.reader ≡ self.old.reader }
+        ensures answered { self.new.answered ≡ self.old.answered }
+        ensures started { OnOk result (LastingStarted self.old self.new.machine) }
+    {
         let Some(deployment) = self.reader.deployment() else {
             unreachable!()
         };
